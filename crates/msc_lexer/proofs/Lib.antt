@@ -1,0 +1,11 @@
+pub mod Spellings
+pub mod EndsLemmas
+pub mod Fronts
+pub mod Cuts
+pub mod Shapes
+pub mod OnePiece
+pub mod Flaws
+pub mod OneFlaw
+pub mod OneReading
+pub mod Placed
+pub mod Printed

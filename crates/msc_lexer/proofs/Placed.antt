@@ -1,0 +1,107 @@
+-- What the tokens of a text keep: they stand in the text, their names are names, and they are no more than its bytes.
+use Rattle.std.proofs.Common.{◌≡◌, ◌≢◌, ◌⊎◌, ℕ, ◌+◌, ◌≤◌, ◌<◌, Bool, true, false, cond, ◌&&◌, List, [], ◌∷◌, ◌++◌, length, Option, Some, None, refl, sym, ap, subst, ◌∙◌, inl, inr, arith}
+use Rattle.std.specs.Prelude.{All, option_map, unwrap_or, take_while}
+use Rattle.std.specs.List.{list_all}
+use Rattle.std.proofs.lemmas.Bool.{and_from, cases_Bool}
+use Rattle.std.proofs.lemmas.List.{length-append}
+use Rattle.std.proofs.lemmas.List.Elements.{All-nil, All-cons, All-same}
+use Rattle.std.proofs.lemmas.List.Sums.{take_while-cons}
+use Rattle.msc_lexer.specs.declared.word.Word.{Word}
+use Rattle.msc_lexer.specs.declared.token.Kind.{Kind}
+use Rattle.msc_lexer.specs.declared.token.Kind.TheVariants as kinds
+use Rattle.msc_lexer.specs.declared.token.Token.{Token}
+use Rattle.msc_lexer.specs.Bytes.{is_run_byte}
+use Rattle.msc_lexer.specs.Words.{word_of}
+use Rattle.msc_lexer.specs.Pieces.{Piece, Blank, Note, Run, Mark, IsRun, spelled, kind_of, mark_of, text_of, AreCut, token_of, tokens_of}
+use Rattle.msc_lexer.specs.Pieces as pieces
+use Rattle.msc_lexer.specs.Lexing.{HasTokens}
+use Rattle.msc_lexer.specs.Lexemes.{Lexeme, lexemes, lexemes_of, lexeme_at, AreWithin, IsWithin, IsName, HaveNames}
+use Rattle.msc_lexer.proofs.Printed.{lexemes_seen}
+
+-- ---- tokens stand in their text
+
+token_within : (text : List ℕ) (o : Option Kind) (at len : ℕ) (ts : List Token) → at + len ≤ length text → AreWithin text ts → AreWithin text (token_of o at len ++ ts)
+token_within text None at len ts fits others = others
+token_within text (Some k) at len ts fits others = All-cons (IsWithin text) (record { kind = k; start = at; «end» = at + len }) ts (record { ordered = omega arith; inside = fits }) others
+
+tokens_within : (text : List ℕ) (ps : List Piece) (at : ℕ) → at + length (text_of ps) ≤ length text → AreWithin text (tokens_of at ps)
+tokens_within text [] at fits = All-nil (IsWithin text)
+tokens_within text (p ∷ ps) at fits =
+    token_within text (kind_of p) at (length (spelled p)) (tokens_of (at + length (spelled p)) ps) (omega (arith, fits, length-append (spelled p) (text_of ps)))
+    (tokens_within text ps (at + length (spelled p)) (omega (arith, fits, length-append (spelled p) (text_of ps))))
+
+pub are_within : (text : List ℕ) (tokens : List Token) → HasTokens text tokens → AreWithin text tokens
+are_within text tokens h = All-same (IsWithin text) tokens (tokens_of 0 h.pieces) h.made (tokens_within text h.pieces 0 (let e = ap length h.whole in omega (arith, e)))
+
+-- ---- names are names
+
+while_all : (p : ℕ → Bool) (xs : List ℕ) → list_all p (take_while p xs) ≡ true
+while_all p [] = refl
+while_all p (x ∷ xs) =
+    elim (cases_Bool (p x)) [
+      | inl e ↦ rw (take_while-cons p x xs, e) (and_from (p x) (list_all p (take_while p xs)) e (while_all p xs))
+      | inr e ↦ rw (take_while-cons p x xs, e) refl
+    ]
+
+run_name : (bytes rest : List ℕ) → IsRun bytes rest → (word_of bytes ≡ None → length bytes ≤ 64) → word_of bytes ≡ None → IsName bytes
+run_name bytes rest h short none = record { some = h.some; run = rw h.longest (while_all is_run_byte (bytes ++ rest)); free = none; short = short none }
+
+run_named : (bytes rest : List ℕ) (at : ℕ) (ls : List Lexeme) (o : Option Word) → word_of bytes ≡ o → IsRun bytes rest → (word_of bytes ≡ None → length bytes ≤ 64) → HaveNames ls → HaveNames (lexeme_at (Some (unwrap_or (option_map kinds.Word o) kinds.Name)) bytes at ++ ls)
+unfolding lexeme_at
+run_named bytes rest at ls None e h short others = (run_name bytes rest h short e, others)
+run_named bytes rest at ls (Some w) e h short others = (tt, others)
+
+mark_named : (o : Option Kind) (b at : ℕ) (ls : List Lexeme) → o ≢ Some kinds.Name → HaveNames ls → HaveNames (lexeme_at o (b ∷ []) at ++ ls)
+unfolding lexeme_at
+mark_named None b at ls h others = others
+mark_named (Some kinds.Name) b at ls h others = absurd (h refl)
+mark_named (Some k) b at ls h others = (tt, others)
+
+if_no_name : (t : Bool) (k : Kind) (o : Option Kind) → k ≢ kinds.Name → o ≢ Some kinds.Name → cond t (Some k) o ≢ Some kinds.Name
+if_no_name true k o h g e = h (inside e)
+  where
+    inside : {a b : Kind} → Some a ≡ Some b → a ≡ b
+    inside e = cc
+if_no_name false k o h g e = g e
+
+mark_no_name : (b : ℕ) → mark_of b ≢ Some kinds.Name
+mark_no_name b = if_no_name _ kinds.Semicolon _ (λ e. cc) (if_no_name _ kinds.Comma _ (λ e. cc) (if_no_name _ kinds.Colon _ (λ e. cc) (if_no_name _ kinds.LeftParen _ (λ e. cc) (if_no_name _ kinds.RightParen _ (λ e. cc) (λ e. none_name e)))))
+  where
+    none_name : None ≡ Some kinds.Name → ⊥
+    none_name e = cc
+
+pieces_named : (at : ℕ) (ps : List Piece) (rest : List ℕ) → AreCut ps rest → HaveNames (lexemes_of at ps)
+unfolding lexemes_of lexeme_at
+pieces_named at [] rest h = tt
+pieces_named at (Blank b ∷ ps) rest h = pieces_named (at + 1) ps rest h.1
+pieces_named at (Note body ∷ ps) rest h = pieces_named _ ps rest h.1
+pieces_named at (Run bytes ∷ ps) rest h = run_named bytes _ at _ (word_of bytes) refl h.0.0 h.0.1 (pieces_named (at + length bytes) ps rest h.1)
+pieces_named at (pieces.Quoted body ∷ ps) rest h = (tt, pieces_named _ ps rest h.1)
+pieces_named at (Mark b ∷ ps) rest h = mark_named (mark_of b) b at _ (mark_no_name b) (pieces_named (at + 1) ps rest h.1)
+
+pub are_named : (text : List ℕ) (tokens : List Token) → HasTokens text tokens → HaveNames (lexemes text tokens)
+are_named text tokens h = rw (h.made, lexemes_seen text [] h.pieces h.whole) (pieces_named 0 h.pieces [] h.cut)
+
+-- ---- each token has a byte
+
+token_some : (p : Piece) (rest : List ℕ) (at len : ℕ) → pieces.Fits p rest → length (token_of (kind_of p) at len) ≤ length (spelled p)
+token_some (Blank b) rest at len h = omega arith
+token_some (Note body) rest at len h = omega arith
+token_some (Run []) rest at len h = absurd (h.0.some refl)
+token_some (Run (b ∷ bs)) rest at len h = omega arith
+token_some (pieces.Quoted body) rest at len h = omega arith
+token_some (Mark b) rest at len h = one (mark_of b)
+  where
+    one : (o : Option Kind) → length (token_of o at len) ≤ 1
+    one None = omega arith
+    one (Some k) = omega arith
+
+tokens_few : (at : ℕ) (ps : List Piece) (rest : List ℕ) → AreCut ps rest → length (tokens_of at ps) ≤ length (text_of ps)
+tokens_few at [] rest h = omega arith
+tokens_few at (p ∷ ps) rest h =
+    let first = token_some p (text_of ps ++ rest) at (length (spelled p)) h.0 in
+    let others = tokens_few (at + length (spelled p)) ps rest h.1 in
+    omega (arith, first, others, length-append (token_of (kind_of p) at (length (spelled p))) (tokens_of (at + length (spelled p)) ps), length-append (spelled p) (text_of ps))
+
+pub are_few : (text : List ℕ) (tokens : List Token) → HasTokens text tokens → length tokens ≤ length text
+are_few text tokens h = let n = tokens_few 0 h.pieces [] h.cut in omega (arith, n, ap length h.made, ap length h.whole)

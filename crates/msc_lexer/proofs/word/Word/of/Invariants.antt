@@ -1,0 +1,6 @@
+use Rattle.std.proofs.Common.{◌≡◌, drop, find}
+use Rattle.msc_lexer.specs.Words.{word_of, all_words, is_spelled}
+use Rattle.msc_lexer.proofs.word.Word.of.Given as goal
+
+abbrev pub invariant-loop-word : goal.invariant-loop-word
+invariant-loop-word l = find (is_spelled l.bytes) (drop l.word-index l.word-items) ≡ find (is_spelled l.bytes) l.word-items

@@ -1,0 +1,88 @@
+-- What a grammar sees of tokens: what each is, with its bytes, and where it begins.
+use Rattle.std.specs.Prelude.{◌≡◌, ◌≢◌, ℕ, ◌+◌, ◌≤◌, true, false, List, [], ◌∷◌, ◌++◌, length, map, slice_range, Option, Some, None, All}
+use Rattle.std.specs.List.{list_all}
+use Rattle.msc_lexer.specs.declared.word.Word.{Word}
+use Rattle.msc_lexer.specs.declared.token.Kind.{Kind}
+use Rattle.msc_lexer.specs.declared.token.Kind.TheVariants as kinds
+use Rattle.msc_lexer.specs.declared.token.Token.{Token}
+use Rattle.msc_lexer.specs.Bytes.{is_run_byte, begins}
+use Rattle.msc_lexer.specs.Words.{spelling, word_of}
+use Rattle.msc_lexer.specs.Pieces.{Piece, Run, Fits, spelled, kind_of, text_of, AreCut, tokens_of}
+
+pub data Symbol : Type 0 where
+  Reserved : Word → Symbol
+  Named : List ℕ → Symbol  -- a name, with its bytes
+  Quoted : List ℕ → Symbol  -- a text, with its bytes as they stand
+  Semicolon : Symbol
+  Comma : Symbol
+  Colon : Symbol
+  LeftParen : Symbol
+  RightParen : Symbol
+
+-- a token as a grammar sees it
+pub record Lexeme : Type 0 where
+  pub symbol : Symbol
+  pub place : ℕ
+
+abbrev pub symbol_of : Kind → List ℕ → Symbol
+symbol_of (kinds.Word w) bytes = Reserved w
+symbol_of kinds.Name bytes = Named bytes
+symbol_of kinds.Text bytes = Quoted bytes
+symbol_of kinds.Semicolon bytes = Semicolon
+symbol_of kinds.Comma bytes = Comma
+symbol_of kinds.Colon bytes = Colon
+symbol_of kinds.LeftParen bytes = LeftParen
+symbol_of kinds.RightParen bytes = RightParen
+
+-- a token of a text, with its bytes
+abbrev pub lexeme_of : List ℕ → Token → Lexeme
+lexeme_of text t = record { symbol = symbol_of t.kind (slice_range text t.start t.«end»); place = t.start }
+
+abbrev pub lexemes : List ℕ → List Token → List Lexeme
+lexemes text tokens = map (lexeme_of text) tokens
+
+-- the token stands in the text
+pub record IsWithin (text : List ℕ) (t : Token) : Type 0 where
+  pub ordered : t.start ≤ t.«end»
+  pub inside : t.«end» ≤ length text
+
+abbrev pub AreWithin : List ℕ → List Token → Type 0
+AreWithin text tokens = All (IsWithin text) tokens
+
+-- a name that a text can have: 1 to 64 letters, digits and underscores that are no reserved word
+pub record IsName (name : List ℕ) : Type 0 where
+  pub some : name ≢ []
+  pub run : list_all is_run_byte name ≡ true
+  pub free : word_of name ≡ None
+  pub short : length name ≤ 64
+
+-- the name of a symbol, if it has one, is a name
+abbrev pub HasName : Symbol → Type 0
+HasName (Named name) = IsName name
+HasName symbol = Unit {0}
+
+abbrev pub HaveNames : List Lexeme → Type 0
+HaveNames [] = Unit {0}
+HaveNames (l ∷ ls) = HasName l.symbol × HaveNames ls
+
+-- what a grammar sees of a piece that begins at a place
+unfoldable pub lexeme_at : Option Kind → List ℕ → ℕ → List Lexeme
+lexeme_at None bytes at = []
+lexeme_at (Some kind) bytes at = record { symbol = symbol_of kind bytes; place = at } ∷ []
+
+-- what a grammar sees of pieces of which the first begins at a place
+unfoldable pub lexemes_of : ℕ → List Piece → List Lexeme
+lexemes_of at [] = []
+lexemes_of at (p ∷ ps) = lexeme_at (kind_of p) (spelled p) at ++ lexemes_of (at + length (spelled p)) ps
+
+-- What is printed as pieces is read as those pieces: the laws that a printer needs.
+pub record PrintsPieces : Type 0 where
+  -- a spelled word is that word
+  pub words : (w : Word) → word_of (spelling w) ≡ Some w
+  -- words and names stand where no letter, digit or underscore follows
+  pub word_fits : (w : Word) (rest : List ℕ) → begins is_run_byte rest ≡ false → Fits (Run (spelling w)) rest
+  pub name_fits : (name rest : List ℕ) → IsName name → begins is_run_byte rest ≡ false → Fits (Run name) rest
+  -- pieces that fit may be joined
+  pub joined : (ps qs : List Piece) (rest : List ℕ) → AreCut ps (text_of qs ++ rest) → AreCut qs rest → AreCut (ps ++ qs) rest
+  -- the tokens of the printed text are the printed tokens
+  pub seen : (ps : List Piece) → lexemes (text_of ps) (tokens_of 0 ps) ≡ lexemes_of 0 ps

@@ -1,0 +1,47 @@
+//! Where a note, a text or a run ends.
+
+ghost use Rattle.std.specs.Prelude.{◌≡◌, ℕ, ◌+◌, ◌≤◌, ◌<◌, take, length, slice_index, IfSome, IfNone};
+ghost use Rattle.std.specs.List.{prefix_len};
+ghost use Rattle.msc_lexer.specs.Bytes.{is_run_byte};
+ghost use Rattle.msc_lexer.specs.Pieces.{NeverCloses};
+ghost use Rattle.msc_lexer.specs.Scanning.{ClosesAt, IsDoubled, QuoteEndsAt};
+
+use crate::byte::is_run_byte;
+
+/// The number of bytes of the run at the front of a text.
+pub fn run_length(text: &[u8]) -> usize
+    ensures { result ≡ prefix_len is_run_byte text.now }
+{
+    text.iter().take_while(|byte| is_run_byte(**byte)).count()
+}
+
+/// The place of the first `*/` in what follows the `/*` of a note.
+pub fn note_end(body: &[u8]) -> Option<usize>
+    ensures found { IfSome result (ClosesAt body.now) }
+    ensures none { IfNone result (NeverCloses body.now) }
+{
+    for at in 1..body.len() {
+        if body[at - 1] == b'*' && body[at] == b'/' {
+            return Some(at - 1);
+        }
+    }
+    None
+}
+
+/// The place of the closing apostrophe in what follows the opening one of a text.
+pub fn quote_end(body: &[u8]) -> Option<usize>
+    ensures found { IfSome result (QuoteEndsAt body.now) }
+    ensures none { IfNone result (IsDoubled body.now) }
+{
+    let mut at = 0;
+    while at < body.len() {
+        if body[at] != b'\'' {
+            at += 1;
+        } else if at + 1 < body.len() && body[at + 1] == b'\'' {
+            at += 2;
+        } else {
+            return Some(at);
+        }
+    }
+    None
+}

@@ -1,0 +1,16 @@
+pub mod Tokens
+pub mod Walks
+pub mod Items
+pub mod Sections
+pub mod Headers
+pub mod Wholes
+pub mod OneChart
+pub mod Rests
+pub mod FirstFault
+pub mod Answering
+pub mod OneParsing
+pub mod Counts
+pub mod Names
+pub mod Printed
+pub mod PrintedCuts
+pub mod ReadAgain

@@ -1,0 +1,10 @@
+use Rattle.std.proofs.Common.{◌≡◌, ◌<◌, vec_len}
+use Rattle.std.specs.Io.KnownBytes.{Consumes}
+use Rattle.msc_tool.proofs.reading.read_all.Given as goal
+
+abbrev pub invariant-calls : goal.invariant-calls
+invariant-calls g l = record {
+  unfilled : vec_len l.bytes < 1048577;
+  room : vec_len l.chunk ≡ 65536;
+  taken : Consumes (g.R.Read.remaining l.initial.reader) (g.R.Read.remaining l.reader) l.bytes.items;
+}

@@ -1,0 +1,4 @@
+pub mod Reading
+pub mod Texts
+pub mod Answers
+pub mod Program

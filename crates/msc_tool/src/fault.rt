@@ -1,0 +1,44 @@
+//! Why a call gave no answer.
+
+ghost use Rattle.std.specs.Prelude.{◌≡◌};
+ghost use Rattle.msc_tool.specs.declared.fault.Fault.TheVariants.{Memory};
+ghost use Rattle.msc_tool.specs.Answers.{refusal_of};
+
+use msc_parser::ParseFault;
+use std::alloc::AllocError;
+use thiserror::Error;
+
+/// Why a call gave no answer. The first that stands is answered, in this order, but for want of
+/// memory, which may come at any growth before the answer is known.
+#[derive(Clone, Copy, Debug, PartialEq, Eq, Error)]
+pub enum Fault {
+    /// The text has no draft.
+    #[error("{0}")]
+    Parse(ParseFault),
+    /// A growth of memory was refused.
+    #[error("out of memory")]
+    Memory,
+    /// A read or a write failed, or an input did not end in time.
+    #[error("the device failed")]
+    Device,
+}
+
+impl From<AllocError> for Fault {
+    ghost from_gives = { λ _ e. e ≡ Memory };
+
+    fn from(_e: AllocError) -> Fault {
+        Fault::Memory
+    }
+}
+
+impl From<ParseFault> for Fault {
+    ghost from_gives = { λ f e. e ≡ refusal_of f };
+
+    /// Want of memory is never nested.
+    fn from(fault: ParseFault) -> Fault {
+        match fault {
+            ParseFault::Memory => Fault::Memory,
+            _ => Fault::Parse(fault),
+        }
+    }
+}
