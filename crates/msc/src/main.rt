@@ -1,7 +1,7 @@
 //! The program `msc`.
 #![tactic(auto)]
 
-use msc_tool::{Fault, command, write_fault};
+use msc_tool::{command, refuse_words};
 use std::env;
 use std::io;
 use std::process::ExitCode;
@@ -12,20 +12,10 @@ fn words(rt: &HostRuntime) -> io::Result<Vec<String>> {
 }
 
 fn main(rt: HostRuntime) -> ExitCode {
-    let mut faults = rt.stderr();
-    let status = match words(&rt) {
-        Ok(words) => command(
-            &rt,
-            rt.alloc(),
-            words,
-            &mut rt.stdin(),
-            &mut rt.stdout(),
-            &mut faults,
-        ),
-        Err(_) => {
-            let _ = write_fault(&mut faults, &Fault::Memory);
-            4
-        }
-    };
-    ExitCode::from(status)
+    let alloc = rt.alloc();
+    let (mut input, mut output, mut faults) = (rt.stdin(), rt.stdout(), rt.stderr());
+    ExitCode::from(match words(&rt) {
+        Ok(words) => command(&rt, alloc, words, &mut input, &mut output, &mut faults),
+        Err(error) => refuse_words(&mut faults, &error),
+    })
 }

@@ -12,7 +12,7 @@ mod text;
 mod writing;
 
 pub use fault::Fault;
-pub use program::command;
+pub use program::{command, refuse_words};
 pub use reading::{CALL_LIMIT, read_all};
 pub use text::{read_input, read_text};
 pub use writing::{write_draft, write_fault};

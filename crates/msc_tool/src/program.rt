@@ -1,16 +1,18 @@
 //! The command line.
 
-ghost use Rattle.std.specs.Prelude.{◌≡◌, ◌⊎◌};
+ghost use Rattle.std.specs.Prelude.{◌≡◌, ◌≢◌, ◌⊎◌};
+ghost use Rattle.std.specs.IoError.{error_kind};
+ghost use Rattle.std.specs.declared.io.ErrorKind.TheVariants.{OutOfMemory};
 ghost use Rattle.msc_tool.specs.Program.{status_code, status_of};
 
 use crate::fault::Fault;
 use crate::text::read_input;
 use crate::writing::write_fault;
-use clap::error::ErrorKind;
 use clap::{Arg, Command, Error};
 use std::alloc::{AllocError, Global};
 use std::fs;
-use std::io::{Read, Write};
+use std::io;
+use std::io::{ErrorKind, Read, Write};
 use std::rt::Files;
 
 /// How a run of the program ended.
@@ -81,7 +83,7 @@ fn read_file<R: Files, I: Read, O: Write>(
 
 /// Writes what `clap` says of words that are no command, or the help that they ask for.
 fn explain<O: Write, E: Write>(output: &mut O, faults: &mut E, error: &Error) -> Status {
-    if error.kind() == ErrorKind::OutOfMemory {
+    if error.kind() == clap::error::ErrorKind::OutOfMemory {
         return end_with(faults, Fault::Memory);
     }
     if error.use_stderr() {
@@ -119,6 +121,19 @@ fn run<R: Files, I: Read, O: Write, E: Write>(
         Ok(()) => Status::Done,
         Err(fault) => end_with(faults, fault),
     }
+}
+
+/// The exit status of a program that could not read its own words: memory ran out, or a word is no
+/// text. What went wrong is written to `faults`, where that succeeds.
+pub fn refuse_words<E: Write>(faults: &mut E, error: &io::Error) -> u8
+    ensures memory { error_kind error.now ≡ OutOfMemory → result ≡ 4 }
+    ensures usage { error_kind error.now ≢ OutOfMemory → result ≡ 2 }
+{
+    if error.kind() == ErrorKind::OutOfMemory {
+        return end_with(faults, Fault::Memory).code();
+    }
+    let _ = writeln!(faults, "error: a word of the command line is no text");
+    Status::Refused.code()
 }
 
 /// The program `msc` over its words, the program's name first; answers the exit status.

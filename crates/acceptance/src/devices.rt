@@ -1,0 +1,71 @@
+//! Readers and writers that fail, for tests.
+
+use std::io;
+use std::io::{ErrorKind, Read, Write};
+
+/// A reader that is interrupted `interruptions` times, then gives `bytes` at most `step` at a time,
+/// and fails at its call number `fails_at`, from 1.
+#[derive(Drop)]
+pub struct Unsteady<'a> {
+    pub interruptions: u32,
+    pub bytes: &'a [u8],
+    pub step: usize,
+    pub calls: u32,
+    pub fails_at: u32,
+}
+
+impl<'a> Unsteady<'a> {
+    /// A reader of these bytes that neither stops nor fails.
+    pub fn new(bytes: &'a [u8]) -> Unsteady<'a> {
+        Unsteady {
+            interruptions: 0,
+            bytes,
+            step: usize::MAX,
+            calls: 0,
+            fails_at: 0,
+        }
+    }
+}
+
+impl Read for Unsteady<'_> {
+    fn read(&mut self, buf: &mut [u8]) -> io::Result<usize> {
+        self.calls = self.calls.wrapping_add(1);
+        if self.calls == self.fails_at {
+            return Err(io::Error::from(ErrorKind::BrokenPipe));
+        }
+        if self.interruptions > 0 {
+            self.interruptions -= 1;
+            return Err(io::Error::from(ErrorKind::Interrupted));
+        }
+        let count = self.bytes.len().min(buf.len()).min(self.step);
+        buf[..count].copy_from_slice(&self.bytes[..count]);
+        self.bytes = &self.bytes[count..];
+        Ok(count)
+    }
+}
+
+/// A writer that takes at most `step` bytes at a time, and fails at its call number `fails_at`, from
+/// 1.
+#[derive(Drop)]
+pub struct Narrow {
+    pub written: Vec<u8>,
+    pub step: usize,
+    pub calls: u32,
+    pub fails_at: u32,
+}
+
+impl Write for Narrow {
+    fn write(&mut self, buf: &[u8]) -> io::Result<usize> {
+        self.calls = self.calls.wrapping_add(1);
+        if self.calls == self.fails_at {
+            return Err(io::Error::from(ErrorKind::BrokenPipe));
+        }
+        let count = buf.len().min(self.step);
+        self.written.extend_from_slice(&buf[..count])?;
+        Ok(count)
+    }
+
+    fn flush(&mut self) -> io::Result<()> {
+        Ok(())
+    }
+}

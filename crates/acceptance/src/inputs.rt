@@ -1,0 +1,86 @@
+//! Reading an input to its end, and writing to devices that fail.
+
+use crate::devices::{Narrow, Unsteady};
+use msc_tool::{CALL_LIMIT, Fault, read_all, read_text};
+use std::test::Fail;
+
+/// The chart `empty`.
+const EMPTY: &[u8] = b"msc t; endmsc;";
+
+#[test]
+fn an_input_in_memory(rt: HostRuntime) -> Result<(), Fail> {
+    let bytes = read_all(rt.alloc(), &mut Unsteady::new(EMPTY))?;
+    assert_eq!(rt; bytes.as_slice(), EMPTY);
+    Ok(())
+}
+
+#[test]
+fn interrupted_reads_are_tried_again(rt: HostRuntime) -> Result<(), Fail> {
+    let alloc = rt.alloc();
+    let mut three = Unsteady::new(EMPTY);
+    three.interruptions = 3;
+    three.step = 1;
+    assert_eq!(rt; read_all(alloc, &mut three)?.as_slice(), EMPTY);
+    let mut always = Unsteady::new(EMPTY);
+    always.interruptions = u32::MAX;
+    assert_eq!(rt; read_all(alloc, &mut always).err(), Some(Fault::Device));
+    assert_eq!(rt; always.calls, CALL_LIMIT);
+    Ok(())
+}
+
+#[test]
+fn failing_reads_are_a_device_fault(rt: HostRuntime) {
+    for call in [1, 2] {
+        let mut reader = Unsteady::new(EMPTY);
+        reader.fails_at = call;
+        assert_eq!(rt; read_all(rt.alloc(), &mut reader).err(), Some(Fault::Device));
+    }
+}
+
+#[test]
+fn the_first_bytes_of_a_long_input(rt: HostRuntime) -> Result<(), Fail> {
+    let alloc = rt.alloc();
+    let long = vec![in alloc; b' '; 1_048_578]?;
+    let bytes = read_all(alloc, &mut Unsteady::new(&long))?;
+    assert_eq!(rt; bytes.len(), 1_048_577);
+    Ok(())
+}
+
+#[test]
+fn a_writer_that_takes_a_byte_at_a_time(rt: HostRuntime) -> Result<(), Fail> {
+    let mut writer = Narrow {
+        written: Vec::new(rt.alloc()),
+        step: 1,
+        calls: 0,
+        fails_at: 0,
+    };
+    read_text(rt.alloc(), EMPTY, &mut writer)?;
+    assert_eq!(rt; writer.written.as_slice(), b"msc t;\nendmsc;\n".as_slice());
+    Ok(())
+}
+
+#[test]
+fn failing_writes_are_a_device_fault(rt: HostRuntime) {
+    for call in 1..16 {
+        let mut writer = Narrow {
+            written: Vec::new(rt.alloc()),
+            step: 1,
+            calls: 0,
+            fails_at: call,
+        };
+        let outcome = read_text(rt.alloc(), EMPTY, &mut writer).err();
+        assert_eq!(rt; outcome, Some(Fault::Device));
+    }
+}
+
+#[test]
+fn a_refused_text_leaves_the_writer_with_no_call(rt: HostRuntime) {
+    let mut writer = Narrow {
+        written: Vec::new(rt.alloc()),
+        step: 1,
+        calls: 0,
+        fails_at: 0,
+    };
+    assert!(rt; read_text(rt.alloc(), b"msc t;", &mut writer).is_err());
+    assert_eq!(rt; writer.calls, 0);
+}

@@ -1,0 +1,16 @@
+//! Tests that cross crates: the worked examples, each at the lowest call that shows it and as a run
+//! of the program.
+#![tactic(auto)]
+
+#[cfg(test)]
+mod devices;
+#[cfg(test)]
+mod drafts;
+#[cfg(test)]
+mod faults;
+#[cfg(test)]
+mod inputs;
+#[cfg(test)]
+mod program;
+#[cfg(test)]
+mod tokens;

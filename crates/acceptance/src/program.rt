@@ -1,0 +1,160 @@
+//! Runs of the program: words, standard input, what it prints, and its exit status.
+
+use msc_tool::command;
+use std::alloc::{AllocError, Global};
+use std::test::Fail;
+
+/// What a run of the program printed, and its exit status.
+#[derive(Drop)]
+struct Outcome {
+    output: Vec<u8>,
+    faults: Vec<u8>,
+    status: u8,
+}
+
+/// The words of a command line, the program's name first.
+fn words_of(alloc: Global, words: &[&str]) -> Result<Vec<String>, AllocError> {
+    let mut all = Vec::new(alloc);
+    all.push(String::from_str(alloc, "msc")?)?;
+    for word in words {
+        all.push(String::from_str(alloc, word)?)?;
+    }
+    Ok(all)
+}
+
+/// Runs the program over these words and this standard input.
+fn run(rt: &HostRuntime, words: &[&str], stdin: &[u8]) -> Result<Outcome, AllocError> {
+    let alloc = rt.alloc();
+    let words = words_of(alloc, words)?;
+    let mut input = stdin;
+    let mut output = Vec::new(alloc);
+    let mut faults = Vec::new(alloc);
+    let status = command(rt, alloc, words, &mut input, &mut output, &mut faults);
+    Ok(Outcome {
+        output,
+        faults,
+        status,
+    })
+}
+
+#[test]
+fn texts_that_are_read(rt: HostRuntime) -> Result<(), Fail> {
+    for (text, printed) in [
+        (b"msc t; endmsc;".as_slice(), b"msc t;\nendmsc;\n".as_slice()),
+        (b"MSC t; ENDMSC;", b"msc t;\nendmsc;\n"),
+        (
+            b"msc t; instance a; out m to b; endinstance; instance b; in m from a; endinstance; endmsc;",
+            b"msc t;\ninstance a;\n  out m to b;\nendinstance;\ninstance b;\n  in m from a;\nendinstance;\nendmsc;\n",
+        ),
+    ] {
+        let run = run(&rt, &["read", "-"], text)?;
+        assert_eq!(rt; run.output.as_slice(), printed);
+        assert_eq!(rt; run.faults.len(), 0);
+        assert_eq!(rt; run.status, 0);
+    }
+    Ok(())
+}
+
+#[test]
+fn texts_that_are_refused(rt: HostRuntime) -> Result<(), Fail> {
+    for (text, printed) in [
+        (
+            b"msc t; instance a; out m to env; endinstance; endmsc;".as_slice(),
+            b"grammar fault 2 at 28: env is not supported\n".as_slice(),
+        ),
+        (b"msc t; /* x", b"lexical fault 3 at 7: note without end\n"),
+        (b"msc t;", b"grammar fault 3 at 6: expected a section\n"),
+        (
+            b"msc t; instance a; out m t",
+            b"grammar fault 3 at 25: expected to\n",
+        ),
+        (
+            b"msc t; endmsc; x",
+            b"grammar fault 3 at 15: expected the end of the text\n",
+        ),
+        (b"", b"grammar fault 3 at 0: expected msc\n"),
+        (b"a.", b"lexical fault 2 at 1: byte that begins no token\n"),
+        (b"'it''", b"lexical fault 4 at 0: text without end\n"),
+        (
+            b"a0123456789012345678901234567890123456789012345678901234567890123456789",
+            b"lexical fault 5 at 0: name longer than 64 bytes\n",
+        ),
+        (b"msc ;", b"grammar fault 3 at 4: expected a name\n"),
+        (
+            b"msc t",
+            b"grammar fault 3 at 5: expected the end of the statement\n",
+        ),
+        (
+            b"msc t; instance a; x",
+            b"grammar fault 3 at 19: expected an item\n",
+        ),
+        (
+            b"msc t; instance a; in m x",
+            b"grammar fault 3 at 24: expected from\n",
+        ),
+    ] {
+        let run = run(&rt, &["read", "-"], text)?;
+        assert_eq!(rt; run.output.len(), 0);
+        assert_eq!(rt; run.faults.as_slice(), printed);
+        assert_eq!(rt; run.status, 2);
+    }
+    Ok(())
+}
+
+#[test]
+fn texts_at_the_limit(rt: HostRuntime) -> Result<(), Fail> {
+    let spaces = vec![in rt.alloc(); b' '; 1_048_577]?;
+    for (text, printed) in [
+        (
+            spaces.as_slice(),
+            b"lexical fault 1: text longer than 1048576 bytes\n".as_slice(),
+        ),
+        (
+            spaces.get(1..).unwrap_or(b""),
+            b"grammar fault 3 at 1048576: expected msc\n",
+        ),
+    ] {
+        let run = run(&rt, &["read", "-"], text)?;
+        assert_eq!(rt; run.output.len(), 0);
+        assert_eq!(rt; run.faults.as_slice(), printed);
+        assert_eq!(rt; run.status, 2);
+    }
+    Ok(())
+}
+
+#[test]
+fn a_file_that_is_not_there(rt: HostRuntime) -> Result<(), Fail> {
+    let run = run(&rt, &["read", "no/such/file.msc"], b"msc t; endmsc;")?;
+    assert_eq!(rt; run.output.len(), 0);
+    assert_eq!(rt; run.faults.as_slice(), b"device fault\n".as_slice());
+    assert_eq!(rt; run.status, 4);
+    Ok(())
+}
+
+#[test]
+fn wrong_usage(rt: HostRuntime) -> Result<(), Fail> {
+    for words in [
+        [].as_slice(),
+        &["read"],
+        &["read", "-", "-"],
+        &["read", "--no-such-option", "-"],
+        &["write", "-"],
+    ] {
+        let run = run(&rt, words, b"msc t; endmsc;")?;
+        assert_eq!(rt; run.output.len(), 0);
+        assert!(rt; run.faults.len() > 0);
+        assert_eq!(rt; run.status, 2);
+    }
+    Ok(())
+}
+
+#[test]
+fn help(rt: HostRuntime) -> Result<(), Fail> {
+    for words in [["--help"].as_slice(), &["read", "--help"], &["help"]] {
+        let run = run(&rt, words, b"")?;
+        assert!(rt; run.output.len() > 0);
+        assert_eq!(rt; run.faults.len(), 0);
+        assert_eq!(rt; run.status, 0);
+    }
+    Ok(())
+}
