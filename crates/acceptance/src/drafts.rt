@@ -48,7 +48,8 @@ fn header_names_of_all_inst_statements(rt: HostRuntime) -> Result<(), Fail> {
 #[test]
 fn a_written_draft_is_read_again(rt: HostRuntime) -> Result<(), Fail> {
     let alloc = rt.alloc();
-    let text = b"MSC t; inst a,b; /* a note */ inst c; instance a; out m to b;\tendinstance; EndMsc;";
+    let text =
+        b"MSC t; inst a,b; /* a note */ inst c; instance a; out m to b;\tendinstance; EndMsc;";
     let canonical = b"msc t;\ninst a, b, c;\ninstance a;\n  out m to b;\nendinstance;\nendmsc;\n";
     let draft: Draft = parse(alloc, text)?;
     let first = draft.write(alloc)?;

@@ -18,10 +18,7 @@ fn refused_texts(rt: HostRuntime) {
             b"msc t; instance a; out m t",
             ParseFault::Expected(25, What::To),
         ),
-        (
-            b"msc t; endmsc; x",
-            ParseFault::Expected(15, What::Nothing),
-        ),
+        (b"msc t; endmsc; x", ParseFault::Expected(15, What::Nothing)),
         (b"", ParseFault::Expected(0, What::Msc)),
         (b"msc t; x /*", ParseFault::Lex(LexFault::OpenNote(9))),
         (

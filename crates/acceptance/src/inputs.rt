@@ -33,7 +33,10 @@ fn failing_reads_are_a_device_fault(rt: HostRuntime) {
     for call in [1, 2] {
         let mut reader = Unsteady::new(EMPTY);
         reader.fails_at = call;
-        assert_eq!(rt; read_all(rt.alloc(), &mut reader).err(), Some(Fault::Device));
+        assert_eq!(rt;
+            read_all(rt.alloc(), &mut reader).err(),
+            Some(Fault::Device)
+        );
     }
 }
 

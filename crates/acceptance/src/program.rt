@@ -40,7 +40,10 @@ fn run(rt: &HostRuntime, words: &[&str], stdin: &[u8]) -> Result<Outcome, AllocE
 #[test]
 fn texts_that_are_read(rt: HostRuntime) -> Result<(), Fail> {
     for (text, printed) in [
-        (b"msc t; endmsc;".as_slice(), b"msc t;\nendmsc;\n".as_slice()),
+        (
+            b"msc t; endmsc;".as_slice(),
+            b"msc t;\nendmsc;\n".as_slice(),
+        ),
         (b"MSC t; ENDMSC;", b"msc t;\nendmsc;\n"),
         (
             b"msc t; instance a; out m to b; endinstance; instance b; in m from a; endinstance; endmsc;",

@@ -2,9 +2,8 @@
 #![tactic(auto)]
 
 use msc_tool::{command, refuse_words};
-use std::env;
-use std::io;
 use std::process::ExitCode;
+use std::{env, io};
 
 /// The words of the command line, the program's name first.
 fn words(rt: &HostRuntime) -> io::Result<Vec<String>> {

@@ -18,8 +18,6 @@ use Rattle.msc_lexer.specs.Lexing.{HasTokens, HasFault, IsFirstFlaw, IsFlaw, Beg
 use Rattle.msc_lexer.proofs.Shapes.{class_of, class_at, shape_of, class_of_piece, run_begins, run_class}
 use Rattle.msc_lexer.proofs.OnePiece.{doubled_first, note_at_end, same_front}
 
-
-
 unfoldable pub Stops : List ℕ → Type 0
 Stops text = (p : Piece) (rest : List ℕ) → Fits p rest → text ≡ spelled p ++ rest → ⊥
 

@@ -18,8 +18,6 @@ use Rattle.msc_lexer.specs.Lexing.{HasTokens, HasFault, IsFirstFlaw, IsFlaw, Beg
 use Rattle.msc_lexer.proofs.Shapes.{class_of, class_at, shape_of, class_of_piece, run_begins, run_class}
 use Rattle.msc_lexer.proofs.Flaws.{Stops, nil_stops, flaw_stops, run_class_at}
 
-
-
 pub bad_is_no_note : (body : List ℕ) → BeginsNothing (47 ∷ 42 ∷ body) → ⊥
 bad_is_no_note body h = true≢false h.1
 

@@ -17,8 +17,6 @@ use Rattle.msc_lexer.specs.Pieces.{Piece, Blank, Note, Run, Quoted, Mark, NeverC
 use Rattle.msc_lexer.specs.Lexing.{HasTokens, HasFault, IsFirstFlaw, IsFlaw, BeginsNothing, IsOkOrMemory, IsErrOrMemory}
 use Rattle.msc_lexer.proofs.Shapes.{class_of, class_at, shape_of, class_of_piece, run_begins, run_class}
 
-
-
 -- in a note the first `*/` ends it
 pub note_at_end : (body rest : List ℕ) → (get_or ((body ++ 42 ∷ 47 ∷ []) ++ rest) (length body) 0 ≡ 42) × (get_or ((body ++ 42 ∷ 47 ∷ []) ++ rest) (length body + 1) 0 ≡ 47)
 note_at_end body rest = rw append_assoc (get_or_at body 42 (47 ∷ rest) 0 (length body) refl, get_or-append-add body (42 ∷ 47 ∷ rest) 1 0)

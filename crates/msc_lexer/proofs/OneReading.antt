@@ -19,8 +19,6 @@ use Rattle.msc_lexer.proofs.OnePiece.{doubled_first, note_at_end, same_front}
 use Rattle.msc_lexer.proofs.Flaws.{Stops, nil_stops, flaw_stops, run_class_at}
 use Rattle.msc_lexer.proofs.OneFlaw.{one_flaw}
 
-
-
 one_cut : (ps qs : List Piece) (r s : List ℕ) → AreCut ps r → AreCut qs s → text_of ps ++ r ≡ text_of qs ++ s → Stops r → Stops s → (ps ≡ qs) × (r ≡ s)
 unfolding Stops
 one_cut [] [] r s a b e stop_r stop_s = (refl, e)

@@ -16,8 +16,6 @@ use Rattle.msc_lexer.specs.Words.{word_of}
 use Rattle.msc_lexer.specs.Pieces.{Piece, Blank, Note, Run, Quoted, Mark, NeverCloses, doubled, mark_of, IsRun, spelled, Fits, text_of, AreCut, tokens_of}
 use Rattle.msc_lexer.specs.Lexing.{HasTokens, HasFault, IsFirstFlaw, IsFlaw, BeginsNothing, IsOkOrMemory, IsErrOrMemory}
 
-
-
 unfoldable pub class_of : ℕ → ℕ
 class_of b = cond (is_white b) 1 (cond (is_run_byte b) 2 (cond (eqb b 39) 3 (cond (eqb b 47) 4 5)))
 

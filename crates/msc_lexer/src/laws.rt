@@ -7,11 +7,9 @@ ghost use Rattle.msc_lexer.specs.Lexemes.{PrintsPieces};
 /// A text has at most one list of tokens, at most one first fault, and never both.
 pub fn one_reading()
     ensures { OneReading }
-{
-}
+{}
 
 /// What is printed as pieces that fit is read as those pieces.
 pub fn prints_pieces()
     ensures { PrintsPieces }
-{
-}
+{}

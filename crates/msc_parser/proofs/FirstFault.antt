@@ -3,8 +3,8 @@ use Rattle.std.proofs.Common.{◌≡◌, List, [], ◌∷◌, ◌++◌, Option, 
 use Rattle.std.specs.Option.{option_map_or}
 use Rattle.std.proofs.lemmas.List.{append-nil}
 use Rattle.msc_lexer.specs.declared.word.Word.TheVariants as words
-use Rattle.msc_parser.specs.declared.tree.Way.TheVariants as ways
 use Rattle.msc_lexer.specs.Lexemes.{Symbol, Reserved, Named, Semicolon, Lexeme}
+use Rattle.msc_parser.specs.declared.tree.Way.TheVariants as ways
 use Rattle.msc_parser.specs.Grammar.{address_word}
 use Rattle.msc_parser.specs.Places.{Place, Start, ChartName, ChartEnd, Header, InstName, InstDecl, Sections, SectionName, SectionEnd, Items, Message, Partner, Address, EventEnd, InstanceEnd, ChartLast, Done, next, walk}
 use Rattle.msc_parser.specs.Parsing.{IsContinuable, IsEndOfGood}
@@ -20,6 +20,7 @@ pub record WalksTo (p : Place) (ls : List Lexeme) (q : Place) (rest : List Lexem
   pub leads : (more : List Lexeme) → walk p (front ++ more) ≡ walk q more
   pub stops : (l : Lexeme) (more : List Lexeme) → rest ≡ l ∷ more → next q l.symbol ≡ None
 
+-- one step of a walk
 walk_step : (p : Place) (l : Lexeme) (ls : List Lexeme) (o : Option Place) → next p l.symbol ≡ o → ((q : Place) → WalksTo q ls (walk q ls).0 (walk q ls).1)
     → WalksTo p (l ∷ ls) (option_map_or (λ q. walk q ls) o (p, l ∷ ls)).0 (option_map_or (λ q. walk q ls) o (p, l ∷ ls)).1
 walk_step p l ls None step others = record { front = []; whole = refl; leads = λ more. refl; stops = λ k more e. let s : l ≡ k = cc in subst (λ (x : Lexeme). next p x.symbol ≡ None) s step }
@@ -32,23 +33,28 @@ walk_step p l ls (Some q) step others =
       stops = w.stops;
     }
 
+-- each walk ends somewhere
 walks_to : (ls : List Lexeme) (p : Place) → WalksTo p ls (walk p ls).0 (walk p ls).1
 walks_to [] p = record { front = []; whole = refl; leads = λ more. refl; stops = λ l more e. absurd cc }
 walks_to (l ∷ ls) p = walk_step p l ls (next p l.symbol) refl (λ q. walks_to ls q)
 
 -- ---- each place has a way to the end
 
+-- a token, wherever it stands
 lexeme : Symbol → Lexeme
 lexeme s = record { symbol = s; place = 0 }
 
+-- the last tokens of every chart
 last_part : List Lexeme
 unfolding lexeme
 last_part = lexeme (Reserved words.EndMsc) ∷ lexeme Semicolon ∷ []
 
+-- the last tokens of a section, and of the chart
 section_part : List Lexeme
 unfolding lexeme
 section_part = lexeme (Reserved words.EndInstance) ∷ lexeme Semicolon ∷ last_part
 
+-- tokens that lead from a place to the end
 completion : Place → List Lexeme
 unfolding lexeme
 completion Start = lexeme (Reserved words.Msc) ∷ lexeme (Named (97 ∷ [])) ∷ lexeme Semicolon ∷ last_part
@@ -69,6 +75,7 @@ completion InstanceEnd = lexeme Semicolon ∷ last_part
 completion ChartLast = lexeme Semicolon ∷ []
 completion Done = []
 
+-- they do
 completed : (p : Place) → walk p (completion p) ≡ (Done, [])
 unfolding completion lexeme last_part section_part
 completed Start = refl
@@ -93,11 +100,13 @@ completed Done = refl
 
 -- ---- the first fault
 
+-- the tokens before the end of a walk are the beginning of a chart
 can_go_on : (ls : List Lexeme) (q : Place) (rest : List Lexeme) (w : WalksTo Start ls q rest) → IsContinuable w.front
 can_go_on ls q rest w =
     let c = walks_chart (w.front ++ completion q) (w.leads (completion q) ∙ completed q) in
     (completion q, c.0, c.1)
 
+-- with the next token they are not, or they are no chart where none is left
 cannot_go_on : (ls : List Lexeme) (q : Place) (rest : List Lexeme) (w : WalksTo Start ls q rest) → ((q ≡ Done) → rest ≡ [] → ⊥) → IsEndOfGood w.front rest
 cannot_go_on ls q [] w failed = λ t c. let e : walk Start w.front ≡ (Done, []) = chart_walks w.front t c in
     let f : walk Start w.front ≡ (q, []) = ap (walk Start) (sym (append-nil w.front)) ∙ w.leads [] in
@@ -117,6 +126,7 @@ pub record FaultAt (ls : List Lexeme) : Type 0 where
   pub place : (walk Start front).0 ≡ (walk Start ls).0
   pub rest_is : rest ≡ (walk Start ls).1
 
+-- so the first fault stands where the walk ends
 pub fault_at_walk : (ls : List Lexeme) → (((walk Start ls).0 ≡ Done) → (walk Start ls).1 ≡ [] → ⊥) → FaultAt ls
 fault_at_walk ls failed =
     let w = walks_to ls Start in

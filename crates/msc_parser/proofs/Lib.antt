@@ -1,5 +1,6 @@
 pub mod Tokens
 pub mod Walks
+pub mod Events
 pub mod Items
 pub mod Sections
 pub mod Headers

@@ -1,8 +1,8 @@
 -- The names of a chart are names that a text can have, since those of its tokens are.
 use Rattle.std.proofs.Common.{◌≡◌, ℕ, ◌≤◌, List, [], ◌∷◌, ◌++◌, length, sym, subst, arith}
+use Rattle.std.specs.List.{flat_map, AllByRecursion}
 use Rattle.std.proofs.lemmas.List.{length-map}
 use Rattle.msc_lexer.specs.declared.token.Token.{Token}
-use Rattle.std.specs.List.{flat_map, AllByRecursion}
 use Rattle.msc_lexer.specs.Lexemes.{Symbol, Named, Semicolon, Comma, Lexeme, lexeme_of, lexemes, HasName, HaveNames}
 use Rattle.msc_parser.specs.declared.tree.Decl.{Decl}
 use Rattle.msc_parser.specs.declared.tree.Signal.{Signal}
@@ -13,9 +13,11 @@ use Rattle.msc_parser.specs.Grammar.{IsToken, AreMany, IsItem, IsEvent, IsSectio
 use Rattle.msc_parser.specs.Drafts.{IsDraftDecl, IsDraftItem, IsDraftSection, HasDraftNames, IsDraft}
 use Rattle.msc_parser.proofs.Counts.{chart_counts}
 
+-- the first token of tokens with names has a name, if any
 token_names : (s : Symbol) (b a : List Lexeme) → IsToken s b a → HaveNames b → HasName s × HaveNames a
 token_names s b a h named = subst HaveNames h.1 named
 
+-- so have many parts, if each has
 many_names : {X : Type 0} (IsPart : List Lexeme → X → List Lexeme → Type 0) (P : X → Type 0) → ((b a : List Lexeme) (x : X) → IsPart b x a → HaveNames b → P x × HaveNames a)
     → (b : List Lexeme) (xs : List X) (a : List Lexeme) → AreMany IsPart b xs a → HaveNames b → AllByRecursion P xs × HaveNames a
 many_names IsPart P one b [] a h named = (tt, subst HaveNames h named)
@@ -24,12 +26,15 @@ many_names IsPart P one b (x ∷ xs) a h named =
     let others = many_names IsPart P one h.0 xs a h.2 first.1 in
     ((first.0, others.0), others.1)
 
+-- a declared instance has a name
 decl_names : (b a : List Lexeme) (d : Decl) → IsDecl b d a → HaveNames b → IsDraftDecl d × HaveNames a
 decl_names b a d h named = let t = token_names (Named d.name) b a h.1 named in (record { name = t.0; kind = h.0 }, t.1)
 
+-- so has one behind a comma
 next_decl_names : (b a : List Lexeme) (d : Decl) → IsNextDecl b d a → HaveNames b → IsDraftDecl d × HaveNames a
 next_decl_names b a d h named = decl_names h.0 a d h.2 (token_names Comma b h.0 h.1 named).1
 
+-- an event has a message name and an address
 event_names : (b a : List Lexeme) (e : Signal) → IsEvent b e a → HaveNames b → IsDraftItem (Single e) × HaveNames a
 event_names b a e h named =
     let t0 = token_names _ b h.ident h.is_way named in
@@ -39,10 +44,12 @@ event_names b a e h named =
     let t4 = token_names Semicolon h.close a h.is_end t3.1 in
     (record { name = t1.0; address = t3.0; number = h.is_ident.0; parameters = h.is_ident.1 }, t4.1)
 
+-- so has every statement
 item_names : (b a : List Lexeme) (x : Item) → IsItem b x a → HaveNames b → IsDraftItem x × HaveNames a
 item_names b a (Single e) h named = event_names b a e h named
 item_names b a (Coregion es) h named = absurd h
 
+-- a section has names
 section_names : (b a : List Lexeme) (s : Section) → IsSection b s a → HaveNames b → IsDraftSection s × HaveNames a
 section_names b a s h named =
     let t0 = token_names _ b h.decl h.is_instance named in
@@ -53,6 +60,7 @@ section_names b a s h named =
     let t5 = token_names Semicolon h.last_close a h.is_last_end t4.1 in
     (record { decl = t1.0; items = t3.0 }, t5.1)
 
+-- an `inst` statement has names
 inst_names : (b a : List Lexeme) (ds : List Decl) → IsInst b ds a → HaveNames b → AllByRecursion IsDraftDecl ds × HaveNames a
 inst_names b a [] h named = absurd h
 inst_names b a (d ∷ ds) h named =
@@ -62,14 +70,17 @@ inst_names b a (d ∷ ds) h named =
     let t3 = token_names Semicolon h.2 a h.6 t2.1 in
     ((t1.0, t2.0), t3.1)
 
+-- what holds of two lists holds of both together
 append_all : {X : Type 0} (P : X → Type 0) (xs ys : List X) → AllByRecursion P xs → AllByRecursion P ys → AllByRecursion P (xs ++ ys)
 append_all P [] ys h g = g
 append_all P (x ∷ xs) ys h g = (h.0, append_all P xs ys h.1 g)
 
+-- what holds of each of many lists holds of them all together
 flat_all : {X : Type 0} (P : X → Type 0) (groups : List (List X)) → AllByRecursion (λ xs. AllByRecursion P xs) groups → AllByRecursion P (flat_map (λ g. g) groups)
 flat_all P [] h = tt
 flat_all P (g ∷ groups) h = append_all P g (flat_map (λ g. g) groups) h.0 (flat_all P groups h.1)
 
+-- all names of a chart are names
 pub chart_names : (ls : List Lexeme) (t : Tree) → IsChart ls t → HaveNames ls → HasDraftNames t
 chart_names ls t h named =
     let t0 = token_names _ ls h.name h.is_msc named in

@@ -2,6 +2,7 @@
 use Rattle.std.proofs.Common.{◌≡◌, ℕ, List, [], ◌∷◌, Option, refl, sym, ap, subst, ◌∙◌}
 use Rattle.std.specs.List.{flat_map}
 use Rattle.msc_lexer.specs.declared.word.Word.TheVariants as words
+use Rattle.msc_lexer.specs.Lexemes.{Symbol, Reserved, Named, Semicolon, Comma, Lexeme}
 use Rattle.msc_parser.specs.declared.tree.Way.{Way}
 use Rattle.msc_parser.specs.declared.tree.Way.TheVariants as ways
 use Rattle.msc_parser.specs.declared.tree.Decl.{Decl}
@@ -9,9 +10,9 @@ use Rattle.msc_parser.specs.declared.tree.Signal.{Signal}
 use Rattle.msc_parser.specs.declared.tree.Item.{Item}
 use Rattle.msc_parser.specs.declared.tree.Item.TheVariants.{Single, Coregion}
 use Rattle.msc_parser.specs.declared.tree.Section.{Section}
-use Rattle.msc_lexer.specs.Lexemes.{Symbol, Reserved, Named, Semicolon, Comma, Lexeme}
 use Rattle.msc_parser.specs.Grammar.{IsToken, AreMany, IsItem, IsEvent, IsSection, IsDecl, IsNextDecl, IsInst, IsChart, Tree, way_word, address_word}
 
+-- the front of a list is one token
 token_same : (s r : Symbol) (b a c : List Lexeme) → IsToken s b a → IsToken r b c → (s ≡ r) × (a ≡ c)
 token_same s r b a c h g =
     let e : record { symbol = s; place = h.0 } ∷ a ≡ record { symbol = r; place = g.0 } ∷ c = sym h.1 ∙ g.1 in
@@ -24,6 +25,7 @@ token_same s r b a c h g =
     tails : {x y : Lexeme} {xs ys : List Lexeme} → x ∷ xs ≡ y ∷ ys → xs ≡ ys
     tails e = cc
 
+-- and one name
 name_same : (m n : List ℕ) (b a c : List Lexeme) → IsToken (Named m) b a → IsToken (Named n) b c → (m ≡ n) × (a ≡ c)
 name_same m n b a c h g = let e = token_same (Named m) (Named n) b a c h g in let f : Named m ≡ Named n = e.0 in ((cc), e.1)
 
@@ -31,6 +33,7 @@ name_same m n b a c h g = let e = token_same (Named m) (Named n) b a c h g in le
 Decided : {X : Type 0} → (List Lexeme → X → List Lexeme → Type 0) → Type 0
 Decided {X} IsPart = (b a c : List Lexeme) (x y : X) → IsPart b x a → IsPart b y c → (x ≡ y) × (a ≡ c)
 
+-- so many parts are decided, where what ends the list begins no part
 many_same : {X : Type 0} (IsPart : List Lexeme → X → List Lexeme → Type 0) (Ends : List Lexeme → Type 0) → Decided IsPart → ((b a : List Lexeme) (x : X) → IsPart b x a → Ends b → ⊥)
     → (xs ys : List X) (b a c : List Lexeme) → AreMany IsPart b xs a → AreMany IsPart b ys c → Ends a → Ends c → (xs ≡ ys) × (a ≡ c)
 unfolding Decided
@@ -44,6 +47,7 @@ many_same IsPart Ends one apart (x ∷ xs) (y ∷ ys) b a c h g ends_a ends_c =
     let j = others.0 in
     ((cc), others.1)
 
+-- a declared instance is decided
 decl_same : Decided IsDecl
 unfolding Decided
 decl_same b a c x y h g =
@@ -55,18 +59,21 @@ decl_same b a c x y h g =
     pair : {m n : List ℕ} {k l : List (List ℕ)} → m ≡ n → k ≡ l → (let d : Decl = record { name = m; kind = k } in d) ≡ record { name = n; kind = l }
     pair p q = cc
 
+-- so is one behind a comma
 next_decl_same : Decided IsNextDecl
 unfolding Decided
 next_decl_same b a c x y h g =
     let e = token_same Comma Comma b h.0 g.0 h.1 g.1 in
     decl_same g.0 a c x y (subst (λ (m : List Lexeme). IsDecl m x a) e.1 h.2) g.2
 
+-- the first word of an event tells its way
 way_word_same : (v w : Way) → Reserved (way_word v) ≡ Reserved (way_word w) → v ≡ w
 way_word_same ways.Output ways.Output e = refl
 way_word_same ways.Input ways.Input e = refl
 way_word_same ways.Output ways.Input e = absurd cc
 way_word_same ways.Input ways.Output e = absurd cc
 
+-- an event is decided
 event_same : Decided IsEvent
 unfolding Decided
 event_same b a c x y h g =
@@ -82,24 +89,29 @@ event_same b a c x y h g =
         → (let e : Signal = record { way = v; name = m; number = k; parameters = f; address = p } in e) ≡ record { way = w; name = n; number = l; parameters = g; address = q }
     signal p1 p2 p3 p4 p5 = cc
 
+-- so is every statement
 item_same : Decided IsItem
 unfolding Decided
 item_same b a c (Single x) (Single y) h g = let e = event_same b a c x y h g in let i = e.0 in ((cc), e.1)
 item_same b a c (Coregion xs) y h g = absurd h
 item_same b a c x (Coregion ys) h g = absurd g
 
+-- `endinstance` stands here
 EndsItems : List Lexeme → Type 0
 EndsItems b = (a : List Lexeme) × IsToken (Reserved words.EndInstance) b a
 
+-- no event begins with `endinstance`
 event_goes_on : (w : Way) (b a c : List Lexeme) → IsToken (Reserved (way_word w)) b a → IsToken (Reserved words.EndInstance) b c → ⊥
 event_goes_on ways.Output b a c h g = let e = (token_same _ _ b a c h g).0 in absurd cc
 event_goes_on ways.Input b a c h g = let e = (token_same _ _ b a c h g).0 in absurd cc
 
+-- so no statement does
 item_goes_on : (b a : List Lexeme) (x : Item) → IsItem b x a → EndsItems b → ⊥
 unfolding EndsItems
 item_goes_on b a (Single x) h g = event_goes_on x.way b h.ident g.0 h.is_way g.1
 item_goes_on b a (Coregion xs) h g = h
 
+-- a section is decided
 section_same : Decided IsSection
 unfolding Decided EndsItems
 section_same b a c x y h g =
@@ -114,20 +126,25 @@ section_same b a c x y h g =
     section : {d e : Decl} {k l : List Item} → d ≡ e → k ≡ l → (let s : Section = record { decl = d; items = k } in s) ≡ record { decl = e; items = l }
     section p q = cc
 
+-- `endmsc` stands here
 EndsSections : List Lexeme → Type 0
 EndsSections b = (a : List Lexeme) × IsToken (Reserved words.EndMsc) b a
 
+-- no section begins with `endmsc`
 section_goes_on : (b a : List Lexeme) (x : Section) → IsSection b x a → EndsSections b → ⊥
 unfolding EndsSections
 section_goes_on b a x h g = let e = (token_same _ _ b h.decl g.0 h.is_instance g.1).0 in absurd cc
 
+-- `;` stands here
 EndsDecls : List Lexeme → Type 0
 EndsDecls b = (a : List Lexeme) × IsToken Semicolon b a
 
+-- no further declared instance begins with `;`
 decl_goes_on : (b a : List Lexeme) (x : Decl) → IsNextDecl b x a → EndsDecls b → ⊥
 unfolding EndsDecls
 decl_goes_on b a x h g = let e = (token_same _ _ b h.0 g.0 h.1 g.1).0 in absurd cc
 
+-- an `inst` statement is decided
 inst_same : Decided IsInst
 unfolding Decided EndsDecls
 inst_same b a c [] y h g = absurd h
@@ -141,19 +158,23 @@ inst_same b a c (x ∷ xs) (y ∷ ys) h g =
     let j = e2.0 in
     ((cc), e3.1)
 
+-- `inst` does not stand here
 EndsInsts : List Lexeme → Type 0
 EndsInsts b = (a : List Lexeme) → IsToken (Reserved words.Inst) b a → ⊥
 
+-- each `inst` statement begins with `inst`
 inst_goes_on : (b a : List Lexeme) (x : List Decl) → IsInst b x a → EndsInsts b → ⊥
 unfolding EndsInsts
 inst_goes_on b a [] h g = h
 inst_goes_on b a (x ∷ xs) h g = g h.0 h.3
 
+-- neither a section nor `endmsc` begins with `inst`
 sections_end_insts : (b a d : List Lexeme) (ss : List Section) → AreMany IsSection b ss a → IsToken (Reserved words.EndMsc) a d → EndsInsts b
 unfolding EndsInsts
 sections_end_insts b a d [] h g c k = let e = (token_same _ _ b c d k (subst (λ (m : List Lexeme). IsToken (Reserved words.EndMsc) m d) (sym h) g)).0 in absurd cc
 sections_end_insts b a d (s ∷ ss) h g c k = let e = (token_same _ _ b c h.1.decl k h.1.is_instance).0 in absurd cc
 
+-- a list of tokens is at most one chart
 pub one_chart : (b : List Lexeme) (t u : Tree) → IsChart b t → IsChart b u → t ≡ u
 unfolding EndsSections
 one_chart b t u h g =

@@ -17,6 +17,7 @@ chart_or_fault : (front rest : List Lexeme) (t : Tree) → IsChart (front ++ res
 chart_or_fault front [] t h last = last t (subst (λ (ls : List Lexeme). IsChart ls t) (append-nil front) h)
 chart_or_fault front (l ∷ rest) t h last = last (rest, t, subst (λ (ls : List Lexeme). IsChart ls t) (sym (append_assoc front (l ∷ []) rest)) h)
 
+-- what a beginning of a chart begins with is one too
 shorter_good : (front more : List Lexeme) → IsContinuable (front ++ more) → IsContinuable front
 shorter_good front more h = (more ++ h.0, h.1, subst (λ (ls : List Lexeme). IsChart ls h.1) (append_assoc front more h.0) h.2)
 
@@ -41,26 +42,31 @@ same_split before (x ∷ a) (y ∷ b) r s e good_a good_b last_a last_b =
     ((cc), others.1)
 
 module _ (laws : OneReading) where
+  -- a text with a draft has no grammar fault
   draft_or_grammar : (text : List ℕ) (t : Tree) (e : ParseFault) → HasDraft text t → IsGrammarFault text e → ⊥
   draft_or_grammar text t e d g =
       let same = laws.tokens text d.0 g.tokens d.1 g.have in
       chart_or_fault g.front g.rest t (subst (λ (ls : List Lexeme). IsChart ls t) (ap (lexemes text) same ∙ g.whole) d.2) g.last
 
+  -- nor any other fault
   draft_or_fault : (text : List ℕ) (t : Tree) (e : ParseFault) → HasDraft text t → HasParseFault text e → ⊥
   draft_or_fault text t faults.Memory d h = h
   draft_or_fault text t (faults.Lex f) d h = laws.apart text d.0 f d.1 h
   draft_or_fault text t (faults.Unsupported at w) d h = draft_or_grammar text t _ d h
   draft_or_fault text t (faults.Expected at w) d h = draft_or_grammar text t _ d h
 
+  -- a text has at most one grammar fault
   one_grammar_fault : (text : List ℕ) (e f : ParseFault) → IsGrammarFault text e → IsGrammarFault text f → e ≡ f
   one_grammar_fault text e f g h =
       let same = laws.tokens text g.tokens h.tokens g.have h.have in
       let split = same_split [] g.front h.front g.rest h.rest (sym g.whole ∙ ap (lexemes text) same ∙ h.whole) g.good h.good g.last h.last in
       g.fault_is ∙ rw (split.0, split.1) refl ∙ sym h.fault_is
 
+  -- a text with a lexical fault has no grammar fault
   lex_or_grammar : (text : List ℕ) (f : LexFault) (e : ParseFault) → HasFault text f → IsGrammarFault text e → ⊥
   lex_or_grammar text f e h g = laws.apart text g.tokens f g.have h
 
+  -- a text has at most one first fault
   one_parse_fault : (text : List ℕ) (e f : ParseFault) → HasParseFault text e → HasParseFault text f → e ≡ f
   one_parse_fault text faults.Memory f g h = absurd g
   one_parse_fault text e faults.Memory g h = absurd h
@@ -77,14 +83,17 @@ module _ (laws : OneReading) where
   one_parse_fault text (faults.Expected at w) (faults.Unsupported bt v) g h = one_grammar_fault text _ _ g h
   one_parse_fault text (faults.Expected at w) (faults.Expected bt v) g h = one_grammar_fault text _ _ g h
 
+  -- a text has at most one draft
   one_draft_of : (text : List ℕ) (t u : Tree) → HasDraft text t → HasDraft text u → t ≡ u
   one_draft_of text t u g h =
       let same = laws.tokens text g.0 h.0 g.1 h.1 in
       one_chart (lexemes text h.0) t u (subst (λ (ts : List Token). IsChart (lexemes text ts) t) same g.2) h.2
 
+  -- the three together
   pub one_parsing : OneParsing
   one_parsing = record { draft = one_draft_of; fault = one_parse_fault; apart = draft_or_fault }
 
+-- a fault is want of memory, or not
 is_memory : (f : ParseFault) → (f ≡ faults.Memory) ⊎ (f ≢ faults.Memory)
 is_memory faults.Memory = inl refl
 is_memory (faults.Lex f) = inr (λ e. cc)

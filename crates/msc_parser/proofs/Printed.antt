@@ -18,25 +18,30 @@ use Rattle.msc_parser.specs.Drafts.{IsDraftDecl, IsDraftItem, IsDraftSection, Ha
 
 -- ---- one token of printed text
 
+-- a printed name is read as that name
 a_name : (at : ℕ) (n : List ℕ) (ps : List Piece) → IsName n → IsToken (Named n) (lexemes_of at (Run n ∷ ps)) (lexemes_of (at + length n) ps)
 unfolding lexemes_of lexeme_at
 a_name at n ps h = (at, rw h.free refl)
 
+-- a printed `;` is read as that mark
 a_semicolon : (at : ℕ) (ps : List Piece) → IsToken Semicolon (lexemes_of at (Mark 59 ∷ ps)) (lexemes_of (at + 1) ps)
 unfolding lexemes_of lexeme_at
 a_semicolon at ps = (at, refl)
 
+-- a printed comma is read as that mark
 a_comma : (at : ℕ) (ps : List Piece) → IsToken Comma (lexemes_of at (Mark 44 ∷ ps)) (lexemes_of (at + 1) ps)
 unfolding lexemes_of lexeme_at
 a_comma at ps = (at, refl)
 
 module _ (laws : PrintsPieces) where
+  -- a printed word is read as that word
   a_word : (at : ℕ) (w : Word) (ps : List Piece) → IsToken (Reserved w) (lexemes_of at (word w ∷ ps)) (lexemes_of (at + length (spelling w)) ps)
   unfolding lexemes_of lexeme_at
   a_word at w ps = (at, rw (laws.words w) refl)
 
   -- ---- parts of printed text
 
+  -- a printed event is read as that event
   an_event : (at : ℕ) (e : Signal) (rest : List Piece) → IsDraftItem (Single e) → (to : ℕ) × IsEvent (lexemes_of at (event_pieces e ++ rest)) e (lexemes_of to rest)
   unfolding lexemes_of lexeme_at
   an_event at e rest h =
@@ -61,6 +66,7 @@ module _ (laws : PrintsPieces) where
         },
       )
 
+  -- printed statements are read as those statements
   some_items : (at : ℕ) (items : List Item) (rest : List Piece) → AllByRecursion IsDraftItem items → (to : ℕ) × AreMany IsItem (lexemes_of at (flat_map item_pieces items ++ rest)) items (lexemes_of to rest)
   unfolding lexemes_of lexeme_at
   some_items at [] rest h = (at, refl)
@@ -70,6 +76,7 @@ module _ (laws : PrintsPieces) where
       let others = some_items one.0 items rest h.1 in
       (others.0, (lexemes_of one.0 (flat_map item_pieces items ++ rest), one.1, others.1))
 
+  -- a printed section is read as that section
   a_section : (at : ℕ) (s : Section) (rest : List Piece) → IsDraftSection s → (to : ℕ) × IsSection (lexemes_of at (section_pieces s ++ rest)) s (lexemes_of to rest)
   unfolding lexemes_of lexeme_at
   a_section at s rest h =
@@ -96,6 +103,7 @@ module _ (laws : PrintsPieces) where
         },
       )
 
+  -- printed sections are read as those sections
   some_sections : (at : ℕ) (ss : List Section) (rest : List Piece) → AllByRecursion IsDraftSection ss → (to : ℕ) × AreMany IsSection (lexemes_of at (flat_map section_pieces ss ++ rest)) ss (lexemes_of to rest)
   some_sections at [] rest h = (at, refl)
   some_sections at (s ∷ ss) rest h =
@@ -104,6 +112,7 @@ module _ (laws : PrintsPieces) where
       let same : (section_pieces s ++ flat_map section_pieces ss) ++ rest ≡ section_pieces s ++ (flat_map section_pieces ss ++ rest) = append_assoc (section_pieces s) (flat_map section_pieces ss) rest in
       (others.0, (lexemes_of one.0 (flat_map section_pieces ss ++ rest), subst (λ (ps : List Piece). IsSection (lexemes_of at ps) s (lexemes_of one.0 (flat_map section_pieces ss ++ rest))) (sym same) one.1, others.1))
 
+  -- printed declared instances are read as those instances
   some_decls : (at : ℕ) (ds : List Decl) (rest : List Piece) → AllByRecursion IsDraftDecl ds → (to : ℕ) × AreMany IsNextDecl (lexemes_of at (flat_map next_decl_pieces ds ++ rest)) ds (lexemes_of to rest)
   unfolding lexemes_of lexeme_at
   some_decls at [] rest h = (at, refl)
@@ -112,6 +121,7 @@ module _ (laws : PrintsPieces) where
       let others = some_decls (at + 1 + 1 + length d.name) ds rest h.1 in
       (others.0, (lexemes_of (at + 1 + 1 + length d.name) more, (lexemes_of (at + 1 + 1) (Run d.name ∷ more), a_comma at (space ∷ Run d.name ∷ more), (h.0.kind, a_name (at + 1 + 1) d.name more h.0.name)), others.1))
 
+  -- a printed header is read as that header
   a_header : (at : ℕ) (ds : List Decl) (rest : List Piece) → AllByRecursion IsDraftDecl ds → (to : ℕ) × IsHeader (lexemes_of at (header_pieces ds ++ rest)) ds (lexemes_of to rest)
   unfolding lexemes_of lexeme_at
   a_header at [] rest h = (at, ([], refl, refl))
@@ -142,6 +152,7 @@ module _ (laws : PrintsPieces) where
         ),
       )
 
+  -- a printed draft is read as the chart of that draft
   pub a_chart : (t : Tree) → HasDraftNames t → IsChart (lexemes_of 0 (printed t)) t
   unfolding lexemes_of lexeme_at
   a_chart t h =

@@ -16,9 +16,11 @@ use Rattle.msc_parser.specs.Grammar.{Tree, way_word, address_word}
 use Rattle.msc_parser.specs.Canonical.{word, line_end, event_pieces, item_pieces, section_pieces, next_decl_pieces, header_pieces, printed}
 use Rattle.msc_parser.specs.Drafts.{IsDraftDecl, IsDraftItem, IsDraftSection, HasDraftNames}
 
+-- a mark is a piece wherever it stands
 mark_fits : (k : Kind) → Some k ≢ None
 mark_fits k e = cc
 
+-- `;` and the line end are cut
 cut_line : (rest : List ℕ) → AreCut line_end rest
 cut_line rest = (mark_fits kinds.Semicolon, (refl, tt))
 
@@ -28,14 +30,17 @@ stops [] rest = refl
 stops (d ∷ ds) rest = refl
 
 module _ (laws : PrintsPieces) where
+  -- so is an event
   cut_event : (e : Signal) (rest : List ℕ) → IsDraftItem (Single e) → AreCut (event_pieces e) rest
   cut_event e rest h = (laws.word_fits (way_word e.way) _ refl, (refl, (laws.name_fits e.name _ h.name refl, (refl, (laws.word_fits (address_word e.way) _ refl, (refl, (laws.name_fits e.address _ h.address refl, cut_line rest)))))))
 
+  -- so are statements
   cut_items : (items : List Item) (rest : List ℕ) → AllByRecursion IsDraftItem items → AreCut (flat_map item_pieces items) rest
   cut_items [] rest h = tt
   cut_items (Coregion es ∷ items) rest h = absurd h.0
   cut_items (Single e ∷ items) rest h = laws.joined (item_pieces (Single e)) (flat_map item_pieces items) rest (refl, (refl, cut_event e _ h.0)) (cut_items items rest h.1)
 
+  -- so is a section
   cut_section : (s : Section) (rest : List ℕ) → IsDraftSection s → AreCut (section_pieces s) rest
   cut_section s rest h = (
     laws.word_fits words.Instance _ refl,
@@ -54,18 +59,22 @@ module _ (laws : PrintsPieces) where
     ),
   )
 
+  -- so are sections
   cut_sections : (ss : List Section) (rest : List ℕ) → AllByRecursion IsDraftSection ss → AreCut (flat_map section_pieces ss) rest
   cut_sections [] rest h = tt
   cut_sections (s ∷ ss) rest h = laws.joined (section_pieces s) (flat_map section_pieces ss) rest (cut_section s _ h.0) (cut_sections ss rest h.1)
 
+  -- so are the declared instances behind the first
   cut_decls : (ds : List Decl) (rest : List ℕ) → AllByRecursion IsDraftDecl ds → AreCut (flat_map next_decl_pieces ds ++ line_end) rest
   cut_decls [] rest h = cut_line rest
   cut_decls (d ∷ ds) rest h = (mark_fits kinds.Comma, (refl, (laws.name_fits d.name _ h.0.name (stops ds rest), cut_decls ds rest h.1)))
 
+  -- so is the header
   cut_header : (ds : List Decl) (rest : List ℕ) → AllByRecursion IsDraftDecl ds → AreCut (header_pieces ds) rest
   cut_header [] rest h = tt
   cut_header (d ∷ ds) rest h = (laws.word_fits words.Inst _ refl, (refl, (laws.name_fits d.name _ h.0.name (stops ds rest), cut_decls ds rest h.1)))
 
+  -- so is the whole printed draft
   pub cut_printed : (t : Tree) → HasDraftNames t → AreCut (printed t) []
   cut_printed t h = (
     laws.word_fits words.Msc _ refl,

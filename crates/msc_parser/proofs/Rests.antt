@@ -4,6 +4,7 @@ use Rattle.std.specs.Prelude.{IfSome}
 use Rattle.std.specs.Option.{option_map_or}
 use Rattle.std.specs.List.{flat_map}
 use Rattle.msc_lexer.specs.declared.word.Word.TheVariants as words
+use Rattle.msc_lexer.specs.Lexemes.{Symbol, Reserved, Named, Semicolon, Comma, Lexeme}
 use Rattle.msc_parser.specs.declared.tree.Way.{Way}
 use Rattle.msc_parser.specs.declared.tree.Way.TheVariants as ways
 use Rattle.msc_parser.specs.declared.tree.Decl.{Decl}
@@ -11,13 +12,13 @@ use Rattle.msc_parser.specs.declared.tree.Signal.{Signal}
 use Rattle.msc_parser.specs.declared.tree.Item.{Item}
 use Rattle.msc_parser.specs.declared.tree.Item.TheVariants.{Single}
 use Rattle.msc_parser.specs.declared.tree.Section.{Section}
-use Rattle.msc_lexer.specs.Lexemes.{Symbol, Reserved, Named, Semicolon, Comma, Lexeme}
 use Rattle.msc_parser.specs.Grammar.{IsToken, AreMany, IsItem, IsSection, IsDecl, IsNextDecl, IsInst, IsChart, Tree, IsEnd, way_word, address_word}
 use Rattle.msc_parser.specs.Places.{Place, Start, ChartName, ChartEnd, Header, InstName, InstDecl, Sections, SectionName, SectionEnd, Items, Message, Partner, Address, EventEnd, InstanceEnd, ChartLast, Done, next, walk}
 use Rattle.msc_parser.specs.Reading.{IsEventOf}
 use Rattle.msc_parser.proofs.Walks.{walk_token}
 use Rattle.msc_parser.proofs.Wholes.{over_header, over_last_sections}
 
+-- the tokens of a chart lead from the start to the end
 pub chart_walks : (ls : List Lexeme) (t : Tree) → IsChart ls t → walk Start ls ≡ (Done, [])
 chart_walks ls t h =
     walk_token Start ChartName (Reserved words.Msc) ls h.name h.is_msc refl
@@ -27,12 +28,15 @@ chart_walks ls t h =
     ∙ over_last_sections h.sections h.last_close t.sections (h.last, h.are_sections, h.is_endmsc)
     ∙ walk_token ChartLast Done Semicolon h.last_close [] h.is_last_end refl
 
+-- sections, and the end of the chart
 SectionsRest : List Lexeme → Type 0
 SectionsRest ls = (ss : List Section) × (last close : List Lexeme) × AreMany IsSection ls ss last × IsToken (Reserved words.EndMsc) last close × IsEnd close []
 
+-- `inst` statements, sections, and the end of the chart
 HeaderRest : List Lexeme → Type 0
 HeaderRest ls = (groups : List (List Decl)) × (sections : List Lexeme) × AreMany IsInst ls groups sections × SectionsRest sections
 
+-- statements, the end of the section, further sections, and the end of the chart
 ItemsRest : List Lexeme → Type 0
 ItemsRest ls = (items : List Item) × (last close after : List Lexeme) × AreMany IsItem ls items last × IsToken (Reserved words.EndInstance) last close × IsEnd close after × SectionsRest after
 
@@ -56,6 +60,7 @@ Rest InstanceEnd ls = (after : List Lexeme) × IsEnd ls after × SectionsRest af
 Rest ChartLast ls = IsEnd ls []
 Rest Done ls = ls ≡ []
 
+-- an event's first word before the rest of the event
 item_of : (way : Way) (at : ℕ) (ls : List Lexeme) (e : Signal) (after : List Lexeme) → IsEventOf way ls e after → IsItem (record { symbol = Reserved (way_word way); place = at } ∷ ls) (Single e) after
 item_of way at ls e after h = record {
   ident = ls;
@@ -69,6 +74,7 @@ item_of way at ls e after h = record {
   is_end = h.is_end;
 }
 
+-- `instance` before what may follow it
 section_back : (at : ℕ) (ls : List Lexeme) → Rest SectionName ls → SectionsRest (record { symbol = Reserved words.Instance; place = at } ∷ ls)
 unfolding Rest HeaderRest SectionsRest ItemsRest
 section_back at ls r = (record { decl = r.0; items = r.5.0 } ∷ r.5.7.0, r.5.7.1, r.5.7.2, (r.5.3, record { decl = ls; close = r.1; items = r.2; last = r.5.1; last_close = r.5.2; is_instance = (at, refl); is_decl = r.3; is_end = r.4; are_items = r.5.4; is_endinstance = r.5.5; is_last_end = r.5.6 }, r.5.7.3), r.5.7.4, r.5.7.5)
@@ -118,15 +124,18 @@ back InstanceEnd Semicolon at ls = λ r. (ls, (at, refl), r)
 back ChartLast Semicolon at ls = λ r. (at, ap (λ (x : List Lexeme). record { symbol = Semicolon; place = at } ∷ x) r)
 back p s at ls = tt
 
+-- one step of the walk back
 onward : (p : Place) (l : Lexeme) (ls : List Lexeme) (o : Option Place) → next p l.symbol ≡ o → ((q : Place) → walk q ls ≡ (Done, []) → Rest q ls) → option_map_or (λ q. walk q ls) o (p, l ∷ ls) ≡ (Done, []) → Rest p (l ∷ ls)
 onward p l ls None step others h = let t : l ∷ ls ≡ [] = ap (λ (x : Place × List Lexeme). x.1) h in absurd cc
 onward p l ls (Some q) step others h = let r = subst (λ (o : Option Place). IfSome o (λ k. Rest k ls → Rest p (l ∷ ls))) step (back p l.symbol l.place ls) in r (others q h)
 
+-- what leads from a place to the end is what may follow there
 sound : (ls : List Lexeme) (p : Place) → walk p ls ≡ (Done, []) → Rest p ls
 unfolding Rest
 sound [] p e = subst (λ (q : Place). Rest q []) (sym (ap (λ (x : Place × List Lexeme). x.0) e)) refl
 sound (l ∷ ls) p e = onward p l ls (next p l.symbol) refl (λ q h. sound ls q h) e
 
+-- what leads from the start to the end is a chart
 pub walks_chart : (ls : List Lexeme) → walk Start ls ≡ (Done, []) → (t : Tree) × IsChart ls t
 unfolding Rest
 walks_chart ls e = sound ls Start e

@@ -9,6 +9,7 @@ use Rattle.msc_lexer.specs.declared.token.Token.{Token}
 use Rattle.msc_lexer.specs.Lexemes.{Symbol, Named, lexemes, symbol_of, AreWithin, IsWithin}
 use Rattle.msc_parser.specs.Reading.{first_kind, IsPlain, DidRead, IsTokenOnly, IsNameToken}
 
+-- the bytes of a plain token do not matter
 plain_symbol : (kind : Kind) (bytes : List ℕ) → IsPlain kind → symbol_of kind bytes ≡ symbol_of kind []
 plain_symbol (kinds.Word w) bytes h = refl
 plain_symbol kinds.Name bytes h = absurd h
@@ -19,6 +20,7 @@ plain_symbol kinds.Colon bytes h = refl
 plain_symbol kinds.LeftParen bytes h = refl
 plain_symbol kinds.RightParen bytes h = refl
 
+-- behind a plain token of the wanted kind the other tokens stand
 pub took_rest : (text : List ℕ) (kind : Kind) (tokens : List Token) → IsPlain kind → AreWithin text tokens → first_kind tokens ≡ Some kind → DidRead text (IsTokenOnly (symbol_of kind [])) tokens (drop 1 tokens) tt
 took_rest text kind [] plain within h = absurd cc
 took_rest text kind (t ∷ ts) plain within h =
@@ -31,9 +33,11 @@ took_rest text kind (t ∷ ts) plain within h =
       shorter = omega arith;
     }
 
+-- the same, where the other tokens are cut out as a slice
 pub took : (text : List ℕ) (kind : Kind) (tokens : List Token) → IsPlain kind → AreWithin text tokens → first_kind tokens ≡ Some kind → DidRead text (IsTokenOnly (symbol_of kind [])) tokens (take (length tokens - 1) (drop 1 tokens)) tt
 took text kind tokens plain within h = rw take_rest (took_rest text kind tokens plain within h)
 
+-- behind a name the other tokens stand, and its bytes are those of the text
 pub took_name : (text : List ℕ) (tokens : List Token) (bytes : List ℕ) (d : Token) → AreWithin text tokens → first_kind tokens ≡ Some kinds.Name
     → bytes ≡ slice_range text (get_or tokens 0 d).start (get_or tokens 0 d).«end» → DidRead text IsNameToken tokens (take (length tokens - 1) (drop 1 tokens)) bytes
 took_name text [] bytes d within h e = absurd cc

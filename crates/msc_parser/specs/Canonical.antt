@@ -1,6 +1,6 @@
 -- The canonical text of a draft (this project's profile of MSC/PR, ITU-T Z.120), as pieces: words in
 -- small letters, names, marks, spaces and line ends.
-use Rattle.std.specs.Prelude.{ℕ, List, [], ◌∷◌, ◌++◌}
+use Rattle.std.specs.Prelude.{◌≡◌, ℕ, List, [], ◌∷◌, ◌++◌}
 use Rattle.std.specs.List.{flat_map}
 use Rattle.msc_lexer.specs.declared.word.Word.{Word}
 use Rattle.msc_lexer.specs.declared.word.Word.TheVariants as words
@@ -34,27 +34,43 @@ abbrev pub item_pieces : Item → List Piece
 item_pieces (Single e) = space ∷ space ∷ event_pieces e
 item_pieces (Coregion es) = []
 
+-- all statements of an instance
+abbrev pub items_pieces : List Item → List Piece
+items_pieces items = flat_map item_pieces items
+
 -- `instance NAME;`
 abbrev pub section_head : List ℕ → List Piece
 section_head name = word words.Instance ∷ space ∷ Run name ∷ line_end
 
 -- the head of a section, its statements, `endinstance;`
 abbrev pub section_pieces : Section → List Piece
-section_pieces s = section_head s.decl.name ++ (flat_map item_pieces s.items ++ word words.EndInstance ∷ line_end)
+section_pieces s = section_head s.decl.name ++ (items_pieces s.items ++ word words.EndInstance ∷ line_end)
+
+-- all sections
+abbrev pub sections_pieces : List Section → List Piece
+sections_pieces sections = flat_map section_pieces sections
 
 -- `, NAME`
 abbrev pub next_decl_pieces : Decl → List Piece
 next_decl_pieces d = Mark 44 ∷ space ∷ Run d.name ∷ []
 
+-- `, NAME` for each declared instance behind the first
+abbrev pub decls_pieces : List Decl → List Piece
+decls_pieces decls = flat_map next_decl_pieces decls
+
 -- `inst NAME, NAME;` in one line, if there is a declared instance
 abbrev pub header_pieces : List Decl → List Piece
 header_pieces [] = []
-header_pieces (d ∷ ds) = word words.Inst ∷ space ∷ Run d.name ∷ flat_map next_decl_pieces ds ++ line_end
+header_pieces (d ∷ ds) = word words.Inst ∷ space ∷ Run d.name ∷ decls_pieces ds ++ line_end
 
 -- `msc NAME;`, the header, the sections, `endmsc;`
 abbrev pub printed : Tree → List Piece
-printed t = word words.Msc ∷ space ∷ Run t.name ∷ line_end ++ (header_pieces t.header ++ (flat_map section_pieces t.sections ++ word words.EndMsc ∷ line_end))
+printed t = word words.Msc ∷ space ∷ Run t.name ∷ line_end ++ (header_pieces t.header ++ (sections_pieces t.sections ++ word words.EndMsc ∷ line_end))
 
 -- the canonical text of a draft
 abbrev pub canonical : Tree → List ℕ
 canonical t = text_of (printed t)
+
+-- these pieces were put behind what was written
+abbrev pub HasPut : List ℕ → List ℕ → List Piece → Type 0
+HasPut before after pieces = after ≡ before ++ text_of pieces

@@ -36,6 +36,7 @@ abbrev pub IsDraftItem : Item → Type 0
 IsDraftItem (Single e) = IsDraftSignal e
 IsDraftItem (Coregion es) = ⊥
 
+-- a section is such an instance with such statements
 pub record IsDraftSection (s : Section) : Type 0 where
   pub decl : IsDraftDecl s.decl
   pub items : AllByRecursion IsDraftItem s.items

@@ -20,6 +20,10 @@ pub record Tree : Type 0 where
   pub header : List Decl
   pub sections : List Section
 
+-- the draft of these parts
+abbrev pub tree : List ℕ → List Decl → List Section → Tree
+tree name header sections = record { name = name; header = header; sections = sections }
+
 -- one token, wherever it stands
 abbrev pub IsToken : Symbol → List Lexeme → List Lexeme → Type 0
 IsToken s before after = (place : ℕ) × (before ≡ record { symbol = s; place = place } ∷ after)

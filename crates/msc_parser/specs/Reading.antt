@@ -3,6 +3,7 @@
 use Rattle.std.specs.Prelude.{◌≡◌, ◌≢◌, ℕ, ◌<◌, List, [], ◌∷◌, length, Option, Some, None, Result, Ok, Err}
 use Rattle.std.specs.Borrow.{Bor}
 use Rattle.std.specs.Global.{Vec}
+use Rattle.msc_lexer.specs.declared.word.Word.{Word}
 use Rattle.msc_lexer.specs.declared.word.Word.TheVariants as words
 use Rattle.msc_lexer.specs.declared.token.Kind.{Kind}
 use Rattle.msc_lexer.specs.declared.token.Kind.TheVariants as kinds
@@ -24,6 +25,10 @@ use Rattle.msc_parser.specs.Places.{Place, Start, walk, fault_at, fault_of}
 abbrev pub first_kind : List Token → Option Kind
 first_kind [] = None
 first_kind (t ∷ ts) = Some t.kind
+
+-- the first token is this word
+abbrev pub BeginsWith : List Token → Word → Type 0
+BeginsWith tokens word = first_kind tokens ≡ Some (kinds.Word word)
 
 -- a kind of which all tokens are the same symbol: neither a name nor a text
 abbrev pub IsPlain : Kind → Type 0
@@ -65,6 +70,11 @@ abbrev pub TakesName : List ℕ → List Token → Result (List ℕ × Bor (List
 TakesName text before (Ok x) = DidRead text IsNameToken before x.1.now x.0
 TakesName text before (Err faults.Memory) = Unit {0}
 TakesName text before (Err e) = (e ≡ fault_at (length text) whats.Name (lexemes text before)) × (first_kind before ≢ Some kinds.Name)
+
+-- what seeing the end of a text answers
+abbrev pub TakesNothing : List ℕ → List Token → Result Unit ParseFault → Type 0
+TakesNothing text before (Ok x) = before ≡ []
+TakesNothing text before (Err e) = (e ≡ fault_at (length text) whats.Nothing (lexemes text before)) × (before ≢ [])
 
 -- an event behind its first word
 pub record IsEventOf (way : Way) (before : List Lexeme) (e : Signal) (after : List Lexeme) : Type 0 where

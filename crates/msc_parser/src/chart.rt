@@ -8,7 +8,7 @@ ghost use Rattle.msc_parser.specs.Reading.{Reads, ReadsChart, IsInstOf, AreParts
 use crate::draft::Draft;
 use crate::fault::{ParseFault, What};
 use crate::section::sections;
-use crate::taking::{stands, take, take_name, unexpected};
+use crate::taking::{stands, take, take_name, take_nothing};
 use crate::tree::{Decl, Name, Section};
 use listed::Listed;
 use msc_lexer::{Kind, Token, Word};
@@ -75,8 +75,6 @@ pub fn chart(alloc: Global, text: &[u8], tokens: &[Token]) -> Result<Draft, Pars
     let rest = take(Kind::Semicolon, What::End, text, rest)?;
     let ((header, sections), rest) = parts(alloc, text, rest)?;
     let rest = take(Kind::Semicolon, What::End, text, rest)?;
-    if !rest.is_empty() {
-        return Err(unexpected(text, rest, What::Nothing));
-    }
+    take_nothing(text, rest)?;
     Ok(Draft::new(name, header, sections))
 }

@@ -1,14 +1,14 @@
 //! Drafts: the tree of names of a chart's text.
 //!
-//! A draft is made by `parse` alone, so each of its names is one that a text can have, and it has no
-//! more names and events than a text has bytes. Contracts see the tree as plain data.
+//! A draft is made by `parse` alone, so each of its names is one that a text can have, and it has
+//! no more names and events than a text has bytes. Contracts see the tree as plain data.
 
 ghost use Rattle.std.specs.Prelude.{◌≡◌, ◌≤◌, length, IfOk};
 ghost use Rattle.std.specs.List.{AllByRecursion};
 ghost use Rattle.msc_lexer.specs.Lexemes.{IsName};
 ghost use Rattle.msc_parser.specs.Canonical.{canonical};
 ghost use Rattle.msc_parser.specs.Drafts.{IsDraft, IsDraftDecl, IsDraftSection, signals_of};
-ghost use Rattle.msc_parser.specs.Grammar.{Tree};
+ghost use Rattle.msc_parser.specs.Grammar.{Tree, tree};
 ghost use Rattle.msc_parser.specs.Parsing.{HasDraft};
 
 use crate::tree::{Decl, Name, Section};
@@ -29,17 +29,17 @@ pub struct Draft {
 impl Model for Draft {
     ghost Value = { Tree };
 
-    ghost view = { λ d. record { name = d.name; header = d.header.items; sections = d.sections } };
+    ghost view = { λ d. tree d.name d.header.items d.sections };
 
     // What the draft of every text keeps.
-    ghost invariant = { λ d. IsDraft (record { name = d.name; header = d.header.items; sections = d.sections }) };
+    ghost invariant = { λ d. IsDraft (tree d.name d.header.items d.sections) };
 }
 
 impl Draft {
     /// The draft of these parts. It takes no memory.
     pub(crate) fn new(name: Name, header: Vec<Decl>, sections: Listed<Section>) -> Self
-        requires { IsDraft (record { name = name; header = header.items; sections = sections }) }
-        ensures { result ≡ record { name = name; header = header.items; sections = sections } }
+        requires { IsDraft (tree name header.items sections) }
+        ensures { result ≡ tree name header.items sections }
     {
         Draft {
             name,
@@ -86,7 +86,6 @@ impl Draft {
         ensures again { IfOk result (λ v. length v.items ≤ 1048576 → HasDraft v.items self.now) }
     {
         prints_pieces();
-        let name = self.name.as_slice();
-        canonical_text(alloc, name, &self.header, self.sections.as_slice())
+        canonical_text(alloc, self.name(), self.header(), self.sections())
     }
 }

@@ -3,7 +3,8 @@
 ghost use Rattle.std.specs.Prelude.{◌≡◌, ◌≢◌, IfOk, IfErr};
 ghost use Rattle.msc_parser.specs.declared.fault.ParseFault.{ParseFault};
 ghost use Rattle.msc_parser.specs.Grammar.{Tree};
-ghost use Rattle.msc_parser.specs.Parsing.{HasDraft, HasParseFault, IsDraftOrMemory, IsFaultOrMemory};
+ghost use Rattle.msc_parser.specs.Parsing.{HasDraft, HasParseFault};
+ghost use Rattle.msc_parser.specs.Parsing.{IsDraftOrMemory, IsFaultOrMemory};
 
 use crate::chart::chart;
 use crate::draft::Draft;

@@ -2,12 +2,13 @@
 //!
 //! Each function takes the tokens from some place on, and answers a part and the tokens behind it.
 
-ghost use Rattle.std.specs.Prelude.{◌≡◌, ◌≢◌, Some, IfSome, IfNone};
+ghost use Rattle.std.specs.Prelude.{◌≡◌, IfSome, IfNone};
 ghost use Rattle.msc_lexer.specs.Lexemes.{AreWithin};
 ghost use Rattle.msc_parser.specs.declared.tree.Way.{Way};
 ghost use Rattle.msc_parser.specs.Grammar.{IsItem, address_word, way_word};
 ghost use Rattle.msc_parser.specs.Places.{Message, Items, Partner, SectionName, Sections, what};
-ghost use Rattle.msc_parser.specs.Reading.{Reads, first_kind, IsEventOf, IsBody, IsSectionRest, AreSections};
+ghost use Rattle.msc_parser.specs.Reading.{Reads, BeginsWith, IsEventOf, IsBody};
+ghost use Rattle.msc_parser.specs.Reading.{IsSectionRest, AreSections};
 
 use crate::fault::{ParseFault, What};
 use crate::taking::{stands, take, take_name, unexpected};
@@ -73,8 +74,8 @@ fn event<'a>(
 
 /// The way of the event that stands first.
 fn first_way(tokens: &[Token]) -> Option<Way>
-    ensures some { IfSome result (λ way. first_kind tokens.now ≡ Some (Kind.Word (way_word way))) }
-    ensures none { IfNone result ((way : Way) → first_kind tokens.now ≢ Some (Kind.Word (way_word way))) }
+    ensures some { IfSome result (λ way. BeginsWith tokens.now (way_word way)) }
+    ensures none { IfNone result ((way : Way) → ¬ (BeginsWith tokens.now (way_word way))) }
 {
     if stands(Kind::Word(Word::Output), tokens) {
         Some(Way::Output)
@@ -92,7 +93,7 @@ fn item<'a>(
     tokens: &'a [Token],
 ) -> Result<(Item, &'a [Token]), ParseFault>
     requires within { AreWithin text.now tokens.now }
-    requires goes_on { first_kind tokens.now ≢ Some (Kind.Word Word.EndInstance) }
+    requires goes_on { ¬ (BeginsWith tokens.now Word.EndInstance) }
     ensures { Reads text.now IsItem Items tokens.now result }
 {
     let Some(way) = first_way(tokens) else {

@@ -5,7 +5,7 @@
 ghost use Rattle.std.specs.Prelude.{◌≡◌, ◌↔◌, IsTrue, length, Some};
 ghost use Rattle.msc_lexer.specs.Lexemes.{lexemes, AreWithin};
 ghost use Rattle.msc_parser.specs.Places.{is_refused, fault_at};
-ghost use Rattle.msc_parser.specs.Reading.{first_kind, IsPlain, Takes, TakesName};
+ghost use Rattle.msc_parser.specs.Reading.{first_kind, IsPlain, Takes, TakesName, TakesNothing};
 
 use crate::fault::{ParseFault, What};
 use crate::tree::Name;
@@ -85,4 +85,14 @@ pub fn take_name<'a>(
     let token = tokens[0];
     let bytes = Vec::from_slice(alloc, &text[token.start..token.end])?;
     Ok((Name::from_vec(bytes), &tokens[1..]))
+}
+
+/// Sees that no token is left.
+pub fn take_nothing(text: &[u8], tokens: &[Token]) -> Result<(), ParseFault>
+    ensures { TakesNothing text.now tokens.now result }
+{
+    match tokens {
+        [] => Ok(()),
+        [..] => Err(unexpected(text, tokens, What::Nothing)),
+    }
 }

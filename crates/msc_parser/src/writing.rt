@@ -1,9 +1,10 @@
 //! The canonical text of a draft, part by part, each put behind what is written already.
 
-ghost use Rattle.std.specs.Prelude.{◌≡◌, ◌++◌, OnOk, IfOk};
-ghost use Rattle.std.specs.List.{flat_map};
-ghost use Rattle.msc_lexer.specs.Pieces.{text_of};
-ghost use Rattle.msc_parser.specs.Canonical.{event_pieces, item_pieces, section_pieces, header_pieces, next_decl_pieces, canonical};
+ghost use Rattle.std.specs.Prelude.{◌≡◌, OnOk, IfOk};
+ghost use Rattle.msc_parser.specs.Canonical.{event_pieces, item_pieces, items_pieces};
+ghost use Rattle.msc_parser.specs.Canonical.{section_pieces, sections_pieces};
+ghost use Rattle.msc_parser.specs.Canonical.{decls_pieces, header_pieces, canonical, HasPut};
+ghost use Rattle.msc_parser.specs.Grammar.{tree};
 
 use crate::section::{address_word, way_word};
 use crate::tree::{Decl, Item, Section, Signal};
@@ -11,7 +12,7 @@ use std::alloc::{AllocError, Global};
 
 /// An event, without the spaces before it.
 fn put_event(out: &mut Vec<u8>, e: &Signal) -> Result<(), AllocError>
-    ensures { OnOk result (out.new.items ≡ out.old.items ++ text_of (event_pieces e.now)) }
+    ensures { OnOk result (HasPut out.old.items out.new.items (event_pieces e.now)) }
 {
     out.extend_from_slice(way_word(e.way).spelling())?;
     out.push(b' ')?;
@@ -26,7 +27,7 @@ fn put_event(out: &mut Vec<u8>, e: &Signal) -> Result<(), AllocError>
 
 /// A statement of an instance.
 fn put_item(out: &mut Vec<u8>, item: &Item) -> Result<(), AllocError>
-    ensures { OnOk result (out.new.items ≡ out.old.items ++ text_of (item_pieces item.now)) }
+    ensures { OnOk result (HasPut out.old.items out.new.items (item_pieces item.now)) }
 {
     match item {
         Item::Single(e) => {
@@ -39,7 +40,7 @@ fn put_item(out: &mut Vec<u8>, item: &Item) -> Result<(), AllocError>
 
 /// The statements of an instance.
 fn put_items(out: &mut Vec<u8>, items: &[Item]) -> Result<(), AllocError>
-    ensures { OnOk result (out.new.items ≡ out.old.items ++ text_of (flat_map item_pieces items.now)) }
+    ensures { OnOk result (HasPut out.old.items out.new.items (items_pieces items.now)) }
 {
     for item in items {
         put_item(out, item)?;
@@ -49,7 +50,7 @@ fn put_items(out: &mut Vec<u8>, items: &[Item]) -> Result<(), AllocError>
 
 /// A section.
 fn put_section(out: &mut Vec<u8>, section: &Section) -> Result<(), AllocError>
-    ensures { OnOk result (out.new.items ≡ out.old.items ++ text_of (section_pieces section.now)) }
+    ensures { OnOk result (HasPut out.old.items out.new.items (section_pieces section.now)) }
 {
     out.extend_from_slice(b"instance ")?;
     out.extend_from_slice(section.decl.name.as_slice())?;
@@ -61,7 +62,7 @@ fn put_section(out: &mut Vec<u8>, section: &Section) -> Result<(), AllocError>
 
 /// All sections.
 fn put_sections(out: &mut Vec<u8>, sections: &[Section]) -> Result<(), AllocError>
-    ensures { OnOk result (out.new.items ≡ out.old.items ++ text_of (flat_map section_pieces sections.now)) }
+    ensures { OnOk result (HasPut out.old.items out.new.items (sections_pieces sections.now)) }
 {
     for section in sections {
         put_section(out, section)?;
@@ -71,7 +72,7 @@ fn put_sections(out: &mut Vec<u8>, sections: &[Section]) -> Result<(), AllocErro
 
 /// The declared instances behind the first.
 fn put_next_decls(out: &mut Vec<u8>, decls: &[Decl]) -> Result<(), AllocError>
-    ensures { OnOk result (out.new.items ≡ out.old.items ++ text_of (flat_map next_decl_pieces decls.now)) }
+    ensures { OnOk result (HasPut out.old.items out.new.items (decls_pieces decls.now)) }
 {
     for decl in decls {
         out.extend_from_slice(b", ")?;
@@ -82,7 +83,7 @@ fn put_next_decls(out: &mut Vec<u8>, decls: &[Decl]) -> Result<(), AllocError>
 
 /// The header, in one `inst` statement, if it declares any instance.
 fn put_header(out: &mut Vec<u8>, header: &[Decl]) -> Result<(), AllocError>
-    ensures { OnOk result (out.new.items ≡ out.old.items ++ text_of (header_pieces header.now)) }
+    ensures { OnOk result (HasPut out.old.items out.new.items (header_pieces header.now)) }
 {
     match header {
         [] => Ok(()),
@@ -103,7 +104,7 @@ pub fn canonical_text(
     header: &[Decl],
     sections: &[Section],
 ) -> Result<Vec<u8>, AllocError>
-    ensures { IfOk result (λ v. v.items ≡ canonical (record { name = name.now; header = header.now; sections = sections.now })) }
+    ensures { IfOk result (λ v. v.items ≡ canonical (tree name.now header.now sections.now)) }
 {
     let mut out = Vec::new(alloc);
     out.extend_from_slice(b"msc ")?;

@@ -14,5 +14,5 @@ pub Appends-word : (old one two new : Option (List ℕ)) (head number mark word 
     → Appends old new (head ++ (number ++ (mark ++ (word ++ tail))))
 Appends-word old one two new head number mark word tail a b c =
     let whole : (head ++ (number ++ mark)) ++ (word ++ tail) ≡ head ++ (number ++ (mark ++ (word ++ tail))) =
-        append_assoc head (number ++ mark) (word ++ tail) ∙ ap (λ (t : List ℕ). head ++ t) (append_assoc number mark (word ++ tail)) in
+    append_assoc head (number ++ mark) (word ++ tail) ∙ ap (λ (t : List ℕ). head ++ t) (append_assoc number mark (word ++ tail)) in
     subst (Appends old new) whole (Appends-append old one new (head ++ (number ++ mark)) (word ++ tail) a (Appends-append one two new word tail b c))

@@ -10,10 +10,9 @@ use crate::text::read_input;
 use crate::writing::write_fault;
 use clap::{Arg, Command, Error};
 use std::alloc::{AllocError, Global};
-use std::fs;
-use std::io;
 use std::io::{ErrorKind, Read, Write};
 use std::rt::Files;
+use std::{fs, io};
 
 /// How a run of the program ended.
 #[derive(Clone, Copy, Debug, PartialEq, Eq)]

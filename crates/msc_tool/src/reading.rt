@@ -25,11 +25,7 @@ fn chunk_of(alloc: Global, len: usize) -> Result<Vec<u8>, AllocError>
 
 /// Calls `read` once, for no more bytes than the limit leaves, and puts what it gave behind `bytes`.
 /// Answers whether the input has ended or the limit is reached.
-fn read_once<R: Read>(
-    reader: &mut R,
-    chunk: &mut [u8],
-    bytes: &mut Vec<u8>,
-) -> Result<bool, Fault>
+fn read_once<R: Read>(reader: &mut R, chunk: &mut [u8], bytes: &mut Vec<u8>) -> Result<bool, Fault>
     requires room { 0 < length chunk.old }
     requires unfilled { vec_len bytes.old < 1048577 }
     ensures more { OnOk result (ReadsMore (R.remaining reader.old) (R.remaining reader.new)

@@ -65,7 +65,12 @@ fn write_lexical<W: Write>(writer: &mut W, fault: LexFault) -> io::Result<()>
             write_line(writer, "lexical fault 1: text longer than 1048576 bytes")
         }
         LexFault::BadByte(at) => {
-            write_placed(writer, "lexical fault 2 at ", at, ": byte that begins no token")
+            write_placed(
+                writer,
+                "lexical fault 2 at ",
+                at,
+                ": byte that begins no token",
+            )
         }
         LexFault::OpenNote(at) => {
             write_placed(writer, "lexical fault 3 at ", at, ": note without end")
@@ -74,7 +79,12 @@ fn write_lexical<W: Write>(writer: &mut W, fault: LexFault) -> io::Result<()>
             write_placed(writer, "lexical fault 4 at ", at, ": text without end")
         }
         LexFault::LongName(at) => {
-            write_placed(writer, "lexical fault 5 at ", at, ": name longer than 64 bytes")
+            write_placed(
+                writer,
+                "lexical fault 5 at ",
+                at,
+                ": name longer than 64 bytes",
+            )
         }
         LexFault::Memory => write_line(writer, "memory fault"),
     }

@@ -1,7 +1,8 @@
 use Rattle.std.proofs.Common.{◌∙◌, refl}
 use Rattle.msc_lexer.specs.declared.token.Kind.TheVariants as kinds
 use Rattle.msc_parser.specs.Places.{Message, Partner, Address, EventEnd}
-use Rattle.msc_parser.proofs.Walks.{event_read, exits, Stops-back, token_stops, name_stops, only-Partner, inside-Partner, only-Address, only-EventEnd, event_to_word, event_to_address, event_to_end}
+use Rattle.msc_parser.proofs.Walks.{exits, Stops-back, token_stops, name_stops}
+use Rattle.msc_parser.proofs.Events.{event_read, only-Partner, inside-Partner, only-Address, only-EventEnd, event_to_word, event_to_address, event_to_end}
 use Rattle.msc_parser.proofs.section.event.Goals as goal
 
 pub returns : goal.returns
