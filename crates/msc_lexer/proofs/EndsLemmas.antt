@@ -1,11 +1,11 @@
 -- Where a note, a text and a run end.
-use Rattle.std.proofs.Common.{◌≡◌, ◌≢◌, ℕ, zero, suc, ◌+◌, ◌-◌, ◌<◌, ◌≤◌, Bool, true, false, cond, eqb, nat_eq, List, [], ◌∷◌, ◌++◌, length, get_or, take, drop, refl, sym, ap, subst, ◌∙◌, append_assoc, add-one, one-add, inl, inr, arith}
-use Rattle.std.specs.List.{prefix_len, take_while}
-use Rattle.std.proofs.lemmas.Bool.{cases_lt, ne_eqb, eqb-true, true≢false}
-use Rattle.std.proofs.lemmas.List.{take_at, take-append-drop, get_or-take, get_or_past, length-take, take_more, drop_more, drop_all, append-nil}
+use Rattle.std.proofs.Common.{◌≡◌, ◌≢◌, ℕ, ◌+◌, ◌-◌, ◌<◌, ◌≤◌, true, false, cond, eqb, nat_eq, List, [], ◌∷◌, ◌++◌, length, get_or, take, drop, refl, sym, ap, ◌∙◌, append_assoc, one-add, inl, inr, arith}
+use Rattle.std.specs.List.{prefix_len}
+use Rattle.std.proofs.lemmas.Bool.{cases_lt, ne_eqb}
+use Rattle.std.proofs.lemmas.List.{take-append-drop, get_or-take, get_or_past, length-take, take_more, drop_more, drop_all}
 use Rattle.msc_lexer.specs.Bytes.{begins, is_run_byte}
 use Rattle.msc_lexer.specs.Pieces.{NeverCloses, doubled, IsRun}
-use Rattle.msc_lexer.specs.Scanning.{ClosesAt, IsDoubled, QuoteEndsAt}
+use Rattle.msc_lexer.specs.Scanning.{ClosesAt, IsDoubled}
 
 -- ---- notes
 
@@ -17,6 +17,7 @@ read_take n body i v e pos =
       | inr le ↦ absurd (omega (arith, sym e ∙ get_or_past (take n body) i 0 (omega (arith, length-take n body)), pos))
     ]
 
+-- the first `*/` after a search that found none before it
 pub closes_at : (body : List ℕ) (at : ℕ) → 1 ≤ at → at < length body → ((k : ℕ) → k + 1 < at → get_or body k 0 ≡ 42 → get_or body (k + 1) 0 ≡ 47 → ⊥)
     → get_or body (at - 1) 0 ≡ 42 → get_or body at 0 ≡ 47 → ClosesAt body (at - 1)
 closes_at body at low high none star slash =
@@ -31,6 +32,7 @@ closes_at body at low high none star slash =
           none k (omega (arith, q.0)) p.1 q.1;
     }
 
+-- a search to the end that found none
 pub never_closes : (body : List ℕ) (at : ℕ) → length body ≤ at → ((k : ℕ) → k + 1 < at → get_or body k 0 ≡ 42 → get_or body (k + 1) 0 ≡ 47 → ⊥) → NeverCloses body
 never_closes body at high none k a b =
     elim (cases_lt (k + 1) (length body)) [
@@ -40,6 +42,7 @@ never_closes body at high none k a b =
 
 -- ---- texts
 
+-- doubling goes through joining
 doubled-append : (xs ys : List ℕ) → doubled (xs ++ ys) ≡ doubled xs ++ doubled ys
 doubled-append [] ys = refl
 doubled-append (x ∷ xs) ys =
@@ -48,18 +51,21 @@ doubled-append (x ∷ xs) ys =
       | false ↦ ap (λ (l : List ℕ). x ∷ l) (doubled-append xs ys)
     ]
 
+-- a byte that is no apostrophe goes on what is doubled
 pub doubled-plain : (bytes : List ℕ) (at : ℕ) → at < length bytes → (get_or bytes at 0 ≡ 39 → ⊥) → IsDoubled (take at bytes) → IsDoubled (take (at + 1) bytes)
 doubled-plain bytes at lt other d =
     let b : ℕ = get_or bytes at 0 in
     let one : doubled (b ∷ []) ≡ b ∷ [] = rw (ne_eqb (get_or bytes at 0) 39 other) refl in
     (d.0 ++ b ∷ [], take_more bytes at 0 lt ∙ ap (λ (l : List ℕ). l ++ b ∷ []) d.1 ∙ ap (λ (l : List ℕ). doubled d.0 ++ l) (sym one) ∙ sym (doubled-append d.0 (b ∷ [])))
 
+-- two apostrophes go on what is doubled
 pub doubled-twice : (bytes : List ℕ) (at : ℕ) → at + 1 < length bytes → get_or bytes at 0 ≡ 39 → get_or bytes (at + 1) 0 ≡ 39 → IsDoubled (take at bytes) → IsDoubled (take (at + 2) bytes)
 doubled-twice bytes at lt first second d =
     let two : at + 1 + 1 ≡ at + 2 = omega arith in
     let e : take (at + 2) bytes ≡ (doubled d.0 ++ 39 ∷ []) ++ 39 ∷ [] = rw (← two) (take_more bytes (at + 1) 0 lt ∙ rw (take_more bytes at 0 (omega arith), first, second, d.1) refl) in
     (d.0 ++ 39 ∷ [], e ∙ append_assoc (doubled d.0) (39 ∷ []) (39 ∷ []) ∙ sym (doubled-append d.0 (39 ∷ [])))
 
+-- a byte that is no apostrophe, or the end, is no second apostrophe
 pub lone_at : (bytes : List ℕ) (at : ℕ) → (get_or bytes at 0 ≡ 39 → ⊥) → begins (nat_eq 39) (drop at bytes) ≡ false
 lone_at bytes at other =
     elim (cases_lt at (length bytes)) [
@@ -69,9 +75,11 @@ lone_at bytes at other =
 
 -- ---- runs
 
+-- a list with a first element is not empty
 nonempty : (b : ℕ) (bs : List ℕ) → b ∷ bs ≢ []
 nonempty b bs e = cc
 
+-- the run that the prefix of run bytes is
 pub run_at : (text : List ℕ) → begins is_run_byte text ≡ true → IsRun (take (prefix_len is_run_byte text) text) (drop (prefix_len is_run_byte text) text)
 run_at [] h = absurd cc
 run_at (b ∷ bs) h = record {

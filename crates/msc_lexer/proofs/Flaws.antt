@@ -1,26 +1,23 @@
 -- At the end of a text and at a flaw no piece stands.
-use Rattle.std.proofs.Common.{◌≡◌, ◌≢◌, ◌⊎◌, ℕ, zero, suc, ◌+◌, ◌-◌, ◌<◌, ◌≤◌, Bool, true, false, cond, ◌||◌, ◌&&◌, eqb, nat_eq, List, [], ◌∷◌, ◌++◌, length, get_or, take, drop, Option, Some, None, Result, Ok, Err, refl, sym, ap, subst, ◌∙◌, append_assoc, add-one, inl, inr, arith}
-use Rattle.std.specs.Prelude.{IfOk, IfErr}
-use Rattle.std.specs.Global.{Vec}
-use Rattle.std.specs.Char.{is_ascii_alphanumeric}
+use Rattle.std.proofs.Common.{◌≡◌, ℕ, ◌<◌, false, ◌||◌, eqb, nat_eq, List, [], ◌∷◌, ◌++◌, length, Option, Some, None, refl, sym, ap, subst, ◌∙◌, inl, inr, arith}
 use Rattle.std.specs.List.{take_while}
 use Rattle.std.specs.Option.{is_some}
-use Rattle.std.proofs.lemmas.Bool.{or_cases, or_parts, eqb-true, true≢false, cases_Bool}
-use Rattle.std.proofs.lemmas.List.{append_cancel_left, length-append, get_or_at, get_or-append-add}
+use Rattle.std.proofs.lemmas.Bool.{or_parts, true≢false}
 use Rattle.msc_lexer.specs.declared.token.Kind.{Kind}
-use Rattle.msc_lexer.specs.declared.token.Token.{Token}
 use Rattle.msc_lexer.specs.declared.fault.LexFault.{LexFault}
 use Rattle.msc_lexer.specs.declared.fault.LexFault.TheVariants.{TooLong, BadByte, OpenNote, OpenText, LongName, Memory}
 use Rattle.msc_lexer.specs.Bytes.{is_white, is_run_byte, begins}
 use Rattle.msc_lexer.specs.Words.{word_of}
-use Rattle.msc_lexer.specs.Pieces.{Piece, Blank, Note, Run, Quoted, Mark, NeverCloses, doubled, mark_of, IsRun, spelled, Fits, text_of, AreCut, tokens_of}
-use Rattle.msc_lexer.specs.Lexing.{HasTokens, HasFault, IsFirstFlaw, IsFlaw, BeginsNothing, IsOkOrMemory, IsErrOrMemory}
+use Rattle.msc_lexer.specs.Pieces.{Piece, Blank, Note, Run, Quoted, Mark, NeverCloses, doubled, mark_of, IsRun, spelled, Fits}
+use Rattle.msc_lexer.specs.Lexing.{IsFlaw, BeginsNothing}
 use Rattle.msc_lexer.proofs.Shapes.{class_of, class_at, shape_of, class_of_piece, run_begins, run_class}
-use Rattle.msc_lexer.proofs.OnePiece.{doubled_first, note_at_end, same_front}
+use Rattle.msc_lexer.proofs.OnePiece.{doubled_first, note_at_end}
 
+-- no piece stands at the front of the text
 unfoldable pub Stops : List ℕ → Type 0
 Stops text = (p : Piece) (rest : List ℕ) → Fits p rest → text ≡ spelled p ++ rest → ⊥
 
+-- none stands at the end of a text
 pub nil_stops : Stops []
 unfolding Stops class_at shape_of
 nil_stops (Blank b) rest f e = cc
@@ -33,6 +30,7 @@ nil_stops (Mark b) rest f e = cc
 pub flaw_class : (fault : LexFault) (at : ℕ) (text : List ℕ) → IsFlaw fault at text → ℕ
 flaw_class fault at text flaw = class_at text
 
+-- none stands at a byte that begins none
 pub bad_stops : (text : List ℕ) → BeginsNothing text → Stops text
 unfolding Stops
 bad_stops text bad (Blank b) rest f e =
@@ -57,6 +55,7 @@ bad_stops text bad (Mark b) rest f e =
     none_of None h = refl
     none_of (Some k) h = absurd (true≢false h)
 
+-- none stands at a note without end
 pub open_note_stops : (body : List ℕ) → NeverCloses body → Stops (47 ∷ 42 ∷ body)
 unfolding Stops class_at class_of shape_of
 open_note_stops body never (Note inner) rest f e =
@@ -68,6 +67,7 @@ open_note_stops body never (Run b) rest f e = let h = ap class_at e ∙ class_of
 open_note_stops body never (Quoted b) rest f e = let h = ap class_at e ∙ class_of_piece (Quoted b) rest f in absurd (omega (arith, h))
 open_note_stops body never (Mark b) rest f e = let h = ap class_at e ∙ class_of_piece (Mark b) rest f in absurd (omega (arith, h))
 
+-- bytes that are all doubled hold no lone apostrophe
 pub no_open_quote : (a b r : List ℕ) → begins (nat_eq 39) r ≡ false → doubled a ≡ (doubled b ++ 39 ∷ []) ++ r → ⊥
 no_open_quote [] [] r f e = absurd cc
 no_open_quote [] (y ∷ ys) r f e =
@@ -92,6 +92,7 @@ no_open_quote (x ∷ xs) (y ∷ ys) r f e =
       ]
     ]
 
+-- none stands at a text without end
 pub open_text_stops : (body : List ℕ) → Stops (39 ∷ doubled body)
 unfolding Stops class_at class_of shape_of
 open_text_stops body (Quoted inner) rest f e =
@@ -102,15 +103,18 @@ open_text_stops body (Run b) rest f e = let h = ap class_at e ∙ class_of_piece
 open_text_stops body (Note b) rest f e = let h = ap class_at e ∙ class_of_piece (Note b) rest f in absurd (omega (arith, h))
 open_text_stops body (Mark b) rest f e = let h = ap class_at e ∙ class_of_piece (Mark b) rest f in absurd (omega (arith, h))
 
+-- the longest run at the front is one
 pub same_run : (a b r s : List ℕ) → IsRun a r → IsRun b s → a ++ r ≡ b ++ s → a ≡ b
 same_run a b r s f g e = f.longest ∙ ap (take_while is_run_byte) e ∙ sym g.longest
 
+-- a run is told by its first byte
 pub run_class_at : (bytes rest : List ℕ) → IsRun bytes rest → class_at (bytes ++ rest) ≡ 2
 unfolding class_at
 run_class_at bytes rest run =
     let r = run_begins bytes rest run in
     ap (λ (t : List ℕ). class_at (t ++ rest)) r.2 ∙ run_class r.0 r.3
 
+-- none stands at a long name: the run there is the name, which does not fit
 pub long_name_stops : (bytes rest : List ℕ) → IsRun bytes rest → word_of bytes ≡ None → 64 < length bytes → Stops (bytes ++ rest)
 unfolding Stops shape_of
 long_name_stops bytes rest run none long (Run other) more f e =
@@ -121,6 +125,7 @@ long_name_stops bytes rest run none long (Quoted b) more f e = let h = sym (run_
 long_name_stops bytes rest run none long (Note b) more f e = let h = sym (run_class_at bytes rest run) ∙ ap class_at e ∙ class_of_piece (Note b) more f in absurd (omega (arith, h))
 long_name_stops bytes rest run none long (Mark b) more f e = let h = sym (run_class_at bytes rest run) ∙ ap class_at e ∙ class_of_piece (Mark b) more f in absurd (omega (arith, h))
 
+-- none stands at a flaw
 pub flaw_stops : (fault : LexFault) (at : ℕ) (text : List ℕ) → IsFlaw fault at text → Stops text
 flaw_stops TooLong at text flaw = absurd flaw
 flaw_stops Memory at text flaw = absurd flaw

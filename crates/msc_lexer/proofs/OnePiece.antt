@@ -1,29 +1,21 @@
 -- At the front of a text at most one piece stands.
-use Rattle.std.proofs.Common.{◌≡◌, ◌≢◌, ◌⊎◌, ℕ, zero, suc, ◌+◌, ◌-◌, ◌<◌, ◌≤◌, Bool, true, false, cond, ◌||◌, ◌&&◌, eqb, nat_eq, List, [], ◌∷◌, ◌++◌, length, get_or, take, drop, Option, Some, None, Result, Ok, Err, refl, sym, ap, subst, ◌∙◌, append_assoc, add-one, inl, inr, arith}
-use Rattle.std.specs.Prelude.{IfOk, IfErr}
-use Rattle.std.specs.Global.{Vec}
-use Rattle.std.specs.Char.{is_ascii_alphanumeric}
+use Rattle.std.proofs.Common.{◌≡◌, ◌≢◌, ◌⊎◌, ℕ, suc, ◌+◌, false, eqb, nat_eq, List, [], ◌∷◌, ◌++◌, length, get_or, refl, sym, ap, ◌∙◌, append_assoc, inl, inr, arith}
 use Rattle.std.specs.List.{take_while}
-use Rattle.std.specs.Option.{is_some}
-use Rattle.std.proofs.lemmas.Bool.{or_cases, or_parts, eqb-true, true≢false, cases_Bool}
-use Rattle.std.proofs.lemmas.List.{append_cancel_left, length-append, get_or_at, get_or-append-add}
-use Rattle.msc_lexer.specs.declared.token.Kind.{Kind}
-use Rattle.msc_lexer.specs.declared.token.Token.{Token}
-use Rattle.msc_lexer.specs.declared.fault.LexFault.{LexFault}
-use Rattle.msc_lexer.specs.declared.fault.LexFault.TheVariants.{TooLong, BadByte, OpenNote, OpenText, LongName, Memory}
-use Rattle.msc_lexer.specs.Bytes.{is_white, is_run_byte, begins}
-use Rattle.msc_lexer.specs.Words.{word_of}
-use Rattle.msc_lexer.specs.Pieces.{Piece, Blank, Note, Run, Quoted, Mark, NeverCloses, doubled, mark_of, IsRun, spelled, Fits, text_of, AreCut, tokens_of}
-use Rattle.msc_lexer.specs.Lexing.{HasTokens, HasFault, IsFirstFlaw, IsFlaw, BeginsNothing, IsOkOrMemory, IsErrOrMemory}
-use Rattle.msc_lexer.proofs.Shapes.{class_of, class_at, shape_of, class_of_piece, run_begins, run_class}
+use Rattle.std.proofs.lemmas.Bool.{eqb-true, true≢false, cases_Bool}
+use Rattle.std.proofs.lemmas.List.{append_cancel_left, get_or_at, get_or-append-add}
+use Rattle.msc_lexer.specs.Bytes.{is_run_byte, begins}
+use Rattle.msc_lexer.specs.Pieces.{Piece, Blank, Note, Run, Quoted, Mark, NeverCloses, doubled, spelled, Fits}
+use Rattle.msc_lexer.proofs.Shapes.{class_at, shape_of, class_of_piece}
 
 -- in a note the first `*/` ends it
 pub note_at_end : (body rest : List ℕ) → (get_or ((body ++ 42 ∷ 47 ∷ []) ++ rest) (length body) 0 ≡ 42) × (get_or ((body ++ 42 ∷ 47 ∷ []) ++ rest) (length body + 1) 0 ≡ 47)
 note_at_end body rest = rw append_assoc (get_or_at body 42 (47 ∷ rest) 0 (length body) refl, get_or-append-add body (42 ∷ 47 ∷ rest) 1 0)
 
+-- what holds of a body holds behind its first byte
 pub NeverCloses-rest : (x : ℕ) (xs : List ℕ) → NeverCloses (x ∷ xs) → NeverCloses xs
 NeverCloses-rest x xs h k a b = h (suc k) a (let e : suc k + 1 ≡ suc (k + 1) = omega arith in rw e b)
 
+-- two bodies up to the first `*/` are one
 pub same_note : (a b r s : List ℕ) → NeverCloses a → NeverCloses b → (a ++ 42 ∷ 47 ∷ []) ++ r ≡ (b ++ 42 ∷ 47 ∷ []) ++ s → a ≡ b
 same_note [] [] r s f g e = refl
 same_note [] (x ∷ []) r s f g e = let h : ◌≡◌ {A = ℕ} 47 42 = cc in absurd (omega (arith, h))
@@ -44,6 +36,7 @@ doubled_first x xs =
       | inr e ↦ inr (λ q. true≢false (sym (rw q refl) ∙ e), rw e refl)
     ]
 
+-- two bodies up to the lone apostrophe are one
 pub same_quote : (a b r s : List ℕ) → begins (nat_eq 39) r ≡ false → begins (nat_eq 39) s ≡ false → (doubled a ++ 39 ∷ []) ++ r ≡ (doubled b ++ 39 ∷ []) ++ s → a ≡ b
 same_quote [] [] r s f g e = refl
 same_quote [] (y ∷ ys) r s f g e =
@@ -76,6 +69,7 @@ same_quote (x ∷ xs) (y ∷ ys) r s f g e =
       ]
     ]
 
+-- two pieces of one shape at the front are one
 pub one_piece : (p q : Piece) (r s : List ℕ) → Fits p r → Fits q s → spelled p ++ r ≡ spelled q ++ s → shape_of p ≡ shape_of q → p ≡ q
 unfolding shape_of
 one_piece (Blank a) (Blank b) r s f g e h = let i : a ≡ b = cc in cc
@@ -94,9 +88,11 @@ one_piece (Quoted a) q r s f g e h = absurd (omega (arith, h))
 one_piece (Note a) q r s f g e h = absurd (omega (arith, h))
 one_piece (Mark a) q r s f g e h = absurd (omega (arith, h))
 
+-- two pieces at the front are of one shape
 pub same_shape : (p q : Piece) (r s : List ℕ) → Fits p r → Fits q s → spelled p ++ r ≡ spelled q ++ s → shape_of p ≡ shape_of q
 same_shape p q r s f g e = sym (class_of_piece p r f) ∙ ap class_at e ∙ class_of_piece q s g
 
+-- two pieces at the front are one, and so is what follows them
 pub same_front : (p q : Piece) (r s : List ℕ) → Fits p r → Fits q s → spelled p ++ r ≡ spelled q ++ s → (p ≡ q) × (r ≡ s)
 same_front p q r s f g e =
     let same = one_piece p q r s f g e (same_shape p q r s f g e) in

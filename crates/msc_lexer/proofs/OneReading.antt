@@ -1,24 +1,18 @@
 -- A text has at most one list of tokens, or one fault.
-use Rattle.std.proofs.Common.{◌≡◌, ◌≢◌, ◌⊎◌, ℕ, zero, suc, ◌+◌, ◌-◌, ◌<◌, ◌≤◌, Bool, true, false, cond, ◌||◌, ◌&&◌, eqb, nat_eq, List, [], ◌∷◌, ◌++◌, length, get_or, take, drop, Option, Some, None, Result, Ok, Err, refl, sym, ap, subst, ◌∙◌, append_assoc, add-one, inl, inr, arith}
+use Rattle.std.proofs.Common.{◌≡◌, ◌≢◌, ◌⊎◌, ℕ, ◌<◌, List, [], ◌∷◌, ◌++◌, length, Result, Ok, Err, refl, sym, ap, ◌∙◌, append_assoc, inl, inr, arith}
 use Rattle.std.specs.Prelude.{IfOk, IfErr}
 use Rattle.std.specs.Global.{Vec}
-use Rattle.std.specs.Char.{is_ascii_alphanumeric}
-use Rattle.std.specs.List.{take_while}
-use Rattle.std.specs.Option.{is_some}
-use Rattle.std.proofs.lemmas.Bool.{or_cases, or_parts, eqb-true, true≢false, cases_Bool}
 use Rattle.std.proofs.lemmas.List.{append_cancel_left, length-append, get_or_at, get_or-append-add}
-use Rattle.msc_lexer.specs.declared.token.Kind.{Kind}
 use Rattle.msc_lexer.specs.declared.token.Token.{Token}
 use Rattle.msc_lexer.specs.declared.fault.LexFault.{LexFault}
 use Rattle.msc_lexer.specs.declared.fault.LexFault.TheVariants.{TooLong, BadByte, OpenNote, OpenText, LongName, Memory}
-use Rattle.msc_lexer.specs.Bytes.{is_white, is_run_byte, begins}
-use Rattle.msc_lexer.specs.Words.{word_of}
-use Rattle.msc_lexer.specs.Pieces.{Piece, Blank, Note, Run, Quoted, Mark, NeverCloses, doubled, mark_of, IsRun, spelled, Fits, text_of, AreCut, tokens_of}
-use Rattle.msc_lexer.specs.Lexing.{HasTokens, HasFault, IsFirstFlaw, IsFlaw, BeginsNothing, IsOkOrMemory, IsErrOrMemory}
-use Rattle.msc_lexer.proofs.OnePiece.{doubled_first, note_at_end, same_front}
-use Rattle.msc_lexer.proofs.Flaws.{Stops, nil_stops, flaw_stops, run_class_at}
+use Rattle.msc_lexer.specs.Pieces.{Piece, spelled, text_of, AreCut, tokens_of}
+use Rattle.msc_lexer.specs.Lexing.{HasTokens, HasFault, IsFirstFlaw, IsFlaw, IsOkOrMemory, IsErrOrMemory}
+use Rattle.msc_lexer.proofs.OnePiece.{same_front}
+use Rattle.msc_lexer.proofs.Flaws.{Stops, nil_stops, flaw_stops}
 use Rattle.msc_lexer.proofs.OneFlaw.{one_flaw}
 
+-- a text is cut in one way up to a place at which no piece stands
 one_cut : (ps qs : List Piece) (r s : List ℕ) → AreCut ps r → AreCut qs s → text_of ps ++ r ≡ text_of qs ++ s → Stops r → Stops s → (ps ≡ qs) × (r ≡ s)
 unfolding Stops
 one_cut [] [] r s a b e stop_r stop_s = (refl, e)
@@ -32,17 +26,20 @@ one_cut (p ∷ ps) (q ∷ qs) r s a b e stop_r stop_s =
     let i = others.0 in
     ((cc), others.1)
 
+-- an equation with nothing at its end
 nil_right : (xs ys : List ℕ) → xs ≡ ys → xs ≡ ys ++ []
 nil_right xs ys e = e ∙ sym (Rattle.std.proofs.lemmas.List.append-nil ys)
 
 -- ---- the laws of texts
 
+-- two lists of tokens of a text are one
 pub one_tokens : (text : List ℕ) (ts us : List Token) → HasTokens text ts → HasTokens text us → ts ≡ us
 one_tokens text ts us a b =
     let e : text_of a.pieces ++ [] ≡ text_of b.pieces ++ [] = sym (nil_right text (text_of a.pieces) a.whole) ∙ nil_right text (text_of b.pieces) b.whole in
     let same = one_cut a.pieces b.pieces [] [] a.cut b.cut e nil_stops nil_stops in
     a.made ∙ ap (tokens_of 0) same.0 ∙ sym b.made
 
+-- a text with tokens has no flaw
 tokens_or_flaw : (text : List ℕ) (ts : List Token) (fault : LexFault) → HasTokens text ts → IsFirstFlaw text fault → ⊥
 unfolding Stops
 tokens_or_flaw text ts fault a b =
@@ -58,6 +55,7 @@ tokens_or_flaw text ts fault a b =
     no_flaw_of_nil (OpenText a) at h = let e = h.2 in absurd cc
     no_flaw_of_nil (LongName a) at h = let e = h.3 in omega (arith, h.6, ap length e, length-append h.1 h.2)
 
+-- two first flaws of a text are one
 one_first_flaw : (text : List ℕ) (f g : LexFault) → IsFirstFlaw text f → IsFirstFlaw text g → f ≡ g
 one_first_flaw text f g a b =
     let same = one_cut a.pieces b.pieces a.rest b.rest a.cut b.cut (sym a.whole ∙ b.whole) (flaw_stops f _ a.rest a.flaw) (flaw_stops g _ b.rest b.flaw) in
@@ -72,6 +70,7 @@ fault_cases text (OpenNote a) h = inr h
 fault_cases text (OpenText a) h = inr h
 fault_cases text (LongName a) h = inr h
 
+-- a text with tokens has no fault
 pub tokens_or_fault : (text : List ℕ) (ts : List Token) (f : LexFault) → HasTokens text ts → HasFault text f → ⊥
 tokens_or_fault text ts f a h =
     elim (fault_cases text f h) [
@@ -79,6 +78,7 @@ tokens_or_fault text ts f a h =
       | inr flaw ↦ tokens_or_flaw text ts f a flaw
     ]
 
+-- two faults of a text are one
 pub one_fault : (text : List ℕ) (f g : LexFault) → HasFault text f → HasFault text g → f ≡ g
 one_fault text f g a b =
     elim (fault_cases text f a) [
@@ -94,6 +94,7 @@ one_fault text f g a b =
 
 -- ---- what lex answers
 
+-- a fault is want of memory or another
 is_memory : (f : LexFault) → (f ≡ Memory) ⊎ (f ≢ Memory)
 is_memory Memory = inl refl
 is_memory TooLong = inr (λ e. cc)
@@ -102,10 +103,12 @@ is_memory (OpenNote a) = inr (λ e. cc)
 is_memory (OpenText a) = inr (λ e. cc)
 is_memory (LongName a) = inr (λ e. cc)
 
+-- what answers only what stands in the text answers its tokens
 pub answers_tokens : (text : List ℕ) (r : Result (Vec Token) LexFault) → IfOk r (λ v. HasTokens text v.items) → IfErr r (λ e. e ≢ Memory → HasFault text e) → (ts : List Token) → HasTokens text ts → IsOkOrMemory ts r
 answers_tokens text (Ok v) good bad ts h = one_tokens text v.items ts good h
 answers_tokens text (Err e) good bad ts h = elim (is_memory e) [ inl m ↦ m | inr other ↦ absurd (tokens_or_fault text ts e h (bad other)) ]
 
+-- and its fault
 pub answers_fault : (text : List ℕ) (r : Result (Vec Token) LexFault) → IfOk r (λ v. HasTokens text v.items) → IfErr r (λ e. e ≢ Memory → HasFault text e) → (f : LexFault) → HasFault text f → IsErrOrMemory f r
 answers_fault text (Ok v) good bad f h = tokens_or_fault text v.items f good h
 answers_fault text (Err e) good bad f h = elim (is_memory e) [ inl m ↦ inr m | inr other ↦ inl (one_fault text e f (bad other) h) ]

@@ -1,6 +1,6 @@
 -- What the tokens of a text keep: they stand in the text, their names are names, and they are no more than its bytes.
-use Rattle.std.proofs.Common.{◌≡◌, ◌≢◌, ◌⊎◌, ℕ, ◌+◌, ◌≤◌, ◌<◌, Bool, true, false, cond, ◌&&◌, List, [], ◌∷◌, ◌++◌, length, Option, Some, None, refl, sym, ap, subst, ◌∙◌, inl, inr, arith}
-use Rattle.std.specs.Prelude.{All, option_map, unwrap_or, take_while}
+use Rattle.std.proofs.Common.{◌≡◌, ◌≢◌, ℕ, ◌+◌, ◌≤◌, Bool, true, false, cond, List, [], ◌∷◌, ◌++◌, length, Option, Some, None, refl, ap, inl, inr, arith}
+use Rattle.std.specs.Prelude.{option_map, unwrap_or, take_while}
 use Rattle.std.specs.List.{list_all}
 use Rattle.std.proofs.lemmas.Bool.{and_from, cases_Bool}
 use Rattle.std.proofs.lemmas.List.{length-append}
@@ -20,21 +20,25 @@ use Rattle.msc_lexer.proofs.Printed.{lexemes_seen}
 
 -- ---- tokens stand in their text
 
+-- a token within the text goes before tokens within it
 token_within : (text : List ℕ) (o : Option Kind) (at len : ℕ) (ts : List Token) → at + len ≤ length text → AreWithin text ts → AreWithin text (token_of o at len ++ ts)
 token_within text None at len ts fits others = others
 token_within text (Some k) at len ts fits others = All-cons (IsWithin text) (record { kind = k; start = at; «end» = at + len }) ts (record { ordered = omega arith; inside = fits }) others
 
+-- the tokens of pieces stand within the text of the pieces
 tokens_within : (text : List ℕ) (ps : List Piece) (at : ℕ) → at + length (text_of ps) ≤ length text → AreWithin text (tokens_of at ps)
 tokens_within text [] at fits = All-nil (IsWithin text)
 tokens_within text (p ∷ ps) at fits =
     token_within text (kind_of p) at (length (spelled p)) (tokens_of (at + length (spelled p)) ps) (omega (arith, fits, length-append (spelled p) (text_of ps)))
     (tokens_within text ps (at + length (spelled p)) (omega (arith, fits, length-append (spelled p) (text_of ps))))
 
+-- so the tokens of a text stand in it
 pub are_within : (text : List ℕ) (tokens : List Token) → HasTokens text tokens → AreWithin text tokens
 are_within text tokens h = All-same (IsWithin text) tokens (tokens_of 0 h.pieces) h.made (tokens_within text h.pieces 0 (let e = ap length h.whole in omega (arith, e)))
 
 -- ---- names are names
 
+-- what is taken while a test passes passes it
 while_all : (p : ℕ → Bool) (xs : List ℕ) → list_all p (take_while p xs) ≡ true
 while_all p [] = refl
 while_all p (x ∷ xs) =
@@ -43,20 +47,24 @@ while_all p (x ∷ xs) =
       | inr e ↦ rw (take_while-cons p x xs, e) refl
     ]
 
+-- a run that is no word is a name
 run_name : (bytes rest : List ℕ) → IsRun bytes rest → (word_of bytes ≡ None → length bytes ≤ 64) → word_of bytes ≡ None → IsName bytes
 run_name bytes rest h short none = record { some = h.some; run = rw h.longest (while_all is_run_byte (bytes ++ rest)); free = none; short = short none }
 
+-- a run is a word, or named by a name
 run_named : (bytes rest : List ℕ) (at : ℕ) (ls : List Lexeme) (o : Option Word) → word_of bytes ≡ o → IsRun bytes rest → (word_of bytes ≡ None → length bytes ≤ 64) → HaveNames ls → HaveNames (lexeme_at (Some (unwrap_or (option_map kinds.Word o) kinds.Name)) bytes at ++ ls)
 unfolding lexeme_at
 run_named bytes rest at ls None e h short others = (run_name bytes rest h short e, others)
 run_named bytes rest at ls (Some w) e h short others = (tt, others)
 
+-- a mark names nothing
 mark_named : (o : Option Kind) (b at : ℕ) (ls : List Lexeme) → o ≢ Some kinds.Name → HaveNames ls → HaveNames (lexeme_at o (b ∷ []) at ++ ls)
 unfolding lexeme_at
 mark_named None b at ls h others = others
 mark_named (Some kinds.Name) b at ls h others = absurd (h refl)
 mark_named (Some k) b at ls h others = (tt, others)
 
+-- a choice between what is no name is none
 if_no_name : (t : Bool) (k : Kind) (o : Option Kind) → k ≢ kinds.Name → o ≢ Some kinds.Name → cond t (Some k) o ≢ Some kinds.Name
 if_no_name true k o h g e = h (inside e)
   where
@@ -64,12 +72,14 @@ if_no_name true k o h g e = h (inside e)
     inside e = cc
 if_no_name false k o h g e = g e
 
+-- no mark is a name
 mark_no_name : (b : ℕ) → mark_of b ≢ Some kinds.Name
 mark_no_name b = if_no_name _ kinds.Semicolon _ (λ e. cc) (if_no_name _ kinds.Comma _ (λ e. cc) (if_no_name _ kinds.Colon _ (λ e. cc) (if_no_name _ kinds.LeftParen _ (λ e. cc) (if_no_name _ kinds.RightParen _ (λ e. cc) (λ e. none_name e)))))
   where
     none_name : None ≡ Some kinds.Name → ⊥
     none_name e = cc
 
+-- the names among pieces are names
 pieces_named : (at : ℕ) (ps : List Piece) (rest : List ℕ) → AreCut ps rest → HaveNames (lexemes_of at ps)
 unfolding lexemes_of lexeme_at
 pieces_named at [] rest h = tt
@@ -79,11 +89,13 @@ pieces_named at (Run bytes ∷ ps) rest h = run_named bytes _ at _ (word_of byte
 pieces_named at (pieces.Quoted body ∷ ps) rest h = (tt, pieces_named _ ps rest h.1)
 pieces_named at (Mark b ∷ ps) rest h = mark_named (mark_of b) b at _ (mark_no_name b) (pieces_named (at + 1) ps rest h.1)
 
+-- so the names of a text are names
 pub are_named : (text : List ℕ) (tokens : List Token) → HasTokens text tokens → HaveNames (lexemes text tokens)
 are_named text tokens h = rw (h.made, lexemes_seen text [] h.pieces h.whole) (pieces_named 0 h.pieces [] h.cut)
 
 -- ---- each token has a byte
 
+-- a piece makes at most one token, and only of some bytes
 token_some : (p : Piece) (rest : List ℕ) (at len : ℕ) → pieces.Fits p rest → length (token_of (kind_of p) at len) ≤ length (spelled p)
 token_some (Blank b) rest at len h = omega arith
 token_some (Note body) rest at len h = omega arith
@@ -96,6 +108,7 @@ token_some (Mark b) rest at len h = one (mark_of b)
     one None = omega arith
     one (Some k) = omega arith
 
+-- so pieces make no more tokens than bytes
 tokens_few : (at : ℕ) (ps : List Piece) (rest : List ℕ) → AreCut ps rest → length (tokens_of at ps) ≤ length (text_of ps)
 tokens_few at [] rest h = omega arith
 tokens_few at (p ∷ ps) rest h =
@@ -103,5 +116,6 @@ tokens_few at (p ∷ ps) rest h =
     let others = tokens_few (at + length (spelled p)) ps rest h.1 in
     omega (arith, first, others, length-append (token_of (kind_of p) at (length (spelled p))) (tokens_of (at + length (spelled p)) ps), length-append (spelled p) (text_of ps))
 
+-- and a text has no more tokens than bytes
 pub are_few : (text : List ℕ) (tokens : List Token) → HasTokens text tokens → length tokens ≤ length text
 are_few text tokens h = let n = tokens_few 0 h.pieces [] h.cut in omega (arith, n, ap length h.made, ap length h.whole)

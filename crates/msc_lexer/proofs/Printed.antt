@@ -1,32 +1,35 @@
 -- What is printed as pieces is read as those pieces.
-use Rattle.std.proofs.Common.{◌≡◌, ◌≢◌, ℕ, ◌+◌, ◌-◌, ◌≤◌, Bool, true, false, ◌&&◌, List, [], ◌∷◌, ◌++◌, length, take, drop, Option, Some, None, refl, sym, ap, subst, ◌∙◌, append_assoc, arith}
+use Rattle.std.proofs.Common.{◌≡◌, ◌≢◌, ℕ, ◌+◌, ◌-◌, true, false, List, [], ◌∷◌, ◌++◌, length, Option, Some, None, refl, sym, ap, subst, ◌∙◌, append_assoc, arith}
 use Rattle.std.specs.Prelude.{take_while}
 use Rattle.std.specs.List.{list_all, slice_range}
 use Rattle.std.proofs.lemmas.Bool.{and_parts}
-use Rattle.std.proofs.lemmas.List.{append-nil, length-append, take_at, drop_at}
+use Rattle.std.proofs.lemmas.List.{length-append, take_at, drop_at}
 use Rattle.std.proofs.lemmas.List.Sums.{take_while-cons}
 use Rattle.msc_lexer.specs.declared.word.Word.{Word}
 use Rattle.msc_lexer.specs.declared.word.Word.TheVariants as words
 use Rattle.msc_lexer.specs.declared.token.Kind.{Kind}
 use Rattle.msc_lexer.specs.declared.token.Token.{Token}
 use Rattle.msc_lexer.specs.Bytes.{is_run_byte, begins}
-use Rattle.msc_lexer.specs.Words.{spelling, word_of}
-use Rattle.msc_lexer.specs.Pieces.{Piece, Run, IsRun, Fits, spelled, kind_of, text_of, AreCut, token_of, tokens_of}
+use Rattle.msc_lexer.specs.Words.{spelling}
+use Rattle.msc_lexer.specs.Pieces.{Piece, Run, IsRun, Fits, spelled, kind_of, text_of, token_of, tokens_of}
 use Rattle.msc_lexer.specs.Lexemes.{Lexeme, symbol_of, lexeme_of, lexemes, lexeme_at, lexemes_of, IsName, PrintsPieces}
 use Rattle.msc_lexer.proofs.Spellings.{word_of-spelling}
 use Rattle.msc_lexer.proofs.Cuts.{AreCut-append}
 
 -- ---- what a grammar sees of pieces
 
+-- a token is seen as its bytes in the text
 one_token : (text : List ℕ) (o : Option Kind) (bytes : List ℕ) (at : ℕ) → slice_range text at (at + length bytes) ≡ bytes → lexemes text (token_of o at (length bytes)) ≡ lexeme_at o bytes at
 unfolding lexeme_at
 one_token text None bytes at e = refl
 one_token text (Some k) bytes at e = ap (λ (b : List ℕ). record { symbol = symbol_of k b; place = at } ∷ []) e
 
+-- tokens joined are seen one after the other
 lexemes-append : (text : List ℕ) (ts us : List Token) → lexemes text (ts ++ us) ≡ lexemes text ts ++ lexemes text us
 lexemes-append text [] us = refl
 lexemes-append text (t ∷ ts) us = ap (λ (x : List Lexeme). lexeme_of text t ∷ x) (lexemes-append text ts us)
 
+-- the bytes between a front and a rest
 cut_out : (front bytes rest : List ℕ) → slice_range (front ++ (bytes ++ rest)) (length front) (length front + length bytes) ≡ bytes
 cut_out front bytes rest =
     let n : length front + length bytes - length front ≡ length bytes = omega arith in
@@ -46,6 +49,7 @@ lexemes_seen text front (p ∷ ps) e =
 
 -- ---- words and names are pieces
 
+-- bytes of a run before another byte are all that is taken
 run_all : (w rest : List ℕ) → list_all is_run_byte w ≡ true → begins is_run_byte rest ≡ false → take_while is_run_byte (w ++ rest) ≡ w
 run_all [] [] h g = refl
 run_all [] (b ∷ bs) h g = take_while-cons is_run_byte b bs ∙ rw g refl
@@ -53,9 +57,11 @@ run_all (b ∷ w) rest h g =
     let parts = and_parts (is_run_byte b) (list_all is_run_byte w) h in
     take_while-cons is_run_byte b (w ++ rest) ∙ rw parts.0 (ap (λ (x : List ℕ). b ∷ x) (run_all w rest parts.1 g))
 
+-- they are the longest run
 a_run : (w rest : List ℕ) → w ≢ [] → list_all is_run_byte w ≡ true → begins is_run_byte rest ≡ false → IsRun w rest
 a_run w rest some all stop = record { some = some; longest = sym (run_all w rest all stop) }
 
+-- a spelled word is made of run bytes
 spelling_run : (w : Word) → (spelling w ≢ []) × (list_all is_run_byte (spelling w) ≡ true)
 spelling_run words.Msc = (λ e. cc, refl)
 spelling_run words.EndMsc = (λ e. cc, refl)
@@ -78,14 +84,17 @@ spelling_run words.Timeout = (λ e. cc, refl)
 spelling_run words.Create = (λ e. cc, refl)
 spelling_run words.Stop = (λ e. cc, refl)
 
+-- a spelled word stands where no run byte follows
 word_fits : (w : Word) (rest : List ℕ) → begins is_run_byte rest ≡ false → Fits (Run (spelling w)) rest
 word_fits w rest stop = (a_run (spelling w) rest (spelling_run w).0 (spelling_run w).1 stop, λ none. let e : Some w ≡ None = sym (word_of-spelling w) ∙ none in absurd cc)
 
+-- a name stands where no run byte follows
 name_fits : (n rest : List ℕ) → IsName n → begins is_run_byte rest ≡ false → Fits (Run n) rest
 name_fits n rest h stop = (a_run n rest h.some h.run stop, λ none. h.short)
 
 -- ---- the laws of printing
 
+-- the laws of printing, together
 pub prints_pieces : PrintsPieces
 prints_pieces = record {
   words = word_of-spelling;

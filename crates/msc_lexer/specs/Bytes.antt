@@ -1,5 +1,5 @@
 -- Classes of bytes, by this project's profile of MSC/PR (ITU-T Z.120).
-use Rattle.std.specs.Prelude.{ℕ, Bool, true, false, ◌||◌, ◌==◌, List, [], ◌∷◌}
+use Rattle.std.specs.Prelude.{ℕ, Bool, false, ◌||◌, ◌==◌, List, [], ◌∷◌}
 use Rattle.std.specs.Char.{is_ascii_alphanumeric}
 
 -- white space: space, tab, CR or LF

@@ -1,5 +1,5 @@
 -- What the functions that look for the end of a piece answer.
-use Rattle.std.specs.Prelude.{◌≡◌, ℕ, ◌+◌, ◌≤◌, ◌<◌, false, nat_eq, List, ◌∷◌, ◌++◌, length, Option, slice_index, take, drop}
+use Rattle.std.specs.Prelude.{◌≡◌, ℕ, ◌+◌, ◌≤◌, ◌<◌, false, nat_eq, List, ◌++◌, length, Option, slice_index, take, drop}
 use Rattle.msc_lexer.specs.declared.token.Kind.{Kind}
 use Rattle.msc_lexer.specs.Bytes.{begins}
 use Rattle.msc_lexer.specs.Pieces.{Piece, NeverCloses, Fits, doubled, kind_of, spelled}

@@ -1,5 +1,5 @@
 -- The reserved words of the profile of MSC/PR (ITU-T Z.120), and how they are spelled.
-use Rattle.std.specs.Prelude.{ℕ, Bool, List, [], ◌∷◌, Option, Some, None, map, find, codes}
+use Rattle.std.specs.Prelude.{ℕ, Bool, List, [], ◌∷◌, Option, map, find, codes}
 use Rattle.std.specs.Char.{to_ascii_lowercase}
 use Rattle.std.specs.Str.{bytes_eq}
 use Rattle.msc_lexer.specs.declared.word.Word.{Word}

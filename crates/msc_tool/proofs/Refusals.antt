@@ -1,10 +1,9 @@
 -- How the parser's faults are answered.
-use Rattle.std.proofs.Common.{◌≡◌, ◌≢◌, ◌⊎◌, ℕ, List, Result, Ok, Err, refl, sym, ◌∙◌, subst, inl, inr}
+use Rattle.std.proofs.Common.{◌≡◌, ◌≢◌, ◌⊎◌, ℕ, List, Err, refl, subst, inl, inr}
 use Rattle.msc_parser.specs.declared.fault.ParseFault.{ParseFault}
 use Rattle.msc_parser.specs.declared.fault.ParseFault.TheVariants as grammar
 use Rattle.msc_parser.specs.Grammar.{Tree}
 use Rattle.msc_parser.specs.Parsing.{HasDraft, HasParseFault}
-use Rattle.msc_tool.specs.declared.fault.Fault.{Fault}
 use Rattle.msc_tool.specs.declared.fault.Fault.TheVariants.{Parse, Memory}
 use Rattle.msc_tool.specs.Answers.{RefusesText, refusal_of}
 
@@ -28,6 +27,7 @@ refuses_memory text = record {
   accepted = λ t d g e. cc;
 }
 
+-- each fault of the parser is answered as it stands
 pub refuses : (text : List ℕ) (f : ParseFault) → ParserRefuses text f → RefusesText text (Err (refusal_of f))
 refuses text grammar.Memory said = refuses_memory text
 refuses text (grammar.Lex f) said = refuses_with text (grammar.Lex f) (λ e. cc) said

@@ -1,4 +1,4 @@
-use Rattle.std.proofs.Common.{◌≡◌, ◌-◌, ◌≤◌, take, length}
+use Rattle.std.proofs.Common.{◌-◌, ◌≤◌, take, length}
 use Rattle.msc_lexer.specs.Scanning.{IsDoubled}
 use Rattle.msc_lexer.proofs.scanning.quote_end.Given as goal
 

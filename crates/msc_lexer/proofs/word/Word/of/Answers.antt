@@ -1,7 +1,6 @@
-use Rattle.std.proofs.Common.{sym, ◌∙◌, refl, get_or, drop, find, arith}
+use Rattle.std.proofs.Common.{sym, ◌∙◌, find, arith}
 use Rattle.std.proofs.lemmas.List.{at_drop_all}
-use Rattle.msc_lexer.specs.Words.{spelling, word_of, all_words, is_spelled}
-use Rattle.msc_lexer.specs.declared.word.Word.TheVariants.{Msc}
+use Rattle.msc_lexer.specs.Words.{word_of, all_words, is_spelled}
 use Rattle.msc_lexer.proofs.Spellings.{compared, found, missed}
 use Rattle.msc_lexer.proofs.word.Word.of.Goals as goal
 

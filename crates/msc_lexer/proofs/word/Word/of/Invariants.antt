@@ -1,5 +1,5 @@
 use Rattle.std.proofs.Common.{◌≡◌, drop, find}
-use Rattle.msc_lexer.specs.Words.{word_of, all_words, is_spelled}
+use Rattle.msc_lexer.specs.Words.{is_spelled}
 use Rattle.msc_lexer.proofs.word.Word.of.Given as goal
 
 abbrev pub invariant-loop-word : goal.invariant-loop-word
