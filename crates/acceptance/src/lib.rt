@@ -9,6 +9,8 @@ mod drafts;
 #[cfg(test)]
 mod faults;
 #[cfg(test)]
+mod grammar;
+#[cfg(test)]
 mod inputs;
 #[cfg(test)]
 mod program;

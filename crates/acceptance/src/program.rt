@@ -46,6 +46,10 @@ fn texts_that_are_read(rt: HostRuntime) -> Result<(), Fail> {
         ),
         (b"MSC t; ENDMSC;", b"msc t;\nendmsc;\n"),
         (
+            b"msc t; inst a, b; instance a : process p comment 'it''s'; /* note */ out m, 1(x, y) to b; endinstance; instance b; in m, 1(z) from a; endinstance; endmsc;",
+            b"msc t;\ninst a, b;\ninstance a : process p;\n  out m, 1(x, y) to b;\nendinstance;\ninstance b;\n  in m, 1(z) from a;\nendinstance;\nendmsc;\n",
+        ),
+        (
             b"msc t; instance a; out m to b; endinstance; instance b; in m from a; endinstance; endmsc;",
             b"msc t;\ninstance a;\n  out m to b;\nendinstance;\ninstance b;\n  in m from a;\nendinstance;\nendmsc;\n",
         ),
@@ -83,6 +87,18 @@ fn texts_that_are_refused(rt: HostRuntime) -> Result<(), Fail> {
             b"lexical fault 5 at 0: name longer than 64 bytes\n",
         ),
         (b"msc ;", b"grammar fault 3 at 4: expected a name\n"),
+        (
+            b"msc t comment ;",
+            b"grammar fault 3 at 14: expected a text\n",
+        ),
+        (
+            b"msc t; instance a; concurrent; endinstance;",
+            b"grammar fault 3 at 31: expected an event\n",
+        ),
+        (
+            b"msc t; instance a; out m(;",
+            b"grammar fault 3 at 25: expected a parameter list\n",
+        ),
         (
             b"msc t",
             b"grammar fault 3 at 5: expected the end of the statement\n",

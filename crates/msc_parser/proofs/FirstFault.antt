@@ -1,26 +1,26 @@
--- Where a walk stops, the tokens stop to be the beginning of a chart.
+-- The first fault of a list of tokens stands where its walk from the start ends.
 use Rattle.std.proofs.Common.{◌≡◌, List, [], ◌∷◌, ◌++◌, Option, Some, None, refl, sym, ap, subst, ◌∙◌, append_assoc}
 use Rattle.std.specs.Option.{option_map_or}
 use Rattle.std.proofs.lemmas.List.{append-nil}
 use Rattle.msc_lexer.specs.declared.word.Word.TheVariants as words
-use Rattle.msc_lexer.specs.Lexemes.{Symbol, Reserved, Named, Semicolon, Lexeme}
+use Rattle.msc_lexer.specs.Lexemes.{Symbol, Reserved, Named, Quoted, Semicolon, RightParen, Lexeme}
+use Rattle.msc_parser.specs.declared.tree.Way.{Way}
 use Rattle.msc_parser.specs.declared.tree.Way.TheVariants as ways
 use Rattle.msc_parser.specs.Grammar.{address_word}
-use Rattle.msc_parser.specs.Places.{Place, Start, ChartName, ChartEnd, Header, InstName, InstDecl, Sections, SectionName, SectionEnd, Items, Message, Partner, Address, EventEnd, InstanceEnd, ChartLast, Done, next, walk}
+use Rattle.msc_parser.specs.Places.{Statement, InInst, InInstance, Place, Start, ChartName, Header, Sections, Items, Events, DeclName, DeclKind, KindFirst, KindSecond, DeclEnd, Message, AfterMessage, Number, AfterNumber, Parameters, Parameter, AfterParameter, AfterParameters, Address, End, CommentText, CommentEnd, Done, next, walk}
 use Rattle.msc_parser.specs.Parsing.{IsContinuable, IsEndOfGood}
-use Rattle.msc_parser.proofs.Walks.{stuck}
-use Rattle.msc_parser.proofs.Rests.{chart_walks, walks_chart}
+use Rattle.msc_parser.proofs.Accepting.{chart_walks}
+use Rattle.msc_parser.proofs.Continuing.{walks_chart}
 
 -- ---- where a walk ends
 
 -- a walk is over at the end of the tokens, or before one that may not stand there
-pub record WalksTo (p : Place) (ls : List Lexeme) (q : Place) (rest : List Lexeme) : Type 0 where
-  pub front : List Lexeme
-  pub whole : ls ≡ front ++ rest
-  pub leads : (more : List Lexeme) → walk p (front ++ more) ≡ walk q more
-  pub stops : (l : Lexeme) (more : List Lexeme) → rest ≡ l ∷ more → next q l.symbol ≡ None
+record WalksTo (p : Place) (ls : List Lexeme) (q : Place) (rest : List Lexeme) : Type 0 where
+  front : List Lexeme
+  whole : ls ≡ front ++ rest
+  leads : (more : List Lexeme) → walk p (front ++ more) ≡ walk q more
+  stops : (l : Lexeme) (more : List Lexeme) → rest ≡ l ∷ more → next q l.symbol ≡ None
 
--- one step of a walk
 walk_step : (p : Place) (l : Lexeme) (ls : List Lexeme) (o : Option Place) → next p l.symbol ≡ o → ((q : Place) → WalksTo q ls (walk q ls).0 (walk q ls).1)
     → WalksTo p (l ∷ ls) (option_map_or (λ q. walk q ls) o (p, l ∷ ls)).0 (option_map_or (λ q. walk q ls) o (p, l ∷ ls)).1
 walk_step p l ls None step others = record { front = []; whole = refl; leads = λ more. refl; stops = λ k more e. let s : l ≡ k = cc in subst (λ (x : Lexeme). next p x.symbol ≡ None) s step }
@@ -33,80 +33,117 @@ walk_step p l ls (Some q) step others =
       stops = w.stops;
     }
 
--- each walk ends somewhere
 walks_to : (ls : List Lexeme) (p : Place) → WalksTo p ls (walk p ls).0 (walk p ls).1
 walks_to [] p = record { front = []; whole = refl; leads = λ more. refl; stops = λ l more e. absurd cc }
 walks_to (l ∷ ls) p = walk_step p l ls (next p l.symbol) refl (λ q. walks_to ls q)
 
+-- a token that may not stand there ends the walk
+pub stuck : (p : Place) (l : Lexeme) (ls : List Lexeme) → next p l.symbol ≡ None → walk p (l ∷ ls) ≡ (p, l ∷ ls)
+stuck p l ls none = ap (λ (o : Option Place). option_map_or (λ n. walk n ls) o (p, l ∷ ls)) none
+
 -- ---- each place has a way to the end
 
--- a token, wherever it stands
 lexeme : Symbol → Lexeme
 lexeme s = record { symbol = s; place = 0 }
 
--- the last tokens of every chart
-last_part : List Lexeme
+name : Lexeme
 unfolding lexeme
-last_part = lexeme (Reserved words.EndMsc) ∷ lexeme Semicolon ∷ []
+name = lexeme (Named (97 ∷ []))
 
--- the last tokens of a section, and of the chart
-section_part : List Lexeme
+from_end : List Lexeme → List Lexeme
 unfolding lexeme
-section_part = lexeme (Reserved words.EndInstance) ∷ lexeme Semicolon ∷ last_part
+from_end more = lexeme Semicolon ∷ more
 
--- tokens that lead from a place to the end
+from_sections : List Lexeme
+unfolding lexeme
+from_sections = lexeme (Reserved words.EndMsc) ∷ from_end []
+
+from_items : List Lexeme
+unfolding lexeme
+from_items = lexeme (Reserved words.EndInstance) ∷ from_end from_sections
+
+from_decl : Statement → List Lexeme
+from_decl InInst = from_end from_sections
+from_decl InInstance = from_end from_items
+
+from_word : Way → List Lexeme → List Lexeme
+unfolding lexeme
+from_word w more = lexeme (Reserved (address_word w)) ∷ name ∷ from_end more
+
 completion : Place → List Lexeme
 unfolding lexeme
-completion Start = lexeme (Reserved words.Msc) ∷ lexeme (Named (97 ∷ [])) ∷ lexeme Semicolon ∷ last_part
-completion ChartName = lexeme (Named (97 ∷ [])) ∷ lexeme Semicolon ∷ last_part
-completion ChartEnd = lexeme Semicolon ∷ last_part
-completion Header = last_part
-completion InstName = lexeme (Named (97 ∷ [])) ∷ lexeme Semicolon ∷ last_part
-completion InstDecl = lexeme Semicolon ∷ last_part
-completion Sections = last_part
-completion SectionName = lexeme (Named (97 ∷ [])) ∷ lexeme Semicolon ∷ section_part
-completion SectionEnd = lexeme Semicolon ∷ section_part
-completion Items = section_part
-completion (Message way) = lexeme (Named (97 ∷ [])) ∷ lexeme (Reserved (address_word way)) ∷ lexeme (Named (97 ∷ [])) ∷ lexeme Semicolon ∷ section_part
-completion (Partner way) = lexeme (Reserved (address_word way)) ∷ lexeme (Named (97 ∷ [])) ∷ lexeme Semicolon ∷ section_part
-completion (Address way) = lexeme (Named (97 ∷ [])) ∷ lexeme Semicolon ∷ section_part
-completion EventEnd = lexeme Semicolon ∷ section_part
-completion InstanceEnd = lexeme Semicolon ∷ last_part
-completion ChartLast = lexeme Semicolon ∷ []
+completion Start = lexeme (Reserved words.Msc) ∷ name ∷ from_end from_sections
+completion ChartName = name ∷ from_end from_sections
+completion Header = from_sections
+completion Sections = from_sections
+completion Items = from_items
+completion Events = lexeme (Reserved words.EndConcurrent) ∷ from_end from_items
+completion (DeclName st) = name ∷ from_decl st
+completion (DeclKind st) = from_decl st
+completion (KindFirst st) = name ∷ from_decl st
+completion (KindSecond st) = from_decl st
+completion (DeclEnd st) = from_decl st
+completion (Message w p) = name ∷ from_word w (completion p)
+completion (AfterMessage w p) = from_word w (completion p)
+completion (Number w p) = name ∷ from_word w (completion p)
+completion (AfterNumber w p) = from_word w (completion p)
+completion (Parameters w p) = lexeme RightParen ∷ from_word w (completion p)
+completion (Parameter w p) = name ∷ lexeme RightParen ∷ from_word w (completion p)
+completion (AfterParameter w p) = lexeme RightParen ∷ from_word w (completion p)
+completion (AfterParameters w p) = from_word w (completion p)
+completion (Address p) = name ∷ from_end (completion p)
+completion (End p) = from_end (completion p)
+completion (CommentText p) = lexeme (Quoted []) ∷ from_end (completion p)
+completion (CommentEnd p) = from_end (completion p)
 completion Done = []
 
--- they do
 completed : (p : Place) → walk p (completion p) ≡ (Done, [])
-unfolding completion lexeme last_part section_part
+unfolding completion lexeme name from_end from_sections from_items from_decl from_word
 completed Start = refl
 completed ChartName = refl
-completed ChartEnd = refl
 completed Header = refl
-completed InstName = refl
-completed InstDecl = refl
 completed Sections = refl
-completed SectionName = refl
-completed SectionEnd = refl
 completed Items = refl
-completed (Message ways.Output) = refl
-completed (Message ways.Input) = refl
-completed (Partner ways.Output) = refl
-completed (Partner ways.Input) = refl
-completed (Address way) = refl
-completed EventEnd = refl
-completed InstanceEnd = refl
-completed ChartLast = refl
+completed Events = refl
+completed (DeclName InInst) = refl
+completed (DeclName InInstance) = refl
+completed (DeclKind InInst) = refl
+completed (DeclKind InInstance) = refl
+completed (KindFirst InInst) = refl
+completed (KindFirst InInstance) = refl
+completed (KindSecond InInst) = refl
+completed (KindSecond InInstance) = refl
+completed (DeclEnd InInst) = refl
+completed (DeclEnd InInstance) = refl
+completed (Message ways.Output p) = completed p
+completed (Message ways.Input p) = completed p
+completed (AfterMessage ways.Output p) = completed p
+completed (AfterMessage ways.Input p) = completed p
+completed (Number ways.Output p) = completed p
+completed (Number ways.Input p) = completed p
+completed (AfterNumber ways.Output p) = completed p
+completed (AfterNumber ways.Input p) = completed p
+completed (Parameters ways.Output p) = completed p
+completed (Parameters ways.Input p) = completed p
+completed (Parameter ways.Output p) = completed p
+completed (Parameter ways.Input p) = completed p
+completed (AfterParameter ways.Output p) = completed p
+completed (AfterParameter ways.Input p) = completed p
+completed (AfterParameters ways.Output p) = completed p
+completed (AfterParameters ways.Input p) = completed p
+completed (Address p) = completed p
+completed (End p) = completed p
+completed (CommentText p) = completed p
+completed (CommentEnd p) = completed p
 completed Done = refl
 
 -- ---- the first fault
 
--- the tokens before the end of a walk are the beginning of a chart
 can_go_on : (ls : List Lexeme) (q : Place) (rest : List Lexeme) (w : WalksTo Start ls q rest) → IsContinuable w.front
 can_go_on ls q rest w =
     let c = walks_chart (w.front ++ completion q) (w.leads (completion q) ∙ completed q) in
     (completion q, c.0, c.1)
 
--- with the next token they are not, or they are no chart where none is left
 cannot_go_on : (ls : List Lexeme) (q : Place) (rest : List Lexeme) (w : WalksTo Start ls q rest) → ((q ≡ Done) → rest ≡ [] → ⊥) → IsEndOfGood w.front rest
 cannot_go_on ls q [] w failed = λ t c. let e : walk Start w.front ≡ (Done, []) = chart_walks w.front t c in
     let f : walk Start w.front ≡ (q, []) = ap (walk Start) (sym (append-nil w.front)) ∙ w.leads [] in
@@ -126,7 +163,7 @@ pub record FaultAt (ls : List Lexeme) : Type 0 where
   pub place : (walk Start front).0 ≡ (walk Start ls).0
   pub rest_is : rest ≡ (walk Start ls).1
 
--- so the first fault stands where the walk ends
+-- a walk that doesn't reach the end of a chart ends at the first fault
 pub fault_at_walk : (ls : List Lexeme) → (((walk Start ls).0 ≡ Done) → (walk Start ls).1 ≡ [] → ⊥) → FaultAt ls
 fault_at_walk ls failed =
     let w = walks_to ls Start in

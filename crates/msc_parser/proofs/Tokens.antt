@@ -1,51 +1,47 @@
--- Tokens, and what the grammar sees of them.
-use Rattle.std.proofs.Common.{◌≡◌, ℕ, ◌-◌, List, [], ◌∷◌, length, take, drop, get_or, Some, refl, sym, ap, ◌∙◌, arith}
-use Rattle.std.specs.List.{slice_range}
-use Rattle.std.proofs.lemmas.List.{take_rest}
-use Rattle.std.proofs.lemmas.List.Elements.{All-tail}
-use Rattle.msc_lexer.specs.declared.token.Kind.{Kind}
-use Rattle.msc_lexer.specs.declared.token.Kind.TheVariants as kinds
-use Rattle.msc_lexer.specs.declared.token.Token.{Token}
-use Rattle.msc_lexer.specs.Lexemes.{Symbol, Named, lexemes, symbol_of, AreWithin, IsWithin}
-use Rattle.msc_parser.specs.Reading.{first_kind, IsPlain, DidRead, IsTokenOnly, IsNameToken}
+-- What a list of tokens begins with: one symbol, one end of a statement.
+use Rattle.std.proofs.Common.{◌≡◌, ◌≢◌, ℕ, List, [], ◌∷◌, sym, ap, subst, ◌∙◌}
+use Rattle.msc_lexer.specs.declared.word.Word.TheVariants as words
+use Rattle.msc_lexer.specs.Lexemes.{Symbol, Reserved, Named, Quoted, Semicolon, Lexeme}
+use Rattle.msc_parser.specs.Forms.{IsToken}
+use Rattle.msc_parser.specs.Grammar.{IsEnd, Plain, Commented}
 
--- the bytes of a plain token do not matter
-plain_symbol : (kind : Kind) (bytes : List ℕ) → IsPlain kind → symbol_of kind bytes ≡ symbol_of kind []
-plain_symbol (kinds.Word w) bytes h = refl
-plain_symbol kinds.Name bytes h = absurd h
-plain_symbol kinds.Text bytes h = absurd h
-plain_symbol kinds.Semicolon bytes h = refl
-plain_symbol kinds.Comma bytes h = refl
-plain_symbol kinds.Colon bytes h = refl
-plain_symbol kinds.LeftParen bytes h = refl
-plain_symbol kinds.RightParen bytes h = refl
+tails : {x y : Lexeme} {xs ys : List Lexeme} → x ∷ xs ≡ y ∷ ys → xs ≡ ys
+tails e = cc
 
--- behind a plain token of the wanted kind the other tokens stand
-pub took_rest : (text : List ℕ) (kind : Kind) (tokens : List Token) → IsPlain kind → AreWithin text tokens → first_kind tokens ≡ Some kind → DidRead text (IsTokenOnly (symbol_of kind [])) tokens (drop 1 tokens) tt
-took_rest text kind [] plain within h = absurd cc
-took_rest text kind (t ∷ ts) plain within h =
-    let same : t.kind ≡ kind = cc in
-    let bytes = slice_range text t.start t.«end» in
-    let symbol : symbol_of t.kind bytes ≡ symbol_of kind [] = ap (λ (k : Kind). symbol_of k bytes) same ∙ plain_symbol kind bytes plain in
-    record {
-      part = (t.start, ap (λ (s : Symbol). record { symbol = s; place = t.start } ∷ lexemes text ts) symbol);
-      within = All-tail (IsWithin text) t ts within;
-      shorter = omega arith;
-    }
+head_symbol : List Lexeme → Symbol
+head_symbol [] = Semicolon
+head_symbol (l ∷ ls) = l.symbol
 
--- the same, where the other tokens are cut out as a slice
-pub took : (text : List ℕ) (kind : Kind) (tokens : List Token) → IsPlain kind → AreWithin text tokens → first_kind tokens ≡ Some kind → DidRead text (IsTokenOnly (symbol_of kind [])) tokens (take (length tokens - 1) (drop 1 tokens)) tt
-took text kind tokens plain within h = rw take_rest (took_rest text kind tokens plain within h)
+-- a list begins with one symbol, and one list follows it
+pub token_same : (s r : Symbol) (b a c : List Lexeme) → IsToken s b a → IsToken r b c → (s ≡ r) × (a ≡ c)
+unfolding head_symbol
+token_same s r b a c h g =
+    let e : record { symbol = s; place = h.0 } ∷ a ≡ record { symbol = r; place = g.0 } ∷ c = sym h.1 ∙ g.1 in
+    (ap head_symbol e, tails e)
 
--- behind a name the other tokens stand, and its bytes are those of the text
-pub took_name : (text : List ℕ) (tokens : List Token) (bytes : List ℕ) (d : Token) → AreWithin text tokens → first_kind tokens ≡ Some kinds.Name
-    → bytes ≡ slice_range text (get_or tokens 0 d).start (get_or tokens 0 d).«end» → DidRead text IsNameToken tokens (take (length tokens - 1) (drop 1 tokens)) bytes
-took_name text [] bytes d within h e = absurd cc
-took_name text (t ∷ ts) bytes d within h e =
-    let same : t.kind ≡ kinds.Name = cc in
-    let symbol : symbol_of t.kind (slice_range text t.start t.«end») ≡ Named bytes = ap (λ (k : Kind). symbol_of k (slice_range text t.start t.«end»)) same ∙ ap Named (sym e) in
-    rw take_rest (record {
-      part = (t.start, ap (λ (s : Symbol). record { symbol = s; place = t.start } ∷ lexemes text ts) symbol);
-      within = All-tail (IsWithin text) t ts within;
-      shorter = omega arith;
-    })
+-- a list begins with no two symbols
+pub clash : (s r : Symbol) (b a c : List Lexeme) → IsToken s b a → IsToken r b c → s ≢ r → ⊥
+clash s r b a c h g other = other (token_same s r b a c h g).0
+
+-- two names at one place are one
+pub name_same : (m n : List ℕ) (b a c : List Lexeme) → IsToken (Named m) b a → IsToken (Named n) b c → (m ≡ n) × (a ≡ c)
+name_same m n b a c h g = let e = token_same (Named m) (Named n) b a c h g in let f : Named m ≡ Named n = e.0 in ((cc), e.1)
+
+-- a token may be read off an equal list
+pub token_at : (s : Symbol) (b d a : List Lexeme) → b ≡ d → IsToken s b a → IsToken s d a
+token_at s b d a e h = subst (λ (m : List Lexeme). IsToken s m a) e h
+
+-- what begins with the end of a statement begins with no other symbol than `;` and `comment`
+pub end_apart : (s : Symbol) (b a c : List Lexeme) → IsEnd b a → IsToken s b c → s ≢ Semicolon → s ≢ Reserved words.Comment → ⊥
+end_apart s b a c (Plain h) g no_semicolon no_comment = clash s Semicolon b c a g h no_semicolon
+end_apart s b a c (Commented bytes text close h k m) g no_semicolon no_comment = clash s (Reserved words.Comment) b c text g h no_comment
+
+-- one list follows the end of a statement
+pub end_same : (b a c : List Lexeme) → IsEnd b a → IsEnd b c → a ≡ c
+end_same b a c (Plain h) (Plain g) = (token_same Semicolon Semicolon b a c h g).1
+end_same b a c (Plain h) (Commented bytes text close g k m) = absurd (clash Semicolon (Reserved words.Comment) b a text h g (λ e. cc))
+end_same b a c (Commented bytes text close h k m) (Plain g) = absurd (clash Semicolon (Reserved words.Comment) b c text g h (λ e. cc))
+end_same b a c (Commented bytes text close h k m) (Commented bytes_2 text_2 close_2 g l n) =
+    let e0 = (token_same _ _ b text text_2 h g).1 in
+    let e1 = (token_same (Quoted bytes) (Quoted bytes_2) text_2 close close_2 (token_at _ text text_2 close e0 k) l).1 in
+    (token_same Semicolon Semicolon close_2 a c (token_at _ close close_2 a e1 m) n).1

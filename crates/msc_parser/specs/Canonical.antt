@@ -1,9 +1,10 @@
--- The canonical text of a draft (this project's profile of MSC/PR, ITU-T Z.120), as pieces: words in
--- small letters, names, marks, spaces and line ends.
-use Rattle.std.specs.Prelude.{◌≡◌, ℕ, List, [], ◌∷◌, ◌++◌}
+-- The canonical text of a draft, as pieces: words, names, marks, spaces and line ends (this project's
+-- profile of MSC/PR, ITU-T Z.120). Each statement is a line; words are in small letters; no notes and
+-- no comments are there.
+use Rattle.std.specs.Prelude.{ℕ, List, [], ◌∷◌, ◌++◌, Option, Some, None}
 use Rattle.std.specs.List.{flat_map}
 use Rattle.msc_lexer.specs.declared.word.Word.{Word}
-use Rattle.msc_lexer.specs.declared.word.Word.TheVariants as words
+use Rattle.msc_lexer.specs.declared.word.Word.TheVariants.{Msc, EndMsc, Inst, Instance, EndInstance, Concurrent, EndConcurrent}
 use Rattle.msc_lexer.specs.Words.{spelling}
 use Rattle.msc_lexer.specs.Pieces.{Piece, Blank, Run, Mark, text_of}
 use Rattle.msc_parser.specs.declared.tree.Decl.{Decl}
@@ -13,64 +14,83 @@ use Rattle.msc_parser.specs.declared.tree.Item.TheVariants.{Single, Coregion}
 use Rattle.msc_parser.specs.declared.tree.Section.{Section}
 use Rattle.msc_parser.specs.Grammar.{Tree, way_word, address_word}
 
--- a word in small letters
+-- a reserved word
 abbrev pub word : Word → Piece
 word w = Run (spelling w)
 
--- one space
 abbrev pub space : Piece
 space = Blank 32
 
--- `;` and the line end, LF
+-- `;` and the end of the line
 abbrev pub line_end : List Piece
 line_end = Mark 59 ∷ Blank 10 ∷ []
 
--- `out M to NAME;` or `in M from NAME;`
-abbrev pub event_pieces : Signal → List Piece
-event_pieces e = word (way_word e.way) ∷ space ∷ Run e.name ∷ space ∷ word (address_word e.way) ∷ space ∷ Run e.address ∷ line_end
+-- ` : K1` for a kind of one name, ` : K1 K2` for one of two
+abbrev pub second_pieces : List ℕ → List Piece
+second_pieces name = space ∷ Run name ∷ []
 
--- an event, with two spaces before it
-abbrev pub item_pieces : Item → List Piece
-item_pieces (Single e) = space ∷ space ∷ event_pieces e
-item_pieces (Coregion es) = []
+abbrev pub kind_pieces : List (List ℕ) → List Piece
+kind_pieces [] = []
+kind_pieces (name ∷ others) = space ∷ Mark 58 ∷ space ∷ Run name ∷ flat_map second_pieces others
 
--- all statements of an instance
-abbrev pub items_pieces : List Item → List Piece
-items_pieces items = flat_map item_pieces items
+-- a decl: the name, and its kind
+abbrev pub decl_pieces : Decl → List Piece
+decl_pieces d = Run d.name ∷ kind_pieces d.kind
 
--- `instance NAME;`
-abbrev pub section_head : List ℕ → List Piece
-section_head name = word words.Instance ∷ space ∷ Run name ∷ line_end
-
--- the head of a section, its statements, `endinstance;`
-abbrev pub section_pieces : Section → List Piece
-section_pieces s = section_head s.decl.name ++ (items_pieces s.items ++ word words.EndInstance ∷ line_end)
-
--- all sections
-abbrev pub sections_pieces : List Section → List Piece
-sections_pieces sections = flat_map section_pieces sections
-
--- `, NAME`
 abbrev pub next_decl_pieces : Decl → List Piece
-next_decl_pieces d = Mark 44 ∷ space ∷ Run d.name ∷ []
+next_decl_pieces d = Mark 44 ∷ space ∷ decl_pieces d
 
--- `, NAME` for each declared instance behind the first
-abbrev pub decls_pieces : List Decl → List Piece
-decls_pieces decls = flat_map next_decl_pieces decls
-
--- `inst NAME, NAME;` in one line, if there is a declared instance
+-- all decls of the header in one line `inst DECL, DECL, ..;`, and no line where there is none
 abbrev pub header_pieces : List Decl → List Piece
 header_pieces [] = []
-header_pieces (d ∷ ds) = word words.Inst ∷ space ∷ Run d.name ∷ decls_pieces ds ++ line_end
+header_pieces (d ∷ ds) = word Inst ∷ space ∷ decl_pieces d ++ (flat_map next_decl_pieces ds ++ line_end)
 
--- `msc NAME;`, the header, the sections, `endmsc;`
+abbrev pub next_name_pieces : List ℕ → List Piece
+next_name_pieces name = Mark 44 ∷ space ∷ Run name ∷ []
+
+-- `, NUMBER` where there is a message instance name
+abbrev pub number_pieces : Option (List ℕ) → List Piece
+number_pieces None = []
+number_pieces (Some name) = next_name_pieces name
+
+-- `(P1, P2, ..)` where there are parameters
+abbrev pub parameter_pieces : List (List ℕ) → List Piece
+parameter_pieces [] = []
+parameter_pieces (name ∷ others) = Mark 40 ∷ Run name ∷ flat_map next_name_pieces others ++ Mark 41 ∷ []
+
+-- an ident: the message's name, its message instance name and its parameters
+abbrev pub ident_pieces : Signal → List Piece
+ident_pieces e = Run e.name ∷ number_pieces e.number ++ parameter_pieces e.parameters
+
+-- ` to NAME;` or ` from NAME;`
+abbrev pub address_pieces : Signal → List Piece
+address_pieces e = space ∷ word (address_word e.way) ∷ space ∷ Run e.address ∷ line_end
+
+-- `out IDENT to NAME;` or `in IDENT from NAME;`
+abbrev pub event_pieces : Signal → List Piece
+event_pieces e = word (way_word e.way) ∷ space ∷ ident_pieces e ++ address_pieces e
+
+-- four spaces before an event of a coregion
+abbrev pub inner_pieces : Signal → List Piece
+inner_pieces e = space ∷ space ∷ space ∷ space ∷ event_pieces e
+
+-- two spaces before `concurrent;` and before `endconcurrent;`
+abbrev pub coregion_pieces : List Signal → List Piece
+coregion_pieces es = space ∷ space ∷ word Concurrent ∷ line_end ++ (flat_map inner_pieces es ++ (space ∷ space ∷ word EndConcurrent ∷ line_end))
+
+-- two spaces before a single event
+abbrev pub item_pieces : Item → List Piece
+item_pieces (Single e) = space ∷ space ∷ event_pieces e
+item_pieces (Coregion es) = coregion_pieces es
+
+-- `instance DECL;`, the items, and `endinstance;`
+abbrev pub section_pieces : Section → List Piece
+section_pieces s = word Instance ∷ space ∷ decl_pieces s.decl ++ (line_end ++ (flat_map item_pieces s.items ++ (word EndInstance ∷ line_end)))
+
+-- `msc NAME;`, the header, the sections, and `endmsc;`
 abbrev pub printed : Tree → List Piece
-printed t = word words.Msc ∷ space ∷ Run t.name ∷ line_end ++ (header_pieces t.header ++ (sections_pieces t.sections ++ word words.EndMsc ∷ line_end))
+printed t = word Msc ∷ space ∷ Run t.name ∷ line_end ++ (header_pieces t.header ++ (flat_map section_pieces t.sections ++ (word EndMsc ∷ line_end)))
 
 -- the canonical text of a draft
 abbrev pub canonical : Tree → List ℕ
 canonical t = text_of (printed t)
-
--- these pieces were put behind what was written
-abbrev pub HasPut : List ℕ → List ℕ → List Piece → Type 0
-HasPut before after pieces = after ≡ before ++ text_of pieces

@@ -1,6 +1,6 @@
--- What the draft of every text keeps: its names are names that a text can have, and it has no more
--- names and events than the longest text has bytes.
-use Rattle.std.specs.Prelude.{◌≡◌, ◌≤◌, List, [], ◌∷◌, length, None}
+-- What every draft keeps: its names are names that a text can have, and there are no more of its parts
+-- than a text has bytes.
+use Rattle.std.specs.Prelude.{◌≤◌, List, [], ◌∷◌, length, IfSome}
 use Rattle.std.specs.List.{flat_map, AllByRecursion}
 use Rattle.msc_lexer.specs.Lexemes.{IsName}
 use Rattle.msc_parser.specs.declared.tree.Decl.{Decl}
@@ -10,45 +10,41 @@ use Rattle.msc_parser.specs.declared.tree.Item.TheVariants.{Single, Coregion}
 use Rattle.msc_parser.specs.declared.tree.Section.{Section}
 use Rattle.msc_parser.specs.Grammar.{Tree}
 
--- the events of a statement, in the order of the text
-abbrev pub item_signals : Item → List Signal
-item_signals (Single e) = e ∷ []
-item_signals (Coregion es) = es
-
--- the events of all sections, in the order of the text
-abbrev pub signals_of : List Section → List Signal
-signals_of sections = flat_map (λ s. flat_map item_signals s.items) sections
-
--- a declared instance has a name that a text can have, and no kind
-pub record IsDraftDecl (d : Decl) : Type 0 where
+-- a decl of names, with at most two of a kind
+pub record IsDeclNamed (d : Decl) : Type 0 where
   pub name : IsName d.name
-  pub kind : d.kind ≡ []
+  pub kind : AllByRecursion IsName d.kind
+  pub short : length d.kind ≤ 2
 
--- an event has a message name and an address that a text can have, and nothing more
-pub record IsDraftSignal (e : Signal) : Type 0 where
+-- an event of names
+pub record IsSignalNamed (e : Signal) : Type 0 where
   pub name : IsName e.name
+  pub number : IfSome e.number IsName
+  pub parameters : AllByRecursion IsName e.parameters
   pub address : IsName e.address
-  pub number : e.number ≡ None
-  pub parameters : e.parameters ≡ []
 
--- a statement is such an event
-abbrev pub IsDraftItem : Item → Type 0
-IsDraftItem (Single e) = IsDraftSignal e
-IsDraftItem (Coregion es) = ⊥
+-- an item of such events
+abbrev pub IsItemNamed : Item → Type 0
+IsItemNamed (Single e) = IsSignalNamed e
+IsItemNamed (Coregion es) = AllByRecursion IsSignalNamed es
 
--- a section is such an instance with such statements
-pub record IsDraftSection (s : Section) : Type 0 where
-  pub decl : IsDraftDecl s.decl
-  pub items : AllByRecursion IsDraftItem s.items
+-- a section of such items
+pub record IsSectionNamed (s : Section) : Type 0 where
+  pub decl : IsDeclNamed s.decl
+  pub items : AllByRecursion IsItemNamed s.items
 
--- all names of the tree are names that a text can have
-pub record HasDraftNames (t : Tree) : Type 0 where
-  pub name : IsName t.name
-  pub header : AllByRecursion IsDraftDecl t.header
-  pub sections : AllByRecursion IsDraftSection t.sections
+-- the events of an item, and of all sections in the order of the text
+abbrev pub signals_in : Item → List Signal
+signals_in (Single e) = e ∷ []
+signals_in (Coregion es) = es
 
--- what the draft of every text keeps
+abbrev pub signals_of : List Section → List Signal
+signals_of ss = flat_map (λ s. flat_map signals_in s.items) ss
+
+-- what every draft keeps; a text has at most 1048576 bytes, and each name and event takes one at least
 pub record IsDraft (t : Tree) : Type 0 where
-  pub names : HasDraftNames t
+  pub name : IsName t.name
+  pub header : AllByRecursion IsDeclNamed t.header
   pub few_decls : length t.header ≤ 1048576
+  pub sections : AllByRecursion IsSectionNamed t.sections
   pub few_signals : length (signals_of t.sections) ≤ 1048576

@@ -1,10 +1,12 @@
--- The grammar of a chart's text (this project's profile of MSC/PR, ITU-T Z.120), one relation for
--- each kind of part. `X before x after` says that the tokens `before` begin with the part x, and that
--- the tokens `after` follow it.
-use Rattle.std.specs.Prelude.{◌≡◌, ℕ, List, [], ◌∷◌, None}
+-- The grammar of charts, one relation for each line of its table (this project's profile of MSC/PR,
+-- ITU-T Z.120). `X before x after` says that the tokens `before` begin with the part x, and that the
+-- tokens `after` follow it.
+use Rattle.std.specs.Prelude.{◌≡◌, ℕ, List, [], ◌∷◌, Option, Some, None}
 use Rattle.std.specs.List.{flat_map}
 use Rattle.msc_lexer.specs.declared.word.Word.{Word}
-use Rattle.msc_lexer.specs.declared.word.Word.TheVariants.{Msc, EndMsc, Inst, Instance, EndInstance, Input, From, Output, To}
+use Rattle.msc_lexer.specs.declared.word.Word.TheVariants.{Msc, EndMsc, Inst, Instance, EndInstance, Input, From, Output, To, Concurrent, EndConcurrent, Comment}
+use Rattle.msc_lexer.specs.Lexemes.{Symbol, Reserved, Named, Quoted, Semicolon, Comma, Colon, LeftParen, RightParen, Lexeme}
+use Rattle.msc_parser.specs.Forms.{IsToken, IsNamed, AreMany, IsBehind, AreListed}
 use Rattle.msc_parser.specs.declared.tree.Way.{Way}
 use Rattle.msc_parser.specs.declared.tree.Way.TheVariants as ways
 use Rattle.msc_parser.specs.declared.tree.Decl.{Decl}
@@ -12,95 +14,115 @@ use Rattle.msc_parser.specs.declared.tree.Signal.{Signal}
 use Rattle.msc_parser.specs.declared.tree.Item.{Item}
 use Rattle.msc_parser.specs.declared.tree.Item.TheVariants.{Single, Coregion}
 use Rattle.msc_parser.specs.declared.tree.Section.{Section}
-use Rattle.msc_lexer.specs.Lexemes.{Symbol, Reserved, Named, Semicolon, Comma, Lexeme}
 
--- a draft: the tree of names of a chart's text
+-- a draft: the names of a chart
 pub record Tree : Type 0 where
   pub name : List ℕ
   pub header : List Decl
   pub sections : List Section
 
--- the draft of these parts
-abbrev pub tree : List ℕ → List Decl → List Section → Tree
-tree name header sections = record { name = name; header = header; sections = sections }
+-- the end of a statement: `;`, or `comment`, a text and `;`
+pub data IsEnd (before after : List Lexeme) : Type 0 where
+  Plain : IsToken Semicolon before after → IsEnd before after
+  Commented : (bytes : List ℕ) (text close : List Lexeme) → IsToken (Reserved Comment) before text → IsToken (Quoted bytes) text close → IsToken Semicolon close after → IsEnd before after
 
--- one token, wherever it stands
-abbrev pub IsToken : Symbol → List Lexeme → List Lexeme → Type 0
-IsToken s before after = (place : ℕ) × (before ≡ record { symbol = s; place = place } ∷ after)
+-- no second name of a kind, or one
+abbrev pub IsSecond : List Lexeme → List (List ℕ) → List Lexeme → Type 0
+IsSecond before [] after = before ≡ after
+IsSecond before (second ∷ []) after = IsToken (Named second) before after
+IsSecond before (second ∷ third ∷ others) after = ⊥
 
--- any number of parts, one after the other
-abbrev pub AreMany : {X : Type 0} → (List Lexeme → X → List Lexeme → Type 0) → List Lexeme → List X → List Lexeme → Type 0
-AreMany IsPart before [] after = before ≡ after
-AreMany IsPart before (x ∷ xs) after = (next : List Lexeme) × IsPart before x next × AreMany IsPart next xs after
+-- no kind, or `:` and one name or two
+abbrev pub IsKind : List Lexeme → List (List ℕ) → List Lexeme → Type 0
+IsKind before [] after = before ≡ after
+IsKind before (first ∷ others) after = (name second : List Lexeme) × IsToken Colon before name × IsToken (Named first) name second × IsSecond second others after
 
--- the end of a statement: `;`
-abbrev pub IsEnd : List Lexeme → List Lexeme → Type 0
-IsEnd before after = IsToken Semicolon before after
-
--- a declared instance: a name
+-- a decl: a name, and a kind if there is one
 abbrev pub IsDecl : List Lexeme → Decl → List Lexeme → Type 0
-IsDecl before d after = (d.kind ≡ []) × IsToken (Named d.name) before after
+IsDecl before d after = (kind : List Lexeme) × IsToken (Named d.name) before kind × IsKind kind d.kind after
 
--- the word that an event begins with: `out` or `in`
+-- the word of a way, and the word before its address
 abbrev pub way_word : Way → Word
 way_word ways.Output = Output
 way_word ways.Input = Input
 
--- the word before the address: `to` of an output, `from` of an input
 abbrev pub address_word : Way → Word
 address_word ways.Output = To
 address_word ways.Input = From
 
--- what names a message: its name
-abbrev pub IsIdent : List Lexeme → Signal → List Lexeme → Type 0
-IsIdent before e after = (e.number ≡ None) × (e.parameters ≡ []) × IsToken (Named e.name) before after
+-- no message instance name, or a comma and one
+abbrev pub IsNumber : List Lexeme → Option (List ℕ) → List Lexeme → Type 0
+IsNumber before None after = before ≡ after
+IsNumber before (Some number) after = IsBehind Comma IsNamed before number after
 
--- an event: `out` message `to` name end, or `in` message `from` name end
-pub record IsEvent (before : List Lexeme) (e : Signal) (after : List Lexeme) : Type 0 where
-  pub ident : List Lexeme
+-- no parameters, in no parentheses or in empty ones; or names in parentheses
+pub data AreParameters (before : List Lexeme) (ps : List (List ℕ)) (after : List Lexeme) : Type 0 where
+  Absent : ps ≡ [] → before ≡ after → AreParameters before ps after
+  Empty : (close : List Lexeme) → ps ≡ [] → IsToken LeftParen before close → IsToken RightParen close after → AreParameters before ps after
+  Listed : (names close : List Lexeme) → IsToken LeftParen before names → AreListed IsNamed names ps close → IsToken RightParen close after → AreParameters before ps after
+
+-- an ident: the message's name, its message instance name and its parameters
+pub record IsIdent (before : List Lexeme) (e : Signal) (after : List Lexeme) : Type 0 where
+  pub number : List Lexeme
+  pub parameters : List Lexeme
+  pub is_name : IsToken (Named e.name) before number
+  pub is_number : IsNumber number e.number parameters
+  pub are_parameters : AreParameters parameters e.parameters after
+
+-- an event behind its first word
+pub record IsSignal (before : List Lexeme) (e : Signal) (after : List Lexeme) : Type 0 where
   pub word : List Lexeme
   pub address : List Lexeme
   pub close : List Lexeme
-  pub is_way : IsToken (Reserved (way_word e.way)) before ident
-  pub is_ident : IsIdent ident e word
+  pub is_ident : IsIdent before e word
   pub is_word : IsToken (Reserved (address_word e.way)) word address
   pub is_address : IsToken (Named e.address) address close
   pub is_end : IsEnd close after
 
--- a statement of an instance: an event
+-- an event: `out` ident `to` name end, or `in` ident `from` name end
+abbrev pub IsEvent : List Lexeme → Signal → List Lexeme → Type 0
+IsEvent before e after = IsBehind (Reserved (way_word e.way)) IsSignal before e after
+
+-- a coregion behind its first word: end, events, `endconcurrent` end
+pub record IsCoregion (before : List Lexeme) (es : List Signal) (after : List Lexeme) : Type 0 where
+  pub events : List Lexeme
+  pub last : List Lexeme
+  pub close : List Lexeme
+  pub is_end : IsEnd before events
+  pub are_events : AreMany IsEvent events es last
+  pub is_endconcurrent : IsToken (Reserved EndConcurrent) last close
+  pub is_last_end : IsEnd close after
+
+-- a statement of a section: an event or a coregion
 abbrev pub IsItem : List Lexeme → Item → List Lexeme → Type 0
 IsItem before (Single e) after = IsEvent before e after
-IsItem before (Coregion es) after = ⊥
+IsItem before (Coregion es) after = IsBehind (Reserved Concurrent) IsCoregion before es after
 
--- a section: `instance` name end, statements, `endinstance` end
-pub record IsSection (before : List Lexeme) (s : Section) (after : List Lexeme) : Type 0 where
-  pub decl : List Lexeme
+-- a section behind its first word: decl, end, items, `endinstance` end
+pub record IsInstance (before : List Lexeme) (s : Section) (after : List Lexeme) : Type 0 where
   pub close : List Lexeme
   pub items : List Lexeme
   pub last : List Lexeme
   pub last_close : List Lexeme
-  pub is_instance : IsToken (Reserved Instance) before decl
-  pub is_decl : IsDecl decl s.decl close
+  pub is_decl : IsDecl before s.decl close
   pub is_end : IsEnd close items
   pub are_items : AreMany IsItem items s.items last
   pub is_endinstance : IsToken (Reserved EndInstance) last last_close
   pub is_last_end : IsEnd last_close after
 
--- a comma and one more declared instance
-abbrev pub IsNextDecl : List Lexeme → Decl → List Lexeme → Type 0
-IsNextDecl before d after = (decl : List Lexeme) × IsToken Comma before decl × IsDecl decl d after
+-- a section: `instance` and what follows
+abbrev pub IsSection : List Lexeme → Section → List Lexeme → Type 0
+IsSection before s after = IsBehind (Reserved Instance) IsInstance before s after
 
--- one `inst` statement, with at least one declared instance
-abbrev pub IsInst : List Lexeme → List Decl → List Lexeme → Type 0
-IsInst before [] after = ⊥
-IsInst before (d ∷ ds) after =
-    (decl more close : List Lexeme) × IsToken (Reserved Inst) before decl × IsDecl decl d more × AreMany IsNextDecl more ds close × IsEnd close after
+-- an `inst` statement behind its first word: decls and end
+abbrev pub AreDecls : List Lexeme → List Decl → List Lexeme → Type 0
+AreDecls before ds after = (close : List Lexeme) × AreListed IsDecl before ds close × IsEnd close after
 
--- `inst` statements, of which the declared instances form one list
+-- the decls of all `inst` statements
 abbrev pub IsHeader : List Lexeme → List Decl → List Lexeme → Type 0
-IsHeader before ds after = (groups : List (List Decl)) × (ds ≡ flat_map (λ g. g) groups) × AreMany IsInst before groups after
+IsHeader before ds after = (groups : List (List Decl)) × (ds ≡ flat_map (λ g. g) groups) × AreMany (IsBehind (Reserved Inst) AreDecls) before groups after
 
--- a chart: `msc` name end, `inst` statements, sections, `endmsc` end, and nothing behind it
+-- a chart: `msc` name end, the header, the sections, `endmsc` end, and then nothing
 pub record IsChart (before : List Lexeme) (t : Tree) : Type 0 where
   pub name : List Lexeme
   pub close : List Lexeme

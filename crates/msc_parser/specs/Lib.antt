@@ -1,5 +1,6 @@
-pub mod Grammar
 pub mod Places
+pub mod Forms
+pub mod Grammar
 pub mod Parsing
 pub mod Reading
 pub mod Canonical

@@ -1,14 +1,40 @@
--- The draft of a text, its first fault, and what parsing answers.
-use Rattle.std.specs.Prelude.{◌≡◌, ◌⊎◌, ℕ, List, [], ◌∷◌, ◌++◌, length, Result, Ok, Err}
+-- The draft of a text, its first fault, and what is answered (this project's profile of MSC/PR, ITU-T
+-- Z.120).
+use Rattle.std.specs.Prelude.{◌≡◌, ◌⊎◌, ℕ, Bool, true, false, List, [], ◌∷◌, ◌++◌, length, Result, Ok, Err, if◌then◌else◌}
+use Rattle.msc_lexer.specs.declared.word.Word.{Word}
+use Rattle.msc_lexer.specs.declared.word.Word.TheVariants.{Env, Action, Condition, Set, Reset, Timeout, Create, Stop}
 use Rattle.msc_lexer.specs.declared.token.Token.{Token}
-use Rattle.msc_lexer.specs.Lexemes.{Lexeme, lexemes}
+use Rattle.msc_lexer.specs.Lexemes.{Symbol, Reserved, Lexeme, lexemes}
 use Rattle.msc_lexer.specs.Lexing.{HasTokens, HasFault}
+use Rattle.msc_parser.specs.declared.fault.What.{What}
 use Rattle.msc_parser.specs.declared.fault.ParseFault.{ParseFault}
-use Rattle.msc_parser.specs.declared.fault.ParseFault.TheVariants as faults
+use Rattle.msc_parser.specs.declared.fault.ParseFault.TheVariants.{Lex, Unsupported, Expected, Memory}
 use Rattle.msc_parser.specs.Grammar.{Tree, IsChart}
-use Rattle.msc_parser.specs.Places.{Start, what, walk, fault_at}
+use Rattle.msc_parser.specs.Places.{Start, what, walk}
 
--- the text has tokens that are the chart of this draft
+-- the reserved words that no chart of the profile has
+abbrev pub is_refused : Word → Bool
+is_refused Env = true
+is_refused Action = true
+is_refused Condition = true
+is_refused Set = true
+is_refused Reset = true
+is_refused Timeout = true
+is_refused Create = true
+is_refused Stop = true
+is_refused w = false
+
+-- the fault where something else was expected than this symbol: a refused word is told as such
+abbrev pub refused_at : ℕ → What → Symbol → ParseFault
+refused_at at w (Reserved word) = if is_refused word then Unsupported at word else Expected at w
+refused_at at w symbol = Expected at w
+
+-- the fault where something else was expected than these tokens, in a text of so many bytes
+abbrev pub fault_at : ℕ → What → List Lexeme → ParseFault
+fault_at len w [] = Expected len w
+fault_at len w (l ∷ ls) = refused_at l.place w l.symbol
+
+-- the text has tokens that are this chart
 abbrev pub HasDraft : List ℕ → Tree → Type 0
 HasDraft text t = (tokens : List Token) × HasTokens text tokens × IsChart (lexemes text tokens) t
 
@@ -16,13 +42,13 @@ HasDraft text t = (tokens : List Token) × HasTokens text tokens × IsChart (lex
 abbrev pub IsContinuable : List Lexeme → Type 0
 IsContinuable front = (more : List Lexeme) × (t : Tree) × IsChart (front ++ more) t
 
--- the tokens `front` can go on, and not with what stands behind them
+-- no chart begins with `front` and the next token behind it, or, where none is left, `front` is none
 abbrev pub IsEndOfGood : List Lexeme → List Lexeme → Type 0
 IsEndOfGood front [] = (t : Tree) → IsChart front t → ⊥
 IsEndOfGood front (l ∷ ls) = IsContinuable (front ++ l ∷ []) → ⊥
 
--- the fault at the first token that continues no chart, or at the end of a text that ends too
--- early: what stands there is told by the place to which the tokens before it lead
+-- The first grammar fault of a text: it stands behind the tokens `front` that some chart begins with,
+-- before the first token that no such chart goes on with, and tells what their place expects.
 pub record IsGrammarFault (text : List ℕ) (fault : ParseFault) : Type 0 where
   pub tokens : List Token
   pub front : List Lexeme
@@ -33,23 +59,24 @@ pub record IsGrammarFault (text : List ℕ) (fault : ParseFault) : Type 0 where
   pub last : IsEndOfGood front rest
   pub fault_is : fault ≡ fault_at (length text) (what (walk Start front).0) rest
 
--- the first fault of a text: its lexical fault, or else its grammar fault
+-- the first fault of a text: the lexical one, and where there is none that of the grammar
 abbrev pub HasParseFault : List ℕ → ParseFault → Type 0
-HasParseFault text faults.Memory = ⊥
-HasParseFault text (faults.Lex f) = HasFault text f
-HasParseFault text fault = IsGrammarFault text fault
+HasParseFault text Memory = ⊥
+HasParseFault text (Lex f) = HasFault text f
+HasParseFault text (Unsupported at w) = IsGrammarFault text (Unsupported at w)
+HasParseFault text (Expected at w) = IsGrammarFault text (Expected at w)
 
 -- what is answered where the text is this chart
 abbrev pub IsDraftOrMemory : Tree → Result Tree ParseFault → Type 0
 IsDraftOrMemory t (Ok d) = d ≡ t
-IsDraftOrMemory t (Err e) = e ≡ faults.Memory
+IsDraftOrMemory t (Err e) = e ≡ Memory
 
 -- what is answered where the text has this fault
 abbrev pub IsFaultOrMemory : ParseFault → Result Tree ParseFault → Type 0
 IsFaultOrMemory f (Ok d) = ⊥
-IsFaultOrMemory f (Err e) = (e ≡ f) ⊎ (e ≡ faults.Memory)
+IsFaultOrMemory f (Err e) = (e ≡ f) ⊎ (e ≡ Memory)
 
--- A list of tokens is the text of at most one draft.
+-- A list of tokens is at most one draft.
 abbrev pub OneDraft : Type 0
 OneDraft = (ls : List Lexeme) (t u : Tree) → IsChart ls t → IsChart ls u → t ≡ u
 

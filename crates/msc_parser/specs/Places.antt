@@ -1,113 +1,137 @@
--- What stands at each place: which tokens may follow there (this project's profile of MSC/PR, ITU-T
--- Z.120), and what an error there says was expected.
-use Rattle.std.specs.Prelude.{ℕ, List, [], ◌∷◌, Option, Some, None, Bool, true, false, if◌then◌else◌}
+-- What may stand at each place of a text, what an error there says was expected, and which fault a
+-- list of tokens has (this project's profile of MSC/PR, ITU-T Z.120).
+use Rattle.std.specs.Prelude.{List, [], ◌∷◌, Option, Some, None}
 use Rattle.std.specs.Option.{option_map_or}
-use Rattle.msc_lexer.specs.declared.word.Word.{Word}
 use Rattle.msc_lexer.specs.declared.word.Word.TheVariants as words
+use Rattle.msc_lexer.specs.Lexemes.{Symbol, Reserved, Named, Quoted, Semicolon, Comma, Colon, LeftParen, RightParen, Lexeme}
 use Rattle.msc_parser.specs.declared.tree.Way.{Way}
 use Rattle.msc_parser.specs.declared.tree.Way.TheVariants as ways
 use Rattle.msc_parser.specs.declared.fault.What.{What}
 use Rattle.msc_parser.specs.declared.fault.What.TheVariants as whats
-use Rattle.msc_parser.specs.declared.fault.ParseFault.{ParseFault}
-use Rattle.msc_parser.specs.declared.fault.ParseFault.TheVariants as faults
-use Rattle.msc_lexer.specs.Lexemes.{Symbol, Reserved, Named, Semicolon, Comma, Lexeme}
 
--- the places of a text, told by what was read before them
+-- the statement in which a decl stands
+pub data Statement : Type 0 where
+  InInst : Statement
+  InInstance : Statement
+
+-- A place between two tokens. Where a statement ends at several places, the place behind its `;` is
+-- told with it.
 pub data Place : Type 0 where
   Start : Place  -- the start of the text
   ChartName : Place  -- after `msc`
-  ChartEnd : Place  -- after the chart's name
   Header : Place  -- after the chart's head or an `inst` statement
-  InstName : Place  -- after `inst`, or a comma there
-  InstDecl : Place  -- after a name in `inst`
   Sections : Place  -- after a section
-  SectionName : Place  -- after `instance`
-  SectionEnd : Place  -- after the name in `instance`
   Items : Place  -- at the beginning of a statement in a section
-  Message : Way → Place  -- after `out` or `in`
-  Partner : Way → Place  -- after the message name
-  Address : Way → Place  -- after `to` or `from`
-  EventEnd : Place  -- after the address
-  InstanceEnd : Place  -- after `endinstance`
-  ChartLast : Place  -- after `endmsc`
+  Events : Place  -- at the beginning of a statement in a coregion
+  DeclName : Statement → Place  -- after `inst` or a comma there, or after `instance`
+  DeclKind : Statement → Place  -- after the name of a decl
+  KindFirst : Statement → Place  -- after the `:` of a kind
+  KindSecond : Statement → Place  -- after the first name of a kind
+  DeclEnd : Statement → Place  -- after the second name of a kind
+  Message : Way → Place → Place  -- after `out` or `in`
+  AfterMessage : Way → Place → Place  -- after the message name
+  Number : Way → Place → Place  -- after the comma behind the message name
+  AfterNumber : Way → Place → Place  -- after the message instance name
+  Parameters : Way → Place → Place  -- after `(`
+  Parameter : Way → Place → Place  -- after a comma between parameters
+  AfterParameter : Way → Place → Place  -- after a parameter
+  AfterParameters : Way → Place → Place  -- after `)`
+  Address : Place → Place  -- after `to` or `from`
+  End : Place → Place  -- at the end of a statement
+  CommentText : Place → Place  -- after `comment`
+  CommentEnd : Place → Place  -- after the text of a comment
   Done : Place  -- after the whole chart
+
+-- the place behind the `;` of a statement with decls
+abbrev pub behind : Statement → Place
+behind InInst = Header
+behind InInstance = Items
 
 -- the place behind a token that may stand at a place
 abbrev pub next : Place → Symbol → Option Place
 next Start (Reserved words.Msc) = Some ChartName
-next ChartName (Named n) = Some ChartEnd
-next ChartEnd Semicolon = Some Header
-next Header (Reserved words.Inst) = Some InstName
-next Header (Reserved words.Instance) = Some SectionName
-next Header (Reserved words.EndMsc) = Some ChartLast
-next InstName (Named n) = Some InstDecl
-next InstDecl Comma = Some InstName
-next InstDecl Semicolon = Some Header
-next Sections (Reserved words.Instance) = Some SectionName
-next Sections (Reserved words.EndMsc) = Some ChartLast
-next SectionName (Named n) = Some SectionEnd
-next SectionEnd Semicolon = Some Items
-next Items (Reserved words.Output) = Some (Message ways.Output)
-next Items (Reserved words.Input) = Some (Message ways.Input)
-next Items (Reserved words.EndInstance) = Some InstanceEnd
-next (Message way) (Named n) = Some (Partner way)
-next (Partner ways.Output) (Reserved words.To) = Some (Address ways.Output)
-next (Partner ways.Input) (Reserved words.From) = Some (Address ways.Input)
-next (Address way) (Named n) = Some EventEnd
-next EventEnd Semicolon = Some Items
-next InstanceEnd Semicolon = Some Sections
-next ChartLast Semicolon = Some Done
+next ChartName (Named n) = Some (End Header)
+next Header (Reserved words.Inst) = Some (DeclName InInst)
+next Header (Reserved words.Instance) = Some (DeclName InInstance)
+next Header (Reserved words.EndMsc) = Some (End Done)
+next Sections (Reserved words.Instance) = Some (DeclName InInstance)
+next Sections (Reserved words.EndMsc) = Some (End Done)
+next Items (Reserved words.Output) = Some (Message ways.Output Items)
+next Items (Reserved words.Input) = Some (Message ways.Input Items)
+next Items (Reserved words.Concurrent) = Some (End Events)
+next Items (Reserved words.EndInstance) = Some (End Sections)
+next Events (Reserved words.Output) = Some (Message ways.Output Events)
+next Events (Reserved words.Input) = Some (Message ways.Input Events)
+next Events (Reserved words.EndConcurrent) = Some (End Items)
+next (DeclName st) (Named n) = Some (DeclKind st)
+next (DeclKind st) Colon = Some (KindFirst st)
+next (DeclKind InInst) Comma = Some (DeclName InInst)
+next (DeclKind st) (Reserved words.Comment) = Some (CommentText (behind st))
+next (DeclKind st) Semicolon = Some (behind st)
+next (KindFirst st) (Named n) = Some (KindSecond st)
+next (KindSecond st) (Named n) = Some (DeclEnd st)
+next (KindSecond InInst) Comma = Some (DeclName InInst)
+next (KindSecond st) (Reserved words.Comment) = Some (CommentText (behind st))
+next (KindSecond st) Semicolon = Some (behind st)
+next (DeclEnd InInst) Comma = Some (DeclName InInst)
+next (DeclEnd st) (Reserved words.Comment) = Some (CommentText (behind st))
+next (DeclEnd st) Semicolon = Some (behind st)
+next (Message way p) (Named n) = Some (AfterMessage way p)
+next (AfterMessage way p) Comma = Some (Number way p)
+next (AfterMessage way p) LeftParen = Some (Parameters way p)
+next (AfterMessage ways.Output p) (Reserved words.To) = Some (Address p)
+next (AfterMessage ways.Input p) (Reserved words.From) = Some (Address p)
+next (Number way p) (Named n) = Some (AfterNumber way p)
+next (AfterNumber way p) LeftParen = Some (Parameters way p)
+next (AfterNumber ways.Output p) (Reserved words.To) = Some (Address p)
+next (AfterNumber ways.Input p) (Reserved words.From) = Some (Address p)
+next (Parameters way p) (Named n) = Some (AfterParameter way p)
+next (Parameters way p) RightParen = Some (AfterParameters way p)
+next (Parameter way p) (Named n) = Some (AfterParameter way p)
+next (AfterParameter way p) Comma = Some (Parameter way p)
+next (AfterParameter way p) RightParen = Some (AfterParameters way p)
+next (AfterParameters ways.Output p) (Reserved words.To) = Some (Address p)
+next (AfterParameters ways.Input p) (Reserved words.From) = Some (Address p)
+next (Address p) (Named n) = Some (End p)
+next (End p) (Reserved words.Comment) = Some (CommentText p)
+next (End p) Semicolon = Some p
+next (CommentText p) (Quoted bytes) = Some (CommentEnd p)
+next (CommentEnd p) Semicolon = Some p
 next place symbol = None
+
+-- what is expected before the address of an event
+abbrev pub address_what : Way → What
+address_what ways.Output = whats.To
+address_what ways.Input = whats.From
 
 -- what an error at a place says was expected
 abbrev pub what : Place → What
 what Start = whats.Msc
 what ChartName = whats.Name
-what ChartEnd = whats.End
 what Header = whats.Section
-what InstName = whats.Name
-what InstDecl = whats.End
 what Sections = whats.Section
-what SectionName = whats.Name
-what SectionEnd = whats.End
 what Items = whats.Item
-what (Message way) = whats.Name
-what (Partner ways.Output) = whats.To
-what (Partner ways.Input) = whats.From
-what (Address way) = whats.Name
-what EventEnd = whats.End
-what InstanceEnd = whats.End
-what ChartLast = whats.End
+what Events = whats.Event
+what (DeclName st) = whats.Name
+what (DeclKind st) = whats.End
+what (KindFirst st) = whats.Name
+what (KindSecond st) = whats.End
+what (DeclEnd st) = whats.End
+what (Message way p) = whats.Name
+what (AfterMessage way p) = address_what way
+what (Number way p) = whats.Name
+what (AfterNumber way p) = address_what way
+what (Parameters way p) = whats.Parameter
+what (Parameter way p) = whats.Name
+what (AfterParameter way p) = whats.Parameter
+what (AfterParameters way p) = address_what way
+what (Address p) = whats.Name
+what (End p) = whats.End
+what (CommentText p) = whats.Text
+what (CommentEnd p) = whats.End
 what Done = whats.Nothing
 
 -- where the tokens stop to be what may stand there: the place, and the tokens from there on
 abbrev pub walk : Place → List Lexeme → Place × List Lexeme
 walk place [] = (place, [])
 walk place (l ∷ ls) = option_map_or (λ after. walk after ls) (next place l.symbol) (place, l ∷ ls)
-
--- the reserved words that the profile refuses
-abbrev pub is_refused : Word → Bool
-is_refused words.Env = true
-is_refused words.Action = true
-is_refused words.Condition = true
-is_refused words.Set = true
-is_refused words.Reset = true
-is_refused words.Timeout = true
-is_refused words.Create = true
-is_refused words.Stop = true
-is_refused w = false
-
--- the fault of an error at a symbol: a refused word is told as such
-abbrev pub refused_at : ℕ → What → Symbol → ParseFault
-refused_at at w (Reserved word) = if is_refused word then faults.Unsupported at word else faults.Expected at w
-refused_at at w symbol = faults.Expected at w
-
--- the fault of an error before these tokens, in a text of so many bytes
-abbrev pub fault_at : ℕ → What → List Lexeme → ParseFault
-fault_at len w [] = faults.Expected len w
-fault_at len w (l ∷ ls) = refused_at l.place w l.symbol
-
--- the fault of a walk that ended there, if it did not reach the end of a whole chart
-abbrev pub fault_of : ℕ → Place × List Lexeme → Option ParseFault
-fault_of len (Done, []) = None
-fault_of len (place, rest) = Some (fault_at len (what place) rest)

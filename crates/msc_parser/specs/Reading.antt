@@ -1,122 +1,103 @@
--- What the parser's own functions answer. Each takes a text and the tokens of it that are still to
--- be read, and answers a part with the tokens behind it, or the first fault.
-use Rattle.std.specs.Prelude.{◌≡◌, ◌≢◌, ℕ, ◌<◌, List, [], ◌∷◌, length, Option, Some, None, Result, Ok, Err}
+-- What the functions answer that read a text's tokens. Each reads a part at a place, and answers the
+-- part and the tokens behind it, or the first fault from that place on.
+use Rattle.std.specs.Prelude.{◌≡◌, ◌≢◌, ℕ, ◌<◌, ◌≤◌, List, [], ◌∷◌, length, Option, Some, None, Result, Ok, Err}
 use Rattle.std.specs.Borrow.{Bor}
-use Rattle.std.specs.Global.{Vec}
-use Rattle.msc_lexer.specs.declared.word.Word.{Word}
-use Rattle.msc_lexer.specs.declared.word.Word.TheVariants as words
 use Rattle.msc_lexer.specs.declared.token.Kind.{Kind}
 use Rattle.msc_lexer.specs.declared.token.Kind.TheVariants as kinds
 use Rattle.msc_lexer.specs.declared.token.Token.{Token}
-use Rattle.msc_lexer.specs.Lexemes.{Symbol, Reserved, Named, Lexeme, lexemes, symbol_of, AreWithin}
+use Rattle.msc_lexer.specs.Lexemes.{Symbol, Named, Lexeme, lexemes, symbol_of, AreWithin}
 use Rattle.msc_parser.specs.declared.tree.Way.{Way}
-use Rattle.msc_parser.specs.declared.tree.Decl.{Decl}
 use Rattle.msc_parser.specs.declared.tree.Signal.{Signal}
-use Rattle.msc_parser.specs.declared.tree.Item.{Item}
-use Rattle.msc_parser.specs.declared.tree.Section.{Section}
 use Rattle.msc_parser.specs.declared.fault.What.{What}
-use Rattle.msc_parser.specs.declared.fault.What.TheVariants as whats
 use Rattle.msc_parser.specs.declared.fault.ParseFault.{ParseFault}
-use Rattle.msc_parser.specs.declared.fault.ParseFault.TheVariants as faults
-use Rattle.msc_parser.specs.Grammar.{Tree, IsToken, AreMany, IsEnd, IsIdent, IsItem, IsDecl, IsNextDecl, IsSection, IsHeader, IsChart, address_word}
-use Rattle.msc_parser.specs.Places.{Place, Start, walk, fault_at, fault_of}
+use Rattle.msc_parser.specs.declared.fault.ParseFault.TheVariants.{Memory}
+use Rattle.msc_parser.specs.Forms.{IsToken, AreMany}
+use Rattle.msc_parser.specs.Grammar.{Tree, IsEnd, IsSignal, IsChart}
+use Rattle.msc_parser.specs.Places.{Place, Start, End, Done, what, walk}
+use Rattle.msc_parser.specs.Parsing.{fault_at}
 
--- the kind of the first token, if there is one
+-- the kind of the first token
 abbrev pub first_kind : List Token → Option Kind
 first_kind [] = None
 first_kind (t ∷ ts) = Some t.kind
 
--- the first token is this word
-abbrev pub BeginsWith : List Token → Word → Type 0
-BeginsWith tokens word = first_kind tokens ≡ Some (kinds.Word word)
+-- the fault of a walk that ended so, in a text of so many bytes: none at the end of a chart
+abbrev pub fault_of : ℕ → Place × List Lexeme → Option ParseFault
+fault_of len (Done, []) = None
+fault_of len (place, rest) = Some (fault_at len (what place) rest)
 
--- a kind of which all tokens are the same symbol: neither a name nor a text
-abbrev pub IsPlain : Kind → Type 0
-IsPlain kinds.Name = ⊥
-IsPlain kinds.Text = ⊥
-IsPlain kind = Unit {0}
+-- the first fault of the tokens from a place on
+unfoldable pub fault_from : List ℕ → Place → List Token → Option ParseFault
+fault_from text place tokens = fault_of (length text) (walk place (lexemes text tokens))
 
--- the part was read, and something is used up
-pub record DidRead {X : Type 0} (text : List ℕ) (IsPart : List Lexeme → X → List Lexeme → Type 0) (before after : List Token) (x : X) : Type 0 where
-  pub part : IsPart (lexemes text before) x (lexemes text after)
+-- want of memory, or the first fault from a place on
+abbrev pub Stops : List ℕ → Place → List Token → ParseFault → Type 0
+Stops text place before Memory = Unit {0}
+Stops text place before fault = Some fault ≡ fault_from text place before
+
+-- a token of this symbol was taken
+pub record DidTake (text : List ℕ) (s : Symbol) (before after : List Token) : Type 0 where
+  pub part : IsToken s (lexemes text before) (lexemes text after)
   pub within : AreWithin text after
   pub shorter : length after < length before
 
--- want of memory, or the first fault behind a place
-abbrev pub Stops : List ℕ → Place → List Token → ParseFault → Type 0
-Stops text place before faults.Memory = Unit {0}
-Stops text place before fault = Some fault ≡ fault_of (length text) (walk place (lexemes text before))
+-- something else was expected, since no token of this kind stands first
+abbrev pub Refuses : List ℕ → Kind → What → List Token → ParseFault → Type 0
+Refuses text kind w before e = (e ≡ fault_at (length text) w (lexemes text before)) × (first_kind before ≢ Some kind)
 
--- what reading a part at a place answers: the part and the tokens behind it, or the first fault
-abbrev pub Reads : {X : Type 0} → List ℕ → (List Lexeme → X → List Lexeme → Type 0) → Place → List Token → Result (X × Bor (List Token)) ParseFault → Type 0
-Reads text IsPart place before (Ok x) = DidRead text IsPart before x.1.now x.0
-Reads text IsPart place before (Err e) = Stops text place before e
-
--- one token and no value
-abbrev pub IsTokenOnly : Symbol → List Lexeme → Unit {0} → List Lexeme → Type 0
-IsTokenOnly s before x after = IsToken s before after
-
--- what taking one token answers
+-- what taking a token of a kind answers
 abbrev pub Takes : List ℕ → Kind → What → List Token → Result (Bor (List Token)) ParseFault → Type 0
-Takes text kind w before (Ok after) = DidRead text (IsTokenOnly (symbol_of kind [])) before after.now tt
-Takes text kind w before (Err e) = (e ≡ fault_at (length text) w (lexemes text before)) × (first_kind before ≢ Some kind)
-
--- one token that is a name
-abbrev pub IsNameToken : List Lexeme → List ℕ → List Lexeme → Type 0
-IsNameToken before name after = IsToken (Named name) before after
+Takes text kind w before (Ok after) = (bytes : List ℕ) × DidTake text (symbol_of kind bytes) before after.now
+Takes text kind w before (Err e) = Refuses text kind w before e
 
 -- what taking a name answers
-abbrev pub TakesName : List ℕ → List Token → Result (List ℕ × Bor (List Token)) ParseFault → Type 0
-TakesName text before (Ok x) = DidRead text IsNameToken before x.1.now x.0
-TakesName text before (Err faults.Memory) = Unit {0}
-TakesName text before (Err e) = (e ≡ fault_at (length text) whats.Name (lexemes text before)) × (first_kind before ≢ Some kinds.Name)
+abbrev pub TakesName : List ℕ → What → List Token → Result (List ℕ × Bor (List Token)) ParseFault → Type 0
+TakesName text w before (Ok x) = DidTake text (Named x.0) before x.1.now
+TakesName text w before (Err Memory) = Unit {0}
+TakesName text w before (Err e) = Refuses text kinds.Name w before e
 
--- what seeing the end of a text answers
-abbrev pub TakesNothing : List ℕ → List Token → Result Unit ParseFault → Type 0
-TakesNothing text before (Ok x) = before ≡ []
-TakesNothing text before (Err e) = (e ≡ fault_at (length text) whats.Nothing (lexemes text before)) × (before ≢ [])
+-- the end of a statement was read, wherever the statement ends
+pub record DidEnd (text : List ℕ) (before after : List Token) : Type 0 where
+  pub part : IsEnd (lexemes text before) (lexemes text after)
+  pub within : AreWithin text after
+  pub shorter : length after < length before
+  pub leads : (p : Place) → fault_from text (End p) before ≡ fault_from text p after
 
--- an event behind its first word
-pub record IsEventOf (way : Way) (before : List Lexeme) (e : Signal) (after : List Lexeme) : Type 0 where
-  pub word : List Lexeme
-  pub address : List Lexeme
-  pub close : List Lexeme
-  pub is_way : e.way ≡ way
-  pub is_ident : IsIdent before e word
-  pub is_word : IsToken (Reserved (address_word way)) word address
-  pub is_address : IsToken (Named e.address) address close
-  pub is_end : IsEnd close after
+-- what reading the end of a statement answers
+abbrev pub Ends : List ℕ → List Token → Result (Bor (List Token)) ParseFault → Type 0
+Ends text before (Ok after) = DidEnd text before after.now
+Ends text before (Err e) = (p : Place) → Stops text (End p) before e
 
--- statements, and `endinstance` behind them
-abbrev pub IsBody : List Lexeme → List Item → List Lexeme → Type 0
-IsBody before items after = (last : List Lexeme) × AreMany IsItem before items last × IsToken (Reserved words.EndInstance) last after
+-- The part x was read at the place p, and q is the place behind it: what follows has the fault there
+-- that the whole has at p.
+pub record DidRead {X : Type 0} (text : List ℕ) (IsPart : List Lexeme → X → List Lexeme → Type 0) (p q : Place) (before after : List Token) (x : X) : Type 0 where
+  pub part : IsPart (lexemes text before) x (lexemes text after)
+  pub within : AreWithin text after
+  pub shorter : length after ≤ length before
+  pub leads : fault_from text p before ≡ fault_from text q after
 
--- a section behind its first word
-pub record IsSectionRest (decl : List Lexeme) (s : Section) (after : List Lexeme) : Type 0 where
-  pub close : List Lexeme
-  pub items : List Lexeme
-  pub last_close : List Lexeme
-  pub is_decl : IsDecl decl s.decl close
-  pub is_end : IsEnd close items
-  pub is_body : IsBody items s.items last_close
-  pub is_last_end : IsEnd last_close after
+-- what reading a part between two places answers
+abbrev pub Reads : {X : Type 0} → List ℕ → (List Lexeme → X → List Lexeme → Type 0) → Place → Place → List Token → Result (X × Bor (List Token)) ParseFault → Type 0
+Reads text IsPart p q before (Ok x) = DidRead text IsPart p q before x.1.now x.0
+Reads text IsPart p q before (Err e) = Stops text p before e
 
--- sections, and `endmsc` behind them
-abbrev pub AreSections : List Lexeme → List Section → List Lexeme → Type 0
-AreSections before ss after = (last : List Lexeme) × AreMany IsSection before ss last × IsToken (Reserved words.EndMsc) last after
+-- something of the tokens was used up
+abbrev pub Uses : {X : Type 0} → List Token → Result (X × Bor (List Token)) ParseFault → Type 0
+Uses before (Ok x) = length x.1.now < length before
+Uses before (Err e) = Unit {0}
 
--- the declared instances of an `inst` statement behind its first word
-abbrev pub IsInstRest : List Lexeme → List Decl → List Lexeme → Type 0
-IsInstRest decl [] after = ⊥
-IsInstRest decl (d ∷ ds) after = (more close : List Lexeme) × IsDecl decl d more × AreMany IsNextDecl more ds close × IsEnd close after
+-- no token of this kind stands behind the part
+abbrev pub Leaves : {X : Type 0} → Kind → Result (X × Bor (List Token)) ParseFault → Type 0
+Leaves kind (Ok x) = first_kind x.1.now ≢ Some kind
+Leaves kind (Err e) = Unit {0}
 
--- the same, of the `Vec` that holds them
-abbrev pub IsInstOf : List Lexeme → Vec Decl → List Lexeme → Type 0
-IsInstOf decl v after = IsInstRest decl v.items after
+-- an event of this way, behind its first word
+abbrev pub IsSignalOf : Way → List Lexeme → Signal → List Lexeme → Type 0
+IsSignalOf way before e after = (e.way ≡ way) × IsSignal before e after
 
--- the header and the sections, and `endmsc` behind them
-abbrev pub AreParts : List Lexeme → Vec Decl × List Section → List Lexeme → Type 0
-AreParts before parts after = (mid : List Lexeme) × IsHeader before parts.0.items mid × AreSections mid parts.1 after
+-- parts, and a token behind them
+abbrev pub AreUpTo : {X : Type 0} → Symbol → (List Lexeme → X → List Lexeme → Type 0) → List Lexeme → List X → List Lexeme → Type 0
+AreUpTo s IsPart before xs after = (last : List Lexeme) × AreMany IsPart before xs last × IsToken s last after
 
 -- what reading a whole chart answers
 abbrev pub ReadsChart : List ℕ → List Token → Result Tree ParseFault → Type 0

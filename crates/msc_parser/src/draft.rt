@@ -1,14 +1,13 @@
-//! Drafts: the tree of names of a chart's text.
+//! Drafts: the tree of names of a chart's text, made by `parse` alone.
 //!
-//! A draft is made by `parse` alone, so each of its names is one that a text can have, and it has
-//! no more names and events than a text has bytes. Contracts see the tree as plain data.
+//! Contracts see a draft as its `Tree`: the chart's name, the header and the sections, as plain lists.
 
 ghost use Rattle.std.specs.Prelude.{◌≡◌, ◌≤◌, length, IfOk};
 ghost use Rattle.std.specs.List.{AllByRecursion};
 ghost use Rattle.msc_lexer.specs.Lexemes.{IsName};
+ghost use Rattle.msc_parser.specs.Grammar.{Tree};
 ghost use Rattle.msc_parser.specs.Canonical.{canonical};
-ghost use Rattle.msc_parser.specs.Drafts.{IsDraft, IsDraftDecl, IsDraftSection, signals_of};
-ghost use Rattle.msc_parser.specs.Grammar.{Tree, tree};
+ghost use Rattle.msc_parser.specs.Drafts.{IsDraft, IsDeclNamed, IsSectionNamed, signals_of};
 ghost use Rattle.msc_parser.specs.Parsing.{HasDraft};
 
 use crate::tree::{Decl, Name, Section};
@@ -18,28 +17,28 @@ use msc_lexer::laws::prints_pieces;
 use std::alloc::{AllocError, Global};
 use std::marker::Model;
 
-/// The tree of names of a chart's text.
-#[derive(Drop)]
+/// The tree of names of a chart's text. Notes and comments leave nothing in it.
+#[derive(Debug, Drop)]
 pub struct Draft {
     name: Name,
-    header: Vec<Decl>,
+    header: Listed<Decl>,
     sections: Listed<Section>,
 }
 
 impl Model for Draft {
     ghost Value = { Tree };
 
-    ghost view = { λ d. tree d.name d.header.items d.sections };
+    ghost view = { λ d. record { name = d.name; header = d.header; sections = d.sections } };
 
-    // What the draft of every text keeps.
-    ghost invariant = { λ d. IsDraft (tree d.name d.header.items d.sections) };
+    // Each name is one that a text can have, and there are no more parts than a text has bytes.
+    ghost invariant = { λ d. IsDraft (record { name = d.name; header = d.header; sections = d.sections }) };
 }
 
 impl Draft {
-    /// The draft of these parts. It takes no memory.
-    pub(crate) fn new(name: Name, header: Vec<Decl>, sections: Listed<Section>) -> Self
-        requires { IsDraft (tree name header.items sections) }
-        ensures { result ≡ tree name header.items sections }
+    /// The draft of these parts.
+    pub(crate) fn new(name: Name, header: Listed<Decl>, sections: Listed<Section>) -> Self
+        requires { IsDraft (record { name = name; header = header; sections = sections }) }
+        ensures { result ≡ record { name = name; header = header; sections = sections } }
     {
         Draft {
             name,
@@ -48,44 +47,53 @@ impl Draft {
         }
     }
 
+    /// What every draft keeps.
+    fn known(&self)
+        ensures { IsDraft self.now }
+    {
+        let _name = &self.name;
+    }
+
     /// The chart's name. It takes no memory.
     pub fn name(&self) -> &[u8]
         ensures value { result.now ≡ self.now.name }
-        ensures named { IsName self.now.name }
+        ensures named { IsName result.now }
     {
+        self.known();
         self.name.as_slice()
     }
 
-    /// The instances that the `inst` statements declare, in the order of the text. It takes no
-    /// memory.
+    /// The decls of all `inst` statements, in the order of the text. It takes no memory.
     pub fn header(&self) -> &[Decl]
         ensures value { result.now ≡ self.now.header }
-        ensures named { AllByRecursion IsDraftDecl self.now.header }
-        ensures few { length self.now.header ≤ 1048576 }
+        ensures named { AllByRecursion IsDeclNamed result.now }
+        ensures few { length result.now ≤ 1048576 }
     {
+        self.known();
         self.header.as_slice()
     }
 
     /// The sections, in the order of the text. It takes no memory.
     pub fn sections(&self) -> &[Section]
         ensures value { result.now ≡ self.now.sections }
-        ensures named { AllByRecursion IsDraftSection self.now.sections }
-
-        // In all sections together there are at most so many events.
-        ensures few { length (signals_of self.now.sections) ≤ 1048576 }
+        ensures named { AllByRecursion IsSectionNamed result.now }
+        ensures few { length (signals_of result.now) ≤ 1048576 }
     {
+        self.known();
         self.sections.as_slice()
     }
 
-    /// The canonical text of the draft. `AllocError` is answered where a growth of memory was
-    /// refused.
+    /// The canonical text: one line for each statement, words in small letters, no notes and no
+    /// comments. The only error is want of memory. The text can be longer than the text that was
+    /// read, and longer than a text may be; then it is written in full and isn't read again.
     pub fn write(&self, alloc: Global) -> Result<Vec<u8>, AllocError>
         ensures text { IfOk result (λ v. v.items ≡ canonical self.now) }
 
-        // Where it is short enough to be a text, it is a text of this draft.
+        // Where it is short enough, it is a text of this draft.
         ensures again { IfOk result (λ v. length v.items ≤ 1048576 → HasDraft v.items self.now) }
     {
         prints_pieces();
-        canonical_text(alloc, self.name(), self.header(), self.sections())
+        self.known();
+        canonical_text(alloc, self)
     }
 }

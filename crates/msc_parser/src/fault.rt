@@ -1,4 +1,4 @@
-//! Why a text has no draft.
+//! Why a text is no chart.
 
 ghost use Rattle.std.specs.Prelude.{◌≡◌};
 ghost use Rattle.msc_parser.specs.declared.fault.ParseFault.TheVariants.{Memory};
@@ -7,7 +7,7 @@ use msc_lexer::{LexFault, Word};
 use std::alloc::{AllocError, AllocFailed};
 use thiserror::Error;
 
-/// What should have stood at a place of a text.
+/// What the grammar wanted at the place of an error.
 #[derive(Clone, Copy, Debug, PartialEq, Eq)]
 pub enum What {
     /// `msc`, at the start of the text.
@@ -16,36 +16,35 @@ pub enum What {
     Name,
     /// The text of a comment.
     Text,
-    /// The end of a statement.
+    /// The end of the statement: `;`, or a comment and `;`.
     End,
-    /// A section, or the end of the chart.
+    /// A section, or `endmsc`; before the first section an `inst` statement too.
     Section,
-    /// A statement of an instance, or its end.
+    /// An event, a coregion or `endinstance`.
     Item,
-    /// An event of a coregion, or its end.
+    /// An event of a coregion, or `endconcurrent`.
     Event,
     /// `to`, before the address of an output.
     To,
     /// `from`, before the address of an input.
     From,
-    /// A parameter, or the end of the parameters.
+    /// A parameter, or what goes on with the list of parameters or ends it.
     Parameter,
-    /// The end of the text, after the whole chart.
+    /// Nothing but the end of the text.
     Nothing,
 }
 
-/// The first fault of a text. Each place is a byte place, from 0.
+/// The first fault of a text. Each place is a byte place from 0, that of the first byte of the token
+/// that cannot stand there, or the length of the text where it ends too early.
 #[derive(Clone, Copy, Debug, PartialEq, Eq, Error)]
 pub enum ParseFault {
-    /// The text has this lexical fault. It comes before all others.
+    /// The text has no tokens. Comes before all faults of the grammar.
     #[error("{0}")]
     Lex(LexFault),
-    /// At this place the first token stands that continues no text of the grammar, and it is a
-    /// reserved word that the profile refuses.
+    /// A reserved word that this profile of Z.120 refuses stands where no chart goes on with it.
     #[error("the word at {0} is not supported: {1:?}")]
     Unsupported(usize, Word),
-    /// At this place the first token stands that continues no text of the grammar, or the text
-    /// ends too early, and this should have stood there.
+    /// Something else was expected here than what stands here.
     #[error("expected {1:?} at {0}")]
     Expected(usize, What),
     /// A growth of memory was refused.

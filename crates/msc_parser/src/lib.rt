@@ -1,18 +1,19 @@
-//! From a chart's text to its draft, and from a draft to its canonical text (a profile of MSC/PR,
-//! ITU-T Z.120).
+//! From a chart's text (a profile of MSC/PR, ITU-T Z.120) to its draft, and from a draft to its
+//! canonical text.
 //!
-//! A draft is the tree of names of a chart's text. [`parse`] answers the draft of a text or its
-//! first fault, whose place is a byte place of the text, from 0. [`Draft::write`] gives the
-//! canonical text of a draft, which is read as the same draft again. Contracts see a text as its
-//! tokens and the grammar as a relation between tokens and drafts.
+//! A text is a list of bytes; places in it are byte places, from 0. Contracts see a text by its tokens,
+//! and the grammar as relations between lists of tokens and parts of a draft: a text has at most one
+//! draft. It has a first fault where it has none, and the fault's place and what was expected there are
+//! told in the grammar's own words.
 #![tactic(auto)]
 
-mod chart;
 mod draft;
 mod fault;
+mod heading;
 pub mod laws;
 mod parsing;
-mod section;
+mod sectioning;
+mod signalling;
 mod taking;
 mod tree;
 mod writing;

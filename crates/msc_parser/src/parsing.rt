@@ -1,19 +1,41 @@
-//! From a text to its draft.
+//! From a text to its draft, or to its first fault.
 
-ghost use Rattle.std.specs.Prelude.{◌≡◌, ◌≢◌, IfOk, IfErr};
+ghost use Rattle.std.specs.Prelude.{◌≡◌, ◌≢◌, ◌≤◌, length, IfOk, IfErr};
+ghost use Rattle.msc_lexer.specs.Lexemes.{AreWithin, HaveNames, lexemes};
 ghost use Rattle.msc_parser.specs.declared.fault.ParseFault.{ParseFault};
 ghost use Rattle.msc_parser.specs.Grammar.{Tree};
-ghost use Rattle.msc_parser.specs.Parsing.{HasDraft, HasParseFault};
-ghost use Rattle.msc_parser.specs.Parsing.{IsDraftOrMemory, IsFaultOrMemory};
+ghost use Rattle.msc_parser.specs.Parsing.{HasDraft, HasParseFault, IsDraftOrMemory, IsFaultOrMemory};
+ghost use Rattle.msc_parser.specs.Reading.{ReadsChart};
 
-use crate::chart::chart;
 use crate::draft::Draft;
-use crate::fault::ParseFault;
-use crate::laws::one_parsing;
-use msc_lexer::{LexFault, lex};
+use crate::fault::{ParseFault, What};
+use crate::heading::header;
+use crate::sectioning::sections;
+use crate::taking::{take, take_end, take_name, unexpected};
+use msc_lexer::laws::one_reading;
+use msc_lexer::{Kind, LexFault, Token, Word, lex};
 use std::alloc::Global;
 
-/// The draft of a text or its first fault, by its tokens.
+/// The draft of all tokens of a text.
+fn chart(alloc: Global, text: &[u8], tokens: &[Token]) -> Result<Draft, ParseFault>
+    requires within { AreWithin text.now tokens.now }
+    requires named { HaveNames (lexemes text.now tokens.now) }
+    requires few { length tokens.now ≤ 1048576 }
+    ensures { ReadsChart text.now tokens.now result }
+{
+    let rest = take(Kind::Word(Word::Msc), What::Msc, text, tokens)?;
+    let (name, rest) = take_name(alloc, What::Name, text, rest)?;
+    let rest = take_end(text, rest)?;
+    let (header, rest) = header(alloc, text, rest)?;
+    let (sections, rest) = sections(alloc, text, rest)?;
+    let rest = take_end(text, rest)?;
+    if !rest.is_empty() {
+        return Err(unexpected(text, rest, What::Nothing));
+    }
+    Ok(Draft::new(name, header, sections))
+}
+
+/// The draft of a text, or a fault of it.
 fn whole(alloc: Global, text: &[u8]) -> Result<Draft, ParseFault>
     ensures accepted { IfOk result (HasDraft text.now) }
     ensures fault { IfErr result (λ e. e ≢ ParseFault.Memory → HasParseFault text.now e) }
@@ -27,9 +49,10 @@ fn whole(alloc: Global, text: &[u8]) -> Result<Draft, ParseFault>
 
 /// The draft of a text, or its first fault.
 ///
-/// A lexical fault is answered before all others. Otherwise the first token that continues no text
-/// of the grammar decides, or the end of the text where that comes too early. `Memory` is answered
-/// where a growth of memory was refused.
+/// The whole text is read into tokens first, so `Lex` is answered before a fault of the grammar.
+/// Otherwise the first token that no chart goes on with decides: `Unsupported` where it is a word
+/// that this profile of Z.120 refuses, and `Expected` everywhere else. `Memory` is answered where a
+/// growth of memory was refused.
 pub fn parse(alloc: Global, text: &[u8]) -> Result<Draft, ParseFault>
     // What is answered stands in the text.
     ensures accepted { IfOk result (HasDraft text.now) }
@@ -39,6 +62,6 @@ pub fn parse(alloc: Global, text: &[u8]) -> Result<Draft, ParseFault>
     ensures only_accepted { (t : Tree) → HasDraft text.now t → IsDraftOrMemory t result }
     ensures only_fault { (f : ParseFault) → HasParseFault text.now f → IsFaultOrMemory f result }
 {
-    one_parsing();
+    one_reading();
     whole(alloc, text)
 }

@@ -1,18 +1,18 @@
-//! One token at a time.
+//! One token at a time, and the end of a statement.
 //!
-//! Each function is given the text and the tokens of it that are still to be read.
+//! Each function reads the front of a slice of tokens, and answers the rest of the slice with it.
 
 ghost use Rattle.std.specs.Prelude.{◌≡◌, ◌↔◌, IsTrue, length, Some};
 ghost use Rattle.msc_lexer.specs.Lexemes.{lexemes, AreWithin};
-ghost use Rattle.msc_parser.specs.Places.{is_refused, fault_at};
-ghost use Rattle.msc_parser.specs.Reading.{first_kind, IsPlain, Takes, TakesName, TakesNothing};
+ghost use Rattle.msc_parser.specs.Parsing.{is_refused, fault_at};
+ghost use Rattle.msc_parser.specs.Reading.{first_kind, Takes, TakesName, Ends};
 
 use crate::fault::{ParseFault, What};
 use crate::tree::Name;
 use msc_lexer::{Kind, Token, Word};
 use std::alloc::Global;
 
-/// Whether no chart of the profile has this word.
+/// Whether this profile of Z.120 refuses the word.
 fn is_refused(word: Word) -> bool
     ensures { result ≡ is_refused word }
 {
@@ -29,7 +29,7 @@ fn is_refused(word: Word) -> bool
     }
 }
 
-/// The fault where something else was expected than these tokens.
+/// The fault where `what` was expected and these tokens stand.
 pub fn unexpected(text: &[u8], tokens: &[Token], what: What) -> ParseFault
     ensures { result ≡ fault_at (length text.now) what (lexemes text.now tokens.now) }
 {
@@ -52,15 +52,14 @@ pub fn stands(kind: Kind, tokens: &[Token]) -> bool
     }
 }
 
-/// Takes a token of this kind.
+/// Takes a token of this kind. `what` is told where none stands.
 pub fn take<'a>(
     kind: Kind,
     what: What,
     text: &[u8],
     tokens: &'a [Token],
 ) -> Result<&'a [Token], ParseFault>
-    requires plain { IsPlain kind }
-    requires within { AreWithin text.now tokens.now }
+    requires { AreWithin text.now tokens.now }
     ensures { Takes text.now kind what tokens.now result }
 {
     if stands(kind, tokens) {
@@ -70,29 +69,32 @@ pub fn take<'a>(
     }
 }
 
-/// Takes a name.
+/// Takes a name, with its bytes. `what` is told where none stands.
 pub fn take_name<'a>(
     alloc: Global,
+    what: What,
     text: &[u8],
     tokens: &'a [Token],
 ) -> Result<(Name, &'a [Token]), ParseFault>
     requires { AreWithin text.now tokens.now }
-    ensures { TakesName text.now tokens.now result }
+    ensures { TakesName text.now what tokens.now result }
 {
     if !stands(Kind::Name, tokens) {
-        return Err(unexpected(text, tokens, What::Name));
+        return Err(unexpected(text, tokens, what));
     }
     let token = tokens[0];
     let bytes = Vec::from_slice(alloc, &text[token.start..token.end])?;
     Ok((Name::from_vec(bytes), &tokens[1..]))
 }
 
-/// Sees that no token is left.
-pub fn take_nothing(text: &[u8], tokens: &[Token]) -> Result<(), ParseFault>
-    ensures { TakesNothing text.now tokens.now result }
+/// Takes the end of a statement: `;`, or a comment and `;`. Nothing is kept of the comment.
+pub fn take_end<'a>(text: &[u8], tokens: &'a [Token]) -> Result<&'a [Token], ParseFault>
+    requires { AreWithin text.now tokens.now }
+    ensures { Ends text.now tokens.now result }
 {
-    match tokens {
-        [] => Ok(()),
-        [..] => Err(unexpected(text, tokens, What::Nothing)),
+    if !stands(Kind::Word(Word::Comment), tokens) {
+        return take(Kind::Semicolon, What::End, text, tokens);
     }
+    let rest = take(Kind::Text, What::Text, text, &tokens[1..])?;
+    take(Kind::Semicolon, What::End, text, rest)
 }

@@ -1,50 +1,54 @@
-//! The parts of a draft: plain names, in the order of the text.
+//! The parts of a draft: names, and what a chart's text says of them.
 //!
-//! Notes and comments leave nothing in a draft. The words are those of MSC/PR (ITU-T Z.120).
+//! A name is the list of its bytes as they stand in the text, since capital and small letters count.
+//! Contracts see each part as the record or the variant that it is, with lists for its lists.
 
 use listed::Listed;
 
-/// The bytes of a name.
+/// The bytes of a name: 1 to 64 ASCII letters, digits and underscores that are no reserved word.
 pub type Name = Listed<u8>;
 
-/// Whether a message goes out (`out`) or comes in (`in`).
+/// Whether an event is an output (`out`) or an input (`in`) of its message.
 #[derive(Clone, Copy, Debug, PartialEq, Eq)]
 pub enum Way {
+    /// The message is sent.
     Output,
+    /// The message is received.
     Input,
 }
 
-/// A declared instance: its name, and its kind of no, one or two names.
-#[derive(Drop)]
+/// The name of an instance with its kind, the names that say of what kind the instance is (Z.120).
+/// `kind` has no name where the text gives no kind, and otherwise one name or two.
+#[derive(Debug, Drop)]
 pub struct Decl {
     pub name: Name,
     pub kind: Listed<Name>,
 }
 
-/// An output or an input of a message.
-#[derive(Drop)]
+/// A message event: an output to the instance `address`, or an input from it.
+///
+/// `name` is the message's name, `number` its message instance name (Z.120), if it has one, and
+/// `parameters` the names between the parentheses.
+#[derive(Debug, Drop)]
 pub struct Signal {
     pub way: Way,
-    /// The message name.
     pub name: Name,
-    /// The message instance name, which sets messages of one name apart.
     pub number: Option<Name>,
     pub parameters: Listed<Name>,
-    /// The instance that an output goes to, or that an input comes from.
     pub address: Name,
 }
 
-/// A statement of an instance.
-#[derive(Drop)]
+/// A statement of a section.
+#[derive(Debug, Drop)]
 pub enum Item {
-    /// An event that stands alone.
+    /// An event that is ordered on the instance's line.
     Single(Signal),
-    /// The events of a coregion (`concurrent`), which have no order among themselves.
+    /// A coregion: events that are unordered among themselves (Z.120), in the order of the text.
     Coregion(Listed<Signal>),
 }
 
-/// An instance with its statements, from the top of its line to the bottom.
-#[derive(Drop)]
+/// The part of a text that describes one instance, from `instance` to `endinstance`.
+#[derive(Debug, Drop)]
 pub struct Section {
     pub decl: Decl,
     pub items: Listed<Item>,

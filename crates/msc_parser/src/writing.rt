@@ -1,22 +1,131 @@
-//! The canonical text of a draft, part by part, each put behind what is written already.
+//! The canonical text of a draft, part by part. Each function appends the text of a part.
 
-ghost use Rattle.std.specs.Prelude.{◌≡◌, OnOk, IfOk};
-ghost use Rattle.msc_parser.specs.Canonical.{event_pieces, item_pieces, items_pieces};
-ghost use Rattle.msc_parser.specs.Canonical.{section_pieces, sections_pieces};
-ghost use Rattle.msc_parser.specs.Canonical.{decls_pieces, header_pieces, canonical, HasPut};
-ghost use Rattle.msc_parser.specs.Grammar.{tree};
+ghost use Rattle.std.specs.Prelude.{◌≡◌, ◌++◌, OnOk, IfOk};
+ghost use Rattle.std.specs.List.{flat_map};
+ghost use Rattle.msc_lexer.specs.Pieces.{text_of};
+ghost use Rattle.msc_parser.specs.Grammar.{way_word};
+ghost use Rattle.msc_parser.specs.Canonical.{second_pieces, kind_pieces, decl_pieces, next_decl_pieces, header_pieces, next_name_pieces, number_pieces, parameter_pieces, ident_pieces, address_pieces, event_pieces, inner_pieces, coregion_pieces, item_pieces, section_pieces, canonical};
 
-use crate::section::{address_word, way_word};
-use crate::tree::{Decl, Item, Section, Signal};
+use crate::draft::Draft;
+use crate::signalling::address_word;
+use crate::tree::{Decl, Item, Name, Section, Signal, Way};
+use msc_lexer::Word;
 use std::alloc::{AllocError, Global};
 
-/// An event, without the spaces before it.
-fn put_event(out: &mut Vec<u8>, e: &Signal) -> Result<(), AllocError>
-    ensures { OnOk result (HasPut out.old.items out.new.items (event_pieces e.now)) }
+/// The first word of an event.
+fn way_word(way: Way) -> Word
+    ensures { result ≡ way_word way }
 {
-    out.extend_from_slice(way_word(e.way).spelling())?;
-    out.push(b' ')?;
+    match way {
+        Way::Output => Word::Output,
+        Way::Input => Word::Input,
+    }
+}
+
+/// Names with a space before each.
+fn put_second(out: &mut Vec<u8>, names: &[Name]) -> Result<(), AllocError>
+    ensures { OnOk result (out.new.items ≡ out.old.items ++ text_of (flat_map second_pieces names.now)) }
+{
+    for name in names {
+        out.push(b' ')?;
+        out.extend_from_slice(name.as_slice())?;
+    }
+    Ok(())
+}
+
+fn put_kind(out: &mut Vec<u8>, kind: &[Name]) -> Result<(), AllocError>
+    ensures { OnOk result (out.new.items ≡ out.old.items ++ text_of (kind_pieces kind.now)) }
+{
+    match kind {
+        [] => Ok(()),
+        [first, others @ ..] => {
+            out.extend_from_slice(b" : ")?;
+            out.extend_from_slice(first.as_slice())?;
+            put_second(out, others)
+        }
+    }
+}
+
+fn put_decl(out: &mut Vec<u8>, decl: &Decl) -> Result<(), AllocError>
+    ensures { OnOk result (out.new.items ≡ out.old.items ++ text_of (decl_pieces decl.now)) }
+{
+    out.extend_from_slice(decl.name.as_slice())?;
+    put_kind(out, decl.kind.as_slice())
+}
+
+/// Decls with a comma before each.
+fn put_next_decls(out: &mut Vec<u8>, decls: &[Decl]) -> Result<(), AllocError>
+    ensures { OnOk result (out.new.items ≡ out.old.items ++ text_of (flat_map next_decl_pieces decls.now)) }
+{
+    for decl in decls {
+        out.extend_from_slice(b", ")?;
+        put_decl(out, decl)?;
+    }
+    Ok(())
+}
+
+fn put_header(out: &mut Vec<u8>, header: &[Decl]) -> Result<(), AllocError>
+    ensures { OnOk result (out.new.items ≡ out.old.items ++ text_of (header_pieces header.now)) }
+{
+    match header {
+        [] => Ok(()),
+        [first, others @ ..] => {
+            out.extend_from_slice(b"inst ")?;
+            put_decl(out, first)?;
+            put_next_decls(out, others)?;
+            out.extend_from_slice(b";\n")?;
+            Ok(())
+        }
+    }
+}
+
+/// Names with a comma before each.
+fn put_next_names(out: &mut Vec<u8>, names: &[Name]) -> Result<(), AllocError>
+    ensures { OnOk result (out.new.items ≡ out.old.items ++ text_of (flat_map next_name_pieces names.now)) }
+{
+    for name in names {
+        out.extend_from_slice(b", ")?;
+        out.extend_from_slice(name.as_slice())?;
+    }
+    Ok(())
+}
+
+fn put_number(out: &mut Vec<u8>, number: &Option<Name>) -> Result<(), AllocError>
+    ensures { OnOk result (out.new.items ≡ out.old.items ++ text_of (number_pieces number.now)) }
+{
+    if let Some(name) = number {
+        out.extend_from_slice(b", ")?;
+        out.extend_from_slice(name.as_slice())?;
+    }
+    Ok(())
+}
+
+fn put_parameters(out: &mut Vec<u8>, parameters: &[Name]) -> Result<(), AllocError>
+    ensures { OnOk result (out.new.items ≡ out.old.items ++ text_of (parameter_pieces parameters.now)) }
+{
+    match parameters {
+        [] => Ok(()),
+        [first, others @ ..] => {
+            out.push(b'(')?;
+            out.extend_from_slice(first.as_slice())?;
+            put_next_names(out, others)?;
+            out.push(b')')?;
+            Ok(())
+        }
+    }
+}
+
+fn put_ident(out: &mut Vec<u8>, e: &Signal) -> Result<(), AllocError>
+    ensures { OnOk result (out.new.items ≡ out.old.items ++ text_of (ident_pieces e.now)) }
+{
     out.extend_from_slice(e.name.as_slice())?;
+    put_number(out, &e.number)?;
+    put_parameters(out, e.parameters.as_slice())
+}
+
+fn put_address(out: &mut Vec<u8>, e: &Signal) -> Result<(), AllocError>
+    ensures { OnOk result (out.new.items ≡ out.old.items ++ text_of (address_pieces e.now)) }
+{
     out.push(b' ')?;
     out.extend_from_slice(address_word(e.way).spelling())?;
     out.push(b' ')?;
@@ -25,22 +134,49 @@ fn put_event(out: &mut Vec<u8>, e: &Signal) -> Result<(), AllocError>
     Ok(())
 }
 
-/// A statement of an instance.
+fn put_event(out: &mut Vec<u8>, e: &Signal) -> Result<(), AllocError>
+    ensures { OnOk result (out.new.items ≡ out.old.items ++ text_of (event_pieces e.now)) }
+{
+    out.extend_from_slice(way_word(e.way).spelling())?;
+    out.push(b' ')?;
+    put_ident(out, e)?;
+    put_address(out, e)
+}
+
+/// The events of a coregion.
+fn put_inner(out: &mut Vec<u8>, events: &[Signal]) -> Result<(), AllocError>
+    ensures { OnOk result (out.new.items ≡ out.old.items ++ text_of (flat_map inner_pieces events.now)) }
+{
+    for event in events {
+        out.extend_from_slice(b"    ")?;
+        put_event(out, event)?;
+    }
+    Ok(())
+}
+
+fn put_coregion(out: &mut Vec<u8>, events: &[Signal]) -> Result<(), AllocError>
+    ensures { OnOk result (out.new.items ≡ out.old.items ++ text_of (coregion_pieces events.now)) }
+{
+    out.extend_from_slice(b"  concurrent;\n")?;
+    put_inner(out, events)?;
+    out.extend_from_slice(b"  endconcurrent;\n")?;
+    Ok(())
+}
+
 fn put_item(out: &mut Vec<u8>, item: &Item) -> Result<(), AllocError>
-    ensures { OnOk result (HasPut out.old.items out.new.items (item_pieces item.now)) }
+    ensures { OnOk result (out.new.items ≡ out.old.items ++ text_of (item_pieces item.now)) }
 {
     match item {
         Item::Single(e) => {
             out.extend_from_slice(b"  ")?;
             put_event(out, e)
         }
-        Item::Coregion(_) => Ok(()),
+        Item::Coregion(events) => put_coregion(out, events.as_slice()),
     }
 }
 
-/// The statements of an instance.
 fn put_items(out: &mut Vec<u8>, items: &[Item]) -> Result<(), AllocError>
-    ensures { OnOk result (HasPut out.old.items out.new.items (items_pieces items.now)) }
+    ensures { OnOk result (out.new.items ≡ out.old.items ++ text_of (flat_map item_pieces items.now)) }
 {
     for item in items {
         put_item(out, item)?;
@@ -48,21 +184,19 @@ fn put_items(out: &mut Vec<u8>, items: &[Item]) -> Result<(), AllocError>
     Ok(())
 }
 
-/// A section.
 fn put_section(out: &mut Vec<u8>, section: &Section) -> Result<(), AllocError>
-    ensures { OnOk result (HasPut out.old.items out.new.items (section_pieces section.now)) }
+    ensures { OnOk result (out.new.items ≡ out.old.items ++ text_of (section_pieces section.now)) }
 {
     out.extend_from_slice(b"instance ")?;
-    out.extend_from_slice(section.decl.name.as_slice())?;
+    put_decl(out, &section.decl)?;
     out.extend_from_slice(b";\n")?;
     put_items(out, section.items.as_slice())?;
     out.extend_from_slice(b"endinstance;\n")?;
     Ok(())
 }
 
-/// All sections.
 fn put_sections(out: &mut Vec<u8>, sections: &[Section]) -> Result<(), AllocError>
-    ensures { OnOk result (HasPut out.old.items out.new.items (sections_pieces sections.now)) }
+    ensures { OnOk result (out.new.items ≡ out.old.items ++ text_of (flat_map section_pieces sections.now)) }
 {
     for section in sections {
         put_section(out, section)?;
@@ -70,48 +204,16 @@ fn put_sections(out: &mut Vec<u8>, sections: &[Section]) -> Result<(), AllocErro
     Ok(())
 }
 
-/// The declared instances behind the first.
-fn put_next_decls(out: &mut Vec<u8>, decls: &[Decl]) -> Result<(), AllocError>
-    ensures { OnOk result (HasPut out.old.items out.new.items (decls_pieces decls.now)) }
-{
-    for decl in decls {
-        out.extend_from_slice(b", ")?;
-        out.extend_from_slice(decl.name.as_slice())?;
-    }
-    Ok(())
-}
-
-/// The header, in one `inst` statement, if it declares any instance.
-fn put_header(out: &mut Vec<u8>, header: &[Decl]) -> Result<(), AllocError>
-    ensures { OnOk result (HasPut out.old.items out.new.items (header_pieces header.now)) }
-{
-    match header {
-        [] => Ok(()),
-        [first, others @ ..] => {
-            out.extend_from_slice(b"inst ")?;
-            out.extend_from_slice(first.name.as_slice())?;
-            put_next_decls(out, others)?;
-            out.extend_from_slice(b";\n")?;
-            Ok(())
-        }
-    }
-}
-
-/// The canonical text of these parts of a draft.
-pub fn canonical_text(
-    alloc: Global,
-    name: &[u8],
-    header: &[Decl],
-    sections: &[Section],
-) -> Result<Vec<u8>, AllocError>
-    ensures { IfOk result (λ v. v.items ≡ canonical (tree name.now header.now sections.now)) }
+/// The canonical text of a draft.
+pub fn canonical_text(alloc: Global, draft: &Draft) -> Result<Vec<u8>, AllocError>
+    ensures { IfOk result (λ v. v.items ≡ canonical draft.now) }
 {
     let mut out = Vec::new(alloc);
     out.extend_from_slice(b"msc ")?;
-    out.extend_from_slice(name)?;
+    out.extend_from_slice(draft.name())?;
     out.extend_from_slice(b";\n")?;
-    put_header(&mut out, header)?;
-    put_sections(&mut out, sections)?;
+    put_header(&mut out, draft.header())?;
+    put_sections(&mut out, draft.sections())?;
     out.extend_from_slice(b"endmsc;\n")?;
     Ok(out)
 }

@@ -1,4 +1,4 @@
-use Rattle.msc_parser.proofs.OneParsing.{one_parsing}
+use Rattle.msc_parser.proofs.Answering.{one_parsing}
 use Rattle.msc_parser.proofs.laws.one_parsing.Goals as goal
 
 pub returns : goal.returns

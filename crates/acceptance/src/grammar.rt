@@ -1,0 +1,184 @@
+//! The whole grammar: drafts of kinds, message instance names, parameters and coregions, and a
+//! refused text for each place.
+
+use msc_lexer::LexFault;
+use msc_parser::{Draft, Item, ParseFault, What, parse};
+use std::test::Fail;
+
+/// The chart `kinds_and_comments`.
+const KINDS_AND_COMMENTS: &[u8] = b"msc t; inst a, b; instance a : process p comment 'it''s'; \
+/* note */ out m, 1(x, y) to b; endinstance; instance b; in m, 1(z) from a; endinstance; endmsc;";
+
+#[test]
+fn kinds_numbers_and_parameters(rt: HostRuntime) -> Result<(), Fail> {
+    let draft = parse(rt.alloc(), KINDS_AND_COMMENTS)?;
+    let (a, _b) = match draft.sections() {
+        [a, b] => (a, b),
+        _ => return Err("two sections")?,
+    };
+    assert_eq!(rt; draft.header().len(), 2);
+    match a.decl.kind.as_slice() {
+        [first, second] => {
+            assert_eq!(rt; first.as_slice(), b"process".as_slice());
+            assert_eq!(rt; second.as_slice(), b"p".as_slice());
+        }
+        _ => assert!(rt; false, "a kind of two names"),
+    }
+    match a.items.as_slice() {
+        [Item::Single(signal)] => {
+            let number = signal.number.as_ref().ok_or("a message instance name")?;
+            assert_eq!(rt; number.as_slice(), b"1".as_slice());
+            match signal.parameters.as_slice() {
+                [x, y] => {
+                    assert_eq!(rt; x.as_slice(), b"x".as_slice());
+                    assert_eq!(rt; y.as_slice(), b"y".as_slice());
+                }
+                _ => assert!(rt; false, "two parameters"),
+            }
+        }
+        _ => assert!(rt; false, "one event"),
+    }
+    Ok(())
+}
+
+#[test]
+fn coregions(rt: HostRuntime) -> Result<(), Fail> {
+    let text = b"msc t; instance a; concurrent comment 'c'; endconcurrent; \
+concurrent; in m() from b; out n to b; endconcurrent; endinstance; endmsc;";
+    let draft = parse(rt.alloc(), text)?;
+    let section = draft.sections().first().ok_or("a section")?;
+    match section.items.as_slice() {
+        [Item::Coregion(none), Item::Coregion(two)] => {
+            assert_eq!(rt; none.as_slice().len(), 0);
+            assert_eq!(rt; two.as_slice().len(), 2);
+        }
+        _ => assert!(rt; false, "two coregions"),
+    }
+    Ok(())
+}
+
+#[test]
+fn a_refused_text_for_each_place(rt: HostRuntime) {
+    for (text, at, what) in [
+        (b"x".as_slice(), 0, What::Msc),
+        (b"msc ;", 4, What::Name),
+        (b"msc t; inst ;", 12, What::Name),
+        (b"msc t; instance ;", 16, What::Name),
+        (b"msc t; instance a; out ;", 23, What::Name),
+        (b"msc t; instance a; in ;", 22, What::Name),
+        (b"msc t; instance a; out m to ;", 28, What::Name),
+        (b"msc t; instance a; in m from ;", 29, What::Name),
+        (b"msc t; instance a : ;", 20, What::Name),
+        (b"msc t; inst a, ;", 15, What::Name),
+        (b"msc t; instance a; out m, ;", 26, What::Name),
+        (b"msc t; instance a; out m(x, ;", 28, What::Name),
+        (b"msc t comment ;", 14, What::Text),
+        (b"msc t x", 6, What::End),
+        (b"msc t; instance a; out m to b x", 30, What::End),
+        (b"msc t; endmsc x", 14, What::End),
+        (b"msc t; instance a; endinstance x", 31, What::End),
+        (b"msc t; instance a; concurrent x", 30, What::End),
+        (
+            b"msc t; instance a; concurrent; endconcurrent x",
+            45,
+            What::End,
+        ),
+        (b"msc t comment 'c' x", 18, What::End),
+    ] {
+        let wanted = Some(ParseFault::Expected(at, what));
+        assert_eq!(rt; parse(rt.alloc(), text).err(), wanted, "{text:?}");
+    }
+}
+
+#[test]
+fn a_refused_text_for_each_later_place(rt: HostRuntime) {
+    for (text, at, what) in [
+        (b"msc t; inst a b;".as_slice(), 14, What::End),
+        (b"msc t; inst a : p (", 18, What::End),
+        (b"msc t; inst a : p q r", 20, What::End),
+        (b"msc t; instance a, b;", 17, What::End),
+        (b"msc t; instance a : p, q", 21, What::End),
+        (b"msc t; instance a : p q r", 24, What::End),
+        (b"msc t; out m to b;", 7, What::Section),
+        (b"msc t; inst a; x", 15, What::Section),
+        (
+            b"msc t; instance a; endinstance; inst b;",
+            32,
+            What::Section,
+        ),
+        (b"msc t; instance a; endmsc;", 19, What::Item),
+        (
+            b"msc t; instance a; concurrent; concurrent;",
+            31,
+            What::Event,
+        ),
+        (
+            b"msc t; instance a; concurrent; endinstance;",
+            31,
+            What::Event,
+        ),
+        (b"msc t; instance a; out m from b", 25, What::To),
+        (b"msc t; instance a; out m, 1, 2", 27, What::To),
+        (b"msc t; instance a; out m() (", 27, What::To),
+        (b"msc t; instance a; in m to b", 24, What::From),
+        (b"msc t; instance a; in m, 1 to b", 27, What::From),
+        (b"msc t; instance a; in m() to b", 26, What::From),
+        (b"msc t; instance a; out m(;", 25, What::Parameter),
+        (b"msc t; instance a; out m(x y", 27, What::Parameter),
+        (b"msc t; endmsc; msc", 15, What::Nothing),
+    ] {
+        let wanted = Some(ParseFault::Expected(at, what));
+        assert_eq!(rt; parse(rt.alloc(), text).err(), wanted, "{text:?}");
+    }
+}
+
+#[test]
+fn a_text_that_is_cut(rt: HostRuntime) {
+    for (length, wanted) in [
+        (50, ParseFault::Lex(LexFault::OpenText(49))),
+        (51, ParseFault::Lex(LexFault::OpenText(49))),
+        (52, ParseFault::Lex(LexFault::OpenText(49))),
+        (53, ParseFault::Expected(53, What::End)),
+        (54, ParseFault::Lex(LexFault::OpenText(49))),
+        (55, ParseFault::Lex(LexFault::OpenText(49))),
+        (56, ParseFault::Expected(56, What::End)),
+        (57, ParseFault::Expected(57, What::Item)),
+        (58, ParseFault::Expected(58, What::Item)),
+        (59, ParseFault::Lex(LexFault::BadByte(58))),
+        (60, ParseFault::Lex(LexFault::OpenNote(58))),
+        (67, ParseFault::Lex(LexFault::OpenNote(58))),
+        (68, ParseFault::Expected(68, What::Item)),
+    ] {
+        let text = KINDS_AND_COMMENTS.get(..length).unwrap_or(b"");
+        assert_eq!(rt; parse(rt.alloc(), text).err(), Some(wanted), "{length}");
+    }
+}
+
+#[test]
+fn every_beginning_is_refused_and_none_as_unsupported(rt: HostRuntime) {
+    for length in 0..KINDS_AND_COMMENTS.len() {
+        let text = KINDS_AND_COMMENTS.get(..length).unwrap_or(b"");
+        match parse(rt.alloc(), text).err() {
+            Some(ParseFault::Lex(_) | ParseFault::Expected(_, _)) => {}
+            _ => assert!(rt; false, "{length} bytes are refused"),
+        }
+    }
+}
+
+#[test]
+fn forty_thousand_empty_coregions(rt: HostRuntime) -> Result<(), Fail> {
+    let alloc = rt.alloc();
+    let mut text = Vec::new(alloc);
+    text.extend_from_slice(b"msc t;instance a;")?;
+    for _ in 0..40_000 {
+        text.extend_from_slice(b"concurrent;endconcurrent;")?;
+    }
+    text.extend_from_slice(b"endinstance;endmsc;")?;
+    assert_eq!(rt; text.len(), 1_000_036);
+    let draft: Draft = parse(alloc, &text)?;
+    let canonical = draft.write(alloc)?;
+    assert_eq!(rt; canonical.len(), 1_240_040);
+    let too_long = Some(ParseFault::Lex(LexFault::TooLong));
+    assert_eq!(rt; parse(alloc, &canonical).err(), too_long);
+    Ok(())
+}

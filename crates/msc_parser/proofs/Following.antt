@@ -1,0 +1,155 @@
+-- What may follow each place up to the end of a chart.
+use Rattle.std.proofs.Common.{◌≡◌, ℕ, List, [], ◌∷◌, Option, Some, None, refl, sym, ap, subst}
+use Rattle.std.specs.Prelude.{IfSome}
+use Rattle.std.specs.Option.{option_map_or}
+use Rattle.std.specs.List.{flat_map}
+use Rattle.msc_lexer.specs.declared.word.Word.TheVariants as words
+use Rattle.msc_lexer.specs.Lexemes.{Symbol, Reserved, Named, Quoted, Semicolon, Comma, Colon, LeftParen, RightParen, Lexeme}
+use Rattle.msc_parser.specs.declared.tree.Way.{Way}
+use Rattle.msc_parser.specs.declared.tree.Way.TheVariants as ways
+use Rattle.msc_parser.specs.declared.tree.Decl.{Decl}
+use Rattle.msc_parser.specs.declared.tree.Signal.{Signal}
+use Rattle.msc_parser.specs.declared.tree.Item.{Item}
+use Rattle.msc_parser.specs.declared.tree.Item.TheVariants.{Single, Coregion}
+use Rattle.msc_parser.specs.declared.tree.Section.{Section}
+use Rattle.msc_parser.specs.Forms.{IsToken, IsNamed, AreMany, IsBehind}
+use Rattle.msc_parser.specs.Grammar.{Tree, IsEnd, Plain, Commented, IsSecond, IsKind, IsDecl, way_word, address_word, IsNumber, AreParameters, Absent, Empty, Listed, IsEvent, IsItem, IsInstance, IsSection, AreDecls, IsChart}
+use Rattle.msc_parser.specs.Places.{Statement, InInst, InInstance, Place, Start, ChartName, Header, Sections, Items, Events, DeclName, DeclKind, KindFirst, KindSecond, DeclEnd, Message, AfterMessage, Number, AfterNumber, Parameters, Parameter, AfterParameter, AfterParameters, Address, End, CommentText, CommentEnd, Done, next, walk}
+
+-- a symbol that stands at a place of the text
+abbrev pub at_place : Symbol → ℕ → Lexeme
+at_place s at = record { symbol = s; place = at }
+
+-- ---- what may follow, part by part
+
+pub record SectionsRest (ls : List Lexeme) : Type 0 where
+  pub sections : List Section
+  pub last : List Lexeme
+  pub close : List Lexeme
+  pub are : AreMany IsSection ls sections last
+  pub is_endmsc : IsToken (Reserved words.EndMsc) last close
+  pub is_end : IsEnd close []
+
+pub record HeaderRest (ls : List Lexeme) : Type 0 where
+  pub groups : List (List Decl)
+  pub after : List Lexeme
+  pub are : AreMany (IsBehind (Reserved words.Inst) AreDecls) ls groups after
+  pub rest : SectionsRest after
+
+pub record ItemsRest (ls : List Lexeme) : Type 0 where
+  pub items : List Item
+  pub last : List Lexeme
+  pub close : List Lexeme
+  pub after : List Lexeme
+  pub are : AreMany IsItem ls items last
+  pub is_endinstance : IsToken (Reserved words.EndInstance) last close
+  pub is_end : IsEnd close after
+  pub rest : SectionsRest after
+
+pub record EventsRest (ls : List Lexeme) : Type 0 where
+  pub events : List Signal
+  pub last : List Lexeme
+  pub close : List Lexeme
+  pub after : List Lexeme
+  pub are : AreMany IsEvent ls events last
+  pub is_endconcurrent : IsToken (Reserved words.EndConcurrent) last close
+  pub is_end : IsEnd close after
+  pub rest : ItemsRest after
+
+pub record EndRest (More : List Lexeme → Type 0) (ls : List Lexeme) : Type 0 where
+  pub after : List Lexeme
+  pub is_end : IsEnd ls after
+  pub rest : More after
+
+pub record DeclsRest (ls : List Lexeme) : Type 0 where
+  pub decls : List Decl
+  pub close : List Lexeme
+  pub are : AreMany (IsBehind Comma IsDecl) ls decls close
+  pub rest : EndRest HeaderRest close
+
+abbrev pub DeclRest : Statement → List Lexeme → Type 0
+DeclRest InInst ls = DeclsRest ls
+DeclRest InInstance ls = EndRest ItemsRest ls
+
+pub record SecondRest (st : Statement) (ls : List Lexeme) : Type 0 where
+  pub second : List (List ℕ)
+  pub after : List Lexeme
+  pub is : IsSecond ls second after
+  pub rest : DeclRest st after
+
+pub record KindRest (st : Statement) (ls : List Lexeme) : Type 0 where
+  pub kind : List (List ℕ)
+  pub after : List Lexeme
+  pub is : IsKind ls kind after
+  pub rest : DeclRest st after
+
+pub record NameRest (st : Statement) (ls : List Lexeme) : Type 0 where
+  pub decl : Decl
+  pub after : List Lexeme
+  pub is : IsDecl ls decl after
+  pub rest : DeclRest st after
+
+pub record AddressRest (More : List Lexeme → Type 0) (ls : List Lexeme) : Type 0 where
+  pub name : List ℕ
+  pub close : List Lexeme
+  pub is : IsToken (Named name) ls close
+  pub rest : EndRest More close
+
+pub record WordRest (w : Way) (More : List Lexeme → Type 0) (ls : List Lexeme) : Type 0 where
+  pub address : List Lexeme
+  pub is : IsToken (Reserved (address_word w)) ls address
+  pub rest : AddressRest More address
+
+pub record ParametersRest (w : Way) (More : List Lexeme → Type 0) (ls : List Lexeme) : Type 0 where
+  pub parameters : List (List ℕ)
+  pub word : List Lexeme
+  pub are : AreParameters ls parameters word
+  pub rest : WordRest w More word
+
+pub record NamesRest (w : Way) (More : List Lexeme → Type 0) (ls : List Lexeme) : Type 0 where
+  pub names : List (List ℕ)
+  pub close : List Lexeme
+  pub word : List Lexeme
+  pub are : AreMany (IsBehind Comma IsNamed) ls names close
+  pub is_close : IsToken RightParen close word
+  pub rest : WordRest w More word
+
+pub record NumberRest (w : Way) (More : List Lexeme → Type 0) (ls : List Lexeme) : Type 0 where
+  pub number : Option (List ℕ)
+  pub parameters : List Lexeme
+  pub is : IsNumber ls number parameters
+  pub rest : ParametersRest w More parameters
+
+pub record EventRest (More : List Lexeme → Type 0) (ls : List Lexeme) : Type 0 where
+  pub event : Signal
+  pub after : List Lexeme
+  pub is : IsEvent ls event after
+  pub rest : More after
+
+-- what may follow from a place to the end of a chart; where a part began before the place, the tokens
+-- before it, which may stand anywhere, are told too
+unfoldable pub Rest : Place → List Lexeme → Type 0
+Rest Start ls = (t : Tree) × IsChart ls t
+Rest ChartName ls = (name : List ℕ) × (close : List Lexeme) × IsToken (Named name) ls close × EndRest HeaderRest close
+Rest Header ls = HeaderRest ls
+Rest Sections ls = SectionsRest ls
+Rest Items ls = ItemsRest ls
+Rest Events ls = EventsRest ls
+Rest (DeclName st) ls = NameRest st ls
+Rest (DeclKind st) ls = KindRest st ls
+Rest (KindFirst st) ls = (at : ℕ) → KindRest st (at_place Colon at ∷ ls)
+Rest (KindSecond st) ls = SecondRest st ls
+Rest (DeclEnd st) ls = DeclRest st ls
+Rest (Message w p) ls = (at : ℕ) → EventRest (Rest p) (at_place (Reserved (way_word w)) at ∷ ls)
+Rest (AfterMessage w p) ls = NumberRest w (Rest p) ls
+Rest (Number w p) ls = (at : ℕ) → NumberRest w (Rest p) (at_place Comma at ∷ ls)
+Rest (AfterNumber w p) ls = ParametersRest w (Rest p) ls
+Rest (Parameters w p) ls = (at : ℕ) → ParametersRest w (Rest p) (at_place LeftParen at ∷ ls)
+Rest (Parameter w p) ls = (at : ℕ) → NamesRest w (Rest p) (at_place Comma at ∷ ls)
+Rest (AfterParameter w p) ls = NamesRest w (Rest p) ls
+Rest (AfterParameters w p) ls = WordRest w (Rest p) ls
+Rest (Address p) ls = AddressRest (Rest p) ls
+Rest (End p) ls = EndRest (Rest p) ls
+Rest (CommentText p) ls = (at : ℕ) → EndRest (Rest p) (at_place (Reserved words.Comment) at ∷ ls)
+Rest (CommentEnd p) ls = (at bt : ℕ) (bytes : List ℕ) → EndRest (Rest p) (at_place (Reserved words.Comment) at ∷ at_place (Quoted bytes) bt ∷ ls)
+Rest Done ls = ls ≡ []

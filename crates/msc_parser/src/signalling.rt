@@ -1,0 +1,137 @@
+//! Message events: a message's name, its message instance name and its parameters, and the address.
+//!
+//! Each function reads the front of a slice of tokens, and answers the rest of the slice with it.
+
+ghost use Rattle.std.specs.Prelude.{◌≡◌, ◌≢◌, Some, IfSome, IfNone};
+ghost use Rattle.msc_lexer.specs.Lexemes.{AreWithin};
+ghost use Rattle.msc_parser.specs.declared.tree.Way.{Way};
+ghost use Rattle.msc_parser.specs.Forms.{IsNamed, AreListed};
+ghost use Rattle.msc_parser.specs.Grammar.{way_word, address_word, IsNumber, AreParameters};
+ghost use Rattle.msc_parser.specs.Places.{Place, Message, AfterMessage, AfterNumber, Parameters, AfterParameter, AfterParameters, address_what};
+ghost use Rattle.msc_parser.specs.Reading.{first_kind, Reads, Leaves, IsSignalOf};
+
+use crate::fault::{ParseFault, What};
+use crate::taking::{stands, take, take_end, take_name};
+use crate::tree::{Name, Signal, Way};
+use listed::Listed;
+use msc_lexer::{Kind, Token, Word};
+use std::alloc::Global;
+
+/// The word before the address of an event.
+pub fn address_word(way: Way) -> Word
+    ensures { result ≡ address_word way }
+{
+    match way {
+        Way::Output => Word::To,
+        Way::Input => Word::From,
+    }
+}
+
+/// What is expected before the address of an event.
+fn address_what(way: Way) -> What
+    ensures { result ≡ address_what way }
+{
+    match way {
+        Way::Output => What::To,
+        Way::Input => What::From,
+    }
+}
+
+/// The way of the event that begins here, if one does.
+pub fn first_way(tokens: &[Token]) -> Option<Way>
+    ensures some { IfSome result (λ way. first_kind tokens.now ≡ Some (Kind.Word (way_word way))) }
+    ensures none { IfNone result ((way : Way) → first_kind tokens.now ≢ Some (Kind.Word (way_word way))) }
+{
+    if stands(Kind::Word(Word::Output), tokens) {
+        Some(Way::Output)
+    } else if stands(Kind::Word(Word::Input), tokens) {
+        Some(Way::Input)
+    } else {
+        None
+    }
+}
+
+/// The message instance name behind a message's name, if one stands there.
+fn number<'a>(
+    alloc: Global,
+    text: &[u8],
+    tokens: &'a [Token],
+) -> Result<(Option<Name>, &'a [Token]), ParseFault>
+    requires { AreWithin text.now tokens.now }
+    ensures { (w : Way) (p : Place) → Reads text.now IsNumber (AfterMessage w p) (AfterNumber w p) tokens.now result }
+{
+    if !stands(Kind::Comma, tokens) {
+        return Ok((None, tokens));
+    }
+    let (number, rest) = take_name(alloc, What::Name, text, &tokens[1..])?;
+    Ok((Some(number), rest))
+}
+
+/// Names with commas between them, behind `(`.
+fn names<'a>(
+    alloc: Global,
+    text: &[u8],
+    tokens: &'a [Token],
+) -> Result<(Listed<Name>, &'a [Token]), ParseFault>
+    requires within { AreWithin text.now tokens.now }
+    requires some { first_kind tokens.now ≢ Some Kind.RightParen }
+    ensures reads { (w : Way) (p : Place) → Reads text.now (AreListed IsNamed) (Parameters w p) (AfterParameter w p) tokens.now result }
+    ensures stopped { Leaves Kind.Comma result }
+{
+    let (first, mut rest) = take_name(alloc, What::Parameter, text, tokens)?;
+    let mut names = Vec::new(alloc);
+    names.push(first)?;
+    'names: while stands(Kind::Comma, rest) {
+        let (more, after) = take_name(alloc, What::Name, text, &rest[1..])?;
+        names.push(more)?;
+        rest = after;
+    }
+    Ok((Listed::from_vec(names), rest))
+}
+
+/// The parameters of a message, in parentheses, if any stand there.
+fn parameters<'a>(
+    alloc: Global,
+    text: &[u8],
+    tokens: &'a [Token],
+) -> Result<(Listed<Name>, &'a [Token]), ParseFault>
+    requires { AreWithin text.now tokens.now }
+    ensures { (w : Way) (p : Place) → Reads text.now AreParameters (AfterNumber w p) (AfterParameters w p) tokens.now result }
+{
+    if !stands(Kind::LeftParen, tokens) {
+        return Ok((Listed::from_vec(Vec::new(alloc)), tokens));
+    }
+    let rest = &tokens[1..];
+    if stands(Kind::RightParen, rest) {
+        return Ok((Listed::from_vec(Vec::new(alloc)), &rest[1..]));
+    }
+    let (names, rest) = names(alloc, text, rest)?;
+    let rest = take(Kind::RightParen, What::Parameter, text, rest)?;
+    Ok((names, rest))
+}
+
+/// An event of this way, behind its first word.
+pub fn signal<'a>(
+    alloc: Global,
+    way: Way,
+    text: &[u8],
+    tokens: &'a [Token],
+) -> Result<(Signal, &'a [Token]), ParseFault>
+    requires { AreWithin text.now tokens.now }
+    ensures { (p : Place) → Reads text.now (IsSignalOf way) (Message way p) p tokens.now result }
+{
+    let (name, rest) = take_name(alloc, What::Name, text, tokens)?;
+    let (number, rest) = number(alloc, text, rest)?;
+    let (parameters, rest) = parameters(alloc, text, rest)?;
+    let rest = take(Kind::Word(address_word(way)), address_what(way), text, rest)?;
+    let (address, rest) = take_name(alloc, What::Name, text, rest)?;
+    let rest = take_end(text, rest)?;
+    let signal = Signal {
+        way,
+        name,
+        number,
+        parameters,
+        address,
+    };
+    Ok((signal, rest))
+}
