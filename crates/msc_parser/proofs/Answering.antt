@@ -18,6 +18,7 @@ use Rattle.msc_parser.proofs.FirstFault.{fault_at_walk}
 
 -- ---- the fault of a walk
 
+-- a symbol that was not expected gives no lexical fault
 no_lex_symbol : (at : ℕ) (w : What) (s : Symbol) (f : LexFault) → faults.Lex f ≡ refused_at at w s → ⊥
 no_lex_symbol at w (Reserved word) f e = refused (is_refused word) e
   where
@@ -31,6 +32,7 @@ no_lex : (len : ℕ) (w : What) (ls : List Lexeme) (f : LexFault) → faults.Lex
 no_lex len w [] f e = cc
 no_lex len w (l ∷ ls) f e = no_lex_symbol l.place w l.symbol f e
 
+-- a walk that ends elsewhere than at the end of a chart has the fault of its place
 fault_inside : (len : ℕ) (q : Place) (rest : List Lexeme) → ((q ≡ Done) → rest ≡ [] → ⊥) → fault_of len (q, rest) ≡ Some (fault_at len (what q) rest)
 fault_inside len Done [] h = absurd (h refl refl)
 fault_inside len q rest h = refl
@@ -70,6 +72,7 @@ reads_fault text tokens (faults.Lex f) have h other =
     let g = grammar_fault text tokens (faults.Lex f) have h in
     absurd (no_lex (length text) (what (walk Start g.front).0) g.rest f g.fault_is)
 
+-- what reading the tokens answers is the draft or the fault of the text
 pub reads_answer : (text : List ℕ) (tokens : List Token) (r : Result Tree ParseFault) → HasTokens text tokens → ReadsChart text tokens r → IfOk r (HasDraft text) × IfErr r (λ e. e ≢ faults.Memory → HasParseFault text e)
 reads_answer text tokens (Ok t) have h = ((tokens, have, h), tt)
 reads_answer text tokens (Err e) have h = (tt, λ other. reads_fault text tokens e have h other)
@@ -81,6 +84,7 @@ chart_or_fault : (front rest : List Lexeme) (t : Tree) → IsChart (front ++ res
 chart_or_fault front [] t h last = last t (subst (λ (ls : List Lexeme). IsChart ls t) (append-nil front) h)
 chart_or_fault front (l ∷ rest) t h last = last (rest, t, subst (λ (ls : List Lexeme). IsChart ls t) (sym (append_assoc front (l ∷ []) rest)) h)
 
+-- a beginning of what can go on can go on
 shorter_good : (front more : List Lexeme) → IsContinuable (front ++ more) → IsContinuable front
 shorter_good front more h = (more ++ h.0, h.1, subst (λ (ls : List Lexeme). IsChart ls h.1) (append_assoc front more h.0) h.2)
 
@@ -110,21 +114,25 @@ module _ (one : OneReading) where
       let same = one.tokens text d.0 g.tokens d.1 g.have in
       chart_or_fault g.front g.rest t (subst (λ (ls : List Lexeme). IsChart ls t) (ap (lexemes text) same ∙ g.whole) d.2) g.last
 
+  -- a text with a draft has no fault
   draft_or_fault : (text : List ℕ) (t : Tree) (e : ParseFault) → HasDraft text t → HasParseFault text e → ⊥
   draft_or_fault text t faults.Memory d h = h
   draft_or_fault text t (faults.Lex f) d h = one.apart text d.0 f d.1 h
   draft_or_fault text t (faults.Unsupported at w) d h = draft_or_grammar text t _ d h
   draft_or_fault text t (faults.Expected at w) d h = draft_or_grammar text t _ d h
 
+  -- a text has one first grammar fault
   one_grammar_fault : (text : List ℕ) (e f : ParseFault) → IsGrammarFault text e → IsGrammarFault text f → e ≡ f
   one_grammar_fault text e f g h =
       let same = one.tokens text g.tokens h.tokens g.have h.have in
       let split = same_split [] g.front h.front g.rest h.rest (sym g.whole ∙ ap (lexemes text) same ∙ h.whole) g.good h.good g.last h.last in
       g.fault_is ∙ rw (split.0, split.1) refl ∙ sym h.fault_is
 
+  -- a text with a lexical fault has no grammar fault
   lex_or_grammar : (text : List ℕ) (f : LexFault) (e : ParseFault) → HasFault text f → IsGrammarFault text e → ⊥
   lex_or_grammar text f e h g = one.apart text g.tokens f g.have h
 
+  -- a text has one first fault
   one_parse_fault : (text : List ℕ) (e f : ParseFault) → HasParseFault text e → HasParseFault text f → e ≡ f
   one_parse_fault text faults.Memory f g h = absurd g
   one_parse_fault text e faults.Memory g h = absurd h
@@ -138,14 +146,17 @@ module _ (one : OneReading) where
   one_parse_fault text (faults.Expected at w) (faults.Unsupported bt v) g h = one_grammar_fault text _ _ g h
   one_parse_fault text (faults.Expected at w) (faults.Expected bt v) g h = one_grammar_fault text _ _ g h
 
+  -- a text has one draft
   one_text_draft : (text : List ℕ) (t u : Tree) → HasDraft text t → HasDraft text u → t ≡ u
   one_text_draft text t u d h =
       let same = one.tokens text d.0 h.0 d.1 h.1 in
       one_chart (lexemes text h.0) t u (subst (λ (ts : List Token). IsChart (lexemes text ts) t) same d.2) h.2
 
+  -- a text has one draft or one first fault
   pub one_parsing : OneParsing
   one_parsing = record { draft = one_text_draft; fault = one_parse_fault; apart = draft_or_fault }
 
+-- a fault is want of memory, or it is not
 is_memory : (f : ParseFault) → (f ≡ faults.Memory) ⊎ (f ≢ faults.Memory)
 is_memory faults.Memory = inl refl
 is_memory (faults.Lex f) = inr (λ e. cc)

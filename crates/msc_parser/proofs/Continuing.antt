@@ -82,6 +82,7 @@ back (CommentText p) (Quoted bytes) at ls = λ r bt. r bt at bytes
 back (CommentEnd p) Semicolon at ls = λ r at_1 bt bytes. commented_end (Rest p) at_1 bt at bytes ls r
 back p s at ls = tt
 
+-- one token back, from the place behind it
 onward : (p : Place) (l : Lexeme) (ls : List Lexeme) (o : Option Place) → next p l.symbol ≡ o → ((q : Place) → walk q ls ≡ (Done, []) → Rest q ls) → option_map_or (λ q. walk q ls) o (p, l ∷ ls) ≡ (Done, []) → Rest p (l ∷ ls)
 onward p l ls None step others h = let t : l ∷ ls ≡ [] = ap (λ (x : Place × List Lexeme). x.1) h in absurd cc
 onward p l ls (Some q) step others h = let r = subst (λ (o : Option Place). IfSome o (λ k. Rest k ls → Rest p (l ∷ ls))) step (back p l.symbol l.place ls) in r (others q h)
@@ -92,6 +93,7 @@ unfolding Rest
 sound [] p e = subst (λ (q : Place). Rest q []) (sym (ap (λ (x : Place × List Lexeme). x.0) e)) refl
 sound (l ∷ ls) p e = onward p l ls (next p l.symbol) refl (λ q h. sound ls q h) e
 
+-- what leads from the start to the end is a chart
 pub walks_chart : (ls : List Lexeme) → walk Start ls ≡ (Done, []) → (t : Tree) × IsChart ls t
 unfolding Rest
 walks_chart ls e = sound ls Start e

@@ -22,6 +22,7 @@ stopped : {X : Type 0} (IsPart : List Lexeme → X → List Lexeme → Type 0) (
 stopped IsPart Stop Ends seq [] b a h ends = subst Stop (sym h) (seq.ends a ends)
 stopped IsPart Stop Ends seq (x ∷ xs) b a h ends = seq.begins b h.0 x h.1
 
+-- equal heads and equal tails make equal lists
 pair_same : {X : Type 0} {x y : X} {xs ys : List X} → x ≡ y → xs ≡ ys → x ∷ xs ≡ y ∷ ys
 pair_same e f = cc
 

@@ -29,15 +29,18 @@ stuck_but_two text p a b (t ∷ ts) only no_a no_b = only t.kind _ (λ e. no_a (
     some_kind : Kind → Option Kind
     some_kind k = Some k
 
+-- at the end of a statement only `comment` and `;` may stand
 only-End : (p : Place) (k : Kind) (bytes : List ℕ) → k ≢ kinds.Word words.Comment → k ≢ kinds.Semicolon → next (End p) (symbol_of k bytes) ≡ None
 only-End p (kinds.Word words.Comment) bytes a b = absurd (a refl)
 only-End p kinds.Semicolon bytes a b = absurd (b refl)
 only-End p k bytes a b = refl
 
+-- behind `comment` only a text may stand
 only-CommentText : (p : Place) → OnlyTakes (CommentText p) kinds.Text
 only-CommentText p kinds.Text bytes a = absurd (a refl)
 only-CommentText p k bytes a = refl
 
+-- behind the text of a comment only `;` may stand
 only-CommentEnd : (p : Place) → OnlyTakes (CommentEnd p) kinds.Semicolon
 only-CommentEnd p kinds.Semicolon bytes a = absurd (a refl)
 only-CommentEnd p k bytes a = refl

@@ -21,6 +21,7 @@ record WalksTo (p : Place) (ls : List Lexeme) (q : Place) (rest : List Lexeme) :
   leads : (more : List Lexeme) → walk p (front ++ more) ≡ walk q more
   stops : (l : Lexeme) (more : List Lexeme) → rest ≡ l ∷ more → next q l.symbol ≡ None
 
+-- one step of a walk
 walk_step : (p : Place) (l : Lexeme) (ls : List Lexeme) (o : Option Place) → next p l.symbol ≡ o → ((q : Place) → WalksTo q ls (walk q ls).0 (walk q ls).1)
     → WalksTo p (l ∷ ls) (option_map_or (λ q. walk q ls) o (p, l ∷ ls)).0 (option_map_or (λ q. walk q ls) o (p, l ∷ ls)).1
 walk_step p l ls None step others = record { front = []; whole = refl; leads = λ more. refl; stops = λ k more e. let s : l ≡ k = cc in subst (λ (x : Lexeme). next p x.symbol ≡ None) s step }
@@ -33,6 +34,7 @@ walk_step p l ls (Some q) step others =
       stops = w.stops;
     }
 
+-- where each walk ends
 walks_to : (ls : List Lexeme) (p : Place) → WalksTo p ls (walk p ls).0 (walk p ls).1
 walks_to [] p = record { front = []; whole = refl; leads = λ more. refl; stops = λ l more e. absurd cc }
 walks_to (l ∷ ls) p = walk_step p l ls (next p l.symbol) refl (λ q. walks_to ls q)
@@ -43,33 +45,41 @@ stuck p l ls none = ap (λ (o : Option Place). option_map_or (λ n. walk n ls) o
 
 -- ---- each place has a way to the end
 
+-- a symbol at no place that matters
 lexeme : Symbol → Lexeme
 lexeme s = record { symbol = s; place = 0 }
 
+-- some name
 name : Lexeme
 unfolding lexeme
 name = lexeme (Named (97 ∷ []))
 
+-- `;` and what follows
 from_end : List Lexeme → List Lexeme
 unfolding lexeme
 from_end more = lexeme Semicolon ∷ more
 
+-- the shortest way to the end from between the sections
 from_sections : List Lexeme
 unfolding lexeme
 from_sections = lexeme (Reserved words.EndMsc) ∷ from_end []
 
+-- the shortest way to the end from between items
 from_items : List Lexeme
 unfolding lexeme
 from_items = lexeme (Reserved words.EndInstance) ∷ from_end from_sections
 
+-- the shortest way to the end from behind a decl
 from_decl : Statement → List Lexeme
 from_decl InInst = from_end from_sections
 from_decl InInstance = from_end from_items
 
+-- the word before an address, an address and `;`
 from_word : Way → List Lexeme → List Lexeme
 unfolding lexeme
 from_word w more = lexeme (Reserved (address_word w)) ∷ name ∷ from_end more
 
+-- a way to the end from each place
 completion : Place → List Lexeme
 unfolding lexeme
 completion Start = lexeme (Reserved words.Msc) ∷ name ∷ from_end from_sections
@@ -97,6 +107,7 @@ completion (CommentText p) = lexeme (Quoted []) ∷ from_end (completion p)
 completion (CommentEnd p) = from_end (completion p)
 completion Done = []
 
+-- it leads there
 completed : (p : Place) → walk p (completion p) ≡ (Done, [])
 unfolding completion lexeme name from_end from_sections from_items from_decl from_word
 completed Start = refl
@@ -139,11 +150,13 @@ completed Done = refl
 
 -- ---- the first fault
 
+-- the tokens that were walked over can go on to a chart
 can_go_on : (ls : List Lexeme) (q : Place) (rest : List Lexeme) (w : WalksTo Start ls q rest) → IsContinuable w.front
 can_go_on ls q rest w =
     let c = walks_chart (w.front ++ completion q) (w.leads (completion q) ∙ completed q) in
     (completion q, c.0, c.1)
 
+-- and they cannot go on with the next token
 cannot_go_on : (ls : List Lexeme) (q : Place) (rest : List Lexeme) (w : WalksTo Start ls q rest) → ((q ≡ Done) → rest ≡ [] → ⊥) → IsEndOfGood w.front rest
 cannot_go_on ls q [] w failed = λ t c. let e : walk Start w.front ≡ (Done, []) = chart_walks w.front t c in
     let f : walk Start w.front ≡ (q, []) = ap (walk Start) (sym (append-nil w.front)) ∙ w.leads [] in

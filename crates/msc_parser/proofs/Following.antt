@@ -22,6 +22,7 @@ at_place s at = record { symbol = s; place = at }
 
 -- ---- what may follow, part by part
 
+-- sections, `endmsc` and the last end
 pub record SectionsRest (ls : List Lexeme) : Type 0 where
   pub sections : List Section
   pub last : List Lexeme
@@ -30,12 +31,14 @@ pub record SectionsRest (ls : List Lexeme) : Type 0 where
   pub is_endmsc : IsToken (Reserved words.EndMsc) last close
   pub is_end : IsEnd close []
 
+-- `inst` statements, and what follows the header
 pub record HeaderRest (ls : List Lexeme) : Type 0 where
   pub groups : List (List Decl)
   pub after : List Lexeme
   pub are : AreMany (IsBehind (Reserved words.Inst) AreDecls) ls groups after
   pub rest : SectionsRest after
 
+-- items, `endinstance` and its end, and what follows a section
 pub record ItemsRest (ls : List Lexeme) : Type 0 where
   pub items : List Item
   pub last : List Lexeme
@@ -46,6 +49,7 @@ pub record ItemsRest (ls : List Lexeme) : Type 0 where
   pub is_end : IsEnd close after
   pub rest : SectionsRest after
 
+-- events, `endconcurrent` and its end, and what follows an item
 pub record EventsRest (ls : List Lexeme) : Type 0 where
   pub events : List Signal
   pub last : List Lexeme
@@ -56,56 +60,66 @@ pub record EventsRest (ls : List Lexeme) : Type 0 where
   pub is_end : IsEnd close after
   pub rest : ItemsRest after
 
+-- the end of a statement, and more
 pub record EndRest (More : List Lexeme → Type 0) (ls : List Lexeme) : Type 0 where
   pub after : List Lexeme
   pub is_end : IsEnd ls after
   pub rest : More after
 
+-- further decls of `inst`, its end, and the header behind it
 pub record DeclsRest (ls : List Lexeme) : Type 0 where
   pub decls : List Decl
   pub close : List Lexeme
   pub are : AreMany (IsBehind Comma IsDecl) ls decls close
   pub rest : EndRest HeaderRest close
 
+-- what may follow a decl
 abbrev pub DeclRest : Statement → List Lexeme → Type 0
 DeclRest InInst ls = DeclsRest ls
 DeclRest InInstance ls = EndRest ItemsRest ls
 
+-- a second name of a kind or none, and what follows the decl
 pub record SecondRest (st : Statement) (ls : List Lexeme) : Type 0 where
   pub second : List (List ℕ)
   pub after : List Lexeme
   pub is : IsSecond ls second after
   pub rest : DeclRest st after
 
+-- a kind or none, and what follows the decl
 pub record KindRest (st : Statement) (ls : List Lexeme) : Type 0 where
   pub kind : List (List ℕ)
   pub after : List Lexeme
   pub is : IsKind ls kind after
   pub rest : DeclRest st after
 
+-- a decl, and what follows it
 pub record NameRest (st : Statement) (ls : List Lexeme) : Type 0 where
   pub decl : Decl
   pub after : List Lexeme
   pub is : IsDecl ls decl after
   pub rest : DeclRest st after
 
+-- an address and the end of the event, and more
 pub record AddressRest (More : List Lexeme → Type 0) (ls : List Lexeme) : Type 0 where
   pub name : List ℕ
   pub close : List Lexeme
   pub is : IsToken (Named name) ls close
   pub rest : EndRest More close
 
+-- the word before an address, and what follows it
 pub record WordRest (w : Way) (More : List Lexeme → Type 0) (ls : List Lexeme) : Type 0 where
   pub address : List Lexeme
   pub is : IsToken (Reserved (address_word w)) ls address
   pub rest : AddressRest More address
 
+-- parameters or none, and what follows them
 pub record ParametersRest (w : Way) (More : List Lexeme → Type 0) (ls : List Lexeme) : Type 0 where
   pub parameters : List (List ℕ)
   pub word : List Lexeme
   pub are : AreParameters ls parameters word
   pub rest : WordRest w More word
 
+-- further parameters and `)`, and what follows them
 pub record NamesRest (w : Way) (More : List Lexeme → Type 0) (ls : List Lexeme) : Type 0 where
   pub names : List (List ℕ)
   pub close : List Lexeme
@@ -114,12 +128,14 @@ pub record NamesRest (w : Way) (More : List Lexeme → Type 0) (ls : List Lexeme
   pub is_close : IsToken RightParen close word
   pub rest : WordRest w More word
 
+-- a message instance name or none, and what follows it
 pub record NumberRest (w : Way) (More : List Lexeme → Type 0) (ls : List Lexeme) : Type 0 where
   pub number : Option (List ℕ)
   pub parameters : List Lexeme
   pub is : IsNumber ls number parameters
   pub rest : ParametersRest w More parameters
 
+-- an event, and more
 pub record EventRest (More : List Lexeme → Type 0) (ls : List Lexeme) : Type 0 where
   pub event : Signal
   pub after : List Lexeme

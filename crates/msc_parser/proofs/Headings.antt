@@ -20,30 +20,36 @@ use Rattle.msc_parser.proofs.Parts.{AreMany-push, behind_read}
 
 -- ---- kinds
 
+-- where a decl begins only a name may stand
 only-DeclName : (st : Statement) → OnlyTakes (DeclName st) kinds.Name
 only-DeclName st kinds.Name bytes a = absurd (a refl)
 only-DeclName st k bytes a = refl
 
+-- behind `:` only a name may stand
 only-KindFirst : (st : Statement) → OnlyTakes (KindFirst st) kinds.Name
 only-KindFirst st kinds.Name bytes a = absurd (a refl)
 only-KindFirst st k bytes a = refl
 
+-- but for `:`, behind a name stands what stands behind a decl
 alike-DeclKind : (st : Statement) (k : Kind) (bytes : List ℕ) → k ≢ kinds.Colon → next (DeclKind st) (symbol_of k bytes) ≡ next (DeclEnd st) (symbol_of k bytes)
 alike-DeclKind InInst kinds.Colon bytes a = absurd (a refl)
 alike-DeclKind InInst k bytes a = refl
 alike-DeclKind InInstance kinds.Colon bytes a = absurd (a refl)
 alike-DeclKind InInstance k bytes a = refl
 
+-- but for a name, behind the first name of a kind stands what stands behind a decl
 alike-KindSecond : (st : Statement) (k : Kind) (bytes : List ℕ) → k ≢ kinds.Name → next (KindSecond st) (symbol_of k bytes) ≡ next (DeclEnd st) (symbol_of k bytes)
 alike-KindSecond InInst kinds.Name bytes a = absurd (a refl)
 alike-KindSecond InInst k bytes a = refl
 alike-KindSecond InInstance kinds.Name bytes a = absurd (a refl)
 alike-KindSecond InInstance k bytes a = refl
 
+-- `:` leads to the first name of a kind
 colon_leads : (st : Statement) → next (DeclKind st) Colon ≡ Some (KindFirst st)
 colon_leads InInst = refl
 colon_leads InInstance = refl
 
+-- a second name of a kind leads to the end of the decl
 second_leads : (st : Statement) (n : List ℕ) → next (KindSecond st) (Named n) ≡ Some (DeclEnd st)
 second_leads InInst n = refl
 second_leads InInstance n = refl
@@ -62,11 +68,13 @@ first_leads : (text : List ℕ) (a b : List Token) (n : List ℕ) (st : Statemen
 first_leads text a b n st within colon name =
     leads_on text (DeclKind st) (KindFirst st) Colon a (others a) (took text kinds.Colon a within colon).1 (colon_leads st) ∙ leads_on text (KindFirst st) (KindSecond st) (Named n) (others a) b name refl
 
+-- behind `:` no name stands
 pub kind_first_refused : (text : List ℕ) (a : List Token) (e : ParseFault) → AreWithin text a → first_kind a ≡ Some kinds.Colon → TakesName text whats.Name (others a) (Err e) → (st : Statement) → Stops text (DeclKind st) a e
 kind_first_refused text a e within colon refused st =
     Stops-back text (DeclKind st) (KindFirst st) a (others a) e (leads_on text (DeclKind st) (KindFirst st) Colon a (others a) (took text kinds.Colon a within colon).1 (colon_leads st))
     (refuses_name text (KindFirst st) whats.Name (others a) e (λ len ls. refl) (only-KindFirst st) refl refused)
 
+-- a kind of one name
 pub kind_one : (text : List ℕ) (a b : List Token) (n : List ℕ) (ks : List (List ℕ)) → AreWithin text a → first_kind a ≡ Some kinds.Colon → DidTake text (Named n) (others a) b → first_kind b ≢ Some kinds.Name → ks ≡ n ∷ [] → (st : Statement) → DidRead text IsKind (DeclKind st) (DeclEnd st) a b ks
 kind_one text a b n ks within colon name no_name one st =
     let word = (took text kinds.Colon a within colon).1 in
@@ -78,6 +86,7 @@ kind_one text a b n ks within colon name no_name one st =
           ∙ fault_but text (KindSecond st) (DeclEnd st) kinds.Name b (alike-KindSecond st) no_name refl (λ len ls. refl) (λ len ls. refl);
     })
 
+-- a kind of two names
 pub kind_two : (text : List ℕ) (a b c : List Token) (n m : List ℕ) (ks : List (List ℕ)) → AreWithin text a → first_kind a ≡ Some kinds.Colon → DidTake text (Named n) (others a) b → DidTake text (Named m) b c → ks ≡ n ∷ m ∷ [] → (st : Statement) → DidRead text IsKind (DeclKind st) (DeclEnd st) a c ks
 kind_two text a b c n m ks within colon name second two st =
     let word = (took text kinds.Colon a within colon).1 in
@@ -90,6 +99,7 @@ kind_two text a b c n m ks within colon name second two st =
 
 -- ---- decls
 
+-- a decl is a name and its kind
 pub decl_read : (text : List ℕ) (a b c : List Token) (n : List ℕ) (k : List (List ℕ)) (st : Statement) → DidTake text (Named n) a b → DidRead text IsKind (DeclKind st) (DeclEnd st) b c k → DidRead text IsDecl (DeclName st) (DeclEnd st) a c record { name = n; kind = k }
 decl_read text a b c n k st name kind = record {
   part = (lexemes text b, name.part, kind.part);
@@ -98,14 +108,17 @@ decl_read text a b c n k st name kind = record {
   leads = leads_on text (DeclName st) (DeclKind st) (Named n) a b name refl ∙ kind.leads;
 }
 
+-- no name stands where a decl begins
 pub decl_refused : (text : List ℕ) (a : List Token) (e : ParseFault) → TakesName text whats.Name a (Err e) → (st : Statement) → Stops text (DeclName st) a e
 decl_refused text a e refused st = refuses_name text (DeclName st) whats.Name a e (λ len ls. refl) (only-DeclName st) refl refused
 
+-- a fault of the kind is a fault of the decl
 pub decl_kind_refused : (text : List ℕ) (a b : List Token) (n : List ℕ) (e : ParseFault) (st : Statement) → DidTake text (Named n) a b → Stops text (DeclKind st) b e → Stops text (DeclName st) a e
 decl_kind_refused text a b n e st name stop = Stops-back text (DeclName st) (DeclKind st) a b e (leads_on text (DeclName st) (DeclKind st) (Named n) a b name refl) stop
 
 -- ---- `inst` statements
 
+-- but for a comma, behind a decl of `inst` stands what ends the statement
 alike-DeclEnd : (k : Kind) (bytes : List ℕ) → k ≢ kinds.Comma → next (DeclEnd InInst) (symbol_of k bytes) ≡ next (End Header) (symbol_of k bytes)
 alike-DeclEnd kinds.Comma bytes a = absurd (a refl)
 alike-DeclEnd k bytes a = refl
@@ -114,6 +127,7 @@ alike-DeclEnd k bytes a = refl
 decls_lead : (text : List ℕ) (a b : List Token) (ds : List Decl) → DidRead text (AreListed IsDecl) (DeclName InInst) (DeclEnd InInst) a b ds → first_kind b ≢ Some kinds.Comma → fault_from text (DeclName InInst) a ≡ fault_from text (End Header) b
 decls_lead text a b ds h no_comma = h.leads ∙ fault_but text (DeclEnd InInst) (End Header) kinds.Comma b alike-DeclEnd no_comma refl (λ len ls. refl) (λ len ls. refl)
 
+-- an `inst` statement is its decls and its end
 pub inst_read : (text : List ℕ) (a b c : List Token) (ds : List Decl) → DidRead text (AreListed IsDecl) (DeclName InInst) (DeclEnd InInst) a b ds → first_kind b ≢ Some kinds.Comma → DidEnd text b c → DidRead text AreDecls (DeclName InInst) Header a c ds
 inst_read text a b c ds h no_comma end = record {
   part = (lexemes text b, h.part, end.part);
@@ -122,6 +136,7 @@ inst_read text a b c ds h no_comma end = record {
   leads = decls_lead text a b ds h no_comma ∙ end.leads Header;
 }
 
+-- a fault of the end is a fault of the `inst` statement
 pub inst_end_refused : (text : List ℕ) (a b : List Token) (ds : List Decl) (e : ParseFault) → DidRead text (AreListed IsDecl) (DeclName InInst) (DeclEnd InInst) a b ds → first_kind b ≢ Some kinds.Comma → ((p : Place) → Stops text (End p) b e) → Stops text (DeclName InInst) a e
 inst_end_refused text a b ds e h no_comma stop = Stops-back text (DeclName InInst) (End Header) a b e (decls_lead text a b ds h no_comma) (stop Header)
 
@@ -139,10 +154,12 @@ header_more text a b c hs ds more h inst one pushed =
       leads = h.leads ∙ group.leads;
     }
 
+-- a fault of an `inst` statement is a fault of the header
 pub header_stops : (text : List ℕ) (a b : List Token) (hs : List Decl) (e : ParseFault) → DidRead text IsHeader Header Header a b hs → first_kind b ≡ Some (kinds.Word words.Inst) → Stops text (DeclName InInst) (others b) e → Stops text Header a e
 header_stops text a b hs e h inst stop =
     Stops-back text Header (DeclName InInst) a (others b) e (h.leads ∙ leads_on text Header (DeclName InInst) (Reserved words.Inst) b (others b) (took text (kinds.Word words.Inst) b h.within inst).1 refl) stop
 
+-- but for `inst`, before the sections stands what stands between them
 alike-Header : (k : Kind) (bytes : List ℕ) → k ≢ kinds.Word words.Inst → next Header (symbol_of k bytes) ≡ next Sections (symbol_of k bytes)
 alike-Header (kinds.Word words.Inst) bytes a = absurd (a refl)
 alike-Header k bytes a = refl

@@ -22,10 +22,12 @@ Begins s b = (a : List Lexeme) × IsToken s b a
 
 -- ---- coregions and items
 
+-- an event begins with no other symbol than `out` and `in`
 event_apart : (w : Way) (s : Symbol) (b a c : List Lexeme) → IsToken (Reserved (way_word w)) b a → IsToken s b c → s ≢ Reserved words.Output → s ≢ Reserved words.Input → ⊥
 event_apart ways.Output s b a c h g no_out no_in = clash s (Reserved words.Output) b c a g h no_out
 event_apart ways.Input s b a c h g no_out no_in = clash s (Reserved words.Input) b c a g h no_in
 
+-- events of a coregion follow one another up to `endconcurrent`
 event_sequence : IsSequence IsEvent Closed (Begins (Reserved words.EndConcurrent))
 event_sequence = record {
   one = event_same;
@@ -34,6 +36,7 @@ event_sequence = record {
   ends = λ b ends. tt;
 }
 
+-- a coregion is determined
 coregion_same : Decided Closed IsCoregion
 coregion_same b a c xs ys h g stop_a stop_c =
     let e0 = end_same b h.events g.events h.is_end g.is_end in
@@ -41,6 +44,7 @@ coregion_same b a c xs ys h g stop_a stop_c =
     let e2 = (token_same _ _ g.last h.close g.close (token_at _ h.last g.last h.close e1.1 h.is_endconcurrent) g.is_endconcurrent).1 in
     (e1.0, end_same g.close a c (subst (λ (m : List Lexeme). IsEnd m a) e2 h.is_last_end) g.is_last_end)
 
+-- an item is determined: an event, or a coregion
 item_same : Decided Closed IsItem
 item_same b a c (Single x) (Single y) h g stop_a stop_c = let e = event_same b a c x y h g tt tt in let i = e.0 in ((cc), e.1)
 item_same b a c (Single x) (Coregion ys) h g stop_a stop_c = absurd (event_apart x.way _ b h.0 g.0 h.1 g.1 (λ e. cc) (λ e. cc))
@@ -48,15 +52,18 @@ item_same b a c (Coregion xs) (Single y) h g stop_a stop_c = absurd (event_apart
 item_same b a c (Coregion xs) (Coregion ys) h g stop_a stop_c =
     let e = behind_same (Reserved words.Concurrent) IsCoregion Closed coregion_same b a c xs ys h g tt tt in let i = e.0 in ((cc), e.1)
 
+-- an item does not begin with `endinstance`
 item_goes_on : (b a : List Lexeme) (x : Item) → IsItem b x a → Begins (Reserved words.EndInstance) b → ⊥
 item_goes_on b a (Single x) h ends = event_apart x.way _ b h.0 ends.0 h.1 ends.1 (λ e. cc) (λ e. cc)
 item_goes_on b a (Coregion xs) h ends = clash _ _ b h.0 ends.0 h.1 ends.1 (λ e. cc)
 
+-- items follow one another up to `endinstance`
 item_sequence : IsSequence IsItem Closed (Begins (Reserved words.EndInstance))
 item_sequence = record { one = item_same; goes_on = item_goes_on; begins = λ b a x h. tt; ends = λ b ends. tt }
 
 -- ---- sections and `inst` statements
 
+-- a section behind its first word is determined
 instance_same : Decided Closed IsInstance
 instance_same b a c x y h g stop_a stop_c =
     let e0 = decl_same b h.close g.close x.decl y.decl h.is_decl g.is_decl (end_stops h.close h.items h.is_end) (end_stops g.close g.items g.is_end) in
@@ -68,6 +75,7 @@ instance_same b a c x y h g stop_a stop_c =
     section : {d e : Decl} {k l : List Item} → d ≡ e → k ≡ l → (let s : Section = record { decl = d; items = k } in s) ≡ record { decl = e; items = l }
     section p q = cc
 
+-- sections follow one another up to `endmsc`
 section_sequence : IsSequence IsSection Closed (Begins (Reserved words.EndMsc))
 section_sequence = record {
   one = behind_same (Reserved words.Instance) IsInstance Closed instance_same;
@@ -80,6 +88,7 @@ section_sequence = record {
 abbrev EndsHeader : List Lexeme → Type 0
 EndsHeader b = (a : List Lexeme) → IsToken (Reserved words.Inst) b a → ⊥
 
+-- `inst` statements follow one another up to what is none
 inst_sequence : IsSequence (IsBehind (Reserved words.Inst) AreDecls) Closed EndsHeader
 inst_sequence = record {
   one = behind_same (Reserved words.Inst) AreDecls Closed decls_same;
@@ -95,6 +104,7 @@ sections_end b a d (s ∷ ss) h g c k = clash (Reserved words.Instance) _ b h.1.
 
 -- ---- the whole chart
 
+-- a list of tokens is at most one chart
 pub one_chart : OneDraft
 one_chart b t u h g =
     let e0 = (token_same _ _ b h.name g.name h.is_msc g.is_msc).1 in

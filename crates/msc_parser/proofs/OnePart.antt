@@ -28,6 +28,7 @@ StopsIdent ls = ((a : List Lexeme) → IsToken Comma ls a → ⊥) × ((a : List
 pub end_stops : (b a : List Lexeme) → IsEnd b a → StopsKind b
 end_stops b a h = (λ c g. end_apart Colon b a c h g (λ e. cc) (λ e. cc), λ n c g. end_apart (Named n) b a c h g (λ e. cc) (λ e. cc))
 
+-- a second name, or none, is determined
 second_same : Decided StopsKind IsSecond
 second_same b a c [] [] h g stop_a stop_c = (refl, sym h ∙ g)
 second_same b a c [] (y ∷ []) h g stop_a stop_c = absurd (stop_a.1 y c (subst (λ (m : List Lexeme). IsToken (Named y) m c) h g))
@@ -36,6 +37,7 @@ second_same b a c (x ∷ []) (y ∷ []) h g stop_a stop_c = let e = name_same x 
 second_same b a c (x ∷ z ∷ zs) ys h g stop_a stop_c = absurd h
 second_same b a c xs (y ∷ z ∷ zs) h g stop_a stop_c = absurd g
 
+-- a kind, or none, is determined
 kind_same : Decided StopsKind IsKind
 kind_same b a c [] [] h g stop_a stop_c = (refl, sym h ∙ g)
 kind_same b a c [] (y ∷ ys) h g stop_a stop_c = absurd (stop_a.0 g.0 (token_at Colon b a g.0 h g.2))
@@ -48,6 +50,7 @@ kind_same b a c (x ∷ xs) (y ∷ ys) h g stop_a stop_c =
     let j = e2.0 in
     ((cc), e2.1)
 
+-- a decl is determined
 pub decl_same : Decided StopsKind IsDecl
 decl_same b a c x y h g stop_a stop_c =
     let e0 = name_same x.name y.name b h.0 g.0 h.1 g.1 in
@@ -57,9 +60,11 @@ decl_same b a c x y h g stop_a stop_c =
     decl : {m n : List ℕ} {k l : List (List ℕ)} → m ≡ n → k ≡ l → (let d : Decl = record { name = m; kind = k } in d) ≡ record { name = n; kind = l }
     decl p q = cc
 
+-- the statement ends here
 abbrev EndsDecls : List Lexeme → Type 0
 EndsDecls b = (a : List Lexeme) × IsEnd b a
 
+-- decls follow one another up to the end of the statement
 decl_sequence : IsSequence (IsBehind Comma IsDecl) StopsKind EndsDecls
 decl_sequence = record {
   one = behind_same Comma IsDecl StopsKind decl_same;
@@ -68,6 +73,7 @@ decl_sequence = record {
   ends = λ b ends. end_stops b ends.0 ends.1;
 }
 
+-- the decls of an `inst` statement are determined
 pub decls_same : Decided Closed AreDecls
 decls_same b a c xs ys h g stop_a stop_c =
     let e = listed_same IsDecl StopsKind EndsDecls decl_same decl_sequence b h.0 g.0 xs ys h.1 g.1 (a, h.2) (c, g.2) in
@@ -75,12 +81,15 @@ decls_same b a c xs ys h g stop_a stop_c =
 
 -- ---- events
 
+-- a name is determined
 named_same : Decided Closed IsNamed
 named_same b a c x y h g stop_a stop_c = name_same x y b a c h g
 
+-- `)` stands here
 abbrev EndsNames : List Lexeme → Type 0
 EndsNames b = (a : List Lexeme) × IsToken RightParen b a
 
+-- parameters follow one another up to `)`
 name_sequence : IsSequence (IsBehind Comma IsNamed) Closed EndsNames
 name_sequence = record {
   one = behind_same Comma IsNamed Closed named_same;
@@ -94,9 +103,11 @@ names_begin : (b a c : List Lexeme) (ps : List (List ℕ)) → AreListed IsNamed
 names_begin b a c [] h g = h
 names_begin b a c (p ∷ ps) h g = clash (Named p) RightParen b h.0 c h.1 g (λ e. cc)
 
+-- no comma stands here
 abbrev StopsNumber : List Lexeme → Type 0
 StopsNumber ls = (a : List Lexeme) → IsToken Comma ls a → ⊥
 
+-- a message instance name, or none, is determined
 number_same : Decided StopsNumber IsNumber
 number_same b a c None None h g stop_a stop_c = (refl, sym h ∙ g)
 number_same b a c None (Some y) h g stop_a stop_c = absurd (stop_a g.0 (token_at Comma b a g.0 h g.1))
@@ -104,6 +115,7 @@ number_same b a c (Some x) None h g stop_a stop_c = absurd (stop_c h.0 (token_at
 number_same b a c (Some x) (Some y) h g stop_a stop_c =
     let e = behind_same Comma IsNamed Closed named_same b a c x y h g tt tt in let i = e.0 in ((cc), e.1)
 
+-- parameters are determined
 parameters_same : Decided StopsIdent AreParameters
 parameters_same b a c ps qs (Absent p h) (Absent q g) stop_a stop_c = (p ∙ sym q, sym h ∙ g)
 parameters_same b a c ps qs (Absent p h) (Empty close q g k) stop_a stop_c = absurd (stop_a.1 close (token_at LeftParen b a close h g))
@@ -141,12 +153,14 @@ ident_same b a c x y h g stop_a stop_c =
 word_stops : (w : Way) (b a : List Lexeme) → IsToken (Reserved (address_word w)) b a → StopsIdent b
 word_stops w b a h = (λ c g. clash (Reserved (address_word w)) Comma b a c h g (λ e. cc), λ c g. clash (Reserved (address_word w)) LeftParen b a c h g (λ e. cc))
 
+-- a way is known by its word
 way_word_same : (v w : Way) → Reserved (way_word v) ≡ Reserved (way_word w) → v ≡ w
 way_word_same ways.Output ways.Output e = refl
 way_word_same ways.Input ways.Input e = refl
 way_word_same ways.Output ways.Input e = absurd cc
 way_word_same ways.Input ways.Output e = absurd cc
 
+-- an event is determined
 pub event_same : Decided Closed IsEvent
 event_same b a c x y h g stop_a stop_c =
     let e0 = token_same _ _ b h.0 g.0 h.1 g.1 in

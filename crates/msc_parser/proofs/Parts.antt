@@ -24,6 +24,7 @@ behind_read text IsPart p r q s a b c x h step rest = record {
 
 -- ---- many parts
 
+-- one more part behind many
 pub AreMany-push : {X : Type 0} (IsPart : List Lexeme → X → List Lexeme → Type 0) (before : List Lexeme) (xs : List X) (mid : List Lexeme) (x : X) (after : List Lexeme) → AreMany IsPart before xs mid → IsPart mid x after → AreMany IsPart before (xs ++ x ∷ []) after
 AreMany-push IsPart before [] mid x after h one = (after, subst (λ (b : List Lexeme). IsPart b x after) (sym h) one, refl)
 AreMany-push IsPart before (y ∷ ys) mid x after h one = (h.0, h.1, AreMany-push IsPart h.0 ys mid x after h.2 one)
@@ -52,6 +53,7 @@ many_up_to text IsPart p q s a b c xs h last step = record {
 pub listed_first : {X : Type 0} (text : List ℕ) (IsPart : List Lexeme → X → List Lexeme → Type 0) (p q : Place) (a b : List Token) (x : X) (xs : List X) → DidRead text IsPart p q a b x → xs ≡ [] ++ x ∷ [] → DidRead text (AreListed IsPart) p q a b xs
 listed_first text IsPart p q a b x xs h pushed = rw pushed (record { part = (lexemes text b, h.part, refl); within = h.within; shorter = h.shorter; leads = h.leads })
 
+-- one more part behind a comma
 AreListed-push : {X : Type 0} (IsPart : List Lexeme → X → List Lexeme → Type 0) (before : List Lexeme) (xs : List X) (mid : List Lexeme) (x : X) (after : List Lexeme) → AreListed IsPart before xs mid → IsBehind Comma IsPart mid x after → AreListed IsPart before (xs ++ x ∷ []) after
 AreListed-push IsPart before [] mid x after h one = absurd h
 AreListed-push IsPart before (y ∷ ys) mid x after h one = (h.0, h.1, AreMany-push (IsBehind Comma IsPart) h.0 ys mid x after h.2 one)
@@ -76,8 +78,10 @@ listed_stops text IsPart p q r a b xs e h comma step stop =
 
 -- ---- what was pushed
 
+-- one element was pushed
 pub pushed_one : {X : Type 0} (a b : List X) (x : X) → a ≡ [] → b ≡ a ++ x ∷ [] → b ≡ x ∷ []
 pushed_one a b x none push = push ∙ rw none refl
 
+-- a second element was pushed
 pub pushed_two : {X : Type 0} (a b : List X) (x y : X) → a ≡ x ∷ [] → b ≡ a ++ y ∷ [] → b ≡ x ∷ y ∷ []
 pushed_two a b x y one push = push ∙ rw one refl

@@ -26,6 +26,7 @@ last_line to b h = Plain h
 module _ (laws : PrintsPieces) where
   -- ---- coregions and items
 
+  -- each event of a coregion is printed in its own line
   each_event : PrintsEach IsEvent inner_pieces IsSignalNamed Anything
   each_event = record {
     one = λ e rest named any.
@@ -33,6 +34,7 @@ module _ (laws : PrintsPieces) where
     follows = λ e rest. tt;
   }
 
+  -- a coregion is read again
   a_coregion : (es : List Signal) (rest : List Piece) → AllByRecursion IsSignalNamed es → Prints (IsBehind (Reserved words.Concurrent) IsCoregion) es (coregion_pieces es ++ rest) rest
   a_coregion es rest named =
       let close = Mark 59 ∷ Blank 10 ∷ rest in
@@ -56,17 +58,20 @@ module _ (laws : PrintsPieces) where
         cut = λ c. start.cut (end.cut (many.cut (end_word.cut (last_end.cut c))));
       })
 
+  -- an item is read again
   an_item : (x : Item) (rest : List Piece) → IsItemNamed x → Prints IsItem x (item_pieces x ++ rest) rest
   an_item (Single e) rest named =
       let p = spaced IsEvent e (space ∷ event_pieces e ++ rest) rest (spaced IsEvent e (event_pieces e ++ rest) rest (an_event laws e rest named)) in
       record { reads = p.reads; cut = p.cut }
   an_item (Coregion es) rest named = let p = a_coregion es rest named in record { reads = p.reads; cut = p.cut }
 
+  -- each item is printed in its own lines
   each_item : PrintsEach IsItem item_pieces IsItemNamed Anything
   each_item = record { one = λ x rest named any. an_item x rest named; follows = λ x rest. tt }
 
   -- ---- sections and the chart
 
+  -- a section is read again
   a_section : (s : Section) (rest : List Piece) → IsSectionNamed s → Prints IsSection s (section_pieces s ++ rest) rest
   a_section s rest named =
       let close = Mark 59 ∷ Blank 10 ∷ rest in
@@ -110,6 +115,7 @@ module _ (laws : PrintsPieces) where
         cut = λ c. start.cut (decl.cut (end.cut (many.cut (end_word.cut (last_end.cut c)))));
       })
 
+  -- each section is printed in its own lines
   each_section : PrintsEach IsSection section_pieces IsSectionNamed Anything
   each_section = record { one = λ s rest named any. a_section s rest named; follows = λ s rest. tt }
 
@@ -161,6 +167,7 @@ module _ (laws : PrintsPieces) where
         subst (λ (ls : List Lexeme). IsChart ls t) (sym (laws.seen (printed t))) c.0,
       )
 
+  -- the text that was written is a text of the draft
   pub again : (t : Tree) (r : Result (Vec ℕ Global) AllocError) → IsDraft t → IfOk r (λ v. v.items ≡ canonical t) → IfOk r (λ v. length v.items ≤ 1048576 → HasDraft v.items t)
   again t (Ok v) named text = λ short. subst (λ (x : List ℕ). HasDraft x t) (sym text) (written_again t named (subst (λ (x : List ℕ). length x ≤ 1048576) text short))
   again t (Err e) named text = tt

@@ -14,14 +14,17 @@ use Rattle.msc_parser.specs.Canonical.{word, space, line_end, kind_pieces, decl_
 use Rattle.msc_parser.specs.Drafts.{IsDeclNamed, IsSignalNamed}
 use Rattle.msc_parser.proofs.Printing.{StopsRun, Prints, spaced, same_pieces, a_colon, a_comma, a_left_paren, a_right_paren, a_line_end, a_word, a_name, a_behind, PrintsEach, many_follow, a_many}
 
+-- behind a name a kind, or what follows, goes on with no letter, digit or underscore
 kind_stops : (ks : List (List ℕ)) (rest : List Piece) → StopsRun rest → StopsRun (kind_pieces ks ++ rest)
 kind_stops [] rest stop = stop
 kind_stops (k ∷ ks) rest stop = refl
 
+-- the same of a message instance name
 number_stops : (o : Option (List ℕ)) (rest : List Piece) → StopsRun rest → StopsRun (number_pieces o ++ rest)
 number_stops None rest stop = stop
 number_stops (Some n) rest stop = refl
 
+-- the same of parameters
 parameters_stop : (ps : List (List ℕ)) (rest : List Piece) → StopsRun rest → StopsRun (parameter_pieces ps ++ rest)
 parameters_stop [] rest stop = stop
 parameters_stop (p ∷ ps) rest stop = refl
@@ -37,6 +40,7 @@ module _ (laws : PrintsPieces) where
   spaced_name : (n : List ℕ) (rest : List Piece) → IsName n → StopsRun rest → Prints IsNamed n (space ∷ Run n ∷ rest) rest
   spaced_name n rest named stop = spaced IsNamed n (Run n ∷ rest) rest (a_name laws n rest named stop)
 
+  -- a kind is read again
   a_kind : (ks : List (List ℕ)) (rest : List Piece) → AllByRecursion IsName ks → length ks ≤ 2 → StopsRun rest → Prints IsKind ks (kind_pieces ks ++ rest) rest
   a_kind [] rest named short stop = record { reads = λ at. (at, refl); cut = λ c. c }
   a_kind (n ∷ []) rest named short stop =
@@ -56,6 +60,7 @@ module _ (laws : PrintsPieces) where
       }
   a_kind (n ∷ m ∷ l ∷ ks) rest named short stop = absurd (omega (arith, short))
 
+  -- a decl is read again
   pub a_decl : (d : Decl) (rest : List Piece) → IsDeclNamed d → StopsRun rest → Prints IsDecl d (decl_pieces d ++ rest) rest
   a_decl d rest named stop =
       let kind = a_kind d.kind rest named.kind named.short stop in
@@ -65,6 +70,7 @@ module _ (laws : PrintsPieces) where
         cut = λ c. name.cut (kind.cut c);
       }
 
+  -- each further decl is printed behind a comma
   each_decl : PrintsEach (IsBehind Comma IsDecl) next_decl_pieces IsDeclNamed StopsRun
   each_decl = record {
     one = λ d rest named stop. a_behind Comma IsDecl d (Mark 44 ∷ space ∷ decl_pieces d ++ rest) (space ∷ decl_pieces d ++ rest) rest (a_comma (space ∷ decl_pieces d ++ rest)) (spaced IsDecl d (decl_pieces d ++ rest) rest (a_decl d rest named stop));
@@ -93,18 +99,21 @@ module _ (laws : PrintsPieces) where
 
   -- ---- events
 
+  -- a message instance name is read again
   a_number : (o : Option (List ℕ)) (rest : List Piece) → IfSome o IsName → StopsRun rest → Prints IsNumber o (number_pieces o ++ rest) rest
   a_number None rest named stop = record { reads = λ at. (at, refl); cut = λ c. c }
   a_number (Some n) rest named stop =
       let b = a_behind Comma IsNamed n (Mark 44 ∷ space ∷ Run n ∷ rest) (space ∷ Run n ∷ rest) rest (a_comma (space ∷ Run n ∷ rest)) (spaced_name n rest named stop) in
       record { reads = b.reads; cut = b.cut }
 
+  -- each further parameter is printed behind a comma
   each_name : PrintsEach (IsBehind Comma IsNamed) next_name_pieces IsName StopsRun
   each_name = record {
     one = λ n rest named stop. a_behind Comma IsNamed n (Mark 44 ∷ space ∷ Run n ∷ rest) (space ∷ Run n ∷ rest) rest (a_comma (space ∷ Run n ∷ rest)) (spaced_name n rest named stop);
     follows = λ n rest. refl;
   }
 
+  -- parameters are read again
   some_parameters : (ps : List (List ℕ)) (rest : List Piece) → AllByRecursion IsName ps → Prints AreParameters ps (parameter_pieces ps ++ rest) rest
   some_parameters [] rest named = record { reads = λ at. (at, Absent refl refl); cut = λ c. c }
   some_parameters (p ∷ ps) rest named =
@@ -124,6 +133,7 @@ module _ (laws : PrintsPieces) where
         cut = λ c. paren.cut (first.cut (many.cut (close.cut c)));
       })
 
+  -- an ident is read again
   an_ident : (e : Signal) (rest : List Piece) → IsSignalNamed e → StopsRun rest → Prints IsIdent e (ident_pieces e ++ rest) rest
   an_ident e rest named stop =
       let after = parameter_pieces e.parameters ++ rest in
@@ -141,6 +151,7 @@ module _ (laws : PrintsPieces) where
         cut = λ c. name.cut (number.cut (parameters.cut c));
       })
 
+  -- an event is read again
   pub an_event : (e : Signal) (rest : List Piece) → IsSignalNamed e → Prints IsEvent e (event_pieces e ++ rest) rest
   an_event e rest named =
       let last = Mark 59 ∷ Blank 10 ∷ rest in

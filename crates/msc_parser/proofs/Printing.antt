@@ -36,25 +36,31 @@ same_pieces IsPart x ps qs rest e h = subst (λ (rs : List Piece). Prints IsPart
 
 -- ---- marks
 
+-- a mark is a token
 mark_fits : (k : Kind) → Some k ≢ None
 mark_fits k e = cc
 
+-- `;`
 pub a_semicolon : (rest : List Piece) → Prints (IsOnly Semicolon) tt (Mark 59 ∷ rest) rest
 unfolding lexemes_of lexeme_at
 a_semicolon rest = record { reads = λ at. (at + 1, (at, refl)); cut = λ c. (mark_fits kinds.Semicolon, c) }
 
+-- `,`
 pub a_comma : (rest : List Piece) → Prints (IsOnly Comma) tt (Mark 44 ∷ rest) rest
 unfolding lexemes_of lexeme_at
 a_comma rest = record { reads = λ at. (at + 1, (at, refl)); cut = λ c. (mark_fits kinds.Comma, c) }
 
+-- `:`
 pub a_colon : (rest : List Piece) → Prints (IsOnly Colon) tt (Mark 58 ∷ rest) rest
 unfolding lexemes_of lexeme_at
 a_colon rest = record { reads = λ at. (at + 1, (at, refl)); cut = λ c. (mark_fits kinds.Colon, c) }
 
+-- `(`
 pub a_left_paren : (rest : List Piece) → Prints (IsOnly LeftParen) tt (Mark 40 ∷ rest) rest
 unfolding lexemes_of lexeme_at
 a_left_paren rest = record { reads = λ at. (at + 1, (at, refl)); cut = λ c. (mark_fits kinds.LeftParen, c) }
 
+-- `)`
 pub a_right_paren : (rest : List Piece) → Prints (IsOnly RightParen) tt (Mark 41 ∷ rest) rest
 unfolding lexemes_of lexeme_at
 a_right_paren rest = record { reads = λ at. (at + 1, (at, refl)); cut = λ c. (mark_fits kinds.RightParen, c) }

@@ -20,16 +20,19 @@ use Rattle.msc_parser.proofs.Endings.{stuck_but_two}
 
 -- ---- message instance names
 
+-- a comma leads to the message instance name
 comma_leads : (w : Way) (p : Place) → next (AfterMessage w p) Comma ≡ Some (Number w p)
 comma_leads ways.Output p = refl
 comma_leads ways.Input p = refl
 
+-- but for a comma, behind a message name stands what stands behind a message instance name
 alike-AfterMessage : (w : Way) (p : Place) (k : Kind) (bytes : List ℕ) → k ≢ kinds.Comma → next (AfterMessage w p) (symbol_of k bytes) ≡ next (AfterNumber w p) (symbol_of k bytes)
 alike-AfterMessage ways.Output p kinds.Comma bytes a = absurd (a refl)
 alike-AfterMessage ways.Output p k bytes a = refl
 alike-AfterMessage ways.Input p kinds.Comma bytes a = absurd (a refl)
 alike-AfterMessage ways.Input p k bytes a = refl
 
+-- behind that comma only a name may stand
 only-Number : (w : Way) (p : Place) → OnlyTakes (Number w p) kinds.Name
 only-Number w p kinds.Name bytes a = absurd (a refl)
 only-Number w p k bytes a = refl
@@ -43,11 +46,13 @@ number_none text a within no_comma w p = record {
   leads = fault_but text (AfterMessage w p) (AfterNumber w p) kinds.Comma a (alike-AfterMessage w p) no_comma refl (λ len ls. refl) (λ len ls. refl);
 }
 
+-- behind the comma no name stands
 pub number_refused : (text : List ℕ) (a : List Token) (e : ParseFault) → AreWithin text a → first_kind a ≡ Some kinds.Comma → TakesName text whats.Name (others a) (Err e) → (w : Way) (p : Place) → Stops text (AfterMessage w p) a e
 number_refused text a e within comma refused w p =
     Stops-back text (AfterMessage w p) (Number w p) a (others a) e (leads_on text (AfterMessage w p) (Number w p) Comma a (others a) (took text kinds.Comma a within comma).1 (comma_leads w p))
     (refuses_name text (Number w p) whats.Name (others a) e (λ len ls. refl) (only-Number w p) refl refused)
 
+-- a comma and a message instance name
 pub number_some : (text : List ℕ) (a b : List Token) (n : List ℕ) → AreWithin text a → first_kind a ≡ Some kinds.Comma → DidTake text (Named n) (others a) b → (w : Way) (p : Place) → DidRead text IsNumber (AfterMessage w p) (AfterNumber w p) a b (Some n)
 number_some text a b n within comma name w p =
     let word = (took text kinds.Comma a within comma).1 in
@@ -60,15 +65,18 @@ number_some text a b n within comma name w p =
 
 -- ---- parameters
 
+-- behind a comma between parameters only a name may stand
 only-Parameter : (w : Way) (p : Place) → OnlyTakes (Parameter w p) kinds.Name
 only-Parameter w p kinds.Name bytes a = absurd (a refl)
 only-Parameter w p k bytes a = refl
 
+-- behind `(` only a name and `)` may stand
 only-Parameters : (w : Way) (p : Place) (k : Kind) (bytes : List ℕ) → k ≢ kinds.RightParen → k ≢ kinds.Name → next (Parameters w p) (symbol_of k bytes) ≡ None
 only-Parameters w p kinds.RightParen bytes a b = absurd (a refl)
 only-Parameters w p kinds.Name bytes a b = absurd (b refl)
 only-Parameters w p k bytes a b = refl
 
+-- behind a parameter only a comma and `)` may stand
 only-AfterParameter : (w : Way) (p : Place) (k : Kind) (bytes : List ℕ) → k ≢ kinds.Comma → k ≢ kinds.RightParen → next (AfterParameter w p) (symbol_of k bytes) ≡ None
 only-AfterParameter w p kinds.Comma bytes a b = absurd (a refl)
 only-AfterParameter w p kinds.RightParen bytes a b = absurd (b refl)
@@ -79,13 +87,16 @@ pub first_refused : (text : List ℕ) (a : List Token) (e : ParseFault) → firs
 first_refused text a e no_close refused w p =
     name_stops text (Parameters w p) whats.Parameter a e (λ len ls. refl) (λ no_name. stuck_but_two text (Parameters w p) kinds.RightParen kinds.Name a (only-Parameters w p) no_close no_name) refl refused
 
+-- behind a comma between parameters no name stands
 pub next_refused : (text : List ℕ) (a : List Token) (e : ParseFault) → TakesName text whats.Name a (Err e) → (w : Way) (p : Place) → Stops text (Parameter w p) a e
 next_refused text a e refused w p = refuses_name text (Parameter w p) whats.Name a e (λ len ls. refl) (only-Parameter w p) refl refused
 
+-- `(` leads to the parameters
 open_leads : (w : Way) (p : Place) → next (AfterNumber w p) LeftParen ≡ Some (Parameters w p)
 open_leads ways.Output p = refl
 open_leads ways.Input p = refl
 
+-- but for `(`, behind a message instance name stands what stands behind parameters
 alike-AfterNumber : (w : Way) (p : Place) (k : Kind) (bytes : List ℕ) → k ≢ kinds.LeftParen → next (AfterNumber w p) (symbol_of k bytes) ≡ next (AfterParameters w p) (symbol_of k bytes)
 alike-AfterNumber ways.Output p kinds.LeftParen bytes a = absurd (a refl)
 alike-AfterNumber ways.Output p k bytes a = refl
@@ -105,6 +116,7 @@ parameters_none text a ps within no_open none w p = record {
 opened : (text : List ℕ) (a : List Token) → AreWithin text a → first_kind a ≡ Some kinds.LeftParen → (w : Way) (p : Place) → fault_from text (AfterNumber w p) a ≡ fault_from text (Parameters w p) (others a)
 opened text a within paren w p = leads_on text (AfterNumber w p) (Parameters w p) LeftParen a (others a) (took text kinds.LeftParen a within paren).1 (open_leads w p)
 
+-- `()` is no parameter
 pub parameters_empty : (text : List ℕ) (a : List Token) (ps : List (List ℕ)) → AreWithin text a → first_kind a ≡ Some kinds.LeftParen → first_kind (others a) ≡ Some kinds.RightParen → ps ≡ [] → (w : Way) (p : Place) → DidRead text AreParameters (AfterNumber w p) (AfterParameters w p) a (others (others a)) ps
 parameters_empty text a ps within paren close none w p =
     let first = (took text kinds.LeftParen a within paren).1 in
@@ -116,6 +128,7 @@ parameters_empty text a ps within paren close none w p =
       leads = opened text a within paren w p ∙ leads_on text (Parameters w p) (AfterParameters w p) RightParen (others a) (others (others a)) second refl;
     }
 
+-- a fault of the names is a fault of the parameters
 pub names_stop : (text : List ℕ) (a : List Token) (e : ParseFault) → AreWithin text a → first_kind a ≡ Some kinds.LeftParen → (w : Way) (p : Place) → Stops text (Parameters w p) (others a) e → Stops text (AfterNumber w p) a e
 names_stop text a e within paren w p stop = Stops-back text (AfterNumber w p) (Parameters w p) a (others a) e (opened text a within paren w p) stop
 
@@ -126,6 +139,7 @@ close_refused text a b ps e within paren w p names no_comma refused =
     Stops-back text (AfterNumber w p) (AfterParameter w p) a b e (opened text a within paren w p ∙ names.leads)
     (stops_here text (AfterParameter w p) whats.Parameter b e (λ len ls. refl) (stuck_but_two text (AfterParameter w p) kinds.Comma kinds.RightParen b (only-AfterParameter w p) no_comma refused.1) refl refused.0)
 
+-- names in parentheses are parameters
 pub parameters_read : (text : List ℕ) (a b c : List Token) (ps : List (List ℕ)) → AreWithin text a → first_kind a ≡ Some kinds.LeftParen → (w : Way) (p : Place) → DidRead text (AreListed IsNamed) (Parameters w p) (AfterParameter w p) (others a) b ps
     → DidTake text RightParen b c → DidRead text AreParameters (AfterNumber w p) (AfterParameters w p) a c ps
 parameters_read text a b c ps within paren w p names close =
@@ -139,24 +153,29 @@ parameters_read text a b c ps within paren w p names close =
 
 -- ---- events behind their first words
 
+-- behind `out` and `in` only a name may stand
 only-Message : (w : Way) (p : Place) → OnlyTakes (Message w p) kinds.Name
 only-Message w p kinds.Name bytes a = absurd (a refl)
 only-Message w p k bytes a = refl
 
+-- behind parameters only the word before the address may stand
 only-AfterParameters : (w : Way) (p : Place) → OnlyTakes (AfterParameters w p) (kinds.Word (address_word w))
 only-AfterParameters ways.Output p (kinds.Word words.To) bytes a = absurd (a refl)
 only-AfterParameters ways.Output p k bytes a = refl
 only-AfterParameters ways.Input p (kinds.Word words.From) bytes a = absurd (a refl)
 only-AfterParameters ways.Input p k bytes a = refl
 
+-- behind that word only a name may stand
 only-Address : (p : Place) → OnlyTakes (Address p) kinds.Name
 only-Address p kinds.Name bytes a = absurd (a refl)
 only-Address p k bytes a = refl
 
+-- the word before the address leads to the address
 word_leads : (w : Way) (p : Place) → next (AfterParameters w p) (Reserved (address_word w)) ≡ Some (Address p)
 word_leads ways.Output p = refl
 word_leads ways.Input p = refl
 
+-- behind `out` or `in` no name stands
 pub signal_refused : (text : List ℕ) (w : Way) (a : List Token) (e : ParseFault) → TakesName text whats.Name a (Err e) → (p : Place) → Stops text (Message w p) a e
 signal_refused text w a e refused p = refuses_name text (Message w p) whats.Name a e (λ len ls. refl) (only-Message w p) refl refused
 
@@ -172,13 +191,16 @@ address_leads text w p a b v same word = leads_on text (AfterParameters w p) (Ad
 pub end_leads : (text : List ℕ) (p : Place) (a b : List Token) (n : List ℕ) → DidTake text (Named n) a b → fault_from text (Address p) a ≡ fault_from text (End p) b
 end_leads text p a b n name = leads_on text (Address p) (End p) (Named n) a b name refl
 
+-- the word before the address does not stand there
 pub word_refused : (text : List ℕ) (w : Way) (p : Place) (a : List Token) (v : Word) (x : What) (e : ParseFault) → v ≡ address_word w → x ≡ address_what w → Refuses text (kinds.Word v) x a e → Stops text (AfterParameters w p) a e
 word_refused text w p a v x e same expects refused =
     refuses text (AfterParameters w p) (kinds.Word v) x a e (λ len ls. refl) (subst (λ (u : Word). OnlyTakes (AfterParameters w p) (kinds.Word u)) (sym same) (only-AfterParameters w p)) expects refused
 
+-- no address stands there
 pub address_refused : (text : List ℕ) (p : Place) (a : List Token) (e : ParseFault) → TakesName text whats.Name a (Err e) → Stops text (Address p) a e
 address_refused text p a e refused = refuses_name text (Address p) whats.Name a e (λ len ls. refl) (only-Address p) refl refused
 
+-- an event behind its first word is its ident, a word, an address and an end
 pub signal_read : (text : List ℕ) (w : Way) (p : Place) (a b c d e f g : List Token) (n m : List ℕ) (o : Option (List ℕ)) (ps : List (List ℕ)) (v : Word) → DidTake text (Named n) a b → DidRead text IsNumber (AfterMessage w p) (AfterNumber w p) b c o → DidRead text AreParameters (AfterNumber w p) (AfterParameters w p) c d ps
     → v ≡ address_word w → DidTake text (Reserved v) d e → DidTake text (Named m) e f → DidEnd text f g → DidRead text (IsSignalOf w) (Message w p) p a g record { way = w; name = n; number = o; parameters = ps; address = m }
 signal_read text w p a b c d e f g n m o ps v name number parameters same word address end = record {

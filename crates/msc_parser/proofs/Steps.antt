@@ -74,6 +74,7 @@ abbrev pub GoAlike : List ℕ → Place → Place → List Token → Type 0
 GoAlike text p q [] = Unit {0}
 GoAlike text p q (t ∷ ts) = next p (lexeme_of text t).symbol ≡ next q (lexeme_of text t).symbol
 
+-- one step of two places that go on alike
 alike_step : (len : ℕ) (p q : Place) (l : Lexeme) (ls : List Lexeme) (o : Option Place) → what p ≡ what q → IsInside p → IsInside q
     → fault_of len (option_map_or (λ a. walk a ls) o (p, l ∷ ls)) ≡ fault_of len (option_map_or (λ a. walk a ls) o (q, l ∷ ls))
 alike_step len p q l ls None same in_p in_q = sym (in_p len (l ∷ ls)) ∙ ap (λ (w : What). Some_fault (fault_at len w (l ∷ ls))) same ∙ in_q len (l ∷ ls)
@@ -109,10 +110,12 @@ abbrev pub IsStuck : List ℕ → Place → List Token → Type 0
 IsStuck text p [] = Unit {0}
 IsStuck text p (t ∷ ts) = next p (lexeme_of text t).symbol ≡ None
 
+-- a walk that cannot begin stays where it is
 stays : (text : List ℕ) (p : Place) (tokens : List Token) → IsStuck text p tokens → walk p (lexemes text tokens) ≡ (p, lexemes text tokens)
 stays text p [] h = refl
 stays text p (t ∷ ts) h = stuck p (lexeme_of text t) (lexemes text ts) h
 
+-- a fault from a place on, told of each kind of fault
 pub Stops-from : (text : List ℕ) (p : Place) (tokens : List Token) (e : ParseFault) → Some e ≡ fault_from text p tokens → Stops text p tokens e
 Stops-from text p tokens faults.Memory h = tt
 Stops-from text p tokens (faults.Lex f) h = h
@@ -130,6 +133,7 @@ stops_here text p w tokens e inside here same fault =
 abbrev pub OnlyTakes : Place → Kind → Type 0
 OnlyTakes p kind = (k : Kind) (bytes : List ℕ) → k ≢ kind → next p (symbol_of k bytes) ≡ None
 
+-- no token of the one kind that may stand at the place stands there, so the walk is over
 pub stuck_but : (text : List ℕ) (p : Place) (kind : Kind) (tokens : List Token) → OnlyTakes p kind → first_kind tokens ≢ Some kind → IsStuck text p tokens
 stuck_but text p kind [] only other = tt
 stuck_but text p kind (t ∷ ts) only other = only t.kind _ (λ e. other (ap some_kind e))
@@ -148,6 +152,7 @@ name_stops text p w tokens (faults.Lex f) inside only same h = stops_here text p
 name_stops text p w tokens (faults.Unsupported at v) inside only same h = stops_here text p w tokens _ inside (only h.1) same h.0
 name_stops text p w tokens (faults.Expected at v) inside only same h = stops_here text p w tokens _ inside (only h.1) same h.0
 
+-- no name stands where only a name may stand
 pub refuses_name : (text : List ℕ) (p : Place) (w : What) (tokens : List Token) (e : ParseFault) → IsInside p → OnlyTakes p kinds.Name → w ≡ what p → TakesName text w tokens (Err e) → Stops text p tokens e
 refuses_name text p w tokens e inside only same h = name_stops text p w tokens e inside (stuck_but text p kinds.Name tokens only) same h
 

@@ -5,9 +5,11 @@ use Rattle.msc_lexer.specs.Lexemes.{Symbol, Reserved, Named, Quoted, Semicolon, 
 use Rattle.msc_parser.specs.Forms.{IsToken}
 use Rattle.msc_parser.specs.Grammar.{IsEnd, Plain, Commented}
 
+-- equal lists have equal tails
 tails : {x y : Lexeme} {xs ys : List Lexeme} → x ∷ xs ≡ y ∷ ys → xs ≡ ys
 tails e = cc
 
+-- the first symbol of a list, if there is one
 head_symbol : List Lexeme → Symbol
 head_symbol [] = Semicolon
 head_symbol (l ∷ ls) = l.symbol

@@ -15,17 +15,21 @@ use Rattle.msc_parser.specs.Reading.{fault_from, Stops, DidTake, fault_of, Refus
 use Rattle.msc_parser.proofs.FirstFault.{stuck}
 use Rattle.msc_parser.proofs.Steps.{leads_on, OnlyTakes, Stops-from, refuses, refuses_name, Stops-back}
 
+-- at the start only `msc` may stand
 only-Start : OnlyTakes Start (kinds.Word words.Msc)
 only-Start (kinds.Word words.Msc) bytes a = absurd (a refl)
 only-Start k bytes a = refl
 
+-- behind `msc` only a name may stand
 only-ChartName : OnlyTakes ChartName kinds.Name
 only-ChartName kinds.Name bytes a = absurd (a refl)
 only-ChartName k bytes a = refl
 
+-- no `msc` stands at the start
 pub msc_refused : (text : List ℕ) (a : List Token) (e : ParseFault) → Refuses text (kinds.Word words.Msc) whats.Msc a e → Stops text Start a e
 msc_refused text a e refused = refuses text Start (kinds.Word words.Msc) whats.Msc a e (λ len ls. refl) only-Start refl refused
 
+-- behind `msc` no name stands
 pub chart_name_refused : (text : List ℕ) (a b : List Token) (e : ParseFault) → DidTake text (Reserved words.Msc) a b → TakesName text whats.Name b (Err e) → Stops text Start a e
 chart_name_refused text a b e msc refused =
     Stops-back text Start ChartName a b e (leads_on text Start ChartName (Reserved words.Msc) a b msc refl) (refuses_name text ChartName whats.Name b e (λ len ls. refl) only-ChartName refl refused)

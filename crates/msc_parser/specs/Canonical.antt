@@ -18,6 +18,7 @@ use Rattle.msc_parser.specs.Grammar.{Tree, way_word, address_word}
 abbrev pub word : Word → Piece
 word w = Run (spelling w)
 
+-- a space
 abbrev pub space : Piece
 space = Blank 32
 
@@ -25,10 +26,11 @@ space = Blank 32
 abbrev pub line_end : List Piece
 line_end = Mark 59 ∷ Blank 10 ∷ []
 
--- ` : K1` for a kind of one name, ` : K1 K2` for one of two
+-- a second name of a kind
 abbrev pub second_pieces : List ℕ → List Piece
 second_pieces name = space ∷ Run name ∷ []
 
+-- ` : FIRST` for a kind of one name, ` : FIRST SECOND` for one of two
 abbrev pub kind_pieces : List (List ℕ) → List Piece
 kind_pieces [] = []
 kind_pieces (name ∷ others) = space ∷ Mark 58 ∷ space ∷ Run name ∷ flat_map second_pieces others
@@ -37,6 +39,7 @@ kind_pieces (name ∷ others) = space ∷ Mark 58 ∷ space ∷ Run name ∷ fla
 abbrev pub decl_pieces : Decl → List Piece
 decl_pieces d = Run d.name ∷ kind_pieces d.kind
 
+-- a decl behind a comma
 abbrev pub next_decl_pieces : Decl → List Piece
 next_decl_pieces d = Mark 44 ∷ space ∷ decl_pieces d
 
@@ -45,6 +48,7 @@ abbrev pub header_pieces : List Decl → List Piece
 header_pieces [] = []
 header_pieces (d ∷ ds) = word Inst ∷ space ∷ decl_pieces d ++ (flat_map next_decl_pieces ds ++ line_end)
 
+-- a name behind a comma
 abbrev pub next_name_pieces : List ℕ → List Piece
 next_name_pieces name = Mark 44 ∷ space ∷ Run name ∷ []
 

@@ -33,11 +33,12 @@ pub record IsSectionNamed (s : Section) : Type 0 where
   pub decl : IsDeclNamed s.decl
   pub items : AllByRecursion IsItemNamed s.items
 
--- the events of an item, and of all sections in the order of the text
+-- the events of an item
 abbrev pub signals_in : Item → List Signal
 signals_in (Single e) = e ∷ []
 signals_in (Coregion es) = es
 
+-- the events of all sections, in the order of the text
 abbrev pub signals_of : List Section → List Signal
 signals_of ss = flat_map (λ s. flat_map signals_in s.items) ss
 

@@ -41,11 +41,12 @@ IsKind before (first ∷ others) after = (name second : List Lexeme) × IsToken 
 abbrev pub IsDecl : List Lexeme → Decl → List Lexeme → Type 0
 IsDecl before d after = (kind : List Lexeme) × IsToken (Named d.name) before kind × IsKind kind d.kind after
 
--- the word of a way, and the word before its address
+-- the first word of an event
 abbrev pub way_word : Way → Word
 way_word ways.Output = Output
 way_word ways.Input = Input
 
+-- the word before the address of an event
 abbrev pub address_word : Way → Word
 address_word ways.Output = To
 address_word ways.Input = From
