@@ -1,21 +1,14 @@
 -- What may follow a place, with one token or part more in front.
-use Rattle.std.proofs.Common.{◌≡◌, ℕ, List, [], ◌∷◌, Option, Some, None, refl, sym, ap, subst}
-use Rattle.std.specs.Prelude.{IfSome}
-use Rattle.std.specs.Option.{option_map_or}
+use Rattle.std.proofs.Common.{◌≡◌, ℕ, List, [], ◌∷◌, None, refl, subst}
 use Rattle.std.specs.List.{flat_map}
 use Rattle.msc_lexer.specs.declared.word.Word.TheVariants as words
-use Rattle.msc_lexer.specs.Lexemes.{Symbol, Reserved, Named, Quoted, Semicolon, Comma, Colon, LeftParen, RightParen, Lexeme}
+use Rattle.msc_lexer.specs.Lexemes.{Reserved, Named, Quoted, Semicolon, Comma, Lexeme}
 use Rattle.msc_parser.specs.declared.tree.Way.{Way}
-use Rattle.msc_parser.specs.declared.tree.Way.TheVariants as ways
-use Rattle.msc_parser.specs.declared.tree.Decl.{Decl}
-use Rattle.msc_parser.specs.declared.tree.Signal.{Signal}
-use Rattle.msc_parser.specs.declared.tree.Item.{Item}
 use Rattle.msc_parser.specs.declared.tree.Item.TheVariants.{Single, Coregion}
-use Rattle.msc_parser.specs.declared.tree.Section.{Section}
-use Rattle.msc_parser.specs.Forms.{IsToken, IsNamed, AreMany, IsBehind}
-use Rattle.msc_parser.specs.Grammar.{Tree, IsEnd, Plain, Commented, IsSecond, IsKind, IsDecl, way_word, address_word, IsNumber, AreParameters, Absent, Empty, Listed, IsEvent, IsItem, IsInstance, IsSection, AreDecls, IsChart}
-use Rattle.msc_parser.specs.Places.{Statement, InInst, InInstance, Place, Start, ChartName, Header, Sections, Items, Events, DeclName, DeclKind, KindFirst, KindSecond, DeclEnd, Message, AfterMessage, Number, AfterNumber, Parameters, Parameter, AfterParameter, AfterParameters, Address, End, CommentText, CommentEnd, Done, next, walk}
-use Rattle.msc_parser.proofs.Following.{at_place, SectionsRest, HeaderRest, ItemsRest, EventsRest, EndRest, DeclsRest, DeclRest, SecondRest, KindRest, NameRest, AddressRest, WordRest, ParametersRest, NamesRest, NumberRest, EventRest, Rest}
+use Rattle.msc_parser.specs.Forms.{IsToken}
+use Rattle.msc_parser.specs.Grammar.{Tree, IsEnd, Plain, Commented, way_word, address_word, Absent, IsInstance, IsChart}
+use Rattle.msc_parser.specs.Places.{Statement, InInst, InInstance}
+use Rattle.msc_parser.proofs.Following.{at_place, SectionsRest, HeaderRest, ItemsRest, EventsRest, EndRest, DeclsRest, DeclRest, SecondRest, KindRest, NameRest, AddressRest, WordRest, ParametersRest, NumberRest, EventRest}
 
 -- `;` in front of what may follow
 pub plain_end : (More : List Lexeme → Type 0) (at : ℕ) (ls : List Lexeme) → More ls → EndRest More (at_place Semicolon at ∷ ls)

@@ -21,7 +21,8 @@ fn kind<'a>(
     tokens: &'a [Token],
 ) -> Result<(Listed<Name>, &'a [Token]), ParseFault>
     requires { AreWithin text.now tokens.now }
-    ensures { (st : Statement) → Reads text.now IsKind (DeclKind st) (DeclEnd st) tokens.now result }
+    ensures { (st : Statement) →
+        Reads text.now IsKind (DeclKind st) (DeclEnd st) tokens.now result }
 {
     let mut names = Vec::new(alloc);
     if !stands(Kind::Colon, tokens) {
@@ -44,7 +45,8 @@ pub fn decl<'a>(
     tokens: &'a [Token],
 ) -> Result<(Decl, &'a [Token]), ParseFault>
     requires { AreWithin text.now tokens.now }
-    ensures { (st : Statement) → Reads text.now IsDecl (DeclName st) (DeclEnd st) tokens.now result }
+    ensures { (st : Statement) →
+        Reads text.now IsDecl (DeclName st) (DeclEnd st) tokens.now result }
 {
     let (name, rest) = take_name(alloc, What::Name, text, tokens)?;
     let (kind, rest) = kind(alloc, text, rest)?;

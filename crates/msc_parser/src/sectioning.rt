@@ -41,7 +41,8 @@ fn events<'a>(
     tokens: &'a [Token],
 ) -> Result<(Listed<Signal>, &'a [Token]), ParseFault>
     requires { AreWithin text.now tokens.now }
-    ensures { Reads text.now (AreUpTo (Reserved Word.EndConcurrent) IsEvent) Events (End Items) tokens.now result }
+    ensures { Reads text.now (AreUpTo (Reserved Word.EndConcurrent)
+        IsEvent) Events (End Items) tokens.now result }
 {
     let mut events = Vec::new(alloc);
     let mut rest = tokens;
@@ -97,7 +98,8 @@ fn items<'a>(
     tokens: &'a [Token],
 ) -> Result<(Listed<Item>, &'a [Token]), ParseFault>
     requires { AreWithin text.now tokens.now }
-    ensures { Reads text.now (AreUpTo (Reserved Word.EndInstance) IsItem) Items (End Sections) tokens.now result }
+    ensures { Reads text.now (AreUpTo (Reserved Word.EndInstance)
+        IsItem) Items (End Sections) tokens.now result }
 {
     let mut items = Vec::new(alloc);
     let mut rest = tokens;
@@ -132,7 +134,8 @@ pub fn sections<'a>(
     tokens: &'a [Token],
 ) -> Result<(Listed<Section>, &'a [Token]), ParseFault>
     requires { AreWithin text.now tokens.now }
-    ensures { Reads text.now (AreUpTo (Reserved Word.EndMsc) IsSection) Sections (End Done) tokens.now result }
+    ensures { Reads text.now (AreUpTo (Reserved Word.EndMsc)
+        IsSection) Sections (End Done) tokens.now result }
 {
     let mut sections = Vec::new(alloc);
     let mut rest = tokens;

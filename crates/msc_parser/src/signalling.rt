@@ -40,7 +40,8 @@ fn address_what(way: Way) -> What
 /// The way of the event that begins here, if one does.
 pub fn first_way(tokens: &[Token]) -> Option<Way>
     ensures some { IfSome result (λ way. first_kind tokens.now ≡ Some (Kind.Word (way_word way))) }
-    ensures none { IfNone result ((way : Way) → first_kind tokens.now ≢ Some (Kind.Word (way_word way))) }
+    ensures none { IfNone result
+        ((way : Way) → first_kind tokens.now ≢ Some (Kind.Word (way_word way))) }
 {
     if stands(Kind::Word(Word::Output), tokens) {
         Some(Way::Output)
@@ -58,7 +59,8 @@ fn number<'a>(
     tokens: &'a [Token],
 ) -> Result<(Option<Name>, &'a [Token]), ParseFault>
     requires { AreWithin text.now tokens.now }
-    ensures { (w : Way) (p : Place) → Reads text.now IsNumber (AfterMessage w p) (AfterNumber w p) tokens.now result }
+    ensures { (w : Way) (p : Place) →
+        Reads text.now IsNumber (AfterMessage w p) (AfterNumber w p) tokens.now result }
 {
     if !stands(Kind::Comma, tokens) {
         return Ok((None, tokens));
@@ -75,7 +77,8 @@ fn names<'a>(
 ) -> Result<(Listed<Name>, &'a [Token]), ParseFault>
     requires within { AreWithin text.now tokens.now }
     requires some { first_kind tokens.now ≢ Some Kind.RightParen }
-    ensures reads { (w : Way) (p : Place) → Reads text.now (AreListed IsNamed) (Parameters w p) (AfterParameter w p) tokens.now result }
+    ensures reads { (w : Way) (p : Place) →
+        Reads text.now (AreListed IsNamed) (Parameters w p) (AfterParameter w p) tokens.now result }
     ensures stopped { Leaves Kind.Comma result }
 {
     let (first, mut rest) = take_name(alloc, What::Parameter, text, tokens)?;
@@ -96,7 +99,8 @@ fn parameters<'a>(
     tokens: &'a [Token],
 ) -> Result<(Listed<Name>, &'a [Token]), ParseFault>
     requires { AreWithin text.now tokens.now }
-    ensures { (w : Way) (p : Place) → Reads text.now AreParameters (AfterNumber w p) (AfterParameters w p) tokens.now result }
+    ensures { (w : Way) (p : Place) →
+        Reads text.now AreParameters (AfterNumber w p) (AfterParameters w p) tokens.now result }
 {
     if !stands(Kind::LeftParen, tokens) {
         return Ok((Listed::from_vec(Vec::new(alloc)), tokens));

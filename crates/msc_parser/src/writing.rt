@@ -24,7 +24,8 @@ fn way_word(way: Way) -> Word
 
 /// Names with a space before each.
 fn put_second(out: &mut Vec<u8>, names: &[Name]) -> Result<(), AllocError>
-    ensures { OnOk result (out.new.items ≡ out.old.items ++ text_of (flat_map second_pieces names.now)) }
+    ensures { OnOk result
+        (out.new.items ≡ out.old.items ++ text_of (flat_map second_pieces names.now)) }
 {
     for name in names {
         out.push(b' ')?;
@@ -33,6 +34,7 @@ fn put_second(out: &mut Vec<u8>, names: &[Name]) -> Result<(), AllocError>
     Ok(())
 }
 
+/// The kind of an instance, if it has one.
 fn put_kind(out: &mut Vec<u8>, kind: &[Name]) -> Result<(), AllocError>
     ensures { OnOk result (out.new.items ≡ out.old.items ++ text_of (kind_pieces kind.now)) }
 {
@@ -46,6 +48,7 @@ fn put_kind(out: &mut Vec<u8>, kind: &[Name]) -> Result<(), AllocError>
     }
 }
 
+/// The name of an instance, and its kind.
 fn put_decl(out: &mut Vec<u8>, decl: &Decl) -> Result<(), AllocError>
     ensures { OnOk result (out.new.items ≡ out.old.items ++ text_of (decl_pieces decl.now)) }
 {
@@ -55,7 +58,8 @@ fn put_decl(out: &mut Vec<u8>, decl: &Decl) -> Result<(), AllocError>
 
 /// Decls with a comma before each.
 fn put_next_decls(out: &mut Vec<u8>, decls: &[Decl]) -> Result<(), AllocError>
-    ensures { OnOk result (out.new.items ≡ out.old.items ++ text_of (flat_map next_decl_pieces decls.now)) }
+    ensures { OnOk result
+        (out.new.items ≡ out.old.items ++ text_of (flat_map next_decl_pieces decls.now)) }
 {
     for decl in decls {
         out.extend_from_slice(b", ")?;
@@ -64,6 +68,7 @@ fn put_next_decls(out: &mut Vec<u8>, decls: &[Decl]) -> Result<(), AllocError>
     Ok(())
 }
 
+/// The `inst` statement, if there are header names.
 fn put_header(out: &mut Vec<u8>, header: &[Decl]) -> Result<(), AllocError>
     ensures { OnOk result (out.new.items ≡ out.old.items ++ text_of (header_pieces header.now)) }
 {
@@ -81,7 +86,8 @@ fn put_header(out: &mut Vec<u8>, header: &[Decl]) -> Result<(), AllocError>
 
 /// Names with a comma before each.
 fn put_next_names(out: &mut Vec<u8>, names: &[Name]) -> Result<(), AllocError>
-    ensures { OnOk result (out.new.items ≡ out.old.items ++ text_of (flat_map next_name_pieces names.now)) }
+    ensures { OnOk result
+        (out.new.items ≡ out.old.items ++ text_of (flat_map next_name_pieces names.now)) }
 {
     for name in names {
         out.extend_from_slice(b", ")?;
@@ -90,6 +96,7 @@ fn put_next_names(out: &mut Vec<u8>, names: &[Name]) -> Result<(), AllocError>
     Ok(())
 }
 
+/// The message instance name, if there is one.
 fn put_number(out: &mut Vec<u8>, number: &Option<Name>) -> Result<(), AllocError>
     ensures { OnOk result (out.new.items ≡ out.old.items ++ text_of (number_pieces number.now)) }
 {
@@ -100,8 +107,10 @@ fn put_number(out: &mut Vec<u8>, number: &Option<Name>) -> Result<(), AllocError
     Ok(())
 }
 
+/// The parameters in parentheses, if there are any.
 fn put_parameters(out: &mut Vec<u8>, parameters: &[Name]) -> Result<(), AllocError>
-    ensures { OnOk result (out.new.items ≡ out.old.items ++ text_of (parameter_pieces parameters.now)) }
+    ensures { OnOk result
+        (out.new.items ≡ out.old.items ++ text_of (parameter_pieces parameters.now)) }
 {
     match parameters {
         [] => Ok(()),
@@ -115,6 +124,7 @@ fn put_parameters(out: &mut Vec<u8>, parameters: &[Name]) -> Result<(), AllocErr
     }
 }
 
+/// A message's name, its message instance name and its parameters.
 fn put_ident(out: &mut Vec<u8>, e: &Signal) -> Result<(), AllocError>
     ensures { OnOk result (out.new.items ≡ out.old.items ++ text_of (ident_pieces e.now)) }
 {
@@ -123,6 +133,7 @@ fn put_ident(out: &mut Vec<u8>, e: &Signal) -> Result<(), AllocError>
     put_parameters(out, e.parameters.as_slice())
 }
 
+/// The address of an event, and the end of its line.
 fn put_address(out: &mut Vec<u8>, e: &Signal) -> Result<(), AllocError>
     ensures { OnOk result (out.new.items ≡ out.old.items ++ text_of (address_pieces e.now)) }
 {
@@ -134,6 +145,7 @@ fn put_address(out: &mut Vec<u8>, e: &Signal) -> Result<(), AllocError>
     Ok(())
 }
 
+/// An event, from its first word to the end of its line.
 fn put_event(out: &mut Vec<u8>, e: &Signal) -> Result<(), AllocError>
     ensures { OnOk result (out.new.items ≡ out.old.items ++ text_of (event_pieces e.now)) }
 {
@@ -145,7 +157,8 @@ fn put_event(out: &mut Vec<u8>, e: &Signal) -> Result<(), AllocError>
 
 /// The events of a coregion.
 fn put_inner(out: &mut Vec<u8>, events: &[Signal]) -> Result<(), AllocError>
-    ensures { OnOk result (out.new.items ≡ out.old.items ++ text_of (flat_map inner_pieces events.now)) }
+    ensures { OnOk result
+        (out.new.items ≡ out.old.items ++ text_of (flat_map inner_pieces events.now)) }
 {
     for event in events {
         out.extend_from_slice(b"    ")?;
@@ -154,6 +167,7 @@ fn put_inner(out: &mut Vec<u8>, events: &[Signal]) -> Result<(), AllocError>
     Ok(())
 }
 
+/// A coregion: its first line, its events, its last line.
 fn put_coregion(out: &mut Vec<u8>, events: &[Signal]) -> Result<(), AllocError>
     ensures { OnOk result (out.new.items ≡ out.old.items ++ text_of (coregion_pieces events.now)) }
 {
@@ -163,6 +177,7 @@ fn put_coregion(out: &mut Vec<u8>, events: &[Signal]) -> Result<(), AllocError>
     Ok(())
 }
 
+/// An item of a section.
 fn put_item(out: &mut Vec<u8>, item: &Item) -> Result<(), AllocError>
     ensures { OnOk result (out.new.items ≡ out.old.items ++ text_of (item_pieces item.now)) }
 {
@@ -175,8 +190,10 @@ fn put_item(out: &mut Vec<u8>, item: &Item) -> Result<(), AllocError>
     }
 }
 
+/// The items of a section.
 fn put_items(out: &mut Vec<u8>, items: &[Item]) -> Result<(), AllocError>
-    ensures { OnOk result (out.new.items ≡ out.old.items ++ text_of (flat_map item_pieces items.now)) }
+    ensures { OnOk result
+        (out.new.items ≡ out.old.items ++ text_of (flat_map item_pieces items.now)) }
 {
     for item in items {
         put_item(out, item)?;
@@ -184,6 +201,7 @@ fn put_items(out: &mut Vec<u8>, items: &[Item]) -> Result<(), AllocError>
     Ok(())
 }
 
+/// A section: its first line, its items, its last line.
 fn put_section(out: &mut Vec<u8>, section: &Section) -> Result<(), AllocError>
     ensures { OnOk result (out.new.items ≡ out.old.items ++ text_of (section_pieces section.now)) }
 {
@@ -195,8 +213,10 @@ fn put_section(out: &mut Vec<u8>, section: &Section) -> Result<(), AllocError>
     Ok(())
 }
 
+/// Sections, one after the other.
 fn put_sections(out: &mut Vec<u8>, sections: &[Section]) -> Result<(), AllocError>
-    ensures { OnOk result (out.new.items ≡ out.old.items ++ text_of (flat_map section_pieces sections.now)) }
+    ensures { OnOk result
+        (out.new.items ≡ out.old.items ++ text_of (flat_map section_pieces sections.now)) }
 {
     for section in sections {
         put_section(out, section)?;
