@@ -1,7 +1,7 @@
 -- Exit statuses of the program.
 use Rattle.std.specs.Prelude.{ℕ}
 use Rattle.msc_tool.specs.declared.fault.Fault.{Fault}
-use Rattle.msc_tool.specs.declared.fault.Fault.TheVariants.{Parse, Memory, Device}
+use Rattle.msc_tool.specs.declared.fault.Fault.TheVariants.{Parse, Chart, Memory, Device}
 use Rattle.msc_tool.specs.declared.program.Status.{Status}
 use Rattle.msc_tool.specs.declared.program.Status.TheVariants.{Done, Refused, Failed}
 
@@ -13,5 +13,6 @@ status_code Failed = 4
 -- how a run ends that meets a fault
 abbrev pub status_of : Fault → Status
 status_of (Parse f) = Refused
+status_of (Chart f) = Refused
 status_of Memory = Failed
 status_of Device = Failed

@@ -8,8 +8,10 @@ use Rattle.msc_parser.specs.declared.fault.What.{What}
 use Rattle.msc_parser.specs.declared.fault.What.TheVariants as whats
 use Rattle.msc_parser.specs.declared.fault.ParseFault.{ParseFault}
 use Rattle.msc_parser.specs.declared.fault.ParseFault.TheVariants as grammar
+use Rattle.msc_chart.specs.declared.fault.ChartFault.{ChartFault}
+use Rattle.msc_chart.specs.declared.fault.ChartFault.TheVariants as charts
 use Rattle.msc_tool.specs.declared.fault.Fault.{Fault}
-use Rattle.msc_tool.specs.declared.fault.Fault.TheVariants.{Parse, Memory, Device}
+use Rattle.msc_tool.specs.declared.fault.Fault.TheVariants.{Parse, Chart, Memory, Device}
 
 -- what was expected at a place
 abbrev pub what_text : What → List ℕ
@@ -47,8 +49,21 @@ grammar_line (grammar.Unsupported at word) = codes "grammar fault 2 at " ++ (dec
 grammar_line (grammar.Expected at w) = codes "grammar fault 3 at " ++ (decimal at ++ (codes ": expected " ++ line (what_text w)))
 grammar_line grammar.Memory = line (codes "memory fault")
 
+abbrev pub chart_line : ChartFault → List ℕ
+chart_line charts.TooManyInstances = line (codes "chart fault 1: more than 32 instances")
+chart_line (charts.TwiceInstance i) = placed (codes "chart fault 2: section ") i (codes " repeats an instance name")
+chart_line (charts.HeaderWithoutBody k) = placed (codes "chart fault 3: header name ") k (codes " has no section")
+chart_line (charts.UnknownAddress e) = placed (codes "chart fault 4: event ") e (codes " has an unknown address")
+chart_line charts.TooManyMessages = line (codes "chart fault 5: more than 1024 messages")
+chart_line (charts.TwiceEvent e) = placed (codes "chart fault 6: event ") e (codes " repeats a message")
+chart_line (charts.UnmatchedOut e) = placed (codes "chart fault 7: output ") e (codes " has no input")
+chart_line (charts.UnmatchedIn e) = placed (codes "chart fault 8: input ") e (codes " has no output")
+chart_line (charts.Cyclic e) = placed (codes "chart fault 9: event ") e (codes " precedes itself")
+chart_line charts.Memory = line (codes "memory fault")
+
 -- a fault's line
 abbrev pub fault_line : Fault → List ℕ
 fault_line (Parse f) = grammar_line f
+fault_line (Chart f) = chart_line f
 fault_line Memory = line (codes "memory fault")
 fault_line Device = line (codes "device fault")

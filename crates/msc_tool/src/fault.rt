@@ -4,6 +4,7 @@ ghost use Rattle.std.specs.Prelude.{◌≡◌};
 ghost use Rattle.msc_tool.specs.declared.fault.Fault.TheVariants.{Memory};
 ghost use Rattle.msc_tool.specs.Answers.{refusal_of};
 
+use msc_chart::ChartFault;
 use msc_parser::ParseFault;
 use std::alloc::AllocError;
 use thiserror::Error;
@@ -15,6 +16,9 @@ pub enum Fault {
     /// The text has no draft.
     #[error("{0}")]
     Parse(ParseFault),
+    /// The text's draft is no chart.
+    #[error("{0}")]
+    Chart(ChartFault),
     /// A growth of memory was refused.
     #[error("out of memory")]
     Memory,

@@ -5,9 +5,10 @@
 
 ghost use Rattle.std.specs.Prelude.{◌≡◌, OnOk};
 ghost use Rattle.std.specs.Io.KnownBytes.{Appends};
-ghost use Rattle.msc_tool.specs.Texts.{fault_line, grammar_line, lexical_line, line, placed, what_text};
+ghost use Rattle.msc_tool.specs.Texts.{chart_line, fault_line, grammar_line, lexical_line, line, placed, what_text};
 
 use crate::fault::Fault;
+use msc_chart::ChartFault;
 use msc_lexer::{LexFault, Word};
 use msc_parser::{ParseFault, What};
 use std::io;
@@ -109,6 +110,78 @@ fn write_expected<W: Write>(writer: &mut W, at: usize, what: What) -> io::Result
     writeln!(writer, "grammar fault 3 at {at}: expected {expected}")
 }
 
+/// Writes the line of a chart's fault.
+fn write_chart_fault<W: Write>(writer: &mut W, fault: ChartFault) -> io::Result<()>
+    ensures { OnOk result (Appends (W.contents writer.old) (W.contents writer.new)
+        (chart_line fault)) }
+{
+    match fault {
+        ChartFault::TooManyInstances => {
+            write_line(writer, "chart fault 1: more than 32 instances")
+        }
+        ChartFault::TwiceInstance(i) => {
+            write_placed(
+                writer,
+                "chart fault 2: section ",
+                i as usize,
+                " repeats an instance name",
+            )
+        }
+        ChartFault::HeaderWithoutBody(k) => {
+            write_placed(
+                writer,
+                "chart fault 3: header name ",
+                k as usize,
+                " has no section",
+            )
+        }
+        ChartFault::UnknownAddress(e) => {
+            write_placed(
+                writer,
+                "chart fault 4: event ",
+                e as usize,
+                " has an unknown address",
+            )
+        }
+        ChartFault::TooManyMessages => {
+            write_line(writer, "chart fault 5: more than 1024 messages")
+        }
+        ChartFault::TwiceEvent(e) => {
+            write_placed(
+                writer,
+                "chart fault 6: event ",
+                e as usize,
+                " repeats a message",
+            )
+        }
+        ChartFault::UnmatchedOut(e) => {
+            write_placed(
+                writer,
+                "chart fault 7: output ",
+                e as usize,
+                " has no input",
+            )
+        }
+        ChartFault::UnmatchedIn(e) => {
+            write_placed(
+                writer,
+                "chart fault 8: input ",
+                e as usize,
+                " has no output",
+            )
+        }
+        ChartFault::Cyclic(e) => {
+            write_placed(
+                writer,
+                "chart fault 9: event ",
+                e as usize,
+                " precedes itself",
+            )
+        }
+        ChartFault::Memory => write_line(writer, "memory fault"),
+    }
+}
+
 /// Writes the line of a fault. The printed words of faults come from here alone.
 pub fn write_fault<W: Write>(writer: &mut W, fault: &Fault) -> io::Result<()>
     ensures { OnOk result (Appends (W.contents writer.old) (W.contents writer.new)
@@ -119,6 +192,7 @@ pub fn write_fault<W: Write>(writer: &mut W, fault: &Fault) -> io::Result<()>
         Fault::Parse(ParseFault::Unsupported(at, word)) => write_unsupported(writer, at, word),
         Fault::Parse(ParseFault::Expected(at, what)) => write_expected(writer, at, what),
         Fault::Parse(ParseFault::Memory) => write_line(writer, "memory fault"),
+        Fault::Chart(fault) => write_chart_fault(writer, fault),
         Fault::Memory => write_line(writer, "memory fault"),
         Fault::Device => write_line(writer, "device fault"),
     }

@@ -1,0 +1,240 @@
+//! Charts of drafts: numbers, segments, queues, and drafts that are no chart.
+
+use msc_chart::{Chart, ChartFault, EventKind, Queues};
+use msc_parser::parse;
+use msc_tool::{Fault, write_fault};
+use std::alloc::{AllocError, Global};
+use std::fmt::Write;
+use std::test::Fail;
+
+/// The chart `two_senders`.
+const TWO_SENDERS: &[u8] = b"msc t; instance a; out m1 to b; endinstance; \
+instance b; in m1 from a; in m2 from c; endinstance; instance c; out m2 to b; endinstance; endmsc;";
+
+/// The chart `coregion`.
+const COREGION: &[u8] = b"msc t; instance a; out m1 to b; endinstance; \
+instance b; concurrent; in m1 from a; in m2 from c; endconcurrent; endinstance; \
+instance c; out m2 to b; endinstance; endmsc;";
+
+/// The chart `relay`.
+const RELAY: &[u8] = b"msc t; instance a; out m1 to b; out x to c; endinstance; \
+instance b; in m1 from a; in m2 from c; endinstance; \
+instance c; in x from a; out m2 to b; endinstance; endmsc;";
+
+/// The fault of a text whose draft is no chart.
+fn fault(alloc: Global, text: &[u8]) -> Option<ChartFault> {
+    match parse(alloc, text) {
+        Ok(draft) => Chart::build(alloc, &draft).err(),
+        Err(_) => None,
+    }
+}
+
+#[test]
+fn drafts_that_are_no_chart(rt: HostRuntime) {
+    for (text, wanted) in [
+        (
+            b"msc t; inst a; endmsc;".as_slice(),
+            ChartFault::HeaderWithoutBody(0),
+        ),
+        (
+            b"msc t; inst z; instance a; out m to c; endinstance; endmsc;",
+            ChartFault::HeaderWithoutBody(0),
+        ),
+        (
+            b"msc t; instance a; endinstance; instance a; endinstance; endmsc;",
+            ChartFault::TwiceInstance(1),
+        ),
+        (
+            b"msc t; instance a; out m to c; endinstance; endmsc;",
+            ChartFault::UnknownAddress(0),
+        ),
+        (
+            b"msc t; instance a; out m to b; out m to b; endinstance; \
+instance b; in m from a; in m from a; endinstance; endmsc;",
+            ChartFault::TwiceEvent(1),
+        ),
+        (
+            b"msc t; instance a; out m to b; endinstance; instance b; endinstance; endmsc;",
+            ChartFault::UnmatchedOut(0),
+        ),
+        (
+            b"msc t; instance a; endinstance; instance b; in m from a; endinstance; endmsc;",
+            ChartFault::UnmatchedIn(0),
+        ),
+        (
+            b"msc t; instance a; in m from a; out m to a; endinstance; endmsc;",
+            ChartFault::Cyclic(0),
+        ),
+    ] {
+        assert_eq!(rt; fault(rt.alloc(), text), Some(wanted), "{text:?}");
+    }
+}
+
+#[test]
+fn charts_that_are_accepted(rt: HostRuntime) {
+    for text in [
+        b"msc t; endmsc;".as_slice(),
+        b"msc t; instance a; out m to a; in m from a; endinstance; endmsc;",
+        b"msc t; instance a; out m, 1 to b; out m, 2 to b; endinstance; \
+instance b; in m, 1 from a; in m, 2 from a; endinstance; endmsc;",
+        TWO_SENDERS,
+        COREGION,
+        RELAY,
+    ] {
+        assert_eq!(rt; fault(rt.alloc(), text), None, "{text:?}");
+    }
+}
+
+/// A text in which `a` sends so many messages to `b`, who takes the first `taken` of them.
+fn many_messages(alloc: Global, sent: u32, taken: u32) -> Result<String, AllocError> {
+    let mut text = String::from_str(alloc, "msc t; instance a;")?;
+    for m in 0..sent {
+        write!(text, "out m{m} to b;")?;
+    }
+    text.push_str("endinstance; instance b;")?;
+    for m in 0..taken {
+        write!(text, "in m{m} from a;")?;
+    }
+    text.push_str("endinstance; endmsc;")?;
+    Ok(text)
+}
+
+#[test]
+fn the_limit_of_messages(rt: HostRuntime) -> Result<(), Fail> {
+    let alloc = rt.alloc();
+    for (sent, taken, wanted) in [
+        (1_024, 1_024, None),
+        (1_025, 1_025, Some(ChartFault::TooManyMessages)),
+        (1_025, 0, Some(ChartFault::TooManyMessages)),
+    ] {
+        let text = many_messages(alloc, sent, taken)?;
+        assert_eq!(rt; fault(alloc, text.as_bytes()), wanted, "{sent}");
+    }
+    Ok(())
+}
+
+#[test]
+fn the_limit_of_instances(rt: HostRuntime) -> Result<(), Fail> {
+    let alloc = rt.alloc();
+    for (sections, wanted) in [(32, None), (33, Some(ChartFault::TooManyInstances))] {
+        let mut text = String::from_str(alloc, "msc t;")?;
+        for i in 0..sections {
+            write!(text, "instance i{i}; endinstance;")?;
+        }
+        text.push_str("endmsc;")?;
+        assert_eq!(rt; fault(alloc, text.as_bytes()), wanted, "{sections}");
+    }
+    Ok(())
+}
+
+#[test]
+fn segments_of_a_coregion(rt: HostRuntime) -> Result<(), Fail> {
+    let alloc = rt.alloc();
+    let chart = Chart::build(alloc, &parse(alloc, COREGION)?)?;
+    assert_eq!(rt; chart.events(), 4);
+    assert_eq!(rt; (chart.segment(1), chart.segment(2)), (0, 0));
+    assert!(rt; !chart.before(1, 2));
+    let chart = Chart::build(alloc, &parse(alloc, TWO_SENDERS)?)?;
+    assert_eq!(rt; chart.events(), 4);
+    assert_eq!(rt; (chart.segment(1), chart.segment(2)), (0, 1));
+    assert!(rt; chart.before(1, 2));
+    Ok(())
+}
+
+#[test]
+fn an_empty_coregion_takes_no_segment(rt: HostRuntime) -> Result<(), Fail> {
+    let alloc = rt.alloc();
+    let text = b"msc t; instance a; out m to a; concurrent; endconcurrent; in m from a; \
+endinstance; endmsc;";
+    let chart = Chart::build(alloc, &parse(alloc, text)?)?;
+    assert_eq!(rt; chart.events(), 2);
+    assert_eq!(rt; (chart.segment(0), chart.segment(1)), (0, 1));
+    Ok(())
+}
+
+#[test]
+fn events_of_relay(rt: HostRuntime) -> Result<(), Fail> {
+    let alloc = rt.alloc();
+    let chart = Chart::build(alloc, &parse(alloc, RELAY)?)?;
+    assert_eq!(rt; chart.name(), b"t".as_slice());
+    assert_eq!(rt; chart.instances(), 3);
+    assert_eq!(rt; chart.instance_name(2), b"c".as_slice());
+    assert_eq!(rt;
+        (chart.line(0), chart.line(1), chart.line(2)),
+        ((0, 2), (2, 4), (4, 6))
+    );
+    assert_eq!(rt; chart.events(), 6);
+    let kinds = (chart.kind(1), chart.kind(2));
+    assert_eq!(rt; kinds, (EventKind::Output, EventKind::Input));
+    assert_eq!(rt; (chart.instance_of(3), chart.message(3)), (1, Some(2)));
+    assert_eq!(rt; (chart.partner(3), chart.partner(5)), (Some(5), Some(3)));
+    Ok(())
+}
+
+#[test]
+fn messages_and_queues_of_relay(rt: HostRuntime) -> Result<(), Fail> {
+    let alloc = rt.alloc();
+    let chart = Chart::build(alloc, &parse(alloc, RELAY)?)?;
+    assert_eq!(rt; chart.messages(), 3);
+    assert_eq!(rt; (chart.output_of(1), chart.input_of(1)), (1, 4));
+    assert_eq!(rt; (chart.sender(2), chart.receiver(2)), (2, 1));
+    assert_eq!(rt; chart.message_name(1), b"x".as_slice());
+    assert!(rt; chart.message_number(1).is_none());
+    for (queues, wanted) in [(Queues::Pair, (1, 2, 7)), (Queues::Mailbox, (1, 2, 1))] {
+        let numbers = (
+            chart.queue(0, queues),
+            chart.queue(1, queues),
+            chart.queue(2, queues),
+        );
+        assert_eq!(rt; numbers, wanted);
+    }
+    Ok(())
+}
+
+#[test]
+fn the_line_of_each_chart_fault(rt: HostRuntime) -> Result<(), Fail> {
+    for (fault, line) in [
+        (
+            ChartFault::TooManyInstances,
+            b"chart fault 1: more than 32 instances\n".as_slice(),
+        ),
+        (
+            ChartFault::TwiceInstance(1),
+            b"chart fault 2: section 1 repeats an instance name\n",
+        ),
+        (
+            ChartFault::HeaderWithoutBody(0),
+            b"chart fault 3: header name 0 has no section\n",
+        ),
+        (
+            ChartFault::UnknownAddress(0),
+            b"chart fault 4: event 0 has an unknown address\n",
+        ),
+        (
+            ChartFault::TooManyMessages,
+            b"chart fault 5: more than 1024 messages\n",
+        ),
+        (
+            ChartFault::TwiceEvent(1),
+            b"chart fault 6: event 1 repeats a message\n",
+        ),
+        (
+            ChartFault::UnmatchedOut(0),
+            b"chart fault 7: output 0 has no input\n",
+        ),
+        (
+            ChartFault::UnmatchedIn(0),
+            b"chart fault 8: input 0 has no output\n",
+        ),
+        (
+            ChartFault::Cyclic(12),
+            b"chart fault 9: event 12 precedes itself\n",
+        ),
+        (ChartFault::Memory, b"memory fault\n"),
+    ] {
+        let mut written = Vec::new(rt.alloc());
+        write_fault(&mut written, &Fault::Chart(fault))?;
+        assert_eq!(rt; written.as_slice(), line);
+    }
+    Ok(())
+}

@@ -1,0 +1,65 @@
+-- Drawn events: what the tests for outputs, inputs and the drawn order say.
+use Rattle.std.proofs.Common.{◌≡◌, ℕ, ◌<◌, ◌≤◌, ◌⊎◌, Bool, true, false, List, length, get_or, inl, inr, refl, sym, ap, ◌∙◌, arith, true≢false}
+use Rattle.std.proofs.lemmas.Bool.{and_parts, and_from, ltb-true, lt-ltb, eqb-true, eq-eqb}
+use Rattle.msc_chart.specs.declared.event.EventKind.{EventKind}
+use Rattle.msc_chart.specs.declared.event.EventKind.TheVariants.{Output, Input}
+use Rattle.msc_chart.specs.declared.event.ChartEvent.{ChartEvent}
+use Rattle.msc_chart.specs.Charts.{line, segment, kind, partner, sends, takes, is_output, is_input, before, IsMatched, IsInTextOrder}
+
+module _ (events : List ChartEvent) where
+  pub before_from : (x y : ℕ) → x < length events → y < length events → line events x ≡ line events y → segment events x < segment events y → before events x y ≡ true
+  unfolding before
+  before_from x y p q l s = and_from _ _ (and_from _ _ (lt-ltb _ _ p) (lt-ltb _ _ q)) (and_from _ _ (eq-eqb _ _ l) (lt-ltb _ _ s))
+
+  pub before_parts : (x y : ℕ) → before events x y ≡ true → (x < length events) × (y < length events) × (line events x ≡ line events y) × (segment events x < segment events y)
+  unfolding before
+  before_parts x y h =
+      let p = and_parts _ _ h in
+      let a = and_parts _ _ p.0 in
+      let b = and_parts _ _ p.1 in
+      (ltb-true _ _ a.0, ltb-true _ _ a.1, eqb-true _ _ b.0, ltb-true _ _ b.1)
+
+  pub output_from : (s : ℕ) → s < length events → sends (kind events s) ≡ true → is_output events s ≡ true
+  unfolding is_output
+  output_from s p h = and_from _ _ (lt-ltb _ _ p) h
+
+  pub output_parts : (s : ℕ) → is_output events s ≡ true → (s < length events) × (sends (kind events s) ≡ true)
+  unfolding is_output
+  output_parts s h = let p = and_parts _ _ h in (ltb-true _ _ p.0, p.1)
+
+  pub input_from : (r : ℕ) → r < length events → takes (kind events r) ≡ true → is_input events r ≡ true
+  unfolding is_input
+  input_from r p h = and_from _ _ (lt-ltb _ _ p) h
+
+  pub input_parts : (r : ℕ) → is_input events r ≡ true → (r < length events) × (takes (kind events r) ≡ true)
+  unfolding is_input
+  input_parts r h = let p = and_parts _ _ h in (ltb-true _ _ p.0, p.1)
+
+  -- no event is both
+  pub not_both : (e : ℕ) → is_output events e ≡ true → is_input events e ≡ true → ⊥
+  not_both e o i = by (kind events e) (output_parts e o).1 (input_parts e i).1
+    where
+      by : (k : EventKind) → sends k ≡ true → takes k ≡ true → ⊥
+      by Output h k = true≢false (sym k)
+      by Input h k = true≢false (sym h)
+
+  -- each event is one of them
+  pub output_or_input : (e : ℕ) → e < length events → (is_output events e ≡ true) ⊎ (is_input events e ≡ true)
+  output_or_input e below = by (kind events e) refl
+    where
+      by : (k : EventKind) → kind events e ≡ k → (is_output events e ≡ true) ⊎ (is_input events e ≡ true)
+      by Output h = inl (output_from e below (ap sends h))
+      by Input h = inr (input_from e below (ap takes h))
+
+  module _ (matched : IsMatched events) where
+    -- the partner of an output is an input
+    pub partner_of_output : (s : ℕ) → is_output events s ≡ true → is_input events (partner events s) ≡ true
+    partner_of_output s o =
+        let below = (output_parts s o).0 in
+        sym (matched.other_kind (partner events s) (matched.in_range s below))
+        ∙ ap (is_output events) (matched.to_and_fro s below)
+        ∙ o
+
+    -- the partner of an input is an output
+    pub partner_of_input : (r : ℕ) → is_input events r ≡ true → is_output events (partner events r) ≡ true
+    partner_of_input r i = matched.other_kind r (input_parts r i).0 ∙ i

@@ -1,0 +1,119 @@
+-- Lists of events: what occurs in them, and their parts.
+use Rattle.std.proofs.Common.{◌≡◌, ℕ, Bool, true, false, cond, ◌||◌, inl, inr, eqb, List, [], ◌∷◌, ◌++◌, filter, refl, ap, subst, ◌∙◌, append_assoc}
+use Rattle.std.proofs.lemmas.Bool.{eqb-true, eq-eqb, or_cases, or_left, or_right}
+use Rattle.std.proofs.lemmas.List.{append-nil}
+use Rattle.msc_chart.specs.Lists.{occurs, until, IsFirst, Steps}
+
+-- a fact by cases on a test
+pub by_test : {X : Type 0} (b : Bool) → (b ≡ true → X) → (b ≡ false → X) → X
+by_test true f g = f refl
+by_test false f g = g refl
+
+pub clash : {X : Type 0} {b : Bool} → b ≡ true → b ≡ false → X
+clash p q = cc
+
+pub occurs-append : (xs ys : List ℕ) (e : ℕ) → occurs (xs ++ ys) e ≡ (occurs xs e || occurs ys e)
+unfolding occurs
+occurs-append [] ys e = refl
+occurs-append (x ∷ xs) ys e = elim (eqb x e) as (λ b. (b || occurs (xs ++ ys) e) ≡ ((b || occurs xs e) || occurs ys e)) [ true ↦ refl | false ↦ occurs-append xs ys e ]
+
+pub occurs-left : (xs ys : List ℕ) (e : ℕ) → occurs xs e ≡ true → occurs (xs ++ ys) e ≡ true
+occurs-left xs ys e h = occurs-append xs ys e ∙ or_left (occurs xs e) (occurs ys e) h
+
+-- the list is what stands before the first e, e, and a rest
+pub parts : (xs : List ℕ) (e : ℕ) → occurs xs e ≡ true → (rest : List ℕ) × (xs ≡ until xs e ++ e ∷ rest)
+unfolding occurs until
+parts [] e h = cc
+parts (x ∷ xs) e h =
+    (elim (eqb x e) as (λ b. eqb x e ≡ b → (b || occurs xs e) ≡ true → (rest : List ℕ) × (x ∷ xs ≡ cond b [] (x ∷ until xs e) ++ e ∷ rest)) [
+      | true ↦ λ same k. (xs, ap (λ y. y ∷ xs) (eqb-true x e same))
+      | false ↦ λ other k. let p = parts xs e k in (p.0, ap (λ l. x ∷ l) p.1)
+    ]) refl h
+
+pub until-within : (xs : List ℕ) (e y : ℕ) → occurs (until xs e) y ≡ true → occurs xs y ≡ true
+unfolding occurs until
+until-within [] e y h = h
+until-within (x ∷ xs) e y h =
+    (elim (eqb x e) as (λ b. occurs (cond b [] (x ∷ until xs e)) y ≡ true → (eqb x y || occurs xs y) ≡ true) [
+      | true ↦ λ k. cc
+      | false ↦ λ k. elim (or_cases (eqb x y) (occurs (until xs e) y) k) [
+        | inl a ↦ or_left (eqb x y) (occurs xs y) a
+        | inr b ↦ or_right (eqb x y) (occurs xs y) (until-within xs e y b)
+      ]
+    ]) h
+
+pub until-append : (xs ys : List ℕ) (e : ℕ) → occurs xs e ≡ true → until (xs ++ ys) e ≡ until xs e
+unfolding occurs until
+until-append [] ys e h = cc
+until-append (x ∷ xs) ys e h =
+    (elim (eqb x e) as (λ b. (b || occurs xs e) ≡ true → cond b [] (x ∷ until (xs ++ ys) e) ≡ cond b [] (x ∷ until xs e)) [
+      | true ↦ λ k. refl
+      | false ↦ λ k. ap (λ l. x ∷ l) (until-append xs ys e k)
+    ]) h
+
+pub Steps-append : (May : List ℕ → ℕ → Type 0) (past xs ys : List ℕ) → Steps May past xs → Steps May (past ++ xs) ys → Steps May past (xs ++ ys)
+Steps-append May past [] ys h k = rw append-nil at k
+Steps-append May past (x ∷ xs) ys h k = (h.0, Steps-append May (past ++ x ∷ []) xs ys h.1 (rw append_assoc k))
+
+pub Steps-parts : (May : List ℕ → ℕ → Type 0) (past xs ys : List ℕ) → Steps May past (xs ++ ys) → Steps May past xs × Steps May (past ++ xs) ys
+Steps-parts May past [] ys h = (tt, rw append-nil h)
+Steps-parts May past (x ∷ xs) ys h =
+    let p = Steps-parts May (past ++ x ∷ []) xs ys h.1 in
+    ((h.0, p.0), (rw append_assoc at p.1))
+
+-- what occurs in a list of steps could come after what stands before it, and that is a list of steps too
+pub step_at : (May : List ℕ → ℕ → Type 0) (xs : List ℕ) (e : ℕ) → Steps May [] xs → occurs xs e ≡ true → Steps May [] (until xs e) × May (until xs e) e
+step_at May xs e steps h =
+    let p = parts xs e h in
+    let both = Steps-parts May [] (until xs e) (e ∷ p.0) (subst (λ (l : List ℕ). Steps May [] l) p.1 steps) in
+    (both.0, both.1.0)
+
+pub first_occurs : (p : ℕ → Bool) (xs : List ℕ) (s : ℕ) → IsFirst (filter p xs) s → (occurs xs s ≡ true) × (p s ≡ true)
+unfolding occurs
+first_occurs p [] s h = absurd h
+first_occurs p (x ∷ xs) s h =
+    (elim (p x) as (λ b. p x ≡ b → IsFirst (cond b (x ∷ filter p xs) (filter p xs)) s → ((eqb x s || occurs xs s) ≡ true) × (p s ≡ true)) [
+      | true ↦ λ passes k. (or_left (eqb x s) (occurs xs s) (eq-eqb x s k), cc)
+      | false ↦ λ fails k. let later = first_occurs p xs s k in (or_right (eqb x s) (occurs xs s) later.0, later.1)
+    ]) refl h
+
+-- nothing before the first of a filter passes it
+pub before_first_fails : (p : ℕ → Bool) (xs : List ℕ) (s t : ℕ) → IsFirst (filter p xs) s → occurs (until xs s) t ≡ true → p t ≡ false
+unfolding occurs until
+before_first_fails p [] s t h k = absurd h
+before_first_fails p (x ∷ xs) s t h k =
+    (elim (p x) as (λ b. p x ≡ b → IsFirst (cond b (x ∷ filter p xs) (filter p xs)) s → p t ≡ false) [
+      | true ↦ λ passes first. clash (rw (eq-eqb x s first) at k) refl
+      | false ↦ λ fails first.
+          (elim (eqb x s) as (λ b. occurs (cond b [] (x ∷ until xs s)) t ≡ true → p t ≡ false) [
+            | true ↦ λ j. cc
+            | false ↦ λ j. elim (or_cases (eqb x t) (occurs (until xs s) t) j) [
+              | inl same ↦ let e : x ≡ t = eqb-true x t same in cc
+              | inr later ↦ before_first_fails p xs s t first later
+            ]
+          ]) k
+    ]) refl h
+
+pub filter-first : (p : ℕ → Bool) (xs : List ℕ) (s : ℕ) → occurs xs s ≡ true → p s ≡ true → (t : ℕ) × IsFirst (filter p xs) t
+unfolding occurs
+filter-first p [] s h k = cc
+filter-first p (x ∷ xs) s h k =
+    (elim (p x) as (λ b. p x ≡ b → (t : ℕ) × IsFirst (cond b (x ∷ filter p xs) (filter p xs)) t) [
+      | true ↦ λ passes. (x, refl)
+      | false ↦ λ fails. elim (or_cases (eqb x s) (occurs xs s) h) [
+        | inl same ↦ let e : x ≡ s = eqb-true x s same in cc
+        | inr later ↦ filter-first p xs s later k
+      ]
+    ]) refl
+
+pub Steps-map : (May Other : List ℕ → ℕ → Type 0) → ((past : List ℕ) (x : ℕ) → May past x → Other past x) → (past xs : List ℕ) → Steps May past xs → Steps Other past xs
+Steps-map May Other f past [] h = tt
+Steps-map May Other f past (x ∷ xs) h = (f past x h.0, Steps-map May Other f (past ++ x ∷ []) xs h.1)
+
+-- one more step
+pub Steps-push : (May : List ℕ → ℕ → Type 0) (xs : List ℕ) (x : ℕ) → Steps May [] xs → May xs x → Steps May [] (xs ++ x ∷ [])
+Steps-push May xs x h k = Steps-append May [] xs (x ∷ []) h (k, tt)
+
+pub occurs-push : (xs : List ℕ) (e : ℕ) → occurs (xs ++ e ∷ []) e ≡ true
+unfolding occurs
+occurs-push xs e = occurs-append xs (e ∷ []) e ∙ or_right (occurs xs e) _ (or_left (eqb e e) false (eq-eqb e e refl))

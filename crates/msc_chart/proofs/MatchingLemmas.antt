@@ -1,0 +1,102 @@
+-- Ends of messages, compared.
+use Rattle.std.proofs.Common.{◌≡◌, ℕ, Bool, true, false, ◌&&◌, not, List, map, Option, None, Some, refl, sym, ap, ◌∙◌, true≢false}
+use mathlib.Core.Bool.{beq}
+use Rattle.std.specs.Cmp.Lexicographic.{pointwise, bytes_decides}
+use Rattle.std.specs.Option.{option_eq, option_copied}
+use Rattle.std.proofs.lemmas.Bool.{and_parts, and_from, not-true, not_from_false}
+use Rattle.std.proofs.Common.{Bor}
+use Rattle.std.specs.List.{list_any}
+use Rattle.std.specs.Map.Iter.{deref}
+use Rattle.msc_chart.specs.Faults.{Occurs, IsUnknown}
+use Rattle.msc_chart.proofs.Places.{by_test, clash, any_from, occurs_from}
+use Rattle.std.specs.Prelude.{nat_eq}
+use Rattle.msc_chart.specs.declared.end.End as code
+use Rattle.msc_chart.specs.Events.{End, same_end, same_name, same_number, other_end}
+use Rattle.msc_chart.specs.Views.{end_view}
+
+-- the code compares ends as their names compare
+pub number_view : (a b : code.End) → option_eq (λ x y. pointwise nat_eq x.now y.now) a.number b.number ≡ same_number (option_copied a.number) (option_copied b.number)
+number_view a b = by a.number b.number
+  where
+    by : (m n : _) → option_eq (λ x y. pointwise nat_eq x.now y.now) m n ≡ same_number (option_copied m) (option_copied n)
+    by None None = refl
+    by None (Some y) = refl
+    by (Some x) None = refl
+    by (Some x) (Some y) = refl
+
+beq-true : (a b : Bool) → beq a b ≡ true → a ≡ b
+beq-true true true h = refl
+beq-true true false h = absurd (true≢false (sym h))
+beq-true false true h = absurd (true≢false (sym h))
+beq-true false false h = refl
+
+beq-refl : (a : Bool) → beq a a ≡ true
+beq-refl true = refl
+beq-refl false = refl
+
+same_number-true : (a b : Option (List ℕ)) → same_number a b ≡ true → a ≡ b
+same_number-true None None h = refl
+same_number-true None (Some y) h = absurd (true≢false (sym h))
+same_number-true (Some x) None h = absurd (true≢false (sym h))
+same_number-true (Some x) (Some y) h = ap Some ((bytes_decides x y).0 h)
+
+same_number-refl : (a : Option (List ℕ)) → same_number a a ≡ true
+same_number-refl None = refl
+same_number-refl (Some x) = (bytes_decides x x).1 refl
+
+pub same_end-true : (a b : End) → same_end a b ≡ true → a ≡ b
+same_end-true a b h =
+    let p = and_parts _ _ h in
+    let q = and_parts _ _ p.1 in
+    let r = and_parts _ _ q.1 in
+    let s = and_parts _ _ r.1 in
+    let sends : a.sends ≡ b.sends = beq-true _ _ p.0 in
+    let sender : a.key.sender ≡ b.key.sender = (bytes_decides _ _).0 q.0 in
+    let receiver : a.key.receiver ≡ b.key.receiver = (bytes_decides _ _).0 r.0 in
+    let name : a.key.name ≡ b.key.name = (bytes_decides _ _).0 s.0 in
+    let number : a.key.number ≡ b.key.number = same_number-true _ _ s.1 in
+    λ i. record { sends = sends i; key = record { sender = sender i; receiver = receiver i; name = name i; number = number i } }
+
+pub same_end-refl : (a : End) → same_end a a ≡ true
+same_end-refl a =
+    and_from _ _ (beq-refl a.sends)
+    (and_from _ _ ((bytes_decides a.key.sender a.key.sender).1 refl)
+    (and_from _ _ ((bytes_decides a.key.receiver a.key.receiver).1 refl)
+    (and_from _ _ ((bytes_decides a.key.name a.key.name).1 refl) (same_number-refl a.key.number))))
+
+-- what the code computes for `==` of two ends
+abbrev pub code_same : code.End → code.End → Bool
+code_same a b =
+    beq a.sends b.sends
+    && (pointwise nat_eq a.sender.now b.sender.now
+    && (pointwise nat_eq a.receiver.now b.receiver.now
+    && (pointwise nat_eq a.name.now b.name.now
+    && option_eq (λ x y. pointwise nat_eq x.now y.now) a.number b.number)))
+
+pub code_same-view : (a b : code.End) → code_same a b ≡ same_end (end_view a) (end_view b)
+code_same-view a b = ap (λ n. beq a.sends b.sends && (same_name a.sender.now b.sender.now && (same_name a.receiver.now b.receiver.now && (same_name a.name.now b.name.now && n)))) (number_view a b)
+
+pub code_same-true : (a b : code.End) → code_same a b ≡ true → end_view a ≡ end_view b
+code_same-true a b h = same_end-true _ _ (sym (code_same-view a b) ∙ h)
+
+pub code_same-from : (a b : code.End) → end_view a ≡ end_view b → code_same a b ≡ true
+code_same-from a b h = code_same-view a b ∙ ap (same_end (end_view a)) (sym h) ∙ same_end-refl (end_view a)
+
+-- the tests of the two look-ups
+pub unknown_test : (keys : List (Bor (List ℕ))) (n : List ℕ) (r : Bool) → r ≡ list_any (λ k. pointwise nat_eq n k.now) keys
+    → (not r ≡ true → IsUnknown (map deref keys) n) × (IsUnknown (map deref keys) n → not r ≡ true)
+unknown_test keys n r is = (
+  λ h known. clash (is ∙ any_from deref (λ k. pointwise nat_eq n k.now) n (λ x e. (bytes_decides n x.now).1 (sym e)) keys known) (not-true r h),
+  λ unknown. by_test r
+      (λ yes. absurd (unknown (occurs_from deref (λ k. pointwise nat_eq n k.now) n (λ x e. sym ((bytes_decides n x.now).0 e)) keys (sym is ∙ yes))))
+      (λ no. not_from_false r no),
+)
+
+pub unmatched_test : (keys : List code.End) (x other : code.End) (r : Bool) → end_view other ≡ other_end (end_view x) → r ≡ list_any (code_same other) keys
+    → (not r ≡ true → Occurs (map end_view keys) (other_end (end_view x)) → ⊥) × ((Occurs (map end_view keys) (other_end (end_view x)) → ⊥) → not r ≡ true)
+unmatched_test keys x other r same is = (
+  λ h there. clash (is ∙ any_from end_view (code_same other) (other_end (end_view x)) (λ k e. code_same-from other k (same ∙ sym e)) keys there) (not-true r h),
+  λ alone. by_test r
+      (λ yes. absurd (alone (occurs_from end_view (code_same other) (other_end (end_view x)) (λ k e. sym (code_same-true other k e) ∙ same) keys (sym is ∙ yes))))
+      (λ no. not_from_false r no),
+)

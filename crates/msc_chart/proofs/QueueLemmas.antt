@@ -1,0 +1,155 @@
+-- The queues of an accepted chart.
+use Rattle.std.proofs.Common.{◌≡◌, ℕ, zero, suc, ◌+◌, ◌*◌, ◌<◌, ◌≤◌, ◌%◌, Bool, true, false, cond, ◌||◌, List, [], ◌∷◌, length, filter, Some, inl, inr, refl, sym, ap, ◌∙◌, subst, arith}
+use Rattle.std.specs.Prelude.{nat_eq, slice_get}
+use Rattle.std.specs.List.{list_any, range_with_len}
+use Rattle.std.proofs.Math.Nat.{mod-eq_of_lt, mul-add-mod_self_right}
+use Rattle.std.proofs.lemmas.Bool.{eqb-true, eq-eqb}
+use Rattle.std.proofs.lemmas.List.FromFn.{length-range_with_len, get_or-range_with_len}
+use Rattle.std.proofs.lemmas.List.Sums.{length-filter, count_by-le-length}
+use Rattle.std.proofs.lemmas.Option.{slice_get-get_or}
+use Rattle.msc_chart.specs.declared.queue.Queues.{Queues}
+use Rattle.msc_chart.specs.declared.queue.Queues.TheVariants.{Pair, Mailbox}
+use Rattle.msc_chart.specs.declared.event.ChartEvent.{ChartEvent}
+use Rattle.msc_chart.specs.Charts.{line, partner, message, is_output, is_input, IsMatched}
+use Rattle.msc_chart.specs.Drawings.{Drawing, output_of, input_of, sender_of, receiver_of, IsAccepted}
+use Rattle.msc_chart.specs.Orders.{queue_number, queue_of, sender_at, receiver_at, wired, queue, IsWired}
+use Rattle.msc_chart.specs.Laws.{messages_in, sends_to, senders_in, IsBounded}
+use Rattle.msc_chart.specs.Faults.{StandsAt}
+use Rattle.msc_chart.proofs.Places.{by_test, clash, place-any}
+use Rattle.msc_chart.proofs.Drawn.{output_parts, input_parts, output_or_input, not_both, partner_of_output, partner_of_input}
+use Rattle.msc_chart.proofs.Readers.{sender_in, receiver_in}
+
+-- a queue number has one receiver
+one_receiver : (queues : Queues) (n s r t u : ℕ) → r < n → u < n → queue_number queues n s r ≡ queue_number queues n t u → r ≡ u
+unfolding queue_number
+one_receiver Pair n s r t u r_in u_in same =
+    sym (mul-add-mod_self_right s n r ∙ mod-eq_of_lt r_in)
+    ∙ ap (λ (x : ℕ). x % n) same
+    ∙ mul-add-mod_self_right t n u
+    ∙ mod-eq_of_lt u_in
+one_receiver Mailbox n s r t u r_in u_in same = same
+
+-- a filter keeps what passes it
+any_kept : (test p : ℕ → Bool) (xs : List ℕ) (j x : ℕ) → StandsAt xs j x → p x ≡ true → test x ≡ true → list_any test (filter p xs) ≡ true
+any_kept test p [] j x h passes found = cc
+any_kept test p (y ∷ ys) zero x h passes found =
+    let same : y ≡ x = cc in
+    ap (λ (b : Bool). list_any test (cond b (y ∷ filter p ys) (filter p ys))) (ap p same ∙ passes)
+    ∙ ap (λ (b : Bool). b || list_any test (filter p ys)) (ap test same ∙ found)
+any_kept test p (y ∷ ys) (suc j) x h passes found =
+    let rest = any_kept test p ys j x h passes found in
+    by_test (p y)
+    (λ kept. ap (λ (b : Bool). list_any test (cond b (y ∷ filter p ys) (filter p ys))) kept
+    ∙ by_test (test y)
+    (λ t. ap (λ (b : Bool). b || list_any test (filter p ys)) t)
+    (λ f. ap (λ (b : Bool). b || list_any test (filter p ys)) f ∙ rest))
+    (λ gone. ap (λ (b : Bool). list_any test (cond b (y ∷ filter p ys) (filter p ys))) gone ∙ rest)
+
+some_kept : (p : ℕ → Bool) (xs : List ℕ) → list_any p xs ≡ true → 1 ≤ length (filter p xs)
+some_kept p [] h = clash h refl
+some_kept p (x ∷ xs) h =
+    by_test (p x)
+    (λ kept. let e = ap (λ (b : Bool). length (cond b (x ∷ filter p xs) (filter p xs))) kept in omega arith)
+    (λ gone.
+    let e = ap (λ (b : Bool). length (cond b (x ∷ filter p xs) (filter p xs))) gone in
+    let rest = some_kept p xs (sym (ap (λ (b : Bool). b || list_any p xs) gone) ∙ h) in
+    omega arith)
+
+-- a number stands at its place of a range
+in_range : (n i : ℕ) → i < n → StandsAt (range_with_len 0 n) i i
+in_range n i below =
+    let len = length-range_with_len 0 n in
+    slice_get-get_or (range_with_len 0 n) i 0 (omega arith) ∙ ap Some (get_or-range_with_len 0 n i 0 below ∙ omega arith)
+
+few_kept : (p : ℕ → Bool) (n : ℕ) → length (filter p (range_with_len 0 n)) ≤ n
+few_kept p n = omega (arith, length-filter p (range_with_len 0 n), count_by-le-length p (range_with_len 0 n), length-range_with_len 0 n)
+
+-- messages of one queue have one receiver
+shared : (queues : Queues) (d : Drawing) → IsAccepted d → (k l : ℕ) → k < length d.messages → l < length d.messages → queue_of queues d k ≡ queue_of queues d l → receiver_of d k ≡ receiver_of d l
+unfolding queue_of
+shared queues d accepted k l k_in l_in same = one_receiver queues (length d.instances) _ _ _ _ (receiver_in d accepted k k_in) (receiver_in d accepted l l_in) same
+
+-- a queue with a message has from 1 to 32 senders, one receiver, and at most 1,024 messages
+pub bounded : (queues : Queues) (d : Drawing) (m : ℕ) → IsAccepted d → m < length d.messages → IsBounded queues d (queue_of queues d m)
+unfolding messages_in sends_to senders_in
+bounded queues d m accepted known =
+    let q : ℕ = queue_of queues d m in
+    let i : ℕ = sender_of d m in
+    let own : sends_to queues d q i ≡ true = any_kept (λ k. nat_eq (sender_of d k) i) (λ k. nat_eq (queue_of queues d k) q) (range_with_len 0 (length d.messages)) m m (in_range _ m known) (eq-eqb q q refl) (eq-eqb i i refl) in
+    record {
+      some_sender = some_kept (sends_to queues d q) (range_with_len 0 (length d.instances)) (place-any (sends_to queues d q) (range_with_len 0 (length d.instances)) i i (in_range _ i (sender_in d accepted m known)) own);
+      few_senders = let few = few_kept (sends_to queues d q) (length d.instances) in let most = accepted.few_instances in omega arith;
+      few_messages = let few = few_kept (λ k. nat_eq (queue_of queues d k) q) (length d.messages) in let most = accepted.few_messages in omega arith;
+      one_receiver = λ k l k_in l_in of_k of_l. shared queues d accepted k l k_in l_in (of_k ∙ sym of_l);
+    }
+
+module _ (queues : Queues) (d : Drawing) (accepted : IsAccepted d) where
+  -- the sender and the receiver of an output's message
+  of_output : (s : ℕ) → is_output d.events s ≡ true → (sender_at d.events s ≡ line d.events s) × (receiver_at d.events s ≡ line d.events (partner d.events s))
+  unfolding sender_at receiver_at
+  of_output s o = (
+    ap (λ (b : Bool). cond b (line d.events s) (line d.events (partner d.events s))) o,
+    ap (λ (b : Bool). cond b (line d.events (partner d.events s)) (line d.events s)) o,
+  )
+
+  not_output : (r : ℕ) → is_input d.events r ≡ true → is_output d.events r ≡ false
+  not_output r i = by_test (is_output d.events r) (λ o. absurd (not_both d.events r o i)) (λ n. n)
+
+  -- and of an input's
+  of_input : (r : ℕ) → is_input d.events r ≡ true → (sender_at d.events r ≡ line d.events (partner d.events r)) × (receiver_at d.events r ≡ line d.events r)
+  unfolding sender_at receiver_at
+  of_input r i = (
+    ap (λ (b : Bool). cond b (line d.events r) (line d.events (partner d.events r))) (not_output r i),
+    ap (λ (b : Bool). cond b (line d.events (partner d.events r)) (line d.events r)) (not_output r i),
+  )
+
+  same_number : {s s' r r' : ℕ} → s ≡ s' → r ≡ r' → queue_number queues (length d.instances) s r ≡ queue_number queues (length d.instances) s' r'
+  same_number p q = λ k. queue_number queues (length d.instances) (p k) (q k)
+
+  -- both ends of a message have one queue
+  pub ends_share : IsWired (wired queues d)
+  unfolding queue
+  ends_share = record {
+    matched = accepted.matched;
+    one_queue = λ e within.
+        let back = accepted.matched.to_and_fro e within in
+        elim (output_or_input d.events e within) [
+          | inl o ↦
+              let here = of_output e o in
+              let there = of_input (partner d.events e) (partner_of_output d.events accepted.matched e o) in
+              same_number (there.0 ∙ ap (line d.events) back ∙ sym here.0) (there.1 ∙ sym here.1)
+          | inr i ↦
+              let here = of_input e i in
+              let there = of_output (partner d.events e) (partner_of_input d.events accepted.matched e i) in
+              same_number (there.0 ∙ sym here.0) (there.1 ∙ ap (line d.events) back ∙ sym here.1)
+        ];
+  }
+
+  -- the queue of an output is that of its message
+  output_queue : (s : ℕ) → is_output d.events s ≡ true → queue (wired queues d) s ≡ queue_of queues d (message d.events s)
+  unfolding queue queue_of sender_of receiver_of input_of
+  output_queue s o =
+      let here = of_output s o in
+      let back = accepted.has_messages.back s o in
+      same_number (here.0 ∙ ap (line d.events) (sym back)) (here.1 ∙ ap (λ (e : ℕ). line d.events (partner d.events e)) (sym back))
+
+  -- and so is that of an input
+  pub event_queue : (e : ℕ) → e < length d.events → queue (wired queues d) e ≡ queue_of queues d (message d.events e)
+  event_queue e within =
+      elim (output_or_input d.events e within) [
+        | inl o ↦ output_queue e o
+        | inr i ↦
+            sym (ends_share.one_queue e within)
+            ∙ output_queue (partner d.events e) (partner_of_input d.events accepted.matched e i)
+            ∙ ap (queue_of queues d) (accepted.has_messages.shared e within)
+      ]
+
+  -- the inputs of a queue are on one line
+  pub inputs_share : (r u : ℕ) → is_input d.events r ≡ true → is_input d.events u ≡ true → queue (wired queues d) r ≡ queue (wired queues d) u → line d.events r ≡ line d.events u
+  unfolding queue
+  inputs_share r u i j same =
+      let a = of_input r i in
+      let b = of_input u j in
+      let r_in = accepted.on_lines.on_line r (input_parts d.events r i).0 in
+      let u_in = accepted.on_lines.on_line u (input_parts d.events u j).0 in
+      sym a.1 ∙ one_receiver queues (length d.instances) _ _ _ _ (rw a.1 r_in) (rw b.1 u_in) same ∙ b.1

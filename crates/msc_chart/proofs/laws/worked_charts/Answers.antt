@@ -1,0 +1,17 @@
+use Rattle.std.proofs.Common.{map, ap}
+use Rattle.msc_chart.proofs.Rows.{two_senders_drawn, coregion_drawn, relay_drawn, empty_coregion_events, relay_pair, relay_mailbox, two_senders_pair, coregion_mailbox}
+use Rattle.msc_chart.proofs.EnforcedRows.{two_mailboxes_enforced}
+use Rattle.msc_chart.proofs.laws.worked_charts.Goals as goal
+
+pub returns : goal.returns
+returns c = record {
+  drawn = two_senders_drawn;
+  coregion = coregion_drawn;
+  relay = relay_drawn;
+  segments = ap (map (λ e. e.segment)) empty_coregion_events;
+  pair = relay_pair;
+  mailbox = relay_mailbox;
+  senders = two_senders_pair;
+  one = coregion_mailbox;
+  enforced = two_mailboxes_enforced;
+}

@@ -1,0 +1,101 @@
+-- What makes a draft no chart, and which of several faults is answered.
+use Rattle.std.specs.Prelude.{◌≡◌, ℕ, ◌<◌, ◌≤◌, ◌⊎◌, Bool, true, false, List, length, slice_get, Some, Option, count_by, MatchOption}
+use mathlib.Core.Bool.{beq}
+use Rattle.msc_parser.specs.Grammar.{Tree}
+use Rattle.msc_chart.specs.declared.fault.ChartFault.{ChartFault}
+use Rattle.msc_chart.specs.declared.fault.ChartFault.TheVariants.{TooManyInstances, TwiceInstance, HeaderWithoutBody, UnknownAddress, TooManyMessages, TwiceEvent, UnmatchedOut, UnmatchedIn, Cyclic, Memory}
+use Rattle.msc_chart.specs.Events.{End, events_of, instances_of, header_of, ends_of, address_of, other_end}
+use Rattle.msc_chart.specs.Charts.{Visual}
+use Rattle.msc_chart.specs.Drawings.{chart_events}
+
+-- x stands at place i
+abbrev pub StandsAt : {T : Type 0} → List T → ℕ → T → Type 0
+StandsAt xs i x = slice_get xs i ≡ Some x
+
+-- x stands somewhere
+abbrev pub Occurs : {T : Type 0} → List T → T → Type 0
+Occurs xs x = (j : ℕ) × StandsAt xs j x
+
+-- the element at place i is equal to an earlier one
+abbrev pub IsRepeat : {T : Type 0} → List T → ℕ → Type 0
+IsRepeat {T} xs i = (x : T) × StandsAt xs i x × ((j : ℕ) × (j < i) × StandsAt xs j x)
+
+-- the element at place i is such
+abbrev pub HoldsAt : {T : Type 0} → (T → Type 0) → List T → ℕ → Type 0
+HoldsAt {T} P xs i = (x : T) × StandsAt xs i x × P x
+
+-- the least place of such, where there is one
+pub record IsLeastPlace (P : ℕ → Type 0) (i : ℕ) : Type 0 where
+  pub itself : P i
+  pub least : (k : ℕ) → P k → i ≤ k
+
+abbrev pub AnswersLeast : (ℕ → Type 0) → Option ℕ → Type 0
+AnswersLeast P r = MatchOption r ((k : ℕ) → P k → ⊥) (IsLeastPlace P)
+
+-- the name is that of no section
+abbrev pub IsUnknown : List (List ℕ) → List ℕ → Type 0
+IsUnknown names name = Occurs names name → ⊥
+
+-- an output, or an input, has no other end
+pub record IsUnmatched (sends : Bool) (ends : List End) (end : End) : Type 0 where
+  pub kind : end.sends ≡ sends
+  pub alone : Occurs ends (other_end end) → ⊥
+
+abbrev pub AreTooMany : List End → Type 0
+AreTooMany ends = (1024 < count_by (λ x. beq x.sends true) ends) ⊎ (1024 < count_by (λ x. beq x.sends false) ends)
+
+-- the fault stands in the draft
+unfoldable pub Stands : Tree → ChartFault → Type 0
+Stands d TooManyInstances = 32 < length (instances_of d)
+Stands d (TwiceInstance i) = IsRepeat (instances_of d) i
+Stands d (HeaderWithoutBody k) = HoldsAt (IsUnknown (instances_of d)) (header_of d) k
+Stands d (UnknownAddress e) = HoldsAt (λ end. IsUnknown (instances_of d) (address_of end)) (ends_of d) e
+Stands d TooManyMessages = AreTooMany (ends_of d)
+Stands d (TwiceEvent e) = IsRepeat (ends_of d) e
+Stands d (UnmatchedOut e) = HoldsAt (IsUnmatched true (ends_of d)) (ends_of d) e
+Stands d (UnmatchedIn e) = HoldsAt (IsUnmatched false (ends_of d)) (ends_of d) e
+Stands d (Cyclic e) = (e < length (chart_events d)) × Visual (chart_events d) e e
+Stands d Memory = ⊥
+
+-- the lower, the earlier it is answered
+abbrev pub rank : ChartFault → ℕ
+rank TooManyInstances = 1
+rank (TwiceInstance i) = 2
+rank (HeaderWithoutBody k) = 3
+rank (UnknownAddress e) = 4
+rank TooManyMessages = 5
+rank (TwiceEvent e) = 6
+rank (UnmatchedOut e) = 7
+rank (UnmatchedIn e) = 8
+rank (Cyclic e) = 9
+rank Memory = 10
+
+-- the section, header name or event
+abbrev pub place : ChartFault → ℕ
+place TooManyInstances = 0
+place (TwiceInstance i) = i
+place (HeaderWithoutBody k) = k
+place (UnknownAddress e) = e
+place TooManyMessages = 0
+place (TwiceEvent e) = e
+place (UnmatchedOut e) = e
+place (UnmatchedIn e) = e
+place (Cyclic e) = e
+place Memory = 0
+
+-- the lowest fault, at its least place
+pub record IsFirstFault (d : Tree) (f : ChartFault) : Type 0 where
+  pub stands : Stands d f
+  pub first : (g : ChartFault) → Stands d g → (rank f < rank g) ⊎ ((rank f ≡ rank g) × (place f ≤ place g))
+
+-- no fault stands
+abbrev pub IsFaultless : Tree → Type 0
+IsFaultless d = (f : ChartFault) → Stands d f → ⊥
+
+-- no fault of a lower rank stands
+abbrev pub IsClearBelow : Tree → ℕ → Type 0
+IsClearBelow d k = (f : ChartFault) → Stands d f → k ≤ rank f
+
+-- a refusal is the first fault, or want of memory
+abbrev pub IsFirstOrMemory : Tree → ChartFault → Type 0
+IsFirstOrMemory d f = (f ≡ Memory → ⊥) → IsFirstFault d f

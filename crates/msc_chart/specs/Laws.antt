@@ -1,0 +1,58 @@
+-- Laws of charts, for the crates that rest on this one.
+use Rattle.std.specs.Prelude.{◌≡◌, ℕ, ◌+◌, ◌<◌, ◌≤◌, ◌↔◌, Bool, List, length, filter, IsTrue, nat_eq}
+use Rattle.std.specs.List.{list_any, range_with_len}
+use Rattle.msc_chart.specs.declared.queue.Queues.{Queues}
+use Rattle.msc_chart.specs.Charts.{line, segment, message, is_input, line_start, IsLinearOrder, IsAcyclic}
+use Rattle.msc_chart.specs.Drawings.{Drawing, sender_of, receiver_of, IsAccepted, IsLine}
+use Rattle.msc_chart.specs.Orders.{queue_of, queue, wired, IsWired}
+
+-- the messages of a queue, ascending
+unfoldable pub messages_in : Queues → Drawing → ℕ → List ℕ
+messages_in queues d q = filter (λ m. nat_eq (queue_of queues d m) q) (range_with_len 0 (length d.messages))
+
+-- instance i sends a message of the queue
+unfoldable pub sends_to : Queues → Drawing → ℕ → ℕ → Bool
+sends_to queues d q i = list_any (λ m. nat_eq (sender_of d m) i) (messages_in queues d q)
+
+-- the instances that send a message of the queue, ascending
+unfoldable pub senders_in : Queues → Drawing → ℕ → List ℕ
+senders_in queues d q = filter (sends_to queues d q) (range_with_len 0 (length d.instances))
+
+-- the queue has from 1 to 32 senders, one receiver, and at most 1,024 messages
+pub record IsBounded (queues : Queues) (d : Drawing) (q : ℕ) : Type 0 where
+  pub some_sender : 1 ≤ length (senders_in queues d q)
+  pub few_senders : length (senders_in queues d q) ≤ 32
+  pub few_messages : length (messages_in queues d q) ≤ 1024
+  pub one_receiver : (k m : ℕ) → k < length d.messages → m < length d.messages
+      → queue_of queues d k ≡ q → queue_of queues d m ≡ q → receiver_of d k ≡ receiver_of d m
+
+-- under either architecture each queue with a message is bounded
+abbrev pub QueuesAreBounded : Type 0
+QueuesAreBounded =
+    (queues : Queues) (d : Drawing) (m : ℕ) → IsAccepted d → m < length d.messages → IsBounded queues d (queue_of queues d m)
+
+-- both ends of a message have one queue
+abbrev pub EndsShareQueues : Type 0
+EndsShareQueues = (queues : Queues) (d : Drawing) → IsAccepted d → IsWired (wired queues d)
+
+-- the queue of an event is that of its message
+abbrev pub EventsHaveQueues : Type 0
+EventsHaveQueues =
+    (queues : Queues) (d : Drawing) (e : ℕ) → IsAccepted d → e < length d.events
+    → queue (wired queues d) e ≡ queue_of queues d (message d.events e)
+
+-- the inputs of a queue are on one line
+abbrev pub InputsShareLines : Type 0
+InputsShareLines =
+    (queues : Queues) (d : Drawing) (r u : ℕ) → IsAccepted d → IsTrue (is_input d.events r) → IsTrue (is_input d.events u)
+    → queue (wired queues d) r ≡ queue (wired queues d) u → line d.events r ≡ line d.events u
+
+-- a line is a contiguous range of event numbers
+abbrev pub LinesAreRanges : Type 0
+LinesAreRanges = (d : Drawing) (i : ℕ) → IsAccepted d → IsLine d i (line_start d.events i) (line_start d.events (i + 1))
+
+-- segments do not fall along the numbers of a line
+abbrev pub SegmentsRise : Type 0
+SegmentsRise =
+    (d : Drawing) (e f : ℕ) → IsAccepted d → e ≤ f → f < length d.events → line d.events e ≡ line d.events f
+    → segment d.events e ≤ segment d.events f

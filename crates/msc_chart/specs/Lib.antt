@@ -1,0 +1,14 @@
+pub mod Lists
+pub mod Events
+pub mod Charts
+pub mod Drawings
+pub mod Orders
+pub mod Runs
+pub mod Chosen
+pub mod Laws
+pub mod Faults
+pub mod Samples
+pub mod Passes
+pub mod Views
+pub mod Numbering
+pub mod Reach

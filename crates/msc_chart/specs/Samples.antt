@@ -1,0 +1,112 @@
+-- Small charts, and what the definitions say of them.
+use Rattle.std.specs.Prelude.{ℕ, Bool, List, [], ◌∷◌, length, map, filter, None, ◌↔◌}
+use Rattle.std.specs.List.{flat_map, range_with_len}
+use Rattle.msc_parser.specs.declared.tree.Way.TheVariants.{Output, Input}
+use Rattle.msc_parser.specs.declared.tree.Signal.{Signal}
+use Rattle.msc_parser.specs.declared.tree.Item.{Item}
+use Rattle.msc_parser.specs.declared.tree.Item.TheVariants.{Single, Coregion}
+use Rattle.msc_parser.specs.declared.tree.Section.{Section}
+use Rattle.msc_parser.specs.Grammar.{Tree}
+use Rattle.msc_chart.specs.declared.event.EventKind.{EventKind}
+use Rattle.msc_chart.specs.declared.event.EventKind.TheVariants as kinds
+use Rattle.msc_chart.specs.declared.event.ChartEvent.{ChartEvent}
+use Rattle.msc_chart.specs.declared.queue.Queues.{Queues}
+use Rattle.msc_chart.specs.Charts.{before}
+use Rattle.msc_chart.specs.Drawings.{Drawing}
+use Rattle.msc_chart.specs.Orders.{queue_of, WiredChart, Enforced}
+use Rattle.msc_chart.specs.Faults.{Occurs}
+
+-- the names of the charts' instances and messages, by their last letter
+abbrev pub a : List ℕ
+a = 97 ∷ []
+
+abbrev pub b : List ℕ
+b = 98 ∷ []
+
+abbrev pub c : List ℕ
+c = 99 ∷ []
+
+abbrev pub x : List ℕ
+x = 120 ∷ []
+
+abbrev pub m1 : List ℕ
+m1 = 109 ∷ 49 ∷ []
+
+abbrev pub m2 : List ℕ
+m2 = 109 ∷ 50 ∷ []
+
+-- `out NAME to ADDRESS;`
+abbrev pub out_to : List ℕ → List ℕ → Signal
+out_to name address = record { way = Output; name = name; number = None; parameters = []; address = address }
+
+-- `in NAME from ADDRESS;`
+abbrev pub in_from : List ℕ → List ℕ → Signal
+in_from name address = record { way = Input; name = name; number = None; parameters = []; address = address }
+
+abbrev pub instance_of : List ℕ → List Item → Section
+instance_of name items = record { decl = record { name = name; kind = [] }; items = items }
+
+abbrev pub draft_of : List Section → Tree
+draft_of sections = record { name = 116 ∷ []; header = []; sections = sections }
+
+-- a: out m1; b: in m1, in m2; c: out m2
+abbrev pub two_senders : Tree
+two_senders =
+    draft_of (instance_of a (Single (out_to m1 b) ∷ [])
+    ∷ instance_of b (Single (in_from m1 a) ∷ Single (in_from m2 c) ∷ [])
+    ∷ instance_of c (Single (out_to m2 b) ∷ []) ∷ [])
+
+-- the same, with the inputs of b in a coregion
+abbrev pub coregion : Tree
+coregion =
+    draft_of (instance_of a (Single (out_to m1 b) ∷ [])
+    ∷ instance_of b (Coregion (in_from m1 a ∷ in_from m2 c ∷ []) ∷ [])
+    ∷ instance_of c (Single (out_to m2 b) ∷ []) ∷ [])
+
+-- a: out m1, out x; b: in m1, in m2; c: in x, out m2
+abbrev pub relay : Tree
+relay =
+    draft_of (instance_of a (Single (out_to m1 b) ∷ Single (out_to x c) ∷ [])
+    ∷ instance_of b (Single (in_from m1 a) ∷ Single (in_from m2 c) ∷ [])
+    ∷ instance_of c (Single (in_from x a) ∷ Single (out_to m2 b) ∷ []) ∷ [])
+
+-- an empty coregion between two events
+abbrev pub empty_coregion : Tree
+empty_coregion = draft_of (instance_of a (Single (out_to m1 a) ∷ Coregion [] ∷ Single (in_from m1 a) ∷ []) ∷ [])
+
+-- an event of a chart: its line, segment, kind, partner and message
+abbrev pub event : ℕ → ℕ → EventKind → ℕ → ℕ → ChartEvent
+event line segment kind partner message =
+    record { line = line; segment = segment; kind = kind; partner = partner; message = message }
+
+-- a: out m1, out m3; b: out m4, out m2; q: in m1, in m2; z: in m4, in m3
+abbrev pub two_mailboxes : Drawing
+two_mailboxes = record {
+  name = [];
+  instances = [] ∷ [] ∷ [] ∷ [] ∷ [];
+  events =
+      event 0 0 kinds.Output 4 0 ∷ event 0 1 kinds.Output 7 1 ∷ event 1 0 kinds.Output 6 2 ∷ event 1 1 kinds.Output 5 3
+      ∷ event 2 0 kinds.Input 0 0 ∷ event 2 1 kinds.Input 3 3 ∷ event 3 0 kinds.Input 2 2 ∷ event 3 1 kinds.Input 1 1 ∷ [];
+  messages = [];
+}
+
+-- all pairs of numbers below a bound that pass a test, ascending
+abbrev pub pairs_of : (ℕ → ℕ → Bool) → ℕ → List (ℕ × ℕ)
+pairs_of test n =
+    flat_map (λ i. map (λ j. (i, j)) (filter (test i) (range_with_len 0 n))) (range_with_len 0 n)
+
+-- the pairs of which the first is drawn before the second
+abbrev pub drawn_pairs : Drawing → List (ℕ × ℕ)
+drawn_pairs d = pairs_of (before d.events) (length d.events)
+
+-- the queue numbers of all messages
+abbrev pub queue_numbers : Queues → Drawing → List ℕ
+queue_numbers queues d = map (queue_of queues d) (range_with_len 0 (length d.messages))
+
+-- the enforced order of two_mailboxes under Mailbox, pair by pair
+abbrev pub two_mailboxes_pairs : List (ℕ × ℕ)
+two_mailboxes_pairs = (0, 1) ∷ (0, 4) ∷ (0, 7) ∷ (1, 7) ∷ (2, 3) ∷ (2, 5) ∷ (2, 6) ∷ (3, 5) ∷ []
+
+-- a pair of the list is enforced, and no other
+abbrev pub AreEnforcedPairs : WiredChart → List (ℕ × ℕ) → Type 0
+AreEnforcedPairs chart pairs = (e f : ℕ) → Enforced chart e f ↔ Occurs pairs (e, f)

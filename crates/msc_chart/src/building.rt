@@ -1,0 +1,120 @@
+//! From a draft to the events of its chart.
+
+ghost use Rattle.std.specs.Prelude.{◌≡◌, ◌≤◌, ◌<◌, map, length, IfOk, IfErr, OnOk};
+ghost use Rattle.std.specs.Map.Iter.{deref};
+ghost use Rattle.msc_chart.specs.Events.{instances_of, ends_of, events_of};
+ghost use Rattle.msc_chart.specs.Charts.{IsLinearOrder};
+ghost use Rattle.msc_chart.specs.Drawings.{chart_events};
+ghost use Rattle.msc_chart.specs.Views.{end_view, event_view};
+ghost use Rattle.msc_chart.specs.Faults.{IsClearBelow, IsFaultless, IsFirstOrMemory};
+
+use crate::charting::chart_events;
+use crate::check::{are_too_many, unknown_address, unknown_header, unmatched};
+use crate::end::{DraftEvent, End, events_of};
+use crate::event::{ChartEvent, Event};
+use crate::fault::ChartFault;
+use crate::linear::linear_order;
+use crate::numbering::numbered;
+use indexmap::IndexSet;
+use msc_parser::Draft;
+use std::alloc::{AllocError, Global};
+
+/// The names of the sections, in their order.
+fn section_names<'d>(alloc: Global, draft: &'d Draft) -> Result<Vec<&'d [u8]>, AllocError>
+    ensures { IfOk result (λ names. map deref names.items ≡ instances_of draft.entry.now) }
+{
+    let mut names = Vec::new(alloc);
+    for section in draft.sections() {
+        names.push(section.decl.name.as_slice())?;
+    }
+    Ok(names)
+}
+
+/// The ends of the events.
+fn ends_of<'d>(alloc: Global, events: &[DraftEvent<'d>]) -> Result<Vec<End<'d>>, AllocError>
+    ensures { IfOk result (λ ends. ends.items ≡ map (λ e. e.end) events.now) }
+{
+    let mut ends = Vec::new(alloc);
+    for event in events {
+        ends.push(event.end)?;
+    }
+    Ok(ends)
+}
+
+/// The instances by number, where the draft has none of the faults that concern their names.
+fn instances<'d>(alloc: Global, draft: &'d Draft) -> Result<IndexSet<&'d [u8]>, ChartFault>
+    ensures names { IfOk result (λ names. map deref names.keys ≡ instances_of draft.entry.now) }
+    ensures few { OnOk result (length draft.entry.now.sections ≤ 32) }
+    ensures clear { OnOk result (IsClearBelow draft.entry.now 4) }
+    ensures fault { IfErr result (IsFirstOrMemory draft.entry.now) }
+{
+    if draft.sections().len() > 32 {
+        return Err(ChartFault::TooManyInstances);
+    }
+    let names = section_names(alloc, draft)?;
+    let (numbers, repeat) = numbered(alloc, names.as_slice())?;
+    if let Some(i) = repeat {
+        return Err(ChartFault::TwiceInstance(i as u32));
+    }
+    if let Some(k) = unknown_header(draft.header(), &numbers) {
+        return Err(ChartFault::HeaderWithoutBody(k as u32));
+    }
+    Ok(numbers)
+}
+
+/// The events of a draft, and their ends by place, where no fault stands that concerns messages.
+fn matched_events<'d>(
+    alloc: Global,
+    draft: &'d Draft,
+    instances: &IndexSet<&'d [u8]>,
+) -> Result<(Vec<DraftEvent<'d>>, IndexSet<End<'d>>), ChartFault>
+    requires names { map deref instances.now.keys ≡ instances_of draft.now }
+    requires few { length draft.now.sections ≤ 32 }
+    requires clear { IsClearBelow draft.now 4 }
+    ensures events { IfOk result (λ r. map event_view r.0.items ≡ events_of draft.entry.now) }
+    ensures ends { IfOk result (λ r. map end_view r.1.keys ≡ ends_of draft.entry.now) }
+    ensures few { IfOk result (λ r. length r.1.keys ≤ 2048) }
+    ensures clear { OnOk result (IsClearBelow draft.entry.now 9) }
+    ensures fault { IfErr result (IsFirstOrMemory draft.entry.now) }
+{
+    let events = events_of(alloc, draft)?;
+    let kept = ends_of(alloc, events.as_slice())?;
+    let ends = kept.as_slice();
+    if let Some(e) = unknown_address(ends, instances) {
+        return Err(ChartFault::UnknownAddress(e as u32));
+    }
+    if are_too_many(ends) {
+        return Err(ChartFault::TooManyMessages);
+    }
+    let (places, repeat) = numbered(alloc, ends)?;
+    if let Some(e) = repeat {
+        return Err(ChartFault::TwiceEvent(e as u32));
+    }
+    if let Some(e) = unmatched(ends, &places, true) {
+        return Err(ChartFault::UnmatchedOut(e as u32));
+    }
+    if let Some(e) = unmatched(ends, &places, false) {
+        return Err(ChartFault::UnmatchedIn(e as u32));
+    }
+    Ok((events, places))
+}
+
+/// The events of the chart, a linear order of them, and the draft's ends by place, where no fault
+/// stands.
+pub(crate) fn lawful_events<'d>(
+    alloc: Global,
+    draft: &'d Draft,
+) -> Result<(Vec<ChartEvent>, Vec<Event>, IndexSet<End<'d>>), ChartFault>
+    ensures events { IfOk result (λ r. r.0.items ≡ chart_events draft.entry.now) }
+    ensures order { IfOk result (λ r. IsLinearOrder r.0.items r.1.items) }
+    ensures ends { IfOk result (λ r. map end_view r.2.keys ≡ ends_of draft.entry.now) }
+    ensures few { IfOk result (λ r. length r.2.keys ≤ 2048) }
+    ensures faultless { OnOk result (IsFaultless draft.entry.now) }
+    ensures fault { IfErr result (IsFirstOrMemory draft.entry.now) }
+{
+    let names = instances(alloc, draft)?;
+    let (drawn, places) = matched_events(alloc, draft, &names)?;
+    let events = chart_events(alloc, drawn.as_slice(), &places)?;
+    let order = linear_order(alloc, events.as_slice(), draft.sections().len())?;
+    Ok((events, order, places))
+}

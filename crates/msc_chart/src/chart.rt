@@ -1,0 +1,257 @@
+//! Charts: instances, events and messages by number.
+//!
+//! Instances, events and messages are numbered from 0: instances by their sections, events in the
+//! order of the text, messages by their outputs. Contracts see the lists of all three. The words are
+//! those of Z.120; the visual order is that of Alur, Holzmann and Peled (1996).
+
+ghost use Rattle.std.specs.Prelude.{◌≡◌, ◌≢◌, ◌<◌, ◌≤◌, ◌+◌, ◌*◌, ◌↔◌, IsTrue, Some, None, length, get_or, count_by, nat_lt, nat_le, IfOk, IfErr, OnOk, slice_get};
+ghost use Rattle.std.specs.Option.{option_copied};
+ghost use Rattle.msc_chart.specs.Charts.{at, before, IsLinearOrder, kind, line, line_start, message, partner, segment};
+ghost use Rattle.msc_chart.specs.Drawings.{Drawing, IsAccepted, IsBuilt, IsLine, chart_of, input_of, message_at, output_of, receiver_of, sender_of};
+ghost use Rattle.msc_chart.specs.Orders.{queue_number, queue_of};
+ghost use Rattle.msc_chart.specs.Faults.{IsFaultless, IsFirstFault};
+
+use crate::building::lawful_events;
+use crate::charting::{instance_names, messages, owned};
+use crate::event::{ChartEvent, Event, EventKind};
+use crate::fault::ChartFault;
+use crate::message::Message;
+use crate::queue::Queues;
+use listed::Listed;
+use msc_parser::{Draft, Name};
+use std::alloc::Global;
+use std::marker::Model;
+
+/// The chart of a draft.
+#[derive(Drop)]
+pub struct Chart {
+    name: Name,
+    instances: Listed<Name>,
+    events: Vec<ChartEvent>,
+    messages: Listed<Message>,
+    order: Vec<Event>,
+}
+
+impl Model for Chart {
+    ghost Value = { Drawing };
+
+    ghost view = { λ c. record { name = c.name; instances = c.instances; events = c.events.items; messages = c.messages } };
+
+    // What holds of every chart that was built.
+    ghost invariant = { λ c. IsBuilt (record { name = c.name; instances = c.instances; events = c.events.items; messages = c.messages }) c.order.items };
+}
+
+impl Chart {
+    /// The chart of a draft, or the draft's first fault: the lowest fault that stands in it, at its
+    /// least place ([`ChartFault`]). `Memory` is answered where a growth of memory was refused.
+    pub fn build(alloc: Global, draft: &Draft) -> Result<Chart, ChartFault>
+        ensures chart { IfOk result (λ chart. chart ≡ chart_of draft.now) }
+
+        // A chart is answered only where no fault stands, and a fault only where it is the first.
+        ensures faultless { OnOk result (IsFaultless draft.now) }
+        ensures fault { IfErr result (λ f. f ≢ ChartFault.Memory → IsFirstFault draft.now f) }
+    {
+        let (events, order, places) = lawful_events(alloc, draft)?;
+        Ok(Chart {
+            name: owned(alloc, draft.name())?,
+            instances: instance_names(alloc, draft)?,
+            events,
+            messages: messages(alloc, places.as_slice())?,
+            order,
+        })
+    }
+
+    /// The chart's name. It takes no memory.
+    pub fn name(&self) -> &[u8]
+        ensures { result.now ≡ self.now.name }
+    {
+        self.name.as_slice()
+    }
+
+    /// The number of instances. It takes no memory.
+    pub fn instances(&self) -> u32
+        ensures number { result ≡ length self.now.instances }
+        ensures few { length self.now.instances ≤ 32 }
+    {
+        self.instances.as_slice().len() as u32
+    }
+
+    /// The number of events. It takes no memory.
+    pub fn events(&self) -> u32
+        ensures number { result ≡ length self.now.events }
+
+        // What every chart keeps: partners match, no event precedes itself, and all is bounded.
+        ensures accepted { IsAccepted self.now }
+    {
+        self.events.len() as u32
+    }
+
+    /// The number of messages. It takes no memory.
+    pub fn messages(&self) -> u32
+        ensures number { result ≡ length self.now.messages }
+        ensures few { length self.now.messages ≤ 1024 }
+    {
+        let _events = &self.events;
+        self.messages.as_slice().len() as u32
+    }
+
+    /// The name of instance `i`, from 0. It takes no memory.
+    pub fn instance_name(&self, i: u32) -> &[u8]
+        requires { i < length self.now.instances }
+        ensures { slice_get self.now.instances i ≡ Some result.now }
+    {
+        let name = &self.instances.as_slice()[i as usize];
+        name.as_slice()
+    }
+
+    /// How many events stand on lines before line `i`.
+    fn line_start(&self, i: u32) -> u32
+        ensures { result ≡ line_start self.now.events i }
+    {
+        self.events.iter().filter(|event| event.line < i).count() as u32
+    }
+
+    /// The first event of instance `i`, and the number past its last. It takes no memory.
+    pub fn line(&self, i: u32) -> (Event, Event)
+        requires { i < length self.now.instances }
+        ensures value { result ≡ (line_start self.now.events i, line_start self.now.events (i + 1)) }
+
+        // The numbers between them are those of the events of the line, and of no other.
+        ensures range { IsLine self.now i result.0 result.1 }
+    {
+        let _instances = &self.instances;
+        (self.line_start(i), self.line_start(i + 1))
+    }
+
+    /// The instance of event `e`. It takes no memory.
+    pub fn instance_of(&self, e: Event) -> u32
+        requires { e < length self.now.events }
+        ensures { result ≡ line self.now.events e }
+    {
+        self.events[e as usize].line
+    }
+
+    /// The segment of event `e` on its line, from 0: an event outside coregions is a segment of its
+    /// own, and the events of a coregion share one. An empty coregion takes none. It takes no memory.
+    pub fn segment(&self, e: Event) -> u32
+        requires { e < length self.now.events }
+        ensures { result ≡ segment self.now.events e }
+    {
+        self.events[e as usize].segment
+    }
+
+    /// Whether event `e` is an output or an input. It takes no memory.
+    pub fn kind(&self, e: Event) -> EventKind
+        requires { e < length self.now.events }
+        ensures { result ≡ kind self.now.events e }
+    {
+        self.events[e as usize].kind
+    }
+
+    /// The message of event `e`: some for every output and input. It takes no memory.
+    pub fn message(&self, e: Event) -> Option<u32>
+        requires { e < length self.now.events }
+        ensures { result ≡ Some (message self.now.events e) }
+    {
+        Some(self.events[e as usize].message)
+    }
+
+    /// The event at the other end of the message of event `e`: some for every output and input. It
+    /// takes no memory.
+    pub fn partner(&self, e: Event) -> Option<Event>
+        requires { e < length self.now.events }
+        ensures { result ≡ Some (partner self.now.events e) }
+    {
+        Some(self.events[e as usize].partner)
+    }
+
+    /// Whether `e` is drawn before `f`: on one line, in a smaller segment. It takes no memory.
+    pub fn before(&self, e: Event, f: Event) -> bool
+        requires e_known { e < length self.now.events }
+        requires f_known { f < length self.now.events }
+        ensures { IsTrue result ↔ IsTrue (before self.now.events e f) }
+    {
+        let first = self.events[e as usize];
+        let second = self.events[f as usize];
+        if first.line != second.line {
+            return false;
+        }
+        first.segment < second.segment
+    }
+
+    /// A list of all events, each once, in which whatever precedes an event in the visual order
+    /// stands before it. It takes no memory.
+    pub fn linear_order(&self) -> &[Event]
+        ensures { IsLinearOrder self.now.events result.now }
+    {
+        self.order.as_slice()
+    }
+
+    /// The output of message `m`. It takes no memory.
+    pub fn output_of(&self, m: u32) -> Event
+        requires { m < length self.now.messages }
+        ensures { result ≡ output_of self.now m }
+    {
+        let message = &self.messages.as_slice()[m as usize];
+        message.output
+    }
+
+    /// The input of message `m`. It takes no memory.
+    pub fn input_of(&self, m: u32) -> Event
+        requires { m < length self.now.messages }
+        ensures { result ≡ input_of self.now m }
+    {
+        self.events[self.output_of(m) as usize].partner
+    }
+
+    /// The instance that sends message `m`. It takes no memory.
+    pub fn sender(&self, m: u32) -> u32
+        requires { m < length self.now.messages }
+        ensures value { result ≡ sender_of self.now m }
+        ensures known { result < length self.now.instances }
+    {
+        self.events[self.output_of(m) as usize].line
+    }
+
+    /// The instance that takes message `m`. It takes no memory.
+    pub fn receiver(&self, m: u32) -> u32
+        requires { m < length self.now.messages }
+        ensures value { result ≡ receiver_of self.now m }
+        ensures known { result < length self.now.instances }
+    {
+        self.events[self.input_of(m) as usize].line
+    }
+
+    /// The name of message `m`. It takes no memory.
+    pub fn message_name(&self, m: u32) -> &[u8]
+        requires { m < length self.now.messages }
+        ensures { result.now ≡ (message_at self.now m).name }
+    {
+        let message = &self.messages.as_slice()[m as usize];
+        message.name.as_slice()
+    }
+
+    /// The message instance name of message `m`, where it has one. It takes no memory.
+    pub fn message_number(&self, m: u32) -> Option<&[u8]>
+        requires { m < length self.now.messages }
+        ensures { option_copied result ≡ (message_at self.now m).number }
+    {
+        let message = &self.messages.as_slice()[m as usize];
+        match &message.number {
+            Some(number) => Some(number.as_slice()),
+            None => None,
+        }
+    }
+
+    /// The number of the queue of message `m`. With `n` instances it is `sender * n + receiver` for
+    /// `Pair`, and `receiver` for `Mailbox`. It takes no memory.
+    pub fn queue(&self, m: u32, queues: Queues) -> u32
+        requires { m < length self.now.messages }
+        ensures { result ≡ queue_of queues self.now m }
+    {
+        match queues {
+            Queues::Pair => self.sender(m) * self.instances() + self.receiver(m),
+            Queues::Mailbox => self.receiver(m),
+        }
+    }
+}

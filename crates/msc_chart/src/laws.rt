@@ -1,0 +1,50 @@
+//! Laws of charts, over their definitions alone. The functions have no code: a caller calls one to
+//! rest its own proof on the law.
+
+ghost use Rattle.std.specs.Prelude.{◌≡◌, ◌∷◌, [], map};
+ghost use Rattle.msc_chart.specs.declared.queue.Queues.TheVariants.{Pair, Mailbox};
+ghost use Rattle.msc_chart.specs.Drawings.{chart_events, chart_of};
+ghost use Rattle.msc_chart.specs.Orders.{wired};
+ghost use Rattle.msc_chart.specs.Laws.{EndsShareQueues, EventsHaveQueues, InputsShareLines, LinesAreRanges, QueuesAreBounded, SegmentsRise};
+ghost use Rattle.msc_chart.specs.Samples.{AreEnforcedPairs, coregion, drawn_pairs, empty_coregion, queue_numbers, relay, two_mailboxes, two_mailboxes_pairs, two_senders};
+
+/// Under either architecture a queue with a message has from 1 to 32 senders, one receiver, and at
+/// most 1,024 messages.
+pub fn queues_are_bounded()
+    ensures { QueuesAreBounded }
+{}
+
+/// Both ends of a message have one queue.
+pub fn ends_share_queues()
+    ensures { EndsShareQueues }
+{}
+
+/// The queue of an event is that of its message.
+pub fn events_have_queues()
+    ensures { EventsHaveQueues }
+{}
+
+/// The inputs of a queue are on one line.
+pub fn inputs_share_lines()
+    ensures { InputsShareLines }
+{}
+
+/// A line is a contiguous range of event numbers, along which segments do not fall.
+pub fn lines_are_ranges()
+    ensures ranges { LinesAreRanges }
+    ensures rise { SegmentsRise }
+{}
+
+/// What the definitions say of small charts: the drawn order, the segments around an empty coregion,
+/// the queue numbers, and an enforced order pair by pair.
+pub fn worked_charts()
+    ensures drawn { drawn_pairs (chart_of two_senders) ≡ (1, 2) ∷ [] }
+    ensures coregion { drawn_pairs (chart_of coregion) ≡ [] }
+    ensures relay { drawn_pairs (chart_of relay) ≡ (0, 1) ∷ (2, 3) ∷ (4, 5) ∷ [] }
+    ensures segments { map (λ e. e.segment) (chart_events empty_coregion) ≡ 0 ∷ 1 ∷ [] }
+    ensures pair { queue_numbers Pair (chart_of relay) ≡ 1 ∷ 2 ∷ 7 ∷ [] }
+    ensures mailbox { queue_numbers Mailbox (chart_of relay) ≡ 1 ∷ 2 ∷ 1 ∷ [] }
+    ensures senders { queue_numbers Pair (chart_of two_senders) ≡ 1 ∷ 7 ∷ [] }
+    ensures one { queue_numbers Mailbox (chart_of coregion) ≡ 1 ∷ 1 ∷ [] }
+    ensures enforced { AreEnforcedPairs (wired Mailbox two_mailboxes) two_mailboxes_pairs }
+{}

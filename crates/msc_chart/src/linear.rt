@@ -1,0 +1,258 @@
+//! A linear order of the events that keeps the visual order.
+//!
+//! The events are put into a list one by one, each as soon as all that comes directly before it
+//! stands there: what is drawn before it and, for an input, its output. Each event that was put is
+//! followed by a look at what it may have opened: the input of its message, and the next segment of
+//! its line. So the pass takes few steps for each event. Where it gets stuck before all events are
+//! put, some event precedes itself in the visual order.
+
+ghost use Rattle.std.specs.Prelude.{◌≡◌, ℕ, ◌+◌, ◌<◌, ◌≤◌, ◌↔◌, IsTrue, false, length, get_or, vec_len, IfOk, OnOk, IfErr};
+ghost use Rattle.std.specs.Bool.{OnTrue, OnFalse};
+ghost use Rattle.msc_chart.specs.Charts.{line, IsLinearOrder};
+ghost use Rattle.msc_chart.specs.Passes.{is_put, AreReady, IsBarred, IsCycleOrMemory, IsLeft, IsOpen, IsPass, IsStuckAt, IsStuckBelow, NoneLeftBelow};
+
+use crate::cycle::least_cyclic;
+use crate::event::{ChartEvent, Event};
+use crate::fault::ChartFault;
+use std::alloc::{AllocError, Global};
+
+/// How far the pass has come.
+#[derive(Drop)]
+pub(crate) struct Pass {
+    /// The events that were put, in their order.
+    pub order: Vec<Event>,
+    /// Whether each event was put.
+    pub is_put: Vec<bool>,
+    /// For each line a number below which none of its events is left.
+    pub first: Vec<u32>,
+    /// For each line the least segment whose events were not yet looked at as a whole.
+    pub unopened: Vec<u32>,
+    /// How many events are left.
+    pub left: usize,
+}
+
+/// Whether event `x` is an event of the line that is left.
+fn is_left(events: &[ChartEvent], marks: &[bool], i: u32, x: usize) -> bool
+    requires marks { length marks.now ≡ length events.now }
+    requires event { x < length events.now }
+    ensures { IsTrue result ↔ IsLeft events.now marks.now i x }
+{
+    events[x].line == i && !marks[x]
+}
+
+/// The first event of a line that is left, from this number on, or the number of all events.
+fn first_left(events: &[ChartEvent], marks: &[bool], i: u32, from: usize) -> usize
+    requires marks { length marks.now ≡ length events.now }
+    requires below { NoneLeftBelow events.now marks.now i from }
+    ensures below { NoneLeftBelow events.now marks.now i result }
+    ensures left { result < length events.now → IsLeft events.now marks.now i result }
+    ensures within { result ≤ length events.now }
+{
+    for x in from..events.len() {
+        if is_left(events, marks, i, x) {
+            return x;
+        }
+    }
+    events.len()
+}
+
+/// Whether all that comes directly before `e` was put, where `first` is the first event of its line
+/// that is left.
+fn is_open(events: &[ChartEvent], marks: &[bool], first: usize, e: usize) -> bool
+    requires ready { (lines : ℕ) × AreReady lines events.now }
+    requires marks { length marks.now ≡ length events.now }
+    requires event { e < length events.now }
+    requires first { first < length events.now }
+    requires left { IsLeft events.now marks.now (line events.now e) first }
+    requires below { NoneLeftBelow events.now marks.now (line events.now e) first }
+    ensures open { OnTrue result (IsOpen events.now marks.now e) }
+    ensures barred { OnFalse result (IsBarred events.now marks.now e) }
+{
+    if events[first].segment < events[e].segment {
+        return false;
+    }
+    if events[e].kind.is_output() {
+        return true;
+    }
+    marks[events[e].partner as usize]
+}
+
+/// The first event of line `i` that is left; the next search begins there.
+fn move_first(events: &[ChartEvent], pass: &mut Pass, i: u32) -> usize
+    requires pass { IsPass events.now pass.old }
+    requires line { i < vec_len pass.old.first }
+    ensures pass { IsPass events.now pass.new }
+    ensures order { pass.new.order ≡ pass.old.order }
+    ensures marks { pass.new.is_put ≡ pass.old.is_put }
+    ensures same { pass.new.left ≡ pass.old.left }
+    ensures below { NoneLeftBelow events.now pass.new.is_put.items i result }
+    ensures left { result < length events.now → IsLeft events.now pass.new.is_put.items i result }
+    ensures within { result ≤ length events.now }
+{
+    let from = pass.first[i as usize] as usize;
+    let first = first_left(events, pass.is_put.as_slice(), i, from);
+    pass.first[i as usize] = first as u32;
+    first
+}
+
+/// Puts `e`, which is open, behind the others.
+fn push(events: &[ChartEvent], pass: &mut Pass, e: usize) -> Result<(), AllocError>
+    requires pass { IsPass events.now pass.old }
+    requires event { e < length events.now }
+    requires left { is_put pass.old.is_put.items e ≡ false }
+    requires open { IsOpen events.now pass.old.is_put.items e }
+    ensures pass { OnOk result (IsPass events.now pass.new) }
+    ensures left { OnOk result (pass.new.left + 1 ≡ pass.old.left) }
+{
+    let _events = events;
+    pass.order.push(e as u32)?;
+    pass.is_put[e] = true;
+    pass.left -= 1;
+    Ok(())
+}
+
+/// Puts `e` behind the others, if it is left and all that comes directly before it stands there;
+/// answers whether.
+fn put(events: &[ChartEvent], pass: &mut Pass, e: usize) -> Result<bool, AllocError>
+    requires pass { IsPass events.now pass.old }
+    requires event { e < length events.now }
+    ensures pass { OnOk result (IsPass events.now pass.new) }
+    ensures put { IfOk result (λ r. OnTrue r (pass.new.left + 1 ≡ pass.old.left)) }
+    ensures same { IfOk result (λ r. OnFalse r (pass.new.left ≡ pass.old.left)) }
+    ensures marks { IfOk result (λ r. OnFalse r (pass.new.is_put.items ≡ pass.old.is_put.items)) }
+    ensures stuck { IfOk result (λ r. OnFalse r (IsStuckAt events.now pass.new.is_put.items e)) }
+{
+    if pass.is_put[e] {
+        return Ok(false);
+    }
+    let first = move_first(events, pass, events[e].line);
+    if !is_open(events, pass.is_put.as_slice(), first, e) {
+        return Ok(false);
+    }
+    push(events, pass, e)?;
+    Ok(true)
+}
+
+/// Puts what can be put of the segment that begins at event `from`.
+fn put_segment(events: &[ChartEvent], pass: &mut Pass, from: usize) -> Result<(), AllocError>
+    requires pass { IsPass events.now pass.old }
+    requires from { from < length events.now }
+    ensures pass { OnOk result (IsPass events.now pass.new) }
+    ensures left { OnOk result (pass.new.left ≤ pass.old.left) }
+{
+    let head = events[from];
+    for x in from..events.len() {
+        if events[x].line != head.line || events[x].segment != head.segment {
+            return Ok(());
+        }
+        put(events, pass, x)?;
+    }
+    Ok(())
+}
+
+/// Puts what `e`, which was put, may have opened: the input of its message, and the next segment of
+/// its line, where that was not yet looked at.
+fn put_opened(events: &[ChartEvent], pass: &mut Pass, e: usize) -> Result<(), AllocError>
+    requires pass { IsPass events.now pass.old }
+    requires event { e < length events.now }
+    ensures pass { OnOk result (IsPass events.now pass.new) }
+    ensures left { OnOk result (pass.new.left ≤ pass.old.left) }
+{
+    let event = events[e];
+    put(events, pass, event.partner as usize)?;
+    let next = move_first(events, pass, event.line);
+    if next == events.len() || events[next].segment < pass.unopened[event.line as usize] {
+        return Ok(());
+    }
+    pass.unopened[event.line as usize] = events[next].segment + 1;
+    put_segment(events, pass, next)
+}
+
+/// Looks behind each event of the order from this place on, as far as the order grows; answers where
+/// it ends.
+fn follow(events: &[ChartEvent], pass: &mut Pass, from: usize) -> Result<usize, AllocError>
+    requires pass { IsPass events.now pass.old }
+    ensures pass { OnOk result (IsPass events.now pass.new) }
+    ensures left { OnOk result (pass.new.left ≤ pass.old.left) }
+{
+    let mut place = from;
+    while place < pass.order.len() {
+        let e = pass.order[place] as usize;
+        put_opened(events, pass, e)?;
+        place += 1;
+    }
+    Ok(place)
+}
+
+/// Puts what can be put, once along all events; answers whether anything was.
+fn sweep(events: &[ChartEvent], pass: &mut Pass) -> Result<bool, AllocError>
+    requires pass { IsPass events.now pass.old }
+    ensures pass { OnOk result (IsPass events.now pass.new) }
+    ensures put { IfOk result (λ r. OnTrue r (pass.new.left < pass.old.left)) }
+    ensures same { IfOk result (λ r. OnFalse r (pass.new.left ≤ pass.old.left)) }
+    ensures stuck { IfOk result (λ r. OnFalse r (IsStuckBelow events.now pass.new.is_put.items (length events.now))) }
+{
+    let mut changed = false;
+    for e in 0..events.len() {
+        if put(events, pass, e)? {
+            changed = true;
+        }
+    }
+    Ok(changed)
+}
+
+/// The pass before its first event.
+fn begun(alloc: Global, events: &[ChartEvent], lines: usize) -> Result<Pass, AllocError>
+    requires { AreReady lines events.now }
+    ensures { IfOk result (IsPass events.now) }
+{
+    Ok(Pass {
+        order: Vec::new(alloc),
+        is_put: vec![in alloc; false; events.len()]?,
+        first: vec![in alloc; 0u32; lines]?,
+        unopened: vec![in alloc; 0u32; lines]?,
+        left: events.len(),
+    })
+}
+
+/// The pass where it is whole or stuck.
+pub(crate) fn whole_pass(
+    alloc: Global,
+    events: &[ChartEvent],
+    lines: usize,
+) -> Result<Pass, AllocError>
+    requires { AreReady lines events.now }
+    ensures pass { IfOk result (IsPass events.now) }
+    ensures stuck { IfOk result (λ p. IsStuckBelow events.now p.is_put.items (length events.now)) }
+{
+    let mut pass = begun(alloc, events, lines)?;
+    let mut place = 0;
+    let mut changed = true;
+    while changed {
+        place = follow(events, &mut pass, place)?;
+        changed = sweep(events, &mut pass)?;
+    }
+    Ok(pass)
+}
+
+/// A linear order of the events that keeps the visual order, or the least event that precedes
+/// itself.
+pub(crate) fn linear_order(
+    alloc: Global,
+    events: &[ChartEvent],
+    lines: usize,
+) -> Result<Vec<Event>, ChartFault>
+    requires { AreReady lines events.now }
+    ensures order { IfOk result (λ order. IsLinearOrder events.now order.items) }
+    ensures fault { IfErr result (IsCycleOrMemory events.now) }
+{
+    let pass = whole_pass(alloc, events, lines)?;
+    if pass.left == 0 {
+        return Ok(pass.order);
+    }
+    // The pass is stuck, so there is such an event.
+    match least_cyclic(alloc, events, lines)? {
+        Some(e) => Err(ChartFault::Cyclic(e as u32)),
+        None => Ok(pass.order),
+    }
+}
