@@ -1,0 +1,264 @@
+-- What the writes of `table` do to the pairs of rows.
+use Rattle.std.proofs.Common.{◌≡◌, ℕ, ◌+◌, ◌-◌, ◌*◌, ◌/◌, ◌%◌, ◌^◌, ◌<◌, ◌≤◌, Bool, true, false, not, ◌&&◌, ◌||◌, cond, inl, inr, eqb, ltb, List, take, drop, length, get_or, set, replicate, refl, sym, ap, ◌∙◌, arith, get_or-set_same, get_or-set_other, bit_or, bit_and, w64}
+use Rattle.std.proofs.lemmas.Bool.{lt-ltb, le-ltb, eq-eqb, ne_eqb, eqb-true, ltb-true, cases_lt, cases_eq, and_parts}
+use Rattle.std.proofs.lemmas.List.{get_or-take, get_or-drop, get_or_past, get_or-replicate, length-replicate}
+use Rattle.std.specs.Int.{bit_not}
+use Rattle.std.proofs.Math.Nat.{mul-le-mul_right}
+use Rattle.std.proofs.lemmas.Nat.{same_from_place}
+use Rattle.msc_order.specs.Tables.{bit_of, stride, cell, marked, with_row, HasRow}
+use Rattle.msc_order.proofs.Bits.{or-false, or-true, and-false, stride_enough, word_below, below-suc, bit_put, bit_join, bit_meet, bit_other, bit_alone, bit_zero}
+
+-- a fact by cases on a test
+pub by_test : {X : Type 0} (b : Bool) → (b ≡ true → X) → (b ≡ false → X) → X
+by_test true f g = f refl
+by_test false f g = g refl
+
+pub clash : {X : Type 0} {b : Bool} → b ≡ true → b ≡ false → X
+clash p q = cc
+
+-- a cell of a column of the table
+pub cell_in : (n : ℕ) (words : List ℕ) (x y : ℕ) → y < 64 * stride n → cell n words x y ≡ bit_of (get_or words (x * stride n + y / 64) 0) (y % 64)
+unfolding cell
+cell_in n words x y h = rw (lt-ltb y (64 * stride n) h) refl
+
+-- a cell past the last column
+pub cell_out : (n : ℕ) (words : List ℕ) (x y : ℕ) → 64 * stride n ≤ y → cell n words x y ≡ false
+unfolding cell
+cell_out n words x y h = rw (le-ltb y (64 * stride n) h) refl
+
+pub marked_in : (n : ℕ) (row : List ℕ) (y : ℕ) → y < 64 * stride n → marked n row y ≡ bit_of (get_or row (y / 64) 0) (y % 64)
+unfolding marked
+marked_in n row y h = rw (lt-ltb y (64 * stride n) h) refl
+
+pub marked_out : (n : ℕ) (row : List ℕ) (y : ℕ) → 64 * stride n ≤ y → marked n row y ≡ false
+unfolding marked
+marked_out n row y h = rw (le-ltb y (64 * stride n) h) refl
+
+-- of so many rows each is there
+pub row_fits : (n : ℕ) (words : List ℕ) (rows e : ℕ) → length words ≡ rows * stride n → e < rows → HasRow n words e
+row_fits n words rows e square below =
+    let p : (e + 1) * stride n ≤ rows * stride n = mul-le-mul_right (stride n) (omega arith) in
+    let q : (e + 1) * stride n ≡ e * stride n + stride n = omega arith in
+    omega (arith, p, q, square)
+
+-- a column below n stands in a word of its row
+pub place_in : (n : ℕ) (words : List ℕ) (e f : ℕ) → HasRow n words e → f < n → e * stride n + f / 64 < length words
+place_in n words e f row column =
+    let enough = stride_enough n in
+    let word : f / 64 < stride n = word_below n f (omega (arith, enough, column)) in
+    omega (arith, word, row)
+
+-- the bits of one word differ as the numbers do
+same_rest : (y f : ℕ) → y / 64 ≡ f / 64 → eqb (y % 64) (f % 64) ≡ eqb y f
+same_rest y f h =
+    elim (cases_eq y f) [
+      | inl same ↦ rw (same, eq-eqb (f % 64) (f % 64) refl, eq-eqb f f refl) refl
+      | inr other ↦ rw (ne_eqb y f other, ne_eqb (y % 64) (f % 64) (λ e. other (omega (arith, e, h)))) refl
+    ]
+
+-- a write of one bit
+pub cell_put : (n : ℕ) (words : List ℕ) (e f x y : ℕ) → HasRow n words e → f < n
+    → cell n (set words (e * stride n + f / 64) (bit_or (get_or words (e * stride n + f / 64) 0) (1 * 2 ^ (f % 64) % 2 ^ 64))) x y ≡ (cell n words x y || (eqb x e && eqb y f))
+cell_put n words e f x y row f_below =
+    let m : ℕ = stride n in
+    let place : ℕ = e * m + f / 64 in
+    let word : ℕ = bit_or (get_or words place 0) (1 * 2 ^ (f % 64) % 2 ^ 64) in
+    let f_in : f < 64 * m = let enough = stride_enough n in omega (arith, enough, f_below) in
+    let in_place : place < length words = place_in n words e f row f_below in
+    elim (cases_lt y (64 * m)) [
+      | inr out ↦
+          let other : y ≡ f → ⊥ = λ same. omega (arith, same, out, f_in) in
+          rw (cell_out n (set words place word) x y out, cell_out n words x y out, ne_eqb y f other) (sym (and-false (eqb x e)))
+      | inl column ↦
+          rw (cell_in n (set words place word) x y column, cell_in n words x y column)
+          (elim (cases_eq (x * m + y / 64) place) [
+            | inl same ↦
+                let both = same_from_place x (y / 64) e (f / 64) m (word_below n y column) (word_below n f f_in) same in
+                rw (same, get_or-set_same words place word 0 in_place, eq-eqb x e both.0)
+                (bit_put (get_or words place 0) (f % 64) (y % 64) (omega arith)
+                ∙ ap (λ b. bit_of (get_or words place 0) (y % 64) || b) (same_rest y f both.1))
+            | inr other ↦
+                rw (get_or-set_other words place (x * m + y / 64) word 0 other)
+                (by_test (eqb x e)
+                  (λ same_row. by_test (eqb y f)
+                    (λ same_column. absurd (other (rw (eqb-true x e same_row, eqb-true y f same_column) refl)))
+                    (λ differs. rw (differs, and-false (eqb x e)) (sym (or-false _))))
+                  (λ differs. rw differs (sym (or-false _))))
+          ])
+    ]
+
+-- word w of row x, while row e takes in the words of row f below k
+pub merged_to : List ℕ → ℕ → ℕ → ℕ → ℕ → ℕ → ℕ → ℕ
+merged_to words m e f k x w = cond (eqb x e && ltb w k) (bit_or (get_or words (x * m + w) 0) (get_or words (f * m + w) 0)) (get_or words (x * m + w) 0)
+
+pub merge_start : (words : List ℕ) (m e f x w : ℕ) → get_or words (x * m + w) 0 ≡ merged_to words m e f 0 x w
+unfolding merged_to
+merge_start words m e f x w = rw (le-ltb w 0 (omega arith), and-false (eqb x e)) refl
+
+-- one word more is merged
+pub merge_step : (words now : List ℕ) (m e f k : ℕ) → e * m + k < length now → k < m
+    → ((x w : ℕ) → w < m → get_or now (x * m + w) 0 ≡ merged_to words m e f k x w)
+    → (x w : ℕ) → w < m → get_or (set now (e * m + k) (bit_or (get_or now (e * m + k) 0) (get_or now (f * m + k) 0))) (x * m + w) 0 ≡ merged_to words m e f (k + 1) x w
+unfolding merged_to
+merge_step words now m e f k inside k_below h x w w_below =
+    let word : ℕ = bit_or (get_or now (e * m + k) 0) (get_or now (f * m + k) 0) in
+    let e_same : get_or now (e * m + k) 0 ≡ get_or words (e * m + k) 0 = h e k k_below ∙ rw (le-ltb k k (omega arith), and-false (eqb e e)) refl in
+    let f_same : get_or now (f * m + k) 0 ≡ get_or words (f * m + k) 0 = h f k k_below ∙ rw (le-ltb k k (omega arith), and-false (eqb f e)) refl in
+    elim (cases_eq (x * m + w) (e * m + k)) [
+      | inl same ↦
+          let both = same_from_place x w e k m w_below k_below same in
+          rw (same, get_or-set_same now (e * m + k) word 0 inside, eq-eqb x e both.0, lt-ltb w (k + 1) (omega (arith, both.1)), e_same, f_same)
+          (rw both.1 refl)
+      | inr other ↦
+          get_or-set_other now (e * m + k) (x * m + w) word 0 other ∙ h x w w_below
+          ∙ by_test (eqb x e)
+              (λ same_row.
+                let apart : w ≡ k → ⊥ = λ e'. other (rw (eqb-true x e same_row, e') refl) in
+                rw (below-suc w k, ne_eqb w k apart, or-false (ltb w k)) refl)
+              (λ differs. rw differs refl)
+    ]
+
+-- the bits of the rows when all words are merged
+pub merge_end : (n : ℕ) (words now : List ℕ) (e f : ℕ)
+    → ((x w : ℕ) → w < stride n → get_or now (x * stride n + w) 0 ≡ merged_to words (stride n) e f (stride n) x w)
+    → (x y : ℕ) → cell n now x y ≡ (cell n words x y || (eqb x e && cell n words f y))
+unfolding merged_to
+merge_end n words now e f h x y =
+    let m : ℕ = stride n in
+    elim (cases_lt y (64 * m)) [
+      | inr out ↦ rw (cell_out n now x y out, cell_out n words x y out, cell_out n words f y out) (sym (and-false (eqb x e)))
+      | inl column ↦
+          rw (cell_in n now x y column, cell_in n words x y column, cell_in n words f y column, h x (y / 64) (word_below n y column), lt-ltb (y / 64) m (word_below n y column))
+          (by_test (eqb x e)
+            (λ same. rw same (bit_join (get_or words (x * m + y / 64) 0) (get_or words (f * m + y / 64) 0) (y % 64)))
+            (λ differs. rw differs (sym (or-false (bit_of (get_or words (x * m + y / 64) 0) (y % 64))))))
+    ]
+
+-- taking in a row, and then its number where it is wanted
+pub take_both : (test : ℕ → ℕ → Bool) (e f : ℕ) (wanted : Bool) (now last : ℕ → ℕ → Bool)
+    → ((x y : ℕ) → now x y ≡ (test x y || (eqb x e && test f y)))
+    → (wanted ≡ true → (x y : ℕ) → last x y ≡ (now x y || (eqb x e && eqb y f)))
+    → (wanted ≡ false → (x y : ℕ) → last x y ≡ now x y)
+    → (x y : ℕ) → last x y ≡ with_row test e f wanted x y
+unfolding with_row
+take_both test e f true now last merged put kept x y = put refl x y ∙ rw (merged x y) (bits (test x y) (eqb x e) (test f y) (eqb y f))
+  where
+    bits : (a b t d : Bool) → ((a || (b && t)) || (b && d)) ≡ (a || (b && (d || t)))
+    bits true b t d = refl
+    bits false false t d = refl
+    bits false true true d = sym (or-true d)
+    bits false true false d = sym (or-false d)
+take_both test e f false now last merged put kept x y = kept refl x y ∙ merged x y
+
+-- a bit of the words cut out for a row
+pub row_bits : (n : ℕ) (words : List ℕ) (e y : ℕ) → HasRow n words e → y < 64 * stride n
+    → bit_of (get_or (take (stride n) (take (length words - e * stride n) (drop (e * stride n) words))) (y / 64) 0) (y % 64) ≡ cell n words e y
+row_bits n words e y row y_below =
+    let m : ℕ = stride n in
+    let word : y / 64 < m = word_below n y y_below in
+    let short : y / 64 < length words - e * m = omega (arith, word, row) in
+    let same : get_or (take m (take (length words - e * m) (drop (e * m) words))) (y / 64) 0 ≡ get_or words (e * m + y / 64) 0 =
+        get_or-take m (take (length words - e * m) (drop (e * m) words)) (y / 64) 0 word ∙ get_or-take (length words - e * m) (drop (e * m) words) (y / 64) 0 short
+        ∙ get_or-drop (e * m) words (y / 64) 0 in
+    ap (λ w. bit_of w (y % 64)) same ∙ sym (cell_in n words e y y_below)
+
+-- a blank table has no pair
+pub cell_blank : (n size x y : ℕ) → cell n (replicate size 0) x y ≡ false
+cell_blank n size x y =
+    elim (cases_lt y (64 * stride n)) [
+      | inr out ↦ cell_out n _ x y out
+      | inl column ↦ cell_in n _ x y column ∙ ap (λ word. bit_of word (y % 64)) (zero_at (x * stride n + y / 64)) ∙ bit_zero (y % 64)
+    ]
+  where
+    zero_at : (i : ℕ) → get_or {A = ℕ} (replicate size 0) i 0 ≡ 0
+    zero_at i = elim (cases_lt i size) [
+      | inl lt ↦ get_or-replicate size i 0 0 lt
+      | inr ge ↦ get_or_past (replicate size 0) i 0 (let l = length-replicate {A = ℕ} size 0 in omega (arith, l, ge))
+    ]
+
+-- the words of a row below k are written
+pub written : (ℕ → ℕ) → List ℕ → ℕ → ℕ → ℕ
+written value row k w = cond (ltb w k) (value w) (get_or row w 0)
+
+pub write_start : (value : ℕ → ℕ) (row : List ℕ) (w : ℕ) → get_or row w 0 ≡ written value row 0 w
+unfolding written
+write_start value row w = rw (le-ltb w 0 (omega arith)) refl
+
+-- what is not written yet is as it was
+pub unwritten : (value : ℕ → ℕ) (row : List ℕ) (k : ℕ) → written value row k k ≡ get_or row k 0
+unfolding written
+unwritten value row k = rw (le-ltb k k (omega arith)) refl
+
+-- one word more is written
+pub write_step : (value : ℕ → ℕ) (row now : List ℕ) (k word : ℕ) → k < length now → word ≡ value k
+    → ((w : ℕ) → get_or now w 0 ≡ written value row k w) → (w : ℕ) → get_or (set now k word) w 0 ≡ written value row (k + 1) w
+unfolding written
+write_step value row now k word inside is h w =
+    elim (cases_eq w k) [
+      | inl same ↦ rw (same, get_or-set_same now k word 0 inside, lt-ltb k (k + 1) (omega arith)) is
+      | inr other ↦ get_or-set_other now k w word 0 other ∙ h w ∙ rw (below-suc w k, ne_eqb w k other, or-false (ltb w k)) refl
+    ]
+
+-- the bits that two rows have in common
+pub common_end : (n : ℕ) (words masks row now : List ℕ) (e q : ℕ)
+    → ((w : ℕ) → get_or now w 0 ≡ written (λ k. bit_and (get_or words (e * stride n + k) 0) (get_or masks (q * stride n + k) 0)) row (stride n) w)
+    → (y : ℕ) → marked n now y ≡ (cell n words e y && cell n masks q y)
+unfolding written
+common_end n words masks row now e q h y =
+    elim (cases_lt y (64 * stride n)) [
+      | inr out ↦ rw (marked_out n now y out, cell_out n words e y out) refl
+      | inl column ↦ rw (marked_in n now y column, cell_in n words e y column, cell_in n masks q y column, h (y / 64), lt-ltb (y / 64) (stride n) (word_below n y column))
+          (bit_meet (get_or words (e * stride n + y / 64) 0) (get_or masks (q * stride n + y / 64) 0) (y % 64))
+    ]
+
+-- the bits that one row has and another has not
+pub others_end : (n : ℕ) (words row now : List ℕ) (c : ℕ) → ((i : ℕ) → get_or words i 0 < 2 ^ 64)
+    → ((w : ℕ) → get_or now w 0 ≡ written (λ k. bit_and (get_or row k 0) (bit_not w64 (get_or words (c * stride n + k) 0))) row (stride n) w)
+    → (y : ℕ) → marked n now y ≡ (marked n row y && not (cell n words c y))
+unfolding written
+others_end n words row now c fits h y =
+    elim (cases_lt y (64 * stride n)) [
+      | inr out ↦ rw (marked_out n now y out, marked_out n row y out) refl
+      | inl column ↦
+          let word : ℕ = get_or words (c * stride n + y / 64) 0 in
+          rw (marked_in n now y column, marked_in n row y column, cell_in n words c y column, h (y / 64), lt-ltb (y / 64) (stride n) (word_below n y column))
+          (bit_meet (get_or row (y / 64) 0) (bit_not w64 word) (y % 64)
+          ∙ ap (λ b. bit_of (get_or row (y / 64) 0) (y % 64) && b) (bit_other word (y % 64) (fits (c * stride n + y / 64)) (omega arith)))
+    ]
+
+-- a row without one of its bits
+pub clear_bit : (n : ℕ) (row : List ℕ) (c y : ℕ) → length row ≡ stride n → c < n
+    → marked n (set row (c / 64) (bit_and (get_or row (c / 64) 0) (bit_not w64 (1 * 2 ^ (c % 64) % 2 ^ 64)))) y ≡ (marked n row y && not (eqb y c))
+clear_bit n row c y size c_below =
+    let place : ℕ = c / 64 in
+    let word : ℕ = bit_and (get_or row place 0) (bit_not w64 (1 * 2 ^ (c % 64) % 2 ^ 64)) in
+    let enough = stride_enough n in
+    let c_in : c < 64 * stride n = omega (arith, enough, c_below) in
+    let inside : place < length row = let p = word_below n c c_in in omega (arith, p, size) in
+    let fits : 1 * 2 ^ (c % 64) % 2 ^ 64 < 2 ^ 64 = omega arith in
+    elim (cases_lt y (64 * stride n)) [
+      | inr out ↦ rw (marked_out n (set row place word) y out, marked_out n row y out) refl
+      | inl column ↦
+          rw (marked_in n (set row place word) y column, marked_in n row y column)
+          (elim (cases_eq (y / 64) place) [
+            | inl same ↦
+                rw (same, get_or-set_same row place word 0 inside)
+                (bit_meet (get_or row place 0) (bit_not w64 (1 * 2 ^ (c % 64) % 2 ^ 64)) (y % 64)
+                ∙ ap (λ b. bit_of (get_or row place 0) (y % 64) && b)
+                  (bit_other (1 * 2 ^ (c % 64) % 2 ^ 64) (y % 64) fits (omega arith) ∙ ap not (bit_alone (c % 64) (y % 64) (omega arith) ∙ same_rest y c same)))
+            | inr other ↦
+                rw (get_or-set_other row place (y / 64) word 0 other, ne_eqb y c (λ same. other (rw same refl))) (sym (kept (bit_of (get_or row (y / 64) 0) (y % 64))))
+          ])
+    ]
+  where
+    kept : (b : Bool) → (b && true) ≡ b
+    kept true = refl
+    kept false = refl
+
+-- without a row, and then without its number
+pub drop_both : (a c e : Bool) → ((a && not c) && not e) ≡ (a && not (e || c))
+drop_both true true true = refl
+drop_both true true false = refl
+drop_both true false true = refl
+drop_both true false false = refl
+drop_both false c e = refl

@@ -1,0 +1,4 @@
+pub mod Bits
+pub mod Cells
+pub mod Drawing
+pub mod Leading

@@ -1,0 +1,91 @@
+-- The orders that a chart's lines and messages give without the rule of queues, and what a table
+-- keeps while it is closed.
+use Rattle.std.specs.Prelude.{◌≡◌, ◌≢◌, ℕ, ◌<◌, ◌≤◌, Bool, true, false, ◌||◌, ◌⊎◌, List, length, take, IsTrue}
+use Rattle.msc_chart.specs.declared.event.ChartEvent.{ChartEvent}
+use Rattle.msc_chart.specs.Lists.{occurs}
+use Rattle.msc_chart.specs.Charts.{line, segment, partner, is_output, is_input, before, Visual}
+use Rattle.msc_chart.specs.Orders.{WiredChart, queue, Enforced}
+
+-- The least transitive relation that puts each output before its input, and what is drawn before an
+-- event before it: where `inputs` says so before each event, otherwise before each output.
+pub data Led (events : List ChartEvent) (inputs : Bool) : ℕ → ℕ → Type 0 where
+  led : {x y : ℕ} → IsTrue (before events x y) → IsTrue (inputs || is_output events y) → Led events inputs x y
+  carried : {s r : ℕ} → IsTrue (is_output events s) → partner events s ≡ r → Led events inputs s r
+  chained : {x y z : ℕ} → Led events inputs x y → Led events inputs y z → Led events inputs x z
+
+-- the order that lines and messages enforce: the enforced order without the rule of queues
+abbrev pub Caused : List ChartEvent → ℕ → ℕ → Type 0
+Caused events = Led events false
+
+-- the events from e up to end share the segment of e, and later ones of its line are in later segments
+pub record IsSegment (events : List ChartEvent) (e end : ℕ) : Type 0 where
+  pub later : e < end
+  pub within : end ≤ length events
+  pub together : (f : ℕ) → e ≤ f → f < end → (line events e ≡ line events f) × (segment events e ≡ segment events f)
+  pub past : (f : ℕ) → end ≤ f → f < length events → line events e ≡ line events f → IsTrue (before events e f)
+
+-- the numbers from start up to end are the events of the next segment after that of e on its line
+pub record IsNextSegment (events : List ChartEvent) (e start end : ℕ) : Type 0 where
+  pub within : end ≤ length events
+  pub drawn : (f : ℕ) → start ≤ f → f < end → IsTrue (before events e f)
+  pub next : (y : ℕ) → IsTrue (before events e y)
+      → (start < end) × (((start ≤ y) × (y < end)) ⊎ IsTrue (before events start y))
+
+-- a test holds only pairs of the relation
+abbrev pub IsSound : (ℕ → ℕ → Type 0) → (ℕ → ℕ → Bool) → Type 0
+IsSound R test = (x y : ℕ) → IsTrue (test x y) → R x y
+
+-- a test holds what the relation puts after x
+abbrev pub HasRowOf : (ℕ → ℕ → Type 0) → (ℕ → ℕ → Bool) → ℕ → Type 0
+HasRowOf R test x = (y : ℕ) → R x y → IsTrue (test x y)
+
+-- a test holds exactly the pairs of a relation
+pub record IsTestOf (R : ℕ → ℕ → Type 0) (test : ℕ → ℕ → Bool) : Type 0 where
+  pub sound : IsSound R test
+  pub complete : (x : ℕ) → HasRowOf R test x
+
+-- one test holds all that another does
+abbrev pub Keeps : (ℕ → ℕ → Bool) → (ℕ → ℕ → Bool) → Type 0
+Keeps old new = (x y : ℕ) → IsTrue (old x y) → IsTrue (new x y)
+
+-- rows other than that of e are as they were
+abbrev pub KeepsOthers : ℕ → (ℕ → ℕ → Bool) → (ℕ → ℕ → Bool) → Type 0
+KeepsOthers e old new = (x y : ℕ) → x ≢ e → new x y ≡ old x y
+
+-- row e has what the next segment of its line leads to, as the rows of that segment tell, and it has
+-- kept what it had
+pub record HasNextRows (events : List ChartEvent) (inputs : Bool) (old new : ℕ → ℕ → Bool) (e : ℕ) : Type 0 where
+  pub kept : Keeps old new
+  pub next : (start end : ℕ) × IsNextSegment events e start end × ((f : ℕ) → start ≤ f → f < end
+      → (IsTrue (inputs || is_output events f) → IsTrue (new e f)) × ((y : ℕ) → IsTrue (old f y) → IsTrue (new e y)))
+
+-- event x does not stand among the first k of the order
+abbrev pub IsBehind : List ℕ → ℕ → ℕ → Type 0
+IsBehind order k x = occurs (take k order) x ≡ false
+
+-- two inputs of one queue whose outputs are caused in an order
+pub record InQueueOrder (chart : WiredChart) (r u : ℕ) : Type 0 where
+  pub first : IsTrue (is_input chart.events r)
+  pub second : IsTrue (is_input chart.events u)
+  pub one_queue : queue chart r ≡ queue chart u
+  pub outputs : Caused chart.events (partner chart.events r) (partner chart.events u)
+
+-- A test between the caused and the enforced order: from an output it is the caused order, and what
+-- is caused after what it holds it holds too.
+pub record IsBetween (chart : WiredChart) (test : ℕ → ℕ → Bool) : Type 0 where
+  pub caused : (x y : ℕ) → Caused chart.events x y → IsTrue (test x y)
+  pub enforced : IsSound (Enforced chart) test
+  pub outputs : (x y : ℕ) → IsTrue (is_output chart.events x) → IsTrue (test x y) → Caused chart.events x y
+  pub onward : (x y z : ℕ) → IsTrue (test x y) → Caused chart.events y z → IsTrue (test x z)
+
+-- an output of a queue
+pub record IsOutputOf (chart : WiredChart) (q c : ℕ) : Type 0 where
+  pub output : IsTrue (is_output chart.events c)
+  pub one_queue : queue chart c ≡ q
+
+-- The inputs after that of output s are in the test: for each output of its queue that is caused
+-- after s, the input of s is before the other input.
+abbrev pub HasQueueOf : WiredChart → (ℕ → ℕ → Bool) → ℕ → Type 0
+HasQueueOf chart test s =
+    (c : ℕ) → IsOutputOf chart (queue chart s) c → Caused chart.events s c
+    → IsTrue (test (partner chart.events s) (partner chart.events c))
