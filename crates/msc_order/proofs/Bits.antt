@@ -1,6 +1,6 @@
 -- Truth values, and the bits of words.
-use Rattle.std.proofs.Common.{◌≡◌, ℕ, ◌+◌, ◌-◌, ◌*◌, ◌/◌, ◌%◌, ◌^◌, ◌<◌, ◌≤◌, ◌⊎◌, min, max, Bool, true, false, not, ◌&&◌, ◌||◌, inl, inr, eqb, ltb, refl, sym, ap, ◌∙◌, arith, bit_or, bit_and, w64}
-use Rattle.std.specs.Int.{bit_at, div_ceil, bit_not}
+use Rattle.std.proofs.Common.{◌≡◌, ℕ, ◌+◌, ◌-◌, ◌*◌, ◌/◌, ◌%◌, ◌^◌, ◌<◌, ◌≤◌, ◌⊎◌, min, max, Bool, true, false, not, ◌&&◌, ◌||◌, inl, inr, eqb, ltb, refl, sym, ◌∙◌, arith, bit_or, bit_and, w64}
+use Rattle.std.specs.Int.{bit_at, bit_not}
 use Rattle.std.proofs.lemmas.Bool.{lt-ltb, le-ltb, eq-eqb, ne_eqb, cases_lt, cases_eq}
 use Rattle.std.proofs.lemmas.Nat.Bits.{bit_at-lt, bit_at-zero, bit_at_or, bit_at_and, bit_at_not, shr_and_one, bit_at_set_same, bit_at_set_other}
 use Rattle.std.proofs.lemmas.Grind.{div_ceil_times}

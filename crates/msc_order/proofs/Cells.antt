@@ -1,8 +1,9 @@
 -- What the writes of `table` do to the pairs of rows.
 use Rattle.std.proofs.Common.{◌≡◌, ℕ, ◌+◌, ◌-◌, ◌*◌, ◌/◌, ◌%◌, ◌^◌, ◌<◌, ◌≤◌, Bool, true, false, not, ◌&&◌, ◌||◌, cond, inl, inr, eqb, ltb, List, take, drop, length, get_or, set, replicate, refl, sym, ap, ◌∙◌, arith, get_or-set_same, get_or-set_other, bit_or, bit_and, w64}
-use Rattle.std.proofs.lemmas.Bool.{lt-ltb, le-ltb, eq-eqb, ne_eqb, eqb-true, ltb-true, cases_lt, cases_eq, and_parts}
+use Rattle.std.proofs.lemmas.Bool.{lt-ltb, le-ltb, eq-eqb, ne_eqb, eqb-true, cases_lt, cases_eq}
 use Rattle.std.proofs.lemmas.List.{get_or-take, get_or-drop, get_or_past, get_or-replicate, length-replicate}
-use Rattle.std.specs.Int.{bit_not}
+use Rattle.std.specs.Int.{bit_not, trailing_zeros}
+use Rattle.std.proofs.lemmas.Nat.Bits.{bit_at-trailing_zeros}
 use Rattle.std.proofs.Math.Nat.{mul-le-mul_right}
 use Rattle.std.proofs.lemmas.Nat.{same_from_place}
 use Rattle.msc_order.specs.Tables.{bit_of, stride, cell, marked, with_row, HasRow}
@@ -262,3 +263,30 @@ drop_both true true false = refl
 drop_both true false true = refl
 drop_both true false false = refl
 drop_both false c e = refl
+
+-- the lowest bit of a word that has one is a bit of the row
+pub lowest_there : (n : ℕ) (row : List ℕ) (k : ℕ) → length row ≡ stride n → k < length row → (get_or row k 0 ≡ 0 → ⊥) → get_or row k 0 < 2 ^ 64
+    → marked n row (64 * k + trailing_zeros w64 (get_or row k 0)) ≡ true
+unfolding bit_of
+lowest_there n row k size inside some fits =
+    let word : ℕ = get_or row k 0 in
+    let low = bit_at-trailing_zeros w64 word (omega (arith, some)) fits in
+    let t : ℕ = trailing_zeros w64 word in
+    let t_below : t < 64 = low.0 in
+    let y : ℕ = 64 * k + t in
+    let column : y < 64 * stride n = omega (arith, size, inside, t_below) in
+    let here : y / 64 ≡ k = omega (arith, t_below) in
+    let rest : y % 64 ≡ t = omega (arith, t_below) in
+    marked_in n row y column ∙ rw (here, rest, low.1) refl
+
+-- a row without a bit in word k has none of its numbers
+pub none_there : (n : ℕ) (row : List ℕ) (k y : ℕ) → get_or row k 0 ≡ 0 → y / 64 ≡ k → marked n row y ≡ false
+none_there n row k y none here =
+    elim (cases_lt y (64 * stride n)) [
+      | inr out ↦ marked_out n row y out
+      | inl column ↦ marked_in n row y column ∙ rw (here, none) (bit_zero (y % 64))
+    ]
+
+-- a row has no bit past its words
+pub marked_below : (n : ℕ) (row : List ℕ) (y : ℕ) → marked n row y ≡ true → y < 64 * stride n
+marked_below n row y h = elim (cases_lt y (64 * stride n)) [ inl column ↦ column | inr out ↦ clash h (marked_out n row y out) ]

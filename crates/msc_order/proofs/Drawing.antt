@@ -1,8 +1,8 @@
 -- The segments of lines, and what the order in which they are walked gives.
-use Rattle.std.proofs.Common.{◌≡◌, ℕ, ◌+◌, ◌<◌, ◌≤◌, ◌⊎◌, Bool, true, false, ◌&&◌, ◌||◌, inl, inr, List, length, refl, sym, ap, ◌∙◌, subst, arith}
+use Rattle.std.proofs.Common.{◌≡◌, ℕ, ◌<◌, ◌≤◌, true, false, inl, inr, List, length, refl, sym, ◌∙◌, arith}
 use Rattle.std.proofs.lemmas.Bool.{lt-ltb, cases_lt}
 use Rattle.msc_chart.specs.declared.event.ChartEvent.{ChartEvent}
-use Rattle.msc_chart.specs.Charts.{line, segment, kind, sends, partner, is_output, is_input, before, IsMatched, IsInTextOrder, Visual}
+use Rattle.msc_chart.specs.Charts.{line, segment, kind, sends, is_output, before, IsInTextOrder}
 use Rattle.msc_chart.proofs.Drawn.{before_from, before_parts}
 use Rattle.msc_order.specs.Causes.{IsSegment, IsNextSegment}
 

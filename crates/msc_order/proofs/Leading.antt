@@ -1,15 +1,15 @@
 -- Rows that are made in the reverse of a linear order hold what lines and messages lead to.
 use Rattle.std.proofs.Common.{◌≡◌, ◌≢◌, ℕ, ◌+◌, ◌-◌, ◌<◌, ◌≤◌, ◌⊎◌, Bool, true, false, ◌&&◌, ◌||◌, inl, inr, eqb, List, [], ◌∷◌, ◌++◌, length, take, drop, get_or, refl, sym, ap, ◌∙◌, subst, arith}
-use Rattle.std.proofs.lemmas.Bool.{eqb-true, eq-eqb, ne_eqb, and_parts, and_from, or_cases, or_left, or_right, cases_lt, cases_eq}
-use Rattle.std.proofs.lemmas.List.{take_more, take-append-drop}
+use Rattle.std.proofs.lemmas.Bool.{eqb-true, eq-eqb, ne_eqb, and_parts, and_from, or_cases, or_left, or_right, cases_lt}
+use Rattle.std.proofs.lemmas.List.{take_all, take_more, take-append-drop}
 use Rattle.msc_chart.specs.declared.event.ChartEvent.{ChartEvent}
-use Rattle.msc_chart.specs.Lists.{occurs, until, Steps}
+use Rattle.msc_chart.specs.Lists.{occurs, Steps}
 use Rattle.msc_chart.specs.Charts.{partner, is_output, is_input, before, Visual, IsMatched, Follows, IsLinearOrder}
 use Rattle.msc_chart.specs.Charts.Visual.{seen, passed, linked}
 use Rattle.msc_chart.proofs.ListLemmas.{occurs-append, Steps-parts, step_at, until-append, until-within}
 use Rattle.msc_chart.proofs.Drawn.{before_from, before_parts, output_parts, not_both, partner_of_output}
 use Rattle.msc_order.specs.Tables.{with_row}
-use Rattle.msc_order.specs.Causes.{Led, IsSound, HasRowOf, IsTestOf, Keeps, KeepsOthers, IsNextSegment, HasNextRows, IsBehind}
+use Rattle.msc_order.specs.Causes.{Led, IsSound, HasRowOf, KeepsOthers, HasNextRows, IsBehind}
 use Rattle.msc_order.specs.Causes.Led.{led, carried, chained}
 use Rattle.msc_order.proofs.Bits.{or-false}
 use Rattle.msc_order.proofs.Cells.{by_test, clash}
@@ -181,6 +181,12 @@ module _ (events : List ChartEvent) (inputs : Bool) where
 pub nothing_behind : (order : List ℕ) (x : ℕ) → IsBehind order 0 x
 unfolding occurs
 nothing_behind order x = refl
+
+-- no number of the list stands behind all of it
+pub all_stand : (order : List ℕ) (x : ℕ) → IsBehind order (length order - 0) x → occurs order x ≡ false
+all_stand order x none =
+    let whole : length order - 0 ≡ length order = omega arith in
+    subst (λ (l : List ℕ). occurs l x ≡ false) (take_all (length order) order (omega arith)) (subst (λ (k : ℕ). occurs (take k order) x ≡ false) whole none)
 
 -- the visual order is between events
 pub visual_below : (events : List ChartEvent) → IsMatched events → (x y : ℕ) → Visual events x y → (x < length events) × (y < length events)

@@ -1,9 +1,9 @@
 -- The orders that a chart's lines and messages give without the rule of queues, and what a table
 -- keeps while it is closed.
-use Rattle.std.specs.Prelude.{◌≡◌, ◌≢◌, ℕ, ◌<◌, ◌≤◌, Bool, true, false, ◌||◌, ◌⊎◌, List, length, take, IsTrue}
+use Rattle.std.specs.Prelude.{◌≡◌, ◌≢◌, ℕ, ◌<◌, ◌≤◌, Bool, false, ◌||◌, ◌⊎◌, List, length, take, IsTrue}
 use Rattle.msc_chart.specs.declared.event.ChartEvent.{ChartEvent}
 use Rattle.msc_chart.specs.Lists.{occurs}
-use Rattle.msc_chart.specs.Charts.{line, segment, partner, is_output, is_input, before, Visual}
+use Rattle.msc_chart.specs.Charts.{line, segment, partner, is_output, is_input, before}
 use Rattle.msc_chart.specs.Orders.{WiredChart, queue, Enforced}
 
 -- The least transitive relation that puts each output before its input, and what is drawn before an
@@ -89,3 +89,18 @@ abbrev pub HasQueueOf : WiredChart → (ℕ → ℕ → Bool) → ℕ → Type 0
 HasQueueOf chart test s =
     (c : ℕ) → IsOutputOf chart (queue chart s) c → Caused chart.events s c
     → IsTrue (test (partner chart.events s) (partner chart.events c))
+
+-- The masks hold outputs, each in the row of its queue, whose later inputs the test has.
+abbrev pub HasSeen : WiredChart → (ℕ → ℕ → Bool) → (ℕ → ℕ → Bool) → Type 0
+HasSeen chart test masks = (q c : ℕ) → IsTrue (masks q c) → IsOutputOf chart q c × HasQueueOf chart test c
+
+-- What is left of the outputs of the queue of s that are caused after s: of the others the test has
+-- the input after that of s already.
+pub record IsLeft (chart : WiredChart) (test : ℕ → ℕ → Bool) (s : ℕ) (left : ℕ → Bool) : Type 0 where
+  pub sound : (c : ℕ) → IsTrue (left c) → IsOutputOf chart (queue chart s) c × Caused chart.events s c × HasQueueOf chart test c
+  pub complete : (c : ℕ) → IsOutputOf chart (queue chart s) c → Caused chart.events s c
+      → IsTrue (left c) ⊎ IsTrue (test (partner chart.events s) (partner chart.events c))
+
+-- a test of numbers holds none below k
+abbrev pub IsAbove : ℕ → (ℕ → Bool) → Type 0
+IsAbove k test = (c : ℕ) → IsTrue (test c) → k ≤ c

@@ -59,7 +59,7 @@ pub fn close(words: &mut [u64], chart: &Chart, inputs: bool)
     requires blank { (x y : ℕ) → cell (length chart.now.events) words.old x y ≡ false }
     ensures { IsTestOf (Led chart.now.events inputs) (cell (length chart.now.events) words.new) }
 {
-    let _events = chart.events();
+    let _accepted = chart.events();
     let order = chart.linear_order();
     for done in 0..order.len() {
         add_row(words, chart, inputs, order[order.len() - 1 - done]);

@@ -6,9 +6,10 @@
 #![tactic(auto)]
 
 mod closing;
-//mod order;
-//mod queueing;
+mod order;
+mod queueing;
 mod segments;
 mod table;
+mod wiring;
 
-//pub use order::Order;
+pub use order::Order;

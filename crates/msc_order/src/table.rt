@@ -1,7 +1,7 @@
 //! Rows of bits: row after row of words, each row with a bit for each number below `n`. Bit `f % 64`
 //! of word `f / 64` of row `e` is the pair (e, f).
 
-ghost use Rattle.std.specs.Prelude.{◌≡◌, ℕ, ◌*◌, ◌/◌, ◌%◌, ◌<◌, ◌≤◌, ◌||◌, ◌&&◌, Bool, true, false, not, length, nat_eq, slice_index, IfOk, replicate};
+ghost use Rattle.std.specs.Prelude.{◌≡◌, ◌≢◌, ℕ, ◌*◌, ◌/◌, ◌%◌, ◌+◌, ◌<◌, ◌≤◌, ◌||◌, ◌&&◌, Bool, true, false, not, length, nat_eq, slice_index, IfOk, IsTrue, replicate};
 ghost use Rattle.msc_order.specs.Tables.{cell, stride, bit_of, marked, with_row, HasRow};
 
 use std::alloc::{AllocError, Global};
@@ -104,4 +104,16 @@ pub fn drop_row(left: &mut [u64], words: &[u64], n: u32, c: u32)
         left[k] &= !words[c as usize * count + k];
     }
     left[c as usize / 64] &= !(1 << (c % 64));
+}
+
+/// The lowest number of word `k` of a row, where it has one.
+pub fn lowest(left: &[u64], n: u32, k: usize) -> u32
+    requires row { length left.now ≡ stride n }
+    requires word { k < length left.now }
+    requires some { slice_index left.now k ≢ 0 }
+    requires tight { (y : ℕ) → IsTrue (marked n left.now y) → y < n }
+    ensures marked { IsTrue (marked n left.now result) }
+    ensures known { result < n }
+{
+    (64 * k + left[k].trailing_zeros() as usize) as u32
 }

@@ -1,8 +1,7 @@
-use Rattle.std.proofs.Common.{◌≡◌, ℕ, ◌<◌, length, refl, sym, ◌∙◌, arith, subst}
-use Rattle.msc_chart.specs.Charts.{before}
+use Rattle.std.proofs.Common.{ℕ, ◌<◌, length, sym, ◌∙◌, arith}
 use Rattle.msc_order.specs.Tables.{cell}
 use Rattle.msc_order.proofs.Drawing.{before_later}
-use Rattle.msc_order.proofs.Leading.{lines_sound, others_trans, taken_more, row_kept, row_others}
+use Rattle.msc_order.proofs.Leading.{lines_sound, taken_more, row_kept, row_others}
 use Rattle.msc_order.proofs.closing.add_lines.Goals as goal
 
 pub loop-f-preserved : goal.loop-f-preserved

@@ -1,6 +1,5 @@
-use Rattle.std.proofs.Common.{◌≡◌, ℕ, Bool, true, length, sym, ap, ◌∙◌, subst}
-use Rattle.msc_chart.specs.Charts.{partner, is_output}
-use Rattle.msc_order.specs.Tables.{cell, with_row}
+use Rattle.std.proofs.Common.{ℕ, true, length, sym, ◌∙◌}
+use Rattle.msc_order.specs.Tables.{cell}
 use Rattle.msc_order.proofs.Leading.{message_sound, input_row, output_row, row_others}
 use Rattle.msc_order.proofs.closing.add_row.Goals as goal
 

@@ -1,9 +1,7 @@
-use Rattle.std.proofs.Common.{◌≡◌, ℕ, ◌+◌, ◌-◌, ◌<◌, ◌≤◌, true, inl, inr, length, get_or, refl, sym, ap, ◌∙◌, subst, arith}
+use Rattle.std.proofs.Common.{◌≡◌, ℕ, ◌+◌, ◌-◌, true, inl, inr, length, get_or, sym, ◌∙◌, subst, arith}
 use Rattle.std.proofs.lemmas.Bool.{cases_eq}
-use Rattle.msc_chart.specs.Charts.{Visual, IsLinearOrder}
 use Rattle.msc_order.specs.Tables.{cell}
-use Rattle.msc_order.specs.Causes.{Led, HasRowOf, IsBehind}
-use Rattle.msc_order.proofs.Cells.{clash}
+use Rattle.msc_order.specs.Causes.{Led, IsBehind}
 use Rattle.msc_order.proofs.Leading.{at_place, behind, behind_cases, led_below, nothing_behind, visual_below}
 use Rattle.msc_order.proofs.closing.close.Goals as goal
 
@@ -19,7 +17,7 @@ add_row-requires-clause-later c f v =
     let i : ℕ = length order - 1 - c.loop-done.done in
     let same : i + 1 ≡ length order - c.loop-done.done = omega arith in
     let after = behind events order c.linear_order-order.ensures i (omega arith) f v in
-    c.loop-done.invariant.rows f (visual_below events c.events-events.ensures.accepted.matched _ f v).1 (subst (λ (k : ℕ). IsBehind order k f) same after)
+    c.loop-done.invariant.rows f (visual_below events c.events-accepted.ensures.accepted.matched _ f v).1 (subst (λ (k : ℕ). IsBehind order k f) same after)
 
 pub loop-done-preserved : goal.loop-done-preserved
 loop-done-preserved c =
@@ -47,6 +45,6 @@ returns c =
     record {
       sound = c.loop-done.invariant.sound;
       complete = λ x y h.
-        c.loop-done.invariant.rows x (led_below events c.args.inputs c.events-events.ensures.accepted.matched x y h).0
+        c.loop-done.invariant.rows x (led_below events c.args.inputs c.events-accepted.ensures.accepted.matched x y h).0
         (subst (λ (k : ℕ). IsBehind order k x) (sym none) (nothing_behind order x)) y h;
     }

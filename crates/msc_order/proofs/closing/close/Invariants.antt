@@ -1,4 +1,4 @@
-use Rattle.std.proofs.Common.{◌≡◌, ℕ, ◌-◌, ◌<◌, length}
+use Rattle.std.proofs.Common.{ℕ, ◌-◌, ◌<◌, length}
 use Rattle.msc_order.specs.Tables.{cell}
 use Rattle.msc_order.specs.Causes.{Led, IsSound, HasRowOf, IsBehind}
 use Rattle.msc_order.proofs.closing.close.Given as goal

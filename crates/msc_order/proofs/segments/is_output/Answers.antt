@@ -1,4 +1,4 @@
-use Rattle.std.proofs.Common.{◌≡◌, sym, ap, ◌∙◌}
+use Rattle.std.proofs.Common.{sym, ap, ◌∙◌}
 use Rattle.msc_chart.specs.Charts.{sends}
 use Rattle.msc_order.proofs.Drawing.{output_is}
 use Rattle.msc_order.proofs.segments.is_output.Goals as goal

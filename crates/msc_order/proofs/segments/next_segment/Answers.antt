@@ -1,4 +1,4 @@
-use Rattle.std.proofs.Common.{◌≡◌, ◌<◌, true, false, arith}
+use Rattle.std.proofs.Common.{arith}
 use Rattle.msc_chart.specs.Charts.{before}
 use Rattle.msc_order.proofs.Cells.{by_test, clash}
 use Rattle.msc_order.proofs.Drawing.{none_next, is_next}

@@ -1,4 +1,4 @@
-use Rattle.std.proofs.Common.{◌≡◌, ◌<◌, arith}
+use Rattle.std.proofs.Common.{arith}
 use Rattle.msc_order.proofs.Cells.{clash}
 use Rattle.msc_order.proofs.Drawing.{segment_past}
 use Rattle.msc_order.proofs.segments.segment_end.Goals as goal

@@ -1,5 +1,4 @@
-use Rattle.std.proofs.Common.{◌≡◌, ℕ, ◌<◌, ◌≤◌, ◌*◌, ◌+◌, length, get_or, refl, sym, ◌∙◌, arith, bit_and}
-use Rattle.msc_order.specs.Tables.{stride}
+use Rattle.std.proofs.Common.{◌≡◌, ◌<◌, length, refl, arith}
 use Rattle.msc_order.proofs.Cells.{write_start, write_step, common_end}
 use Rattle.msc_order.proofs.table.common.Goals as goal
 

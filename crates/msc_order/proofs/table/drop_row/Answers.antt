@@ -1,4 +1,4 @@
-use Rattle.std.proofs.Common.{◌≡◌, ℕ, ◌<◌, ◌≤◌, ◌*◌, ◌+◌, ◌&&◌, ◌||◌, Bool, not, eqb, length, get_or, refl, sym, ap, ◌∙◌, arith, bit_and, w64}
+use Rattle.std.proofs.Common.{◌≡◌, ℕ, ◌<◌, ◌*◌, ◌+◌, ◌&&◌, Bool, not, eqb, length, get_or, ap, ◌∙◌, arith, bit_and, w64}
 use Rattle.std.specs.Int.{bit_not}
 use Rattle.std.proofs.Math.Facts.{Fits-lt-pow}
 use Rattle.msc_order.specs.Tables.{stride, marked, cell}

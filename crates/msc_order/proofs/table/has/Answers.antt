@@ -1,4 +1,4 @@
-use Rattle.std.proofs.Common.{◌/◌, ◌%◌, refl, ◌≡◌, ℕ, ◌≤◌, ◌<◌, ◌*◌, ◌+◌, get_or, sym, ◌∙◌, arith}
+use Rattle.std.proofs.Common.{◌%◌, refl, ◌<◌, ◌*◌, sym, ◌∙◌, arith}
 use Rattle.msc_order.specs.Tables.{stride}
 use Rattle.msc_order.proofs.Bits.{stride_enough, bit_read}
 use Rattle.msc_order.proofs.Cells.{cell_in}

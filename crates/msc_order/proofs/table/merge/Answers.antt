@@ -1,6 +1,5 @@
-use Rattle.std.proofs.Common.{◌≡◌, ℕ, ◌+◌, ◌*◌, ◌<◌, ◌≤◌, length, get_or, sym, ◌∙◌, arith}
-use Rattle.msc_order.specs.Tables.{stride}
-use Rattle.msc_order.proofs.Cells.{merge_start, merge_step, merge_end, merged_to}
+use Rattle.std.proofs.Common.{◌≡◌, ◌+◌, ◌*◌, ◌<◌, ◌≤◌, length, arith}
+use Rattle.msc_order.proofs.Cells.{merge_start, merge_step, merge_end}
 use Rattle.msc_order.proofs.table.merge.Goals as goal
 
 pub loop-k-init : goal.loop-k-init

@@ -1,5 +1,3 @@
-use Rattle.std.proofs.Common.{◌≡◌}
-use Rattle.msc_order.specs.Tables.{stride}
 use Rattle.msc_order.proofs.Cells.{cell_put}
 use Rattle.msc_order.proofs.table.put.Goals as goal
 

@@ -1,5 +1,3 @@
-use Rattle.std.proofs.Common.{◌≡◌}
-use Rattle.msc_order.specs.Tables.{stride}
 use Rattle.msc_order.proofs.Cells.{row_bits}
 use Rattle.msc_order.proofs.table.row_of.Goals as goal
 

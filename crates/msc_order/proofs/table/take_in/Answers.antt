@@ -1,4 +1,4 @@
-use Rattle.std.proofs.Common.{◌≡◌, refl, true, false}
+use Rattle.std.proofs.Common.{refl}
 use Rattle.msc_order.specs.Tables.{cell}
 use Rattle.msc_order.proofs.Cells.{take_both, clash}
 use Rattle.msc_order.proofs.table.take_in.Goals as goal
