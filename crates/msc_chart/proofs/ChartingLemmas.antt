@@ -34,7 +34,7 @@ unwrap_or-position p xs =
     by_test (nat_lt (position_or_len p xs) (length xs))
     (λ below. ap (λ b. unwrap_or (cond b (Some (position_or_len p xs)) None) (length xs)) below)
     (λ past.
-    let le2 : length xs ≤ position_or_len p xs = ltb-false _ _ past in
+    let past_all : length xs ≤ position_or_len p xs = ltb-false _ _ past in
     let same : length xs ≡ position_or_len p xs = omega arith in
     ap (λ b. unwrap_or (cond b (Some (position_or_len p xs)) None) (length xs)) past ∙ same)
 

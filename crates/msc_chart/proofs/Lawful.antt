@@ -1,5 +1,5 @@
 -- The last fault, and the chart of a draft with none.
-use Rattle.std.proofs.Common.{◌≡◌, ℕ, ◌+◌, ◌≤◌, Bool, true, false, cond, List, [], ◌∷◌, length, map, Option, Some, None, refl, sym, ap, ◌∙◌, subst, arith, inl, inr}
+use Rattle.std.proofs.Common.{◌≡◌, ℕ, ◌+◌, ◌≤◌, Bool, true, false, cond, List, [], ◌∷◌, length, map, Option, None, refl, sym, ap, ◌∙◌, subst, arith, inl, inr}
 use Rattle.std.specs.Prelude.{MatchOption, count_by, Result, Ok, Err, IfErr}
 use Rattle.std.specs.Result.{IsErrAnd}
 use Rattle.std.proofs.lemmas.Bool.{cases_lt}
@@ -62,13 +62,9 @@ pub passed_on : {X : Type 0} (d : Tree) (r : Result X ChartFault) (f : ChartFaul
 passed_on d (Ok x) f h first = tt
 passed_on d (Err e) f h first = subst (IsFirstOrMemory d) (sym h) first
 
--- what the search for cycles answers, at its variant
+-- what the search for cycles answers, where it answers none
 module _ (events : List ChartEvent) (r : Option ℕ) where
-  -- an event that it answers is the least that precedes itself
-  pub cyclic_at : (e : ℕ) → r ≡ Some e → MatchOption r (IsAcyclic events) (IsLeastCyclic events) → IsLeastCyclic events e
-  cyclic_at e is h = let at : MatchOption (Some e) (IsAcyclic events) (IsLeastCyclic events) = subst (λ o. MatchOption o (IsAcyclic events) (IsLeastCyclic events)) is h in at
-
-  -- where it answers none, no event precedes itself
+  -- then no event precedes itself
   pub acyclic_at : r ≡ None → MatchOption r (IsAcyclic events) (IsLeastCyclic events) → IsAcyclic events
   acyclic_at is h = let at : MatchOption None (IsAcyclic events) (IsLeastCyclic events) = subst (λ o. MatchOption o (IsAcyclic events) (IsLeastCyclic events)) is h in at
 

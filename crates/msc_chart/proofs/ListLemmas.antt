@@ -10,7 +10,7 @@ pub by_test : {X : Type 0} (b : Bool) → (b ≡ true → X) → (b ≡ false �
 by_test true f g = f refl
 by_test false f g = g refl
 
--- a test that passes does not fail
+-- a test does not both pass and fail
 pub clash : {X : Type 0} {b : Bool} → b ≡ true → b ≡ false → X
 clash p q = cc
 

@@ -105,22 +105,6 @@ all_put (true ∷ bs) none (suc e) within = all_put bs none e (omega arith)
 all_put (false ∷ bs) none e within = let s = sum_by-cons (λ (b : Bool). cond (not b) 1 0) false bs in absurd (omega arith)
 
 module _ (events : List ChartEvent) (order : List ℕ) (marks : List Bool) (first : List ℕ) (left : ℕ) (kept : IsKept events order marks first left) where
-  -- the first event of a line that is left moves on
-  pub moved : (i f : ℕ) → i < length first → NoneLeftBelow events marks i f → IsKept events order marks (set first i f) left
-  moved i f within below = record {
-    ready = let r = kept.ready in subst (λ (n : ℕ). AreReady n events) (sym (length-set first i f)) r;
-    marks_len = kept.marks_len;
-    marked = kept.marked;
-    first_left = λ j.
-        elim (cases_eq j i) [
-          | inl same ↦ subst (λ (z : ℕ). NoneLeftBelow events marks z (get_or (set first i f) z 0)) (sym same) (subst (NoneLeftBelow events marks i) (sym (get_or-set_same first i f 0 within)) below)
-          | inr other ↦ subst (NoneLeftBelow events marks j) (sym (get_or-set_other first i j f 0 other)) (kept.first_left j)
-        ];
-    left_count = kept.left_count;
-    all = kept.all;
-    steps = kept.steps;
-  }
-
   -- where an event was not put, some are left
   pub some_left : (e : ℕ) → e < length events → is_put marks e ≡ false → 0 < left
   some_left e within out =

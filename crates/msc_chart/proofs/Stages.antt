@@ -8,7 +8,7 @@ use Rattle.std.proofs.lemmas.Option.{slice_get_within}
 use Rattle.msc_parser.specs.Grammar.{Tree}
 use Rattle.msc_chart.specs.declared.fault.ChartFault.TheVariants.{TooManyInstances, TwiceInstance, HeaderWithoutBody, UnknownAddress, TooManyMessages, TwiceEvent, UnmatchedOut, UnmatchedIn}
 use Rattle.msc_chart.specs.declared.end.End as code
-use Rattle.msc_chart.specs.declared.end.DraftEvent as code2
+use Rattle.msc_chart.specs.declared.end.DraftEvent as coded
 use Rattle.msc_chart.specs.Events.{End, instances_of, header_of, ends_of, events_of, address_of}
 use Rattle.msc_chart.specs.Views.{end_view, event_view}
 use Rattle.msc_chart.specs.Numbering.{AreNewBelow, IsFirstRepeat, AreNumbered}
@@ -204,10 +204,10 @@ module _ (d : Tree) (names : List (Bor (List ℕ))) (seen : map deref names ≡ 
       clear_with_matched_inputs back = matched_inputs_clear d ends drawn clear_with_matched_outputs (subst (λ ks. (k : ℕ) → HoldsAt (IsUnmatched false (map end_view ks)) (map end_view ends) k → ⊥) n.same back)
 
 -- the ends of the code's events are those of the draft
-pub ends_seen : (d : Tree) (events : List code2.DraftEvent) (ends : List code.End) → ends ≡ map (λ e. e.end) events → map event_view events ≡ events_of d → map end_view ends ≡ ends_of d
+pub ends_seen : (d : Tree) (events : List coded.DraftEvent) (ends : List code.End) → ends ≡ map (λ e. e.end) events → map event_view events ≡ events_of d → map end_view ends ≡ ends_of d
 unfolding ends_of
 ends_seen d events ends same seen = ap (map end_view) same ∙ by events ∙ ap (map (λ e. e.end)) seen
   where
-    by : (es : List code2.DraftEvent) → map end_view (map (λ e. e.end) es) ≡ map (λ e. e.end) (map event_view es)
+    by : (es : List coded.DraftEvent) → map end_view (map (λ e. e.end) es) ≡ map (λ e. e.end) (map event_view es)
     by [] = refl
     by (e ∷ es) = ap (λ l. end_view e.end ∷ l) (by es)
