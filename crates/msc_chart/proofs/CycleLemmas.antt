@@ -1,9 +1,9 @@
 -- The search for an event that precedes itself: what it takes as reached is reached, and where it is
 -- closed it has reached everything.
-use Rattle.std.proofs.Common.{◌≡◌, ℕ, ◌<◌, ◌≤◌, true, false, List, length, get_or, set, ◌⊎◌, inl, inr, refl, sym, ap, subst, ◌∙◌, arith, get_or-set_other, get_or-set_same}
+use Rattle.std.proofs.Common.{◌≡◌, ℕ, ◌<◌, ◌≤◌, true, List, length, get_or, set, ◌⊎◌, inl, inr, refl, sym, ap, subst, ◌∙◌, arith, get_or-set_other, get_or-set_same}
 use Rattle.std.proofs.lemmas.Bool.{cases_eq}
 use Rattle.msc_chart.specs.declared.event.ChartEvent.{ChartEvent}
-use Rattle.msc_chart.specs.Charts.{at, line, segment, kind, partner, sends, is_output, is_input, before, Visual, IsMatched, AreOnLines}
+use Rattle.msc_chart.specs.Charts.{at, line, segment, kind, partner, is_output, is_input, Visual, IsMatched, AreOnLines}
 use Rattle.msc_chart.specs.Charts.Visual.{seen, passed, linked}
 use Rattle.msc_chart.specs.Reach.{IsBelow, IsPassed, IsSound, AreClosedBelow}
 use Rattle.msc_chart.proofs.Drawn.{before_from, before_parts, output_from, output_parts, partner_of_output, not_both}
@@ -55,6 +55,8 @@ module _ (lines : ℕ) (events : List ChartEvent) (e : ℕ) (low : List ℕ) (ma
       inr (x, p.0, record { output = p.1; reached = reached }, same)
   complete begun closed (linked h k) from = complete begun closed k (inr (complete begun closed h from))
 
+  -- where the search is closed and e precedes itself, the search sees it: on the line of e, or by
+  -- its message
   pub found : IsSound events e low → e < length events → Visual events e e → AreClosedBelow events e low (length events)
       → IsBelow events low e ⊎ ((is_input events e ≡ true) × IsPassed events e low (partner events e))
   found sound within cycle closed =
@@ -65,6 +67,7 @@ module _ (lines : ℕ) (events : List ChartEvent) (e : ℕ) (low : List ℕ) (ma
             inr (is_taken f.0 e f.1 f.2 f.3, subst (IsPassed events e low) (sym back) f.2)
       ]
 
+  -- where the search sees e below what is reached, or its partner passed, e precedes itself
   pub cycle_from : IsSound events e low → e < length events → IsBelow events low e ⊎ IsPassed events e low (partner events e) → Visual events e e
   cycle_from sound within h =
       elim h [

@@ -1,6 +1,6 @@
 -- The events of a draft: how many they are, on which lines and segments they stand, and in which
 -- order.
-use Rattle.std.proofs.Common.{◌≡◌, ℕ, ◌+◌, ◌<◌, ◌≤◌, ◌⊎◌, List, [], ◌∷◌, ◌++◌, length, Some, suc, zero, refl, sym, ap, ◌∙◌, arith, inl, inr}
+use Rattle.std.proofs.Common.{◌≡◌, ℕ, ◌+◌, ◌<◌, ◌≤◌, ◌⊎◌, List, [], ◌∷◌, ◌++◌, length, suc, zero, refl, sym, ap, ◌∙◌, arith, inl, inr}
 use Rattle.std.specs.List.{flat_map}
 use Rattle.std.proofs.lemmas.Option.{slice_get_within}
 use Rattle.std.proofs.lemmas.List.{length-map, length-append}
@@ -11,7 +11,7 @@ use Rattle.msc_parser.specs.Grammar.{Tree}
 use Rattle.msc_parser.specs.Drafts.{signals_in, signals_of}
 use Rattle.msc_chart.specs.Events.{DraftEvent, drawn, events_of, events_of_item, events_of_items, events_of_sections, next_segment}
 use Rattle.msc_chart.specs.Faults.{StandsAt, Occurs}
-use Rattle.msc_chart.proofs.Places.{one_at, map-place}
+use Rattle.msc_chart.proofs.Places.{map-place}
 use Rattle.msc_chart.proofs.EndLemmas.{next-room}
 
 -- an element of two joined lists is in one of them
@@ -36,6 +36,7 @@ module _ (line : ℕ) (own : List ℕ) where
       let within : j < length ss = slice_get_within ss j r.0 r.1 in
       (ap (λ y. y.line) (sym r.2), ap (λ y. y.segment) (sym r.2), simp length-map (omega arith))
 
+  -- segments do not fall from item to item
   next_up : (segment : ℕ) (i : Item) → segment ≤ next_segment segment i
   next_up segment (Single s) = omega arith
   next_up segment (Coregion []) = omega arith
@@ -70,6 +71,7 @@ of_sections line (s ∷ ss) x h =
       | inr there ↦ let r = of_sections (line + 1) ss x there in (omega (arith, r.0), simp length-append (omega (arith, r.1)), omega (arith, r.2))
     ]
 
+-- the sections have an event for each statement of an event in them
 sections_count : (line : ℕ) (ss : List Section) → length (events_of_sections line ss) ≡ length (signals_of ss)
 sections_count line [] = refl
 sections_count line (s ∷ ss) =
@@ -106,6 +108,8 @@ in_order-append xs ys first second across = λ i j x y le h k.
       ]
     ]
 
+-- the events of a line stand in order: those of an item share a segment, and later items have later
+-- ones
 items_in_order : (line : ℕ) (own : List ℕ) (segment : ℕ) (is : List Item) → AreInOrder (events_of_items line own segment is)
 unfolding AreInOrder
 items_in_order line own segment [] = λ i j x y le h k. cc
@@ -121,6 +125,7 @@ items_in_order line own segment (item ∷ is) =
     let b = of_items line own (next_segment segment item) is y k in
     (omega (arith, a.0, b.0), λ _. omega (arith, a.1, b.2, next_up line own segment item)))
 
+-- the events of the sections stand in order: each section has a line of its own
 sections_in_order : (line : ℕ) (ss : List Section) → AreInOrder (events_of_sections line ss)
 unfolding AreInOrder
 sections_in_order line [] = λ i j x y le h k. cc

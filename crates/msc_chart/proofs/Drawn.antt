@@ -1,16 +1,18 @@
 -- Drawn events: what the tests for outputs, inputs and the drawn order say.
-use Rattle.std.proofs.Common.{◌≡◌, ℕ, ◌<◌, ◌≤◌, ◌⊎◌, Bool, true, false, List, length, get_or, inl, inr, refl, sym, ap, ◌∙◌, arith, true≢false}
+use Rattle.std.proofs.Common.{◌≡◌, ℕ, ◌<◌, ◌⊎◌, true, List, length, inl, inr, refl, sym, ap, ◌∙◌, true≢false}
 use Rattle.std.proofs.lemmas.Bool.{and_parts, and_from, ltb-true, lt-ltb, eqb-true, eq-eqb}
 use Rattle.msc_chart.specs.declared.event.EventKind.{EventKind}
 use Rattle.msc_chart.specs.declared.event.EventKind.TheVariants.{Output, Input}
 use Rattle.msc_chart.specs.declared.event.ChartEvent.{ChartEvent}
-use Rattle.msc_chart.specs.Charts.{line, segment, kind, partner, sends, takes, is_output, is_input, before, IsMatched, IsInTextOrder}
+use Rattle.msc_chart.specs.Charts.{line, segment, kind, partner, sends, takes, is_output, is_input, before, IsMatched}
 
 module _ (events : List ChartEvent) where
+  -- two events on one line, the first in a smaller segment, are drawn in that order
   pub before_from : (x y : ℕ) → x < length events → y < length events → line events x ≡ line events y → segment events x < segment events y → before events x y ≡ true
   unfolding before
   before_from x y p q l s = and_from _ _ (and_from _ _ (lt-ltb _ _ p) (lt-ltb _ _ q)) (and_from _ _ (eq-eqb _ _ l) (lt-ltb _ _ s))
 
+  -- what is drawn in an order are two events on one line, the first in a smaller segment
   pub before_parts : (x y : ℕ) → before events x y ≡ true → (x < length events) × (y < length events) × (line events x ≡ line events y) × (segment events x < segment events y)
   unfolding before
   before_parts x y h =
@@ -19,18 +21,22 @@ module _ (events : List ChartEvent) where
       let b = and_parts _ _ p.1 in
       (ltb-true _ _ a.0, ltb-true _ _ a.1, eqb-true _ _ b.0, ltb-true _ _ b.1)
 
+  -- an event of the chart whose kind sends is an output
   pub output_from : (s : ℕ) → s < length events → sends (kind events s) ≡ true → is_output events s ≡ true
   unfolding is_output
   output_from s p h = and_from _ _ (lt-ltb _ _ p) h
 
+  -- an output is an event of the chart, and its kind sends
   pub output_parts : (s : ℕ) → is_output events s ≡ true → (s < length events) × (sends (kind events s) ≡ true)
   unfolding is_output
   output_parts s h = let p = and_parts _ _ h in (ltb-true _ _ p.0, p.1)
 
+  -- an event of the chart whose kind takes is an input
   pub input_from : (r : ℕ) → r < length events → takes (kind events r) ≡ true → is_input events r ≡ true
   unfolding is_input
   input_from r p h = and_from _ _ (lt-ltb _ _ p) h
 
+  -- an input is an event of the chart, and its kind takes
   pub input_parts : (r : ℕ) → is_input events r ≡ true → (r < length events) × (takes (kind events r) ≡ true)
   unfolding is_input
   input_parts r h = let p = and_parts _ _ h in (ltb-true _ _ p.0, p.1)

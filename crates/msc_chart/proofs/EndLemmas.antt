@@ -6,6 +6,7 @@ use Rattle.msc_parser.specs.declared.tree.Item.TheVariants.{Single, Coregion}
 use Rattle.msc_parser.specs.declared.tree.Section.{Section}
 use Rattle.msc_chart.specs.Events.{events_of_item, events_of_items, events_of_sections, next_segment}
 
+-- what is left from place i on is the element there and what is left behind it
 pub drop-at : {X : Type 0} (xs : List X) (i : ℕ) (x : X) → i < length xs → x ≡ get_or xs i x → drop i xs ≡ x ∷ drop (i + 1) xs
 drop-at xs i x within same = rw add-one (drop-cons xs i x within ∙ ap (λ y. y ∷ drop (suc i) xs) (sym same))
 
@@ -14,6 +15,8 @@ pub next-items : (line : ℕ) (own : List ℕ) (segment : ℕ) (xs : List Item) 
     → events_of_items line own segment (drop i xs) ≡ events_of_item line own segment x ++ events_of_items line own (next_segment segment x) (drop (i + 1) xs)
 next-items line own segment xs i x within same = ap (events_of_items line own segment) (drop-at xs i x within same)
 
+-- the events of the sections from one on are those of this section, and those of the sections after
+-- it
 pub next-sections : (line : ℕ) (xs : List Section) (i : ℕ) (x : Section) → i < length xs → x ≡ get_or xs i x
     → events_of_sections line (drop i xs) ≡ events_of_items line x.decl.name 0 x.items ++ events_of_sections (line + 1) (drop (i + 1) xs)
 next-sections line xs i x within same = ap (events_of_sections line) (drop-at xs i x within same)

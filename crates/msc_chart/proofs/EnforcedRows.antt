@@ -9,7 +9,8 @@ use Rattle.msc_chart.specs.Orders.{WiredChart, wired, queue, queue_number, sende
 use Rattle.msc_chart.specs.Orders.Enforced.{drawn, sent, joined, queued}
 use Rattle.msc_chart.specs.Faults.{Occurs}
 use Rattle.msc_chart.specs.Samples.{two_mailboxes, two_mailboxes_pairs, AreEnforcedPairs}
-use Rattle.msc_chart.proofs.Places.{by_test, clash, any-place}
+use Rattle.msc_chart.proofs.ListLemmas.{by_test, clash}
+use Rattle.msc_chart.proofs.Places.{any-place}
 use Rattle.msc_chart.proofs.Numbers.{any_below, none_of_any}
 use Rattle.msc_chart.proofs.Drawn.{before_parts, output_parts}
 
@@ -36,12 +37,15 @@ holds_from a b none h = by_test b (λ t. t) (λ f. clash (and_from a (not b) h (
 module _ (chart : WiredChart) (pairs : List (ℕ × ℕ)) (n : ℕ) (size : n ≡ length chart.events)
     (two : any_below (λ x. any_below (λ y. leads_out chart pairs n x y) n) n ≡ false)
     (three : any_below (λ x. any_below (λ y. any_below (λ z. joins_out pairs n x y z) n) n) n ≡ false) where
+  -- no rule of two events leads out, of any two events
   at : (x y : ℕ) → x < n → y < n → leads_out chart pairs n x y ≡ false
   at x y p q = none_of_any _ n (none_of_any _ n two x p) y q
 
+  -- an event of the chart is below the number of events
   within : (x : ℕ) → x < length chart.events → x < n
   within x below = subst (λ (k : ℕ). x < k) (sym size) below
 
+  -- a pair of the list is a pair of events
   known : (x y : ℕ) → has pairs n x y ≡ true → (x < n) × (y < n)
   known x y h = let p = and_parts _ _ (and_parts _ _ h).0 in (ltb-true _ _ p.0, ltb-true _ _ p.1)
 
@@ -70,11 +74,13 @@ abbrev AreEnforced : WiredChart → List (ℕ × ℕ) → Type 0
 AreEnforced chart [] = Unit {0}
 AreEnforced chart (p ∷ ps) = Enforced chart p.0 p.1 × AreEnforced chart ps
 
+-- so whatever occurs in the list is enforced
 enforced_from : (chart : WiredChart) (pairs : List (ℕ × ℕ)) → AreEnforced chart pairs → (e f : ℕ) → Occurs pairs (e, f) → Enforced chart e f
 enforced_from chart [] all e f (j, h) = cc
 enforced_from chart (p ∷ ps) all e f (zero, h) = let same : p ≡ (e, f) = cc in subst (λ (q : ℕ × ℕ). Enforced chart q.0 q.1) same all.0
 enforced_from chart (p ∷ ps) all e f (suc j, h) = enforced_from chart ps all.1 e f (j, h)
 
+-- a pair that the test finds occurs in the list
 occurs_from : (pairs : List (ℕ × ℕ)) (n e f : ℕ) → has pairs n e f ≡ true → Occurs pairs (e, f)
 occurs_from pairs n e f h =
     let r = any-place (λ p. eqb p.0 e && eqb p.1 f) pairs (and_parts _ _ h).1 in

@@ -12,6 +12,7 @@ fault_at k p =
     get_or (Memory ∷ TooManyInstances ∷ TwiceInstance p ∷ HeaderWithoutBody p ∷ UnknownAddress p ∷ TooManyMessages ∷ TwiceEvent p
     ∷ UnmatchedOut p ∷ UnmatchedIn p ∷ Cyclic p ∷ []) k Memory
 
+-- a fault is the one of its rank at its place
 fault_at-rank : (f : ChartFault) → fault_at (rank f) (place f) ≡ f
 fault_at-rank TooManyInstances = refl
 fault_at-rank (TwiceInstance i) = refl
@@ -25,6 +26,7 @@ fault_at-rank (Cyclic e) = refl
 fault_at-rank Memory = refl
 
 module _ (d : Tree) where
+  -- a fault that stands is one of its rank that stands
   of_rank : (k : ℕ) (f : ChartFault) → rank f ≡ k → Stands d f → Stands d (fault_at k (place f))
   of_rank k f same h = subst (λ (n : ℕ). Stands d (fault_at n (place f))) same (subst (Stands d) (sym (fault_at-rank f)) h)
 
@@ -48,6 +50,7 @@ module _ (d : Tree) where
         ];
   }
 
+-- the lowest rank is 1
 rank-positive : (f : ChartFault) → 1 ≤ rank f
 rank-positive TooManyInstances = omega arith
 rank-positive (TwiceInstance i) = omega arith
@@ -60,9 +63,11 @@ rank-positive (UnmatchedIn e) = omega arith
 rank-positive (Cyclic e) = omega arith
 rank-positive Memory = omega arith
 
+-- so no fault stands below it
 pub clear_first : (d : Tree) → IsClearBelow d 1
 clear_first d f h = rank-positive f
 
+-- and where none of the ranks up to cycles stands, none does: want of memory stands in no draft
 pub faultless : (d : Tree) → IsClearBelow d 10 → IsFaultless d
 unfolding Stands
 faultless d clear TooManyInstances h = absurd (let l = clear TooManyInstances h in omega arith)

@@ -1,5 +1,5 @@
 -- The last fault, and the chart of a draft with none.
-use Rattle.std.proofs.Common.{◌≡◌, ℕ, ◌+◌, ◌<◌, ◌≤◌, Bool, true, false, cond, List, [], ◌∷◌, length, map, get_or, Option, Some, None, suc, refl, sym, ap, ◌∙◌, subst, arith, inl, inr}
+use Rattle.std.proofs.Common.{◌≡◌, ℕ, ◌+◌, ◌≤◌, Bool, true, false, cond, List, [], ◌∷◌, length, map, Option, None, refl, sym, ap, ◌∙◌, subst, arith, inl, inr}
 use Rattle.std.specs.Prelude.{MatchOption, count_by, Result, Ok, Err, IfErr}
 use Rattle.std.specs.Result.{IsErrAnd}
 use Rattle.std.proofs.lemmas.Bool.{cases_lt}
@@ -12,13 +12,13 @@ use Rattle.msc_chart.specs.declared.fault.ChartFault.TheVariants.{TooManyInstanc
 use Rattle.msc_chart.specs.declared.event.ChartEvent.{ChartEvent}
 use Rattle.msc_chart.specs.declared.message.Message.{Message}
 use Rattle.msc_chart.specs.Events.{End, DraftEvent, ends_of, events_of, instances_of}
-use Rattle.msc_chart.specs.Charts.{at, no_event, IsAcyclic, IsLeastCyclic, IsLinearOrder}
-use Rattle.msc_chart.specs.Drawings.{IsAccepted, Drawing, event_of, chart_events, chart_of, messages_from}
-use Rattle.msc_chart.specs.Faults.{Stands, AreTooMany, IsFirstFault, IsFirstOrMemory, IsFaultless, IsClearBelow, rank}
+use Rattle.msc_chart.specs.Charts.{IsAcyclic, IsLeastCyclic, IsLinearOrder}
+use Rattle.msc_chart.specs.Drawings.{IsAccepted, drawing, event_of, chart_events, chart_of}
+use Rattle.msc_chart.specs.Faults.{Stands, AreTooMany, IsFirstFault, IsFirstOrMemory, IsFaultless, IsClearBelow}
 use Rattle.msc_chart.specs.Passes.{IsCycleOrMemory}
 use Rattle.msc_chart.proofs.FaultLemmas.{first_of, clear_next, faultless}
 use Rattle.msc_chart.proofs.Matched.{chart_count, ends_count, chart_on_lines, chart_in_text_order, chart_matched}
-use Rattle.msc_chart.proofs.PassLemmas.{linear_acyclic}
+use Rattle.msc_chart.proofs.StuckLemmas.{linear_acyclic}
 use Rattle.msc_chart.proofs.Messages.{messages_count, chart_messages}
 
 -- the events that the code makes are those of the draft's chart
@@ -28,12 +28,14 @@ unfolding chart_events
 made d ends drawn chart e v h = h ∙ ap (λ es. map (event_of es) drawn) e ∙ ap (map (event_of (ends_of d))) v
 
 module _ (d : Tree) (clear : IsClearBelow d 9) where
-  pub first_9 : (e : ℕ) → IsLeastCyclic (chart_events d) e → IsFirstFault d (Cyclic e)
+  -- where no fault of a lower rank stands, the least event that precedes itself is the first fault
+  pub least_cyclic_first : (e : ℕ) → IsLeastCyclic (chart_events d) e → IsFirstFault d (Cyclic e)
   unfolding Stands
-  first_9 e h =
+  least_cyclic_first e h =
       first_of d 9 e clear (Cyclic e) refl refl (h.within, h.precedes_itself)
       (λ p s. elim (cases_lt p e) [ inl below ↦ absurd (h.least p below s.1) | inr ge ↦ ge ])
 
+  -- where no event precedes itself either, no fault stands
   pub no_fault : IsAcyclic (chart_events d) → IsFaultless d
   unfolding Stands
   no_fault acyclic = faultless d (clear_next d 9 clear (λ p s. acyclic p s.0 s.1))
@@ -52,7 +54,7 @@ module _ (d : Tree) (clear : IsClearBelow d 9) where
   cyclic_first (TwiceEvent e) h = absurd h
   cyclic_first (UnmatchedOut e) h = absurd h
   cyclic_first (UnmatchedIn e) h = absurd h
-  cyclic_first (Cyclic e) h = λ _. first_9 e h
+  cyclic_first (Cyclic e) h = λ _. least_cyclic_first e h
   cyclic_first Memory h = λ other. absurd (other refl)
 
 -- a fault that is passed on
@@ -60,16 +62,11 @@ pub passed_on : {X : Type 0} (d : Tree) (r : Result X ChartFault) (f : ChartFaul
 passed_on d (Ok x) f h first = tt
 passed_on d (Err e) f h first = subst (IsFirstOrMemory d) (sym h) first
 
--- what the search for cycles answers, at its variant
+-- what the search for cycles answers, where it answers none
 module _ (events : List ChartEvent) (r : Option ℕ) where
-  pub cyclic_at : (e : ℕ) → r ≡ Some e → MatchOption r (IsAcyclic events) (IsLeastCyclic events) → IsLeastCyclic events e
-  cyclic_at e is h = let at : MatchOption (Some e) (IsAcyclic events) (IsLeastCyclic events) = subst (λ o. MatchOption o (IsAcyclic events) (IsLeastCyclic events)) is h in at
-
+  -- then no event precedes itself
   pub acyclic_at : r ≡ None → MatchOption r (IsAcyclic events) (IsLeastCyclic events) → IsAcyclic events
   acyclic_at is h = let at : MatchOption None (IsAcyclic events) (IsLeastCyclic events) = subst (λ o. MatchOption o (IsAcyclic events) (IsLeastCyclic events)) is h in at
-
-abbrev pub drawing : List ℕ → List (List ℕ) → List ChartEvent → List Message → Drawing
-drawing n i e m = record { name = n; instances = i; events = e; messages = m }
 
 -- charts with equal parts are equal
 pub same_drawing : {n n' : List ℕ} {i i' : List (List ℕ)} {e e' : List ChartEvent} {m m' : List Message} → n ≡ n' → i ≡ i' → e ≡ e' → m ≡ m'
@@ -89,6 +86,7 @@ both_ways (x ∷ xs) =
     one_way true = refl
     one_way false = refl
 
+-- the outputs, counted by either test, are as many
 sent_count : (ends : List End) → count_by (λ x. x.sends) ends ≡ count_by (λ x. beq x.sends true) ends
 sent_count [] = refl
 sent_count (x ∷ xs) =

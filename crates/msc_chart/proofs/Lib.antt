@@ -13,6 +13,7 @@ pub mod Matched
 pub mod Messages
 pub mod ChartingLemmas
 pub mod PassLemmas
+pub mod StuckLemmas
 pub mod Lawful
 pub mod Readers
 pub mod Rows

@@ -1,23 +1,22 @@
 -- A line is a contiguous range of event numbers.
-use Rattle.std.proofs.Common.{◌≡◌, ℕ, zero, suc, ◌+◌, ◌<◌, ◌≤◌, Bool, true, false, cond, List, [], ◌∷◌, length, get_or, inl, inr, refl, sym, ap, subst, ◌∙◌, arith}
-use Rattle.std.specs.Prelude.{nat_lt, count_by}
-use Rattle.std.proofs.lemmas.Bool.{cases_lt, lt-ltb, ltb-true}
+use Rattle.std.proofs.Common.{◌≡◌, ℕ, zero, suc, ◌+◌, ◌<◌, ◌≤◌, Bool, cond, List, [], ◌∷◌, length, inl, inr, sym, ap, subst, ◌∙◌, arith}
+use Rattle.std.specs.Prelude.{nat_lt}
+use Rattle.std.proofs.lemmas.Bool.{cases_lt, ltb-true, ltb-false}
 use Rattle.std.proofs.lemmas.List.Sums.{sum_by-cons, count_by-le-length}
 use Rattle.msc_chart.specs.declared.event.ChartEvent.{ChartEvent}
 use Rattle.msc_chart.specs.Charts.{at, line, line_start, IsInTextOrder}
 use Rattle.msc_chart.specs.Drawings.{Drawing, IsAccepted, IsLine}
-use Rattle.msc_chart.proofs.Places.{by_test, clash}
+use Rattle.msc_chart.proofs.ListLemmas.{by_test}
 
 -- lines do not fall along the list
 abbrev pub LinesRise : List ChartEvent → Type 0
 LinesRise events = (x y : ℕ) → x ≤ y → y < length events → (at events x).line ≤ (at events y).line
 
+-- one event more in front is counted where its line is lower
 counted : (i : ℕ) (x : ChartEvent) (xs : List ChartEvent) → line_start (x ∷ xs) i ≡ cond (nat_lt x.line i) 1 0 + line_start xs i
 counted i x xs = sum_by-cons (λ (y : ChartEvent). cond (nat_lt y.line i) 1 0) x xs
 
-not_less : (m n : ℕ) → nat_lt m n ≡ false → n ≤ m
-not_less m n past = elim (cases_lt m n) [ inl below ↦ clash (lt-ltb m n below) past | inr ge ↦ ge ]
-
+-- behind the first event lines do not fall either
 rest_rises : (x : ChartEvent) (xs : List ChartEvent) → LinesRise (x ∷ xs) → LinesRise xs
 rest_rises x xs rise a b le within = rise (suc a) (suc b) (omega arith) (omega arith)
 
@@ -32,7 +31,7 @@ below_start i (x ∷ xs) rise e within =
     lower i x xs (rest_rises x xs rise) (λ k lt. below_start i xs (rest_rises x xs rise) k lt) (ltb-true _ _ low) (count ∙ omega arith) e within)
     (λ high.
     let count = counted i x xs ∙ ap (λ (b : Bool). cond b 1 0 + line_start xs i) high in
-    let up = not_less _ _ high in
+    let up = ltb-false _ _ high in
     let here = rise 0 e (omega arith) within in
     let none = nothing i x xs rise up (λ k lt. below_start i xs (rest_rises x xs rise) k lt) in
     (λ lt. absurd (omega arith), λ lt. absurd (omega arith)))

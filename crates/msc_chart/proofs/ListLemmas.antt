@@ -1,6 +1,7 @@
 -- Lists of events: what occurs in them, and their parts.
-use Rattle.std.proofs.Common.{◌≡◌, ℕ, Bool, true, false, cond, ◌||◌, inl, inr, eqb, List, [], ◌∷◌, ◌++◌, filter, refl, ap, subst, ◌∙◌, append_assoc}
-use Rattle.std.proofs.lemmas.Bool.{eqb-true, eq-eqb, or_cases, or_left, or_right}
+use Rattle.std.proofs.Common.{◌≡◌, ◌≢◌, ℕ, zero, suc, ◌<◌, length, get_or, sym, arith, Bool, true, false, cond, ◌||◌, inl, inr, eqb, List, [], ◌∷◌, ◌++◌, filter, refl, ap, subst, ◌∙◌, append_assoc}
+use Rattle.std.proofs.Math.Bool.{or-false}
+use Rattle.std.proofs.lemmas.Bool.{eqb-true, eq-eqb, ne_eqb, or_cases, or_left, or_right}
 use Rattle.std.proofs.lemmas.List.{append-nil}
 use Rattle.msc_chart.specs.Lists.{occurs, until, IsFirst, Steps}
 
@@ -9,14 +10,17 @@ pub by_test : {X : Type 0} (b : Bool) → (b ≡ true → X) → (b ≡ false �
 by_test true f g = f refl
 by_test false f g = g refl
 
+-- a test does not both pass and fail
 pub clash : {X : Type 0} {b : Bool} → b ≡ true → b ≡ false → X
 clash p q = cc
 
+-- what occurs in two joined lists occurs in one of them
 pub occurs-append : (xs ys : List ℕ) (e : ℕ) → occurs (xs ++ ys) e ≡ (occurs xs e || occurs ys e)
 unfolding occurs
 occurs-append [] ys e = refl
 occurs-append (x ∷ xs) ys e = elim (eqb x e) as (λ b. (b || occurs (xs ++ ys) e) ≡ ((b || occurs xs e) || occurs ys e)) [ true ↦ refl | false ↦ occurs-append xs ys e ]
 
+-- what occurs in a list occurs in it with more behind
 pub occurs-left : (xs ys : List ℕ) (e : ℕ) → occurs xs e ≡ true → occurs (xs ++ ys) e ≡ true
 occurs-left xs ys e h = occurs-append xs ys e ∙ or_left (occurs xs e) (occurs ys e) h
 
@@ -30,6 +34,7 @@ parts (x ∷ xs) e h =
       | false ↦ λ other k. let p = parts xs e k in (p.0, ap (λ l. x ∷ l) p.1)
     ]) refl h
 
+-- what stands before the first e of a list occurs in the list
 pub until-within : (xs : List ℕ) (e y : ℕ) → occurs (until xs e) y ≡ true → occurs xs y ≡ true
 unfolding occurs until
 until-within [] e y h = h
@@ -42,6 +47,7 @@ until-within (x ∷ xs) e y h =
       ]
     ]) h
 
+-- what is put behind a list changes nothing before the first e that occurs in it
 pub until-append : (xs ys : List ℕ) (e : ℕ) → occurs xs e ≡ true → until (xs ++ ys) e ≡ until xs e
 unfolding occurs until
 until-append [] ys e h = cc
@@ -51,10 +57,12 @@ until-append (x ∷ xs) ys e h =
       | false ↦ λ k. ap (λ l. x ∷ l) (until-append xs ys e k)
     ]) h
 
+-- two lists of steps, the second from where the first ends, are one list of steps
 pub Steps-append : (May : List ℕ → ℕ → Type 0) (past xs ys : List ℕ) → Steps May past xs → Steps May (past ++ xs) ys → Steps May past (xs ++ ys)
 Steps-append May past [] ys h k = rw append-nil at k
 Steps-append May past (x ∷ xs) ys h k = (h.0, Steps-append May (past ++ x ∷ []) xs ys h.1 (rw append_assoc k))
 
+-- and a list of steps that is cut in two is two such lists
 pub Steps-parts : (May : List ℕ → ℕ → Type 0) (past xs ys : List ℕ) → Steps May past (xs ++ ys) → Steps May past xs × Steps May (past ++ xs) ys
 Steps-parts May past [] ys h = (tt, rw append-nil h)
 Steps-parts May past (x ∷ xs) ys h =
@@ -68,6 +76,7 @@ step_at May xs e steps h =
     let both = Steps-parts May [] (until xs e) (e ∷ p.0) (subst (λ (l : List ℕ). Steps May [] l) p.1 steps) in
     (both.0, both.1.0)
 
+-- the first of a filter occurs in the list, and passes
 pub first_occurs : (p : ℕ → Bool) (xs : List ℕ) (s : ℕ) → IsFirst (filter p xs) s → (occurs xs s ≡ true) × (p s ≡ true)
 unfolding occurs
 first_occurs p [] s h = absurd h
@@ -94,6 +103,7 @@ before_first_fails p (x ∷ xs) s t h k =
           ]) k
     ]) refl h
 
+-- where something that passes occurs, the filter has a first
 pub filter-first : (p : ℕ → Bool) (xs : List ℕ) (s : ℕ) → occurs xs s ≡ true → p s ≡ true → (t : ℕ) × IsFirst (filter p xs) t
 unfolding occurs
 filter-first p [] s h k = cc
@@ -106,6 +116,7 @@ filter-first p (x ∷ xs) s h k =
       ]
     ]) refl
 
+-- steps of a kind are steps of a wider kind
 pub Steps-map : (May Other : List ℕ → ℕ → Type 0) → ((past : List ℕ) (x : ℕ) → May past x → Other past x) → (past xs : List ℕ) → Steps May past xs → Steps Other past xs
 Steps-map May Other f past [] h = tt
 Steps-map May Other f past (x ∷ xs) h = (f past x h.0, Steps-map May Other f (past ++ x ∷ []) xs h.1)
@@ -114,6 +125,19 @@ Steps-map May Other f past (x ∷ xs) h = (f past x h.0, Steps-map May Other f (
 pub Steps-push : (May : List ℕ → ℕ → Type 0) (xs : List ℕ) (x : ℕ) → Steps May [] xs → May xs x → Steps May [] (xs ++ x ∷ [])
 Steps-push May xs x h k = Steps-append May [] xs (x ∷ []) h (k, tt)
 
+-- what is put at the end of a list occurs in it
 pub occurs-push : (xs : List ℕ) (e : ℕ) → occurs (xs ++ e ∷ []) e ≡ true
 unfolding occurs
 occurs-push xs e = occurs-append xs (e ∷ []) e ∙ or_right (occurs xs e) _ (or_left (eqb e e) false (eq-eqb e e refl))
+
+-- what else occurs in a list with one number more at its end
+pub occurs_other : (xs : List ℕ) (e x : ℕ) → x ≢ e → occurs (xs ++ e ∷ []) x ≡ occurs xs x
+unfolding occurs
+occurs_other xs e x other = occurs-append xs (e ∷ []) x ∙ ap (λ (b : Bool). occurs xs x || (b || false)) (ne_eqb e x (λ s. other (sym s))) ∙ or-false (occurs xs x)
+
+-- what stands at a place occurs
+pub occurs_at : (xs : List ℕ) (k : ℕ) → k < length xs → occurs xs (get_or xs k 0) ≡ true
+unfolding occurs
+occurs_at [] k lt = absurd (omega arith)
+occurs_at (x ∷ xs) zero lt = or_left (eqb x x) (occurs xs x) (eq-eqb x x refl)
+occurs_at (x ∷ xs) (suc k) lt = or_right (eqb x (get_or xs k 0)) (occurs xs (get_or xs k 0)) (occurs_at xs k (omega arith))

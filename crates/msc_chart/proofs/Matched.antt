@@ -1,6 +1,6 @@
 -- Where no fault up to the unmatched inputs stands, the events of the draft's chart have their
 -- partners, and they stand in the order of the text.
-use Rattle.std.proofs.Common.{◌≡◌, ℕ, ◌+◌, ◌<◌, ◌≤◌, Bool, true, false, cond, not, List, [], ◌∷◌, length, get_or, Some, None, suc, zero, refl, sym, ap, ◌∙◌, subst, arith, inl, inr}
+use Rattle.std.proofs.Common.{◌≡◌, ℕ, ◌<◌, ◌≤◌, Bool, true, false, cond, not, List, [], ◌∷◌, length, get_or, Some, None, suc, zero, refl, sym, ap, ◌∙◌, subst, arith, inl, inr}
 use Rattle.std.specs.List.{list_any}
 use Rattle.std.proofs.lemmas.Bool.{cases_lt, lt-ltb}
 use Rattle.std.proofs.lemmas.Option.{slice_get_within, slice_get-get_or, get_or_from_slice_get}
@@ -14,7 +14,8 @@ use Rattle.msc_chart.specs.Charts.{at, no_event, line, segment, kind, partner, s
 use Rattle.msc_chart.specs.Drawings.{place_of, event_of, chart_events}
 use Rattle.msc_chart.specs.Passes.{AreReady}
 use Rattle.msc_chart.specs.Faults.{Stands, StandsAt, Occurs, IsClearBelow}
-use Rattle.msc_chart.proofs.Places.{by_test, clash, one_at, any-place, place-any, place-map}
+use Rattle.msc_chart.proofs.ListLemmas.{by_test, clash}
+use Rattle.msc_chart.proofs.Places.{one_at, any-place, place-any, place-map}
 use Rattle.msc_chart.proofs.MatchingLemmas.{same_end-true, same_end-refl}
 use Rattle.msc_chart.proofs.DraftEvents.{of_sections, in_text_order}
 
@@ -33,6 +34,7 @@ place-stands (y ∷ ys) x (suc j) h =
     let step : place_of (y ∷ ys) x ≡ suc (place_of ys x) = rw other (omega arith) in
     (subst (λ (n : ℕ). StandsAt (y ∷ ys) n x) (sym step) r.0, omega (arith, r.1, step)))
 
+-- the other end of the other end is the end itself
 other-other : (x : End) → other_end (other_end x) ≡ x
 other-other x = λ i. record { sends = twice x.sends i; key = x.key }
   where
@@ -50,6 +52,7 @@ pub chart_count : (d : Tree) → length (chart_events d) ≡ length (events_of d
 unfolding chart_events
 chart_count d = length-map (events_of d) (event_of (ends_of d))
 
+-- and each has one end
 pub ends_count : (d : Tree) → length (ends_of d) ≡ length (events_of d)
 unfolding ends_of
 ends_count d = length-map (events_of d) (λ e. e.end)
@@ -70,10 +73,12 @@ module _ (d : Tree) where
   unfolding line
   line_at e within = ap (λ (v : ChartEvent). v.line) (drawn_at e within).3
 
+  -- and its segment is that of the draft
   pub segment_at : (e : ℕ) (within : e < length (chart_events d)) → segment (chart_events d) e ≡ (drawn_at e within).0.segment
   unfolding segment
   segment_at e within = ap (λ (v : ChartEvent). v.segment) (drawn_at e within).3
 
+  -- each event is on the line of a section, in fewer segments than there are events
   pub chart_on_lines : AreOnLines (length d.sections) (chart_events d)
   unfolding events_of
   chart_on_lines =
@@ -83,6 +88,7 @@ module _ (d : Tree) where
         few = λ e within. let x = drawn_at e within in let r = of_sections 0 d.sections x.0 (e, x.1) in omega (arith, r.1, n, segment_at e within);
       }
 
+  -- events are numbered line by line, and down each line
   pub chart_in_text_order : IsInTextOrder (chart_events d)
   chart_in_text_order = record {
     lines = λ e f le within.
@@ -137,6 +143,7 @@ module _ (d : Tree) (clear : IsClearBelow d 9) where
       let y = drawn_at d p within in
       (within, (y.0, y.2, y.3, one_at (ends_of d) p y.0.end (other_end x.end) y.2 stands))
 
+  -- partners lead to and fro: no end stands twice, and none is alone
   pub chart_matched : IsMatched (chart_events d)
   unfolding partner is_output is_input kind
   chart_matched =

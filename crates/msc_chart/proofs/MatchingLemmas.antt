@@ -8,7 +8,8 @@ use Rattle.std.proofs.Common.{Bor}
 use Rattle.std.specs.List.{list_any}
 use Rattle.std.specs.Map.Iter.{deref}
 use Rattle.msc_chart.specs.Faults.{Occurs, IsUnknown}
-use Rattle.msc_chart.proofs.Places.{by_test, clash, any_from, occurs_from}
+use Rattle.msc_chart.proofs.ListLemmas.{by_test, clash}
+use Rattle.msc_chart.proofs.Places.{any_from, occurs_from}
 use Rattle.std.specs.Prelude.{nat_eq}
 use Rattle.msc_chart.specs.declared.end.End as code
 use Rattle.msc_chart.specs.Events.{End, same_end, same_name, same_number, other_end}
@@ -24,26 +25,31 @@ number_view a b = by a.number b.number
     by (Some x) None = refl
     by (Some x) (Some y) = refl
 
+-- truth values that compare equal are equal
 beq-true : (a b : Bool) → beq a b ≡ true → a ≡ b
 beq-true true true h = refl
 beq-true true false h = absurd (true≢false (sym h))
 beq-true false true h = absurd (true≢false (sym h))
 beq-true false false h = refl
 
+-- a truth value compares equal to itself
 beq-refl : (a : Bool) → beq a a ≡ true
 beq-refl true = refl
 beq-refl false = refl
 
+-- message instance names that compare equal are equal, and so are two that are missing
 same_number-true : (a b : Option (List ℕ)) → same_number a b ≡ true → a ≡ b
 same_number-true None None h = refl
 same_number-true None (Some y) h = absurd (true≢false (sym h))
 same_number-true (Some x) None h = absurd (true≢false (sym h))
 same_number-true (Some x) (Some y) h = ap Some ((bytes_decides x y).0 h)
 
+-- a message instance name compares equal to itself
 same_number-refl : (a : Option (List ℕ)) → same_number a a ≡ true
 same_number-refl None = refl
 same_number-refl (Some x) = (bytes_decides x x).1 refl
 
+-- ends that compare equal are equal, part by part
 pub same_end-true : (a b : End) → same_end a b ≡ true → a ≡ b
 same_end-true a b h =
     let p = and_parts _ _ h in
@@ -57,6 +63,7 @@ same_end-true a b h =
     let number : a.key.number ≡ b.key.number = same_number-true _ _ s.1 in
     λ i. record { sends = sends i; key = record { sender = sender i; receiver = receiver i; name = name i; number = number i } }
 
+-- an end compares equal to itself
 pub same_end-refl : (a : End) → same_end a a ≡ true
 same_end-refl a =
     and_from _ _ (beq-refl a.sends)
@@ -73,12 +80,15 @@ code_same a b =
     && (pointwise nat_eq a.name.now b.name.now
     && option_eq (λ x y. pointwise nat_eq x.now y.now) a.number b.number)))
 
+-- which is what the definition computes for what they show
 pub code_same-view : (a b : code.End) → code_same a b ≡ same_end (end_view a) (end_view b)
 code_same-view a b = ap (λ n. beq a.sends b.sends && (same_name a.sender.now b.sender.now && (same_name a.receiver.now b.receiver.now && (same_name a.name.now b.name.now && n)))) (number_view a b)
 
+-- so ends that the code finds equal show one end
 pub code_same-true : (a b : code.End) → code_same a b ≡ true → end_view a ≡ end_view b
 code_same-true a b h = same_end-true _ _ (sym (code_same-view a b) ∙ h)
 
+-- and ends that show one end are found equal
 pub code_same-from : (a b : code.End) → end_view a ≡ end_view b → code_same a b ≡ true
 code_same-from a b h = code_same-view a b ∙ ap (same_end (end_view a)) (sym h) ∙ same_end-refl (end_view a)
 
@@ -92,6 +102,7 @@ unknown_test keys n r is = (
       (λ no. not_from_false r no),
 )
 
+-- the other end is not found exactly where it does not occur
 pub unmatched_test : (keys : List code.End) (x other : code.End) (r : Bool) → end_view other ≡ other_end (end_view x) → r ≡ list_any (code_same other) keys
     → (not r ≡ true → Occurs (map end_view keys) (other_end (end_view x)) → ⊥) × ((Occurs (map end_view keys) (other_end (end_view x)) → ⊥) → not r ≡ true)
 unmatched_test keys x other r same is = (

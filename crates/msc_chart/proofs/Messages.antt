@@ -1,5 +1,5 @@
 -- The messages of a chart and their events.
-use Rattle.std.proofs.Common.{◌≡◌, ℕ, ◌+◌, ◌<◌, ◌≤◌, Bool, true, false, cond, List, [], ◌∷◌, length, get_or, Some, None, suc, zero, refl, sym, ap, ◌∙◌, subst, arith, inl, inr, take}
+use Rattle.std.proofs.Common.{◌≡◌, ℕ, ◌+◌, ◌<◌, Bool, true, false, cond, List, [], ◌∷◌, length, get_or, suc, zero, refl, sym, ap, ◌∙◌, subst, arith, inl, inr, take}
 use Rattle.std.specs.Prelude.{count_by}
 use Rattle.std.proofs.lemmas.List.Sums.{sum_by-cons}
 use Rattle.std.proofs.lemmas.Option.{slice_get_within}
@@ -7,11 +7,12 @@ use Rattle.msc_parser.specs.Grammar.{Tree}
 use Rattle.msc_chart.specs.declared.event.EventKind.TheVariants.{Output, Input}
 use Rattle.msc_chart.specs.declared.event.ChartEvent.{ChartEvent}
 use Rattle.msc_chart.specs.declared.message.Message.{Message}
-use Rattle.msc_chart.specs.Events.{End, DraftEvent, ends_of, events_of, other_end}
-use Rattle.msc_chart.specs.Charts.{at, no_event, kind, partner, message, sends, is_output}
-use Rattle.msc_chart.specs.Drawings.{place_of, output_end, outputs_before, event_of, chart_events, messages_from, Drawing, no_message, message_at, output_of, HasMessages, chart_of}
+use Rattle.msc_chart.specs.Events.{End, DraftEvent, ends_of}
+use Rattle.msc_chart.specs.Charts.{at, kind, partner, message, sends, is_output}
+use Rattle.msc_chart.specs.Drawings.{place_of, output_end, outputs_before, event_of, chart_events, messages_from, Drawing, no_message, output_of, HasMessages, chart_of}
 use Rattle.msc_chart.specs.Faults.{StandsAt, IsClearBelow}
-use Rattle.msc_chart.proofs.Places.{by_test, one_at}
+use Rattle.msc_chart.proofs.ListLemmas.{by_test}
+use Rattle.msc_chart.proofs.Places.{one_at}
 use Rattle.msc_chart.proofs.Matched.{drawn_at, partner_at, place-own, chart_count, ends_count, chart_matched}
 use Rattle.msc_chart.proofs.Drawn.{output_from, output_parts, output_or_input, partner_of_input}
 
@@ -19,18 +20,23 @@ use Rattle.msc_chart.proofs.Drawn.{output_from, output_parts, output_or_input, p
 abbrev sent_of : List End → ℕ
 sent_of ends = count_by (λ x. x.sends) ends
 
+-- an output in front is one output more
 count-yes : (x : End) (xs : List End) → x.sends ≡ true → sent_of (x ∷ xs) ≡ suc (sent_of xs)
 count-yes x xs h = sum_by-cons (λ (y : End). cond y.sends 1 0) x xs ∙ ap (λ (b : Bool). cond b 1 0 + sent_of xs) h ∙ omega arith
 
+-- an input in front is none more
 count-no : (x : End) (xs : List End) → x.sends ≡ false → sent_of (x ∷ xs) ≡ sent_of xs
 count-no x xs h = sum_by-cons (λ (y : End). cond y.sends 1 0) x xs ∙ ap (λ (b : Bool). cond b 1 0 + sent_of xs) h ∙ omega arith
 
+-- the message of an output at place k
 abbrev message_of : ℕ → End → Message
 message_of k x = record { name = x.key.name; number = x.key.number; output = k }
 
+-- an output in front gives its message first
 messages-yes : (k : ℕ) (x : End) (xs : List End) → x.sends ≡ true → messages_from k (x ∷ xs) ≡ message_of k x ∷ messages_from (k + 1) xs
 messages-yes k x xs h = ap (λ (b : Bool). cond b (message_of k x ∷ messages_from (k + 1) xs) (messages_from (k + 1) xs)) h
 
+-- an input in front gives no message
 messages-no : (k : ℕ) (x : End) (xs : List End) → x.sends ≡ false → messages_from k (x ∷ xs) ≡ messages_from (k + 1) xs
 messages-no k x xs h = ap (λ (b : Bool). cond b (message_of k x ∷ messages_from (k + 1) xs) (messages_from (k + 1) xs)) h
 
@@ -105,6 +111,7 @@ output_same : (x : End) → x.sends ≡ true → output_end x ≡ x
 output_same x h = λ i. record { sends = sym h i; key = x.key }
 
 module _ (d : Tree) (clear : IsClearBelow d 9) where
+  -- the chart of the draft, under a short name
   chart : Drawing
   chart = chart_of d
 
@@ -140,6 +147,7 @@ module _ (d : Tree) (clear : IsClearBelow d 9) where
       ∙ ap (λ (end : End). outputs_before (ends_of d) (place_of (ends_of d) (output_end end))) y.3
       ∙ ap (λ (v : ChartEvent). v.message) (sym x.3)
 
+  -- an output's message is a message of the chart, and its output is that event
   sent_back : (e : ℕ) → is_output (chart_events d) e ≡ true
       → (message (chart_events d) e < length (messages_from 0 (ends_of d))) × (output_of chart (message (chart_events d) e) ≡ e)
   unfolding output_of chart

@@ -1,17 +1,15 @@
 -- Tests of the numbers below a bound: how many pass, the least that passes, and one with nothing before it.
 use Rattle.std.proofs.Common.{◌≡◌, ℕ, zero, suc, ◌+◌, ◌<◌, ◌≤◌, Bool, true, false, not, cond, ◌&&◌, ◌||◌, ◌⊎◌, inl, inr, eqb, refl, sym, subst, arith}
+use Rattle.std.proofs.Math.Bool.{and-false}
 use Rattle.std.proofs.lemmas.Bool.{eqb-true, eq-eqb, ne_eqb, cases_lt, cases_eq, and_parts, and_from, and_cases, not_from_false, false_from_ne_true, or_parts, or_cases}
 use Rattle.msc_chart.proofs.ListLemmas.{by_test, clash}
-
-pub and-false : (b : Bool) → (b && false) ≡ false
-and-false true = refl
-and-false false = refl
 
 -- how many numbers below a bound pass
 pub count_below : (ℕ → Bool) → ℕ → ℕ
 count_below p zero = zero
 count_below p (suc n) = cond (p n) (suc (count_below p n)) (count_below p n)
 
+-- a test that passes less passes no more numbers
 pub count-le : (p q : ℕ → Bool) (n : ℕ) → ((k : ℕ) → k < n → q k ≡ true → p k ≡ true) → count_below q n ≤ count_below p n
 unfolding count_below
 count-le p q zero h = omega arith
@@ -91,12 +89,14 @@ abbrev pub any_below : (ℕ → Bool) → ℕ → Bool
 any_below p zero = false
 any_below p (suc n) = p n || any_below p n
 
+-- where none of them passes, each fails
 pub none_of_any : (p : ℕ → Bool) (n : ℕ) → any_below p n ≡ false → (k : ℕ) → k < n → p k ≡ false
 none_of_any p zero h k below = let f : ⊥ = omega arith in absurd f
 none_of_any p (suc n) h k below =
     let both : (p n ≡ false) × (any_below p n ≡ false) = or_parts (p n) (any_below p n) h in
     elim (cases_lt k n) [ inl lt ↦ none_of_any p n both.1 k lt | inr ge ↦ let same : k ≡ n = omega (arith, ge, below) in rw same both.0 ]
 
+-- where one passes, here is one
 pub some_of_any : (p : ℕ → Bool) (n : ℕ) → any_below p n ≡ true → (k : ℕ) × (k < n) × (p k ≡ true)
 some_of_any p zero h = clash h refl
 some_of_any p (suc n) h =
@@ -105,6 +105,7 @@ some_of_any p (suc n) h =
       | inr below ↦ let found = some_of_any p n below in (found.0, omega arith, found.2)
     ]
 
+-- a number that passes is some number that passes
 pub any_from : (p : ℕ → Bool) (n k : ℕ) → k < n → p k ≡ true → any_below p n ≡ true
 any_from p n k below h = by_test (any_below p n) (λ some. some) (λ none. clash h (none_of_any p n none k below))
 
@@ -113,6 +114,7 @@ pub sum_below : (ℕ → ℕ) → ℕ → ℕ
 sum_below f zero = zero
 sum_below f (suc n) = f n + sum_below f n
 
+-- a function that is smaller, or equal, everywhere has no greater sum
 pub sum-le : (f g : ℕ → ℕ) (n : ℕ) → ((k : ℕ) → k < n → g k ≤ f k) → sum_below g n ≤ sum_below f n
 unfolding sum_below
 sum-le f g zero h = omega arith
@@ -120,6 +122,7 @@ sum-le f g (suc n) h =
     let rest : sum_below g n ≤ sum_below f n = sum-le f g n (λ k below. h k (omega arith)) in
     let last : g n ≤ f n = h n (omega arith) in omega arith
 
+-- and where it is smaller at one place, its sum is smaller
 pub sum-less : (f g : ℕ → ℕ) (n x : ℕ) → ((k : ℕ) → k < n → g k ≤ f k) → x < n → g x < f x → sum_below g n < sum_below f n
 unfolding sum_below
 sum-less f g zero x h below less = omega arith

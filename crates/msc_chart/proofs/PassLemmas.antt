@@ -1,19 +1,18 @@
--- The pass that puts the events into a linear order: what is put next, and where it gets stuck.
-use Rattle.std.proofs.Common.{◌≡◌, ℕ, zero, suc, ◌+◌, ◌-◌, ◌<◌, ◌≤◌, ◌⊎◌, Bool, true, false, not, cond, ◌||◌, ◌&&◌, List, [], ◌∷◌, ◌++◌, length, get_or, set, inl, inr, ◌≢◌, refl, sym, ap, subst, ◌∙◌, arith, get_or-set_other, get_or-set_same, length-set, eqb}
+-- The pass that puts the events into a linear order: what may be put next, and what the pass keeps.
+use Rattle.std.proofs.Common.{◌≡◌, ℕ, zero, suc, ◌+◌, ◌-◌, ◌<◌, ◌≤◌, ◌⊎◌, Bool, true, false, not, cond, List, [], ◌∷◌, ◌++◌, length, get_or, set, inl, inr, refl, sym, ap, subst, ◌∙◌, arith, get_or-set_other, get_or-set_same, length-set}
 use Rattle.std.specs.Prelude.{count_by}
 use Rattle.std.proofs.Math.ListN.{replicate}
-use Rattle.std.proofs.lemmas.Bool.{cases_lt, cases_eq, eqb-true, eq-eqb, ne_eqb, not-true, not_from_false, and_parts, and_from, or_cases, or_left, or_right}
+use Rattle.std.proofs.lemmas.Bool.{cases_lt, cases_eq}
 use Rattle.std.proofs.lemmas.List.{get_or-replicate, length-replicate, length-append, get_or_past}
 use Rattle.std.proofs.lemmas.List.Folds.{sum_by-replicate}
 use Rattle.std.proofs.lemmas.List.Sums.{sum_by-set, sum_by-cons}
 use Rattle.msc_chart.specs.declared.event.ChartEvent.{ChartEvent}
-use Rattle.msc_chart.specs.Lists.{occurs, until, Steps}
-use Rattle.msc_chart.specs.Charts.{line, segment, partner, is_output, is_input, before, Visual, Follows, IsAcyclic, IsLinearOrder}
+use Rattle.msc_chart.specs.Lists.{occurs, Steps}
+use Rattle.msc_chart.specs.Charts.{line, segment, partner, is_output, is_input, before, Visual, Follows, IsLinearOrder}
 use Rattle.msc_chart.specs.Charts.Visual.{seen, passed, linked}
-use Rattle.msc_chart.specs.Passes.{IsDirectly, is_put, NoneLeftBelow, IsLeft, IsOpen, IsBarred, IsStuckAt, IsStuckBelow, AreReady, IsKept}
-use Rattle.msc_chart.proofs.ListLemmas.{by_test, clash, occurs-append, occurs-left, occurs-push, until-within, Steps-push, step_at}
-use Rattle.msc_chart.proofs.Numbers.{count_below, descend}
-use Rattle.msc_chart.proofs.Drawn.{before_from, before_parts, output_parts, input_parts, output_or_input, not_both, partner_of_input}
+use Rattle.msc_chart.specs.Passes.{IsDirectly, is_put, NoneLeftBelow, IsLeft, IsOpen, IsBarred, AreReady, IsKept}
+use Rattle.msc_chart.proofs.ListLemmas.{by_test, clash, occurs-push, occurs_other, occurs_at, until-within, Steps-push, step_at}
+use Rattle.msc_chart.proofs.Drawn.{before_from, before_parts, output_parts, not_both, partner_of_input}
 
 module _ (events : List ChartEvent) (marks : List Bool) where
   -- one event more of a line that was put, or of another line
@@ -40,6 +39,7 @@ module _ (events : List ChartEvent) (marks : List Bool) where
   -- no lesser segment was put
   module _ (lines : ℕ) (ready : AreReady lines events) (e first : ℕ) (within : e < length events) (known : first < length events)
       (is_left : IsLeft events marks (line events e) first) (below : NoneLeftBelow events marks (line events e) first) where
+    -- an event in no later segment than that first one has all put that is drawn before it
     pub drawn_put : segment events e ≤ segment events first → (x : ℕ) → before events x e ≡ true → is_put marks x ≡ true
     drawn_put low x h =
         let p = before_parts events x e h in
@@ -48,21 +48,25 @@ module _ (events : List ChartEvent) (marks : List Bool) where
           | inr ge ↦ let up = ready.in_text_order.rising first x ge p.0 (is_left.on_line ∙ sym p.2) in let deeper = p.3 in absurd (omega arith)
         ]
 
+    -- an event in a later segment is barred by that first one, which is drawn before it
     pub barred_by_first : segment events first < segment events e → IsBarred events marks e
     barred_by_first low = (first, inl (before_from events first e known within is_left.on_line low), is_left.left)
 
+    -- an output in no later segment is open: only what is drawn before it comes directly before it
     pub output_open : segment events e ≤ segment events first → is_output events e ≡ true → IsOpen events marks e
     output_open low o x (inl h) = drawn_put low x h
     output_open low o x (inr h) =
         let i = (ready.matched.other_kind x (output_parts events x h.0).0) in
         absurd (not_both events x h.0 (sym i ∙ ap (is_output events) h.1 ∙ o))
 
+    -- so is an input, where its output was put too
     pub input_open : segment events e ≤ segment events first → is_put marks (partner events e) ≡ true → IsOpen events marks e
     input_open low there x (inl h) = drawn_put low x h
     input_open low there x (inr h) =
         let back : partner events e ≡ x = ap (partner events) (sym h.1) ∙ ready.matched.to_and_fro x (output_parts events x h.0).0 in
         ap (is_put marks) (sym back) ∙ there
 
+    -- an input whose output was not put is barred by it
     pub input_barred : is_input events e ≡ true → is_put marks (partner events e) ≡ false → IsBarred events marks e
     input_barred i away = (partner events e, inr (partner_of_input events ready.matched e i, ready.matched.to_and_fro e within), away)
 
@@ -73,6 +77,8 @@ preceded events order steps x y there v = until-within order y x ((step_at (Foll
 -- where all that comes directly before e stands, all that precedes it visibly does
 module _ (events : List ChartEvent) (order : List ℕ) (steps : Steps (Follows events) [] order) (e : ℕ)
     (opens : (x : ℕ) → IsDirectly events x e → occurs order x ≡ true) where
+  -- what precedes e, or anything in the order, stands in the order: the last step of a chain comes
+  -- directly before its end
   precedes : {x y : ℕ} → Visual events x y → (y ≡ e) ⊎ (occurs order y ≡ true) → occurs order x ≡ true
   precedes {x} {y} (seen h) (inl same) = opens x (inl (subst (λ (z : ℕ). before events x z ≡ true) same h))
   precedes {x} {y} (seen h) (inr there) = preceded events order steps x y there (seen h)
@@ -80,6 +86,7 @@ module _ (events : List ChartEvent) (order : List ℕ) (steps : Steps (Follows e
   precedes {x} {y} (passed h k) (inr there) = preceded events order steps x y there (passed h k)
   precedes (linked h k) at = precedes h (inr (precedes k at))
 
+  -- so e may follow
   pub follows : e < length events → occurs order e ≡ false → Follows events order e
   follows within new = record { event = within; new = new; precedes = λ x v. precedes v (inl refl) }
 
@@ -97,39 +104,7 @@ all_put (true ∷ bs) none zero within = refl
 all_put (true ∷ bs) none (suc e) within = all_put bs none e (omega arith)
 all_put (false ∷ bs) none e within = let s = sum_by-cons (λ (b : Bool). cond (not b) 1 0) false bs in absurd (omega arith)
 
-or-false : (b : Bool) → (b || false) ≡ b
-or-false true = refl
-or-false false = refl
-
--- what else occurs in a list with one number more at its end
-occurs_other : (xs : List ℕ) (e x : ℕ) → x ≢ e → occurs (xs ++ e ∷ []) x ≡ occurs xs x
-unfolding occurs
-occurs_other xs e x other = occurs-append xs (e ∷ []) x ∙ ap (λ (b : Bool). occurs xs x || (b || false)) (ne_eqb e x (λ s. other (sym s))) ∙ or-false (occurs xs x)
-
--- what stands at a place occurs
-occurs_at : (xs : List ℕ) (k : ℕ) → k < length xs → occurs xs (get_or xs k 0) ≡ true
-unfolding occurs
-occurs_at [] k lt = absurd (omega arith)
-occurs_at (x ∷ xs) zero lt = or_left (eqb x x) (occurs xs x) (eq-eqb x x refl)
-occurs_at (x ∷ xs) (suc k) lt = or_right (eqb x (get_or xs k 0)) (occurs xs (get_or xs k 0)) (occurs_at xs k (omega arith))
-
 module _ (events : List ChartEvent) (order : List ℕ) (marks : List Bool) (first : List ℕ) (left : ℕ) (kept : IsKept events order marks first left) where
-  -- the first event of a line that is left moves on
-  pub moved : (i f : ℕ) → i < length first → NoneLeftBelow events marks i f → IsKept events order marks (set first i f) left
-  moved i f within below = record {
-    ready = let r = kept.ready in subst (λ (n : ℕ). AreReady n events) (sym (length-set first i f)) r;
-    marks_len = kept.marks_len;
-    marked = kept.marked;
-    first_left = λ j.
-        elim (cases_eq j i) [
-          | inl same ↦ subst (λ (z : ℕ). NoneLeftBelow events marks z (get_or (set first i f) z 0)) (sym same) (subst (NoneLeftBelow events marks i) (sym (get_or-set_same first i f 0 within)) below)
-          | inr other ↦ subst (NoneLeftBelow events marks j) (sym (get_or-set_other first i j f 0 other)) (kept.first_left j)
-        ];
-    left_count = kept.left_count;
-    all = kept.all;
-    steps = kept.steps;
-  }
-
   -- where an event was not put, some are left
   pub some_left : (e : ℕ) → e < length events → is_put marks e ≡ false → 0 < left
   some_left e within out =
@@ -179,6 +154,7 @@ module _ (events : List ChartEvent) (order : List ℕ) (marks : List Bool) (firs
     whole = λ e within. let n = kept.marks_len in sym (kept.marked e within) ∙ all_put marks (sym kept.left_count ∙ none) e (omega arith);
   }
 
+-- what a list of equal elements has at a place, or past its end, is that element
 zeros_at : (n i z : ℕ) → get_or (replicate n z) i z ≡ z
 zeros_at n i z =
     elim (cases_lt i n) [
@@ -201,54 +177,6 @@ nothing_put lines events ready order none marks ms first fs = record {
   steps = subst (λ (l : List ℕ). Steps (Follows events) [] l) (sym none) tt;
 }
 
--- where some are left, one is
-some_out : (marks : List Bool) → 0 < count_by not marks → (e : ℕ) × (e < length marks) × (is_put marks e ≡ false)
-some_out [] some = absurd (omega arith)
-some_out (false ∷ bs) some = (0, omega arith, refl)
-some_out (true ∷ bs) some = let r = some_out bs some in (suc r.0, omega (arith, r.1), r.2)
-
--- x comes directly before y, as a test
-directly : List ChartEvent → ℕ → ℕ → Bool
-directly events x y = before events x y || (is_output events x && eqb (partner events x) y)
-
--- A stuck pass has a cycle: from an event that is left go back to one that is left, and before which
--- none that is left comes directly. It could be put.
-pub stuck_cyclic : (events : List ChartEvent) (order : List ℕ) (marks : List Bool) (first : List ℕ) (left : ℕ)
-    → IsKept events order marks first left → IsStuckBelow events marks (length events) → 0 < left → IsAcyclic events → ⊥
-unfolding directly
-stuck_cyclic events order marks first left kept stuck some acyclic =
-    let out = some_out marks (let n = kept.left_count in omega arith) in
-    let n = kept.marks_len in
-    let g_in : out.0 < length events = omega (arith, out.1) in
-    let last = descend (length events) (directly events) (Visual events)
-    (λ x y h. elim (or_cases _ _ h) [
-      | inl b ↦ seen b
-      | inr p ↦ let q = and_parts _ _ p in passed q.0 (eqb-true _ _ q.1)
-    ])
-    (λ x y z h k. linked h k) acyclic
-    (count_below (λ k. not (is_put marks k)) (length events)) (λ k. not (is_put marks k)) (omega arith) out.0 g_in (not_from_false _ out.2) in
-    elim (stuck last.0 last.1) [
-      | inl there ↦ clash there (not-true _ last.2)
-      | inr barred ↦ elim barred.1 [
-        | inl b ↦ clash (or_left _ _ b) (last.4 barred.0 (before_parts events barred.0 last.0 b).0 (not_from_false _ barred.2))
-        | inr p ↦ clash (or_right (before events barred.0 last.0) _ (and_from _ _ p.0 (eq-eqb _ _ p.1))) (last.4 barred.0 (output_parts events barred.0 p.0).0 (not_from_false _ barred.2))
-      ]
-    ]
-
 -- a mark that was read
 pub read_mark : (marks : List Bool) (e : ℕ) (r : Bool) → r ≡ false → r ≡ get_or marks e r → is_put marks e ≡ false
 read_mark marks e r out here = sym (subst (λ (b : Bool). b ≡ get_or marks e b) out here)
-
--- one event more that can't be put
-pub stuck-next : (events : List ChartEvent) (old new : List Bool) (k : ℕ) → new ≡ old → IsStuckBelow events old k → IsStuckAt events new k → IsStuckBelow events new (k + 1)
-stuck-next events old new k same below here e lt =
-    elim (cases_lt e k) [
-      | inl less ↦ subst (λ (l : List Bool). IsStuckAt events l e) (sym same) (below e less)
-      | inr ge ↦ let one : e ≡ k = omega arith in subst (IsStuckAt events new) (sym one) here
-    ]
-
--- a linear order has no event that precedes itself
-pub linear_acyclic : (events : List ChartEvent) (order : List ℕ) → IsLinearOrder events order → IsAcyclic events
-linear_acyclic events order linear e within cycle =
-    let f = (step_at (Follows events) order e linear.steps (linear.whole e within)).1 in
-    clash (f.precedes e cycle) f.new

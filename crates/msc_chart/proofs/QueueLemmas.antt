@@ -1,22 +1,22 @@
 -- The queues of an accepted chart.
-use Rattle.std.proofs.Common.{◌≡◌, ℕ, zero, suc, ◌+◌, ◌*◌, ◌<◌, ◌≤◌, ◌%◌, Bool, true, false, cond, ◌||◌, List, [], ◌∷◌, length, filter, Some, inl, inr, refl, sym, ap, ◌∙◌, subst, arith}
-use Rattle.std.specs.Prelude.{nat_eq, slice_get}
+use Rattle.std.proofs.Common.{◌≡◌, ℕ, zero, suc, ◌<◌, ◌≤◌, ◌%◌, Bool, true, false, cond, ◌||◌, List, [], ◌∷◌, length, filter, Some, inl, inr, refl, sym, ap, ◌∙◌, arith}
+use Rattle.std.specs.Prelude.{nat_eq}
 use Rattle.std.specs.List.{list_any, range_with_len}
 use Rattle.std.proofs.Math.Nat.{mod-eq_of_lt, mul-add-mod_self_right}
-use Rattle.std.proofs.lemmas.Bool.{eqb-true, eq-eqb}
+use Rattle.std.proofs.lemmas.Bool.{eq-eqb}
 use Rattle.std.proofs.lemmas.List.FromFn.{length-range_with_len, get_or-range_with_len}
 use Rattle.std.proofs.lemmas.List.Sums.{length-filter, count_by-le-length}
 use Rattle.std.proofs.lemmas.Option.{slice_get-get_or}
 use Rattle.msc_chart.specs.declared.queue.Queues.{Queues}
 use Rattle.msc_chart.specs.declared.queue.Queues.TheVariants.{Pair, Mailbox}
-use Rattle.msc_chart.specs.declared.event.ChartEvent.{ChartEvent}
-use Rattle.msc_chart.specs.Charts.{line, partner, message, is_output, is_input, IsMatched}
-use Rattle.msc_chart.specs.Drawings.{Drawing, output_of, input_of, sender_of, receiver_of, IsAccepted}
+use Rattle.msc_chart.specs.Charts.{line, partner, message, is_output, is_input}
+use Rattle.msc_chart.specs.Drawings.{Drawing, input_of, sender_of, receiver_of, IsAccepted}
 use Rattle.msc_chart.specs.Orders.{queue_number, queue_of, sender_at, receiver_at, wired, queue, IsWired}
 use Rattle.msc_chart.specs.Laws.{messages_in, sends_to, senders_in, IsBounded}
 use Rattle.msc_chart.specs.Faults.{StandsAt}
-use Rattle.msc_chart.proofs.Places.{by_test, clash, place-any}
-use Rattle.msc_chart.proofs.Drawn.{output_parts, input_parts, output_or_input, not_both, partner_of_output, partner_of_input}
+use Rattle.msc_chart.proofs.ListLemmas.{by_test, clash}
+use Rattle.msc_chart.proofs.Places.{place-any}
+use Rattle.msc_chart.proofs.Drawn.{input_parts, output_or_input, not_both, partner_of_output, partner_of_input}
 use Rattle.msc_chart.proofs.Readers.{sender_in, receiver_in}
 
 -- a queue number has one receiver
@@ -45,6 +45,7 @@ any_kept test p (y ∷ ys) (suc j) x h passes found =
     (λ f. ap (λ (b : Bool). b || list_any test (filter p ys)) f ∙ rest))
     (λ gone. ap (λ (b : Bool). list_any test (cond b (y ∷ filter p ys) (filter p ys))) gone ∙ rest)
 
+-- where a test finds something, its filter keeps something
 some_kept : (p : ℕ → Bool) (xs : List ℕ) → list_any p xs ≡ true → 1 ≤ length (filter p xs)
 some_kept p [] h = clash h refl
 some_kept p (x ∷ xs) h =
@@ -61,6 +62,7 @@ in_range n i below =
     let len = length-range_with_len 0 n in
     slice_get-get_or (range_with_len 0 n) i 0 (omega arith) ∙ ap Some (get_or-range_with_len 0 n i 0 below ∙ omega arith)
 
+-- a filter of the numbers below n keeps at most n
 few_kept : (p : ℕ → Bool) (n : ℕ) → length (filter p (range_with_len 0 n)) ≤ n
 few_kept p n = omega (arith, length-filter p (range_with_len 0 n), count_by-le-length p (range_with_len 0 n), length-range_with_len 0 n)
 
@@ -92,6 +94,7 @@ module _ (queues : Queues) (d : Drawing) (accepted : IsAccepted d) where
     ap (λ (b : Bool). cond b (line d.events (partner d.events s)) (line d.events s)) o,
   )
 
+  -- an input is no output
   not_output : (r : ℕ) → is_input d.events r ≡ true → is_output d.events r ≡ false
   not_output r i = by_test (is_output d.events r) (λ o. absurd (not_both d.events r o i)) (λ n. n)
 
@@ -103,6 +106,7 @@ module _ (queues : Queues) (d : Drawing) (accepted : IsAccepted d) where
     ap (λ (b : Bool). cond b (line d.events (partner d.events r)) (line d.events r)) (not_output r i),
   )
 
+  -- equal senders and equal receivers have one queue number
   same_number : {s s' r r' : ℕ} → s ≡ s' → r ≡ r' → queue_number queues (length d.instances) s r ≡ queue_number queues (length d.instances) s' r'
   same_number p q = λ k. queue_number queues (length d.instances) (p k) (q k)
 

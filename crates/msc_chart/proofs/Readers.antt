@@ -4,23 +4,27 @@ use Rattle.std.proofs.Math.Nat.{mul-le-mul_right, suc-mul}
 use Rattle.std.proofs.lemmas.Option.{get_or_from_slice_get, slice_get_read}
 use Rattle.msc_chart.specs.declared.event.ChartEvent.{ChartEvent}
 use Rattle.msc_chart.specs.declared.message.Message.{Message}
-use Rattle.msc_chart.specs.Charts.{at, no_event, line, partner}
+use Rattle.msc_chart.specs.Charts.{at, no_event}
 use Rattle.msc_chart.specs.Drawings.{Drawing, IsAccepted, no_message, message_at, output_of, input_of, sender_of, receiver_of}
 use Rattle.msc_chart.proofs.Drawn.{output_parts}
 
 -- the events of a message are events of the chart, and its instances are instances of the chart
 module _ (d : Drawing) (accepted : IsAccepted d) (m : ℕ) (known : m < length d.messages) where
+  -- its output is an event of the chart
   pub output_in : output_of d m < length d.events
   output_in = (output_parts d.events (output_of d m) (accepted.has_messages.output m known)).0
 
+  -- so is its input
   pub input_in : input_of d m < length d.events
   unfolding input_of
   input_in = accepted.matched.in_range (output_of d m) output_in
 
+  -- its sender is an instance of the chart
   pub sender_in : sender_of d m < length d.instances
   unfolding sender_of
   sender_in = accepted.on_lines.on_line (output_of d m) output_in
 
+  -- so is its receiver
   pub receiver_in : receiver_of d m < length d.instances
   unfolding receiver_of
   receiver_in = accepted.on_lines.on_line (input_of d m) input_in
@@ -33,12 +37,15 @@ read_at xs ys i x same within here =
 
 -- the same of a chart, seen from inside and outside
 module _ (inside now : Drawing) (view : inside ≡ now) where
+  -- what holds of every chart holds as seen from outside
   pub seen_accepted : IsAccepted inside → IsAccepted now
   seen_accepted a = subst IsAccepted view a
 
+  -- an event as seen from outside is one inside
   pub seen_within : (i e : ℕ) → i ≡ e → e < length now.events → i < length inside.events
   seen_within i e same below = let n = ap (λ (d : Drawing). length d.events) view in omega arith
 
+  -- the event that is read inside is the one that is seen outside
   pub seen_at : (i e : ℕ) (x : ChartEvent) → i ≡ e → e < length now.events → x ≡ get_or inside.events i x → x ≡ at now.events e
   seen_at i e x same below here =
       read_at inside.events now.events e x (ap (λ (d : Drawing). d.events) view) below (here ∙ ap (λ (j : ℕ). get_or inside.events j x) same)

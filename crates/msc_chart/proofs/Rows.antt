@@ -1,49 +1,59 @@
 -- What the definitions say of the small charts, by computing.
-use Rattle.std.proofs.Common.{◌≡◌, ℕ, true, false, List, [], ◌∷◌, refl}
+use Rattle.std.proofs.Common.{◌≡◌, [], ◌∷◌, refl}
 use Rattle.msc_chart.specs.declared.event.EventKind.TheVariants as kinds
 use Rattle.msc_chart.specs.declared.queue.Queues.TheVariants.{Pair, Mailbox}
 use Rattle.msc_chart.specs.Events.{events_of, ends_of, instances_of}
-use Rattle.msc_chart.specs.Charts.{line, segment, kind, partner, message, is_output, before}
+use Rattle.msc_chart.specs.Charts.{line, segment, partner, before}
 use Rattle.msc_chart.specs.Drawings.{chart_events, chart_of, output_of, input_of, sender_of, receiver_of}
 use Rattle.msc_chart.specs.Orders.{queue_number, queue_of}
 use Rattle.msc_chart.specs.Samples.{two_senders, coregion, relay, empty_coregion, event, drawn_pairs, queue_numbers}
 
+-- of two senders: two lines with one event, and one with two
 pub two_senders_events : chart_events two_senders ≡ event 0 0 kinds.Output 1 0 ∷ event 1 0 kinds.Input 0 0 ∷ event 1 1 kinds.Input 3 1 ∷ event 2 0 kinds.Output 2 1 ∷ []
 unfolding chart_events events_of ends_of
 two_senders_events = refl
 
+-- with the inputs in a coregion: they share a segment
 pub coregion_events : chart_events coregion ≡ event 0 0 kinds.Output 1 0 ∷ event 1 0 kinds.Input 0 0 ∷ event 1 0 kinds.Input 3 1 ∷ event 2 0 kinds.Output 2 1 ∷ []
 unfolding chart_events events_of ends_of
 coregion_events = refl
 
+-- an empty coregion takes no segment
 pub empty_coregion_events : chart_events empty_coregion ≡ event 0 0 kinds.Output 1 0 ∷ event 0 1 kinds.Input 0 0 ∷ []
 unfolding chart_events events_of ends_of
 empty_coregion_events = refl
 
+-- the two inputs are drawn one after the other
 pub two_senders_drawn : drawn_pairs (chart_of two_senders) ≡ (1, 2) ∷ []
 unfolding chart_events events_of ends_of before line segment
 two_senders_drawn = refl
 
+-- in a coregion they are not
 pub coregion_drawn : drawn_pairs (chart_of coregion) ≡ []
 unfolding chart_events events_of ends_of before line segment
 coregion_drawn = refl
 
+-- three lines with two events each
 pub relay_drawn : drawn_pairs (chart_of relay) ≡ (0, 1) ∷ (2, 3) ∷ (4, 5) ∷ []
 unfolding chart_events events_of ends_of before line segment
 relay_drawn = refl
 
+-- under Pair, from instances 0 and 2 to instance 1 of 3: 0 * 3 + 1, and 2 * 3 + 1
 pub two_senders_pair : queue_numbers Pair (chart_of two_senders) ≡ 1 ∷ 7 ∷ []
 unfolding chart_events events_of ends_of instances_of line partner output_of input_of sender_of receiver_of queue_number queue_of
 two_senders_pair = refl
 
+-- under Mailbox both messages go to the queue of instance 1
 pub coregion_mailbox : queue_numbers Mailbox (chart_of coregion) ≡ 1 ∷ 1 ∷ []
 unfolding chart_events events_of ends_of instances_of line partner output_of input_of sender_of receiver_of queue_number queue_of
 coregion_mailbox = refl
 
+-- under Pair: 0 to 1, 0 to 2, and 2 to 1, of 3 instances
 pub relay_pair : queue_numbers Pair (chart_of relay) ≡ 1 ∷ 2 ∷ 7 ∷ []
 unfolding chart_events events_of ends_of instances_of line partner output_of input_of sender_of receiver_of queue_number queue_of
 relay_pair = refl
 
+-- under Mailbox: the queues of instances 1, 2 and 1
 pub relay_mailbox : queue_numbers Mailbox (chart_of relay) ≡ 1 ∷ 2 ∷ 1 ∷ []
 unfolding chart_events events_of ends_of instances_of line partner output_of input_of sender_of receiver_of queue_number queue_of
 relay_mailbox = refl

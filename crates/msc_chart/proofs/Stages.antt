@@ -8,7 +8,7 @@ use Rattle.std.proofs.lemmas.Option.{slice_get_within}
 use Rattle.msc_parser.specs.Grammar.{Tree}
 use Rattle.msc_chart.specs.declared.fault.ChartFault.TheVariants.{TooManyInstances, TwiceInstance, HeaderWithoutBody, UnknownAddress, TooManyMessages, TwiceEvent, UnmatchedOut, UnmatchedIn}
 use Rattle.msc_chart.specs.declared.end.End as code
-use Rattle.msc_chart.specs.declared.end.DraftEvent as code2
+use Rattle.msc_chart.specs.declared.end.DraftEvent as coded
 use Rattle.msc_chart.specs.Events.{End, instances_of, header_of, ends_of, events_of, address_of}
 use Rattle.msc_chart.specs.Views.{end_view, event_view}
 use Rattle.msc_chart.specs.Numbering.{AreNewBelow, IsFirstRepeat, AreNumbered}
@@ -17,12 +17,15 @@ use Rattle.msc_chart.proofs.FaultLemmas.{first_of, clear_next, clear_first}
 use Rattle.msc_chart.proofs.Places.{repeat_from, no_repeat}
 use Rattle.msc_chart.proofs.MatchingLemmas.{code_same, code_same-true, code_same-from}
 
+-- what the code computes for `==` of two names
 abbrev pub same_bytes : Bor (List ℕ) → Bor (List ℕ) → Bool
 same_bytes a b = pointwise nat_eq a.now b.now
 
+-- names that compare equal are equal
 bytes-true : (a b : Bor (List ℕ)) → same_bytes a b ≡ true → deref a ≡ deref b
 bytes-true a b h = (bytes_decides a.now b.now).0 h
 
+-- and equal names compare equal
 bytes-from : (a b : Bor (List ℕ)) → deref a ≡ deref b → same_bytes a b ≡ true
 bytes-from a b h = (bytes_decides a.now b.now).1 h
 
@@ -30,11 +33,13 @@ bytes-from a b h = (bytes_decides a.now b.now).1 h
 pub holds_within : {X : Type 0} {P : X → Type 0} (xs : List X) (i : ℕ) → HoldsAt P xs i → i < length xs
 holds_within xs i h = slice_get_within xs i h.0 h.1
 
+-- and so is the least place that holds
 pub least_within : {X : Type 0} {P : X → Type 0} (xs : List X) (i : ℕ) → IsLeastPlace (HoldsAt P xs) i → i < length xs
 least_within xs i h = holds_within xs i h.itself
 
--- where all items have their numbers, none is a repeat
+-- items that have their numbers, seen through a view
 module _ {T X : Type 0} (view : T → X) (eq : T → T → Bool) (items : List T) where
+  -- no place has a repeat, where items of one view compare equal
   pub none_repeats : ((a b : T) → view a ≡ view b → eq a b ≡ true) → (xs : List X) → map view items ≡ xs → AreNewBelow eq items (length items) → (p : ℕ) → IsRepeat xs p → ⊥
   none_repeats back xs same new p h =
       let here : IsRepeat (map view items) p = subst (λ l. IsRepeat l p) (sym same) h in
@@ -42,6 +47,7 @@ module _ {T X : Type 0} (view : T → X) (eq : T → T → Bool) (items : List T
       let within : p < length (map view items) = slice_get_within (map view items) p here.0 here.1 in
       omega (arith, length-map items view)
 
+  -- the first item that is equal to an earlier one is the least repeat
   pub least_repeat : ((a b : T) → eq a b ≡ true → view a ≡ view b) → ((a b : T) → view a ≡ view b → eq a b ≡ true) → (xs : List X) → map view items ≡ xs → (i : ℕ) → IsFirstRepeat eq items i → IsLeastPlace (IsRepeat xs) i
   least_repeat true_same back xs same i h = record {
     itself = subst (λ l. IsRepeat l i) same (repeat_from view eq items true_same i h);
@@ -49,136 +55,159 @@ module _ {T X : Type 0} (view : T → X) (eq : T → T → Bool) (items : List T
   }
 
 module _ (d : Tree) where
-  -- 1: too many instances
-  pub first_1 : 32 < length d.sections → IsFirstFault d TooManyInstances
+  -- more than 32 sections are the first fault
+  pub many_instances_first : 32 < length d.sections → IsFirstFault d TooManyInstances
   unfolding Stands instances_of
-  first_1 many = first_of d 1 0 (clear_first d) TooManyInstances refl refl (simp length-map many) (λ p h. omega arith)
+  many_instances_first many = first_of d 1 0 (clear_first d) TooManyInstances refl refl (simp length-map many) (λ p h. omega arith)
 
-  pub clear_2 : length d.sections ≤ 32 → IsClearBelow d 2
+  -- with at most 32 sections no fault of that rank stands
+  pub few_instances_clear : length d.sections ≤ 32 → IsClearBelow d 2
   unfolding Stands instances_of
-  clear_2 few = clear_next d 1 (clear_first d) (λ p h. let many : 32 < length d.sections = simp length-map at h in omega arith)
+  few_instances_clear few = clear_next d 1 (clear_first d) (λ p h. let many : 32 < length d.sections = simp length-map at h in omega arith)
 
+  -- there are as many names as sections
   pub names_count : (names : List (Bor (List ℕ))) → map deref names ≡ instances_of d → length names ≡ length d.sections
   unfolding instances_of
   names_count names seen = simp length-map at (ap length seen)
 
+  -- there are as many ends as events
   pub ends_count : (ends : List code.End) → map end_view ends ≡ ends_of d → length ends ≡ length (events_of d)
   unfolding ends_of
   ends_count ends drawn = simp length-map at (ap length drawn)
 
-  -- 2: an instance twice
+  -- faults of the instance names
   module _ (names : List (Bor (List ℕ))) (seen : map deref names ≡ instances_of d) where
-    pub first_2 : IsClearBelow d 2 → (i : ℕ) → IsFirstRepeat same_bytes names i → IsFirstFault d (TwiceInstance i)
+    -- the first name that repeats an earlier one is the first fault
+    pub repeated_instance_first : IsClearBelow d 2 → (i : ℕ) → IsFirstRepeat same_bytes names i → IsFirstFault d (TwiceInstance i)
     unfolding Stands
-    first_2 clear i h =
+    repeated_instance_first clear i h =
         let l = least_repeat deref same_bytes names bytes-true bytes-from (instances_of d) seen i h in
         first_of d 2 i clear (TwiceInstance i) refl refl l.itself l.least
 
-    pub clear_3 : IsClearBelow d 2 → AreNewBelow same_bytes names (length names) → IsClearBelow d 3
+    -- where all names differ, no section repeats one
+    pub distinct_instances_clear : IsClearBelow d 2 → AreNewBelow same_bytes names (length names) → IsClearBelow d 3
     unfolding Stands
-    clear_3 clear new = clear_next d 2 clear (none_repeats deref same_bytes names bytes-from (instances_of d) seen new)
+    distinct_instances_clear clear new = clear_next d 2 clear (none_repeats deref same_bytes names bytes-from (instances_of d) seen new)
 
-    -- 3: a header name without a section
-    pub first_3 : IsClearBelow d 3 → (k : ℕ) → IsLeastPlace (HoldsAt (IsUnknown (map deref names)) (map (λ x. x.name) d.header)) k → IsFirstFault d (HeaderWithoutBody k)
+    -- the first header name without a section is the first fault, where no lower one stands
+    pub unknown_header_first : IsClearBelow d 3 → (k : ℕ) → IsLeastPlace (HoldsAt (IsUnknown (map deref names)) (map (λ x. x.name) d.header)) k → IsFirstFault d (HeaderWithoutBody k)
     unfolding Stands header_of
-    first_3 clear k h =
+    unknown_header_first clear k h =
         first_of d 3 k clear (HeaderWithoutBody k) refl refl (subst (λ ns. HoldsAt (IsUnknown ns) (header_of d) k) seen h.itself) (λ p s. h.least p (subst (λ ns. HoldsAt (IsUnknown ns) (header_of d) p) (sym seen) s))
 
-    pub clear_4 : IsClearBelow d 3 → ((k : ℕ) → HoldsAt (IsUnknown (map deref names)) (map (λ x. x.name) d.header) k → ⊥) → IsClearBelow d 4
+    -- where each header name has its section, no fault of that rank stands
+    pub known_headers_clear : IsClearBelow d 3 → ((k : ℕ) → HoldsAt (IsUnknown (map deref names)) (map (λ x. x.name) d.header) k → ⊥) → IsClearBelow d 4
     unfolding Stands header_of
-    clear_4 clear none = clear_next d 3 clear (λ p s. none p (subst (λ ns. HoldsAt (IsUnknown ns) (header_of d) p) (sym seen) s))
+    known_headers_clear clear none = clear_next d 3 clear (λ p s. none p (subst (λ ns. HoldsAt (IsUnknown ns) (header_of d) p) (sym seen) s))
 
     module _ (ends : List code.End) (drawn : map end_view ends ≡ ends_of d) where
-      -- 4: an unknown address
+      -- the end at place k has the address of no section
       abbrev Away : List (List ℕ) → List End → ℕ → Type 0
       Away ns es k = HoldsAt (λ x. IsUnknown ns (address_of x)) es k
 
+      -- what is away for the code is away in the draft
       there : (k : ℕ) → Away (map deref names) (map end_view ends) k → Away (instances_of d) (ends_of d) k
       there k h = subst (λ ns. Away ns (ends_of d) k) seen (subst (λ es. Away (map deref names) es k) drawn h)
 
+      -- and the other way round
       back : (k : ℕ) → Away (instances_of d) (ends_of d) k → Away (map deref names) (map end_view ends) k
       back k h = subst (λ ns. Away ns (map end_view ends) k) (sym seen) (subst (λ es. Away (instances_of d) es k) (sym drawn) h)
 
-      pub first_4 : IsClearBelow d 4 → (e : ℕ) → IsLeastPlace (HoldsAt (λ x. IsUnknown (map deref names) (address_of x)) (map end_view ends)) e → IsFirstFault d (UnknownAddress e)
+      -- the first end with such an address is the first fault, where no lower one stands
+      pub unknown_address_first : IsClearBelow d 4 → (e : ℕ) → IsLeastPlace (HoldsAt (λ x. IsUnknown (map deref names) (address_of x)) (map end_view ends)) e → IsFirstFault d (UnknownAddress e)
       unfolding Stands
-      first_4 clear e h =
+      unknown_address_first clear e h =
           first_of d 4 e clear (UnknownAddress e) refl refl (there e h.itself) (λ p s. h.least p (back p s))
 
-      pub clear_5 : IsClearBelow d 4 → ((k : ℕ) → HoldsAt (λ x. IsUnknown (map deref names) (address_of x)) (map end_view ends) k → ⊥) → IsClearBelow d 5
+      -- where each address has its section, no fault of that rank stands
+      pub known_addresses_clear : IsClearBelow d 4 → ((k : ℕ) → HoldsAt (λ x. IsUnknown (map deref names) (address_of x)) (map end_view ends) k → ⊥) → IsClearBelow d 5
       unfolding Stands
-      clear_5 clear none = clear_next d 4 clear (λ p s. none p (back p s))
+      known_addresses_clear clear none = clear_next d 4 clear (λ p s. none p (back p s))
 
-  -- 5: too many messages
+  -- faults of the ends
   module _ (ends : List code.End) (drawn : map end_view ends ≡ ends_of d) where
-    pub first_5 : IsClearBelow d 5 → AreTooMany (map end_view ends) → IsFirstFault d TooManyMessages
+    -- more than 1,024 outputs or inputs are the first fault, where no lower one stands
+    pub many_messages_first : IsClearBelow d 5 → AreTooMany (map end_view ends) → IsFirstFault d TooManyMessages
     unfolding Stands
-    first_5 clear many = first_of d 5 0 clear TooManyMessages refl refl (subst AreTooMany drawn many) (λ p h. omega arith)
+    many_messages_first clear many = first_of d 5 0 clear TooManyMessages refl refl (subst AreTooMany drawn many) (λ p h. omega arith)
 
-    pub clear_6 : IsClearBelow d 5 → (AreTooMany (map end_view ends) → ⊥) → IsClearBelow d 6
+    -- with at most so many no fault of that rank stands
+    pub few_messages_clear : IsClearBelow d 5 → (AreTooMany (map end_view ends) → ⊥) → IsClearBelow d 6
     unfolding Stands
-    clear_6 clear few = clear_next d 5 clear (λ p h. few (subst AreTooMany (sym drawn) h))
+    few_messages_clear clear few = clear_next d 5 clear (λ p h. few (subst AreTooMany (sym drawn) h))
 
-    -- 6: an end twice
-    pub first_6 : IsClearBelow d 6 → (e : ℕ) → IsFirstRepeat code_same ends e → IsFirstFault d (TwiceEvent e)
+    -- the first end that repeats an earlier one is the first fault, where no lower one stands
+    pub repeated_end_first : IsClearBelow d 6 → (e : ℕ) → IsFirstRepeat code_same ends e → IsFirstFault d (TwiceEvent e)
     unfolding Stands
-    first_6 clear e h =
+    repeated_end_first clear e h =
         let l = least_repeat end_view code_same ends code_same-true code_same-from (ends_of d) drawn e h in
         first_of d 6 e clear (TwiceEvent e) refl refl l.itself l.least
 
-    pub clear_7 : IsClearBelow d 6 → AreNewBelow code_same ends (length ends) → IsClearBelow d 7
+    -- where all ends differ, no event repeats one
+    pub distinct_ends_clear : IsClearBelow d 6 → AreNewBelow code_same ends (length ends) → IsClearBelow d 7
     unfolding Stands
-    clear_7 clear new = clear_next d 6 clear (none_repeats end_view code_same ends code_same-from (ends_of d) drawn new)
+    distinct_ends_clear clear new = clear_next d 6 clear (none_repeats end_view code_same ends code_same-from (ends_of d) drawn new)
 
-    -- 7 and 8: an end alone
+    -- the end at place k is alone
     Alone : Bool → List End → ℕ → Type 0
     Alone sends es k = HoldsAt (IsUnmatched sends es) es k
 
-    pub first_7 : IsClearBelow d 7 → (e : ℕ) → IsLeastPlace (HoldsAt (IsUnmatched true (map end_view ends)) (map end_view ends)) e → IsFirstFault d (UnmatchedOut e)
+    -- the first output without an input is the first fault, where no lower one stands
+    pub unmatched_output_first : IsClearBelow d 7 → (e : ℕ) → IsLeastPlace (HoldsAt (IsUnmatched true (map end_view ends)) (map end_view ends)) e → IsFirstFault d (UnmatchedOut e)
     unfolding Stands Alone
-    first_7 clear e h =
+    unmatched_output_first clear e h =
         first_of d 7 e clear (UnmatchedOut e) refl refl (subst (λ es. Alone true es e) drawn h.itself) (λ p s. h.least p (subst (λ es. Alone true es p) (sym drawn) s))
 
-    pub clear_8 : IsClearBelow d 7 → ((k : ℕ) → HoldsAt (IsUnmatched true (map end_view ends)) (map end_view ends) k → ⊥) → IsClearBelow d 8
+    -- where each output has its input, no fault of that rank stands
+    pub matched_outputs_clear : IsClearBelow d 7 → ((k : ℕ) → HoldsAt (IsUnmatched true (map end_view ends)) (map end_view ends) k → ⊥) → IsClearBelow d 8
     unfolding Stands Alone
-    clear_8 clear none = clear_next d 7 clear (λ p s. none p (subst (λ es. Alone true es p) (sym drawn) s))
+    matched_outputs_clear clear none = clear_next d 7 clear (λ p s. none p (subst (λ es. Alone true es p) (sym drawn) s))
 
-    pub first_8 : IsClearBelow d 8 → (e : ℕ) → IsLeastPlace (HoldsAt (IsUnmatched false (map end_view ends)) (map end_view ends)) e → IsFirstFault d (UnmatchedIn e)
+    -- the first input without an output is the first fault, where no lower one stands
+    pub unmatched_input_first : IsClearBelow d 8 → (e : ℕ) → IsLeastPlace (HoldsAt (IsUnmatched false (map end_view ends)) (map end_view ends)) e → IsFirstFault d (UnmatchedIn e)
     unfolding Stands Alone
-    first_8 clear e h =
+    unmatched_input_first clear e h =
         first_of d 8 e clear (UnmatchedIn e) refl refl (subst (λ es. Alone false es e) drawn h.itself) (λ p s. h.least p (subst (λ es. Alone false es p) (sym drawn) s))
 
-    pub clear_9 : IsClearBelow d 8 → ((k : ℕ) → HoldsAt (IsUnmatched false (map end_view ends)) (map end_view ends) k → ⊥) → IsClearBelow d 9
+    -- where each input has its output, no fault of that rank stands
+    pub matched_inputs_clear : IsClearBelow d 8 → ((k : ℕ) → HoldsAt (IsUnmatched false (map end_view ends)) (map end_view ends) k → ⊥) → IsClearBelow d 9
     unfolding Stands Alone
-    clear_9 clear none = clear_next d 8 clear (λ p s. none p (subst (λ es. Alone false es p) (sym drawn) s))
+    matched_inputs_clear clear none = clear_next d 8 clear (λ p s. none p (subst (λ es. Alone false es p) (sym drawn) s))
 
--- the same in one go, as far as the look-ups went
+-- the same in one go, as far as the look-ups went: no fault of a lower rank than the next stands
 module _ (d : Tree) (names : List (Bor (List ℕ))) (seen : map deref names ≡ instances_of d) (ends : List code.End) (drawn : map end_view ends ≡ ends_of d) (clear : IsClearBelow d 4)
     (known : (k : ℕ) → HoldsAt (λ x. IsUnknown (map deref names) (address_of x)) (map end_view ends) k → ⊥) (few : AreTooMany (map end_view ends) → ⊥) where
-  pub clear_to_6 : IsClearBelow d 6
-  clear_to_6 = clear_6 d ends drawn (clear_5 d names seen ends drawn clear known) few
+  -- where the addresses are known and the messages few enough
+  pub clear_with_few_messages : IsClearBelow d 6
+  clear_with_few_messages = few_messages_clear d ends drawn (known_addresses_clear d names seen ends drawn clear known) few
 
   module _ (keys : List code.End) (n : AreNumbered code_same ends keys) where
-    pub clear_to_7 : IsClearBelow d 7
-    clear_to_7 = clear_7 d ends drawn clear_to_6 n.new
+    -- where also the ends differ, so that each has its number
+    pub clear_with_distinct_ends : IsClearBelow d 7
+    clear_with_distinct_ends = distinct_ends_clear d ends drawn clear_with_few_messages n.new
 
-    pub alone_first_7 : (e : ℕ) → IsLeastPlace (HoldsAt (IsUnmatched true (map end_view keys)) (map end_view ends)) e → IsFirstFault d (UnmatchedOut e)
-    alone_first_7 e h = first_7 d ends drawn clear_to_7 e (subst (λ ks. IsLeastPlace (HoldsAt (IsUnmatched true (map end_view ks)) (map end_view ends)) e) n.same h)
+    -- an output that is not found among the numbered ends is the first fault
+    pub lone_output_first : (e : ℕ) → IsLeastPlace (HoldsAt (IsUnmatched true (map end_view keys)) (map end_view ends)) e → IsFirstFault d (UnmatchedOut e)
+    lone_output_first e h = unmatched_output_first d ends drawn clear_with_distinct_ends e (subst (λ ks. IsLeastPlace (HoldsAt (IsUnmatched true (map end_view ks)) (map end_view ends)) e) n.same h)
 
     module _ (paired : (k : ℕ) → HoldsAt (IsUnmatched true (map end_view keys)) (map end_view ends) k → ⊥) where
-      pub clear_to_8 : IsClearBelow d 8
-      clear_to_8 = clear_8 d ends drawn clear_to_7 (subst (λ ks. (k : ℕ) → HoldsAt (IsUnmatched true (map end_view ks)) (map end_view ends) k → ⊥) n.same paired)
+      -- where each output is found so
+      pub clear_with_matched_outputs : IsClearBelow d 8
+      clear_with_matched_outputs = matched_outputs_clear d ends drawn clear_with_distinct_ends (subst (λ ks. (k : ℕ) → HoldsAt (IsUnmatched true (map end_view ks)) (map end_view ends) k → ⊥) n.same paired)
 
-      pub alone_first_8 : (e : ℕ) → IsLeastPlace (HoldsAt (IsUnmatched false (map end_view keys)) (map end_view ends)) e → IsFirstFault d (UnmatchedIn e)
-      alone_first_8 e h = first_8 d ends drawn clear_to_8 e (subst (λ ks. IsLeastPlace (HoldsAt (IsUnmatched false (map end_view ks)) (map end_view ends)) e) n.same h)
+      -- an input that is not found among the numbered ends is the first fault
+      pub lone_input_first : (e : ℕ) → IsLeastPlace (HoldsAt (IsUnmatched false (map end_view keys)) (map end_view ends)) e → IsFirstFault d (UnmatchedIn e)
+      lone_input_first e h = unmatched_input_first d ends drawn clear_with_matched_outputs e (subst (λ ks. IsLeastPlace (HoldsAt (IsUnmatched false (map end_view ks)) (map end_view ends)) e) n.same h)
 
-      pub clear_to_9 : ((k : ℕ) → HoldsAt (IsUnmatched false (map end_view keys)) (map end_view ends) k → ⊥) → IsClearBelow d 9
-      clear_to_9 back = clear_9 d ends drawn clear_to_8 (subst (λ ks. (k : ℕ) → HoldsAt (IsUnmatched false (map end_view ks)) (map end_view ends) k → ⊥) n.same back)
+      -- where each input is found too, no fault is left but a cycle
+      pub clear_with_matched_inputs : ((k : ℕ) → HoldsAt (IsUnmatched false (map end_view keys)) (map end_view ends) k → ⊥) → IsClearBelow d 9
+      clear_with_matched_inputs back = matched_inputs_clear d ends drawn clear_with_matched_outputs (subst (λ ks. (k : ℕ) → HoldsAt (IsUnmatched false (map end_view ks)) (map end_view ends) k → ⊥) n.same back)
 
 -- the ends of the code's events are those of the draft
-pub ends_seen : (d : Tree) (events : List code2.DraftEvent) (ends : List code.End) → ends ≡ map (λ e. e.end) events → map event_view events ≡ events_of d → map end_view ends ≡ ends_of d
+pub ends_seen : (d : Tree) (events : List coded.DraftEvent) (ends : List code.End) → ends ≡ map (λ e. e.end) events → map event_view events ≡ events_of d → map end_view ends ≡ ends_of d
 unfolding ends_of
 ends_seen d events ends same seen = ap (map end_view) same ∙ by events ∙ ap (map (λ e. e.end)) seen
   where
-    by : (es : List code2.DraftEvent) → map end_view (map (λ e. e.end) es) ≡ map (λ e. e.end) (map event_view es)
+    by : (es : List coded.DraftEvent) → map end_view (map (λ e. e.end) es) ≡ map (λ e. e.end) (map event_view es)
     by [] = refl
     by (e ∷ es) = ap (λ l. end_view e.end ∷ l) (by es)

@@ -1,5 +1,5 @@
 -- The run that is chosen to show that an order is not enforced.
-use Rattle.std.specs.Prelude.{◌≡◌, ◌≢◌, ℕ, ◌<◌, Bool, false, List, [], length, ◌⊎◌, IsTrue}
+use Rattle.std.specs.Prelude.{◌≡◌, ◌≢◌, ℕ, ◌<◌, false, List, [], length, ◌⊎◌, IsTrue}
 use Rattle.msc_chart.specs.Charts.{partner, is_output}
 use Rattle.msc_chart.specs.Orders.{WiredChart, queue, Enforced}
 use Rattle.msc_chart.specs.Lists.{occurs, Steps}

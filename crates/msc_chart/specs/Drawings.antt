@@ -1,5 +1,5 @@
 -- The chart of a draft.
-use Rattle.std.specs.Prelude.{◌≡◌, ℕ, ◌+◌, ◌<◌, ◌≤◌, Bool, true, false, cond, List, [], ◌∷◌, length, get_or, map, take, count_by, None, IsTrue, ◌↔◌}
+use Rattle.std.specs.Prelude.{◌≡◌, ℕ, ◌+◌, ◌<◌, ◌≤◌, true, cond, List, [], ◌∷◌, length, get_or, map, take, count_by, None, IsTrue, ◌↔◌}
 use Rattle.std.specs.List.{position_or_len}
 use Rattle.msc_chart.specs.declared.event.EventKind.TheVariants.{Output, Input}
 use Rattle.msc_chart.specs.declared.event.ChartEvent.{ChartEvent}
@@ -49,6 +49,11 @@ pub record Drawing : Type 0 where
   pub instances : List (List ℕ)
   pub events : List ChartEvent
   pub messages : List Message
+
+-- a chart of these parts
+abbrev pub drawing : List ℕ → List (List ℕ) → List ChartEvent → List Message → Drawing
+drawing name instances events messages =
+    record { name = name; instances = instances; events = events; messages = messages }
 
 -- the chart of a draft
 abbrev pub chart_of : Tree → Drawing

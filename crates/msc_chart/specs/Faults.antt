@@ -4,7 +4,7 @@ use mathlib.Core.Bool.{beq}
 use Rattle.msc_parser.specs.Grammar.{Tree}
 use Rattle.msc_chart.specs.declared.fault.ChartFault.{ChartFault}
 use Rattle.msc_chart.specs.declared.fault.ChartFault.TheVariants.{TooManyInstances, TwiceInstance, HeaderWithoutBody, UnknownAddress, TooManyMessages, TwiceEvent, UnmatchedOut, UnmatchedIn, Cyclic, Memory}
-use Rattle.msc_chart.specs.Events.{End, events_of, instances_of, header_of, ends_of, address_of, other_end}
+use Rattle.msc_chart.specs.Events.{End, instances_of, header_of, ends_of, address_of, other_end}
 use Rattle.msc_chart.specs.Charts.{Visual}
 use Rattle.msc_chart.specs.Drawings.{chart_events}
 

@@ -1,8 +1,8 @@
 -- Laws of charts, for the crates that rest on this one.
-use Rattle.std.specs.Prelude.{◌≡◌, ℕ, ◌+◌, ◌<◌, ◌≤◌, ◌↔◌, Bool, List, length, filter, IsTrue, nat_eq}
+use Rattle.std.specs.Prelude.{◌≡◌, ℕ, ◌+◌, ◌<◌, ◌≤◌, Bool, List, length, filter, IsTrue, nat_eq}
 use Rattle.std.specs.List.{list_any, range_with_len}
 use Rattle.msc_chart.specs.declared.queue.Queues.{Queues}
-use Rattle.msc_chart.specs.Charts.{line, segment, message, is_input, line_start, IsLinearOrder, IsAcyclic}
+use Rattle.msc_chart.specs.Charts.{line, segment, message, is_input, line_start}
 use Rattle.msc_chart.specs.Drawings.{Drawing, sender_of, receiver_of, IsAccepted, IsLine}
 use Rattle.msc_chart.specs.Orders.{queue_of, queue, wired, IsWired}
 

@@ -1,5 +1,5 @@
 -- What the pass that puts the events into a linear order keeps.
-use Rattle.std.specs.Prelude.{◌≡◌, ℕ, ◌+◌, ◌<◌, ◌≤◌, ◌⊎◌, Bool, true, false, not, List, [], length, get_or, count_by, vec_len, IsTrue}
+use Rattle.std.specs.Prelude.{◌≡◌, ℕ, ◌+◌, ◌<◌, ◌≤◌, ◌⊎◌, Bool, false, not, List, [], length, get_or, count_by, vec_len, IsTrue}
 use Rattle.msc_chart.specs.declared.event.ChartEvent.{ChartEvent}
 use Rattle.msc_chart.specs.declared.linear.Pass.{Pass}
 use Rattle.msc_chart.specs.declared.fault.ChartFault.{ChartFault}

@@ -1,6 +1,6 @@
 //! From a draft to the events of its chart.
 
-ghost use Rattle.std.specs.Prelude.{◌≡◌, ◌≤◌, ◌<◌, map, length, IfOk, IfErr, OnOk};
+ghost use Rattle.std.specs.Prelude.{◌≡◌, ◌≤◌, map, length, IfOk, IfErr, OnOk};
 ghost use Rattle.std.specs.Map.Iter.{deref};
 ghost use Rattle.msc_chart.specs.Events.{instances_of, ends_of, events_of};
 ghost use Rattle.msc_chart.specs.Charts.{IsLinearOrder};

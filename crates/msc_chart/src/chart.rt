@@ -4,11 +4,11 @@
 //! order of the text, messages by their outputs. Contracts see the lists of all three. The words are
 //! those of Z.120; the visual order is that of Alur, Holzmann and Peled (1996).
 
-ghost use Rattle.std.specs.Prelude.{◌≡◌, ◌≢◌, ◌<◌, ◌≤◌, ◌+◌, ◌*◌, ◌↔◌, IsTrue, Some, None, length, get_or, count_by, nat_lt, nat_le, IfOk, IfErr, OnOk, slice_get};
+ghost use Rattle.std.specs.Prelude.{◌≡◌, ◌≢◌, ◌<◌, ◌≤◌, ◌+◌, ◌↔◌, IsTrue, Some, length, IfOk, IfErr, OnOk, slice_get};
 ghost use Rattle.std.specs.Option.{option_copied};
-ghost use Rattle.msc_chart.specs.Charts.{at, before, IsLinearOrder, kind, line, line_start, message, partner, segment};
-ghost use Rattle.msc_chart.specs.Drawings.{Drawing, IsAccepted, IsBuilt, IsLine, chart_of, input_of, message_at, output_of, receiver_of, sender_of};
-ghost use Rattle.msc_chart.specs.Orders.{queue_number, queue_of};
+ghost use Rattle.msc_chart.specs.Charts.{before, IsLinearOrder, kind, line, line_start, message, partner, segment};
+ghost use Rattle.msc_chart.specs.Drawings.{Drawing, IsAccepted, IsBuilt, IsLine, chart_of, drawing, input_of, message_at, output_of, receiver_of, sender_of};
+ghost use Rattle.msc_chart.specs.Orders.{queue_of};
 ghost use Rattle.msc_chart.specs.Faults.{IsFaultless, IsFirstFault};
 
 use crate::building::lawful_events;
@@ -35,10 +35,11 @@ pub struct Chart {
 impl Model for Chart {
     ghost Value = { Drawing };
 
-    ghost view = { λ c. record { name = c.name; instances = c.instances; events = c.events.items; messages = c.messages } };
+    ghost view = { λ c. drawing c.name c.instances c.events.items c.messages };
 
     // What holds of every chart that was built.
-    ghost invariant = { λ c. IsBuilt (record { name = c.name; instances = c.instances; events = c.events.items; messages = c.messages }) c.order.items };
+    ghost invariant = { λ c.
+        IsBuilt (drawing c.name c.instances c.events.items c.messages) c.order.items };
 }
 
 impl Chart {
@@ -114,7 +115,8 @@ impl Chart {
     /// The first event of instance `i`, and the number past its last. It takes no memory.
     pub fn line(&self, i: u32) -> (Event, Event)
         requires { i < length self.now.instances }
-        ensures value { result ≡ (line_start self.now.events i, line_start self.now.events (i + 1)) }
+        ensures first { result.0 ≡ line_start self.now.events i }
+        ensures past_last { result.1 ≡ line_start self.now.events (i + 1) }
 
         // The numbers between them are those of the events of the line, and of no other.
         ensures range { IsLine self.now i result.0 result.1 }

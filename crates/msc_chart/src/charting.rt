@@ -1,6 +1,6 @@
 //! The parts of a chart, from the events of a draft without faults.
 
-ghost use Rattle.std.specs.Prelude.{◌≡◌, ◌<◌, ◌≤◌, ◌+◌, ℕ, map, length, get_or, vec_len, cond, IfOk};
+ghost use Rattle.std.specs.Prelude.{◌≡◌, ◌≤◌, ◌+◌, ℕ, map, length, get_or, vec_len, cond, IfOk};
 ghost use Rattle.std.specs.Option.{option_copied};
 ghost use Rattle.msc_chart.specs.Events.{instances_of};
 ghost use Rattle.msc_chart.specs.Drawings.{place_of, event_of, outputs_before, messages_from};
@@ -77,7 +77,8 @@ pub(crate) fn chart_events<'d>(
     places: &IndexSet<End<'d>>,
 ) -> Result<Vec<ChartEvent>, AllocError>
     requires { length places.now.keys ≤ 2048 }
-    ensures { IfOk result (λ chart. chart.items ≡ map (event_of (map end_view places.now.keys)) (map event_view events.now)) }
+    ensures { IfOk result (λ chart.
+        chart.items ≡ map (event_of (map end_view places.now.keys)) (map event_view events.now)) }
 {
     let counts = outputs_before(alloc, places.as_slice())?;
     let mut chart = Vec::new(alloc);

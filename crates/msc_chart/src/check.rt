@@ -1,11 +1,11 @@
 //! The faults of a draft, one by one.
 
-ghost use Rattle.std.specs.Prelude.{◌≡◌, ◌<◌, ◌↔◌, IsTrue, Bool, map, length, count_by};
+ghost use Rattle.std.specs.Prelude.{◌≡◌, ◌↔◌, IsTrue, map, count_by};
 ghost use Rattle.std.specs.Map.Iter.{deref};
-ghost use Rattle.msc_chart.specs.Events.{address_of, instances_of};
+ghost use Rattle.msc_chart.specs.Events.{address_of};
 ghost use mathlib.Core.Bool.{beq};
 ghost use Rattle.msc_chart.specs.Views.{end_view};
-ghost use Rattle.msc_chart.specs.Faults.{AnswersLeast, HoldsAt, IsUnknown, IsUnmatched, AreTooMany, Stands};
+ghost use Rattle.msc_chart.specs.Faults.{AnswersLeast, HoldsAt, IsUnknown, IsUnmatched, AreTooMany};
 
 use crate::end::End;
 use indexmap::IndexSet;
@@ -27,7 +27,8 @@ fn is_unmatched<'d>(places: &IndexSet<End<'d>>, end: &End<'d>, sends: bool) -> b
 
 /// The first header name that is not a section's.
 pub(crate) fn unknown_header<'d>(header: &[Decl], instances: &IndexSet<&'d [u8]>) -> Option<usize>
-    ensures { AnswersLeast (HoldsAt (IsUnknown (map deref instances.now.keys)) (map (λ d. d.name) header.now)) result }
+    ensures { AnswersLeast (HoldsAt
+        (IsUnknown (map deref instances.now.keys)) (map (λ d. d.name) header.now)) result }
 {
     for (k, decl) in header.iter().enumerate() {
         if is_unknown(instances, decl.name.as_slice()) {
@@ -39,7 +40,9 @@ pub(crate) fn unknown_header<'d>(header: &[Decl], instances: &IndexSet<&'d [u8]>
 
 /// The first event whose address is not a section's name.
 pub(crate) fn unknown_address<'d>(ends: &[End<'d>], instances: &IndexSet<&'d [u8]>) -> Option<usize>
-    ensures { AnswersLeast (HoldsAt (λ x. IsUnknown (map deref instances.now.keys) (address_of x)) (map end_view ends.now)) result }
+    ensures { AnswersLeast (HoldsAt
+        (λ x. IsUnknown (map deref instances.now.keys) (address_of x))
+        (map end_view ends.now)) result }
 {
     for (e, end) in ends.iter().enumerate() {
         if is_unknown(instances, end.address()) {
@@ -55,7 +58,8 @@ pub(crate) fn unmatched<'d>(
     places: &IndexSet<End<'d>>,
     sends: bool,
 ) -> Option<usize>
-    ensures { AnswersLeast (HoldsAt (IsUnmatched sends (map end_view places.now.keys)) (map end_view ends.now)) result }
+    ensures { AnswersLeast (HoldsAt
+        (IsUnmatched sends (map end_view places.now.keys)) (map end_view ends.now)) result }
 {
     for (e, end) in ends.iter().enumerate() {
         if is_unmatched(places, end, sends) {

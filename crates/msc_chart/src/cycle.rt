@@ -5,7 +5,7 @@
 //! steps that grows with the square of the number of events.
 #![tactic(auto, unfolding(crate::specs::Charts::line, crate::specs::Charts::segment, crate::specs::Charts::partner, crate::specs::Charts::kind))]
 
-ghost use Rattle.std.specs.Prelude.{◌≡◌, ◌<◌, ◌≤◌, ◌↔◌, IsTrue, length, sum, IfOk, MatchOption, get_or};
+ghost use Rattle.std.specs.Prelude.{◌≡◌, ◌<◌, ◌≤◌, ◌↔◌, IsTrue, length, sum, IfOk, MatchOption};
 ghost use Rattle.std.specs.Bool.{OnTrue, OnFalse};
 ghost use Rattle.msc_chart.specs.Charts.{AreOnLines, IsMatched, IsAcyclic, IsLeastCyclic, Visual, at};
 ghost use Rattle.msc_chart.specs.Reach.{IsPassed, IsSound, IsClosedAt, AreClosedBelow};

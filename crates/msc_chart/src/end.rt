@@ -1,7 +1,7 @@
 //! The events of a draft, with borrowed names.
 
-ghost use Rattle.std.specs.Prelude.{◌≡◌, ◌+◌, ◌<◌, ◌≤◌, ◌++◌, map, length, vec_len, IfOk, OnOk};
-ghost use Rattle.msc_chart.specs.Events.{events_of, events_of_item, events_of_items, events_of_sections, next_segment, drawn, end_of, ends_of, other_end, address_of};
+ghost use Rattle.std.specs.Prelude.{◌≡◌, ◌+◌, ◌<◌, ◌≤◌, ◌++◌, map, length, IfOk, OnOk};
+ghost use Rattle.msc_chart.specs.Events.{events_of, events_of_item, events_of_items, next_segment, drawn, end_of, other_end, address_of};
 ghost use Rattle.msc_chart.specs.Drawings.{output_end};
 ghost use Rattle.msc_chart.specs.Views.{end_view, event_view};
 
@@ -96,7 +96,8 @@ fn push_coregion<'d>(
     signals: &'d [Signal],
 ) -> Result<(), AllocError>
     ensures { OnOk result (map event_view events.new.items
-        ≡ map event_view events.old.items ++ map (drawn line own.entry.now segment) signals.entry.now) }
+        ≡ map event_view events.old.items
+        ++ map (drawn line own.entry.now segment) signals.entry.now) }
 {
     for signal in signals {
         events.push(DraftEvent {
@@ -118,7 +119,8 @@ fn push_item<'d>(
 ) -> Result<u32, AllocError>
     requires { segment < 4294967295 }
     ensures pushed { OnOk result (map event_view events.new.items
-        ≡ map event_view events.old.items ++ events_of_item line own.entry.now segment item.entry.now) }
+        ≡ map event_view events.old.items
+        ++ events_of_item line own.entry.now segment item.entry.now) }
     ensures next { IfOk result (λ next. next ≡ next_segment segment item.entry.now) }
 {
     match item {
@@ -148,7 +150,8 @@ fn push_section<'d>(
     line: u32,
     section: &'d Section,
 ) -> Result<(), AllocError>
-    requires { length (events_of_items line section.now.decl.name 0 section.now.items) < 4294967295 }
+    requires { length (events_of_items line section.now.decl.name 0 section.now.items)
+        < 4294967295 }
     ensures { OnOk result (map event_view events.new.items
         ≡ map event_view events.old.items
         ++ events_of_items line section.entry.now.decl.name 0 section.entry.now.items) }
@@ -167,7 +170,8 @@ pub(crate) fn events_of<'d>(
     draft: &'d Draft,
 ) -> Result<Vec<DraftEvent<'d>>, AllocError>
     requires sections { length draft.now.sections ≤ 32 }
-    ensures events { IfOk result (λ events. map event_view events.items ≡ events_of draft.entry.now) }
+    ensures events { IfOk result (λ events.
+        map event_view events.items ≡ events_of draft.entry.now) }
 
     // No draft has more events than a text has bytes.
     ensures few { IfOk result (λ events. length events.items ≤ 1048576) }

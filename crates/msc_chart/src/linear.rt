@@ -6,7 +6,7 @@
 //! its line. So the pass takes few steps for each event. Where it gets stuck before all events are
 //! put, some event precedes itself in the visual order.
 
-ghost use Rattle.std.specs.Prelude.{◌≡◌, ℕ, ◌+◌, ◌<◌, ◌≤◌, ◌↔◌, IsTrue, false, length, get_or, vec_len, IfOk, OnOk, IfErr};
+ghost use Rattle.std.specs.Prelude.{◌≡◌, ℕ, ◌+◌, ◌<◌, ◌≤◌, ◌↔◌, IsTrue, false, length, vec_len, IfOk, OnOk, IfErr};
 ghost use Rattle.std.specs.Bool.{OnTrue, OnFalse};
 ghost use Rattle.msc_chart.specs.Charts.{line, IsLinearOrder};
 ghost use Rattle.msc_chart.specs.Passes.{is_put, AreReady, IsBarred, IsCycleOrMemory, IsLeft, IsOpen, IsPass, IsStuckAt, IsStuckBelow, NoneLeftBelow};
@@ -190,7 +190,8 @@ fn sweep(events: &[ChartEvent], pass: &mut Pass) -> Result<bool, AllocError>
     ensures pass { OnOk result (IsPass events.now pass.new) }
     ensures put { IfOk result (λ r. OnTrue r (pass.new.left < pass.old.left)) }
     ensures same { IfOk result (λ r. OnFalse r (pass.new.left ≤ pass.old.left)) }
-    ensures stuck { IfOk result (λ r. OnFalse r (IsStuckBelow events.now pass.new.is_put.items (length events.now))) }
+    ensures stuck { IfOk result (λ r. OnFalse r
+        (IsStuckBelow events.now pass.new.is_put.items (length events.now))) }
 {
     let mut changed = false;
     for e in 0..events.len() {

@@ -5,11 +5,11 @@ use Rattle.msc_chart.specs.Events.{instances_of}
 use Rattle.msc_chart.specs.Numbering.{IsFirstRepeat, AreNumbered}
 use Rattle.msc_chart.specs.Faults.{IsLeastPlace, HoldsAt, IsUnknown}
 use Rattle.msc_chart.proofs.Places.{repeat_at, numbered_at}
-use Rattle.msc_chart.proofs.Stages.{same_bytes, first_1, clear_2, first_2, clear_3, first_3, clear_4, least_within, names_count}
+use Rattle.msc_chart.proofs.Stages.{same_bytes, many_instances_first, few_instances_clear, repeated_instance_first, distinct_instances_clear, unknown_header_first, known_headers_clear, least_within, names_count}
 use Rattle.msc_chart.proofs.building.instances.Goals as goal
 
 pub returns-then-sections-gt32-clause-fault : goal.returns-then-sections-gt32-clause-fault
-returns-then-sections-gt32-clause-fault c = λ _. first_1 c.args.draft.now (rw (← c.sections.ensures.value) c.if-sections-gt32.true)
+returns-then-sections-gt32-clause-fault c = λ _. many_instances_first c.args.draft.now (rw (← c.sections.ensures.value) c.if-sections-gt32.true)
 
 pub overflow_cast-result : goal.overflow_cast-result
 overflow_cast-result c =
@@ -20,8 +20,8 @@ overflow_cast-result c =
 
 pub returns-in-Some-clause-fault : goal.returns-in-Some-clause-fault
 returns-in-Some-clause-fault c =
-    λ _. first_2 c.args.draft.now c.as_slice.result.now (ap (map deref) c.as_slice.ensures.value ∙ c.in_ok-names.ensures)
-    (clear_2 c.args.draft.now (rw (← c.sections.ensures.value) (omega arith))) c.in-Some.i
+    λ _. repeated_instance_first c.args.draft.now c.as_slice.result.now (ap (map deref) c.as_slice.ensures.value ∙ c.in_ok-names.ensures)
+    (few_instances_clear c.args.draft.now (rw (← c.sections.ensures.value) (omega arith))) c.in-Some.i
     (repeat_at _ _ c.in_ok-numbers.numbers.keys _ _ c.in-Some.is c.in_ok-numbers.ensures)
 
 pub overflow_cast-result-in-Some-unknown_header : goal.overflow_cast-result-in-Some-unknown_header
@@ -34,8 +34,8 @@ returns-in-Some-unknown_header-clause-fault c =
     let n : AreNumbered same_bytes c.as_slice.result.now c.in_ok-numbers.numbers.keys = numbered_at _ _ _ _ c.in_default.is c.in_ok-numbers.ensures in
     let seen : map deref c.as_slice.result.now ≡ instances_of c.args.draft.now = ap (map deref) c.as_slice.ensures.value ∙ c.in_ok-names.ensures in
     let keys_seen : map deref c.in_ok-numbers.numbers.keys ≡ instances_of c.args.draft.now = ap (map deref) n.same ∙ seen in
-    let clear = clear_3 c.args.draft.now c.as_slice.result.now seen (clear_2 c.args.draft.now (rw (← c.sections.ensures.value) (omega arith))) n.new in
-    λ _. first_3 c.args.draft.now c.in_ok-numbers.numbers.keys keys_seen clear c.in-Some-unknown_header.k
+    let clear = distinct_instances_clear c.args.draft.now c.as_slice.result.now seen (few_instances_clear c.args.draft.now (rw (← c.sections.ensures.value) (omega arith))) n.new in
+    λ _. unknown_header_first c.args.draft.now c.in_ok-numbers.numbers.keys keys_seen clear c.in-Some-unknown_header.k
     (subst (λ h. IsLeastPlace (HoldsAt (IsUnknown (map deref c.in_ok-numbers.numbers.keys)) (map (λ x. x.name) h)) c.in-Some-unknown_header.k) c.header.ensures.value c.in-Some-unknown_header.ensures)
 
 pub returns-clause-clear : goal.returns-clause-clear
@@ -43,6 +43,6 @@ returns-clause-clear c =
     let n : AreNumbered same_bytes c.as_slice.result.now c.in_ok-numbers.numbers.keys = numbered_at _ _ _ _ c.in_default.is c.in_ok-numbers.ensures in
     let seen : map deref c.as_slice.result.now ≡ instances_of c.args.draft.now = ap (map deref) c.as_slice.ensures.value ∙ c.in_ok-names.ensures in
     let keys_seen : map deref c.in_ok-numbers.numbers.keys ≡ instances_of c.args.draft.now = ap (map deref) n.same ∙ seen in
-    let clear = clear_3 c.args.draft.now c.as_slice.result.now seen (clear_2 c.args.draft.now (rw (← c.sections.ensures.value) (omega arith))) n.new in
-    clear_4 c.args.draft.now c.in_ok-numbers.numbers.keys keys_seen clear
+    let clear = distinct_instances_clear c.args.draft.now c.as_slice.result.now seen (few_instances_clear c.args.draft.now (rw (← c.sections.ensures.value) (omega arith))) n.new in
+    known_headers_clear c.args.draft.now c.in_ok-numbers.numbers.keys keys_seen clear
     (subst (λ h. (k : ℕ) → HoldsAt (IsUnknown (map deref c.in_ok-numbers.numbers.keys)) (map (λ x. x.name) h) k → ⊥) c.header.ensures.value c.in_default-unknown_header.ensures)

@@ -1,4 +1,4 @@
-use Rattle.std.proofs.Common.{◌≡◌, map, length, ap, sym, subst, ◌∙◌, arith}
+use Rattle.std.proofs.Common.{◌≡◌, map, ap, subst, ◌∙◌, arith}
 use Rattle.msc_chart.specs.Charts.{IsLinearOrder}
 use Rattle.msc_chart.specs.Drawings.{chart_events}
 use Rattle.msc_chart.specs.Passes.{IsCycleOrMemory}

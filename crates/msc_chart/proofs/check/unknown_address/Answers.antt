@@ -4,7 +4,8 @@ use Rattle.std.proofs.lemmas.Option.{slice_get-get_or}
 use Rattle.msc_chart.specs.Events.{address_of}
 use Rattle.msc_chart.specs.Views.{end_view}
 use Rattle.msc_chart.specs.Faults.{IsUnknown}
-use Rattle.msc_chart.proofs.Places.{none-next, least_found, none_found, clash}
+use Rattle.msc_chart.proofs.ListLemmas.{clash}
+use Rattle.msc_chart.proofs.Places.{none-next, least_found, none_found}
 use Rattle.msc_chart.proofs.check.unknown_address.Goals as goal
 
 pub returns-then-is_unknown : goal.returns-then-is_unknown

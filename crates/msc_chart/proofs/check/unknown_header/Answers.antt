@@ -2,7 +2,8 @@ use Rattle.std.proofs.Common.{length, arith, map, refl, subst, sym}
 use Rattle.std.specs.Map.Iter.{deref}
 use Rattle.std.proofs.lemmas.Option.{slice_get_read}
 use Rattle.msc_chart.specs.Faults.{IsUnknown}
-use Rattle.msc_chart.proofs.Places.{none-next, least_found, none_found, clash}
+use Rattle.msc_chart.proofs.ListLemmas.{clash}
+use Rattle.msc_chart.proofs.Places.{none-next, least_found, none_found}
 use Rattle.msc_chart.proofs.check.unknown_header.Goals as goal
 
 pub returns-then-is_unknown : goal.returns-then-is_unknown

@@ -2,7 +2,8 @@ use Rattle.std.proofs.Common.{arith, map}
 use Rattle.std.proofs.lemmas.Option.{slice_get-get_or}
 use Rattle.msc_chart.specs.Views.{end_view}
 use Rattle.msc_chart.specs.Faults.{IsUnmatched}
-use Rattle.msc_chart.proofs.Places.{none-next, least_found, none_found, clash}
+use Rattle.msc_chart.proofs.ListLemmas.{clash}
+use Rattle.msc_chart.proofs.Places.{none-next, least_found, none_found}
 use Rattle.msc_chart.proofs.check.unmatched.Goals as goal
 
 pub returns-then-is_unmatched : goal.returns-then-is_unmatched

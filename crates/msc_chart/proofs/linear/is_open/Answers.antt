@@ -1,6 +1,6 @@
-use Rattle.std.proofs.Common.{◌≡◌, ◌≤◌, ◌∙◌, sym, true, inl, inr, length, arith}
+use Rattle.std.proofs.Common.{◌≡◌, ◌∙◌, sym, true, inl, inr, arith}
 use Rattle.std.proofs.lemmas.Bool.{OnTrue_from, OnFalse_from}
-use Rattle.msc_chart.specs.Charts.{segment, partner, kind, is_output, is_input}
+use Rattle.msc_chart.specs.Charts.{segment, partner, kind, is_input}
 use Rattle.msc_chart.proofs.Drawn.{output_from, output_parts, output_or_input}
 use Rattle.msc_chart.proofs.ListLemmas.{clash}
 use Rattle.msc_chart.proofs.PassLemmas.{barred_by_first, output_open, input_open, input_barred}

@@ -1,6 +1,6 @@
 use Rattle.std.proofs.Common.{◌<◌, arith}
 use Rattle.msc_chart.proofs.Lawful.{acyclic_at}
-use Rattle.msc_chart.proofs.PassLemmas.{stuck_cyclic}
+use Rattle.msc_chart.proofs.StuckLemmas.{stuck_cyclic}
 use Rattle.msc_chart.proofs.linear.linear_order.Goals as goal
 
 -- a pass that is stuck has a cycle

@@ -1,4 +1,4 @@
-use Rattle.std.proofs.Common.{◌≡◌, ◌<◌, ◌∙◌, false, length, ap, arith, subst, sym}
+use Rattle.std.proofs.Common.{◌≡◌, ◌∙◌, false, ap, arith, subst, sym}
 use Rattle.msc_chart.specs.Charts.{line}
 use Rattle.msc_chart.specs.Passes.{is_put, IsLeft}
 use Rattle.msc_chart.proofs.PassLemmas.{first_within, read_mark}

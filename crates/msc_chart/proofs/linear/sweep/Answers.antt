@@ -1,8 +1,8 @@
-use Rattle.std.proofs.Common.{◌≡◌, ◌<◌, ◌≤◌, true, false, ℕ, ◌+◌, inl, inr, sym, ap, ◌∙◌, subst, arith}
-use Rattle.std.proofs.lemmas.Bool.{cases_lt, OnTrue_at, OnTrue_from, OnFalse_at, OnFalse_from}
-use Rattle.msc_chart.specs.Passes.{IsStuckAt, IsStuckBelow}
+use Rattle.std.proofs.Common.{◌<◌, ◌+◌, sym, ◌∙◌, arith}
+use Rattle.std.proofs.lemmas.Bool.{OnTrue_at, OnTrue_from, OnFalse_at, OnFalse_from}
+use Rattle.msc_chart.specs.Passes.{IsStuckBelow}
 use Rattle.msc_chart.proofs.ListLemmas.{clash}
-use Rattle.msc_chart.proofs.PassLemmas.{stuck-next}
+use Rattle.msc_chart.proofs.StuckLemmas.{stuck-next}
 use Rattle.msc_chart.proofs.linear.sweep.Goals as goal
 use Rattle.msc_chart.proofs.linear.sweep.Goals.{then-branch, else-branch}
 
