@@ -1,0 +1,4 @@
+pub mod Shared
+pub mod EventLemmas
+pub mod QueueLemmas
+pub mod Respects

@@ -1,0 +1,21 @@
+//! Laws of the runs of a chart, over the definitions alone. The functions have no code: a caller
+//! calls one to rest its own proof on the law. Each holds of every accepted chart under either
+//! architecture.
+
+ghost use Rattle.msc_race.specs.Laws.{EveryRunKeepsTheEnforcedOrder, WhatIsEnforcedIsNeverReversed};
+
+use msc_chart::laws::ends_share_queues;
+
+/// What is enforced before an event of a run occurs in the run, earlier than the event.
+pub fn every_run_keeps_the_enforced_order()
+    ensures { EveryRunKeepsTheEnforcedOrder }
+{
+    ends_share_queues();
+}
+
+/// No run has the later of two enforced events without the earlier before it.
+pub fn what_is_enforced_is_never_reversed()
+    ensures { WhatIsEnforcedIsNeverReversed }
+{
+    ends_share_queues();
+}
