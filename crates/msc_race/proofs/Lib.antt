@@ -2,3 +2,8 @@ pub mod Shared
 pub mod EventLemmas
 pub mod QueueLemmas
 pub mod Respects
+pub mod EnforcedPairs
+pub mod Inside
+pub mod Progress
+pub mod Growing
+pub mod WholeRuns

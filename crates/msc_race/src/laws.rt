@@ -2,7 +2,7 @@
 //! calls one to rest its own proof on the law. Each holds of every accepted chart under either
 //! architecture.
 
-ghost use Rattle.msc_race.specs.Laws.{EveryRunKeepsTheEnforcedOrder, WhatIsEnforcedIsNeverReversed};
+ghost use Rattle.msc_race.specs.Laws.{EveryRunGoesOnToAWholeOne, EveryRunKeepsTheEnforcedOrder, NoRunIsStuck, TheEnforcedOrderHasNoCycle, WhatIsEnforcedIsNeverReversed};
 
 use msc_chart::laws::ends_share_queues;
 
@@ -16,6 +16,21 @@ pub fn every_run_keeps_the_enforced_order()
 /// No run has the later of two enforced events without the earlier before it.
 pub fn what_is_enforced_is_never_reversed()
     ensures { WhatIsEnforcedIsNeverReversed }
+{
+    ends_share_queues();
+}
+
+/// A run is whole, or some event makes it longer; so each run goes on to a whole one.
+pub fn no_run_is_stuck()
+    ensures longer { NoRunIsStuck }
+    ensures whole { EveryRunGoesOnToAWholeOne }
+{
+    ends_share_queues();
+}
+
+/// No event is enforced before itself.
+pub fn the_enforced_order_has_no_cycle()
+    ensures { TheEnforcedOrderHasNoCycle }
 {
     ends_share_queues();
 }
