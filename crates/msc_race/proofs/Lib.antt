@@ -7,3 +7,8 @@ pub mod Inside
 pub mod Progress
 pub mod Growing
 pub mod WholeRuns
+pub mod FreeEvents
+pub mod FreeFirst
+pub mod Tables
+pub mod Reversal
+pub mod Races

@@ -1,10 +1,11 @@
 -- Laws of the runs of an accepted chart, under either architecture.
-use Rattle.std.specs.Prelude.{ℕ, ◌⊎◌, List, ◌++◌, IsTrue}
+use Rattle.std.specs.Prelude.{ℕ, ◌<◌, ◌≢◌, ◌⊎◌, ◌↔◌, List, ◌++◌, length, IsTrue}
 use Rattle.msc_chart.specs.declared.queue.Queues.{Queues}
 use Rattle.msc_chart.specs.Lists.{occurs, until}
+use Rattle.msc_chart.specs.Charts.{before}
 use Rattle.msc_chart.specs.Drawings.{Drawing, IsAccepted}
-use Rattle.msc_chart.specs.Orders.{wired, Enforced}
-use Rattle.msc_chart.specs.Runs.{Run, MayCome, IsWhole, Reverses}
+use Rattle.msc_chart.specs.Orders.{WiredChart, wired, Enforced, IsRace}
+use Rattle.msc_chart.specs.Runs.{Run, MayCome, IsWhole, KeepsDrawnOrder, Reverses}
 
 -- what is enforced before an event of a run occurs in it earlier
 abbrev pub EveryRunKeepsTheEnforcedOrder : Type 0
@@ -33,3 +34,34 @@ EveryRunGoesOnToAWholeOne =
 -- no event is enforced before itself
 abbrev pub TheEnforcedOrderHasNoCycle : Type 0
 TheEnforcedOrderHasNoCycle = (queues : Queues) (d : Drawing) → IsAccepted d → (e : ℕ) → Enforced (wired queues d) e e → ⊥
+
+-- for two different events that are not enforced in an order some whole run has the second without
+-- the first before it
+abbrev pub WhatIsNotEnforcedIsReversed : Type 0
+WhatIsNotEnforcedIsReversed =
+    (queues : Queues) (d : Drawing) → IsAccepted d → (e f : ℕ) → e < length d.events → f < length d.events → e ≢ f
+    → (Enforced (wired queues d) e f → ⊥)
+    → (events : List ℕ) × Run (wired queues d) events × IsWhole (wired queues d) events × Reverses events e f
+
+-- two different events are enforced in an order exactly where no run reverses them
+abbrev pub TheEnforcedOrderIsExact : Type 0
+TheEnforcedOrderIsExact =
+    (queues : Queues) (d : Drawing) → IsAccepted d → (e f : ℕ) → e < length d.events → f < length d.events → e ≢ f
+    → Enforced (wired queues d) e f ↔ ((events : List ℕ) → Run (wired queues d) events → Reverses events e f → ⊥)
+
+-- a race is a pair that is drawn in an order and that some run reverses
+abbrev pub RacesAreWhatRunsReverse : Type 0
+RacesAreWhatRunsReverse =
+    (queues : Queues) (d : Drawing) → IsAccepted d → (e f : ℕ)
+    → IsRace (wired queues d) e f
+    ↔ (IsTrue (before d.events e f) × ((events : List ℕ) × Run (wired queues d) events × Reverses events e f))
+
+-- no pair is a race
+abbrev pub HasNoRace : WiredChart → Type 0
+HasNoRace chart = (e f : ℕ) → IsRace chart e f → ⊥
+
+-- every run keeps the drawn order exactly where there is no race
+abbrev pub RunsKeepTheDrawnOrder : Type 0
+RunsKeepTheDrawnOrder =
+    (queues : Queues) (d : Drawing) → IsAccepted d
+    → HasNoRace (wired queues d) ↔ ((events : List ℕ) → Run (wired queues d) events → KeepsDrawnOrder (wired queues d) events)

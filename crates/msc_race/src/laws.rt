@@ -2,7 +2,7 @@
 //! calls one to rest its own proof on the law. Each holds of every accepted chart under either
 //! architecture.
 
-ghost use Rattle.msc_race.specs.Laws.{EveryRunGoesOnToAWholeOne, EveryRunKeepsTheEnforcedOrder, NoRunIsStuck, TheEnforcedOrderHasNoCycle, WhatIsEnforcedIsNeverReversed};
+ghost use Rattle.msc_race.specs.Laws.{EveryRunGoesOnToAWholeOne, EveryRunKeepsTheEnforcedOrder, NoRunIsStuck, RacesAreWhatRunsReverse, RunsKeepTheDrawnOrder, TheEnforcedOrderHasNoCycle, TheEnforcedOrderIsExact, WhatIsEnforcedIsNeverReversed, WhatIsNotEnforcedIsReversed};
 
 use msc_chart::laws::ends_share_queues;
 
@@ -31,6 +31,31 @@ pub fn no_run_is_stuck()
 /// No event is enforced before itself.
 pub fn the_enforced_order_has_no_cycle()
     ensures { TheEnforcedOrderHasNoCycle }
+{
+    ends_share_queues();
+}
+
+/// For two events that are not enforced in an order, some whole run has the second without the
+/// first before it.
+pub fn what_is_not_enforced_is_reversed()
+    ensures { WhatIsNotEnforcedIsReversed }
+{
+    ends_share_queues();
+}
+
+/// Two different events are enforced in an order exactly where no run has the later without the
+/// earlier before it.
+pub fn the_enforced_order_is_exact()
+    ensures { TheEnforcedOrderIsExact }
+{
+    ends_share_queues();
+}
+
+/// A race is a drawn pair that some run reverses; there is none exactly where every run keeps the
+/// drawn order.
+pub fn races_are_what_runs_reverse()
+    ensures race { RacesAreWhatRunsReverse }
+    ensures none { RunsKeepTheDrawnOrder }
 {
     ends_share_queues();
 }
