@@ -12,3 +12,7 @@ pub mod FreeFirst
 pub mod Tables
 pub mod Reversal
 pub mod Races
+pub mod ChosenRuns
+pub mod Telling
+pub mod FreeRuns
+pub mod ChosenExists

@@ -1,11 +1,12 @@
 -- Laws of the runs of an accepted chart, under either architecture.
-use Rattle.std.specs.Prelude.{ℕ, ◌<◌, ◌≢◌, ◌⊎◌, ◌↔◌, List, ◌++◌, length, IsTrue}
+use Rattle.std.specs.Prelude.{◌≡◌, ◌≢◌, ℕ, ◌<◌, ◌⊎◌, ◌↔◌, List, [], ◌++◌, length, IsTrue}
 use Rattle.msc_chart.specs.declared.queue.Queues.{Queues}
-use Rattle.msc_chart.specs.Lists.{occurs, until}
+use Rattle.msc_chart.specs.Lists.{occurs, until, Steps}
 use Rattle.msc_chart.specs.Charts.{before}
 use Rattle.msc_chart.specs.Drawings.{Drawing, IsAccepted}
 use Rattle.msc_chart.specs.Orders.{WiredChart, wired, Enforced, IsRace}
 use Rattle.msc_chart.specs.Runs.{Run, MayCome, IsWhole, KeepsDrawnOrder, Reverses}
+use Rattle.msc_chart.specs.Chosen.{IsFree, MayComeFree, SomeFreeLeft, IsChosenNext, IsChosenRun}
 
 -- what is enforced before an event of a run occurs in it earlier
 abbrev pub EveryRunKeepsTheEnforcedOrder : Type 0
@@ -65,3 +66,45 @@ abbrev pub RunsKeepTheDrawnOrder : Type 0
 RunsKeepTheDrawnOrder =
     (queues : Queues) (d : Drawing) → IsAccepted d
     → HasNoRace (wired queues d) ↔ ((events : List ℕ) → Run (wired queues d) events → KeepsDrawnOrder (wired queues d) events)
+
+-- each event has a chosen run
+abbrev pub AChosenRunExists : Type 0
+AChosenRunExists =
+    (queues : Queues) (d : Drawing) → IsAccepted d → (e : ℕ) → e < length d.events
+    → (events : List ℕ) × IsChosenRun (wired queues d) e events
+
+-- and no other one
+abbrev pub ChosenRunsAreUnique : Type 0
+ChosenRunsAreUnique =
+    (queues : Queues) (d : Drawing) (e : ℕ) (xs ys : List ℕ)
+    → IsChosenRun (wired queues d) e xs → IsChosenRun (wired queues d) e ys → xs ≡ ys
+
+-- a chosen run is a whole run
+abbrev pub ChosenRunsAreWhole : Type 0
+ChosenRunsAreWhole =
+    (queues : Queues) (d : Drawing) (e : ℕ) (events : List ℕ) → IsChosenRun (wired queues d) e events
+    → Run (wired queues d) events × IsWhole (wired queues d) events
+
+-- each other event that is not enforced after e occurs in the chosen run of e, and before e
+abbrev pub ChosenRunsReverse : Type 0
+ChosenRunsReverse =
+    (queues : Queues) (d : Drawing) (e : ℕ) (events : List ℕ) → IsChosenRun (wired queues d) e events
+    → (f : ℕ) → IsFree (wired queues d) e f → Reverses events e f × IsTrue (occurs (until events e) f)
+
+-- so the chosen run of e reverses each race of e
+abbrev pub ChosenRunsReverseRaces : Type 0
+ChosenRunsReverseRaces =
+    (queues : Queues) (d : Drawing) (e : ℕ) (events : List ℕ) → IsChosenRun (wired queues d) e events
+    → (f : ℕ) → IsRace (wired queues d) e f → Reverses events e f
+
+-- the beginning of a chosen run is a run
+abbrev pub ChosenStepsAreARun : Type 0
+ChosenStepsAreARun =
+    (queues : Queues) (d : Drawing) (e : ℕ) (past : List ℕ) → Steps (IsChosenNext (wired queues d) e) [] past → Run (wired queues d) past
+
+-- while a free event is left, the beginning of a chosen run goes on to a free event that does not wait
+abbrev pub ChosenRunsGoOn : Type 0
+ChosenRunsGoOn =
+    (queues : Queues) (d : Drawing) → IsAccepted d → (e : ℕ) → e < length d.events
+    → (past : List ℕ) → Steps (IsChosenNext (wired queues d) e) [] past → SomeFreeLeft (wired queues d) e past
+    → (x : ℕ) × MayComeFree (wired queues d) e past x

@@ -2,7 +2,7 @@
 //! calls one to rest its own proof on the law. Each holds of every accepted chart under either
 //! architecture.
 
-ghost use Rattle.msc_race.specs.Laws.{EveryRunGoesOnToAWholeOne, EveryRunKeepsTheEnforcedOrder, NoRunIsStuck, RacesAreWhatRunsReverse, RunsKeepTheDrawnOrder, TheEnforcedOrderHasNoCycle, TheEnforcedOrderIsExact, WhatIsEnforcedIsNeverReversed, WhatIsNotEnforcedIsReversed};
+ghost use Rattle.msc_race.specs.Laws.{AChosenRunExists, ChosenRunsAreUnique, ChosenRunsAreWhole, ChosenRunsGoOn, ChosenRunsReverse, ChosenRunsReverseRaces, ChosenStepsAreARun, EveryRunGoesOnToAWholeOne, EveryRunKeepsTheEnforcedOrder, NoRunIsStuck, RacesAreWhatRunsReverse, RunsKeepTheDrawnOrder, TheEnforcedOrderHasNoCycle, TheEnforcedOrderIsExact, WhatIsEnforcedIsNeverReversed, WhatIsNotEnforcedIsReversed};
 
 use msc_chart::laws::ends_share_queues;
 
@@ -56,6 +56,27 @@ pub fn the_enforced_order_is_exact()
 pub fn races_are_what_runs_reverse()
     ensures race { RacesAreWhatRunsReverse }
     ensures none { RunsKeepTheDrawnOrder }
+{
+    ends_share_queues();
+}
+
+/// Each event has exactly one chosen run. It is whole, and each other event that is not enforced
+/// after e stands before e in it: so it reverses every race of e.
+pub fn the_chosen_run_reverses()
+    ensures exists { AChosenRunExists }
+    ensures unique { ChosenRunsAreUnique }
+    ensures whole { ChosenRunsAreWhole }
+    ensures reverses { ChosenRunsReverse }
+    ensures races { ChosenRunsReverseRaces }
+{
+    ends_share_queues();
+}
+
+/// The beginning of a chosen run is a run, and while a free event is left it goes on to a free
+/// event that does not wait.
+pub fn a_chosen_run_goes_on()
+    ensures run { ChosenStepsAreARun }
+    ensures next { ChosenRunsGoOn }
 {
     ends_share_queues();
 }
