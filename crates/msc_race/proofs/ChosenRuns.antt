@@ -1,45 +1,14 @@
 -- A chosen run is a whole run in which the free events come first, and there is only one.
-use Rattle.std.proofs.Common.{◌≡◌, ◌≢◌, ℕ, true, false, cond, ◌||◌, inl, inr, List, [], ◌∷◌, ◌++◌, eqb, refl, sym, ap, ◌∙◌, subst, append_assoc}
-use Rattle.std.proofs.lemmas.Bool.{cases_order, eqb-true, ne_eqb, false_from_ne_true}
+use Rattle.std.proofs.Common.{◌≡◌, ℕ, true, inl, inr, List, [], ◌∷◌, ◌++◌, refl, sym, ap, ◌∙◌, subst, append_assoc}
+use Rattle.std.proofs.lemmas.Bool.{cases_order, false_from_ne_true}
 use Rattle.std.proofs.lemmas.List.{append-nil}
 use Rattle.msc_chart.specs.Lists.{occurs, until, Steps}
 use Rattle.msc_chart.specs.Orders.{WiredChart, IsRace}
 use Rattle.msc_chart.specs.Runs.{Run, MayCome, IsWhole, Reverses}
 use Rattle.msc_chart.specs.Chosen.{IsFree, MayComeFree, IsLeast, IsChosenNext, IsChosenRun}
 use Rattle.msc_race.proofs.Shared.{clash, step_at, until-within, Steps-map}
+use Rattle.msc_race.proofs.Standing.{until_other, until_swapped}
 use Rattle.msc_race.proofs.EventLemmas.{before_parts}
-
--- of two members of a list, where the first stands before the second, the second does not stand
--- before the first
-until_other : (xs : List ℕ) (e f : ℕ) → occurs (until xs f) e ≡ true → occurs (until xs e) f ≡ false
-unfolding occurs until
-until_other [] e f h = refl
-until_other (x ∷ xs) e f h =
-    (elim (eqb x f) as (λ b. eqb x f ≡ b → occurs (cond b [] (x ∷ until xs f)) e ≡ true → occurs (cond (eqb x e) [] (x ∷ until xs e)) f ≡ false) [
-      | true ↦ λ same k. cc
-      | false ↦ λ other k.
-          (elim (eqb x e) as (λ b. (b || occurs (until xs f) e) ≡ true → occurs (cond b [] (x ∷ until xs e)) f ≡ false) [
-            | true ↦ λ j. refl
-            | false ↦ λ j. rw other (until_other xs e f j)
-          ]) k
-    ]) refl h
-
--- a member of a list stands before another number that does not stand before it
-until_swapped : (xs : List ℕ) (e f : ℕ) → f ≢ e → occurs xs f ≡ true → occurs (until xs f) e ≡ false → occurs (until xs e) f ≡ true
-unfolding occurs until
-until_swapped [] e f other there out = cc
-until_swapped (x ∷ xs) e f other there out =
-    (elim (eqb x f) as (λ b. eqb x f ≡ b → (b || occurs xs f) ≡ true → occurs (cond b [] (x ∷ until xs f)) e ≡ false → occurs (cond (eqb x e) [] (x ∷ until xs e)) f ≡ true) [
-      | true ↦ λ same k j.
-          let x_is : x ≡ f = eqb-true x f same in
-          let apart : eqb x e ≡ false = ne_eqb x e (λ e_is. other (subst (λ (z : ℕ). z ≡ e) x_is e_is)) in
-          rw (apart, same) refl
-      | false ↦ λ differs k j.
-          (elim (eqb x e) as (λ b. (b || occurs (until xs f) e) ≡ false → occurs (cond b [] (x ∷ until xs e)) f ≡ true) [
-            | true ↦ λ i. clash refl i
-            | false ↦ λ i. rw differs (until_swapped xs e f other k i)
-          ]) j
-    ]) refl there out
 
 -- what comes next in a chosen run may come
 may_of_next : (chart : WiredChart) (e : ℕ) (past : List ℕ) (x : ℕ) → IsChosenNext chart e past x → MayCome chart past x

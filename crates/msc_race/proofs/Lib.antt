@@ -1,4 +1,5 @@
 pub mod Shared
+pub mod Standing
 pub mod EventLemmas
 pub mod QueueLemmas
 pub mod Respects
@@ -16,3 +17,7 @@ pub mod ChosenRuns
 pub mod Telling
 pub mod FreeRuns
 pub mod ChosenExists
+pub mod RunTests
+pub mod RaceLists
+pub mod RaceRows
+pub mod OneOrOther
