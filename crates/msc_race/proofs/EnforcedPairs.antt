@@ -7,7 +7,8 @@ use Rattle.msc_race.proofs.EventLemmas.{output_below, not_both, before_parts, in
 
 module _ (chart : WiredChart) (is_wired : IsWired chart) where
   -- it relates events of the chart
-  pub enforced_below : (x y : ℕ) → Enforced chart x y → (x < length chart.events) × (y < length chart.events)
+  pub enforced_below : (x y : ℕ) → Enforced chart x y
+      → (x < length chart.events) × (y < length chart.events)
   enforced_below x y (drawn b o) = ((before_parts chart.events x y b).0, output_below chart.events y o)
   enforced_below x y (sent o p) =
       let below = output_below chart.events x o in
@@ -24,12 +25,14 @@ module _ (chart : WiredChart) (is_wired : IsWired chart) where
   IntoInput x y =
       (x ≡ partner chart.events y)
       ⊎ (Enforced chart x (partner chart.events y)
-      ⊎ ((is_input chart.events x ≡ true) × (queue chart x ≡ queue chart y) × Enforced chart (partner chart.events x) (partner chart.events y)))
+      ⊎ ((is_input chart.events x ≡ true) × (queue chart x ≡ queue chart y)
+      × Enforced chart (partner chart.events x) (partner chart.events y)))
 
   -- so it is for whatever is enforced before an input y
   pub into_input : (x y : ℕ) → Enforced chart x y → is_input chart.events y ≡ true → IntoInput x y
   into_input x y (drawn b o) i = absurd (not_both chart.events y o i)
-  into_input x y (sent o p) i = inl (rw (← p) (sym (is_wired.matched.to_and_fro x (output_below chart.events x o))))
+  into_input x y (sent o p) i =
+      inl (rw (← p) (sym (is_wired.matched.to_and_fro x (output_below chart.events x o))))
   into_input x y (queued {s = s} {t = t} os ot same h p q) i =
       let s_below = output_below chart.events s os in
       let t_below = output_below chart.events t ot in
@@ -37,7 +40,8 @@ module _ (chart : WiredChart) (is_wired : IsWired chart) where
       let to_t = is_wired.matched.to_and_fro t t_below in
       let s_queue = is_wired.one_queue s s_below in
       let t_queue = is_wired.one_queue t t_below in
-      inr (inr (rw (← p) (input_of chart.events is_wired.matched s os), rw (← p, ← q, s_queue, t_queue) same, rw (← p, ← q, to_s, to_t) h))
+      let input : is_input chart.events x ≡ true = rw (← p) (input_of chart.events is_wired.matched s os) in
+      inr (inr (input, rw (← p, ← q, s_queue, t_queue) same, rw (← p, ← q, to_s, to_t) h))
   into_input x y (joined {y = m} h k) i =
       elim (into_input m y k i) [
         | inl same ↦ inr (inl (subst (λ (z : ℕ). Enforced chart x z) same h))

@@ -18,11 +18,13 @@ module _ (events : List ChartEvent) where
   input_below e h = ltb-true e (length events) (and_parts _ _ h).0
 
   -- an event is an output or an input, by its kind
-  pub output_or_input : (e : ℕ) → e < length events → (is_output events e ≡ true) ⊎ (is_input events e ≡ true)
+  pub output_or_input : (e : ℕ) → e < length events
+      → (is_output events e ≡ true) ⊎ (is_input events e ≡ true)
   unfolding is_output is_input
   output_or_input e below = by_kind (kind events e) refl
     where
-      by_kind : (k : EventKind) → kind events e ≡ k → (is_output events e ≡ true) ⊎ (is_input events e ≡ true)
+      by_kind : (k : EventKind) → kind events e ≡ k
+          → (is_output events e ≡ true) ⊎ (is_input events e ≡ true)
       by_kind Output h = inl (and_from _ _ (lt-ltb _ _ below) (ap sends h))
       by_kind Input h = inr (and_from _ _ (lt-ltb _ _ below) (ap takes h))
 
@@ -36,7 +38,8 @@ module _ (events : List ChartEvent) where
       by_kind Input h k = cc
 
   -- what is drawn before an event is another event of the chart, since its segment is smaller
-  pub before_parts : (x y : ℕ) → before events x y ≡ true → (x < length events) × (y < length events) × (x ≢ y)
+  pub before_parts : (x y : ℕ) → before events x y ≡ true
+      → (x < length events) × (y < length events) × (x ≢ y)
   unfolding before
   before_parts x y h =
       let both = and_parts _ _ h in

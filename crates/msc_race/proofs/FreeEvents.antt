@@ -16,19 +16,25 @@ module _ (chart : WiredChart) (order : ℕ → ℕ → Bool) (told : IsEnforcedO
   free_of_test x h =
       let both = and_parts _ _ h in
       let other = and_parts _ _ both.1 in
-      (ltb-true _ _ both.0, eqb-false x e (not-true _ other.0), λ after. clash (told.complete e x after) (not-true _ other.1))
+      let unordered = not-true _ other.1 in
+      (ltb-true _ _ both.0, eqb-false x e (not-true _ other.0), λ after. clash (told.complete e x after) unordered)
 
   module _ (below : e < length chart.events) where
     -- what is free passes
-    pub test_of_free : (x : ℕ) → x < length chart.events → x ≢ e → (Enforced chart e x → ⊥) → is_free_of chart order e x ≡ true
+    pub test_of_free : (x : ℕ) → x < length chart.events → x ≢ e → (Enforced chart e x → ⊥)
+        → is_free_of chart order e x ≡ true
     unfolding is_free_of
     test_of_free x x_below other apart =
         let unordered = false_from_ne_true _ (λ h. apart (told.holds e x below x_below h)) in
-        and_from _ _ (lt-ltb _ _ x_below) (and_from _ _ (not_from_false _ (ne_eqb x e other)) (not_from_false _ unordered))
+        let neither = and_from _ _ (not_from_false _ (ne_eqb x e other)) (not_from_false _ unordered) in
+        and_from _ _ (lt-ltb _ _ x_below) neither
 
     -- what fails is e or after it
-    pub not_free : (x : ℕ) → x < length chart.events → is_free_of chart order e x ≡ false → (x ≡ e) ⊎ Enforced chart e x
+    pub not_free : (x : ℕ) → x < length chart.events → is_free_of chart order e x ≡ false
+        → (x ≡ e) ⊎ Enforced chart e x
     not_free x x_below h =
         by_test (eqb x e) (λ same. inl (eqb-true x e same))
         (λ other. by_test (order e x) (λ after. inr (told.holds e x below x_below after))
-        (λ apart. clash (test_of_free x x_below (eqb-false x e other) (λ after. clash (told.complete e x after) apart)) h))
+        (λ apart.
+        let unordered = λ (after : Enforced chart e x). clash (told.complete e x after) apart in
+        clash (test_of_free x x_below (eqb-false x e other) unordered) h))

@@ -53,7 +53,8 @@ module _ (chart : WiredChart) (inside : ℕ → Bool) where
   pub record MayComeInside (past : List ℕ) (x : ℕ) : Type 0 where
     pub may : MayCome chart past x
     pub member : IsTrue (inside x)
-    pub patient : IsTrue (is_held x) → (t : ℕ) → IsTrue (is_passed_on t) → queue chart t ≡ queue chart x → IsTrue (occurs past t)
+    pub patient : IsTrue (is_held x) → (t : ℕ) → IsTrue (is_passed_on t)
+        → queue chart t ≡ queue chart x → IsTrue (occurs past t)
 
   -- an event of the set has not occurred yet
   abbrev pub SomeLeft : List ℕ → Type 0
@@ -68,7 +69,8 @@ module _ (chart : WiredChart) (inside : ℕ → Bool) where
       → ((t : ℕ) × (is_passed_on t ≡ true) × (queue chart t ≡ queue chart x) × (occurs past t ≡ false))
       ⊎ ((t : ℕ) → is_passed_on t ≡ true → queue chart t ≡ queue chart x → occurs past t ≡ true)
   passed_on_told past x =
-      elim (find_below (λ t. (is_passed_on t && eqb (queue chart t) (queue chart x)) && not (occurs past t)) (length chart.events)) [
+      let waits_for : ℕ → Bool = λ t. (is_passed_on t && eqb (queue chart t) (queue chart x)) && not (occurs past t) in
+      elim (find_below waits_for (length chart.events)) [
         | inl found ↦
             let both = and_parts _ _ found.2 in
             let mate = and_parts _ _ both.0 in

@@ -29,7 +29,8 @@ module _ (events : List ChartEvent) (x y : ℕ) where
   needed_sent o same = or_right _ _ (and_from _ _ o (eq-eqb _ _ same))
 
   -- and there is no third case
-  pub needed_cases : {X : Type 0} → is_needed ≡ true → (before events x y ≡ true → is_output events y ≡ true → X)
+  pub needed_cases : {X : Type 0} → is_needed ≡ true
+      → (before events x y ≡ true → is_output events y ≡ true → X)
       → (is_output events x ≡ true → partner events x ≡ y → X) → X
   unfolding is_needed
   needed_cases h drawn sent =
@@ -45,22 +46,29 @@ pub record CanGoFirst (chart : WiredChart) (inside : ℕ → Bool) (R : ℕ → 
   pub base : (x y : ℕ) → is_needed chart.events x y ≡ true → R x y
   pub trans : (x y z : ℕ) → R x y → R y z → R x z
   pub irreflexive : (x : ℕ) → x < length chart.events → R x x → ⊥
-  pub drawn_inside : (x s : ℕ) → before chart.events x s ≡ true → is_output chart.events s ≡ true → inside s ≡ true → inside x ≡ true
-  pub sent_inside : (r : ℕ) → is_input chart.events r ≡ true → inside r ≡ true → inside (partner chart.events r) ≡ true
-  pub held_after : (s t : ℕ) → is_held chart inside s ≡ true → is_passed_on chart inside t ≡ true → queue chart s ≡ queue chart t → R s t → ⊥
-  pub held_together : (s t : ℕ) → is_held chart inside s ≡ true → is_held chart inside t ≡ true → queue chart s ≡ queue chart t
+  pub drawn_inside : (x s : ℕ) → before chart.events x s ≡ true → is_output chart.events s ≡ true
+      → inside s ≡ true → inside x ≡ true
+  pub sent_inside : (r : ℕ) → is_input chart.events r ≡ true → inside r ≡ true
+      → inside (partner chart.events r) ≡ true
+  pub held_after : (s t : ℕ) → is_held chart inside s ≡ true → is_passed_on chart inside t ≡ true
+      → queue chart s ≡ queue chart t → R s t → ⊥
+  pub held_together : (s t : ℕ) → is_held chart inside s ≡ true → is_held chart inside t ≡ true
+      → queue chart s ≡ queue chart t
 
 -- the messages of the set that were sent are taken: no input of the set is left whose output occurred
 abbrev IsQuiet : WiredChart → (ℕ → Bool) → List ℕ → Type 0
 IsQuiet chart inside past =
-    (r : ℕ) → is_input chart.events r ≡ true → inside r ≡ true → occurs past r ≡ false → occurs past (partner chart.events r) ≡ false
+    (r : ℕ) → is_input chart.events r ≡ true → inside r ≡ true → occurs past r ≡ false
+    → occurs past (partner chart.events r) ≡ false
 
-module _ (chart : WiredChart) (is_wired : IsWired chart) (inside : ℕ → Bool) (R : ℕ → ℕ → Type 0) (first : CanGoFirst chart inside R) (past : List ℕ) where
+module _ (chart : WiredChart) (is_wired : IsWired chart) (inside : ℕ → Bool) (R : ℕ → ℕ → Type 0)
+    (first : CanGoFirst chart inside R) (past : List ℕ) where
   -- An input r of the set is left whose output has occurred. Then the first message of its queue may
   -- be taken: its output s0 is not held, since a held output would have waited for the output of r,
   -- which is passed on and would stand before the first of the queue.
   take_first : Steps (MayComeInside chart inside) [] past
-      → (r : ℕ) → is_input chart.events r ≡ true → inside r ≡ true → occurs past r ≡ false → occurs past (partner chart.events r) ≡ true
+      → (r : ℕ) → is_input chart.events r ≡ true → inside r ≡ true → occurs past r ≡ false
+      → occurs past (partner chart.events r) ≡ true
       → (x : ℕ) × MayComeInside chart inside past x
   take_first steps r input member out sent =
       let below = input_below chart.events r input in
@@ -68,7 +76,8 @@ module _ (chart : WiredChart) (is_wired : IsWired chart) (inside : ℕ → Bool)
       let o = output_of chart.events is_wired.matched r input in
       let back : partner chart.events s ≡ r = is_wired.matched.to_and_fro r below in
       let q : ℕ = queue chart r in
-      let waits : is_waiting chart q past s ≡ true = waiting_from chart q past s o (is_wired.one_queue r below) (rw back out) in
+      let waits : is_waiting chart q past s ≡ true =
+      waiting_from chart q past s o (is_wired.one_queue r below) (rw back out) in
       let found = filter-first (is_waiting chart q past) past s sent waits in
       let s0 : ℕ = found.0 in
       let there = first_occurs (is_waiting chart q past) past s0 found.1 in
@@ -96,7 +105,8 @@ module _ (chart : WiredChart) (is_wired : IsWired chart) (inside : ℕ → Bool)
       let held = held_from chart inside s0 facts.0 at_s0.1.member outside in
       let passed = passed_on_from chart inside s o (first.sent_inside r input member) (rw back member) in
       let queues : queue chart s ≡ queue chart s0 = is_wired.one_queue r below ∙ sym facts.1 in
-      clash waits (before_first_fails (is_waiting chart q past) past s0 s found.1 (at_s0.1.patient held s passed queues)))
+      let earlier = at_s0.1.patient held s passed queues in
+      clash waits (before_first_fails (is_waiting chart q past) past s0 s found.1 earlier))
 
   -- Where the set is quiet, what is left and has nothing left that it needs is an output that may come.
   ready : IsQuiet chart inside past
@@ -110,14 +120,17 @@ module _ (chart : WiredChart) (is_wired : IsWired chart) (inside : ℕ → Bool)
           event = below;
           new = x_left.1;
           output = λ again y drawn. by_test (occurs past y) (λ there. there)
-              (λ out. clash (needed_drawn chart.events y x drawn o)
-              (least y (before_parts chart.events y x drawn).0 (left_from inside past y (first.drawn_inside y x drawn o x_left.0) out)));
+              (λ out.
+              let y_left = left_from inside past y (first.drawn_inside y x drawn o x_left.0) out in
+              clash (needed_drawn chart.events y x drawn o) (least y (before_parts chart.events y x drawn).0 y_left));
           input = λ i. absurd (not_both chart.events x o i);
         }
         | inr i ↦
             let s : ℕ = partner chart.events x in
-            clash (needed_sent chart.events s x (output_of chart.events is_wired.matched x i) (is_wired.matched.to_and_fro x below))
-            (least s (is_wired.matched.in_range x below) (left_from inside past s (first.sent_inside x i x_left.0) (quiet x i x_left.0 x_left.1)))
+            let o = output_of chart.events is_wired.matched x i in
+            let s_left = left_from inside past s (first.sent_inside x i x_left.0) (quiet x i x_left.0 x_left.1) in
+            clash (needed_sent chart.events s x o (is_wired.matched.to_and_fro x below))
+            (least s (is_wired.matched.in_range x below) s_left)
       ]
 
   -- From any event that is left one comes back to such an event.
@@ -126,11 +139,13 @@ module _ (chart : WiredChart) (is_wired : IsWired chart) (inside : ℕ → Bool)
       × ((y : ℕ) → y < length chart.events → is_left inside past y ≡ true → is_needed chart.events y x ≡ false)
   earliest g below left =
       let fuel : ℕ = count_below (is_left inside past) (length chart.events) in
-      descend (length chart.events) (is_needed chart.events) R first.base first.trans first.irreflexive fuel (is_left inside past) (le_refl fuel) g below left
+      descend (length chart.events) (is_needed chart.events) R first.base first.trans first.irreflexive
+      fuel (is_left inside past) (le_refl fuel) g below left
 
   -- Where the set is quiet, some event of it that is left may come: if the earliest before g is held
   -- and waits for t, then the earliest before t is not held.
-  go_on : IsQuiet chart inside past → (g : ℕ) → g < length chart.events → is_left inside past g ≡ true → (x : ℕ) × MayComeInside chart inside past x
+  go_on : IsQuiet chart inside past → (g : ℕ) → g < length chart.events
+      → is_left inside past g ≡ true → (x : ℕ) × MayComeInside chart inside past x
   go_on quiet g below left =
       let d = earliest g below left in
       let x : ℕ = d.0 in
@@ -147,7 +162,9 @@ module _ (chart : WiredChart) (is_wired : IsWired chart) (inside : ℕ → Bool)
             let y : ℕ = e.0 in
             let not_held : is_held chart inside y ≡ true → ⊥ = λ y_held.
             elim e.3 [
-              | inl same ↦ clash t_parts.2 (subst (λ (z : ℕ). inside (partner chart.events z) ≡ false) same (held_parts chart inside y y_held).2)
+              | inl same ↦
+                  let out = (held_parts chart inside y y_held).2 in
+                  clash t_parts.2 (subst (λ (z : ℕ). inside (partner chart.events z) ≡ false) same out)
               | inr r ↦ first.held_after y t y_held found.1 (first.held_together y x y_held held ∙ sym found.2) r
             ] in (
               y,
@@ -161,16 +178,20 @@ module _ (chart : WiredChart) (is_wired : IsWired chart) (inside : ℕ → Bool)
       (λ free. (x, record { may = x_may; member = x_member; patient = λ held. clash held free }))
 
   -- While an event of the set is left, some event of the set may come.
-  pub progress : Steps (MayComeInside chart inside) [] past → SomeLeft chart inside past → (x : ℕ) × MayComeInside chart inside past x
+  pub progress : Steps (MayComeInside chart inside) [] past → SomeLeft chart inside past
+      → (x : ℕ) × MayComeInside chart inside past x
   progress steps some =
-      elim (find_below (λ r. (is_input chart.events r && inside r) && (not (occurs past r) && occurs past (partner chart.events r))) (length chart.events)) [
+      let is_sent : ℕ → Bool =
+      λ r. (is_input chart.events r && inside r) && (not (occurs past r) && occurs past (partner chart.events r)) in
+      elim (find_below is_sent (length chart.events)) [
         | inl found ↦
             let both = and_parts _ _ found.2 in
             let own = and_parts _ _ both.0 in
             let sent = and_parts _ _ both.1 in
             take_first steps found.0 own.0 own.1 (not-true _ sent.0) sent.1
         | inr none ↦
-            go_on (λ r i member out. false_from_ne_true _
-            (λ sent. clash (and_from _ _ (and_from _ _ i member) (and_from _ _ (not_from_false _ out) sent)) (none r (input_below chart.events r i))))
+            go_on (λ r i member out. false_from_ne_true _ (λ sent.
+            let both = and_from _ _ (and_from _ _ i member) (and_from _ _ (not_from_false _ out) sent) in
+            clash both (none r (input_below chart.events r i))))
             some.0 some.1 (left_from inside past some.0 some.2 some.3)
       ]

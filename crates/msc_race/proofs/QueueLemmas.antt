@@ -9,12 +9,14 @@ use Rattle.msc_race.proofs.Shared.{clash}
 
 module _ (chart : WiredChart) (q : ℕ) (past : List ℕ) (s : ℕ) where
   -- an output of the queue is in it while its input has not occurred
-  pub waiting_from : is_output chart.events s ≡ true → queue chart s ≡ q → occurs past (partner chart.events s) ≡ false → is_waiting chart q past s ≡ true
+  pub waiting_from : is_output chart.events s ≡ true → queue chart s ≡ q
+      → occurs past (partner chart.events s) ≡ false → is_waiting chart q past s ≡ true
   unfolding is_waiting
   waiting_from o same out = and_from _ _ (and_from _ _ o (eq-eqb _ _ same)) (not_from_false _ out)
 
   -- and only then
-  pub waiting_parts : is_waiting chart q past s ≡ true → (is_output chart.events s ≡ true) × (queue chart s ≡ q) × (occurs past (partner chart.events s) ≡ false)
+  pub waiting_parts : is_waiting chart q past s ≡ true
+      → (is_output chart.events s ≡ true) × (queue chart s ≡ q) × (occurs past (partner chart.events s) ≡ false)
   unfolding is_waiting
   waiting_parts h =
       let both = and_parts _ _ h in
@@ -22,7 +24,8 @@ module _ (chart : WiredChart) (q : ℕ) (past : List ℕ) (s : ℕ) where
       (own.0, eqb-true _ _ own.1, not-true _ both.1)
 
   -- so the input of an output of the queue that is not in it has occurred
-  pub taken : is_output chart.events s ≡ true → queue chart s ≡ q → is_waiting chart q past s ≡ false → occurs past (partner chart.events s) ≡ true
+  pub taken : is_output chart.events s ≡ true → queue chart s ≡ q
+      → is_waiting chart q past s ≡ false → occurs past (partner chart.events s) ≡ true
   unfolding is_waiting
   taken o same fails =
       let own = and_from (is_output chart.events s) (eqb (queue chart s) q) o (eq-eqb _ _ same) in

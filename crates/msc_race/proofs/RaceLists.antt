@@ -34,7 +34,8 @@ AreAll R [] = Unit {0}
 AreAll R (p ∷ ps) = R p.0 p.1 × AreAll R ps
 
 -- so is what occurs in it
-all_at : (R : ℕ → ℕ → Type 0) (pairs : List (ℕ × ℕ)) → AreAll R pairs → (e f : ℕ) → Occurs pairs (e, f) → R e f
+all_at : (R : ℕ → ℕ → Type 0) (pairs : List (ℕ × ℕ)) → AreAll R pairs → (e f : ℕ)
+    → Occurs pairs (e, f) → R e f
 all_at R [] all e f (j, h) = cc
 all_at R (p ∷ ps) all e f (zero, h) = let same : p ≡ (e, f) = cc in subst (λ (q : ℕ × ℕ). R q.0 q.1) same all.0
 all_at R (p ∷ ps) all e f (suc j, h) = all_at R ps all.1 e f (j, h)
@@ -47,11 +48,13 @@ module _ (chart : WiredChart) where
   -- a drawn pair is in neither list
   abbrev pub is_left_out : List (ℕ × ℕ) → List (ℕ × ℕ) → Bool
   is_left_out races enforced =
-      any_below (λ e. any_below (λ f. before chart.events e f && not (has races e f || has enforced e f)) (length chart.events)) (length chart.events)
+      let n : ℕ = length chart.events in
+      any_below (λ e. any_below (λ f. before chart.events e f && not (has races e f || has enforced e f)) n) n
 
   -- Where runs show each pair of one list, the pairs of another are enforced, and each drawn pair is
   -- in one of them, the first has all races.
-  pub races_from : IsWired chart → (races enforced : List (ℕ × ℕ)) → AreAll IsShown races → AreAll (Enforced chart) enforced
+  pub races_from : IsWired chart → (races enforced : List (ℕ × ℕ)) → AreAll IsShown races
+      → AreAll (Enforced chart) enforced
       → is_left_out races enforced ≡ false → AreRaces chart races
   races_from is_wired races enforced shown derived none e f = (
     λ race.
@@ -60,7 +63,8 @@ module _ (chart : WiredChart) where
           | inl undrawn ↦ clash race.0 undrawn
           | inr listed ↦ elim (or_cases _ _ (not-false _ listed)) [
             | inl there ↦ occurs_from races e f there
-            | inr other ↦ absurd (race.1 (all_at (Enforced chart) enforced derived e f (occurs_from enforced e f other)))
+            | inr other ↦
+                absurd (race.1 (all_at (Enforced chart) enforced derived e f (occurs_from enforced e f other)))
           ]
         ],
     λ there.

@@ -12,19 +12,23 @@ use Rattle.msc_race.proofs.Reversal.{reversed}
 
 module _ (chart : WiredChart) (is_wired : IsWired chart) where
   -- a drawn pair that a run reverses is a race
-  pub race_from_run : (events : List ℕ) → Run chart events → (e f : ℕ) → before chart.events e f ≡ true → Reverses events e f → IsRace chart e f
-  race_from_run events run e f drawn reverses = (drawn, λ h. never_reversed chart is_wired events run e f h reverses)
+  pub race_from_run : (events : List ℕ) → Run chart events → (e f : ℕ)
+      → before chart.events e f ≡ true → Reverses events e f → IsRace chart e f
+  race_from_run events run e f drawn reverses =
+      (drawn, λ h. never_reversed chart is_wired events run e f h reverses)
 
   module _ (acyclic : IsAcyclic chart.events) where
     -- some run reverses a race
-    run_of_race : (e f : ℕ) → IsRace chart e f → (events : List ℕ) × Run chart events × Reverses events e f
+    run_of_race : (e f : ℕ) → IsRace chart e f
+        → (events : List ℕ) × Run chart events × Reverses events e f
     run_of_race e f race =
         let facts = before_parts chart.events e f race.0 in
         let shown = reversed chart is_wired acyclic e f facts.0 facts.1 facts.2 race.1 in
         (shown.0, shown.1, shown.3)
 
     -- a race is a drawn pair that some run reverses
-    pub race_exactly : (e f : ℕ) → IsRace chart e f ↔ ((before chart.events e f ≡ true) × ((events : List ℕ) × Run chart events × Reverses events e f))
+    pub race_exactly : (e f : ℕ)
+        → IsRace chart e f ↔ ((before chart.events e f ≡ true) × ((events : List ℕ) × Run chart events × Reverses events e f))
     race_exactly e f = (
       λ race. (race.0, run_of_race e f race),
       λ shown. race_from_run shown.1.0 shown.1.1 e f shown.0 shown.1.2,

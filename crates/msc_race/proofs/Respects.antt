@@ -14,11 +14,13 @@ module _ (chart : WiredChart) (is_wired : IsWired chart) where
   -- output waits for what is drawn before it; the first of a queue has occurred; of two links the
   -- later is taken first, then the run up to the middle; and what stands before the first of a queue
   -- is out of the queue, so its input has occurred.
-  pub earlier : (e f : ℕ) → Enforced chart e f → (past : List ℕ) → Run chart past → MayCome chart past f → occurs past e ≡ true
+  pub earlier : (e f : ℕ) → Enforced chart e f → (past : List ℕ) → Run chart past
+      → MayCome chart past f → occurs past e ≡ true
   earlier e f (drawn h o) past run may = may.output o e h
   earlier e f (sent o p) past run may =
       let input : is_input chart.events f ≡ true = rw (← p) (input_of chart.events is_wired.matched e o) in
-      let back : partner chart.events f ≡ e = rw (← p) (is_wired.matched.to_and_fro e (output_below chart.events e o)) in
+      let below = output_below chart.events e o in
+      let back : partner chart.events f ≡ e = rw (← p) (is_wired.matched.to_and_fro e below) in
       rw (← back) (first_occurs _ _ _ (may.input input)).0
   earlier e f (joined {y = m} h k) past run may =
       let at_mid = step_at (MayCome chart) past m run (earlier m f k past run may) in
@@ -35,11 +37,13 @@ module _ (chart : WiredChart) (is_wired : IsWired chart) where
       rw p at (taken chart (queue chart f) past s os (same ∙ sym queues) out)
 
   -- so it stands before the event in every run
-  pub kept : (events : List ℕ) → Run chart events → (e f : ℕ) → Enforced chart e f → occurs events f ≡ true → occurs (until events f) e ≡ true
+  pub kept : (events : List ℕ) → Run chart events → (e f : ℕ) → Enforced chart e f
+      → occurs events f ≡ true → occurs (until events f) e ≡ true
   kept events run e f h there =
       let at_f = step_at (MayCome chart) events f run there in
       earlier e f h (until events f) at_f.0 at_f.1
 
   -- and no run reverses the two
-  pub never_reversed : (events : List ℕ) → Run chart events → (e f : ℕ) → Enforced chart e f → Reverses events e f → ⊥
+  pub never_reversed : (events : List ℕ) → Run chart events → (e f : ℕ) → Enforced chart e f
+      → Reverses events e f → ⊥
   never_reversed events run e f h reverses = clash (kept events run e f h reverses.0) reverses.1

@@ -1,5 +1,5 @@
 -- What is not enforced is reversed by some run.
-use Rattle.std.proofs.Common.{◌≡◌, ℕ, ◌<◌, Bool, true, ◌≢◌, ◌↔◌, inl, inr, List, [], ◌++◌, length, refl, sym}
+use Rattle.std.proofs.Common.{◌≡◌, ℕ, ◌<◌, Bool, true, false, ◌≢◌, ◌↔◌, inl, inr, List, [], ◌++◌, length, refl, sym}
 use Rattle.std.proofs.lemmas.Bool.{false_from_ne_true}
 use Rattle.std.proofs.Math.Nat.{le_refl}
 use Rattle.msc_chart.specs.Lists.{occurs, until}
@@ -15,15 +15,18 @@ use Rattle.msc_race.proofs.FreeEvents.{is_free_of, free_of_test, test_of_free}
 use Rattle.msc_race.proofs.FreeFirst.{free_first}
 use Rattle.msc_race.proofs.Tables.{enforced_order, enforced_told}
 
-module _ (chart : WiredChart) (is_wired : IsWired chart) (acyclic : IsAcyclic chart.events) (e f : ℕ) (e_below : e < length chart.events) (f_below : f < length chart.events) (other : e ≢ f) where
+module _ (chart : WiredChart) (is_wired : IsWired chart) (acyclic : IsAcyclic chart.events) (e f : ℕ)
+    (e_below : e < length chart.events) (f_below : f < length chart.events) (other : e ≢ f) where
   -- For two events that are not enforced in an order, a whole run has the second without the first
   -- before it: all that is free of the first, and then the rest.
-  pub reversed : (Enforced chart e f → ⊥) → (events : List ℕ) × Run chart events × IsWhole chart events × Reverses events e f
+  pub reversed : (Enforced chart e f → ⊥)
+      → (events : List ℕ) × Run chart events × IsWhole chart events × Reverses events e f
   reversed apart =
       let table = enforced_order chart is_wired in
       let free : ℕ → Bool = is_free_of chart table.0 e in
       let fuel : ℕ = count_below (is_left free []) (length chart.events) in
-      let first = all_of chart is_wired free (Enforced chart) (free_first chart is_wired table.0 table.1 e e_below acyclic) fuel [] (le_refl fuel) tt in
+      let can_go = free_first chart is_wired table.0 table.1 e e_below acyclic in
+      let first = all_of chart is_wired free (Enforced chart) can_go fuel [] (le_refl fuel) tt in
       let front : List ℕ = first.0 in
       let f_free = test_of_free chart table.0 table.1 e e_below f f_below (λ same. other (sym same)) apart in
       let f_there : occurs front f ≡ true = first.2 f f_below f_free in
@@ -31,7 +34,9 @@ module _ (chart : WiredChart) (is_wired : IsWired chart) (acyclic : IsAcyclic ch
       let e_out : occurs (until front f) e ≡ true → ⊥ = λ h.
       let at_e = step_at (MayComeInside chart free) front e first.1 (until-within front f e h) in
       (free_of_test chart table.0 table.1 e e at_e.1.member).1 refl in
-      (front ++ whole.0, whole.1, whole.2, (occurs-left front whole.0 f f_there, rw (until-append front whole.0 f f_there) (false_from_ne_true _ e_out)))
+      let e_late : occurs (until (front ++ whole.0) f) e ≡ false =
+      rw (until-append front whole.0 f f_there) (false_from_ne_true _ e_out) in
+      (front ++ whole.0, whole.1, whole.2, (occurs-left front whole.0 f f_there, e_late))
 
   -- So the two are enforced in an order exactly where no run reverses them.
   pub order_exactly : Enforced chart e f ↔ ((events : List ℕ) → Run chart events → Reverses events e f → ⊥)

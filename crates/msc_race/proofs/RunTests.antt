@@ -27,11 +27,13 @@ module _ (chart : WiredChart) where
   -- an output has all that is drawn before it behind it, and the message of an input is the first of
   -- its queue
   abbrev is_open : List ℕ → ℕ → Bool → Bool
-  is_open past x sends = cond sends (not (is_missing past x)) (is_first (state chart (queue chart x) past) (partner chart.events x))
+  is_open past x sends =
+      cond sends (not (is_missing past x)) (is_first (state chart (queue chart x) past) (partner chart.events x))
 
   -- x may come next
   abbrev may_come : List ℕ → ℕ → Bool
-  may_come past x = (ltb x (length chart.events) && not (occurs past x)) && is_open past x (is_output chart.events x)
+  may_come past x =
+      (ltb x (length chart.events) && not (occurs past x)) && is_open past x (is_output chart.events x)
 
   -- each event of the list may come after those before it
   abbrev pub is_run : List ℕ → List ℕ → Bool
@@ -49,7 +51,9 @@ module _ (chart : WiredChart) where
         output = λ o y drawn.
             let none = not-true _ (subst (λ (sends : Bool). is_open past x sends ≡ true) o both.1) in
             by_test (occurs past y) (λ there. there)
-            (λ out. clash (and_from _ _ drawn (not_from_false _ out)) (none_of_any _ _ none y (before_parts chart.events y x drawn).0));
+            (λ out.
+            let fails = none_of_any _ _ none y (before_parts chart.events y x drawn).0 in
+            clash (and_from _ _ drawn (not_from_false _ out)) fails);
         input = λ i.
             let takes : is_output chart.events x ≡ false = false_from_ne_true _ (λ o. not_both chart.events x o i) in
             first_from _ _ (subst (λ (sends : Bool). is_open past x sends ≡ true) takes both.1);
@@ -58,14 +62,17 @@ module _ (chart : WiredChart) where
   -- so does the test of a run
   pub run_from : (past xs : List ℕ) → is_run past xs ≡ true → Steps (MayCome chart) past xs
   run_from past [] h = tt
-  run_from past (x ∷ xs) h = let both = and_parts _ _ h in (may_from past x both.0, run_from (past ++ x ∷ []) xs both.1)
+  run_from past (x ∷ xs) h =
+      let both = and_parts _ _ h in
+      (may_from past x both.0, run_from (past ++ x ∷ []) xs both.1)
 
   -- some event of the chart is not in the list
   abbrev pub is_short : List ℕ → Bool
   is_short events = any_below (λ e. not (occurs events e)) (length chart.events)
 
   -- a run that reverses, by computing
-  pub reversal_from : (events : List ℕ) (e f : ℕ) → is_run [] events ≡ true → is_short events ≡ false
+  pub reversal_from : (events : List ℕ) (e f : ℕ) → is_run [] events ≡ true
+      → is_short events ≡ false
       → occurs events f ≡ true → occurs (until events f) e ≡ false → IsReversal chart events e f
   reversal_from events e f runs whole there out = record {
     run = run_from [] events runs;
@@ -78,7 +85,8 @@ module _ (chart : WiredChart) where
   is_paired e =
       (ltb (partner chart.events e) (length chart.events) && eqb (partner chart.events (partner chart.events e)) e)
       && (eqb (queue chart (partner chart.events e)) (queue chart e)
-      && cond (is_input chart.events e) (is_output chart.events (partner chart.events e)) (not (is_output chart.events (partner chart.events e))))
+      && cond (is_input chart.events e) (is_output chart.events (partner chart.events e))
+      (not (is_output chart.events (partner chart.events e))))
 
   -- some event is not so
   abbrev pub is_unpaired : Bool
@@ -92,7 +100,8 @@ module _ (chart : WiredChart) where
   -- so partners match and have one queue, by computing
   pub wired_from : is_unpaired ≡ false → IsWired chart
   wired_from h =
-      let each = λ (e : ℕ) (below : e < length chart.events). and_parts _ _ (not-false _ (none_of_any _ _ h e below)) in
+      let each =
+      λ (e : ℕ) (below : e < length chart.events). and_parts _ _ (not-false _ (none_of_any _ _ h e below)) in
       record {
         matched = record {
           in_range = λ e below. ltb-true _ _ (and_parts _ _ (each e below).0).0;

@@ -19,10 +19,12 @@ missing : (ℕ → ℕ → Bool) → ℕ → ℕ
 missing table n = sum_below (λ x. count_below (λ y. not (table x y)) n) n
 
 -- each new pair leaves fewer missing
-missing_less : (table : ℕ → ℕ → Bool) (n a b : ℕ) → a < n → b < n → table a b ≡ false → missing (with_pair table a b) n < missing table n
+missing_less : (table : ℕ → ℕ → Bool) (n a b : ℕ) → a < n → b < n → table a b ≡ false
+    → missing (with_pair table a b) n < missing table n
 unfolding missing with_pair
 missing_less table n a b a_below b_below out =
-    let still : (x y : ℕ) → not (with_pair table a b x y) ≡ true → not (table x y) ≡ true = λ x y h. not_from_false _ (or_parts _ _ (not-true _ h)).1 in
+    let still : (x y : ℕ) → not (with_pair table a b x y) ≡ true → not (table x y) ≡ true =
+    λ x y h. not_from_false _ (or_parts _ _ (not-true _ h)).1 in
     let row : ℕ → ℕ = λ x. count_below (λ y. not (table x y)) n in
     let new_row : ℕ → ℕ = λ x. count_below (λ y. not (with_pair table a b x y)) n in
     sum-less row new_row n a
@@ -47,10 +49,12 @@ module _ (chart : WiredChart) (is_wired : IsWired chart) where
 
   -- a table to which no rule gives another pair
   abbrev IsClosed : (ℕ → ℕ → Bool) → Type 0
-  IsClosed table = (x y : ℕ) → x < length chart.events → y < length chart.events → is_given table x y ≡ true → table x y ≡ true
+  IsClosed table =
+      (x y : ℕ) → x < length chart.events → y < length chart.events → is_given table x y ≡ true → table x y ≡ true
 
   -- what a rule gives from enforced pairs is enforced
-  given_sound : (table : ℕ → ℕ → Bool) → IsSound table → (x y : ℕ) → is_given table x y ≡ true → Enforced chart x y
+  given_sound : (table : ℕ → ℕ → Bool) → IsSound table → (x y : ℕ) → is_given table x y ≡ true
+      → Enforced chart x y
   unfolding is_given
   given_sound table sound x y h =
       elim (or_cases _ _ h) [
@@ -67,14 +71,16 @@ module _ (chart : WiredChart) (is_wired : IsWired chart) where
               let x_below = input_below chart.events x inputs.0 in
               let y_below = input_below chart.events y inputs.1 in
               let queues = is_wired.one_queue x x_below ∙ eqb-true _ _ own.1 ∙ sym (is_wired.one_queue y y_below) in
-              queued (output_of chart.events is_wired.matched x inputs.0) (output_of chart.events is_wired.matched y inputs.1) queues
+              queued
+              (output_of chart.events is_wired.matched x inputs.0) (output_of chart.events is_wired.matched y inputs.1) queues
               (sound (partner chart.events x) (partner chart.events y) all.1)
               (is_wired.matched.to_and_fro x x_below) (is_wired.matched.to_and_fro y y_below)
         ]
       ]
 
   -- so the table stays one of enforced pairs
-  with_pair_sound : (table : ℕ → ℕ → Bool) (a b : ℕ) → IsSound table → Enforced chart a b → IsSound (with_pair table a b)
+  with_pair_sound : (table : ℕ → ℕ → Bool) (a b : ℕ) → IsSound table → Enforced chart a b
+      → IsSound (with_pair table a b)
   unfolding with_pair
   with_pair_sound table a b sound h x y k =
       elim (or_cases _ _ k) [
@@ -87,7 +93,8 @@ module _ (chart : WiredChart) (is_wired : IsWired chart) where
       ]
 
   -- a closed table has every enforced pair, by the rules one by one
-  closed_complete : (table : ℕ → ℕ → Bool) → IsClosed table → (x y : ℕ) → Enforced chart x y → table x y ≡ true
+  closed_complete : (table : ℕ → ℕ → Bool) → IsClosed table → (x y : ℕ) → Enforced chart x y
+      → table x y ≡ true
   unfolding is_given
   closed_complete table closed x y (drawn b o) =
       let below = enforced_below chart is_wired x y (drawn b o) in
@@ -99,7 +106,8 @@ module _ (chart : WiredChart) (is_wired : IsWired chart) where
       let left = enforced_below chart is_wired x m h in
       let right = enforced_below chart is_wired m y k in
       let both = and_from _ _ (closed_complete table closed x m h) (closed_complete table closed m y k) in
-      closed x y left.0 right.1 (or_right _ _ (or_left _ _ (any_from (λ z. table x z && table z y) (length chart.events) m left.1 both)))
+      let through = any_from (λ z. table x z && table z y) (length chart.events) m left.1 both in
+      closed x y left.0 right.1 (or_right _ _ (or_left _ _ through))
   closed_complete table closed x y (queued {s = s} {t = t} os ot same h p q) =
       let outputs = closed_complete table closed s t h in
       let s_below = output_below chart.events s os in
@@ -116,38 +124,50 @@ module _ (chart : WiredChart) (is_wired : IsWired chart) where
 
   -- a pair that a rule gives and the table lacks, or the table is closed
   next_pair : (table : ℕ → ℕ → Bool)
-      → ((x : ℕ) × (y : ℕ) × (x < length chart.events) × (y < length chart.events) × (is_given table x y ≡ true) × (table x y ≡ false))
+      → ((x : ℕ) × (y : ℕ) × (x < length chart.events) × (y < length chart.events)
+      × (is_given table x y ≡ true) × (table x y ≡ false))
       ⊎ IsClosed table
   next_pair table =
-      elim (find_below (λ x. any_below (λ y. is_given table x y && not (table x y)) (length chart.events)) (length chart.events)) [
+      let n : ℕ = length chart.events in
+      elim (find_below (λ x. any_below (λ y. is_given table x y && not (table x y)) n) n) [
         | inl found ↦
-            let y = some_of_any (λ y. is_given table found.0 y && not (table found.0 y)) (length chart.events) found.2 in
+            let y = some_of_any (λ y. is_given table found.0 y && not (table found.0 y)) n found.2 in
             let both = and_parts _ _ y.2 in
             inl (found.0, y.0, found.1, y.1, both.0, not-true _ both.1)
         | inr none ↦ inr (λ x y x_below y_below h.
-            elim (and_cases _ _ (none_of_any (λ y. is_given table x y && not (table x y)) (length chart.events) (none x x_below) y y_below)) [
+            let fails = none_of_any (λ y. is_given table x y && not (table x y)) n (none x x_below) y y_below in
+            elim (and_cases _ _ fails) [
               | inl other ↦ clash h other
               | inr there ↦ not-false _ there
             ])
       ]
 
+  -- a closed table of enforced pairs is the enforced order
+  order_of : (table : ℕ → ℕ → Bool) → IsSound table → IsClosed table → (order : ℕ → ℕ → Bool) × IsEnforcedOrder chart order
+  order_of table sound closed = (
+    table,
+    record { holds = λ x y x_below y_below h. sound x y h; complete = closed_complete table closed },
+  )
+
   -- fill a table until it is closed
-  filled : (fuel : ℕ) (table : ℕ → ℕ → Bool) → IsSound table → missing table (length chart.events) ≤ fuel
+  filled : (fuel : ℕ) (table : ℕ → ℕ → Bool) → IsSound table
+      → missing table (length chart.events) ≤ fuel
       → (order : ℕ → ℕ → Bool) × IsEnforcedOrder chart order
   filled zero table sound enough =
       elim (next_pair table) [
         | inl pair ↦
             let less = missing_less table (length chart.events) pair.0 pair.1 pair.2 pair.3 pair.5 in
             let h : ⊥ = omega arith in absurd h
-        | inr closed ↦ (table, record { holds = λ x y x_below y_below h. sound x y h; complete = closed_complete table closed })
+        | inr closed ↦ order_of table sound closed
       ]
   filled (suc fuel) table sound enough =
       elim (next_pair table) [
         | inl pair ↦
             let less = missing_less table (length chart.events) pair.0 pair.1 pair.2 pair.3 pair.5 in
             let link = given_sound table sound pair.0 pair.1 pair.4 in
-            filled fuel (with_pair table pair.0 pair.1) (with_pair_sound table pair.0 pair.1 sound link) (omega arith)
-        | inr closed ↦ (table, record { holds = λ x y x_below y_below h. sound x y h; complete = closed_complete table closed })
+            let still = with_pair_sound table pair.0 pair.1 sound link in
+            filled fuel (with_pair table pair.0 pair.1) still (omega arith)
+        | inr closed ↦ order_of table sound closed
       ]
 
   -- There is a test for the enforced order.
@@ -157,7 +177,10 @@ module _ (chart : WiredChart) (is_wired : IsWired chart) where
       filled (missing empty (length chart.events)) empty (λ x y h. clash h refl) (le_refl _)
 
   -- So two events are in the enforced order, or they are not.
-  pub enforced_told : (e f : ℕ) → e < length chart.events → f < length chart.events → Enforced chart e f ⊎ (Enforced chart e f → ⊥)
+  pub enforced_told : (e f : ℕ) → e < length chart.events → f < length chart.events
+      → Enforced chart e f ⊎ (Enforced chart e f → ⊥)
   enforced_told e f e_below f_below =
       let table = enforced_order in
-      by_test (table.0 e f) (λ h. inl (table.1.holds e f e_below f_below h)) (λ out. inr (λ h. clash (table.1.complete e f h) out))
+      by_test (table.0 e f)
+      (λ h. inl (table.1.holds e f e_below f_below h))
+      (λ out. inr (λ h. clash (table.1.complete e f h) out))

@@ -3,7 +3,7 @@ use Rattle.std.proofs.Common.{◌≡◌, ℕ, zero, suc, ◌<◌, Bool, true, fa
 use Rattle.std.proofs.lemmas.Bool.{cases_lt, cases_eq, and_parts, and_from, not-true, not_from_false}
 use Rattle.std.proofs.Math.Nat.{le_refl}
 use Rattle.msc_chart.specs.Lists.{occurs, IsFirst}
-use Rattle.msc_chart.specs.Charts.{partner, before}
+use Rattle.msc_chart.specs.Charts.{partner, is_output, is_input, before}
 use Rattle.msc_chart.specs.Orders.{WiredChart, queue}
 use Rattle.msc_chart.specs.Runs.{MayCome, state}
 use Rattle.msc_chart.specs.Chosen.{IsLeast}
@@ -16,14 +16,18 @@ abbrev IsTold : (ℕ → Type 0) → Type 0
 IsTold P = (x : ℕ) → P x ⊎ (P x → ⊥)
 
 -- there is a least number with a property that can be told, or no number below a bound has it
-least_below : (P : ℕ → Type 0) → IsTold P → (n : ℕ) → ((x : ℕ) × IsLeast P x) ⊎ ((x : ℕ) → x < n → P x → ⊥)
+least_below : (P : ℕ → Type 0) → IsTold P → (n : ℕ)
+    → ((x : ℕ) × IsLeast P x) ⊎ ((x : ℕ) → x < n → P x → ⊥)
 least_below P told zero = inr (λ x below h. omega arith)
 least_below P told (suc n) =
     elim (least_below P told n) [
       | inl found ↦ inl found
       | inr none ↦ elim (told n) [
         | inl h ↦ inl (n, record { itself = h; none_below = none })
-        | inr h ↦ inr (λ x below k. elim (cases_lt x n) [ inl lt ↦ none x lt k | inr ge ↦ let same : x ≡ n = omega arith in h (subst P same k) ])
+        | inr h ↦ inr (λ x below k. elim (cases_lt x n) [
+          | inl lt ↦ none x lt k
+          | inr ge ↦ let same : x ≡ n = omega arith in h (subst P same k)
+        ])
       ]
     ]
 
@@ -45,7 +49,8 @@ module _ (chart : WiredChart) (past : List ℕ) where
       elim (find_below (λ y. before chart.events y x && not (occurs past y)) (length chart.events)) [
         | inl found ↦ let both = and_parts _ _ found.2 in inr (found.0, both.0, not-true _ both.1)
         | inr none ↦ inl (λ y drawn. by_test (occurs past y) (λ there. there)
-            (λ out. clash (and_from _ _ drawn (not_from_false _ out)) (none y (before_parts chart.events y x drawn).0)))
+            (λ out.
+            clash (and_from _ _ drawn (not_from_false _ out)) (none y (before_parts chart.events y x drawn).0)))
       ]
 
   -- an event may come next, or may not
@@ -57,11 +62,15 @@ module _ (chart : WiredChart) (past : List ℕ) where
             (λ old. inr (λ may. clash old may.new))
             (λ new. elim (output_or_input chart.events x below) [
               | inl o ↦ elim (drawn_told x) [
-                | inl all ↦ inl (record { event = below; new = new; output = λ again. all; input = λ i. absurd (not_both chart.events x o i) })
+                | inl all ↦
+                    let no_input = λ (i : is_input chart.events x ≡ true). absurd (not_both chart.events x o i) in
+                    inl (record { event = below; new = new; output = λ again. all; input = no_input })
                 | inr some ↦ inr (λ may. clash (may.output o some.0 some.1) some.2)
               ]
               | inr i ↦ elim (first_told (state chart (queue chart x) past) (partner chart.events x)) [
-                | inl first ↦ inl (record { event = below; new = new; output = λ o. absurd (not_both chart.events x o i); input = λ again. first })
+                | inl first ↦
+                    let no_output = λ (o : is_output chart.events x ≡ true). absurd (not_both chart.events x o i) in
+                    inl (record { event = below; new = new; output = no_output; input = λ again. first })
                 | inr other ↦ inr (λ may. other (may.input i))
               ]
             ])

@@ -10,7 +10,7 @@ use Rattle.msc_chart.specs.Runs.{Run, MayCome, IsWhole}
 use Rattle.msc_race.proofs.Shared.{clash, count_below, find_below, step_at, Steps-map}
 use Rattle.msc_race.proofs.Respects.{earlier}
 use Rattle.msc_race.proofs.EnforcedPairs.{enforced_below}
-use Rattle.msc_race.proofs.Inside.{held_parts, MayComeInside, run_inside, is_left}
+use Rattle.msc_race.proofs.Inside.{held_parts, MayComeInside, SomeLeft, run_inside, is_left}
 use Rattle.msc_race.proofs.Progress.{needed_cases, CanGoFirst, progress}
 use Rattle.msc_race.proofs.Growing.{all_of}
 
@@ -32,26 +32,35 @@ module _ (chart : WiredChart) (is_wired : IsWired chart) (acyclic : IsAcyclic ch
   }
 
   -- every run is one inside that set
-  run_of_all : (events : List ℕ) → Run chart events → Steps (MayComeInside chart everything) [] events
+  run_of_all : (events : List ℕ) → Run chart events
+      → Steps (MayComeInside chart everything) [] events
   run_of_all events run = Steps-map (MayCome chart) (MayComeInside chart everything)
-      (λ past x may. record { may = may; member = refl; patient = λ held. clash refl (held_parts chart everything x held).2 }) [] events run
+      (λ past x may. record {
+        may = may;
+        member = refl;
+        patient = λ held. clash refl (held_parts chart everything x held).2;
+      }) [] events run
 
   -- A run is whole, or some event makes it longer.
-  pub never_stuck : (events : List ℕ) → Run chart events → IsWhole chart events ⊎ ((e : ℕ) × MayCome chart events e)
+  pub never_stuck : (events : List ℕ) → Run chart events
+      → IsWhole chart events ⊎ ((e : ℕ) × MayCome chart events e)
   never_stuck events run =
       elim (find_below (λ x. not (occurs events x)) (length chart.events)) [
         | inl found ↦
-            let next = progress chart is_wired everything (Visual chart.events) all_first events (run_of_all events run)
-            (found.0, found.1, refl, not-true _ found.2) in
+            let left : SomeLeft chart everything events = (found.0, found.1, refl, not-true _ found.2) in
+            let next =
+            progress chart is_wired everything (Visual chart.events) all_first events (run_of_all events run) left in
             inr (next.0, next.1.may)
         | inr none ↦ inl (λ e below. not-false (occurs events e) (none e below))
       ]
 
   -- Every run goes on to a whole one.
-  pub whole_after : (events : List ℕ) → Run chart events → (rest : List ℕ) × Run chart (events ++ rest) × IsWhole chart (events ++ rest)
+  pub whole_after : (events : List ℕ) → Run chart events
+      → (rest : List ℕ) × Run chart (events ++ rest) × IsWhole chart (events ++ rest)
   whole_after events run =
       let fuel : ℕ = count_below (is_left everything events) (length chart.events) in
-      let more = all_of chart is_wired everything (Visual chart.events) all_first fuel events (le_refl fuel) (run_of_all events run) in
+      let steps = run_of_all events run in
+      let more = all_of chart is_wired everything (Visual chart.events) all_first fuel events (le_refl fuel) steps in
       (more.0, run_inside chart everything _ more.1, λ e below. more.2 e below refl)
 
   -- The enforced order has no cycle: in a whole run an event would stand before itself.

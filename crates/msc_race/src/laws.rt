@@ -5,12 +5,10 @@
 ghost use Rattle.std.specs.Prelude.{[], ◌∷◌};
 ghost use Rattle.msc_chart.specs.declared.queue.Queues.{Queues};
 ghost use Rattle.msc_chart.specs.declared.queue.Queues.TheVariants.{Mailbox, Pair};
-ghost use Rattle.msc_chart.specs.Drawings.{chart_of};
-ghost use Rattle.msc_chart.specs.Orders.{Enforced, wired};
+ghost use Rattle.msc_chart.specs.Orders.{Enforced};
 ghost use Rattle.msc_chart.specs.Runs.{Run};
-ghost use Rattle.msc_chart.specs.Samples.{coregion, relay, two_mailboxes, two_senders};
 ghost use Rattle.msc_race.specs.Laws.{AChosenRunExists, ChosenRunsAreUnique, ChosenRunsAreWhole, ChosenRunsGoOn, ChosenRunsReverse, ChosenRunsReverseRaces, ChosenStepsAreARun, EveryRunGoesOnToAWholeOne, EveryRunKeepsTheEnforcedOrder, NoRunIsStuck, RacesAreWhatRunsReverse, RunsKeepTheDrawnOrder, TheEnforcedOrderHasNoCycle, TheEnforcedOrderIsExact, WhatIsEnforcedIsNeverReversed, WhatIsNotEnforcedIsReversed};
-ghost use Rattle.msc_race.specs.Samples.{AreNotReversedTogether, AreRaces, IsReversal, crossing, overtaking};
+ghost use Rattle.msc_race.specs.Samples.{NoRunReversesBoth, AreRaces, IsReversal, crossed, mailboxes, overtaken, relayed, senders, unordered};
 
 use msc_chart::laws::ends_share_queues;
 
@@ -91,30 +89,30 @@ pub fn a_chosen_run_goes_on()
 
 /// What the definitions say of small charts: all their races, and where they have none.
 pub fn worked_races()
-    ensures two_senders_pair { AreRaces (wired Pair (chart_of two_senders)) ((1, 2) ∷ []) }
-    ensures two_senders_mailbox { AreRaces (wired Mailbox (chart_of two_senders)) ((1, 2) ∷ []) }
-    ensures coregion { (queues : Queues) → AreRaces (wired queues (chart_of coregion)) [] }
-    ensures relay_pair { AreRaces (wired Pair (chart_of relay)) ((2, 3) ∷ []) }
-    ensures relay_mailbox { AreRaces (wired Mailbox (chart_of relay)) [] }
-    ensures relay_enforced { Enforced (wired Mailbox (chart_of relay)) 2 3 }
-    ensures overtaking { (queues : Queues) → AreRaces (wired queues overtaking) ((2, 3) ∷ []) }
-    ensures overtaken { (queues : Queues) → Enforced (wired queues overtaking) 3 2 }
-    ensures crossing { (queues : Queues) → AreRaces (wired queues crossing) ((0, 1) ∷ (2, 3) ∷ []) }
-    ensures two_mailboxes { AreRaces (wired Mailbox two_mailboxes) ((4, 5) ∷ (6, 7) ∷ []) }
+    ensures two_senders_pair { AreRaces (senders Pair) ((1, 2) ∷ []) }
+    ensures two_senders_mailbox { AreRaces (senders Mailbox) ((1, 2) ∷ []) }
+    ensures coregion { (queues : Queues) → AreRaces (unordered queues) [] }
+    ensures relay_pair { AreRaces (relayed Pair) ((2, 3) ∷ []) }
+    ensures relay_mailbox { AreRaces (relayed Mailbox) [] }
+    ensures relay_enforced { Enforced (relayed Mailbox) 2 3 }
+    ensures overtaking { (queues : Queues) → AreRaces (overtaken queues) ((2, 3) ∷ []) }
+    ensures overtaking_enforced { (queues : Queues) → Enforced (overtaken queues) 3 2 }
+    ensures crossing { (queues : Queues) → AreRaces (crossed queues) ((0, 1) ∷ (2, 3) ∷ []) }
+    ensures mailboxes { AreRaces mailboxes ((4, 5) ∷ (6, 7) ∷ []) }
 {}
 
 /// What the definitions say of small charts: runs that reverse their races, a list that is no run,
 /// and races that no run reverses together.
 pub fn worked_runs()
-    ensures two_senders_pair { IsReversal (wired Pair (chart_of two_senders)) (0 ∷ 3 ∷ 2 ∷ 1 ∷ []) 1 2 }
-    ensures two_senders_mailbox { IsReversal (wired Mailbox (chart_of two_senders)) (3 ∷ 0 ∷ 2 ∷ 1 ∷ []) 1 2 }
-    ensures no_run { Run (wired Mailbox (chart_of two_senders)) (0 ∷ 3 ∷ 2 ∷ 1 ∷ []) → ⊥ }
-    ensures relay_pair { IsReversal (wired Pair (chart_of relay)) (0 ∷ 1 ∷ 4 ∷ 5 ∷ 3 ∷ 2 ∷ []) 2 3 }
-    ensures overtaking { (queues : Queues) → IsReversal (wired queues overtaking) (0 ∷ 1 ∷ 3 ∷ 2 ∷ []) 2 3 }
-    ensures crossing_first { (queues : Queues) → IsReversal (wired queues crossing) (2 ∷ 1 ∷ 0 ∷ 3 ∷ []) 0 1 }
-    ensures crossing_second { (queues : Queues) → IsReversal (wired queues crossing) (0 ∷ 3 ∷ 2 ∷ 1 ∷ []) 2 3 }
-    ensures crossing_one { (queues : Queues) → AreNotReversedTogether (wired queues crossing) (0, 1) (2, 3) }
-    ensures two_mailboxes_first { IsReversal (wired Mailbox two_mailboxes) (2 ∷ 3 ∷ 0 ∷ 1 ∷ 5 ∷ 6 ∷ 7 ∷ 4 ∷ []) 4 5 }
-    ensures two_mailboxes_second { IsReversal (wired Mailbox two_mailboxes) (0 ∷ 1 ∷ 2 ∷ 3 ∷ 4 ∷ 5 ∷ 7 ∷ 6 ∷ []) 6 7 }
-    ensures two_mailboxes_one { AreNotReversedTogether (wired Mailbox two_mailboxes) (4, 5) (6, 7) }
+    ensures two_senders_pair { IsReversal (senders Pair) (0 ∷ 3 ∷ 2 ∷ 1 ∷ []) 1 2 }
+    ensures two_senders_mailbox { IsReversal (senders Mailbox) (3 ∷ 0 ∷ 2 ∷ 1 ∷ []) 1 2 }
+    ensures no_run { Run (senders Mailbox) (0 ∷ 3 ∷ 2 ∷ 1 ∷ []) → ⊥ }
+    ensures relay_pair { IsReversal (relayed Pair) (0 ∷ 1 ∷ 4 ∷ 5 ∷ 3 ∷ 2 ∷ []) 2 3 }
+    ensures overtaken { (queues : Queues) → IsReversal (overtaken queues) (0 ∷ 1 ∷ 3 ∷ 2 ∷ []) 2 3 }
+    ensures crossing_a { (queues : Queues) → IsReversal (crossed queues) (2 ∷ 1 ∷ 0 ∷ 3 ∷ []) 0 1 }
+    ensures crossing_b { (queues : Queues) → IsReversal (crossed queues) (0 ∷ 3 ∷ 2 ∷ 1 ∷ []) 2 3 }
+    ensures crossing_one { (queues : Queues) → NoRunReversesBoth (crossed queues) (0, 1) (2, 3) }
+    ensures mailboxes_q { IsReversal mailboxes (2 ∷ 3 ∷ 0 ∷ 1 ∷ 5 ∷ 6 ∷ 7 ∷ 4 ∷ []) 4 5 }
+    ensures mailboxes_z { IsReversal mailboxes (0 ∷ 1 ∷ 2 ∷ 3 ∷ 4 ∷ 5 ∷ 7 ∷ 6 ∷ []) 6 7 }
+    ensures mailboxes_one { NoRunReversesBoth mailboxes (4, 5) (6, 7) }
 {}

@@ -4,6 +4,8 @@ use Rattle.msc_race.proofs.laws.no_run_is_stuck.Goals as goal
 
 pub returns : goal.returns
 returns c = record {
-  longer = λ queues d accepted. never_stuck (wired queues d) (c.ends_share_queues.ensures queues d accepted) accepted.acyclic;
-  whole = λ queues d accepted. whole_after (wired queues d) (c.ends_share_queues.ensures queues d accepted) accepted.acyclic;
+  longer = λ queues d accepted.
+      never_stuck (wired queues d) (c.ends_share_queues.ensures queues d accepted) accepted.acyclic;
+  whole = λ queues d accepted.
+      whole_after (wired queues d) (c.ends_share_queues.ensures queues d accepted) accepted.acyclic;
 }

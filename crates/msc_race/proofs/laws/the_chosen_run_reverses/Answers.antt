@@ -5,7 +5,8 @@ use Rattle.msc_race.proofs.laws.the_chosen_run_reverses.Goals as goal
 
 pub returns : goal.returns
 returns c = record {
-  exists = λ queues d accepted. chosen_exists (wired queues d) (c.ends_share_queues.ensures queues d accepted) accepted.acyclic;
+  exists = λ queues d accepted.
+      chosen_exists (wired queues d) (c.ends_share_queues.ensures queues d accepted) accepted.acyclic;
   unique = λ queues d. chosen_unique (wired queues d);
   whole = λ queues d. chosen_whole (wired queues d);
   reverses = λ queues d e events chosen f free. (

@@ -10,7 +10,7 @@ returns c = record {
   relay_mailbox = rows.relay_mailbox;
   relay_enforced = rows.relay_enforced;
   overtaking = rows.overtaking_races;
-  overtaken = rows.overtaking_enforced;
+  overtaking_enforced = rows.overtaking_enforced;
   crossing = rows.crossing_races;
-  two_mailboxes = rows.two_mailboxes_races;
+  mailboxes = rows.mailboxes_races;
 }

@@ -1,4 +1,4 @@
-use Rattle.msc_race.proofs.OneOrOther.{crossing_one, two_mailboxes_one}
+use Rattle.msc_race.proofs.OneOrOther.{crossing_one, mailboxes_one}
 use Rattle.msc_race.proofs.RaceRows as rows
 use Rattle.msc_race.proofs.laws.worked_runs.Goals as goal
 
@@ -8,11 +8,11 @@ returns c = record {
   two_senders_mailbox = rows.two_senders_mailbox_run;
   no_run = rows.two_senders_no_run;
   relay_pair = rows.relay_pair_run;
-  overtaking = rows.overtaking_run;
-  crossing_first = rows.crossing_first;
-  crossing_second = rows.crossing_second;
+  overtaken = rows.overtaking_run;
+  crossing_a = rows.crossing_a;
+  crossing_b = rows.crossing_b;
   crossing_one = crossing_one;
-  two_mailboxes_first = rows.two_mailboxes_first;
-  two_mailboxes_second = rows.two_mailboxes_second;
-  two_mailboxes_one = two_mailboxes_one;
+  mailboxes_q = rows.mailboxes_q;
+  mailboxes_z = rows.mailboxes_z;
+  mailboxes_one = mailboxes_one;
 }
