@@ -1,5 +1,5 @@
 -- Laws of the runs of an accepted chart, under either architecture.
-use Rattle.std.specs.Prelude.{◌≡◌, ◌≢◌, ℕ, ◌<◌, ◌⊎◌, ◌↔◌, List, [], ◌++◌, length, IsTrue}
+use Rattle.std.specs.Prelude.{◌≡◌, ◌≢◌, ℕ, ◌<◌, ◌⊎◌, ◌↔◌, List, [], ◌∷◌, ◌++◌, length, IsTrue}
 use Rattle.msc_chart.specs.declared.queue.Queues.{Queues}
 use Rattle.msc_chart.specs.Lists.{occurs, until, Steps}
 use Rattle.msc_chart.specs.Charts.{before}
@@ -26,6 +26,13 @@ abbrev pub NoRunIsStuck : Type 0
 NoRunIsStuck =
     (queues : Queues) (d : Drawing) → IsAccepted d → (events : List ℕ) → Run (wired queues d) events
     → IsWhole (wired queues d) events ⊎ ((e : ℕ) × MayCome (wired queues d) events e)
+
+-- what may come next makes a longer run
+abbrev pub WhatMayComeMakesALongerRun : Type 0
+WhatMayComeMakesALongerRun =
+    (queues : Queues) (d : Drawing) (events : List ℕ) (e : ℕ)
+    → Run (wired queues d) events → MayCome (wired queues d) events e
+    → Run (wired queues d) (events ++ e ∷ [])
 
 -- each run is the beginning of a whole one
 abbrev pub EveryRunGoesOnToAWholeOne : Type 0

@@ -1,14 +1,14 @@
-//! Laws of the runs of a chart, over the definitions alone. The functions have no code: a caller
-//! calls one to rest its own proof on the law. Each holds of every accepted chart under either
-//! architecture.
+//! Laws of the runs of a chart, over the definitions alone. The functions do nothing when they run:
+//! a caller calls one to rest its own proof on the law. Each law holds of every accepted chart under
+//! either architecture.
 
 ghost use Rattle.std.specs.Prelude.{[], ◌∷◌};
 ghost use Rattle.msc_chart.specs.declared.queue.Queues.{Queues};
 ghost use Rattle.msc_chart.specs.declared.queue.Queues.TheVariants.{Mailbox, Pair};
 ghost use Rattle.msc_chart.specs.Orders.{Enforced};
 ghost use Rattle.msc_chart.specs.Runs.{Run};
-ghost use Rattle.msc_race.specs.Laws.{AChosenRunExists, ChosenRunsAreUnique, ChosenRunsAreWhole, ChosenRunsGoOn, ChosenRunsReverse, ChosenRunsReverseRaces, ChosenStepsAreARun, EveryRunGoesOnToAWholeOne, EveryRunKeepsTheEnforcedOrder, NoRunIsStuck, RacesAreWhatRunsReverse, RunsKeepTheDrawnOrder, TheEnforcedOrderHasNoCycle, TheEnforcedOrderIsExact, WhatIsEnforcedIsNeverReversed, WhatIsNotEnforcedIsReversed};
-ghost use Rattle.msc_race.specs.Samples.{NoRunReversesBoth, AreRaces, IsReversal, crossed, mailboxes, overtaken, relayed, senders, unordered};
+ghost use Rattle.msc_race.specs.Laws.{AChosenRunExists, ChosenRunsAreUnique, ChosenRunsAreWhole, ChosenRunsGoOn, ChosenRunsReverse, ChosenRunsReverseRaces, ChosenStepsAreARun, EveryRunGoesOnToAWholeOne, EveryRunKeepsTheEnforcedOrder, NoRunIsStuck, RacesAreWhatRunsReverse, RunsKeepTheDrawnOrder, TheEnforcedOrderHasNoCycle, TheEnforcedOrderIsExact, WhatIsEnforcedIsNeverReversed, WhatIsNotEnforcedIsReversed, WhatMayComeMakesALongerRun};
+ghost use Rattle.msc_race.specs.Samples.{AreRaces, IsReversal, NoRunReversesBoth, crossed, mailboxes, overtaken, relayed, senders, unordered};
 
 use msc_chart::laws::ends_share_queues;
 
@@ -26,9 +26,11 @@ pub fn what_is_enforced_is_never_reversed()
     ends_share_queues();
 }
 
-/// A run is whole, or some event makes it longer; so each run goes on to a whole one.
+/// A run is whole, or some event may come next, and makes it longer; so each run goes on to a
+/// whole one.
 pub fn no_run_is_stuck()
     ensures longer { NoRunIsStuck }
+    ensures grows { WhatMayComeMakesALongerRun }
     ensures whole { EveryRunGoesOnToAWholeOne }
 {
     ends_share_queues();
