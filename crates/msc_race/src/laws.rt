@@ -1,0 +1,120 @@
+//! Laws of the runs of a chart, over the definitions alone. The functions do nothing when they run:
+//! a caller calls one to rest its own proof on the law. Each law holds of every accepted chart under
+//! either architecture.
+
+ghost use Rattle.std.specs.Prelude.{[], ◌∷◌};
+ghost use Rattle.msc_chart.specs.declared.queue.Queues.{Queues};
+ghost use Rattle.msc_chart.specs.declared.queue.Queues.TheVariants.{Mailbox, Pair};
+ghost use Rattle.msc_chart.specs.Orders.{Enforced};
+ghost use Rattle.msc_chart.specs.Runs.{Run};
+ghost use Rattle.msc_race.specs.Laws.{AChosenRunExists, ChosenRunsAreUnique, ChosenRunsAreWhole, ChosenRunsGoOn, ChosenRunsReverse, ChosenRunsReverseRaces, ChosenStepsAreARun, EveryRunGoesOnToAWholeOne, EveryRunKeepsTheEnforcedOrder, NoRunIsStuck, RacesAreWhatRunsReverse, RunsKeepTheDrawnOrder, TheEnforcedOrderHasNoCycle, TheEnforcedOrderIsExact, WhatIsEnforcedIsNeverReversed, WhatIsNotEnforcedIsReversed, WhatMayComeMakesALongerRun};
+ghost use Rattle.msc_race.specs.Samples.{AreRaces, IsReversal, NoRunReversesBoth, crossed, mailboxes, overtaken, relayed, senders, unordered};
+
+use msc_chart::laws::ends_share_queues;
+
+/// What is enforced before an event of a run occurs in the run, earlier than the event.
+pub fn every_run_keeps_the_enforced_order()
+    ensures { EveryRunKeepsTheEnforcedOrder }
+{
+    ends_share_queues();
+}
+
+/// No run has the later of two enforced events without the earlier before it.
+pub fn what_is_enforced_is_never_reversed()
+    ensures { WhatIsEnforcedIsNeverReversed }
+{
+    ends_share_queues();
+}
+
+/// A run is whole, or some event may come next, and makes it longer; so each run goes on to a
+/// whole one.
+pub fn no_run_is_stuck()
+    ensures longer { NoRunIsStuck }
+    ensures grows { WhatMayComeMakesALongerRun }
+    ensures whole { EveryRunGoesOnToAWholeOne }
+{
+    ends_share_queues();
+}
+
+/// No event is enforced before itself.
+pub fn the_enforced_order_has_no_cycle()
+    ensures { TheEnforcedOrderHasNoCycle }
+{
+    ends_share_queues();
+}
+
+/// For two events that are not enforced in an order, some whole run has the second without the
+/// first before it.
+pub fn what_is_not_enforced_is_reversed()
+    ensures { WhatIsNotEnforcedIsReversed }
+{
+    ends_share_queues();
+}
+
+/// Two different events are enforced in an order exactly where no run has the later without the
+/// earlier before it.
+pub fn the_enforced_order_is_exact()
+    ensures { TheEnforcedOrderIsExact }
+{
+    ends_share_queues();
+}
+
+/// A race is a drawn pair that some run reverses; there is none exactly where every run keeps the
+/// drawn order.
+pub fn races_are_what_runs_reverse()
+    ensures race { RacesAreWhatRunsReverse }
+    ensures none { RunsKeepTheDrawnOrder }
+{
+    ends_share_queues();
+}
+
+/// Each event has exactly one chosen run. It is whole, and each other event that is not enforced
+/// after e stands before e in it: so it reverses every race of e.
+pub fn the_chosen_run_reverses()
+    ensures exists { AChosenRunExists }
+    ensures unique { ChosenRunsAreUnique }
+    ensures whole { ChosenRunsAreWhole }
+    ensures reverses { ChosenRunsReverse }
+    ensures races { ChosenRunsReverseRaces }
+{
+    ends_share_queues();
+}
+
+/// The beginning of a chosen run is a run, and while a free event is left it goes on to a free
+/// event that does not wait.
+pub fn a_chosen_run_goes_on()
+    ensures run { ChosenStepsAreARun }
+    ensures next { ChosenRunsGoOn }
+{
+    ends_share_queues();
+}
+
+/// What the definitions say of small charts: all their races, and where they have none.
+pub fn worked_races()
+    ensures two_senders_pair { AreRaces (senders Pair) ((1, 2) ∷ []) }
+    ensures two_senders_mailbox { AreRaces (senders Mailbox) ((1, 2) ∷ []) }
+    ensures coregion { (queues : Queues) → AreRaces (unordered queues) [] }
+    ensures relay_pair { AreRaces (relayed Pair) ((2, 3) ∷ []) }
+    ensures relay_mailbox { AreRaces (relayed Mailbox) [] }
+    ensures relay_enforced { Enforced (relayed Mailbox) 2 3 }
+    ensures overtaking { (queues : Queues) → AreRaces (overtaken queues) ((2, 3) ∷ []) }
+    ensures overtaking_enforced { (queues : Queues) → Enforced (overtaken queues) 3 2 }
+    ensures crossing { (queues : Queues) → AreRaces (crossed queues) ((0, 1) ∷ (2, 3) ∷ []) }
+    ensures mailboxes { AreRaces mailboxes ((4, 5) ∷ (6, 7) ∷ []) }
+{}
+
+/// What the definitions say of small charts: runs that reverse their races, a list that is no run,
+/// and races that no run reverses together.
+pub fn worked_runs()
+    ensures two_senders_pair { IsReversal (senders Pair) (0 ∷ 3 ∷ 2 ∷ 1 ∷ []) 1 2 }
+    ensures two_senders_mailbox { IsReversal (senders Mailbox) (3 ∷ 0 ∷ 2 ∷ 1 ∷ []) 1 2 }
+    ensures no_run { Run (senders Mailbox) (0 ∷ 3 ∷ 2 ∷ 1 ∷ []) → ⊥ }
+    ensures relay_pair { IsReversal (relayed Pair) (0 ∷ 1 ∷ 4 ∷ 5 ∷ 3 ∷ 2 ∷ []) 2 3 }
+    ensures overtaken { (queues : Queues) → IsReversal (overtaken queues) (0 ∷ 1 ∷ 3 ∷ 2 ∷ []) 2 3 }
+    ensures crossing_a { (queues : Queues) → IsReversal (crossed queues) (2 ∷ 1 ∷ 0 ∷ 3 ∷ []) 0 1 }
+    ensures crossing_b { (queues : Queues) → IsReversal (crossed queues) (0 ∷ 3 ∷ 2 ∷ 1 ∷ []) 2 3 }
+    ensures crossing_one { (queues : Queues) → NoRunReversesBoth (crossed queues) (0, 1) (2, 3) }
+    ensures mailboxes_q { IsReversal mailboxes (2 ∷ 3 ∷ 0 ∷ 1 ∷ 5 ∷ 6 ∷ 7 ∷ 4 ∷ []) 4 5 }
+    ensures mailboxes_z { IsReversal mailboxes (0 ∷ 1 ∷ 2 ∷ 3 ∷ 4 ∷ 5 ∷ 7 ∷ 6 ∷ []) 6 7 }
+    ensures mailboxes_one { NoRunReversesBoth mailboxes (4, 5) (6, 7) }
+{}
