@@ -1,6 +1,7 @@
 pub mod ListLemmas
 pub mod Numbers
 pub mod Drawn
+pub mod Segments
 pub mod NumberingLemmas
 pub mod CycleLemmas
 pub mod EndLemmas

@@ -93,6 +93,24 @@ pub record AreOnLines (lines : ℕ) (events : List ChartEvent) : Type 0 where
 abbrev pub line_start : List ChartEvent → ℕ → ℕ
 line_start events i = count_by (λ x. nat_lt x.line i) events
 
+-- e and f are on one line, and in one segment of it
+abbrev pub ShareSegment : List ChartEvent → ℕ → ℕ → Type 0
+ShareSegment events e f = (line events e ≡ line events f) × (segment events e ≡ segment events f)
+
+-- the events from e up to end share the segment of e; those of its line from end on are drawn after e
+pub record IsSegmentEnd (events : List ChartEvent) (e end : ℕ) : Type 0 where
+  pub later : e < end
+  pub within : end ≤ length events
+  pub together : (f : ℕ) → e ≤ f → f < end → ShareSegment events e f
+  pub past : (f : ℕ) → end ≤ f → f < length events → line events e ≡ line events f → IsTrue (before events e f)
+
+-- the events from e up to end are on the line of e, and none from end on is
+pub record IsLineEnd (events : List ChartEvent) (e end : ℕ) : Type 0 where
+  pub later : e < end
+  pub within : end ≤ length events
+  pub together : (f : ℕ) → e ≤ f → f < end → line events e ≡ line events f
+  pub past : (f : ℕ) → end ≤ f → f < length events → line events e ≡ line events f → ⊥
+
 -- e may come after these: it is an event, it is not among them, and what precedes it visibly is
 pub record Follows (events : List ChartEvent) (past : List ℕ) (e : ℕ) : Type 0 where
   pub event : e < length events

@@ -6,7 +6,7 @@
 
 ghost use Rattle.std.specs.Prelude.{◌≡◌, ◌≢◌, ◌<◌, ◌≤◌, ◌+◌, ◌↔◌, IsTrue, Some, length, IfOk, IfErr, OnOk, slice_get};
 ghost use Rattle.std.specs.Option.{option_copied};
-ghost use Rattle.msc_chart.specs.Charts.{before, IsLinearOrder, kind, line, line_start, message, partner, segment};
+ghost use Rattle.msc_chart.specs.Charts.{before, IsLineEnd, IsLinearOrder, IsSegmentEnd, ShareSegment, kind, line, line_start, message, partner, segment};
 ghost use Rattle.msc_chart.specs.Drawings.{Drawing, IsAccepted, IsBuilt, IsLine, chart_of, drawing, input_of, message_at, output_of, receiver_of, sender_of};
 ghost use Rattle.msc_chart.specs.Orders.{queue_of};
 ghost use Rattle.msc_chart.specs.Faults.{IsFaultless, IsFirstFault};
@@ -140,6 +140,43 @@ impl Chart {
         ensures { result ≡ segment self.now.events e }
     {
         self.events[e as usize].segment
+    }
+
+    /// Whether events `e` and `f` are on one line, and in one segment of it.
+    fn share_segment(&self, e: Event, f: Event) -> bool
+        requires e_known { e < length self.now.events }
+        requires f_known { f < length self.now.events }
+        ensures { IsTrue result ↔ ShareSegment self.now.events e f }
+    {
+        self.instance_of(e) == self.instance_of(f) && self.segment(e) == self.segment(f)
+    }
+
+    /// The number past the events of the segment of event `e`, from `e` on. It takes no memory.
+    pub fn segment_end(&self, e: Event) -> Event
+        requires { e < length self.now.events }
+        ensures { IsSegmentEnd self.now.events e result }
+    {
+        let events = self.events();
+        for f in e + 1..events {
+            if !self.share_segment(e, f) {
+                return f;
+            }
+        }
+        events
+    }
+
+    /// The number past the events of the line of event `e`, from `e` on. It takes no memory.
+    pub fn line_end(&self, e: Event) -> Event
+        requires { e < length self.now.events }
+        ensures { IsLineEnd self.now.events e result }
+    {
+        let events = self.events();
+        for f in e + 1..events {
+            if self.instance_of(f) != self.instance_of(e) {
+                return f;
+            }
+        }
+        events
     }
 
     /// Whether event `e` is an output or an input. It takes no memory.

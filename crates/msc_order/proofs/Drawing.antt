@@ -2,9 +2,9 @@
 use Rattle.std.proofs.Common.{◌≡◌, ℕ, ◌<◌, ◌≤◌, true, false, inl, inr, List, length, refl, sym, ◌∙◌, arith}
 use Rattle.std.proofs.lemmas.Bool.{lt-ltb, cases_lt}
 use Rattle.msc_chart.specs.declared.event.ChartEvent.{ChartEvent}
-use Rattle.msc_chart.specs.Charts.{line, segment, kind, sends, is_output, before, IsInTextOrder}
+use Rattle.msc_chart.specs.Charts.{line, segment, kind, sends, is_output, before, IsInTextOrder, IsSegmentEnd}
 use Rattle.msc_chart.proofs.Drawn.{before_from, before_parts}
-use Rattle.msc_order.specs.Causes.{IsSegment, IsNextSegment}
+use Rattle.msc_order.specs.Causes.{IsNextSegment}
 
 -- an event sends where its kind does
 pub output_is : (events : List ChartEvent) (e : ℕ) → e < length events → sends (kind events e) ≡ is_output events e
@@ -21,21 +21,8 @@ module _ (events : List ChartEvent) (text : IsInTextOrder events) where
         | inr more ↦ let down : segment events y ≤ segment events x = text.rising y x more p.0 (sym p.2) in absurd (omega (arith, down, p.3))
       ]
 
-  -- after the first event that is not of its segment, all of its line are drawn after e
-  pub segment_past : (e f : ℕ) → e < f → f < length events
-      → ((line events e ≡ line events f) × (segment events e ≡ segment events f) → ⊥)
-      → (y : ℕ) → f ≤ y → y < length events → line events e ≡ line events y → before events e y ≡ true
-  segment_past e f e_f f_in other y f_y y_in same =
-      let up : line events e ≤ line events f = text.lines e f (omega arith) f_in in
-      let down : line events f ≤ line events y = text.lines f y f_y y_in in
-      let on_line : line events e ≡ line events f = omega (arith, up, down, same) in
-      let a : segment events e ≤ segment events f = text.rising e f (omega arith) f_in on_line in
-      let b : segment events f ≤ segment events y = text.rising f y f_y y_in (sym on_line ∙ same) in
-      let apart : segment events e ≡ segment events f → ⊥ = λ s. other (on_line, s) in
-      before_from events e y (omega arith) y_in same (omega (arith, a, b, apart))
-
   -- where nothing is drawn after its segment, no segment comes next
-  pub none_next : (e start : ℕ) → IsSegment events e start → (start < length events → before events e start ≡ false) → IsNextSegment events e start start
+  pub none_next : (e start : ℕ) → IsSegmentEnd events e start → (start < length events → before events e start ≡ false) → IsNextSegment events e start start
   none_next e start s none = record {
     within = s.within;
     drawn = λ f low high. absurd (omega (arith, low, high));
@@ -53,7 +40,7 @@ module _ (events : List ChartEvent) (text : IsInTextOrder events) where
   }
 
   -- the segment that comes next
-  pub is_next : (e start end : ℕ) → IsSegment events e start → before events e start ≡ true → IsSegment events start end → IsNextSegment events e start end
+  pub is_next : (e start end : ℕ) → IsSegmentEnd events e start → before events e start ≡ true → IsSegmentEnd events start end → IsNextSegment events e start end
   is_next e start end s b t =
       let q = before_parts events e start b in
       record {

@@ -3,7 +3,7 @@
 use Rattle.std.specs.Prelude.{◌≡◌, ◌≢◌, ℕ, ◌<◌, ◌≤◌, Bool, false, ◌||◌, ◌⊎◌, List, length, take, IsTrue}
 use Rattle.msc_chart.specs.declared.event.ChartEvent.{ChartEvent}
 use Rattle.msc_chart.specs.Lists.{occurs}
-use Rattle.msc_chart.specs.Charts.{line, segment, partner, is_output, is_input, before}
+use Rattle.msc_chart.specs.Charts.{partner, is_output, is_input, before}
 use Rattle.msc_chart.specs.Orders.{WiredChart, queue, Enforced}
 
 -- The least transitive relation that puts each output before its input, and what is drawn before an
@@ -16,13 +16,6 @@ pub data Led (events : List ChartEvent) (inputs : Bool) : ℕ → ℕ → Type 0
 -- the order that lines and messages enforce: the enforced order without the rule of queues
 abbrev pub Caused : List ChartEvent → ℕ → ℕ → Type 0
 Caused events = Led events false
-
--- the events from e up to end share the segment of e, and later ones of its line are in later segments
-pub record IsSegment (events : List ChartEvent) (e end : ℕ) : Type 0 where
-  pub later : e < end
-  pub within : end ≤ length events
-  pub together : (f : ℕ) → e ≤ f → f < end → (line events e ≡ line events f) × (segment events e ≡ segment events f)
-  pub past : (f : ℕ) → end ≤ f → f < length events → line events e ≡ line events f → IsTrue (before events e f)
 
 -- the numbers from start up to end are the events of the next segment after that of e on its line
 pub record IsNextSegment (events : List ChartEvent) (e start end : ℕ) : Type 0 where

@@ -1,8 +1,8 @@
 //! The segments of a chart's lines, by the numbers of their events.
 
-ghost use Rattle.std.specs.Prelude.{◌≡◌, ℕ, ◌<◌, ◌≤◌, ◌↔◌, length, IsTrue};
-ghost use Rattle.msc_chart.specs.Charts.{line, segment, before, is_output, partner};
-ghost use Rattle.msc_order.specs.Causes.{IsNextSegment, IsSegment};
+ghost use Rattle.std.specs.Prelude.{◌≡◌, ◌<◌, length};
+ghost use Rattle.msc_chart.specs.Charts.{is_output, partner};
+ghost use Rattle.msc_order.specs.Causes.{IsNextSegment};
 
 use msc_chart::{Chart, Event, EventKind};
 
@@ -28,38 +28,15 @@ pub fn partner(chart: &Chart, e: Event) -> Event
     }
 }
 
-/// Whether `e` and `f` are on one line, and in one segment of it.
-fn share_segment(chart: &Chart, e: Event, f: Event) -> bool
-    requires e_known { e < length chart.now.events }
-    requires f_known { f < length chart.now.events }
-    ensures { IsTrue result ↔ ((line chart.now.events e ≡ line chart.now.events f) × (segment chart.now.events e ≡ segment chart.now.events f)) }
-{
-    chart.instance_of(e) == chart.instance_of(f) && chart.segment(e) == chart.segment(f)
-}
-
-/// The number past the events of the segment of `e`.
-fn segment_end(chart: &Chart, e: Event) -> Event
-    requires { e < length chart.now.events }
-    ensures { IsSegment chart.now.events e result }
-{
-    let events = chart.events();
-    for f in e + 1..events {
-        if !share_segment(chart, e, f) {
-            return f;
-        }
-    }
-    events
-}
-
 /// The events of the next segment after that of `e` on its line: from the first number up to the
 /// second.
 pub fn next_segment(chart: &Chart, e: Event) -> (Event, Event)
     requires { e < length chart.now.events }
     ensures { IsNextSegment chart.now.events e result.0 result.1 }
 {
-    let start = segment_end(chart, e);
+    let start = chart.segment_end(e);
     if start >= chart.events() || !chart.before(e, start) {
         return (start, start);
     }
-    (start, segment_end(chart, start))
+    (start, chart.segment_end(start))
 }
