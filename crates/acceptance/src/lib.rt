@@ -15,6 +15,10 @@ mod grammar;
 #[cfg(test)]
 mod inputs;
 #[cfg(test)]
+mod orders;
+#[cfg(test)]
 mod program;
+#[cfg(test)]
+mod races;
 #[cfg(test)]
 mod tokens;
