@@ -8,14 +8,7 @@ use Rattle.std.proofs.Math.Nat.{mul-le-mul_right}
 use Rattle.std.proofs.lemmas.Nat.{same_from_place}
 use Rattle.msc_order.specs.Tables.{bit_of, stride, cell, marked, with_row, HasRow}
 use Rattle.msc_order.proofs.Bits.{or-false, or-true, and-false, stride_enough, word_below, below-suc, bit_put, bit_join, bit_meet, bit_other, bit_alone, bit_zero}
-
--- a fact by cases on a test
-pub by_test : {X : Type 0} (b : Bool) → (b ≡ true → X) → (b ≡ false → X) → X
-by_test true f g = f refl
-by_test false f g = g refl
-
-pub clash : {X : Type 0} {b : Bool} → b ≡ true → b ≡ false → X
-clash p q = cc
+pub use Rattle.msc_chart.proofs.ListLemmas.{by_test, clash}
 
 -- a cell of a column of the table
 pub cell_in : (n : ℕ) (words : List ℕ) (x y : ℕ) → y < 64 * stride n → cell n words x y ≡ bit_of (get_or words (x * stride n + y / 64) 0) (y % 64)
