@@ -1,6 +1,7 @@
 -- What contracts see of the ends of a queue.
 use Rattle.std.specs.Prelude.{◌≡◌, ◌⊎◌, ℕ, ◌+◌, ◌<◌, ◌==◌, Bool, false, List, [], ◌∷◌, length, sum, All, count_by}
 use Rattle.msc_fifo.specs.declared.entry.Entry.{Entry}
+use Rattle.msc_fifo.specs.Entries.{unended_of}
 use Rattle.msc_fifo.specs.Identity.{QueueId}
 
 -- an outlet: its queue, its sender's number, its quota, what it has put, and whether it is closed
@@ -51,6 +52,10 @@ IsSameOutlet old new = (new.queue ≡ old.queue) × (new.sender ≡ old.sender) 
 -- what no call changes of an inlet
 abbrev pub IsSameInlet : InletState → InletState → Type 0
 IsSameInlet old new = (new.queue ≡ old.queue) × (new.senders ≡ old.senders)
+
+-- how many senders of the inlet's queue have no end mark among what it got
+abbrev pub unended_in : InletState → ℕ
+unended_in inlet = unended_of inlet.senders inlet.got
 
 -- the outlets are those of the inlet's queue, each once, in any order
 pub record AreOutletsOf (inlet : InletState) (outlets : List OutletState) : Type 0 where

@@ -1,7 +1,7 @@
 -- The rule of the channel that holds a queue: what the inlet got, and then what stands in the
 -- channel, is all that the outlets put. This is our own, under crossbeam_channel's protocols: a pass
 -- is a token of no bytes, each end holds one, and its view is what that end knows.
-use Rattle.std.specs.Prelude.{◌≡◌, ℕ, ◌<◌, Bool, true, false, List, [], ◌∷◌, ◌++◌}
+use Rattle.std.specs.Prelude.{◌≡◌, ℕ, ◌<◌, Bool, true, false, List, [], ◌∷◌, ◌++◌, Option, MatchOption}
 use mathlib.Core.Option.{some}
 use lib.ListN.{get_elem?}
 use Rattle.atomic_table.specs.declared.badge.Badge.{Badge}
@@ -45,6 +45,10 @@ MayPut v e = (v.sends ≡ true) × (v.closed ≡ false) × (sender_of e ≡ v.fr
 -- the inlet's view before and after it has taken an entry, whose sender it made and had not seen end
 abbrev pub Takes : View → Entry → View → Type 0
 Takes v e w = (w ≡ record v { got = v.got ++ e ∷ [] }) × (sender_of e < v.made) × (has_ended (sender_of e) v.got ≡ false)
+
+-- the inlet's view before and after a look at the front, which found this
+abbrev pub HasLooked : View → Option Entry → View → Type 0
+HasLooked v found w = MatchOption found (w ≡ v) (λ e. Takes v e w)
 
 -- What a pass knows is so, where `got` is all that was taken and `entries` all that was put. The
 -- pass of the inlet is `reader`, that of sender i is `seat i`

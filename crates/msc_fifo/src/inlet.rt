@@ -7,9 +7,9 @@ ghost use Rattle.std.specs.Prelude.{◌≡◌, ◌<◌, ◌≤◌, ◌+◌, ◌+
 ghost use Rattle.crossbeam_channel.specs.Claims.{view as knows, IsSeatAt};
 ghost use Rattle.crossbeam_channel.specs.Ends.{receives_on};
 ghost use Rattle.msc_fifo.specs.Rule.{receives};
-ghost use Rattle.msc_fifo.specs.Ends.{new_inlet, IsSameInlet};
+ghost use Rattle.msc_fifo.specs.Ends.{new_inlet, unended_in, IsSameInlet};
 ghost use Rattle.msc_fifo.specs.Settlement.{IsAccountOf};
-ghost use Rattle.msc_fifo.specs.Entries.{ends_in, entries_of, idle_after, unended_of, IsOrderly};
+ghost use Rattle.msc_fifo.specs.Entries.{ends_in, entries_of, idle_after, IsOrderly};
 
 use crate::accounts::{Account, Room};
 use crate::entry::{Entry, Taken};
@@ -95,7 +95,7 @@ impl Inlet {
         ensures idle { self.new.idle ≡ idle_after self.old.idle result }
         ensures same { IsSameInlet self.old self.new }
         ensures orderly { IsOrderly self.new.senders self.new.got }
-        ensures unended { unended_of self.new.senders self.new.got + ends_in result ≡ unended_of self.old.senders self.old.got }
+        ensures unended { unended_in self.new + ends_in result ≡ unended_in self.old }
     {
         // All that could be put was taken: there is no place left in the list, and no entry either.
         if self.got.len() == self.got.capacity() {
@@ -131,7 +131,7 @@ impl Inlet {
 
     /// How many senders have no end mark among what was got. It takes no memory and does not wait.
     pub fn unended(&self) -> u32
-        ensures count { result ≡ unended_of self.now.senders self.now.got }
+        ensures count { result ≡ unended_in self.now }
         ensures orderly { IsOrderly self.now.senders self.now.got }
         ensures some { 0 < self.now.senders }
     {

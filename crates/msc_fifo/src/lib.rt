@@ -39,3 +39,6 @@ const MOST_SENDERS: usize = 32;
 
 /// The greatest sum of the quotas of a queue, in messages.
 const MOST_MESSAGES: usize = 1024;
+
+#[cfg(test)]
+mod tests;

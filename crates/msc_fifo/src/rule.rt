@@ -6,10 +6,10 @@
 //! reading of passes, and each keeps the rule whatever the other threads did before
 //! (`proofs/RuleSteps`). Nothing outside this file, `outlet`, `inlet` and `making` knows of it.
 
-ghost use Rattle.std.specs.Prelude.{◌≡◌, true, MatchOption};
+ghost use Rattle.std.specs.Prelude.{◌≡◌, true};
 ghost use Rattle.crossbeam_channel.specs.Claims.{view, IsSeatAt};
 ghost use Rattle.crossbeam_channel.specs.Ends.{sends_on, receives_on};
-ghost use Rattle.msc_fifo.specs.Rule.{MayPut, Takes, after_put};
+ghost use Rattle.msc_fifo.specs.Rule.{HasLooked, MayPut, after_put};
 
 use crate::entry::Entry;
 use crossbeam_channel::protocol::{Join, Lesson, Outcome, Protocol, Split};
@@ -139,7 +139,7 @@ pub fn get<R: Wait>(rt: &R, channel: &Gettable, pass: &mut Ticket) -> Option<Ent
     requires seat { IsSeatAt (receives_on channel.now) pass.old }
     requires may { (view pass.old).gets ≡ true }
     ensures seat { IsSeatAt (receives_on channel.now) pass.new }
-    ensures view { MatchOption result (view pass.new ≡ view pass.old) (λ e. Takes (view pass.old) e (view pass.new)) }
+    ensures view { HasLooked (view pass.old) result (view pass.new) }
 {
     channel.try_recv_as::<Gets, R>(rt, pass).ok()
 }
