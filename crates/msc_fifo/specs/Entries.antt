@@ -42,6 +42,11 @@ abbrev pub IsOrderly : ℕ → List Entry → Type 0
 IsOrderly n [] = Unit {0}
 IsOrderly n (e ∷ es) = (sender_of e < n) × IsFollowed e es × IsOrderly n es
 
+-- how many senders end with an entry
+abbrev pub ends_of : Entry → ℕ
+ends_of (Message i m) = 0
+ends_of (Ended i) = 1
+
 -- what a take adds to what was got
 abbrev pub entries_of : Taken → List Entry
 entries_of (took.Message i m) = Message i m ∷ []

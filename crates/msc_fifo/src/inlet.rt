@@ -97,24 +97,17 @@ impl Inlet {
         ensures orderly { IsOrderly self.new.senders self.new.got }
         ensures unended { unended_in self.new + ends_in result ≡ unended_in self.old }
     {
-        // All that could be put was taken: there is no place left in the list, and no entry either.
+        // The list has room for all that the outlets may put: where it is full, nothing is left.
         if self.got.len() == self.got.capacity() {
             return self.nothing();
         }
-        match get(rt, &self.channel, &mut self.ticket) {
-            Some(Entry::Message(sender, m)) => {
-                self.got.push_reserved(Entry::Message(sender, m));
-                self.idle = 0;
-                Taken::Message(sender, m)
-            }
-            Some(Entry::Ended(sender)) => {
-                self.got.push_reserved(Entry::Ended(sender));
-                self.unended -= 1;
-                self.idle = 0;
-                Taken::Ended(sender)
-            }
-            None => self.nothing(),
-        }
+        let Some(entry) = get(rt, &self.channel, &mut self.ticket) else {
+            return self.nothing();
+        };
+        self.got.push_reserved(entry);
+        self.unended -= entry.ends();
+        self.idle = 0;
+        entry.taken()
     }
 
     /// Counts a take that found nothing.
