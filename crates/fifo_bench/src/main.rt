@@ -9,6 +9,7 @@
 
 use anyhow::{Context, Result, bail};
 use msc_fifo::{Inlet, Outlet, Taken, queue};
+use std::alloc::Global;
 use std::sync::Wait;
 use std::thread::Threads;
 use std::time::Instant;
@@ -64,6 +65,28 @@ fn run<R: Threads + Wait + Sync>(
     })
 }
 
+/// The ends of so many queues with these quotas: for each sender its outlets, and all inlets.
+fn ends<R: Wait>(
+    rt: &R,
+    alloc: Global,
+    quotas: &[u32],
+    queues: u32,
+) -> Result<(Vec<Vec<Outlet>>, Vec<Inlet>)> {
+    let mut senders = Vec::new(alloc);
+    for _ in quotas {
+        senders.push(Vec::new(alloc))?;
+    }
+    let mut inlets = Vec::new(alloc);
+    for _ in 0..queues {
+        let (outlets, inlet) = queue(rt, alloc, quotas)?;
+        for (own, outlet) in senders.iter_mut().zip(outlets) {
+            own.push(outlet)?;
+        }
+        inlets.push(inlet)?;
+    }
+    Ok((senders, inlets))
+}
+
 fn main(rt: HostRuntime) -> Result<()> {
     let alloc = rt.alloc();
     let mut words = env::args(&rt)?.skip(1);
@@ -72,20 +95,8 @@ fn main(rt: HostRuntime) -> Result<()> {
     if count == 0 {
         bail!("no sender");
     }
-    let mut quotas = Vec::new(alloc);
-    let mut senders = Vec::new(alloc);
-    for _ in 0..count {
-        quotas.push(MOST_MESSAGES / count)?;
-        senders.push(Vec::new(alloc))?;
-    }
-    let mut inlets = Vec::new(alloc);
-    for _ in 0..queues {
-        let (outlets, inlet) = queue(&rt, alloc, &quotas)?;
-        for (own, outlet) in senders.iter_mut().zip(outlets) {
-            own.push(outlet)?;
-        }
-        inlets.push(inlet)?;
-    }
+    let quotas = vec![in alloc; MOST_MESSAGES / count; count as usize]?;
+    let (senders, inlets) = ends(&rt, alloc, &quotas, queues)?;
     let start = Instant::now(&rt)?;
     let taken = run(&rt, senders, inlets).context("a thread could not be started")?;
     let time = start.elapsed(&rt)?.as_nanos();
