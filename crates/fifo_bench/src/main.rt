@@ -45,11 +45,11 @@ fn take_all<R: Wait>(rt: &R, inlet: &mut Inlet) -> u64 {
 }
 
 /// Sends and takes, each sender in a thread; answers how many messages were taken, where all threads
-/// could be started.
+/// could be started. The inlets are lent: a sender whose inlet was dropped would not end.
 fn run<R: Threads + Wait + Sync>(
     rt: &R,
     senders: Vec<Vec<Outlet>>,
-    inlets: Vec<Inlet>,
+    inlets: &mut [Inlet],
 ) -> Option<u64> {
     thread::scope(thread::scope_env(), rt, |scope| {
         for outlets in senders {
@@ -58,8 +58,8 @@ fn run<R: Threads + Wait + Sync>(
             }
         }
         let mut taken = 0u64;
-        for mut inlet in inlets {
-            taken = taken.wrapping_add(take_all(rt, &mut inlet));
+        for inlet in inlets.iter_mut() {
+            taken = taken.wrapping_add(take_all(rt, inlet));
         }
         Some(taken)
     })
@@ -96,9 +96,9 @@ fn main(rt: HostRuntime) -> Result<()> {
         bail!("no sender");
     }
     let quotas = vec![in alloc; MOST_MESSAGES / count; count as usize]?;
-    let (senders, inlets) = ends(&rt, alloc, &quotas, queues)?;
+    let (senders, mut inlets) = ends(&rt, alloc, &quotas, queues)?;
     let start = Instant::now(&rt)?;
-    let taken = run(&rt, senders, inlets).context("a thread could not be started")?;
+    let taken = run(&rt, senders, &mut inlets).context("a thread could not be started")?;
     let time = start.elapsed(&rt)?.as_nanos();
     println!(rt; "{taken} messages")?;
     eprintln!(rt; "{time} nanoseconds")?;
