@@ -1,10 +1,11 @@
-//! Sends messages through queues from threads, so that their speed can be measured (`bench/queues`).
+//! Sends messages through queues from threads, so that their speed can be measured
+//! (`bench/queues`).
 //!
 //! Words: how many senders, from 1 to 32, and how many queues. Each sender has a thread of its own
 //! and goes through the queues one after the other: in each it puts its share of the 1,024 messages
-//! that a queue may have, and the end mark. One thread takes, queue by queue, until all senders have
-//! ended. All queues are made before. How many messages were taken goes to standard output, how many
-//! nanoseconds sending and taking took to standard error.
+//! that a queue may have, and the end mark. One thread takes, queue by queue, until all senders
+//! have ended. All queues are made before. How many messages were taken goes to standard output,
+//! how many nanoseconds sending and taking took to standard error.
 #![tactic(auto)]
 
 use anyhow::{Context, Result, bail};
@@ -44,8 +45,8 @@ fn take_all<R: Wait>(rt: &R, inlet: &mut Inlet) -> u64 {
     taken
 }
 
-/// Sends and takes, each sender in a thread; answers how many messages were taken, where all threads
-/// could be started. The inlets are lent: a sender whose inlet was dropped would not end.
+/// Sends and takes, each sender in a thread; answers how many messages were taken, where all
+/// threads could be started. The inlets are lent: a sender whose inlet was dropped would not end.
 fn run<R: Threads + Wait + Sync>(
     rt: &R,
     senders: Vec<Vec<Outlet>>,

@@ -1,6 +1,6 @@
 -- The rule of the channel that holds a queue: what the inlet got, and then what stands in the
--- channel, is all that the outlets put. This is our own, under crossbeam_channel's protocols: a pass
--- is a token of no bytes, each end holds one, and its view is what that end knows.
+-- channel, is all that the outlets put. This is our own, under crossbeam_channel's protocols: a
+-- pass is a token of no bytes, each end holds one, and its view is what that end knows.
 use Rattle.std.specs.Prelude.{◌≡◌, ℕ, ◌<◌, Bool, true, false, List, [], ◌∷◌, ◌++◌, Option, MatchOption}
 use mathlib.Core.Option.{some}
 use lib.ListN.{get_elem?}
@@ -25,7 +25,8 @@ receives made got = record { gets = true; made = made; got = got; sends = false;
 abbrev pub sends : ℕ → List ℕ → Bool → View
 sends i put closed = record { gets = false; made = 0; got = []; sends = true; from = i; put = put; closed = closed }
 
--- the view of the inlet that has taken in an outlet's pass, in place of the one that it took in before
+-- the view of the inlet that has taken in an outlet's pass, in place of the one that it took in
+-- before
 abbrev pub beside : View → View → View
 beside v w = record { gets = v.gets; made = v.made; got = v.got; sends = w.sends; from = w.from; put = w.put; closed = w.closed }
 
@@ -42,7 +43,8 @@ after_put v (Ended i) = record v { closed = true }
 abbrev pub MayPut : View → Entry → Type 0
 MayPut v e = (v.sends ≡ true) × (v.closed ≡ false) × (sender_of e ≡ v.from)
 
--- the inlet's view before and after it has taken an entry, whose sender it made and had not seen end
+-- the inlet's view before and after it has taken an entry, whose sender it made and had not seen
+-- end
 abbrev pub Takes : View → Entry → View → Type 0
 Takes v e w = (w ≡ record v { got = v.got ++ e ∷ [] }) × (sender_of e < v.made) × (has_ended (sender_of e) v.got ≡ false)
 
@@ -66,7 +68,8 @@ pub record Kept (items : List Entry) (views : List View) : Type 0 where
   pub orderly : IsOrderly made (got ++ items)
   pub each : (pass : ℕ) (v : View) → get_elem? views pass ≡ some v → Fits reader seat made got (got ++ items) pass v
 
--- what is so of the outlet that the inlet has taken in, where these entries are still in the channel
+-- what is so of the outlet that the inlet has taken in, where these entries are still in the
+-- channel
 abbrev pub Settles : View → List Entry → Type 0
 Settles v items =
     IsOrderly v.made (v.got ++ items) × (v.from < v.made)

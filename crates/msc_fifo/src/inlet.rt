@@ -88,8 +88,8 @@ impl Inlet {
         outlet.account(&mut self.ticket, self.got.as_slice(), room)
     }
 
-    /// Takes what is first in the queue: a message or an end mark, each with its sender, or nothing.
-    /// It takes no memory. It may wait, but not for something to come.
+    /// Takes what is first in the queue: a message or an end mark, each with its sender, or
+    /// nothing. It takes no memory. It may wait, but not for something to come.
     pub fn take<R: Wait>(&mut self, rt: &R) -> Taken
         ensures got { self.new.got ≡ self.old.got ++ entries_of result }
         ensures idle { self.new.idle ≡ idle_after self.old.idle result }

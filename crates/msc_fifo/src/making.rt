@@ -16,8 +16,8 @@ use crossbeam_channel::bounded_with;
 use std::alloc::{AllocError, Global};
 use std::sync::Wait;
 
-/// A new queue: an outlet for each quota, in order, of the senders 0, 1 and so on, and one inlet.
-/// A quota is the number of messages that its sender may put, and may be 0; the end mark has a place
+/// A new queue: an outlet for each quota, in order, of the senders 0, 1 and so on, and one inlet. A
+/// quota is the number of messages that its sender may put, and may be 0; the end mark has a place
 /// of its own beside it. All room that the ends need is made here. It may wait.
 pub fn queue<R: Wait>(
     _rt: &R,

@@ -1,7 +1,7 @@
 //! The end of a sender.
 //!
-//! It keeps the list of what it has put beside the channel, and a ticket whose view is that list: so
-//! the channel's rule says what of it is still on its way (`specs/Rule`). Contracts see an
+//! It keeps the list of what it has put beside the channel, and a ticket whose view is that list:
+//! so the channel's rule says what of it is still on its way (`specs/Rule`). Contracts see an
 //! `OutletState`.
 
 ghost use Rattle.std.specs.Prelude.{◌≡◌, ◌↔◌, ◌+◌, ◌<◌, ◌≤◌, [], ◌∷◌, ◌++◌, true, false, length, Err, OnOk, OnErr, IsOk, IsTrue, vec_capacity};

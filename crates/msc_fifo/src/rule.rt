@@ -2,8 +2,8 @@
 //!
 //! Each end holds a pass of the channel, a token of no bytes; its view is what that end knows. The
 //! rule says of the views and of what stands in the channel that nothing is lost, repeated or
-//! reordered. Each step of the channel is one push, one removal from the front, or a cut, a join or a
-//! reading of passes, and each keeps the rule whatever the other threads did before
+//! reordered. Each step of the channel is one push, one removal from the front, or a cut, a join or
+//! a reading of passes, and each keeps the rule whatever the other threads did before
 //! (`proofs/RuleSteps`). Nothing outside this file, `outlet`, `inlet` and `making` knows of it.
 
 ghost use Rattle.std.specs.Prelude.{◌≡◌, true};

@@ -1,5 +1,5 @@
-//! Settling a queue, once its ends are together again: what each sender put, what of it was taken and
-//! what is left.
+//! Settling a queue, once its ends are together again: what each sender put, what of it was taken
+//! and what is left.
 
 ghost use Rattle.std.specs.Prelude.{◌≡◌, length, map, vec_len, All, IfOk, IfErr};
 ghost use Rattle.msc_fifo.specs.Ends.{AreOutletsOf};
@@ -58,8 +58,8 @@ fn blanks(alloc: Global, count: usize) -> Result<Vec<Account>, AllocError>
     Ok(blanks)
 }
 
-/// The accounts, by the numbers of the senders: the inlet takes in the outlets, from the last to the
-/// first, and each account takes the place of an empty one.
+/// The accounts, by the numbers of the senders: the inlet takes in the outlets, from the last to
+/// the first, and each account takes the place of an empty one.
 fn fill(
     mut inlet: Inlet,
     mut outlets: Vec<Outlet>,

@@ -52,6 +52,15 @@ fn settled<R: Wait>(
     }
 }
 
+/// Settles a new queue, and answers the number of its accounts.
+fn accounts_at_once<R: Wait>(rt: &R, alloc: Global, quotas: &[u32]) -> Result<usize, QueueFault> {
+    let (outlets, inlet) = queue(rt, alloc, quotas)?;
+    match settle(rt, alloc, inlet, outlets) {
+        Ok(settled) => Ok(settled.senders.len()),
+        Err(_) => Err(QueueFault::Memory),
+    }
+}
+
 /// Whether a sender's account has these lists and this flag.
 fn shows(
     settled: &Settled,
@@ -134,6 +143,18 @@ fn a_second_close_changes_nothing(rt: HostRuntime) -> Result<(), Fail> {
 }
 
 #[test]
+fn outlets_that_are_gone_leave_their_messages(rt: HostRuntime) -> Result<(), Fail> {
+    let (mut zero, one, mut inlet) = pair(&rt, rt.alloc(), 1, 1)?;
+    assert_eq!(rt; zero.send(&rt, 5), Ok(()));
+    drop(zero);
+    drop(one);
+    assert_eq!(rt; inlet.take(&rt), Taken::Message(0, 5));
+    assert_eq!(rt; inlet.take(&rt), Taken::Nothing);
+    assert_eq!(rt; inlet.unended(), 2);
+    Ok(())
+}
+
+#[test]
 fn limits(rt: HostRuntime) -> Result<(), Fail> {
     assert!(rt; matches!(queue(&rt, rt.alloc(), &[]), Err(QueueFault::NoSender)));
     let too_large: [&[u32]; 4] = [&[1024, 1], &[1025], &[u32::MAX, u32::MAX], &[0; 33]];
@@ -149,6 +170,7 @@ fn limits(rt: HostRuntime) -> Result<(), Fail> {
             assert_eq!(rt; outlet.left(), *quota);
             assert!(rt; !outlet.is_closed());
         }
+        assert_eq!(rt; accounts_at_once(&rt, rt.alloc(), quotas), Ok(quotas.len()));
     }
     let (mut outlets, _inlet) = queue(&rt, rt.alloc(), &[0])?;
     for outlet in outlets.iter_mut() {
