@@ -7,7 +7,8 @@ use Rattle.std.proofs.lemmas.Nat.Bits.{bit_at-trailing_zeros}
 use Rattle.std.proofs.Math.Nat.{mul-le-mul_right}
 use Rattle.std.proofs.lemmas.Nat.{same_from_place}
 use Rattle.msc_order.specs.Tables.{bit_of, stride, cell, marked, with_row, HasRow}
-use Rattle.msc_order.proofs.Bits.{or-false, or-true, and-false, stride_enough, word_below, below-suc, bit_put, bit_join, bit_meet, bit_other, bit_alone, bit_zero}
+use Rattle.std.proofs.Math.Bool.{or-false, or-true, and-false}
+use Rattle.msc_order.proofs.Bits.{stride_enough, word_below, below-suc, bit_put, bit_join, bit_meet, bit_other, bit_alone, bit_zero}
 pub use Rattle.msc_chart.proofs.ListLemmas.{by_test, clash}
 
 -- a cell of a column of the table
@@ -20,10 +21,12 @@ pub cell_out : (n : ℕ) (words : List ℕ) (x y : ℕ) → 64 * stride n ≤ y 
 unfolding cell
 cell_out n words x y h = rw (le-ltb y (64 * stride n) h) refl
 
+-- a bit of a row
 pub marked_in : (n : ℕ) (row : List ℕ) (y : ℕ) → y < 64 * stride n → marked n row y ≡ bit_of (get_or row (y / 64) 0) (y % 64)
 unfolding marked
 marked_in n row y h = rw (lt-ltb y (64 * stride n) h) refl
 
+-- a row has none past its last column
 pub marked_out : (n : ℕ) (row : List ℕ) (y : ℕ) → 64 * stride n ≤ y → marked n row y ≡ false
 unfolding marked
 marked_out n row y h = rw (le-ltb y (64 * stride n) h) refl
@@ -85,6 +88,7 @@ cell_put n words e f x y row f_below =
 pub merged_to : List ℕ → ℕ → ℕ → ℕ → ℕ → ℕ → ℕ → ℕ
 merged_to words m e f k x w = cond (eqb x e && ltb w k) (bit_or (get_or words (x * m + w) 0) (get_or words (f * m + w) 0)) (get_or words (x * m + w) 0)
 
+-- no word is merged yet
 pub merge_start : (words : List ℕ) (m e f x w : ℕ) → get_or words (x * m + w) 0 ≡ merged_to words m e f 0 x w
 unfolding merged_to
 merge_start words m e f x w = rw (le-ltb w 0 (omega arith), and-false (eqb x e)) refl
@@ -174,6 +178,7 @@ cell_blank n size x y =
 pub written : (ℕ → ℕ) → List ℕ → ℕ → ℕ → ℕ
 written value row k w = cond (ltb w k) (value w) (get_or row w 0)
 
+-- no word is written yet
 pub write_start : (value : ℕ → ℕ) (row : List ℕ) (w : ℕ) → get_or row w 0 ≡ written value row 0 w
 unfolding written
 write_start value row w = rw (le-ltb w 0 (omega arith)) refl

@@ -55,12 +55,14 @@ module _ (row : List ℕ) (f : ℕ) (fits : get_or row (f / 64) 0 < 2 ^ 64) (t :
       let rest : y % 64 ≡ f % 64 + (y - f) = omega (arith, low, high) in
       rw (place, rest, bit_shifted (get_or row (f / 64) 0) (f % 64) (y - f)) refl
 
+  -- all bits up to the zero are ones
   pub ones_there : (y : ℕ) → f ≤ y → y < f + t → bit_in row y ≡ true
   ones_there y low high =
       let within = ones_within in
       let one = (lowest_ones (get_or row (f / 64) 0 / 2 ^ (f % 64)) shifted_fits).0 (y - f) (omega (arith, low, high, is)) in
       bit_from y low (omega (arith, high, within)) ∙ rw one refl
 
+  -- the bit past the ones is a zero, where it is in the word
   pub zero_past : f + t < 64 * (f / 64) + 64 → bit_in row (f + t) ≡ false
   zero_past inside =
       let here : f + t - f ≡ t = omega arith in

@@ -43,10 +43,12 @@ module _ (test : ℕ → ℕ → Bool) where
   unfoldable pub pairs_below : ℕ → ℕ → List (ℕ × ℕ)
   pairs_below n k = flat_map (λ e. pairs_to test e n) (range_with_len 0 k)
 
+  -- no number is below 0
   pub below_none : (n : ℕ) → pairs_below n 0 ≡ []
   unfolding pairs_below
   below_none n = refl
 
+  -- one number more brings its pairs
   pub below_more : (n k : ℕ) → pairs_below n (k + 1) ≡ pairs_below n k ++ pairs_to test k n
   unfolding pairs_below
   below_more n k =
@@ -56,6 +58,7 @@ module _ (test : ℕ → ℕ → Bool) where
       range_more : (k : ℕ) → range_with_len 0 (k + 1) ≡ range_with_len 0 k ++ k ∷ []
       range_more k = sym (map-id (range_with_len 0 (k + 1))) ∙ map-range_with_len_more (λ x. x) 0 k k (omega arith) ∙ ap (λ l. l ++ k ∷ []) (map-id (range_with_len 0 k))
 
+  -- the pairs of all numbers
   pub below_all : (n k : ℕ) → k ≡ n → pairs_below n k ≡ pairs_of test n
   unfolding pairs_below pairs_of
   below_all n k h = rw h refl
@@ -77,11 +80,13 @@ module _ {T : Type 0} where
   in_either (x ∷ xs) ys p (zero, h) = inl (zero, h)
   in_either (x ∷ xs) ys p (suc j, h) = elim (in_either xs ys p (j, h)) [ inl r ↦ inl (suc r.0, r.1) | inr r ↦ inr r ]
 
+  -- what occurs in the first of two lists occurs in both together
   in_left : (xs ys : List T) (p : T) → Occurs xs p → Occurs (xs ++ ys) p
   in_left [] ys p (j, h) = cc
   in_left (x ∷ xs) ys p (zero, h) = (zero, h)
   in_left (x ∷ xs) ys p (suc j, h) = let r = in_left xs ys p (j, h) in (suc r.0, r.1)
 
+  -- and what occurs in the second
   in_right : (xs ys : List T) (p : T) → Occurs ys p → Occurs (xs ++ ys) p
   in_right [] ys p h = h
   in_right (x ∷ xs) ys p h = let r = in_right xs ys p h in (suc r.0, r.1)
@@ -119,6 +124,7 @@ module _ (test : ℕ → ℕ → Bool) where
             (p.0, omega (arith, p.1), subst (λ (z : ℕ). test e z ≡ true) (sym p.1) p.2)
       ]
 
+  -- a pair that passes is in the list
   to_from : (e k f : ℕ) → f < k → test e f ≡ true → Occurs (pairs_to test e k) (e, f)
   to_from e zero f below h = absurd (omega arith)
   to_from e (suc k) f below h =
@@ -132,6 +138,7 @@ module _ (test : ℕ → ℕ → Bool) where
         | inr other ↦ in_left (pairs_to test e k) (cond (test e k) ((e, k) ∷ []) []) (e, f) (to_from e k f (omega (arith, below, other)) h)
       ])
 
+  -- the pairs of the numbers below k are those that pass
   below_parts : (n k x y : ℕ) → Occurs (pairs_below test n k) (x, y) → (x < k) × (y < n) × (test x y ≡ true)
   below_parts n zero x y h = nothing (subst (λ (l : List (ℕ × ℕ)). Occurs l (x, y)) (below_none test n) h)
     where
@@ -147,6 +154,7 @@ module _ (test : ℕ → ℕ → Bool) where
             (omega (arith, p.0), p.1, subst (λ (z : ℕ). test z y ≡ true) (sym p.0) p.2)
       ]
 
+  -- a pair of theirs that passes is in the list
   below_from : (n k e f : ℕ) → e < k → f < n → test e f ≡ true → Occurs (pairs_below test n k) (e, f)
   below_from n zero e f e_in f_in h = absurd (omega arith)
   below_from n (suc k) e f e_in f_in h =
@@ -162,5 +170,6 @@ module _ (test : ℕ → ℕ → Bool) where
   pub of_parts : (n x y : ℕ) → Occurs (pairs_of test n) (x, y) → (x < n) × (y < n) × (test x y ≡ true)
   of_parts n x y h = below_parts n n x y (subst (λ (l : List (ℕ × ℕ)). Occurs l (x, y)) (sym (below_all test n n refl)) h)
 
+  -- and each that passes is in the list
   pub of_from : (n e f : ℕ) → e < n → f < n → test e f ≡ true → Occurs (pairs_of test n) (e, f)
   of_from n e f e_in f_in h = subst (λ (l : List (ℕ × ℕ)). Occurs l (e, f)) (below_all test n n refl) (below_from n n e f e_in f_in h)
