@@ -21,3 +21,4 @@ pub mod RunTests
 pub mod RaceLists
 pub mod RaceRows
 pub mod OneOrOther
+pub mod ChoiceLemmas

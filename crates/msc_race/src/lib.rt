@@ -6,4 +6,8 @@
 //! Events are numbered from 0, over all lines.
 #![tactic(auto)]
 
+mod choosing;
 pub mod laws;
+mod reversing;
+
+pub use reversing::{chosen_run, reversing_run};
