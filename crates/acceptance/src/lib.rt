@@ -21,4 +21,6 @@ mod program;
 #[cfg(test)]
 mod races;
 #[cfg(test)]
+mod runs;
+#[cfg(test)]
 mod tokens;

@@ -13,7 +13,7 @@ pub(crate) const OVERTAKING: &[u8] = b"msc t; instance a; out m1 to b; out m2 to
 instance b; in m2 from a; in m1 from a; endinstance; endmsc;";
 
 /// The chart `crossing`.
-const CROSSING: &[u8] = b"msc t; instance a; out p to b; in q from b; endinstance; \
+pub(crate) const CROSSING: &[u8] = b"msc t; instance a; out p to b; in q from b; endinstance; \
 instance b; out q to a; in p from a; endinstance; endmsc;";
 
 /// The chart `numbered`.

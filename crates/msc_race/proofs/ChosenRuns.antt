@@ -11,7 +11,7 @@ use Rattle.msc_race.proofs.Standing.{until_other, until_swapped}
 use Rattle.msc_race.proofs.EventLemmas.{before_parts}
 
 -- what comes next in a chosen run may come
-may_of_next : (chart : WiredChart) (e : ℕ) (past : List ℕ) (x : ℕ) → IsChosenNext chart e past x
+pub may_of_next : (chart : WiredChart) (e : ℕ) (past : List ℕ) (x : ℕ) → IsChosenNext chart e past x
     → MayCome chart past x
 may_of_next chart e past x next = elim next [ inl a ↦ a.1.itself.may | inr b ↦ b.1.itself ]
 

@@ -24,3 +24,4 @@ pub mod DrawnPairs
 pub mod RaceLists
 pub mod RaceRows
 pub mod OneOrOther
+pub mod ChoiceLemmas

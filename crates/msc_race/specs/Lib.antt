@@ -1,3 +1,4 @@
 pub mod Laws
 pub mod Races
 pub mod Samples
+pub mod Choices

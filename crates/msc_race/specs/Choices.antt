@@ -1,0 +1,26 @@
+-- What a chosen run is made from, as the code holds it.
+use Rattle.std.specs.Prelude.{◌≡◌, ℕ, ◌<◌, length, List, IsTrue}
+use Rattle.msc_chart.specs.Drawings.{IsAccepted}
+use Rattle.msc_chart.specs.Lists.{occurs}
+use Rattle.msc_chart.specs.Orders.{WiredChart, wired, IsEnforcedOrder}
+use Rattle.msc_order.specs.Tables.{orders}
+use Rattle.msc_race.specs.declared.choosing.Choice.{Choice}
+
+-- the chart under the architecture
+abbrev pub chart_of : Choice → WiredChart
+chart_of c = wired c.queues c.chart.now
+
+-- the number of events
+abbrev pub size : Choice → ℕ
+size c = length c.chart.now.events
+
+-- the chart was accepted, the order is its enforced order, and e is an event of it
+pub record IsSettled (c : Choice) : Type 0 where
+  pub accepted : IsAccepted c.chart.now
+  pub enforced : IsEnforcedOrder (chart_of c) (orders c.order.now)
+  pub square : length c.order.now ≡ size c
+  pub known : c.e < size c
+
+-- these are events of the chart
+abbrev pub AreEvents : Choice → List ℕ → Type 0
+AreEvents c past = (s : ℕ) → IsTrue (occurs past s) → s < size c
