@@ -4,8 +4,9 @@ use Rattle.msc_parser.specs.declared.fault.ParseFault.{ParseFault}
 use Rattle.msc_parser.specs.declared.fault.ParseFault.TheVariants as grammar
 use Rattle.msc_parser.specs.Grammar.{Tree}
 use Rattle.msc_parser.specs.Parsing.{HasDraft, HasParseFault}
-use Rattle.msc_tool.specs.declared.fault.Fault.TheVariants.{Parse, Memory}
-use Rattle.msc_tool.specs.Answers.{RefusesText, refusal_of}
+use Rattle.msc_report.specs.declared.fault.Fault.TheVariants.{Parse, Memory}
+use Rattle.msc_report.specs.Refusals.{refusal_of}
+use Rattle.msc_tool.specs.Answers.{RefusesText}
 
 -- what the parser says of a text where it answers a fault
 abbrev pub ParserRefuses : List ℕ → ParseFault → Type 0

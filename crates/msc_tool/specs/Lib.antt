@@ -1,4 +1,3 @@
 pub mod Reading
-pub mod Texts
 pub mod Answers
 pub mod Program

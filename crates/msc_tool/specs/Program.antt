@@ -1,7 +1,7 @@
 -- Exit statuses of the program.
 use Rattle.std.specs.Prelude.{ℕ}
-use Rattle.msc_tool.specs.declared.fault.Fault.{Fault}
-use Rattle.msc_tool.specs.declared.fault.Fault.TheVariants.{Parse, Chart, Memory, Device}
+use Rattle.msc_report.specs.declared.fault.Fault.{Fault}
+use Rattle.msc_report.specs.declared.fault.Fault.TheVariants.{Parse, Chart, Memory, Device}
 use Rattle.msc_tool.specs.declared.program.Status.{Status}
 use Rattle.msc_tool.specs.declared.program.Status.TheVariants.{Done, Refused, Failed}
 

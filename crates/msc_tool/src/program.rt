@@ -5,10 +5,9 @@ ghost use Rattle.std.specs.IoError.{error_kind};
 ghost use Rattle.std.specs.declared.io.ErrorKind.TheVariants.{OutOfMemory};
 ghost use Rattle.msc_tool.specs.Program.{status_code, status_of};
 
-use crate::fault::Fault;
 use crate::text::read_input;
-use crate::writing::write_fault;
 use clap::{Arg, Command, Error};
+use msc_report::{Fault, write_fault};
 use std::alloc::{AllocError, Global};
 use std::io::{ErrorKind, Read, Write};
 use std::rt::Files;

@@ -1,8 +1,8 @@
 //! Why a call gave no answer.
 
 ghost use Rattle.std.specs.Prelude.{◌≡◌};
-ghost use Rattle.msc_tool.specs.declared.fault.Fault.TheVariants.{Memory};
-ghost use Rattle.msc_tool.specs.Answers.{refusal_of};
+ghost use Rattle.msc_report.specs.declared.fault.Fault.TheVariants.{Memory};
+ghost use Rattle.msc_report.specs.Refusals.{refusal_of};
 
 use msc_chart::ChartFault;
 use msc_parser::ParseFault;
