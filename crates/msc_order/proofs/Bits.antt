@@ -103,3 +103,8 @@ bit_alone k i below = sym (orz (1 * 2 ^ k % 2 ^ 64)) ∙ bit_put 0 k i below ∙
   where
     orz : (a : ℕ) → bit_of (bit_or 0 a) i ≡ bit_of a i
     orz a = bit_join 0 a i ∙ rw (bit_zero i) refl
+
+-- a row has few words
+pub stride_few : (n : ℕ) → 64 * stride n ≤ n + 63
+unfolding stride
+stride_few n = let h = div_ceil_times n 64 (omega arith) in omega (arith, h.1)
