@@ -7,8 +7,10 @@
 
 mod fault;
 mod race;
+mod verdict;
 mod writing;
 
 pub use fault::Fault;
 pub use race::write_race;
+pub use verdict::write_verdict;
 pub use writing::{write_draft, write_fault};

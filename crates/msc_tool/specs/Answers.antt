@@ -1,4 +1,4 @@
--- What reading a text to its canonical text answers.
+-- What reading a text to its canonical text answers, and how a text without a draft is refused.
 use Rattle.std.specs.Prelude.{◌≡◌, ◌≢◌, ◌⊎◌, ℕ, List, Option, Result, Err}
 use Rattle.std.specs.Io.KnownBytes.{Appends}
 use Rattle.msc_parser.specs.declared.fault.ParseFault.{ParseFault}
@@ -15,7 +15,7 @@ pub record WritesDraft (text : List ℕ) (before after : Option (List ℕ)) : Ty
   pub written : Appends before after (canonical draft)
 
 -- a fault of the text is answered exactly where it stands, unless memory runs out
-pub record RefusesText (text : List ℕ) (answer : Result (Unit {0}) Fault) : Type 0 where
+pub record RefusesText {A : Type 0} (text : List ℕ) (answer : Result A Fault) : Type 0 where
   pub stands : (f : ParseFault) → answer ≡ Err (Parse f) → HasParseFault text f
   pub comes : (f : ParseFault) → HasParseFault text f → (answer ≡ Err (Parse f)) ⊎ (answer ≡ Err Memory)
   pub accepted : (t : Tree) → HasDraft text t → (f : ParseFault) → answer ≢ Err (Parse f)
