@@ -1,7 +1,11 @@
 //! Does what `msc read -` does, in plain Rust: reads a chart's text from standard input and prints
-//! its canonical text, or a fault's line. It is the yardstick of the benchmarks, so it is written
+//! its canonical text, or a fault's line. With the word `pair` or `mailbox` it does what `msc check`
+//! does (`check.rs`). It is the yardstick of the benchmarks, so it is written
 //! straight on: the whole text into tokens, the tokens into a tree, the tree onto standard output.
 
+mod check;
+
+use std::env;
 use std::fmt;
 use std::io::{self, BufWriter, Read, Write};
 use std::process::ExitCode;
@@ -21,6 +25,7 @@ enum Fault {
     LongName(usize),
     Unsupported(usize, String),
     Expected(usize, &'static str),
+    Chart,
     Device,
 }
 
@@ -42,6 +47,7 @@ impl fmt::Display for Fault {
                 write!(f, "grammar fault 2 at {at}: {word} is not supported")
             }
             Fault::Expected(at, what) => write!(f, "grammar fault 3 at {at}: expected {what}"),
+            Fault::Chart => write!(f, "chart fault"),
             Fault::Device => write!(f, "device fault"),
         }
     }
@@ -514,20 +520,26 @@ impl Chart {
 
 // ---- The program
 
-fn read_and_print() -> Result<(), Fault> {
+fn read_and_print() -> Result<bool, Fault> {
     let mut text = Vec::new();
     let limit = TEXT_LIMIT as u64 + 1;
     io::stdin().lock().take(limit).read_to_end(&mut text)?;
     let chart = parse(&text)?;
     let mut out = BufWriter::new(io::stdout().lock());
-    chart.write(&mut out)?;
+    let passed = match env::args().nth(1).as_deref() {
+        Some(queues) => check::check(&chart, queues == "mailbox", &mut out)?,
+        None => {
+            chart.write(&mut out)?;
+            true
+        }
+    };
     out.flush()?;
-    Ok(())
+    Ok(passed)
 }
 
 fn main() -> ExitCode {
     match read_and_print() {
-        Ok(()) => ExitCode::SUCCESS,
+        Ok(passed) => ExitCode::from(u8::from(!passed)),
         Err(fault) => {
             let _ = writeln!(io::stderr(), "{fault}");
             ExitCode::from(if matches!(fault, Fault::Device) { 4 } else { 2 })
