@@ -5,7 +5,7 @@
 
 ghost use Rattle.std.specs.Prelude.{◌≡◌, OnOk};
 ghost use Rattle.std.specs.Io.KnownBytes.{Appends};
-ghost use Rattle.msc_tool.specs.Texts.{chart_line, fault_line, grammar_line, lexical_line, line, placed, what_text};
+ghost use Rattle.msc_report.specs.Texts.{chart_line, fault_line, grammar_line, lexical_line, line, placed, what_text};
 
 use crate::fault::Fault;
 use msc_chart::ChartFault;

@@ -1,9 +1,9 @@
 use Rattle.std.proofs.Common.{codes}
 use Rattle.std.specs.Fmt.{decimal}
 use Rattle.std.proofs.lemmas.Result.{on_ok_weaker}
-use Rattle.msc_tool.proofs.KnownBytes.{Appends-word}
-use Rattle.msc_tool.specs.Texts.{line}
-use Rattle.msc_tool.proofs.writing.write_unsupported.Goals as goal
+use Rattle.msc_report.proofs.KnownBytes.{Appends-word}
+use Rattle.msc_report.specs.Texts.{line}
+use Rattle.msc_report.proofs.writing.write_unsupported.Goals as goal
 
 pub returns : goal.returns
 returns g c = rw (← c.spelling.ensures) (on_ok_weaker c.write_line.result (λ last.

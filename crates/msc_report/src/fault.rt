@@ -1,8 +1,8 @@
 //! Why a call gave no answer.
 
 ghost use Rattle.std.specs.Prelude.{◌≡◌};
-ghost use Rattle.msc_tool.specs.declared.fault.Fault.TheVariants.{Memory};
-ghost use Rattle.msc_tool.specs.Answers.{refusal_of};
+ghost use Rattle.msc_report.specs.declared.fault.Fault.TheVariants.{Memory};
+ghost use Rattle.msc_report.specs.Refusals.{chart_refusal_of, refusal_of};
 
 use msc_chart::ChartFault;
 use msc_parser::ParseFault;
@@ -43,6 +43,18 @@ impl From<ParseFault> for Fault {
         match fault {
             ParseFault::Memory => Fault::Memory,
             _ => Fault::Parse(fault),
+        }
+    }
+}
+
+impl From<ChartFault> for Fault {
+    ghost from_gives = { λ f e. e ≡ chart_refusal_of f };
+
+    /// Want of memory is never nested.
+    fn from(fault: ChartFault) -> Fault {
+        match fault {
+            ChartFault::Memory => Fault::Memory,
+            _ => Fault::Chart(fault),
         }
     }
 }
