@@ -1,0 +1,98 @@
+//! Does what `msc check` does, in plain Rust: reads a chart's text from standard input and prints its
+//! verdict and each race. It is the yardstick of `bench/checks`.
+//!
+//! One word: `pair` or `mailbox`. The exit status is 0 for `pass`, 1 for races, and 2 for a text that
+//! is no chart.
+
+use plain::chart::{Chart, Queues};
+use plain::draft::{parse, Draft, Item, Signal, Way, TEXT_LIMIT};
+use plain::order::{races, Order};
+use std::io::{self, BufWriter, Read, Write};
+use std::process::ExitCode;
+use std::{env, slice};
+
+/// The outputs and inputs of a draft in the order of the text, each with the name of its instance.
+fn signals(draft: &Draft) -> Vec<(&[u8], &Signal)> {
+    let mut signals = Vec::new();
+    for section in &draft.sections {
+        for item in &section.items {
+            let group = match item {
+                Item::Single(signal) => slice::from_ref(signal),
+                Item::Coregion(signals) => signals,
+            };
+            signals.extend(group.iter().map(|signal| (&*section.decl.name, signal)));
+        }
+    }
+    signals
+}
+
+fn write_event(out: &mut impl Write, signal: &Signal) -> io::Result<()> {
+    let (way, link): (&[u8], &[u8]) = match signal.way {
+        Way::Output => (b"out ", b" to "),
+        Way::Input => (b"in ", b" from "),
+    };
+    out.write_all(way)?;
+    out.write_all(&signal.name)?;
+    if let Some(number) = &signal.number {
+        out.write_all(b", ")?;
+        out.write_all(number)?;
+    }
+    out.write_all(link)?;
+    out.write_all(&signal.address)
+}
+
+/// Prints the verdict and each race; answers whether there is none.
+fn check(draft: &Draft, chart: &Chart, queues: Queues, out: &mut impl Write) -> io::Result<bool> {
+    let order = Order::enforced(chart, queues);
+    let races = races(chart, &order);
+    out.write_all(b"chart ")?;
+    out.write_all(&draft.name)?;
+    let architecture = match queues {
+        Queues::Pair => "pair",
+        Queues::Mailbox => "mailbox",
+    };
+    writeln!(out, "\nqueues {architecture}")?;
+    if races.is_empty() {
+        writeln!(out, "pass")?;
+        return Ok(true);
+    }
+    writeln!(out, "races {}", races.len())?;
+    let signals = signals(draft);
+    for (e, f) in races {
+        let (line, first) = signals[e as usize];
+        write!(out, "race {e} {f} on ")?;
+        out.write_all(line)?;
+        out.write_all(b": ")?;
+        write_event(out, first)?;
+        out.write_all(b"; ")?;
+        write_event(out, signals[f as usize].1)?;
+        out.write_all(b"\n")?;
+    }
+    Ok(false)
+}
+
+fn read_and_check(queues: Queues) -> io::Result<Option<bool>> {
+    let mut text = Vec::new();
+    let limit = TEXT_LIMIT as u64 + 1;
+    io::stdin().lock().take(limit).read_to_end(&mut text)?;
+    let Ok(draft) = parse(&text) else {
+        return Ok(None);
+    };
+    let Some(chart) = Chart::build(&draft) else {
+        return Ok(None);
+    };
+    let mut out = BufWriter::new(io::stdout().lock());
+    let passed = check(&draft, &chart, queues, &mut out)?;
+    out.flush()?;
+    Ok(Some(passed))
+}
+
+fn main() -> ExitCode {
+    let mailbox = env::args().nth(1).as_deref() == Some("mailbox");
+    let queues = if mailbox { Queues::Mailbox } else { Queues::Pair };
+    match read_and_check(queues) {
+        Ok(Some(passed)) => ExitCode::from(u8::from(!passed)),
+        Ok(None) => ExitCode::from(2),
+        Err(_) => ExitCode::from(4),
+    }
+}
