@@ -1,3 +1,7 @@
 pub mod Laws
 pub mod Samples
 pub mod Choices
+pub mod Bits
+pub mod Remainders
+pub mod Fronts
+pub mod Channels

@@ -7,6 +7,7 @@ ghost use Rattle.msc_chart.specs.Orders.{queue};
 ghost use Rattle.msc_chart.specs.Runs.{is_waiting, state, MayCome, IsWhole};
 ghost use Rattle.msc_chart.specs.Chosen.{IsFree, IsHeld, IsPassedOn, IsChosenNext, Waits, MayComeFree, SomeFreeLeft, IsLeast};
 ghost use Rattle.msc_race.specs.Choices.{chart_of, size, AreEvents, IsSettled};
+ghost use Rattle.msc_race.specs.Remainders.{IsPassedOnWith, IsUnheld};
 
 use crate::laws::{a_chosen_run_goes_on, no_run_is_stuck};
 use msc_chart::laws::events_have_queues;
@@ -37,7 +38,7 @@ fn contains(events: &[Event], e: Event) -> bool
 
 impl Choice<'_> {
     /// Whether `x` is an output.
-    fn is_output(&self, x: Event) -> bool
+    pub fn is_output(&self, x: Event) -> bool
         requires { x < size self.now }
         ensures { result ≡ is_output self.now.chart.now.events x }
     {
@@ -48,7 +49,7 @@ impl Choice<'_> {
     }
 
     /// The event at the other end of the message of `x`.
-    fn partner(&self, x: Event) -> Event
+    pub fn partner(&self, x: Event) -> Event
         requires settled { IsSettled self.now }
         requires known { x < size self.now }
         ensures value { result ≡ partner self.now.chart.now.events x }
@@ -61,7 +62,7 @@ impl Choice<'_> {
     }
 
     /// The queue of the message of `x`.
-    fn queue(&self, x: Event) -> u32
+    pub fn queue(&self, x: Event) -> u32
         requires settled { IsSettled self.now }
         requires known { x < size self.now }
         ensures { result ≡ queue (chart_of self.now) x }
@@ -151,7 +152,7 @@ impl Choice<'_> {
     }
 
     /// Whether `x` is free of `e`: another event, and not enforced after it.
-    fn is_free(&self, x: Event) -> bool
+    pub fn is_free(&self, x: Event) -> bool
         requires settled { IsSettled self.now }
         requires known { x < size self.now }
         ensures { IsTrue result ↔ IsFree (chart_of self.now) self.now.e x }
@@ -163,7 +164,7 @@ impl Choice<'_> {
     }
 
     /// Whether a free event is a held output: one whose input is not free.
-    fn is_held(&self, x: Event) -> bool
+    pub fn is_held(&self, x: Event) -> bool
         requires settled { IsSettled self.now }
         requires free { IsFree (chart_of self.now) self.now.e x }
         ensures { IsTrue result ↔ IsHeld (chart_of self.now) self.now.e x }
@@ -173,13 +174,37 @@ impl Choice<'_> {
     }
 
     /// Whether `t` is an output that is passed on: a free one whose input is free.
-    fn is_passed_on(&self, t: Event) -> bool
+    pub fn is_passed_on(&self, t: Event) -> bool
         requires settled { IsSettled self.now }
         requires known { t < size self.now }
         ensures { IsTrue result ↔ IsPassedOn (chart_of self.now) self.now.e t }
     {
         let passed = self.is_free(self.partner(t));
         self.is_output(t) && self.is_free(t) && passed
+    }
+
+    /// Whether `x` is free, and not a held output.
+    pub fn is_unheld(&self, x: Event) -> bool
+        requires settled { IsSettled self.now }
+        requires known { x < size self.now }
+        ensures { IsTrue result ↔ IsUnheld (chart_of self.now) self.now.e x }
+    {
+        if !self.is_free(x) {
+            return false;
+        }
+        !self.is_held(x)
+    }
+
+    /// Whether `x` is an output to the queue of `e` that is passed on.
+    pub fn is_passed_on_with(&self, x: Event) -> bool
+        requires settled { IsSettled self.now }
+        requires known { x < size self.now }
+        ensures { IsTrue result ↔ IsPassedOnWith (chart_of self.now) self.now.e x }
+    {
+        if !self.is_passed_on(x) {
+            return false;
+        }
+        self.queue(x) == self.queue(self.e)
     }
 
     /// Whether a free event does not wait.

@@ -6,8 +6,12 @@
 //! Events are numbered from 0, over all lines.
 #![tactic(auto)]
 
+mod bits;
+mod channels;
 mod choosing;
 pub mod laws;
+mod lines;
+mod remaining;
 mod reversing;
 
 pub use reversing::{chosen_run, reversing_run};
