@@ -28,3 +28,5 @@ pub mod RemainderLemmas
 pub mod FrontLemmas
 pub mod LinkLemmas
 pub mod ChannelLemmas
+pub mod StartLemmas
+pub mod FrontierLemmas

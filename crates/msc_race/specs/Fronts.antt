@@ -35,11 +35,22 @@ pub record IsLowest (events : List ChartEvent) (start i f : ℕ) : Type 0 where
   pub itself : f < length events → (line events f ≡ i) × (start ≤ f)
 
 -- the events from start on are left, and each front is the first of them on its line
-pub record AreLinesFrom (instances : ℕ) (events : List ChartEvent) (lefts firsts : List ℕ) (start : ℕ) : Type 0 where
+pub record AreLinesFrom (instances : ℕ) (events : List ChartEvent) (lefts firsts opens : List ℕ) (start : ℕ) : Type 0 where
   pub left_row : IsRow (length events) lefts
+  pub outputs_row : IsRow (length events) opens
   pub left : (y : ℕ) → IsTrue (holds lefts y) ↔ ((start ≤ y) × (y < length events))
   pub lines : length firsts ≡ instances
   pub fronts : (i : ℕ) → i < instances → IsLowest events start i (get_or firsts i 0)
+  pub outputs : (y : ℕ) → holds opens y ≡ false
+
+-- all events are left, and what is open below k is told
+pub record AreLinesTo (instances : ℕ) (events : List ChartEvent) (lefts firsts opens : List ℕ) (k : ℕ) : Type 0 where
+  pub left_row : IsRow (length events) lefts
+  pub outputs_row : IsRow (length events) opens
+  pub left : (y : ℕ) → IsTrue (holds lefts y) ↔ (y < length events)
+  pub lines : length firsts ≡ instances
+  pub fronts : (i : ℕ) → i < instances → IsLowest events 0 i (get_or firsts i 0)
+  pub outputs : (y : ℕ) → IsTrue (holds opens y) ↔ (IsOpen events lefts y × (y < k))
 
 -- an output that is left in the segment of f, from f on and before end
 pub record IsOpened (events : List ChartEvent) (left : List ℕ) (f end s : ℕ) : Type 0 where
@@ -58,3 +69,12 @@ pub record IsNextLeft (events : List ChartEvent) (left : List ℕ) (i start f : 
 -- the lines of a chart, as the code holds them
 abbrev pub HoldsLines : Drawing → Lines → Type 0
 HoldsLines d l = AreLines (length d.instances) d.events l.left.items l.fronts.items l.outputs.items
+
+-- the lines of a chart while they are made, from the last event back
+abbrev pub HoldsLinesFrom : Drawing → Lines → ℕ → Type 0
+HoldsLinesFrom d l start =
+    AreLinesFrom (length d.instances) d.events l.left.items l.fronts.items l.outputs.items start
+
+-- and while the outputs are opened
+abbrev pub HoldsLinesTo : Drawing → Lines → ℕ → Type 0
+HoldsLinesTo d l k = AreLinesTo (length d.instances) d.events l.left.items l.fronts.items l.outputs.items k

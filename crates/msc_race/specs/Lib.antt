@@ -5,3 +5,4 @@ pub mod Bits
 pub mod Remainders
 pub mod Fronts
 pub mod Channels
+pub mod Frontiers

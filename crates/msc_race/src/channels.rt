@@ -7,11 +7,11 @@ ghost use Rattle.msc_chart.specs.Runs.{MayCome, Run};
 ghost use Rattle.msc_race.specs.Channels.{HoldsQueues};
 ghost use Rattle.msc_race.specs.Choices.{chart_of, size, IsSettled};
 
-use crate::bits::{clear, put_where};
+use crate::bits::{blank, clear, put_where};
 use crate::choosing::Choice;
 use msc_chart::Event;
 use msc_chart::laws::ends_share_queues;
-use std::alloc::AllocError;
+use std::alloc::{AllocError, Global};
 
 /// A run, and its queues as linked lists: the first and the last output of each queue, and for an
 /// output the next one of its queue. Where a queue is empty, its head is the number of events. Then
@@ -26,6 +26,30 @@ pub struct Channels {
 }
 
 impl Channels {
+    /// The empty run.
+    pub fn start(alloc: Global, choice: &Choice) -> Result<Channels, AllocError>
+        requires { IsSettled choice.now }
+        ensures queues { IfOk result (λ c. HoldsQueues (chart_of choice.now) [] c) }
+        ensures run { IfOk result (λ c. c.run.items ≡ []) }
+    {
+        let events = choice.chart.events();
+        let queues = choice.queue_count() as usize;
+        Ok(Channels {
+            run: Vec::new(alloc),
+            heads: vec![in alloc; events; queues]?,
+            lasts: vec![in alloc; 0; queues]?,
+            next: vec![in alloc; 0; events as usize]?,
+            inputs: blank(alloc, events)?,
+        })
+    }
+
+    /// The events so far.
+    pub fn into_run(self) -> Vec<Event>
+        ensures { result ≡ self.run }
+    {
+        self.run
+    }
+
     /// Puts output `x` at the end of its queue.
     fn send(&mut self, choice: &Choice, x: Event)
         requires settled { IsSettled choice.now }

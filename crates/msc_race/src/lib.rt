@@ -9,6 +9,7 @@
 mod bits;
 mod channels;
 mod choosing;
+mod frontier;
 pub mod laws;
 mod lines;
 mod remaining;

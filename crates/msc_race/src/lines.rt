@@ -1,10 +1,10 @@
 //! How far the lines of a chart have come in a run, and so which outputs may come next.
 
-ghost use Rattle.std.specs.Prelude.{◌≡◌, ℕ, ◌+◌, ◌<◌, ◌≤◌, ◌↔◌, ◌⊎◌, length, IfOk, IsTrue};
-ghost use Rattle.msc_chart.specs.Charts.{line, IsSegmentEnd};
+ghost use Rattle.std.specs.Prelude.{◌≡◌, ℕ, ◌+◌, ◌<◌, ◌≤◌, ◌↔◌, ◌⊎◌, false, length, IfOk, IsTrue};
+ghost use Rattle.msc_chart.specs.Charts.{before, is_output, line};
 ghost use Rattle.msc_race.specs.Bits.{holds, IsRow, IsWithout};
 ghost use Rattle.msc_race.specs.Choices.{size, IsSettled};
-ghost use Rattle.msc_race.specs.Fronts.{HoldsLines, IsNextLeft, IsOpened};
+ghost use Rattle.msc_race.specs.Fronts.{HoldsLines, HoldsLinesFrom, HoldsLinesTo, IsNextLeft, IsOpened};
 
 use crate::bits::{blank, clear, has, put_where};
 use crate::choosing::Choice;
@@ -62,7 +62,72 @@ fn open_outputs(row: &mut [u64], choice: &Choice, left: &[u64], f: Event, end: E
     }
 }
 
+/// Whether `x` is an output, and `front` is not drawn before it.
+fn is_first(choice: &Choice, front: Event, x: Event) -> bool
+    requires front { front < size choice.now }
+    requires known { x < size choice.now }
+    ensures { IsTrue result
+        ↔ (IsTrue (is_output choice.now.chart.now.events x) × (before choice.now.chart.now.events front x ≡ false)) }
+{
+    if !choice.is_output(x) {
+        return false;
+    }
+    !choice.chart.before(front, x)
+}
+
 impl Lines {
+    /// Lines of which nothing is told yet.
+    fn blank(alloc: Global, choice: &Choice) -> Result<Lines, AllocError>
+        requires { IsSettled choice.now }
+        ensures { IfOk result (λ l. HoldsLinesFrom choice.now.chart.now l (size choice.now)) }
+    {
+        let events = choice.chart.events();
+        Ok(Lines {
+            left: blank(alloc, events)?,
+            fronts: vec![in alloc; events; choice.chart.instances() as usize]?,
+            outputs: blank(alloc, events)?,
+        })
+    }
+
+    /// Adds event `x`, where the events after it are told.
+    fn add(&mut self, choice: &Choice, x: Event)
+        requires settled { IsSettled choice.now }
+        requires known { x < size choice.now }
+        requires later { HoldsLinesFrom choice.now.chart.now self.old (x + 1) }
+        ensures { HoldsLinesFrom choice.now.chart.now self.new x }
+    {
+        put_where(&mut self.left, x, true);
+        self.fronts[choice.chart.instance_of(x) as usize] = x;
+    }
+
+    /// Opens `x`, where it is an output and nothing is drawn before it.
+    fn open_first(&mut self, choice: &Choice, x: Event)
+        requires settled { IsSettled choice.now }
+        requires known { x < size choice.now }
+        requires lines { HoldsLinesTo choice.now.chart.now self.old x }
+        ensures { HoldsLinesTo choice.now.chart.now self.new (x + 1) }
+    {
+        let front = self.fronts[choice.chart.instance_of(x) as usize];
+        put_where(&mut self.outputs, x, is_first(choice, front, x));
+    }
+
+    /// The lines before any event has occurred.
+    pub fn start(alloc: Global, choice: &Choice) -> Result<Lines, AllocError>
+        requires { IsSettled choice.now }
+        ensures kept { IfOk result (λ l. HoldsLines choice.now.chart.now l) }
+        ensures left { IfOk result (λ l. (y : ℕ) → IsTrue (holds l.left.items y) ↔ (y < size choice.now)) }
+    {
+        let events = choice.chart.events();
+        let mut lines = Lines::blank(alloc, choice)?;
+        for k in 0..events {
+            lines.add(choice, events - 1 - k);
+        }
+        for x in 0..events {
+            lines.open_first(choice, x);
+        }
+        Ok(lines)
+    }
+
     /// `x` occurs.
     pub fn occur(&mut self, choice: &Choice, x: Event)
         requires settled { IsSettled choice.now }
