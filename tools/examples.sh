@@ -10,4 +10,13 @@ for wanted in charts/*.read.txt; do
     failed=1
   fi
 done
+for queues in pair mailbox; do
+  for wanted in charts/*.$queues.txt; do
+    chart=${wanted%.$queues.txt}.msc
+    if ! ./msc check --queues "$queues" "$chart" | diff -u "$wanted" -; then
+      echo "$chart: msc check --queues $queues prints something else than $wanted"
+      failed=1
+    fi
+  done
+done
 exit $failed

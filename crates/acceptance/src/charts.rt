@@ -8,16 +8,16 @@ use std::fmt::Write;
 use std::test::Fail;
 
 /// The chart `two_senders`.
-const TWO_SENDERS: &[u8] = b"msc t; instance a; out m1 to b; endinstance; \
+pub(crate) const TWO_SENDERS: &[u8] = b"msc t; instance a; out m1 to b; endinstance; \
 instance b; in m1 from a; in m2 from c; endinstance; instance c; out m2 to b; endinstance; endmsc;";
 
 /// The chart `coregion`.
-const COREGION: &[u8] = b"msc t; instance a; out m1 to b; endinstance; \
+pub(crate) const COREGION: &[u8] = b"msc t; instance a; out m1 to b; endinstance; \
 instance b; concurrent; in m1 from a; in m2 from c; endconcurrent; endinstance; \
 instance c; out m2 to b; endinstance; endmsc;";
 
 /// The chart `relay`.
-const RELAY: &[u8] = b"msc t; instance a; out m1 to b; out x to c; endinstance; \
+pub(crate) const RELAY: &[u8] = b"msc t; instance a; out m1 to b; out x to c; endinstance; \
 instance b; in m1 from a; in m2 from c; endinstance; \
 instance c; in x from a; out m2 to b; endinstance; endmsc;";
 

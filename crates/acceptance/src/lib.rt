@@ -5,6 +5,8 @@
 #[cfg(test)]
 mod charts;
 #[cfg(test)]
+mod checks;
+#[cfg(test)]
 mod devices;
 #[cfg(test)]
 mod drafts;
@@ -15,6 +17,12 @@ mod grammar;
 #[cfg(test)]
 mod inputs;
 #[cfg(test)]
+mod orders;
+#[cfg(test)]
 mod program;
+#[cfg(test)]
+mod races;
+#[cfg(test)]
+mod runs;
 #[cfg(test)]
 mod tokens;

@@ -6,10 +6,10 @@ use std::test::Fail;
 
 /// What a run of the program printed, and its exit status.
 #[derive(Drop)]
-struct Outcome {
-    output: Vec<u8>,
-    faults: Vec<u8>,
-    status: u8,
+pub struct Outcome {
+    pub output: Vec<u8>,
+    pub faults: Vec<u8>,
+    pub status: u8,
 }
 
 /// The words of a command line, the program's name first.
@@ -23,7 +23,7 @@ fn words_of(alloc: Global, words: &[&str]) -> Result<Vec<String>, AllocError> {
 }
 
 /// Runs the program over these words and this standard input.
-fn run(rt: &HostRuntime, words: &[&str], stdin: &[u8]) -> Result<Outcome, AllocError> {
+pub fn run(rt: &HostRuntime, words: &[&str], stdin: &[u8]) -> Result<Outcome, AllocError> {
     let alloc = rt.alloc();
     let words = words_of(alloc, words)?;
     let mut input = stdin;

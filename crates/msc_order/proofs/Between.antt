@@ -20,6 +20,7 @@ visual_led events x y (seen b) = led b refl
 visual_led events x y (passed o p) = carried o p
 visual_led events x y (linked {y = m} h k) = chained (visual_led events x m h) (visual_led events m y k)
 
+-- what leads on to any event is in the visual order, and so is what is caused
 pub led_visual : (events : List ChartEvent) (inputs : Bool) (x y : ℕ) → Led events inputs x y → Visual events x y
 led_visual events inputs x y (led b o) = seen b
 led_visual events inputs x y (carried o p) = passed o p
@@ -46,9 +47,7 @@ module _ (chart : WiredChart) where
     onward = λ x y z h k. exact.complete x z (chained (exact.sound x y h) k);
   }
 
-  pub keeps_refl : (test : ℕ → ℕ → Bool) → Keeps test test
-  keeps_refl test x y h = h
-
+  -- what is kept twice is kept
   pub keeps_trans : (a b d : ℕ → ℕ → Bool) → Keeps a b → Keeps b d → Keeps a d
   keeps_trans a b d h k x y there = k x y (h x y there)
 
@@ -140,9 +139,11 @@ module _ (chart : WiredChart) where
     pub left_less : (d : ℕ) → less d ≡ true → left d ≡ true
     left_less d h = (and_parts (left d) _ (sym (drop d) ∙ h)).0
 
+    -- what the test held it holds
     kept_all : Keeps test now
     kept_all x y h = is x y ∙ row_kept test (partner chart.events s) (partner chart.events c) true x y h
 
+    -- the output that was looked at is left no more
     pub left_gone : less c ≡ false
     left_gone = drop c ∙ rw (eq-eqb c c refl) (gone (left c))
       where
@@ -150,6 +151,7 @@ module _ (chart : WiredChart) where
         gone true = refl
         gone false = refl
 
+    -- what is left of the others: those that are caused after it have their inputs taken in with its own
     pub left_next : IsLeft chart now s less
     left_next = record {
       sound = λ d h.

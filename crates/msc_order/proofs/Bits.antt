@@ -1,26 +1,11 @@
 -- Truth values, and the bits of words.
-use Rattle.std.proofs.Common.{◌≡◌, ℕ, ◌+◌, ◌-◌, ◌*◌, ◌/◌, ◌%◌, ◌^◌, ◌<◌, ◌≤◌, ◌⊎◌, min, max, Bool, true, false, not, ◌&&◌, ◌||◌, inl, inr, eqb, ltb, refl, sym, ◌∙◌, arith, bit_or, bit_and, w64}
+use Rattle.std.proofs.Common.{◌≡◌, ℕ, ◌+◌, ◌-◌, ◌*◌, ◌/◌, ◌%◌, ◌^◌, ◌<◌, ◌≤◌, ◌⊎◌, min, max, false, not, ◌&&◌, ◌||◌, inl, inr, eqb, ltb, refl, sym, ◌∙◌, arith, bit_or, bit_and, w64}
 use Rattle.std.specs.Int.{bit_at, bit_not}
+use Rattle.std.proofs.Math.Bool.{or-false, or-true}
 use Rattle.std.proofs.lemmas.Bool.{lt-ltb, le-ltb, eq-eqb, ne_eqb, cases_lt, cases_eq}
 use Rattle.std.proofs.lemmas.Nat.Bits.{bit_at-lt, bit_at-zero, bit_at_or, bit_at_and, bit_at_not, shr_and_one, bit_at_set_same, bit_at_set_other}
 use Rattle.std.proofs.lemmas.Grind.{div_ceil_times}
 use Rattle.msc_order.specs.Tables.{bit_of, stride}
-
-pub or-false : (a : Bool) → (a || false) ≡ a
-or-false true = refl
-or-false false = refl
-
-pub or-true : (a : Bool) → (a || true) ≡ true
-or-true true = refl
-or-true false = refl
-
-pub and-false : (a : Bool) → (a && false) ≡ false
-and-false true = refl
-and-false false = refl
-
-pub and-true : (a : Bool) → (a && true) ≡ a
-and-true true = refl
-and-true false = refl
 
 -- the words of a row have a bit for each number below n
 pub stride_enough : (n : ℕ) → n ≤ 64 * stride n
@@ -65,6 +50,7 @@ bit_put word k i below =
 digit : (b : ℕ) → b < 2 → (b ≡ 1) ⊎ (b ≡ 0)
 digit b below = elim (cases_eq b 1) [ inl one ↦ inl one | inr other ↦ inr (omega (arith, below, other)) ]
 
+-- the greater of two digits is 1 where one of them is
 digits_or : (a b : ℕ) → a < 2 → b < 2 → eqb (max a b) 1 ≡ (eqb a 1 || eqb b 1)
 digits_or a b ha hb =
     elim (digit a ha) [
@@ -72,6 +58,7 @@ digits_or a b ha hb =
       | inr p ↦ elim (digit b hb) [ inl q ↦ rw (p, q) refl | inr q ↦ rw (p, q) refl ]
     ]
 
+-- the smaller is 1 where both are
 digits_and : (a b : ℕ) → a < 2 → b < 2 → eqb (min a b) 1 ≡ (eqb a 1 && eqb b 1)
 digits_and a b ha hb =
     elim (digit a ha) [
@@ -79,6 +66,7 @@ digits_and a b ha hb =
       | inr p ↦ elim (digit b hb) [ inl q ↦ rw (p, q) refl | inr q ↦ rw (p, q) refl ]
     ]
 
+-- the other digit is 1 where this one is not
 digit_not : (a : ℕ) → a < 2 → eqb (1 - a) 1 ≡ not (eqb a 1)
 digit_not a h = elim (digit a h) [ inl p ↦ rw p refl | inr p ↦ rw p refl ]
 
@@ -103,3 +91,8 @@ bit_alone k i below = sym (orz (1 * 2 ^ k % 2 ^ 64)) ∙ bit_put 0 k i below ∙
   where
     orz : (a : ℕ) → bit_of (bit_or 0 a) i ≡ bit_of a i
     orz a = bit_join 0 a i ∙ rw (bit_zero i) refl
+
+-- a row has few words
+pub stride_few : (n : ℕ) → 64 * stride n ≤ n + 63
+unfolding stride
+stride_few n = let h = div_ceil_times n 64 (omega arith) in omega (arith, h.1)

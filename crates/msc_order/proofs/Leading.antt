@@ -11,7 +11,7 @@ use Rattle.msc_chart.proofs.Drawn.{before_from, before_parts, output_parts, not_
 use Rattle.msc_order.specs.Tables.{with_row}
 use Rattle.msc_order.specs.Causes.{Led, IsSound, HasRowOf, KeepsOthers, HasNextRows, IsBehind}
 use Rattle.msc_order.specs.Causes.Led.{led, carried, chained}
-use Rattle.msc_order.proofs.Bits.{or-false}
+use Rattle.std.proofs.Math.Bool.{or-false}
 use Rattle.msc_order.proofs.Cells.{by_test, clash}
 
 -- what a row takes in: what the other row has, and that row's number where it is wanted
@@ -29,6 +29,7 @@ row_cases test e f wanted x y h =
           ])
     ]
 
+-- what a row has it keeps
 pub row_kept : (test : ℕ → ℕ → Bool) (e f : ℕ) (wanted : Bool) (x y : ℕ) → test x y ≡ true → with_row test e f wanted x y ≡ true
 unfolding with_row
 row_kept test e f wanted x y h = or_left (test x y) _ h
@@ -62,6 +63,7 @@ module _ (events : List ChartEvent) (inputs : Bool) where
   abbrev From : ℕ → ℕ → Type 0
   From g y = (g ≡ y) ⊎ Led events inputs g y
 
+  -- from a number and what is led to from it, on to more
   from_more : (g m y : ℕ) → From g m → Led events inputs m y → From g y
   from_more g m y (inl same) k = inr (subst (λ (z : ℕ). Led events inputs z y) (sym same) k)
   from_more g m y (inr h) k = inr (chained h k)
@@ -117,6 +119,7 @@ module _ (events : List ChartEvent) (inputs : Bool) where
     led_from g y goal x b (inl same) = subst (λ (z : ℕ). Led events inputs x z) same (led b goal)
     led_from g y goal x b (inr more) = chained (led b goal) more
 
+    -- an event drawn later, and what it leads to, is reached through the next segment
     pub line_row : (g y : ℕ) → before events e g ≡ true → (inputs || is_output events g) ≡ true → From g y → mid e y ≡ true
     line_row g y b goal from =
         let found = next.next in

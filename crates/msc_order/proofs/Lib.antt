@@ -1,5 +1,6 @@
 pub mod Bits
 pub mod Cells
+pub mod Marks
 pub mod Drawing
 pub mod Wires
 pub mod Leading

@@ -44,6 +44,7 @@ led_on chart wired x r u h q =
       | inr more ↦ chained more (chained q.outputs last)
     ]
 
+-- what is caused before u is caused before what follows u
 caused_follows : (chart : WiredChart) (x u y : ℕ) → Caused chart.events x u → Follows chart u y → Caused chart.events x y
 caused_follows chart x u y h (inl same) = subst (λ (z : ℕ). Caused chart.events x z) same h
 caused_follows chart x u y h (inr more) = chained h more
@@ -52,9 +53,11 @@ caused_follows chart x u y h (inr more) = chained h more
 abbrev pub IsOnce : WiredChart → ℕ → ℕ → Type 0
 IsOnce chart x y = Caused chart.events x y ⊎ ((u : ℕ) × InQueueOrder chart x u × Follows chart u y)
 
+-- the order of the inputs of a queue is transitive, as that of their outputs
 queue_trans : (chart : WiredChart) (x m v : ℕ) → InQueueOrder chart x m → InQueueOrder chart m v → InQueueOrder chart x v
 queue_trans chart x m v h k = record { first = h.first; second = k.second; one_queue = h.one_queue ∙ k.one_queue; outputs = chained h.outputs k.outputs }
 
+-- two pairs of the form join to one: the second cannot begin at an input that the caused order leads into
 once_joined : (chart : WiredChart) → IsWired chart → (x m y : ℕ) → IsOnce chart x m → IsOnce chart m y → IsOnce chart x y
 once_joined chart wired x m y (inl h) (inl k) = inl (chained h k)
 once_joined chart wired x m y (inl h) (inr k) = inl (caused_follows chart x k.0 y (led_on chart wired x m k.0 h k.1) k.2)

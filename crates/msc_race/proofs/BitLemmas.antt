@@ -6,7 +6,8 @@ use Rattle.std.proofs.lemmas.List.{get_or_past, get_or-replicate, length-replica
 use Rattle.std.proofs.lemmas.Grind.{div_ceil_times}
 use Rattle.std.proofs.lemmas.Nat.Bits.{bit_at-trailing_zeros}
 use Rattle.msc_order.specs.Tables.{bit_of, stride}
-use Rattle.msc_order.proofs.Bits.{stride_enough, or-false, and-false, and-true, bit_put, bit_join, bit_meet, bit_other, bit_alone, bit_zero}
+use Rattle.std.proofs.Math.Bool.{or-false, and-false, and-true}
+use Rattle.msc_order.proofs.Bits.{stride_enough, bit_put, bit_join, bit_meet, bit_other, bit_alone, bit_zero}
 use Rattle.std.specs.Prelude.{IsTrue}
 use Rattle.msc_chart.specs.Chosen.{IsLeast}
 use Rattle.msc_race.specs.Bits.{holds, picks, IsRow}

@@ -12,12 +12,15 @@ pub mod FreeEvents
 pub mod FreeFirst
 pub mod Tables
 pub mod Reversal
-pub mod Races
+pub mod RaceLaws
 pub mod ChosenRuns
 pub mod Telling
 pub mod FreeRuns
 pub mod ChosenExists
 pub mod RunTests
+pub mod Gaps
+pub mod Pairs
+pub mod DrawnPairs
 pub mod RaceLists
 pub mod RaceRows
 pub mod OneOrOther

@@ -4,10 +4,11 @@ use Rattle.std.proofs.lemmas.Bool.{eqb-true, and_parts, and_cases, or_cases, not
 use Rattle.msc_chart.specs.Charts.{before}
 use Rattle.msc_chart.specs.Faults.{Occurs}
 use Rattle.msc_chart.specs.Orders.{WiredChart, IsWired, Enforced}
-use Rattle.msc_race.specs.Samples.{AreRaces, IsReversal}
+use Rattle.msc_race.specs.Samples.{IsReversal}
+use Rattle.msc_race.specs.Races.{AreRaces}
 use Rattle.msc_race.proofs.Shared.{clash, any_below, none_of_any}
 use Rattle.msc_race.proofs.EventLemmas.{before_parts}
-use Rattle.msc_race.proofs.Races.{race_from_run}
+use Rattle.msc_race.proofs.RaceLaws.{race_from_run}
 
 -- the pair is in the list
 abbrev has : List (ℕ × ℕ) → ℕ → ℕ → Bool

@@ -10,7 +10,8 @@ use Rattle.msc_chart.specs.Drawings.{chart_events}
 use Rattle.msc_chart.specs.Orders.{queue_number, sender_at, receiver_at, queue, Enforced}
 use Rattle.msc_chart.specs.Orders.Enforced.{drawn, sent, joined, queued}
 use Rattle.msc_chart.specs.Runs.{Run, is_waiting}
-use Rattle.msc_race.specs.Samples.{senders, unordered, relayed, overtaken, crossed, mailboxes, AreRaces, IsReversal}
+use Rattle.msc_race.specs.Samples.{senders, unordered, relayed, overtaken, crossed, mailboxes, IsReversal}
+use Rattle.msc_race.specs.Races.{AreRaces}
 use Rattle.msc_race.proofs.RunTests.{reversal_from, wired_from}
 use Rattle.msc_race.proofs.RaceLists.{races_from}
 

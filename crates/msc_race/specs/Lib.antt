@@ -1,4 +1,5 @@
 pub mod Laws
+pub mod Races
 pub mod Samples
 pub mod Choices
 pub mod Bits

@@ -1,11 +1,10 @@
 -- Small charts, and what the definitions say of their races and runs.
-use Rattle.std.specs.Prelude.{ℕ, List, [], ◌∷◌, ◌↔◌}
+use Rattle.std.specs.Prelude.{ℕ, List, [], ◌∷◌}
 use Rattle.msc_chart.specs.declared.queue.Queues.{Queues}
 use Rattle.msc_chart.specs.declared.queue.Queues.TheVariants.{Mailbox}
 use Rattle.msc_chart.specs.declared.event.EventKind.TheVariants.{Output, Input}
 use Rattle.msc_chart.specs.Drawings.{Drawing, chart_of}
-use Rattle.msc_chart.specs.Faults.{Occurs}
-use Rattle.msc_chart.specs.Orders.{WiredChart, wired, IsRace}
+use Rattle.msc_chart.specs.Orders.{WiredChart, wired}
 use Rattle.msc_chart.specs.Runs.{Run, IsWhole, Reverses}
 use Rattle.msc_chart.specs.Samples.{event, two_senders, coregion, relay, two_mailboxes}
 
@@ -49,10 +48,6 @@ crossed queues = wired queues crossing
 
 abbrev pub mailboxes : WiredChart
 mailboxes = wired Mailbox two_mailboxes
-
--- a pair of the list is a race, and no other
-abbrev pub AreRaces : WiredChart → List (ℕ × ℕ) → Type 0
-AreRaces chart pairs = (e f : ℕ) → IsRace chart e f ↔ Occurs pairs (e, f)
 
 -- a whole run that reverses (e, f)
 pub record IsReversal (chart : WiredChart) (events : List ℕ) (e f : ℕ) : Type 0 where

@@ -8,7 +8,8 @@ ghost use Rattle.msc_chart.specs.declared.queue.Queues.TheVariants.{Mailbox, Pai
 ghost use Rattle.msc_chart.specs.Orders.{Enforced};
 ghost use Rattle.msc_chart.specs.Runs.{Run};
 ghost use Rattle.msc_race.specs.Laws.{AChosenRunExists, ChosenRunsAreUnique, ChosenRunsAreWhole, ChosenRunsGoOn, ChosenRunsReverse, ChosenRunsReverseRaces, ChosenStepsAreARun, EveryRunGoesOnToAWholeOne, EveryRunKeepsTheEnforcedOrder, NoRunIsStuck, RacesAreWhatRunsReverse, RunsKeepTheDrawnOrder, TheEnforcedOrderHasNoCycle, TheEnforcedOrderIsExact, WhatIsEnforcedIsNeverReversed, WhatIsNotEnforcedIsReversed, WhatMayComeMakesALongerRun};
-ghost use Rattle.msc_race.specs.Samples.{AreRaces, IsReversal, NoRunReversesBoth, crossed, mailboxes, overtaken, relayed, senders, unordered};
+ghost use Rattle.msc_race.specs.Samples.{IsReversal, NoRunReversesBoth, crossed, mailboxes, overtaken, relayed, senders, unordered};
+ghost use Rattle.msc_race.specs.Races.{AreRaces};
 
 use msc_chart::laws::ends_share_queues;
 

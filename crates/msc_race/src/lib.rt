@@ -1,7 +1,8 @@
 //! Races and runs of a chart under an architecture.
 //!
-//! The runs, the enforced order, races and the chosen run are defined in `msc_chart`; this crate
-//! proves what they have to do with one another. The words are those of Z.120; races are after
+//! [`check`] says whether a chart has races, and which; [`reversing_run`] shows that a race happens.
+//! The runs, the enforced order, races and the chosen run are defined in `msc_chart`; the module of
+//! laws says what they have to do with one another. The words are those of Z.120; races are after
 //! Alur, Holzmann and Peled (1996), the enforced order and the chosen run are this project's own.
 //! Events are numbered from 0, over all lines.
 #![tactic(auto)]
@@ -12,7 +13,11 @@ mod choosing;
 mod frontier;
 pub mod laws;
 mod lines;
+mod racing;
 mod remaining;
 mod reversing;
+mod verdict;
 
+pub use racing::{check, races};
 pub use reversing::{chosen_run, reversing_run};
+pub use verdict::Verdict;

@@ -1,3 +1,3 @@
 pub mod ReadingLemmas
-pub mod KnownBytes
 pub mod Refusals
+pub mod Races

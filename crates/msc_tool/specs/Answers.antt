@@ -1,18 +1,12 @@
--- What reading a text to its canonical text answers.
+-- What reading a text to its canonical text answers, and how a text without a draft is refused.
 use Rattle.std.specs.Prelude.{◌≡◌, ◌≢◌, ◌⊎◌, ℕ, List, Option, Result, Err}
 use Rattle.std.specs.Io.KnownBytes.{Appends}
 use Rattle.msc_parser.specs.declared.fault.ParseFault.{ParseFault}
-use Rattle.msc_parser.specs.declared.fault.ParseFault.TheVariants as grammar
 use Rattle.msc_parser.specs.Grammar.{Tree}
 use Rattle.msc_parser.specs.Canonical.{canonical}
 use Rattle.msc_parser.specs.Parsing.{HasDraft, HasParseFault}
-use Rattle.msc_tool.specs.declared.fault.Fault.{Fault}
-use Rattle.msc_tool.specs.declared.fault.Fault.TheVariants.{Parse, Memory}
-
--- how a fault of the parser is answered: want of memory is never nested
-abbrev pub refusal_of : ParseFault → Fault
-refusal_of grammar.Memory = Memory
-refusal_of fault = Parse fault
+use Rattle.msc_report.specs.declared.fault.Fault.{Fault}
+use Rattle.msc_report.specs.declared.fault.Fault.TheVariants.{Parse, Memory}
 
 -- the text has a draft, whose canonical text went behind the known bytes of a writer
 pub record WritesDraft (text : List ℕ) (before after : Option (List ℕ)) : Type 0 where
@@ -21,7 +15,7 @@ pub record WritesDraft (text : List ℕ) (before after : Option (List ℕ)) : Ty
   pub written : Appends before after (canonical draft)
 
 -- a fault of the text is answered exactly where it stands, unless memory runs out
-pub record RefusesText (text : List ℕ) (answer : Result (Unit {0}) Fault) : Type 0 where
+pub record RefusesText {A : Type 0} (text : List ℕ) (answer : Result A Fault) : Type 0 where
   pub stands : (f : ParseFault) → answer ≡ Err (Parse f) → HasParseFault text f
   pub comes : (f : ParseFault) → HasParseFault text f → (answer ≡ Err (Parse f)) ⊎ (answer ≡ Err Memory)
   pub accepted : (t : Tree) → HasDraft text t → (f : ParseFault) → answer ≢ Err (Parse f)

@@ -1,4 +1,4 @@
 pub mod Reading
-pub mod Texts
 pub mod Answers
+pub mod Checking
 pub mod Program

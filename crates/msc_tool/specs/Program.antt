@@ -1,12 +1,13 @@
 -- Exit statuses of the program.
 use Rattle.std.specs.Prelude.{ℕ}
-use Rattle.msc_tool.specs.declared.fault.Fault.{Fault}
-use Rattle.msc_tool.specs.declared.fault.Fault.TheVariants.{Parse, Chart, Memory, Device}
+use Rattle.msc_report.specs.declared.fault.Fault.{Fault}
+use Rattle.msc_report.specs.declared.fault.Fault.TheVariants.{Parse, Chart, Memory, Device}
 use Rattle.msc_tool.specs.declared.program.Status.{Status}
-use Rattle.msc_tool.specs.declared.program.Status.TheVariants.{Done, Refused, Failed}
+use Rattle.msc_tool.specs.declared.program.Status.TheVariants.{Done, Races, Refused, Failed}
 
 abbrev pub status_code : Status → ℕ
 status_code Done = 0
+status_code Races = 1
 status_code Refused = 2
 status_code Failed = 4
 

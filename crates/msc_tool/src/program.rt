@@ -5,20 +5,23 @@ ghost use Rattle.std.specs.IoError.{error_kind};
 ghost use Rattle.std.specs.declared.io.ErrorKind.TheVariants.{OutOfMemory};
 ghost use Rattle.msc_tool.specs.Program.{status_code, status_of};
 
-use crate::fault::Fault;
+use crate::checking::check_input;
 use crate::text::read_input;
-use crate::writing::write_fault;
-use clap::{Arg, Command, Error};
+use clap::{Arg, ArgMatches, Command, Error};
+use msc_chart::Queues;
+use msc_report::{Fault, write_fault};
 use std::alloc::{AllocError, Global};
-use std::io::{ErrorKind, Read, Write};
+use std::io::{BufWriter, ErrorKind, Read, Write};
 use std::rt::Files;
 use std::{fs, io};
 
 /// How a run of the program ended.
 #[derive(Clone, Copy, Debug, PartialEq, Eq)]
 enum Status {
-    /// The answer was written.
+    /// The answer was written, and names no race.
     Done,
+    /// The answer was written: the chart has races.
+    Races,
     /// The text was refused, or the words are no command.
     Refused,
     /// Memory or a device failed.
@@ -32,24 +35,62 @@ impl Status {
     {
         match self {
             Status::Done => 0,
+            Status::Races => 1,
             Status::Refused => 2,
             Status::Failed => 4,
         }
     }
 }
 
+/// What the words ask for.
+#[derive(Clone, Copy, Debug, PartialEq, Eq)]
+enum Task {
+    /// The canonical text.
+    Read,
+    /// The verdict under an architecture.
+    Check(Queues),
+}
+
+/// The words for the architectures.
+const ARCHITECTURES: &[&str] = &["pair", "mailbox"];
+
+/// The chart that a command reads.
+fn file<'a>(alloc: Global) -> Arg<'a> {
+    Arg::new(alloc, "FILE")
+        .help("The chart's text; - is standard input")
+        .required(true)
+}
+
 /// The words that the program takes.
 fn grammar<'a>(alloc: Global) -> Result<Command<'a>, AllocError> {
-    let file = Arg::new(alloc, "FILE")
-        .help("The chart's text; - is standard input")
-        .required(true);
     let read = Command::new(alloc, "read")
         .about("Print the chart's canonical text")
-        .arg(file)?;
+        .arg(file(alloc))?;
+    let queues = Arg::new(alloc, "queues")
+        .long("queues")
+        .help("A queue for each sender and receiver, or one for each receiver")
+        .value_parser(ARCHITECTURES)
+        .required(true);
+    let check = Command::new(alloc, "check")
+        .about("Print whether the chart has races, and which")
+        .arg(queues)?
+        .arg(file(alloc))?;
     Command::new(alloc, "msc")
         .about("Check message sequence charts for races")
         .subcommand_required(true)
-        .subcommand(read)
+        .subcommand(read)?
+        .subcommand(check)
+}
+
+/// The task that a command's words name.
+fn task_of(command: &str, words: &ArgMatches) -> Task {
+    if command != "check" {
+        return Task::Read;
+    }
+    match words.get_str("queues") {
+        Some("mailbox") => Task::Check(Queues::Mailbox),
+        _ => Task::Check(Queues::Pair),
+    }
 }
 
 /// Writes a fault's line, where that succeeds, and tells how the run ended.
@@ -63,19 +104,55 @@ fn end_with<E: Write>(faults: &mut E, fault: Fault) -> Status
     }
 }
 
-/// Reads a file, or `input` where it is `-`, and writes its canonical text.
-fn read_file<R: Files, I: Read, O: Write>(
+/// Checks an input's chart, and writes its verdict and races through a buffer.
+fn check_buffered<I: Read, O: Write>(
+    alloc: Global,
+    queues: Queues,
+    input: &mut I,
+    output: &mut O,
+) -> Result<Status, Fault> {
+    let mut buffered = match BufWriter::new(alloc, output) {
+        Ok(buffered) => buffered,
+        Err(_) => return Err(Fault::Memory),
+    };
+    let passed = check_input(alloc, input, queues, 0, &mut buffered)?;
+    match buffered.flush() {
+        Ok(()) if passed => Ok(Status::Done),
+        Ok(()) => Ok(Status::Races),
+        Err(_) => Err(Fault::Device),
+    }
+}
+
+/// Does a task over an input.
+fn perform<I: Read, O: Write>(
+    alloc: Global,
+    task: Task,
+    input: &mut I,
+    output: &mut O,
+) -> Result<Status, Fault> {
+    match task {
+        Task::Read => {
+            read_input(alloc, input, output)?;
+            Ok(Status::Done)
+        }
+        Task::Check(queues) => check_buffered(alloc, queues, input, output),
+    }
+}
+
+/// Does a task over a file, or over `input` where it is `-`.
+fn perform_on<R: Files, I: Read, O: Write>(
     rt: &R,
     alloc: Global,
+    task: Task,
     file: &str,
     input: &mut I,
     output: &mut O,
-) -> Result<(), Fault> {
+) -> Result<Status, Fault> {
     if file == "-" {
-        return read_input(alloc, input, output);
+        return perform(alloc, task, input, output);
     }
     match fs::open(rt, file) {
-        Ok(mut opened) => read_input(alloc, &mut opened, output),
+        Ok(mut opened) => perform(alloc, task, &mut opened, output),
         Err(_) => Err(Fault::Device),
     }
 }
@@ -112,12 +189,12 @@ fn run<R: Files, I: Read, O: Write, E: Write>(
         Ok(matches) => matches,
         Err(error) => return explain(output, faults, &error),
     };
-    let file = match matches.subcommand() {
-        Some((_, read)) => read.get_str("FILE"),
-        None => None,
+    let (task, file) = match matches.subcommand() {
+        Some((command, words)) => (task_of(command, words), words.get_str("FILE")),
+        None => (Task::Read, None),
     };
-    match read_file(rt, alloc, file.unwrap_or("-"), input, output) {
-        Ok(()) => Status::Done,
+    match perform_on(rt, alloc, task, file.unwrap_or("-"), input, output) {
+        Ok(status) => status,
         Err(fault) => end_with(faults, fault),
     }
 }
@@ -137,12 +214,13 @@ pub fn refuse_words<E: Write>(faults: &mut E, error: &io::Error) -> u8
 
 /// The program `msc` over its words, the program's name first; answers the exit status.
 ///
-/// `msc read FILE` writes the canonical text of FILE to `output`. FILE `-` is `input`, any other FILE
-/// is opened through `rt`. What goes wrong is found in the order: the words, opening FILE, reading
-/// it, its text. A fault's line, and what `clap` says of wrong words, go to `faults`; where that
-/// writing fails the status stays. The status is 0 where the answer or the help asked for was
-/// written, 2 where the text was refused or the words are no command, and 4 where memory ran out, a
-/// file could not be opened or read, or the output could not be written.
+/// `msc read FILE` writes the canonical text of FILE to `output`, `msc check --queues pair|mailbox
+/// FILE` the verdict on its chart and each race. FILE `-` is `input`, any other FILE is opened
+/// through `rt`. What goes wrong is found in the order: the words, opening FILE, reading it, its
+/// text. A fault's line, and what `clap` says of wrong words, go to `faults`; where that writing
+/// fails the status stays. The status is 0 where the answer or the help asked for was written, 1
+/// where the answer names races, 2 where the text was refused or the words are no command, and 4
+/// where memory ran out, a file could not be opened or read, or the output could not be written.
 pub fn command<R: Files, I: Read, O: Write, E: Write>(
     rt: &R,
     alloc: Global,
@@ -151,7 +229,7 @@ pub fn command<R: Files, I: Read, O: Write, E: Write>(
     output: &mut O,
     faults: &mut E,
 ) -> u8
-    ensures { (result ≡ 0) ⊎ (result ≡ 2) ⊎ (result ≡ 4) }
+    ensures { (result ≡ 0) ⊎ (result ≡ 1) ⊎ (result ≡ 2) ⊎ (result ≡ 4) }
 {
     run(rt, alloc, words.as_slice(), input, output, faults).code()
 }

@@ -3,7 +3,7 @@
 ghost use Rattle.std.specs.Prelude.{◌≡◌, ◌⊎◌, ◌<◌, false, length, take, IsTrue, IfOk, IfErr, IfSome, OnOk, vec_len};
 ghost use Rattle.msc_tool.specs.Reading.{IsReadFrom, ReadsMore, IsDone};
 
-use crate::fault::Fault;
+use msc_report::Fault;
 use std::alloc::{AllocError, Global};
 use std::io::{ErrorKind, Read};
 

@@ -4,10 +4,9 @@ ghost use Rattle.std.specs.Prelude.{◌≡◌, ◌≢◌, IfSome, IfErr, OnOk};
 ghost use Rattle.std.specs.Io.KnownBytes.{Appends};
 ghost use Rattle.msc_tool.specs.Answers.{WritesDraft, RefusesText};
 
-use crate::fault::Fault;
 use crate::reading::read_all;
-use crate::writing::write_draft;
 use msc_parser::parse;
+use msc_report::{Fault, write_draft};
 use std::alloc::Global;
 use std::io::{Read, Write};
 

@@ -1,6 +1,6 @@
 use Rattle.std.proofs.Common.{◌∙◌, arith}
 use Rattle.msc_order.specs.Wirings.{chart_of, pairs, picks, size}
-use Rattle.msc_order.proofs.Cells.{marked_below}
+use Rattle.msc_order.proofs.Marks.{marked_below}
 use Rattle.msc_order.proofs.Between.{left_none}
 use Rattle.msc_order.proofs.queueing.take_left.Goals as goal
 

@@ -4,7 +4,8 @@ use Rattle.msc_chart.specs.Charts.{partner}
 use Rattle.msc_chart.proofs.Numbers.{count-less}
 use Rattle.msc_chart.proofs.Drawn.{output_parts}
 use Rattle.msc_order.specs.Wirings.{chart_of, pairs, picks, size}
-use Rattle.msc_order.proofs.Cells.{clash, none_there, row_fits}
+use Rattle.msc_order.proofs.Cells.{clash, row_fits}
+use Rattle.msc_order.proofs.Marks.{none_there}
 use Rattle.msc_order.proofs.Between.{in_order, keeps_trans, left_gone, left_less, left_next, taken_between, taken_kept}
 use Rattle.msc_order.proofs.queueing.take_word.Goals as goal
 

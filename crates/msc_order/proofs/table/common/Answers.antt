@@ -1,5 +1,5 @@
 use Rattle.std.proofs.Common.{◌≡◌, ◌<◌, length, refl, arith}
-use Rattle.msc_order.proofs.Cells.{write_start, write_step, common_end}
+use Rattle.msc_order.proofs.Marks.{write_start, write_step, common_end}
 use Rattle.msc_order.proofs.table.common.Goals as goal
 
 pub loop-k-init : goal.loop-k-init

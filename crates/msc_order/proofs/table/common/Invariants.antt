@@ -1,5 +1,5 @@
 use Rattle.std.proofs.Common.{◌≡◌, ℕ, ◌+◌, ◌*◌, get_or, bit_and}
-use Rattle.msc_order.proofs.Cells.{written}
+use Rattle.msc_order.proofs.Marks.{written}
 use Rattle.msc_order.proofs.table.common.Given as goal
 
 abbrev pub invariant-loop-k : goal.invariant-loop-k

@@ -2,7 +2,7 @@ use Rattle.std.proofs.Common.{◌≡◌, ℕ, ◌<◌, ◌*◌, ◌+◌, ◌&&�
 use Rattle.std.specs.Int.{bit_not}
 use Rattle.std.proofs.Math.Facts.{Fits-lt-pow}
 use Rattle.msc_order.specs.Tables.{stride, marked, cell}
-use Rattle.msc_order.proofs.Cells.{write_start, write_step, unwritten, others_end, clear_bit, drop_both}
+use Rattle.msc_order.proofs.Marks.{write_start, write_step, unwritten, others_end, clear_bit, drop_both}
 use Rattle.msc_order.proofs.table.drop_row.Goals as goal
 
 pub loop-k-init : goal.loop-k-init

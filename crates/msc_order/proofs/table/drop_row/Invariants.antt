@@ -1,6 +1,6 @@
 use Rattle.std.proofs.Common.{◌≡◌, ℕ, ◌+◌, ◌*◌, get_or, bit_and, w64}
 use Rattle.std.specs.Int.{bit_not}
-use Rattle.msc_order.proofs.Cells.{written}
+use Rattle.msc_order.proofs.Marks.{written}
 use Rattle.msc_order.proofs.table.drop_row.Given as goal
 
 abbrev pub invariant-loop-k : goal.invariant-loop-k

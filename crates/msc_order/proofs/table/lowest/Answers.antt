@@ -1,7 +1,7 @@
 use Rattle.std.proofs.Common.{◌+◌, ◌*◌, ◌<◌, get_or, arith, w64}
 use Rattle.std.specs.Int.{trailing_zeros}
 use Rattle.std.proofs.Math.Facts.{Fits-lt-pow, Fits-of_lt}
-use Rattle.msc_order.proofs.Cells.{lowest_there}
+use Rattle.msc_order.proofs.Marks.{lowest_there}
 use Rattle.msc_order.proofs.table.lowest.Goals as goal
 
 pub returns-clause-marked : goal.returns-clause-marked

@@ -1,5 +1,5 @@
 use Rattle.std.proofs.Common.{sym}
-use Rattle.msc_order.proofs.Bits.{or-false}
+use Rattle.std.proofs.Math.Bool.{or-false}
 use Rattle.msc_race.specs.Bits.{holds}
 use Rattle.msc_race.proofs.bits.put_where.Goals as goal
 

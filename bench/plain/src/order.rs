@@ -1,0 +1,134 @@
+//! Orders of a chart's events as rows of bits, and races.
+
+use crate::chart::{Chart, Queues};
+
+/// An order of a chart's events: for each event a row with a bit for each event that comes after it.
+pub struct Order {
+    stride: usize,
+    words: Vec<u64>,
+}
+
+/// The bit of number `f` in its word.
+fn bit(f: usize) -> u64 {
+    1 << (f % 64)
+}
+
+impl Order {
+    /// So many rows with a bit for each of so many numbers, none of which is set.
+    fn blank(rows: usize, numbers: usize) -> Order {
+        let stride = numbers.div_ceil(64);
+        let words = vec![0; rows * stride];
+        Order { stride, words }
+    }
+
+    pub fn row(&self, e: usize) -> &[u64] {
+        &self.words[e * self.stride..][..self.stride]
+    }
+
+    fn put(&mut self, e: usize, f: usize) {
+        self.words[e * self.stride + f / 64] |= bit(f);
+    }
+
+    /// Row `e` takes in row `f`, another one.
+    fn take_in(&mut self, e: usize, f: usize) {
+        let row = |e: usize| e * self.stride..(e + 1) * self.stride;
+        let rows = self.words.get_disjoint_mut([row(e), row(f)]);
+        let [into, from] = rows.expect("two rows");
+        for (word, more) in into.iter_mut().zip(from) {
+            *word |= *more;
+        }
+    }
+
+    /// Closes blank rows under the rules of lines and messages, from the last event of a linear
+    /// order back: what is drawn before an event comes before it, where `inputs` says so before
+    /// each event, otherwise before each output; and an output comes before its input.
+    fn close(&mut self, chart: &Chart, inputs: bool) {
+        for &e in chart.order.iter().rev() {
+            for f in chart.next_segment(e) {
+                self.take_in(e, f);
+                if inputs || chart.is_output(f) {
+                    self.put(e, f);
+                }
+            }
+            if chart.is_output(e) {
+                let input = chart.events[e].partner;
+                self.take_in(e, input);
+                self.put(e, input);
+            }
+        }
+    }
+
+    /// Puts the input of an output before those of the outputs in `later`, all of its queue. What
+    /// comes after one of these needs no look, for its input's row is taken in.
+    fn put_before(&mut self, chart: &Chart, input: usize, later: &mut [u64]) {
+        for k in 0..later.len() {
+            while later[k] != 0 {
+                let c = 64 * k + later[k].trailing_zeros() as usize;
+                let covered = &self.row(c)[k..];
+                for (word, less) in later[k..].iter_mut().zip(covered) {
+                    *word &= !less;
+                }
+                later[k] &= !bit(c);
+                self.take_in(input, chart.events[c].partner);
+                self.put(input, chart.events[c].partner);
+            }
+        }
+    }
+
+    /// Adds the rule of queues to the order of lines and messages.
+    fn add_queues(&mut self, chart: &Chart, queues: Queues) {
+        let mut seen = Order::blank(chart.queue_count(queues), chart.events.len());
+        let mut later = vec![0; self.stride];
+        for &s in chart.order.iter().rev() {
+            if !chart.is_output(s) {
+                continue;
+            }
+            let q = chart.queue(s, queues);
+            for ((word, after), of_queue) in later.iter_mut().zip(self.row(s)).zip(seen.row(q)) {
+                *word = after & of_queue;
+            }
+            self.put_before(chart, chart.events[s].partner, &mut later);
+            seen.put(q, s);
+        }
+    }
+
+    /// The visual order.
+    pub fn visual(chart: &Chart) -> Order {
+        let mut order = Order::blank(chart.events.len(), chart.events.len());
+        order.close(chart, true);
+        order
+    }
+
+    /// The order that lines, messages and queues enforce.
+    pub fn enforced(chart: &Chart, queues: Queues) -> Order {
+        let mut order = Order::blank(chart.events.len(), chart.events.len());
+        order.close(chart, false);
+        order.add_queues(chart, queues);
+        order
+    }
+}
+
+/// The bits of word `k` that stand for numbers from `start` up to `end`, which it has some of.
+fn within(k: usize, start: usize, end: usize) -> u64 {
+    let from = start.saturating_sub(64 * k);
+    let past = 64 * (k + 1) - end.min(64 * (k + 1));
+    (u64::MAX << from) & (u64::MAX >> past)
+}
+
+/// The pairs that are drawn in an order which `order` does not hold, ascending.
+pub fn races(chart: &Chart, order: &Order) -> Vec<(u32, u32)> {
+    let mut races = Vec::new();
+    for (e, event) in chart.events.iter().enumerate() {
+        let (start, end) = (event.segment_end, event.line_end);
+        let row = order.row(e);
+        for k in start / 64..end.div_ceil(64) {
+            let mut gaps = !row[k] & within(k, start, end);
+            while gaps != 0 {
+                let f = 64 * k + gaps.trailing_zeros() as usize;
+                races.push((e as u32, f as u32));
+                gaps &= gaps - 1;
+            }
+        }
+    }
+    races
+}

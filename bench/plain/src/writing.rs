@@ -1,0 +1,103 @@
+//! From a draft to its canonical text.
+
+use crate::draft::{Decl, Draft, Item, Name, Section, Signal, Way};
+use std::io::{self, Write};
+
+/// Writes the names with `, ` between them.
+fn write_list(out: &mut impl Write, names: &[Name]) -> io::Result<()> {
+    for (place, name) in names.iter().enumerate() {
+        if place > 0 {
+            out.write_all(b", ")?;
+        }
+        out.write_all(name)?;
+    }
+    Ok(())
+}
+
+impl Decl {
+    fn write(&self, out: &mut impl Write) -> io::Result<()> {
+        out.write_all(&self.name)?;
+        if !self.kind.is_empty() {
+            out.write_all(b" :")?;
+        }
+        for name in &self.kind {
+            out.write_all(b" ")?;
+            out.write_all(name)?;
+        }
+        Ok(())
+    }
+}
+
+impl Signal {
+    fn write(&self, out: &mut impl Write) -> io::Result<()> {
+        let (way, address): (&[u8], &[u8]) = match self.way {
+            Way::Output => (b"out ", b" to "),
+            Way::Input => (b"in ", b" from "),
+        };
+        out.write_all(way)?;
+        out.write_all(&self.name)?;
+        if let Some(number) = &self.number {
+            out.write_all(b", ")?;
+            out.write_all(number)?;
+        }
+        if !self.parameters.is_empty() {
+            out.write_all(b"(")?;
+            write_list(out, &self.parameters)?;
+            out.write_all(b")")?;
+        }
+        out.write_all(address)?;
+        out.write_all(&self.address)?;
+        out.write_all(b";\n")
+    }
+}
+
+impl Item {
+    fn write(&self, out: &mut impl Write) -> io::Result<()> {
+        match self {
+            Item::Single(signal) => {
+                out.write_all(b"  ")?;
+                signal.write(out)
+            }
+            Item::Coregion(signals) => {
+                out.write_all(b"  concurrent;\n")?;
+                for signal in signals {
+                    out.write_all(b"    ")?;
+                    signal.write(out)?;
+                }
+                out.write_all(b"  endconcurrent;\n")
+            }
+        }
+    }
+}
+
+impl Section {
+    fn write(&self, out: &mut impl Write) -> io::Result<()> {
+        out.write_all(b"instance ")?;
+        self.decl.write(out)?;
+        out.write_all(b";\n")?;
+        for item in &self.items {
+            item.write(out)?;
+        }
+        out.write_all(b"endinstance;\n")
+    }
+}
+
+impl Draft {
+    /// Writes the canonical text.
+    pub fn write(&self, out: &mut impl Write) -> io::Result<()> {
+        out.write_all(b"msc ")?;
+        out.write_all(&self.name)?;
+        out.write_all(b";\n")?;
+        for (place, decl) in self.header.iter().enumerate() {
+            out.write_all(if place == 0 { b"inst " } else { b", " })?;
+            decl.write(out)?;
+        }
+        if !self.header.is_empty() {
+            out.write_all(b";\n")?;
+        }
+        for section in &self.sections {
+            section.write(out)?;
+        }
+        out.write_all(b"endmsc;\n")
+    }
+}

@@ -1,0 +1,107 @@
+//! Sends messages through queues from threads, so that their speed can be measured
+//! (`bench/queues`).
+//!
+//! Words: how many senders, from 1 to 32, and how many queues. Each sender has a thread of its own
+//! and goes through the queues one after the other: in each it puts its share of the 1,024 messages
+//! that a queue may have, and the end mark. One thread takes, queue by queue, until all senders
+//! have ended. All queues are made before. How many messages were taken goes to standard output,
+//! how many nanoseconds sending and taking took to standard error.
+#![tactic(auto)]
+
+use anyhow::{Context, Result, bail};
+use msc_fifo::{Inlet, Outlet, Taken, queue};
+use std::alloc::Global;
+use std::sync::Wait;
+use std::thread::Threads;
+use std::time::Instant;
+use std::{env, thread};
+
+/// How many messages a queue may have.
+const MOST_MESSAGES: u32 = 1024;
+
+/// Puts what the quotas allow, and closes.
+fn send_all<R: Wait>(rt: &R, outlets: Vec<Outlet>) {
+    for mut outlet in outlets {
+        for m in 0..outlet.left() {
+            let _ = outlet.send(rt, m);
+        }
+        outlet.close(rt);
+    }
+}
+
+/// Takes all messages of a queue, and answers how many there were.
+fn take_all<R: Wait>(rt: &R, inlet: &mut Inlet) -> u64 {
+    let mut taken = 0u64;
+    for _ in 0..u64::MAX {
+        if inlet.unended() == 0 {
+            break;
+        }
+        match inlet.take(rt) {
+            Taken::Message(..) => taken = taken.wrapping_add(1),
+            Taken::Ended(_) => {}
+            Taken::Nothing => thread::yield_now(),
+        }
+    }
+    taken
+}
+
+/// Sends and takes, each sender in a thread; answers how many messages were taken, where all
+/// threads could be started. The inlets are lent: a sender whose inlet was dropped would not end.
+fn run<R: Threads + Wait + Sync>(
+    rt: &R,
+    senders: Vec<Vec<Outlet>>,
+    inlets: &mut [Inlet],
+) -> Option<u64> {
+    thread::scope(thread::scope_env(), rt, |scope| {
+        for outlets in senders {
+            if scope.spawn(move || send_all(rt, outlets)).is_err() {
+                return None;
+            }
+        }
+        let mut taken = 0u64;
+        for inlet in inlets.iter_mut() {
+            taken = taken.wrapping_add(take_all(rt, inlet));
+        }
+        Some(taken)
+    })
+}
+
+/// The ends of so many queues with these quotas: for each sender its outlets, and all inlets.
+fn ends<R: Wait>(
+    rt: &R,
+    alloc: Global,
+    quotas: &[u32],
+    queues: u32,
+) -> Result<(Vec<Vec<Outlet>>, Vec<Inlet>)> {
+    let mut senders = Vec::new(alloc);
+    for _ in quotas {
+        senders.push(Vec::new(alloc))?;
+    }
+    let mut inlets = Vec::new(alloc);
+    for _ in 0..queues {
+        let (outlets, inlet) = queue(rt, alloc, quotas)?;
+        for (own, outlet) in senders.iter_mut().zip(outlets) {
+            own.push(outlet)?;
+        }
+        inlets.push(inlet)?;
+    }
+    Ok((senders, inlets))
+}
+
+fn main(rt: HostRuntime) -> Result<()> {
+    let alloc = rt.alloc();
+    let mut words = env::args(&rt)?.skip(1);
+    let count: u32 = words.next().context("how many senders?")?.parse()?;
+    let queues: u32 = words.next().context("how many queues?")?.parse()?;
+    if count == 0 {
+        bail!("no sender");
+    }
+    let quotas = vec![in alloc; MOST_MESSAGES / count; count as usize]?;
+    let (senders, mut inlets) = ends(&rt, alloc, &quotas, queues)?;
+    let start = Instant::now(&rt)?;
+    let taken = run(&rt, senders, &mut inlets).context("a thread could not be started")?;
+    let time = start.elapsed(&rt)?.as_nanos();
+    println!(rt; "{taken} messages")?;
+    eprintln!(rt; "{time} nanoseconds")?;
+    Ok(())
+}

@@ -1,0 +1,30 @@
+//! Why a queue is not made, and why a message is not sent.
+
+use thiserror::Error;
+
+/// Why no queue was made, lowest first: the lowest that stands is answered, and `Memory` only where
+/// neither of the others does.
+#[derive(Clone, Copy, Debug, PartialEq, Eq, Error)]
+pub enum QueueFault {
+    /// No quota was given.
+    #[error("a queue has no sender")]
+    NoSender,
+    /// There are more than 32 quotas, or their sum is over 1,024 messages.
+    #[error("a queue has too many senders or messages")]
+    TooLarge,
+    /// A growth of memory was refused.
+    #[error("out of memory")]
+    Memory,
+}
+
+/// Why a message was not sent, lowest first: the lowest that stands is answered. Each hands the
+/// message back.
+#[derive(Clone, Copy, Debug, PartialEq, Eq, Error)]
+pub enum SendFault {
+    /// The outlet is closed, whatever is left of its quota.
+    #[error("message {0} was not sent: the outlet is closed")]
+    Closed(u32),
+    /// The outlet is open and has put its quota.
+    #[error("message {0} was not sent: the outlet has put its quota")]
+    Full(u32),
+}

@@ -1,0 +1,10 @@
+//! Laws of the ends of a queue, over their definitions alone. The functions have no code: a caller
+//! calls one to rest its own proof on the law.
+
+ghost use Rattle.msc_fifo.specs.Laws.{NumberedOutletsAreWhole};
+
+/// Outlets of the inlet's queue that are numbered 0, 1 and so on, as many as there are senders, are
+/// all outlets of that queue, each once.
+pub fn numbered_outlets_are_whole()
+    ensures { NumberedOutletsAreWhole }
+{}

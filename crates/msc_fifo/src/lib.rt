@@ -1,0 +1,45 @@
+//! Queues between threads: several senders, one receiver, first in, first out.
+//!
+//! [`queue`] makes the ends of a queue: an [`Outlet`] for each sender and one [`Inlet`]. Each end
+//! may move to a thread of its own. A sender puts messages up to its quota and at last an end mark;
+//! the receiver takes them. Nothing is lost, nothing comes twice, and what comes of one sender
+//! comes in the order in which it was put; between senders no order is promised. Once all ends are
+//! together again [`settle`] answers for each sender what it put, what of it was taken and what is
+//! left.
+//!
+//! Senders are numbered from 0. A message is a number that the queue does not look at. Contracts
+//! see an outlet as its queue, sender number, quota, the list put and whether it is closed, and an
+//! inlet as its queue, number of senders, the list got and a count of takes that found nothing
+//! (`specs/Ends`). They say nothing of how a queue is held. These clauses hold for any threads that
+//! hold the ends.
+//!
+//! Limits: 32 senders, and 1,024 messages in all quotas. [`queue`] makes all room, so that no other
+//! call but [`settle`] takes memory.
+#![tactic(auto)]
+
+mod accounts;
+mod entry;
+mod fault;
+mod inlet;
+pub mod laws;
+mod making;
+mod outlet;
+mod rule;
+mod settling;
+
+pub use accounts::{Account, Settled};
+pub use entry::{Entry, Taken};
+pub use fault::{QueueFault, SendFault};
+pub use inlet::Inlet;
+pub use making::queue;
+pub use outlet::Outlet;
+pub use settling::settle;
+
+/// The greatest number of senders of a queue.
+const MOST_SENDERS: usize = 32;
+
+/// The greatest sum of the quotas of a queue, in messages.
+const MOST_MESSAGES: usize = 1024;
+
+#[cfg(test)]
+mod tests;

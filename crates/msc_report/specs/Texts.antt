@@ -1,0 +1,69 @@
+-- The lines that faults are printed as. This project's own formats.
+use Rattle.std.specs.Prelude.{ℕ, List, [], ◌∷◌, ◌++◌, codes}
+use Rattle.std.specs.Fmt.{decimal}
+use Rattle.msc_lexer.specs.declared.fault.LexFault.{LexFault}
+use Rattle.msc_lexer.specs.declared.fault.LexFault.TheVariants as lexical
+use Rattle.msc_lexer.specs.Words.{spelling}
+use Rattle.msc_parser.specs.declared.fault.What.{What}
+use Rattle.msc_parser.specs.declared.fault.What.TheVariants as whats
+use Rattle.msc_parser.specs.declared.fault.ParseFault.{ParseFault}
+use Rattle.msc_parser.specs.declared.fault.ParseFault.TheVariants as grammar
+use Rattle.msc_chart.specs.declared.fault.ChartFault.{ChartFault}
+use Rattle.msc_chart.specs.declared.fault.ChartFault.TheVariants as charts
+use Rattle.msc_report.specs.declared.fault.Fault.{Fault}
+use Rattle.msc_report.specs.declared.fault.Fault.TheVariants.{Parse, Chart, Memory, Device}
+
+-- what was expected at a place
+abbrev pub what_text : What → List ℕ
+what_text whats.Msc = codes "msc"
+what_text whats.Name = codes "a name"
+what_text whats.Text = codes "a text"
+what_text whats.End = codes "the end of the statement"
+what_text whats.Section = codes "a section"
+what_text whats.Item = codes "an item"
+what_text whats.Event = codes "an event"
+what_text whats.To = codes "to"
+what_text whats.From = codes "from"
+what_text whats.Parameter = codes "a parameter list"
+what_text whats.Nothing = codes "the end of the text"
+
+-- one line of words
+abbrev pub line : List ℕ → List ℕ
+line words = words ++ 10 ∷ []
+
+-- one line with a place in it
+abbrev pub placed : List ℕ → ℕ → List ℕ → List ℕ
+placed before at after = before ++ (decimal at ++ line after)
+
+abbrev pub lexical_line : LexFault → List ℕ
+lexical_line lexical.TooLong = line (codes "lexical fault 1: text longer than 1048576 bytes")
+lexical_line (lexical.BadByte at) = placed (codes "lexical fault 2 at ") at (codes ": byte that begins no token")
+lexical_line (lexical.OpenNote at) = placed (codes "lexical fault 3 at ") at (codes ": note without end")
+lexical_line (lexical.OpenText at) = placed (codes "lexical fault 4 at ") at (codes ": text without end")
+lexical_line (lexical.LongName at) = placed (codes "lexical fault 5 at ") at (codes ": name longer than 64 bytes")
+lexical_line lexical.Memory = line (codes "memory fault")
+
+abbrev pub grammar_line : ParseFault → List ℕ
+grammar_line (grammar.Lex f) = lexical_line f
+grammar_line (grammar.Unsupported at word) = codes "grammar fault 2 at " ++ (decimal at ++ (codes ": " ++ (spelling word ++ line (codes " is not supported"))))
+grammar_line (grammar.Expected at w) = codes "grammar fault 3 at " ++ (decimal at ++ (codes ": expected " ++ line (what_text w)))
+grammar_line grammar.Memory = line (codes "memory fault")
+
+abbrev pub chart_line : ChartFault → List ℕ
+chart_line charts.TooManyInstances = line (codes "chart fault 1: more than 32 instances")
+chart_line (charts.TwiceInstance i) = placed (codes "chart fault 2: section ") i (codes " repeats an instance name")
+chart_line (charts.HeaderWithoutBody k) = placed (codes "chart fault 3: header name ") k (codes " has no section")
+chart_line (charts.UnknownAddress e) = placed (codes "chart fault 4: event ") e (codes " has an unknown address")
+chart_line charts.TooManyMessages = line (codes "chart fault 5: more than 1024 messages")
+chart_line (charts.TwiceEvent e) = placed (codes "chart fault 6: event ") e (codes " repeats a message")
+chart_line (charts.UnmatchedOut e) = placed (codes "chart fault 7: output ") e (codes " has no input")
+chart_line (charts.UnmatchedIn e) = placed (codes "chart fault 8: input ") e (codes " has no output")
+chart_line (charts.Cyclic e) = placed (codes "chart fault 9: event ") e (codes " precedes itself")
+chart_line charts.Memory = line (codes "memory fault")
+
+-- a fault's line
+abbrev pub fault_line : Fault → List ℕ
+fault_line (Parse f) = grammar_line f
+fault_line (Chart f) = chart_line f
+fault_line Memory = line (codes "memory fault")
+fault_line Device = line (codes "device fault")

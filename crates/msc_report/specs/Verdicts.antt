@@ -1,0 +1,84 @@
+-- The texts that verdicts and races are printed as. This project's own formats.
+use Rattle.std.specs.Prelude.{ℕ, List, [], ◌++◌, Option, None, Some, codes, get_or, length}
+use Rattle.std.specs.Fmt.{decimal}
+use Rattle.std.specs.List.{flat_map}
+use Rattle.msc_chart.specs.declared.event.EventKind.{EventKind}
+use Rattle.msc_chart.specs.declared.event.EventKind.TheVariants.{Output, Input}
+use Rattle.msc_chart.specs.declared.message.Message.{Message}
+use Rattle.msc_chart.specs.declared.queue.Queues.{Queues}
+use Rattle.msc_chart.specs.declared.queue.Queues.TheVariants.{Pair, Mailbox}
+use Rattle.msc_chart.specs.Charts as charts
+use Rattle.msc_chart.specs.Drawings.{Drawing, message_at}
+use Rattle.msc_race.specs.declared.verdict.Verdict.{Verdict}
+use Rattle.msc_race.specs.declared.verdict.Verdict.TheVariants.{Pass, Races}
+use Rattle.msc_report.specs.Texts.{line}
+
+-- the word for an architecture
+abbrev pub queues_text : Queues → List ℕ
+queues_text Pair = codes "pair"
+queues_text Mailbox = codes "mailbox"
+
+-- the lines of a verdict's head: the chart's name, the architecture, and whether the chart passes or
+-- how many races it has
+abbrev pub chart_line : Drawing → List ℕ
+chart_line d = codes "chart " ++ line d.name
+
+abbrev pub queues_line : Queues → List ℕ
+queues_line queues = codes "queues " ++ line (queues_text queues)
+
+abbrev pub outcome_line : Verdict → List ℕ
+outcome_line Pass = line (codes "pass")
+outcome_line (Races pairs) = codes "races " ++ line (decimal (length pairs))
+
+-- the head of a verdict
+abbrev pub verdict_text : Drawing → Queues → Verdict → List ℕ
+verdict_text d queues v = chart_line d ++ (queues_line queues ++ outcome_line v)
+
+-- the name of instance i
+abbrev pub instance_text : Drawing → ℕ → List ℕ
+instance_text d i = get_or d.instances i []
+
+-- a message instance name, where there is one
+abbrev pub number_text : Option (List ℕ) → List ℕ
+number_text None = []
+number_text (Some number) = codes ", " ++ number
+
+-- what a message is called: its name, and its message instance name where it has one, but not the
+-- parameters of its output or input
+abbrev pub message_text : Message → List ℕ
+message_text m = m.name ++ number_text m.number
+
+-- the words of an output or an input, with the name of the instance at the other end
+abbrev pub signal_text : EventKind → List ℕ → List ℕ → List ℕ
+signal_text Output message address = codes "out " ++ (message ++ (codes " to " ++ address))
+signal_text Input message address = codes "in " ++ (message ++ (codes " from " ++ address))
+
+-- event e, as its statement says it
+abbrev pub event_text : Drawing → ℕ → List ℕ
+event_text d e =
+    let message = message_text (message_at d (charts.message d.events e)) in
+    let address = instance_text d (charts.line d.events (charts.partner d.events e)) in
+    signal_text (charts.kind d.events e) message address
+
+-- which events race, and on which line
+abbrev pub race_place : Drawing → ℕ → ℕ → List ℕ
+race_place d e f =
+    codes "race " ++ (decimal e ++ (codes " " ++ (decimal f
+    ++ (codes " on " ++ instance_text d (charts.line d.events e)))))
+
+-- what both of them do
+abbrev pub race_events : Drawing → ℕ → ℕ → List ℕ
+race_events d e f = event_text d e ++ (codes "; " ++ line (event_text d f))
+
+-- a number after a space
+abbrev pub spaced : ℕ → List ℕ
+spaced e = codes " " ++ decimal e
+
+-- the events of a run, where one is shown
+abbrev pub run_line : Option (List ℕ) → List ℕ
+run_line None = []
+run_line (Some events) = codes "run" ++ line (flat_map spaced events)
+
+-- one race, and a run that shows it where one is given
+abbrev pub race_text : Drawing → ℕ → ℕ → Option (List ℕ) → List ℕ
+race_text d e f run = race_place d e f ++ (codes ": " ++ (race_events d e f ++ run_line run))

@@ -1,0 +1,60 @@
+//! Why a call gave no answer.
+
+ghost use Rattle.std.specs.Prelude.{◌≡◌};
+ghost use Rattle.msc_report.specs.declared.fault.Fault.TheVariants.{Memory};
+ghost use Rattle.msc_report.specs.Refusals.{chart_refusal_of, refusal_of};
+
+use msc_chart::ChartFault;
+use msc_parser::ParseFault;
+use std::alloc::AllocError;
+use thiserror::Error;
+
+/// Why a call gave no answer. The first that stands is answered, in this order, but for want of
+/// memory, which may come at any growth before the answer is known.
+#[derive(Clone, Copy, Debug, PartialEq, Eq, Error)]
+pub enum Fault {
+    /// The text has no draft.
+    #[error("{0}")]
+    Parse(ParseFault),
+    /// The text's draft is no chart.
+    #[error("{0}")]
+    Chart(ChartFault),
+    /// A growth of memory was refused.
+    #[error("out of memory")]
+    Memory,
+    /// A read or a write failed, or an input did not end in time.
+    #[error("the device failed")]
+    Device,
+}
+
+impl From<AllocError> for Fault {
+    ghost from_gives = { λ _ e. e ≡ Memory };
+
+    fn from(_e: AllocError) -> Fault {
+        Fault::Memory
+    }
+}
+
+impl From<ParseFault> for Fault {
+    ghost from_gives = { λ f e. e ≡ refusal_of f };
+
+    /// Want of memory is never nested.
+    fn from(fault: ParseFault) -> Fault {
+        match fault {
+            ParseFault::Memory => Fault::Memory,
+            _ => Fault::Parse(fault),
+        }
+    }
+}
+
+impl From<ChartFault> for Fault {
+    ghost from_gives = { λ f e. e ≡ chart_refusal_of f };
+
+    /// Want of memory is never nested.
+    fn from(fault: ChartFault) -> Fault {
+        match fault {
+            ChartFault::Memory => Fault::Memory,
+            _ => Fault::Chart(fault),
+        }
+    }
+}

@@ -1,0 +1,173 @@
+//! The text of one race.
+
+ghost use Rattle.std.specs.Prelude.{◌≡◌, ◌<◌, ◌++◌, OnOk, length};
+ghost use Rattle.std.specs.Io.KnownBytes.{Appends};
+ghost use Rattle.std.specs.List.{flat_map};
+ghost use Rattle.std.specs.Option.{option_copied};
+ghost use Rattle.msc_chart.specs.Charts.{line, message, partner};
+ghost use Rattle.msc_chart.specs.Drawings.{message_at};
+ghost use Rattle.msc_report.specs.Verdicts.{event_text, instance_text, message_text, number_text, race_events, race_place, race_text, run_line, spaced};
+
+use msc_chart::{Chart, Event, EventKind};
+use std::io;
+use std::io::Write;
+
+/// Writes a message instance name behind a comma, where there is one.
+fn write_number<W: Write>(writer: &mut W, number: Option<&[u8]>) -> io::Result<()>
+    ensures { OnOk result (Appends (W.contents writer.old) (W.contents writer.new)
+        (number_text (option_copied number.entry))) }
+{
+    match number {
+        Some(number) => {
+            writer.write_all(b", ")?;
+            writer.write_all(number)
+        }
+        None => Ok(()),
+    }
+}
+
+/// Writes what message `m` is called.
+fn write_message<W: Write>(writer: &mut W, chart: &Chart, m: u32) -> io::Result<()>
+    requires { m < length chart.now.messages }
+    ensures { OnOk result (Appends (W.contents writer.old) (W.contents writer.new)
+        (message_text (message_at chart.now m))) }
+{
+    writer.write_all(chart.message_name(m))?;
+    write_number(writer, chart.message_number(m))
+}
+
+/// Writes the name of an instance.
+fn write_instance<W: Write>(writer: &mut W, chart: &Chart, i: u32) -> io::Result<()>
+    requires { i < length chart.now.instances }
+    ensures { OnOk result (Appends (W.contents writer.old) (W.contents writer.new)
+        (instance_text chart.now i)) }
+{
+    writer.write_all(chart.instance_name(i))
+}
+
+/// The message of event `e`.
+fn message_of(chart: &Chart, e: Event) -> u32
+    requires { e < length chart.now.events }
+    ensures message { result ≡ message chart.now.events e }
+    ensures known { result < length chart.now.messages }
+{
+    let _accepted = chart.events();
+    match chart.message(e) {
+        Some(m) => m,
+        None => 0,
+    }
+}
+
+/// The instance at the other end of the message of event `e`.
+fn address_of(chart: &Chart, e: Event) -> u32
+    requires { e < length chart.now.events }
+    ensures address { result ≡ line chart.now.events (partner chart.now.events e) }
+    ensures known { result < length chart.now.instances }
+{
+    let _accepted = chart.events();
+    match chart.partner(e) {
+        Some(other) => chart.instance_of(other),
+        None => 0,
+    }
+}
+
+/// Writes an event by its words, its message and the instance at the other end.
+fn write_signal<W: Write>(
+    writer: &mut W,
+    chart: &Chart,
+    e: Event,
+    way: &[u8],
+    preposition: &[u8],
+) -> io::Result<()>
+    requires { e < length chart.now.events }
+    ensures { OnOk result (Appends (W.contents writer.old) (W.contents writer.new)
+        (way.now ++ (message_text (message_at chart.now (message chart.now.events e)) ++ (preposition.now
+        ++ instance_text chart.now (line chart.now.events (partner chart.now.events e)))))) }
+{
+    writer.write_all(way)?;
+    write_message(writer, chart, message_of(chart, e))?;
+    writer.write_all(preposition)?;
+    write_instance(writer, chart, address_of(chart, e))
+}
+
+/// Writes what event `e` does, in the words of its statement.
+fn write_event<W: Write>(writer: &mut W, chart: &Chart, e: Event) -> io::Result<()>
+    requires { e < length chart.now.events }
+    ensures { OnOk result (Appends (W.contents writer.old) (W.contents writer.new)
+        (event_text chart.now e)) }
+{
+    match chart.kind(e) {
+        EventKind::Output => write_signal(writer, chart, e, b"out ", b" to "),
+        EventKind::Input => write_signal(writer, chart, e, b"in ", b" from "),
+    }
+}
+
+/// Writes numbers with a space before each.
+fn write_numbers<W: Write>(writer: &mut W, numbers: &[u32]) -> io::Result<()>
+    ensures { OnOk result (Appends (W.contents writer.old) (W.contents writer.new)
+        (flat_map spaced numbers.now)) }
+{
+    for number in numbers {
+        write!(writer, " {number}")?;
+    }
+    Ok(())
+}
+
+/// Writes the events of a run, where one is shown.
+fn write_run<W: Write>(writer: &mut W, run: Option<&[Event]>) -> io::Result<()>
+    ensures { OnOk result (Appends (W.contents writer.old) (W.contents writer.new)
+        (run_line (option_copied run.entry))) }
+{
+    match run {
+        Some(events) => {
+            writer.write_all(b"run")?;
+            write_numbers(writer, events)?;
+            writer.write_all(b"\n")
+        }
+        None => Ok(()),
+    }
+}
+
+/// Writes which events race, and on which line.
+fn write_place<W: Write>(writer: &mut W, chart: &Chart, e: Event, f: Event) -> io::Result<()>
+    requires { e < length chart.now.events }
+    ensures { OnOk result (Appends (W.contents writer.old) (W.contents writer.new)
+        (race_place chart.now e f)) }
+{
+    let _accepted = chart.events();
+    write!(writer, "race {e} {f} on ")?;
+    write_instance(writer, chart, chart.instance_of(e))
+}
+
+/// Writes what two events do, to the end of the line.
+fn write_pair<W: Write>(writer: &mut W, chart: &Chart, e: Event, f: Event) -> io::Result<()>
+    requires e_known { e < length chart.now.events }
+    requires f_known { f < length chart.now.events }
+    ensures { OnOk result (Appends (W.contents writer.old) (W.contents writer.new)
+        (race_events chart.now e f)) }
+{
+    write_event(writer, chart, e)?;
+    writer.write_all(b"; ")?;
+    write_event(writer, chart, f)?;
+    writer.write_all(b"\n")
+}
+
+/// Writes the race of `e` and `f`, two events of one line: their numbers, the instance's name and
+/// what they do; and behind it, where a run is given, a line with all its events.
+pub fn write_race<W: Write>(
+    writer: &mut W,
+    chart: &Chart,
+    e: Event,
+    f: Event,
+    run: Option<&[Event]>,
+) -> io::Result<()>
+    requires e_known { e < length chart.now.events }
+    requires f_known { f < length chart.now.events }
+    ensures { OnOk result (Appends (W.contents writer.old) (W.contents writer.new)
+        (race_text chart.now e f (option_copied run.entry))) }
+{
+    write_place(writer, chart, e, f)?;
+    writer.write_all(b": ")?;
+    write_pair(writer, chart, e, f)?;
+    write_run(writer, run)
+}

@@ -1,0 +1,69 @@
+//! The text of a verdict's head.
+
+ghost use Rattle.std.specs.Prelude.{◌≡◌, OnOk};
+ghost use Rattle.std.specs.Io.KnownBytes.{Appends};
+ghost use Rattle.msc_report.specs.Verdicts.{chart_line, outcome_line, queues_line, queues_text, verdict_text};
+
+use msc_chart::{Chart, Queues};
+use msc_race::Verdict;
+use std::io;
+use std::io::Write;
+
+/// Writes the line of a chart's name.
+fn write_chart_line<W: Write>(writer: &mut W, chart: &Chart) -> io::Result<()>
+    ensures { OnOk result (Appends (W.contents writer.old) (W.contents writer.new)
+        (chart_line chart.now)) }
+{
+    writer.write_all(b"chart ")?;
+    writer.write_all(chart.name())?;
+    writer.write_all(b"\n")
+}
+
+/// The word for an architecture.
+fn queues_text(queues: Queues) -> &'static str
+    ensures { result.now ≡ queues_text queues }
+{
+    match queues {
+        Queues::Pair => "pair",
+        Queues::Mailbox => "mailbox",
+    }
+}
+
+/// Writes the line of an architecture.
+fn write_queues_line<W: Write>(writer: &mut W, queues: Queues) -> io::Result<()>
+    ensures { OnOk result (Appends (W.contents writer.old) (W.contents writer.new)
+        (queues_line queues)) }
+{
+    let word = queues_text(queues);
+    writeln!(writer, "queues {word}")
+}
+
+/// Writes whether a chart passes, or how many races it has.
+fn write_outcome<W: Write>(writer: &mut W, verdict: &Verdict) -> io::Result<()>
+    ensures { OnOk result (Appends (W.contents writer.old) (W.contents writer.new)
+        (outcome_line verdict.now)) }
+{
+    match verdict {
+        Verdict::Pass => writer.write_all(b"pass\n"),
+        Verdict::Races(races) => {
+            let count = races.as_slice().len();
+            writeln!(writer, "races {count}")
+        }
+    }
+}
+
+/// Writes the head of a verdict on a chart under an architecture: the chart's name, the architecture,
+/// and `pass` or the number of races.
+pub fn write_verdict<W: Write>(
+    writer: &mut W,
+    chart: &Chart,
+    queues: Queues,
+    verdict: &Verdict,
+) -> io::Result<()>
+    ensures { OnOk result (Appends (W.contents writer.old) (W.contents writer.new)
+        (verdict_text chart.now queues verdict.now)) }
+{
+    write_chart_line(writer, chart)?;
+    write_queues_line(writer, queues)?;
+    write_outcome(writer, verdict)
+}

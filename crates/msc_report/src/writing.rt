@@ -1,0 +1,199 @@
+//! What the program prints: canonical texts and fault lines.
+//!
+//! Each call writes exactly its bytes or answers an `io::Error`. How much went out before an error
+//! is not said.
+
+ghost use Rattle.std.specs.Prelude.{◌≡◌, OnOk};
+ghost use Rattle.std.specs.Io.KnownBytes.{Appends};
+ghost use Rattle.msc_report.specs.Texts.{chart_line, fault_line, grammar_line, lexical_line, line, placed, what_text};
+
+use crate::fault::Fault;
+use msc_chart::ChartFault;
+use msc_lexer::{LexFault, Word};
+use msc_parser::{ParseFault, What};
+use std::io;
+use std::io::Write;
+
+/// Writes the bytes given, a canonical text.
+pub fn write_draft<W: Write>(writer: &mut W, text: &[u8]) -> io::Result<()>
+    ensures { OnOk result (Appends (W.contents writer.old) (W.contents writer.new) text.now) }
+{
+    writer.write_all(text)
+}
+
+/// The words for what was expected at a place.
+fn what_text(what: What) -> &'static str
+    ensures { result.now ≡ what_text what }
+{
+    match what {
+        What::Msc => "msc",
+        What::Name => "a name",
+        What::Text => "a text",
+        What::End => "the end of the statement",
+        What::Section => "a section",
+        What::Item => "an item",
+        What::Event => "an event",
+        What::To => "to",
+        What::From => "from",
+        What::Parameter => "a parameter list",
+        What::Nothing => "the end of the text",
+    }
+}
+
+/// Writes one line of words.
+fn write_line<W: Write>(writer: &mut W, words: &str) -> io::Result<()>
+    ensures { OnOk result (Appends (W.contents writer.old) (W.contents writer.new)
+        (line words.now)) }
+{
+    writeln!(writer, "{words}")
+}
+
+/// Writes one line with a place in it.
+fn write_placed<W: Write>(writer: &mut W, before: &str, at: usize, after: &str) -> io::Result<()>
+    ensures { OnOk result (Appends (W.contents writer.old) (W.contents writer.new)
+        (placed before.now at after.now)) }
+{
+    writeln!(writer, "{before}{at}{after}")
+}
+
+/// Writes the line of a lexical fault.
+fn write_lexical<W: Write>(writer: &mut W, fault: LexFault) -> io::Result<()>
+    ensures { OnOk result (Appends (W.contents writer.old) (W.contents writer.new)
+        (lexical_line fault)) }
+{
+    match fault {
+        LexFault::TooLong => {
+            write_line(writer, "lexical fault 1: text longer than 1048576 bytes")
+        }
+        LexFault::BadByte(at) => {
+            write_placed(
+                writer,
+                "lexical fault 2 at ",
+                at,
+                ": byte that begins no token",
+            )
+        }
+        LexFault::OpenNote(at) => {
+            write_placed(writer, "lexical fault 3 at ", at, ": note without end")
+        }
+        LexFault::OpenText(at) => {
+            write_placed(writer, "lexical fault 4 at ", at, ": text without end")
+        }
+        LexFault::LongName(at) => {
+            write_placed(
+                writer,
+                "lexical fault 5 at ",
+                at,
+                ": name longer than 64 bytes",
+            )
+        }
+        LexFault::Memory => write_line(writer, "memory fault"),
+    }
+}
+
+/// Writes the line for a word that is not supported.
+fn write_unsupported<W: Write>(writer: &mut W, at: usize, word: Word) -> io::Result<()>
+    ensures { OnOk result (Appends (W.contents writer.old) (W.contents writer.new)
+        (grammar_line (ParseFault.Unsupported at word))) }
+{
+    write!(writer, "grammar fault 2 at {at}: ")?;
+    writer.write_all(word.spelling())?;
+    write_line(writer, " is not supported")
+}
+
+/// Writes the line for what was expected at a place.
+fn write_expected<W: Write>(writer: &mut W, at: usize, what: What) -> io::Result<()>
+    ensures { OnOk result (Appends (W.contents writer.old) (W.contents writer.new)
+        (grammar_line (ParseFault.Expected at what))) }
+{
+    let expected = what_text(what);
+    writeln!(writer, "grammar fault 3 at {at}: expected {expected}")
+}
+
+/// Writes the line of a chart's fault.
+fn write_chart_fault<W: Write>(writer: &mut W, fault: ChartFault) -> io::Result<()>
+    ensures { OnOk result (Appends (W.contents writer.old) (W.contents writer.new)
+        (chart_line fault)) }
+{
+    match fault {
+        ChartFault::TooManyInstances => {
+            write_line(writer, "chart fault 1: more than 32 instances")
+        }
+        ChartFault::TwiceInstance(i) => {
+            write_placed(
+                writer,
+                "chart fault 2: section ",
+                i as usize,
+                " repeats an instance name",
+            )
+        }
+        ChartFault::HeaderWithoutBody(k) => {
+            write_placed(
+                writer,
+                "chart fault 3: header name ",
+                k as usize,
+                " has no section",
+            )
+        }
+        ChartFault::UnknownAddress(e) => {
+            write_placed(
+                writer,
+                "chart fault 4: event ",
+                e as usize,
+                " has an unknown address",
+            )
+        }
+        ChartFault::TooManyMessages => {
+            write_line(writer, "chart fault 5: more than 1024 messages")
+        }
+        ChartFault::TwiceEvent(e) => {
+            write_placed(
+                writer,
+                "chart fault 6: event ",
+                e as usize,
+                " repeats a message",
+            )
+        }
+        ChartFault::UnmatchedOut(e) => {
+            write_placed(
+                writer,
+                "chart fault 7: output ",
+                e as usize,
+                " has no input",
+            )
+        }
+        ChartFault::UnmatchedIn(e) => {
+            write_placed(
+                writer,
+                "chart fault 8: input ",
+                e as usize,
+                " has no output",
+            )
+        }
+        ChartFault::Cyclic(e) => {
+            write_placed(
+                writer,
+                "chart fault 9: event ",
+                e as usize,
+                " precedes itself",
+            )
+        }
+        ChartFault::Memory => write_line(writer, "memory fault"),
+    }
+}
+
+/// Writes the line of a fault. The printed words of faults come from here alone.
+pub fn write_fault<W: Write>(writer: &mut W, fault: &Fault) -> io::Result<()>
+    ensures { OnOk result (Appends (W.contents writer.old) (W.contents writer.new)
+        (fault_line fault.now)) }
+{
+    match *fault {
+        Fault::Parse(ParseFault::Lex(fault)) => write_lexical(writer, fault),
+        Fault::Parse(ParseFault::Unsupported(at, word)) => write_unsupported(writer, at, word),
+        Fault::Parse(ParseFault::Expected(at, what)) => write_expected(writer, at, what),
+        Fault::Parse(ParseFault::Memory) => write_line(writer, "memory fault"),
+        Fault::Chart(fault) => write_chart_fault(writer, fault),
+        Fault::Memory => write_line(writer, "memory fault"),
+        Fault::Device => write_line(writer, "device fault"),
+    }
+}
