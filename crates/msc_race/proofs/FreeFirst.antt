@@ -13,7 +13,7 @@ use Rattle.msc_race.proofs.FreeEvents.{is_free_of, free_of_test, test_of_free, n
 module _ (chart : WiredChart) (is_wired : IsWired chart) (order : ℕ → ℕ → Bool)
     (told : IsEnforcedOrder chart order) (e : ℕ) (below : e < length chart.events) where
   -- A held output is in the queue of e: its input is e or after e, and the output itself is neither.
-  held_queue : (s : ℕ) → is_held chart (is_free_of chart order e) s ≡ true
+  pub held_queue : (s : ℕ) → is_held chart (is_free_of chart order e) s ≡ true
       → queue chart e ≡ queue chart s
   held_queue s held =
       let h = held_parts chart (is_free_of chart order e) s held in

@@ -30,7 +30,7 @@ module _ (chart : WiredChart) (order : ℕ → ℕ → Bool) (told : IsEnforcedO
       (held.0, is_free s held.1, λ there. clash (passes _ there) held.2)
 
   -- what is held is held by the test
-  test_of_held : (s : ℕ) → IsHeld chart e s → is_held chart free s ≡ true
+  pub test_of_held : (s : ℕ) → IsHeld chart e s → is_held chart free s ≡ true
   test_of_held s h =
       held_from chart free s h.0 (passes s h.1) (false_from_ne_true _ (λ there. h.2 (is_free _ there)))
 

@@ -25,3 +25,11 @@ pub mod RaceLists
 pub mod RaceRows
 pub mod OneOrOther
 pub mod ChoiceLemmas
+pub mod BitLemmas
+pub mod StateLemmas
+pub mod RemainderLemmas
+pub mod FrontLemmas
+pub mod LinkLemmas
+pub mod ChannelLemmas
+pub mod StartLemmas
+pub mod FrontierLemmas

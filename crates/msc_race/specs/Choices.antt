@@ -1,7 +1,6 @@
 -- What a chosen run is made from, as the code holds it.
-use Rattle.std.specs.Prelude.{◌≡◌, ℕ, ◌<◌, length, List, IsTrue}
+use Rattle.std.specs.Prelude.{◌≡◌, ℕ, ◌<◌, length}
 use Rattle.msc_chart.specs.Drawings.{IsAccepted}
-use Rattle.msc_chart.specs.Lists.{occurs}
 use Rattle.msc_chart.specs.Orders.{WiredChart, wired, IsEnforcedOrder}
 use Rattle.msc_order.specs.Tables.{orders}
 use Rattle.msc_race.specs.declared.choosing.Choice.{Choice}
@@ -20,7 +19,3 @@ pub record IsSettled (c : Choice) : Type 0 where
   pub enforced : IsEnforcedOrder (chart_of c) (orders c.order.now)
   pub square : length c.order.now ≡ size c
   pub known : c.e < size c
-
--- these are events of the chart
-abbrev pub AreEvents : Choice → List ℕ → Type 0
-AreEvents c past = (s : ℕ) → IsTrue (occurs past s) → s < size c

@@ -7,9 +7,14 @@
 //! Events are numbered from 0, over all lines.
 #![tactic(auto)]
 
+mod bits;
+mod channels;
 mod choosing;
+mod frontier;
 pub mod laws;
+mod lines;
 mod racing;
+mod remaining;
 mod reversing;
 mod verdict;
 

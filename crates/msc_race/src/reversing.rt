@@ -8,6 +8,7 @@ ghost use Rattle.msc_chart.specs.Chosen.{IsChosenRun};
 ghost use Rattle.msc_order.specs.Tables.{orders};
 
 use crate::choosing::Choice;
+use crate::frontier::Frontier;
 use crate::laws::the_chosen_run_reverses;
 use msc_chart::{Chart, Event, Queues};
 use msc_order::Order;
@@ -36,11 +37,11 @@ pub fn chosen_run(
         order,
         e,
     };
-    let mut past = Vec::new(alloc);
-    while let Some(x) = choice.next(&past) {
-        past.push(x)?;
+    let mut frontier = Frontier::start(alloc, &choice)?;
+    while let Some(x) = frontier.next(&choice) {
+        frontier.occur(&choice, x)?;
     }
-    Ok(past)
+    Ok(frontier.into_run())
 }
 
 /// A whole run with event `f` before event `e`, where the enforced order does not put `e` before

@@ -1,0 +1,39 @@
+-- The events that the choice of the next one depends on, as rows of bits.
+use Rattle.std.specs.Prelude.{◌≡◌, ℕ, ◌<◌, ◌↔◌, List, IsTrue}
+use Rattle.msc_chart.specs.Orders.{WiredChart, queue}
+use Rattle.msc_chart.specs.Chosen.{IsFree, IsHeld, IsPassedOn}
+use Rattle.msc_race.specs.declared.choosing.Choice.{Choice}
+use Rattle.msc_race.specs.declared.remaining.Remaining.{Remaining}
+use Rattle.msc_race.specs.Bits.{holds, IsRow, IsWithout}
+use Rattle.msc_race.specs.Choices.{chart_of}
+
+-- the row holds the numbers below k with a property
+abbrev pub HoldsBelow : List ℕ → (ℕ → Type 0) → ℕ → Type 0
+HoldsBelow row P k = (y : ℕ) → IsTrue (holds row y) ↔ (P y × (y < k))
+
+-- a free event that is not held
+abbrev pub IsUnheld : WiredChart → ℕ → ℕ → Type 0
+IsUnheld chart e x = IsFree chart e x × (IsHeld chart e x → ⊥)
+
+-- an output to the queue of e that is passed on
+abbrev pub IsPassedOnWith : WiredChart → ℕ → ℕ → Type 0
+IsPassedOnWith chart e x = IsPassedOn chart e x × (queue chart x ≡ queue chart e)
+
+-- The rows hold, of the events below k, those that are free, those that are not held, and those that
+-- are passed on with e.
+pub record AreBelow (c : Choice) (r : Remaining) (k : ℕ) : Type 0 where
+  pub free : HoldsBelow r.free.items (IsFree (chart_of c) c.e) k
+  pub unheld : HoldsBelow r.unheld.items (IsUnheld (chart_of c) c.e) k
+  pub passed : HoldsBelow r.passed.items (IsPassedOnWith (chart_of c) c.e) k
+
+-- rows for the numbers below n
+pub record AreRows (n : ℕ) (r : Remaining) : Type 0 where
+  pub free : IsRow n r.free.items
+  pub unheld : IsRow n r.unheld.items
+  pub passed : IsRow n r.passed.items
+
+-- the rows have lost x, and nothing else
+pub record AreWithout (old new : Remaining) (x : ℕ) : Type 0 where
+  pub free : IsWithout old.free.items new.free.items x
+  pub unheld : IsWithout old.unheld.items new.unheld.items x
+  pub passed : IsWithout old.passed.items new.passed.items x
