@@ -49,7 +49,17 @@ fn the_enforced_pairs_of_two_mailboxes(rt: HostRuntime) -> Result<(), Fail> {
     }
     assert_eq!(rt;
         pairs.as_slice(),
-        [(0, 1), (0, 4), (0, 7), (1, 7), (2, 3), (2, 5), (2, 6), (3, 5)].as_slice()
+        [
+            (0, 1),
+            (0, 4),
+            (0, 7),
+            (1, 7),
+            (2, 3),
+            (2, 5),
+            (2, 6),
+            (3, 5)
+        ]
+        .as_slice()
     );
     Ok(())
 }

@@ -21,7 +21,8 @@ const NUMBERED: &[u8] = b"msc t; instance a; out m, 1 to b; out m, 2 to b; endin
 instance b; in m, 1 from a; in m, 2 from a; endinstance; endmsc;";
 
 /// The chart `two_mailboxes`.
-pub(crate) const TWO_MAILBOXES: &[u8] = b"msc t; instance a; out m1 to q; out m3 to z; endinstance; \
+pub(crate) const TWO_MAILBOXES: &[u8] =
+    b"msc t; instance a; out m1 to q; out m3 to z; endinstance; \
 instance b; out m4 to z; out m2 to q; endinstance; \
 instance q; in m1 from a; in m2 from b; endinstance; \
 instance z; in m4 from b; in m3 from a; endinstance; endmsc;";
@@ -44,13 +45,23 @@ fn the_race_lists_of_the_worked_charts(rt: HostRuntime) -> Result<(), Fail> {
     let alloc = rt.alloc();
     let one_self: &[u8] = b"msc t; instance a; out m to a; in m from a; endinstance; endmsc;";
     for (name, text, pair, mailbox) in [
-        ("two_senders", TWO_SENDERS, [(1, 2)].as_slice(), [(1, 2)].as_slice()),
+        (
+            "two_senders",
+            TWO_SENDERS,
+            [(1, 2)].as_slice(),
+            [(1, 2)].as_slice(),
+        ),
         ("relay", RELAY, &[(2, 3)], &[]),
         ("overtaking", OVERTAKING, &[(2, 3)], &[(2, 3)]),
         ("coregion", COREGION, &[], &[]),
         ("crossing", CROSSING, &[(0, 1), (2, 3)], &[(0, 1), (2, 3)]),
         ("numbered", NUMBERED, &[], &[]),
-        ("two_mailboxes", TWO_MAILBOXES, &[(4, 5), (6, 7)], &[(4, 5), (6, 7)]),
+        (
+            "two_mailboxes",
+            TWO_MAILBOXES,
+            &[(4, 5), (6, 7)],
+            &[(4, 5), (6, 7)],
+        ),
         ("one message to oneself", one_self, &[], &[]),
     ] {
         let chart = Chart::build(alloc, &parse(alloc, text)?)?;
@@ -89,14 +100,21 @@ fn messages(alloc: Global, count: u32, reversed: bool) -> Result<String, AllocEr
 #[test]
 fn messages_in_reverse(rt: HostRuntime) -> Result<(), Fail> {
     let alloc = rt.alloc();
-    for (count, races, first, last) in [(32, 496, (32, 33), (62, 63)), (33, 528, (33, 34), (64, 65))] {
+    for (count, races, first, last) in [
+        (32, 496, (32, 33), (62, 63)),
+        (33, 528, (33, 34), (64, 65)),
+    ] {
         let text = messages(alloc, count, true)?;
         let chart = Chart::build(alloc, &parse(alloc, text.as_bytes())?)?;
         for queues in [Queues::Pair, Queues::Mailbox] {
             let verdict = check(alloc, &chart, queues)?;
             let list = listed(&verdict);
             assert_eq!(rt; list.len(), races, "{count}");
-            assert_eq!(rt; (list.first(), list.last()), (Some(&first), Some(&last)), "{count}");
+            assert_eq!(rt;
+                (list.first(), list.last()),
+                (Some(&first), Some(&last)),
+                "{count}"
+            );
         }
     }
     Ok(())

@@ -23,12 +23,27 @@ fn the_reversing_runs_of_the_worked_charts(rt: HostRuntime) -> Result<(), Fail> 
         (OVERTAKING, Queues::Mailbox, 2, 3, &[0, 1, 3, 2]),
         (CROSSING, Queues::Pair, 0, 1, &[2, 1, 0, 3]),
         (CROSSING, Queues::Mailbox, 2, 3, &[0, 3, 2, 1]),
-        (TWO_MAILBOXES, Queues::Mailbox, 4, 5, &[2, 3, 0, 1, 5, 6, 7, 4]),
-        (TWO_MAILBOXES, Queues::Mailbox, 6, 7, &[0, 1, 2, 3, 4, 5, 7, 6]),
+        (
+            TWO_MAILBOXES,
+            Queues::Mailbox,
+            4,
+            5,
+            &[2, 3, 0, 1, 5, 6, 7, 4],
+        ),
+        (
+            TWO_MAILBOXES,
+            Queues::Mailbox,
+            6,
+            7,
+            &[0, 1, 2, 3, 4, 5, 7, 6],
+        ),
     ] {
         let chart = Chart::build(alloc, &parse(alloc, text)?)?;
         let order = Order::enforced(alloc, &chart, queues)?;
-        assert!(rt; e < chart.events() && f < chart.events() && e != f, "({e}, {f})");
+        assert!(rt;
+            e < chart.events() && f < chart.events() && e != f,
+            "({e}, {f})"
+        );
         assert!(rt; !order.holds(e, f), "({e}, {f})");
         let run: Vec<Event> = reversing_run(alloc, &chart, queues, &order, e, f)?;
         assert_eq!(rt; run.as_slice(), wanted, "({e}, {f})");

@@ -155,8 +155,8 @@ module _ (chart : WiredChart) where
     pub left_next : IsLeft chart now s less
     left_next = record {
       sound = λ d h.
-        let old = was.sound d (left_less d h) in
-        (old.0, old.1, queue_kept test now d kept_all old.2);
+          let old = was.sound d (left_less d h) in
+          (old.0, old.1, queue_kept test now d kept_all old.2);
       complete = λ d own after. elim (was.complete d own after) [
         | inr has ↦ inr (kept_all _ _ has)
         | inl stands ↦ elim (cases_eq d c) [
@@ -164,10 +164,10 @@ module _ (chart : WiredChart) where
               (row_there test (partner chart.events s) (partner chart.events c) true refl))
           | inr other ↦ by_test (test c d)
               (λ caused.
-                let old = was.sound c there in
-                let in_queue : IsOutputOf chart (queue chart c) d = record { output = own.output; one_queue = own.one_queue ∙ sym old.0.one_queue } in
-                let next = old.2 d in_queue (between.outputs c d old.0.output caused) in
-                inr (is _ _ ∙ row_after test (partner chart.events s) (partner chart.events c) true (partner chart.events d) next))
+              let old = was.sound c there in
+              let in_queue : IsOutputOf chart (queue chart c) d = record { output = own.output; one_queue = own.one_queue ∙ sym old.0.one_queue } in
+              let next = old.2 d in_queue (between.outputs c d old.0.output caused) in
+              inr (is _ _ ∙ row_after test (partner chart.events s) (partner chart.events c) true (partner chart.events d) next))
               (λ apart. inl (drop d ∙ rw (stands, ne_eqb d c other, apart) refl))
         ]
       ];
@@ -183,9 +183,9 @@ module _ (chart : WiredChart) where
       → ((y : ℕ) → left y ≡ (test s y && masks (queue chart s) y)) → IsLeft chart test s left
   left_first test masks s left o between shown later is = record {
     sound = λ c h.
-      let both = and_parts _ _ (sym (is c) ∙ h) in
-      let known = shown (queue chart s) c both.1 in
-      (known.0, between.outputs s c o both.0, known.1);
+        let both = and_parts _ _ (sym (is c) ∙ h) in
+        let known = shown (queue chart s) c both.1 in
+        (known.0, between.outputs s c o both.0, known.1);
     complete = λ c own after. inl (is c ∙ and_from _ _ (between.caused s c after) (later c own after));
   }
 
@@ -198,7 +198,8 @@ module _ (chart : WiredChart) where
         | inr more ↦
             let both = and_parts _ _ more in
             let same_q = eqb-true p q both.0 in
-            let same_s = eqb-true c s both.1 in
-            (subst (λ (w : ℕ). IsOutputOf chart w c) (sym same_q) (subst (λ (w : ℕ). IsOutputOf chart q w) (sym same_s) own),
-              subst (λ (w : ℕ). HasQueueOf chart now w) (sym same_s) has)
+            let same_s = eqb-true c s both.1 in (
+              subst (λ (w : ℕ). IsOutputOf chart w c) (sym same_q) (subst (λ (w : ℕ). IsOutputOf chart q w) (sym same_s) own),
+              subst (λ (w : ℕ). HasQueueOf chart now w) (sym same_s) has,
+            )
       ]

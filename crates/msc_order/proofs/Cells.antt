@@ -65,10 +65,10 @@ cell_put n words e f x y row f_below =
             | inr other ↦
                 rw (get_or-set_other words place (x * m + y / 64) word 0 other)
                 (by_test (eqb x e)
-                  (λ same_row. by_test (eqb y f)
-                    (λ same_column. absurd (other (rw (eqb-true x e same_row, eqb-true y f same_column) refl)))
-                    (λ differs. rw (differs, and-false (eqb x e)) (sym (or-false _))))
-                  (λ differs. rw differs (sym (or-false _))))
+                (λ same_row. by_test (eqb y f)
+                (λ same_column. absurd (other (rw (eqb-true x e same_row, eqb-true y f same_column) refl)))
+                (λ differs. rw (differs, and-false (eqb x e)) (sym (or-false _))))
+                (λ differs. rw differs (sym (or-false _))))
           ])
     ]
 
@@ -98,10 +98,10 @@ merge_step words now m e f k inside k_below h x w w_below =
       | inr other ↦
           get_or-set_other now (e * m + k) (x * m + w) word 0 other ∙ h x w w_below
           ∙ by_test (eqb x e)
-              (λ same_row.
-                let apart : w ≡ k → ⊥ = λ e'. other (rw (eqb-true x e same_row, e') refl) in
-                rw (below-suc w k, ne_eqb w k apart, or-false (ltb w k)) refl)
-              (λ differs. rw differs refl)
+          (λ same_row.
+          let apart : w ≡ k → ⊥ = λ e'. other (rw (eqb-true x e same_row, e') refl) in
+          rw (below-suc w k, ne_eqb w k apart, or-false (ltb w k)) refl)
+          (λ differs. rw differs refl)
     ]
 
 -- the bits of the rows when all words are merged
@@ -116,8 +116,8 @@ merge_end n words now e f h x y =
       | inl column ↦
           rw (cell_in n now x y column, cell_in n words x y column, cell_in n words f y column, h x (y / 64) (word_below n y column), lt-ltb (y / 64) m (word_below n y column))
           (by_test (eqb x e)
-            (λ same. rw same (bit_join (get_or words (x * m + y / 64) 0) (get_or words (f * m + y / 64) 0) (y % 64)))
-            (λ differs. rw differs (sym (or-false (bit_of (get_or words (x * m + y / 64) 0) (y % 64))))))
+          (λ same. rw same (bit_join (get_or words (x * m + y / 64) 0) (get_or words (f * m + y / 64) 0) (y % 64)))
+          (λ differs. rw differs (sym (or-false (bit_of (get_or words (x * m + y / 64) 0) (y % 64))))))
     ]
 
 -- taking in a row, and then its number where it is wanted
@@ -144,8 +144,8 @@ row_bits n words e y row y_below =
     let word : y / 64 < m = word_below n y y_below in
     let short : y / 64 < length words - e * m = omega (arith, word, row) in
     let same : get_or (take m (take (length words - e * m) (drop (e * m) words))) (y / 64) 0 ≡ get_or words (e * m + y / 64) 0 =
-        get_or-take m (take (length words - e * m) (drop (e * m) words)) (y / 64) 0 word ∙ get_or-take (length words - e * m) (drop (e * m) words) (y / 64) 0 short
-        ∙ get_or-drop (e * m) words (y / 64) 0 in
+    get_or-take m (take (length words - e * m) (drop (e * m) words)) (y / 64) 0 word ∙ get_or-take (length words - e * m) (drop (e * m) words) (y / 64) 0 short
+    ∙ get_or-drop (e * m) words (y / 64) 0 in
     ap (λ w. bit_of w (y % 64)) same ∙ sym (cell_in n words e y y_below)
 
 -- a blank table has no pair

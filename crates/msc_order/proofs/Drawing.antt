@@ -54,9 +54,11 @@ module _ (events : List ChartEvent) (text : IsInTextOrder events) where
             let past : start ≤ y = elim (cases_lt y start) [
               | inl within ↦ let u = s.together y (omega arith) within in absurd (omega (arith, u.1, p.3))
               | inr ge ↦ ge
-            ] in
-            (t.later, elim (cases_lt y end) [
-              | inl inside ↦ inl (past, inside)
-              | inr out ↦ inr (t.past y out p.1 (sym q.2 ∙ p.2))
-            ]);
+            ] in (
+              t.later,
+              elim (cases_lt y end) [
+                | inl inside ↦ inl (past, inside)
+                | inr out ↦ inr (t.past y out p.1 (sym q.2 ∙ p.2))
+              ],
+            );
       }

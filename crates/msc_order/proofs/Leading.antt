@@ -23,10 +23,13 @@ row_cases test e f wanted x y h =
       | inl old ↦ inl old
       | inr more ↦
           let p = and_parts _ _ more in
-          inr (eqb-true x e p.0, elim (or_cases (wanted && eqb y f) (test f y) p.1) [
-            | inl here ↦ let q = and_parts wanted (eqb y f) here in inl (q.0, eqb-true y f q.1)
-            | inr after ↦ inr after
-          ])
+          inr (
+            eqb-true x e p.0,
+            elim (or_cases (wanted && eqb y f) (test f y) p.1) [
+              | inl here ↦ let q = and_parts wanted (eqb y f) here in inl (q.0, eqb-true y f q.1)
+              | inr after ↦ inr after
+            ],
+          )
     ]
 
 -- what a row has it keeps
@@ -171,9 +174,10 @@ module _ (events : List ChartEvent) (inputs : Bool) where
             let t = taken g low less in
             (λ h. is e g ∙ row_kept now e f wanted e g (t.0 h), λ y h. is e y ∙ row_kept now e f wanted e y (t.1 y h))
         | inr more ↦
-            let same : g ≡ f = omega (arith, high, more) in
-            (λ h. subst (λ (z : ℕ). last e z ≡ true) (sym same) (is e f ∙ row_there now e f wanted (goal ∙ subst (λ (z : ℕ). (inputs || is_output events z) ≡ true) same h)),
-              λ y h. is e y ∙ row_after now e f wanted y (others f y apart ∙ subst (λ (z : ℕ). test z y ≡ true) same h))
+            let same : g ≡ f = omega (arith, high, more) in (
+              λ h. subst (λ (z : ℕ). last e z ≡ true) (sym same) (is e f ∙ row_there now e f wanted (goal ∙ subst (λ (z : ℕ). (inputs || is_output events z) ≡ true) same h)),
+              λ y h. is e y ∙ row_after now e f wanted y (others f y apart ∙ subst (λ (z : ℕ). test z y ≡ true) same h),
+            )
       ]
 
   -- rows that change nothing of others, one after another
@@ -225,11 +229,11 @@ module _ (events : List ChartEvent) (order : List ℕ) (linear : IsLinearOrder e
       let front = subst (λ (l : List ℕ). Steps (Follows events) [] l) (take_more order i 0 below) (step_of (Follows events) order i linear.steps below).1 in
       by_test (occurs (take (i + 1) order) f)
       (λ there.
-        let seen_there : occurs (take i order ++ e ∷ []) f ≡ true = ap (λ (l : List ℕ). occurs l f) (sym (take_more order i 0 below)) ∙ there in
-        let stands = (step_at (Follows events) (take i order ++ e ∷ []) f front seen_there).1.precedes e v in
-        by_test (occurs (take i order) f)
-        (λ early. clash (until-within (take i order) f e (ap (λ (l : List ℕ). occurs l e) (sym (until-append (take i order) (e ∷ []) f early)) ∙ stands)) at_place.new)
-        (λ late. clash (at_place.precedes e (subst (λ (z : ℕ). Visual events e z) (last_is (take i order) e f late seen_there) v)) at_place.new))
+      let seen_there : occurs (take i order ++ e ∷ []) f ≡ true = ap (λ (l : List ℕ). occurs l f) (sym (take_more order i 0 below)) ∙ there in
+      let stands = (step_at (Follows events) (take i order ++ e ∷ []) f front seen_there).1.precedes e v in
+      by_test (occurs (take i order) f)
+      (λ early. clash (until-within (take i order) f e (ap (λ (l : List ℕ). occurs l e) (sym (until-append (take i order) (e ∷ []) f early)) ∙ stands)) at_place.new)
+      (λ late. clash (at_place.precedes e (subst (λ (z : ℕ). Visual events e z) (last_is (take i order) e f late seen_there) v)) at_place.new))
       (λ h. h)
 
   -- an event behind all but it is it, or stands behind it

@@ -89,7 +89,7 @@ clear_bit n row c y size c_below =
                 rw (same, get_or-set_same row place word 0 inside)
                 (bit_meet (get_or row place 0) (bit_not w64 (1 * 2 ^ (c % 64) % 2 ^ 64)) (y % 64)
                 ∙ ap (λ b. bit_of (get_or row place 0) (y % 64) && b)
-                  (bit_other (1 * 2 ^ (c % 64) % 2 ^ 64) (y % 64) fits (omega arith) ∙ ap not (bit_alone (c % 64) (y % 64) (omega arith) ∙ same_rest y c same)))
+                (bit_other (1 * 2 ^ (c % 64) % 2 ^ 64) (y % 64) fits (omega arith) ∙ ap not (bit_alone (c % 64) (y % 64) (omega arith) ∙ same_rest y c same)))
             | inr other ↦
                 rw (get_or-set_other row place (y / 64) word 0 other, ne_eqb y c (λ same. other (rw same refl))) (sym (kept (bit_of (get_or row (y / 64) 0) (y % 64))))
           ])

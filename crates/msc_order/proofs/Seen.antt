@@ -24,7 +24,7 @@ pub orders-table_of : (n : ℕ) (test : ℕ → ℕ → Bool) (x y : ℕ) → x 
 unfolding orders table_of
 orders-table_of n test x y row column =
     let here : get_or (map (λ e. map (λ f. test e f) (range_with_len 0 n)) (range_with_len 0 n)) x [] ≡ map (λ f. test x f) (range_with_len 0 n) =
-        get_or-map-range_with_len (λ e. map (λ f. test e f) (range_with_len 0 n)) 0 n x x [] row (omega arith) in
+    get_or-map-range_with_len (λ e. map (λ f. test e f) (range_with_len 0 n)) 0 n x x [] row (omega arith) in
     ap (λ row. get_or row y false) here ∙ get_or-map-range_with_len (λ f. test x f) 0 n y y false column (omega arith)
 
 -- a table has nothing past its last number
@@ -32,7 +32,7 @@ pub orders_past : (n : ℕ) (test : ℕ → ℕ → Bool) (x y : ℕ) → x < n 
 unfolding orders table_of
 orders_past n test x y row out =
     let here : get_or (map (λ e. map (λ f. test e f) (range_with_len 0 n)) (range_with_len 0 n)) x [] ≡ map (λ f. test x f) (range_with_len 0 n) =
-        get_or-map-range_with_len (λ e. map (λ f. test e f) (range_with_len 0 n)) 0 n x x [] row (omega arith) in
+    get_or-map-range_with_len (λ e. map (λ f. test e f) (range_with_len 0 n)) 0 n x x [] row (omega arith) in
     ap (λ row. get_or row y false) here ∙ get_or_past (map (λ f. test x f) (range_with_len 0 n)) y false (omega (arith, out, length-map-range_with_len (λ f. test x f) 0 n))
 
 -- the rows that a contract sees
@@ -61,9 +61,9 @@ visual_seen events matched words h =
     record {
       holds = λ x y x_in y_in k. led_visual events true x y (h.sound x y (sym (orders-table_of n (cell n words) x y x_in y_in) ∙ k));
       complete = λ x y k.
-        let there = visual_led events x y k in
-        let below = led_below events true matched x y there in
-        orders-table_of n (cell n words) x y below.0 below.1 ∙ h.complete x y there;
+          let there = visual_led events x y k in
+          let below = led_below events true matched x y there in
+          orders-table_of n (cell n words) x y below.0 below.1 ∙ h.complete x y there;
     }
 
 -- the words of a row show what the table tells

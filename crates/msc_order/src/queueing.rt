@@ -105,7 +105,11 @@ fn add_queues(words: &mut [u64], masks: &mut [u64], left: &mut [u64], wiring: &W
 }
 
 /// Closes a blank table under all rules of the enforced order.
-pub fn close_under_queues(alloc: Global, words: &mut [u64], wiring: &Wiring) -> Result<(), AllocError>
+pub fn close_under_queues(
+    alloc: Global,
+    words: &mut [u64],
+    wiring: &Wiring,
+) -> Result<(), AllocError>
     requires square { length words.old ≡ size wiring.now * stride (size wiring.now) }
     requires blank { (x y : ℕ) → pairs wiring.now words.old x y ≡ false }
     ensures enforced { OnOk result (IsEnforcedOrder (chart_of wiring.now) (pairs wiring.now words.new)) }

@@ -78,13 +78,13 @@ list_of_races chart order exact pairs is = record {
   ascending = (order, exact, is);
   races = λ e f. (
     λ race.
-      let p = before_parts chart.events e f race.0 in
-      let not_held = by_test (orders order e f) (λ holds. absurd (race.1 (exact.holds e f p.0 p.1 holds))) (λ none. none) in
-      subst (λ (l : List (ℕ × ℕ)). Occurs l (e, f)) (sym is) (of_from (is_raced chart.events order) (length chart.events) e f p.0 p.1 (rw (race.0, not_held) refl)),
+        let p = before_parts chart.events e f race.0 in
+        let not_held = by_test (orders order e f) (λ holds. absurd (race.1 (exact.holds e f p.0 p.1 holds))) (λ none. none) in
+        subst (λ (l : List (ℕ × ℕ)). Occurs l (e, f)) (sym is) (of_from (is_raced chart.events order) (length chart.events) e f p.0 p.1 (rw (race.0, not_held) refl)),
     λ there.
-      let p = of_parts (is_raced chart.events order) (length chart.events) e f (subst (λ (l : List (ℕ × ℕ)). Occurs l (e, f)) is there) in
-      let both = and_parts (before chart.events e f) (not (orders order e f)) p.2 in
-      (both.0, λ enforced. clash (exact.complete e f enforced) (not-true (orders order e f) both.1)),
+        let p = of_parts (is_raced chart.events order) (length chart.events) e f (subst (λ (l : List (ℕ × ℕ)). Occurs l (e, f)) is there) in
+        let both = and_parts (before chart.events e f) (not (orders order e f)) p.2 in
+        (both.0, λ enforced. clash (exact.complete e f enforced) (not-true (orders order e f) both.1)),
   );
 }
 

@@ -133,7 +133,7 @@ module _ (test : ℕ → ℕ → Bool) where
       (elim (cases_eq f k) [
         | inl same ↦
             let last : Occurs {T = ℕ × ℕ} (cond (test e k) ((e, k) ∷ []) []) (e, f) =
-                subst (λ (b : Bool). Occurs {T = ℕ × ℕ} (cond b ((e, k) ∷ []) []) (e, f)) (sym (subst (λ (z : ℕ). test e z ≡ true) same h)) (zero, ap (λ (z : ℕ). Some (e, z)) (sym same)) in
+            subst (λ (b : Bool). Occurs {T = ℕ × ℕ} (cond b ((e, k) ∷ []) []) (e, f)) (sym (subst (λ (z : ℕ). test e z ≡ true) same h)) (zero, ap (λ (z : ℕ). Some (e, z)) (sym same)) in
             in_right (pairs_to test e k) (cond (test e k) ((e, k) ∷ []) []) (e, f) last
         | inr other ↦ in_left (pairs_to test e k) (cond (test e k) ((e, k) ∷ []) []) (e, f) (to_from e k f (omega (arith, below, other)) h)
       ])

@@ -30,7 +30,13 @@ fn past_ones(row: &[u64], f: u32) -> u32
 }
 
 /// Appends the pairs of `e` with the numbers from `start` up to `end` whose bit is 0.
-fn push_gaps(list: &mut Vec<(Event, Event)>, row: &[u64], e: Event, start: u32, end: u32) -> Result<(), AllocError>
+fn push_gaps(
+    list: &mut Vec<(Event, Event)>,
+    row: &[u64],
+    e: Event,
+    start: u32,
+    end: u32,
+) -> Result<(), AllocError>
     requires reach { end ≤ 64 * length row.now }
     requires few { 64 * length row.now < 4294967232 }
     ensures { OnOk result (list.new.items ≡ list.old.items ++ pairs_to (is_gap row.now start) e end) }
@@ -57,7 +63,11 @@ fn segment_end(chart: &Chart, e: Event, known: Event) -> Event
     requires known { e < known → IsSegmentEnd chart.now.events e known }
     ensures { IsSegmentEnd chart.now.events e result }
 {
-    if e < known { known } else { chart.segment_end(e) }
+    if e < known {
+        known
+    } else {
+        chart.segment_end(e)
+    }
 }
 
 /// The number past the line of `e`, which `known` is if it is past `e`.

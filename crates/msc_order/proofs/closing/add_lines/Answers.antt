@@ -22,12 +22,16 @@ loop-f-preserved c =
       others = λ x y other. put x y ∙ row_others now e f wanted x y other ∙ c.loop-f.invariant.others x y other;
       kept = λ x y h. put x y ∙ row_kept now e f wanted x y (c.loop-f.invariant.kept x y h);
       taken = taken_more events c.args.inputs c.next_segment-start.result.0 e f test now last wanted (λ same. omega (arith, same, later)) c.leads.ensures put
-        c.loop-f.invariant.others c.loop-f.invariant.taken;
+          c.loop-f.invariant.others c.loop-f.invariant.taken;
     }
 
 pub returns-clause-next : goal.returns-clause-next
 returns-clause-next c = record {
   kept = c.loop-f.invariant.kept;
-  next = (c.next_segment-start.result.0, c.next_segment-start.result.1, c.next_segment-start.ensures,
-    λ f low high. c.loop-f.invariant.taken f low (omega (arith, high, c.loop-f-test.false)));
+  next = (
+    c.next_segment-start.result.0,
+    c.next_segment-start.result.1,
+    c.next_segment-start.ensures,
+    λ f low high. c.loop-f.invariant.taken f low (omega (arith, high, c.loop-f-test.false)),
+  );
 }

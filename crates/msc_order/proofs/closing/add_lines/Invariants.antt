@@ -10,6 +10,6 @@ invariant-loop-f l = record {
   others : KeepsOthers l.e (cell (length l.chart.events) l.initial.words) (cell (length l.chart.events) l.words);
   kept : Keeps (cell (length l.chart.events) l.initial.words) (cell (length l.chart.events) l.words);
   taken : (g : ℕ) → l.start ≤ g → g < l.f
-    → ((l.inputs || is_output l.chart.events g) ≡ true → cell (length l.chart.events) l.words l.e g ≡ true)
-    × ((y : ℕ) → cell (length l.chart.events) l.initial.words g y ≡ true → cell (length l.chart.events) l.words l.e y ≡ true)
+      → ((l.inputs || is_output l.chart.events g) ≡ true → cell (length l.chart.events) l.words l.e g ≡ true)
+      × ((y : ℕ) → cell (length l.chart.events) l.initial.words g y ≡ true → cell (length l.chart.events) l.words l.e y ≡ true);
 }

@@ -45,6 +45,6 @@ returns c =
     record {
       sound = c.loop-done.invariant.sound;
       complete = λ x y h.
-        c.loop-done.invariant.rows x (led_below events c.args.inputs c.events-accepted.ensures.accepted.matched x y h).0
-        (subst (λ (k : ℕ). IsBehind order k x) (sym none) (nothing_behind order x)) y h;
+          c.loop-done.invariant.rows x (led_below events c.args.inputs c.events-accepted.ensures.accepted.matched x y h).0
+          (subst (λ (k : ℕ). IsBehind order k x) (sym none) (nothing_behind order x)) y h;
     }

@@ -7,5 +7,5 @@ abbrev pub invariant-loop-done : goal.invariant-loop-done
 invariant-loop-done l = record {
   sound : IsSound (Led l.chart.events l.inputs) (cell (length l.chart.events) l.words);
   rows : (x : ℕ) → x < length l.chart.events → IsBehind l.order (length l.order - l.done) x
-    → HasRowOf (Led l.chart.events l.inputs) (cell (length l.chart.events) l.words) x
+      → HasRowOf (Led l.chart.events l.inputs) (cell (length l.chart.events) l.words) x;
 }

@@ -53,24 +53,24 @@ loop-done-preserved c =
     let same : i + 1 ≡ length order - c.loop-done.done = omega arith in
     let next : length order - (c.loop-done.done + 1) ≡ i = omega arith in
     let stood : (d : ℕ) → IsBehind order (length order - (c.loop-done.done + 1)) d → (d ≡ get_or order i 0 → ⊥) → IsBehind order (length order - c.loop-done.done) d = λ d after other.
-        subst (λ (k : ℕ). IsBehind order k d) same (behind_cases events order c.linear_order-order.ensures i (omega arith) d (subst (λ (k : ℕ). IsBehind order k d) next after) other) in
+    subst (λ (k : ℕ). IsBehind order k d) same (behind_cases events order c.linear_order-order.ensures i (omega arith) d (subst (λ (k : ℕ). IsBehind order k d) next after) other) in
     elim c.if-is_output.branch [
       | then-is_output t ↦ rw (t.words-is, t.masks-is) (record {
-          between = t.add_queue_of.ensures.between;
-          shown = t.add_queue_of.ensures.seen;
-          behind = λ d o after. elim (cases_eq d (get_or order i 0)) [
-            | inl here ↦ subst (λ (z : ℕ). pairs w t.add_queue_of.new.masks (queue (chart_of w) z) z ≡ true) (sym here) t.add_queue_of.ensures.own
-            | inr other ↦ t.add_queue_of.ensures.kept _ _ (c.loop-done.invariant.behind d o (stood d after other))
-          ];
-        })
+        between = t.add_queue_of.ensures.between;
+        shown = t.add_queue_of.ensures.seen;
+        behind = λ d o after. elim (cases_eq d (get_or order i 0)) [
+          | inl here ↦ subst (λ (z : ℕ). pairs w t.add_queue_of.new.masks (queue (chart_of w) z) z ≡ true) (sym here) t.add_queue_of.ensures.own
+          | inr other ↦ t.add_queue_of.ensures.kept _ _ (c.loop-done.invariant.behind d o (stood d after other))
+        ];
+      })
       | else-is_output t ↦ rw (t.words-is, t.masks-is) (record {
-          between = c.loop-done.invariant.between;
-          shown = c.loop-done.invariant.shown;
-          behind = λ d o after. elim (cases_eq d (get_or order i 0)) [
-            | inl here ↦ clash (subst (λ (z : ℕ). is_output events z ≡ true) here o) (sym c.is_output.ensures ∙ t.if-is_output.false)
-            | inr other ↦ c.loop-done.invariant.behind d o (stood d after other)
-          ];
-        })
+        between = c.loop-done.invariant.between;
+        shown = c.loop-done.invariant.shown;
+        behind = λ d o after. elim (cases_eq d (get_or order i 0)) [
+          | inl here ↦ clash (subst (λ (z : ℕ). is_output events z ≡ true) here o) (sym c.is_output.ensures ∙ t.if-is_output.false)
+          | inr other ↦ c.loop-done.invariant.behind d o (stood d after other)
+        ];
+      })
     ]
 
 pub returns-clause-enforced : goal.returns-clause-enforced

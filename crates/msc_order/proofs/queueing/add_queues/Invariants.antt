@@ -10,5 +10,5 @@ invariant-loop-done l = record {
   between : IsBetween (chart_of l.wiring) (pairs l.wiring l.words);
   shown : HasSeen (chart_of l.wiring) (pairs l.wiring l.words) (pairs l.wiring l.masks);
   behind : (c : ℕ) → is_output l.wiring.chart.now.events c ≡ true → IsBehind l.order (length l.order - l.done) c
-    → pairs l.wiring l.masks (queue (chart_of l.wiring) c) c ≡ true
+      → pairs l.wiring l.masks (queue (chart_of l.wiring) c) c ≡ true;
 }

@@ -10,7 +10,7 @@ returns-clause-queue c =
     let count = c.loop-k.auto.left ∙ c.requires.row in
     left_none (chart_of w) (pairs w c.loop-k.words) c.args.s (picks w c.loop-k.left) c.loop-k.invariant.left
     (λ d h.
-      let low = c.loop-k.invariant.above d h in
-      let high = marked_below (size w) c.loop-k.left d h in
-      let out = c.loop-k-test.false in
-      omega (arith, low, high, out, count))
+    let low = c.loop-k.invariant.above d h in
+    let high = marked_below (size w) c.loop-k.left d h in
+    let out = c.loop-k-test.false in
+    omega (arith, low, high, out, count))

@@ -8,6 +8,5 @@ invariant-loop-k l = record {
   between : IsBetween (chart_of l.wiring) (pairs l.wiring l.words);
   kept : Keeps (pairs l.wiring l.initial.words) (pairs l.wiring l.words);
   left : IsLeft (chart_of l.wiring) (pairs l.wiring l.words) l.s (picks l.wiring l.left);
-  above : IsAbove (64 * l.k) (picks l.wiring l.left)
+  above : IsAbove (64 * l.k) (picks l.wiring l.left);
 }
-

@@ -23,7 +23,7 @@ take_in-requires-clause-row c =
     let events = c.args.wiring.now.chart.now.events in
     rw (c.events-events.ensures.number, c.partner-input.ensures)
     (row_fits n c.loop-left.words n (partner events c.args.s) (c.loop-left.auto.words ∙ c.requires.square)
-      (c.events-events.ensures.accepted.matched.in_range c.args.s (output_parts events c.args.s c.requires.output).0))
+    (c.events-events.ensures.accepted.matched.in_range c.args.s (output_parts events c.args.s c.requires.output).0))
 
 pub take_in-requires-clause-other : goal.take_in-requires-clause-other
 take_in-requires-clause-other c =
@@ -31,7 +31,7 @@ take_in-requires-clause-other c =
     let events = c.args.wiring.now.chart.now.events in
     rw (c.events-events.ensures.number, c.partner.ensures)
     (row_fits n c.loop-left.words n (partner events c.lowest-c.result) (c.loop-left.auto.words ∙ c.requires.square)
-      (c.events-events.ensures.accepted.matched.in_range c.lowest-c.result (rw c.events-events.ensures.number at c.lowest-c.ensures.known)))
+    (c.events-events.ensures.accepted.matched.in_range c.lowest-c.result (rw c.events-events.ensures.number at c.lowest-c.ensures.known)))
 
 pub take_in-requires-clause-column : goal.take_in-requires-clause-column
 take_in-requires-clause-column c =
@@ -71,10 +71,10 @@ loop-left-preserved c =
     record {
       between = taken_between (chart_of w) wires test now r u c.loop-left.invariant.between pair take;
       kept = keeps_trans (chart_of w) (pairs w c.args.words.now) test now c.loop-left.invariant.kept
-        (taken_kept (chart_of w) wires test now r u c.loop-left.invariant.between pair take);
+          (taken_kept (chart_of w) wires test now r u c.loop-left.invariant.between pair take);
       left = left_next (chart_of w) test now c.args.s c.lowest-c.result left less c.loop-left.invariant.between c.loop-left.invariant.left there take drop;
       above = λ d h. c.loop-left.invariant.above d
-        (left_less (chart_of w) test now c.args.s c.lowest-c.result left less c.loop-left.invariant.between c.loop-left.invariant.left there take drop d h);
+          (left_less (chart_of w) test now c.args.s c.lowest-c.result left less c.loop-left.invariant.between c.loop-left.invariant.left there take drop d h);
     }
 
 pub returns-clause-above : goal.returns-clause-above

@@ -16,7 +16,7 @@ pub returns-then-is_empty-clause-runs : goal.returns-then-is_empty-clause-runs
 returns-then-is_empty-clause-runs c =
     (c.races_are_what_runs_reverse.ensures.none c.args.queues c.args.chart.now c.events-accepted.ensures.accepted).0
     (no_races (wired c.args.queues c.args.chart.now) _
-      (list_of_races (wired c.args.queues c.args.chart.now) _ c.in_ok-order.ensures.enforced c.in_ok-list.list.items c.in_ok-list.ensures)
+    (list_of_races (wired c.args.queues c.args.chart.now) _ c.in_ok-order.ensures.enforced c.in_ok-list.list.items c.in_ok-list.ensures)
     (nil_from_length c.in_ok-list.list.items (sym c.in_ok-list.list.ok.0 ∙ eqb-true (vec_len c.in_ok-list.list) 0 (sym c.is_empty.ensures ∙ c.if-is_empty.true))))
 
 pub returns-clause-verdict : goal.returns-clause-verdict

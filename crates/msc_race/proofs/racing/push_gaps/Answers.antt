@@ -9,7 +9,7 @@ pub loop-f-init : goal.loop-f-init
 loop-f-init c =
     let gap = is_gap c.args.row.now c.args.start in
     let none = pairs_between gap c.args.e 0 (min c.args.start c.args.end) (omega arith)
-        (λ y low high. gap_below c.args.row.now c.args.start c.args.e y (omega (arith, high))) ∙ pairs_none gap c.args.e in
+    (λ y low high. gap_below c.args.row.now c.args.start c.args.e y (omega (arith, high))) ∙ pairs_none gap c.args.e in
     record {
       from = omega arith;
       list = sym (ap (λ (l : List (ℕ × ℕ)). c.args.list.now.items ++ l) none ∙ append-nil c.args.list.now.items);
@@ -22,7 +22,7 @@ returns-then-gap-end c =
     let here : min c.loop-f.f c.args.end ≡ c.loop-f.f = omega (arith, below) in
     let past = c.if-gap-end.true in
     let same = pairs_between gap c.args.e c.loop-f.f c.args.end (omega (arith, below))
-        (λ y low high. gap_one c.args.row.now c.args.start c.args.e y (c.past_ones-gap.ensures.ones y low (omega (arith, high, past)))) in
+    (λ y low high. gap_one c.args.row.now c.args.start c.args.e y (c.past_ones-gap.ensures.ones y low (omega (arith, high, past)))) in
     c.loop-f.invariant.list ∙ ap (λ (l : List (ℕ × ℕ)). c.args.list.now.items ++ l) (ap (λ (k : ℕ). pairs_to gap c.args.e k) here ∙ sym same)
 
 pub loop-f-preserved-then-gap-f : goal.loop-f-preserved-then-gap-f
@@ -40,12 +40,12 @@ loop-f-preserved-then-gap-f c =
     let zero = c.past_ones-gap.ensures.zero (omega (arith, word)) in
     let more = pairs_more gap c.args.e g (gap_zero c.args.row.now c.args.start c.args.e g (omega (arith, start, low)) zero) in
     let before : c.loop-f.list.items ≡ c.args.list.now.items ++ pairs_to gap c.args.e g =
-        c.loop-f.invariant.list ∙ ap (λ (l : List (ℕ × ℕ)). c.args.list.now.items ++ l) (ap (λ (k : ℕ). pairs_to gap c.args.e k) here ∙ sym same) in
+    c.loop-f.invariant.list ∙ ap (λ (l : List (ℕ × ℕ)). c.args.list.now.items ++ l) (ap (λ (k : ℕ). pairs_to gap c.args.e k) here ∙ sym same) in
     record {
       from = omega (arith, start, low);
       list = c.in_ok-push.ensures.items ∙ ap (λ (l : List (ℕ × ℕ)). l ++ (c.args.e, g) ∷ []) before
-        ∙ append_assoc c.args.list.now.items (pairs_to gap c.args.e g) ((c.args.e, g) ∷ [])
-        ∙ ap (λ (l : List (ℕ × ℕ)). c.args.list.now.items ++ l) (sym more ∙ ap (λ (k : ℕ). pairs_to gap c.args.e k) (sym there));
+          ∙ append_assoc c.args.list.now.items (pairs_to gap c.args.e g) ((c.args.e, g) ∷ [])
+          ∙ ap (λ (l : List (ℕ × ℕ)). c.args.list.now.items ++ l) (sym more ∙ ap (λ (k : ℕ). pairs_to gap c.args.e k) (sym there));
     }
 
 pub loop-f-preserved : goal.loop-f-preserved
@@ -62,5 +62,5 @@ loop-f-preserved c =
     record {
       from = omega (arith, start, low);
       list = c.loop-f.invariant.list ∙ ap (λ (l : List (ℕ × ℕ)). c.args.list.now.items ++ l)
-        (ap (λ (k : ℕ). pairs_to gap c.args.e k) here ∙ sym same ∙ ap (λ (k : ℕ). pairs_to gap c.args.e k) (sym there));
+          (ap (λ (k : ℕ). pairs_to gap c.args.e k) here ∙ sym same ∙ ap (λ (k : ℕ). pairs_to gap c.args.e k) (sym there));
     }

@@ -42,7 +42,7 @@ loop-e-preserved c =
     let whole = pairs_between raced e end n c.line_end-end.ensures.within (λ y low high. none_past events text e start end c.segment_end-start.ensures c.line_end-end.ensures order y low) in
     record {
       list = c.in_ok-push_gaps.ensures ∙ ap (λ (l : List (ℕ × ℕ)). l ++ pairs_to (is_gap c.row.result.now start) e end) c.loop-e.invariant.list
-        ∙ ap (λ (l : List (ℕ × ℕ)). pairs_below raced n e ++ l) (short ∙ sym whole) ∙ sym (below_more raced n e);
+          ∙ ap (λ (l : List (ℕ × ℕ)). pairs_below raced n e ++ l) (short ∙ sym whole) ∙ sym (below_more raced n e);
       segment = segment_goes_on events e start c.segment_end-start.ensures;
       line = line_goes_on events e end c.line_end-end.ensures;
     }

@@ -8,5 +8,5 @@ abbrev pub invariant-loop-e : goal.invariant-loop-e
 invariant-loop-e l = record {
   list : l.list.items ≡ pairs_below (is_raced l.chart.events l.order) (length l.chart.events) l.e;
   segment : l.e < l.start → IsSegmentEnd l.chart.events l.e l.start;
-  line : l.e < l.end → IsLineEnd l.chart.events l.e l.end
+  line : l.e < l.end → IsLineEnd l.chart.events l.e l.end;
 }

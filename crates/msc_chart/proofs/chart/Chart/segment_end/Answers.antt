@@ -12,5 +12,5 @@ returns-then-not-share_segment c =
       within = omega (arith, below, count);
       together = c.loop-f.invariant;
       past = segment_past c.args.self.now.events c.events-events.ensures.accepted.in_text_order c.args.e c.loop-f.f (omega arith) (omega (arith, below, count))
-        (λ both. clash (c.share_segment.ensures.1 both) c.if-not-share_segment.true);
+          (λ both. clash (c.share_segment.ensures.1 both) c.if-not-share_segment.true);
     }
