@@ -1,5 +1,5 @@
 -- What writing a verdict and its races answers.
-use Rattle.std.proofs.Common.{◌≡◌, ◌≢◌, ◌⊎◌, ℕ, ◌<◌, ◌≤◌, min, Bool, List, [], length, take, Option, None, Some, ◌∙◌, Result, Ok, Err, subst, ap, refl, sym, inl, inr, arith}
+use Rattle.std.proofs.Common.{◌≡◌, ◌≢◌, ◌⊎◌, ℕ, ◌<◌, min, Bool, List, [], length, take, Option, None, Some, ◌∙◌, Result, Ok, Err, subst, ap, refl, sym, inl, inr, arith}
 use Rattle.std.specs.Prelude.{IfOk, IfErr, IfSome}
 use Rattle.std.proofs.lemmas.List.{take_all, length-take}
 use Rattle.std.proofs.lemmas.Bool.{cases_lt}
@@ -7,9 +7,8 @@ use Rattle.msc_chart.specs.declared.fault.ChartFault.{ChartFault}
 use Rattle.msc_chart.specs.declared.queue.Queues.{Queues}
 use Rattle.msc_chart.specs.Chosen.{IsChosenRun}
 use Rattle.msc_chart.specs.Drawings.{Drawing, IsAccepted, chart_of}
-use Rattle.msc_chart.specs.Faults.{Occurs, IsFaultless}
+use Rattle.msc_chart.specs.Faults.{IsFaultless}
 use Rattle.msc_chart.specs.Orders.{wired}
-use Rattle.msc_chart.specs.Runs.{Run, IsWhole, Reverses}
 use Rattle.msc_parser.specs.declared.fault.ParseFault.{ParseFault}
 use Rattle.msc_parser.specs.Grammar.{Tree}
 use Rattle.msc_parser.specs.Parsing.{HasDraft}
@@ -20,7 +19,7 @@ use Rattle.msc_race.specs.Races.{IsVerdict, TellsRuns}
 use Rattle.msc_report.specs.declared.fault.Fault.{Fault}
 use Rattle.msc_report.specs.declared.fault.Fault.TheVariants.{Parse, Chart, Memory, Device}
 use Rattle.msc_tool.proofs.Races.{pair_events}
-use Rattle.msc_tool.specs.Checking.{passes, checked_text, races_of, AreChosen, PrintsVerdict, ShowsRaces, Prints, WritesVerdict, BeginsVerdict, Writes}
+use Rattle.msc_tool.specs.Checking.{passes, checked_text, AreChosen, PrintsVerdict, ShowsRaces, Prints, WritesVerdict, BeginsVerdict, Writes}
 
 -- writing refuses no text
 pub writes_no_parse : (r : Result Bool Fault) (before after : Option (List ℕ)) (text : List ℕ) → Writes r before after text → (f : ParseFault) → r ≢ Err (Parse f)
@@ -73,10 +72,9 @@ pub prints_verdict : (r : Result Bool Fault) (before after : Option (List ℕ)) 
     → ((runs : ℕ → List ℕ) → AreChosen (wired queues d) runs → Writes r before after (checked_text d queues runs show v))
     → (printed : List ℕ) × PrintsVerdict d queues show v printed × Writes r before after printed
 prints_verdict r before after queues d show v accepted said exists whole reverses wrote =
-    let runs = chosen_runs queues d accepted exists in
-    (
+    let runs = chosen_runs queues d accepted exists in (
       checked_text d queues runs.0 show v,
-      record { runs = runs.0; chosen = runs.1; reverse = shows_races queues d runs.0 v runs.1 said whole reverses; text = refl; },
+      record { runs = runs.0; chosen = runs.1; reverse = shows_races queues d runs.0 v runs.1 said whole reverses; text = refl },
       wrote runs.0 runs.1,
     )
 

@@ -1,9 +1,12 @@
-use Rattle.std.proofs.Common.{ℕ, List, Bool, Unit}
+use Rattle.std.proofs.Common.{ℕ, List, Bool, Ok, subst}
+use Rattle.std.specs.Io.KnownBytes.{Appends}
 use Rattle.std.proofs.lemmas.Result.{err_from_is_err_and}
 use Rattle.msc_report.proofs.KnownBytes.{Appends-append}
+use Rattle.msc_report.specs.Verdicts.{verdict_text}
 use Rattle.msc_tool.proofs.Answered.{prints_verdict}
 use Rattle.msc_tool.proofs.Races.{verdict_events}
 use Rattle.msc_tool.proofs.Shown.{writes_on}
+use Rattle.msc_tool.specs.Checking.{races_of, races_text}
 use Rattle.msc_tool.proofs.checking.write_checked.Goals as goal
 
 pub write_races-requires-clause-known : goal.write_races-requires-clause-known
@@ -13,8 +16,9 @@ write_races-requires-clause-known g c =
 pub returns-in_err-write_verdict-clause-written : goal.returns-in_err-write_verdict-clause-written
 returns-in_err-write_verdict-clause-written g c =
     let law = c.the_chosen_run_reverses.ensures in
+    let exit = err_from_is_err_and c.from_residual.result c.from_residual.ensures.1 in
     prints_verdict _ _ _ c.args.queues c.args.chart.now c.args.show c.args.verdict.now c.events-accepted.ensures.accepted c.requires.verdict law.exists law.whole law.races
-    (λ runs chosen. ?)
+    (λ runs chosen. rw (exit.1, exit.2) tt)
 
 pub returns-in_err-write_races-clause-written : goal.returns-in_err-write_races-clause-written
 returns-in_err-write_races-clause-written g c =
@@ -27,6 +31,8 @@ returns-in_err-write_races-clause-written g c =
 pub returns-clause-written : goal.returns-clause-written
 returns-clause-written g c =
     let law = c.the_chosen_run_reverses.ensures in
-    prints_verdict _ _ _ c.args.queues c.args.chart.now c.args.show c.args.verdict.now c.events-accepted.ensures.accepted c.requires.verdict law.exists law.whole law.races
+    prints_verdict (Ok c.passes.result) (g.W.Write.contents c.args.writer.now) (g.W.Write.contents c.write_races.new.writer) c.args.queues c.args.chart.now c.args.show c.args.verdict.now c.events-accepted.ensures.accepted c.requires.verdict law.exists law.whole law.races
     (λ runs chosen.
-    Appends-append _ _ _ _ _ c.in_ok-write_verdict.ensures (rw (← c.races_of.ensures) (c.in_ok-write_races.ensures runs chosen)))
+    Appends-append _ _ _ (verdict_text c.args.chart.now c.args.queues c.args.verdict.now) (races_text c.args.chart.now runs c.args.show (races_of c.args.verdict.now))
+    c.in_ok-write_verdict.ensures (subst (λ (races : List (ℕ × ℕ)). Appends (g.W.Write.contents c.write_verdict.new.writer) (g.W.Write.contents c.write_races.new.writer) (races_text c.args.chart.now runs c.args.show races))
+    c.races_of.ensures (c.in_ok-write_races.ensures runs chosen)))

@@ -1,4 +1,4 @@
-use Rattle.std.proofs.Common.{Err, ℕ, List, sym, ap, ◌∙◌, subst, take, drop}
+use Rattle.std.proofs.Common.{Err, ℕ, List, ap, ◌∙◌, subst, take, drop}
 use Rattle.std.proofs.lemmas.List.{take_min}
 use Rattle.std.proofs.lemmas.Result.{err_from_is_err_and}
 use Rattle.msc_tool.proofs.Shown.{writes_longer}
