@@ -2,7 +2,6 @@
 
 ghost use Rattle.std.specs.Prelude.{◌≡◌, ℕ, ◌<◌, List, Some, IfOk, OnOk, length};
 ghost use Rattle.std.specs.Io.KnownBytes.{Appends};
-ghost use Rattle.msc_chart.specs.Chosen.{IsChosenRun};
 ghost use Rattle.msc_chart.specs.Orders.{wired, IsEnforcedOrder};
 ghost use Rattle.msc_order.specs.Tables.{orders};
 ghost use Rattle.msc_report.specs.Verdicts.{run_line};

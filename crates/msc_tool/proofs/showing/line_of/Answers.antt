@@ -1,5 +1,4 @@
-use Rattle.std.proofs.Common.{ℕ, List, ap, ◌∙◌}
-use Rattle.std.proofs.Common.{Some}
+use Rattle.std.proofs.Common.{ℕ, List, Some, ap, ◌∙◌}
 use Rattle.std.proofs.lemmas.Result.{IfOk-weaker}
 use Rattle.msc_report.specs.Verdicts.{run_line}
 use Rattle.msc_tool.proofs.showing.line_of.Goals as goal
