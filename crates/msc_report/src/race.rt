@@ -8,6 +8,7 @@ ghost use Rattle.msc_chart.specs.Charts.{line, message, partner};
 ghost use Rattle.msc_chart.specs.Drawings.{message_at};
 ghost use Rattle.msc_report.specs.Verdicts.{event_text, instance_text, message_text, number_text, race_events, race_place, race_text, run_line, spaced};
 
+use itoa::Buffer;
 use msc_chart::{Chart, Event, EventKind};
 use std::alloc::{AllocError, Global};
 use std::io;
@@ -108,8 +109,10 @@ fn write_numbers<W: Write>(writer: &mut W, numbers: &[u32]) -> io::Result<()>
     ensures { OnOk result (Appends (W.contents writer.old) (W.contents writer.new)
         (flat_map spaced numbers.now)) }
 {
+    let mut digits = Buffer::new();
     for number in numbers {
-        write!(writer, " {number}")?;
+        writer.write_all(b" ")?;
+        writer.write_all(digits.format(*number).as_bytes())?;
     }
     Ok(())
 }
