@@ -5,10 +5,12 @@
 //! that is reached takes in the rows of the next segment, and the rows of the others are begun as
 //! its row.
 
-ghost use Rattle.std.specs.Prelude.{◌≡◌, ℕ, ◌*◌, ◌<◌, ◌||◌, ◌&&◌, ◌↔◌, length, nat_eq, IsTrue, OnOk, false};
+ghost use Rattle.std.specs.Prelude.{◌≡◌, ℕ, ◌*◌, ◌<◌, ◌||◌, ◌&&◌, ◌↔◌, length, nat_eq};
+ghost use Rattle.std.specs.Prelude.{IsTrue, OnOk, false};
 ghost use Rattle.msc_chart.specs.Charts.{before, is_output, Visual};
 ghost use Rattle.msc_order.specs.Tables.{cell, stride, HasRow};
-ghost use Rattle.msc_order.specs.Causes.{pairs_of, AreBegun, HasRowOf, IsNextSegment, IsSound, IsTestOf, Keeps, KeepsOthers, Led, LedByLine};
+ghost use Rattle.msc_order.specs.Causes.{Led, LedByLine, IsNextSegment, IsSound, IsTestOf};
+ghost use Rattle.msc_order.specs.Causes.{pairs_of, AreBegun, HasRowOf, Keeps, KeepsOthers};
 
 use crate::segments::{is_output, next_segment, partner, share_segment};
 use crate::table::{blank, has, merge, put, take_in};
@@ -26,15 +28,18 @@ fn leads(chart: &Chart, inputs: bool, f: Event) -> bool
 /// The row of `e`, a blank one, takes in what the line leads to from `e`, where the events from
 /// `start` up to `end` are the next segment, and the rows of all that is drawn after `e` are made.
 fn add_lines(words: &mut [u64], chart: &Chart, inputs: bool, e: Event, start: Event, end: Event)
-    requires square { length words.old ≡ length chart.now.events * stride (length chart.now.events) }
+    requires square { length words.old
+        ≡ length chart.now.events * stride (length chart.now.events) }
     requires known { e < length chart.now.events }
     requires next { IsNextSegment chart.now.events e start end }
     requires sound { IsSound (Led chart.now.events inputs) (pairs_of chart.now.events words.old) }
     requires blank { (y : ℕ) → pairs_of chart.now.events words.old e y ≡ false }
     requires later { (f : ℕ) → IsTrue (before chart.now.events e f)
         → HasRowOf (Led chart.now.events inputs) (pairs_of chart.now.events words.old) f }
-    ensures others { KeepsOthers e (pairs_of chart.now.events words.old) (pairs_of chart.now.events words.new) }
-    ensures row { (y : ℕ) → IsTrue (pairs_of chart.now.events words.new e y) ↔ LedByLine chart.now.events inputs e y }
+    ensures others { KeepsOthers e (pairs_of chart.now.events words.old)
+        (pairs_of chart.now.events words.new) }
+    ensures row { (y : ℕ) → IsTrue (pairs_of chart.now.events words.new e y)
+        ↔ LedByLine chart.now.events inputs e y }
 {
     let events = chart.events();
     for f in start..end {
@@ -48,9 +53,12 @@ fn begin_as(words: &mut [u64], begun: &mut [u64], n: u32, e: Event, f: Event, mo
     requires other { HasRow n words.old e }
     requires marks { HasRow n begun.old 0 }
     requires column { f < n }
-    requires more { more ≡ false → (y : ℕ) → IsTrue (cell n words.old e y) → IsTrue (cell n words.old f y) }
-    ensures rows { (x y : ℕ) → cell n words.new x y ≡ (cell n words.old x y || (nat_eq x f && cell n words.old e y)) }
-    ensures begun { (x y : ℕ) → cell n begun.new x y ≡ (cell n begun.old x y || (nat_eq x 0 && nat_eq y f)) }
+    requires more { more ≡ false
+        → (y : ℕ) → IsTrue (cell n words.old e y) → IsTrue (cell n words.old f y) }
+    ensures rows { (x y : ℕ) → cell n words.new x y
+        ≡ (cell n words.old x y || (nat_eq x f && cell n words.old e y)) }
+    ensures begun { (x y : ℕ) → cell n begun.new x y
+        ≡ (cell n begun.old x y || (nat_eq x 0 && nat_eq y f)) }
 {
     if more {
         merge(words, n, f, e);
@@ -58,17 +66,19 @@ fn begin_as(words: &mut [u64], begun: &mut [u64], n: u32, e: Event, f: Event, mo
     put(begun, n, 0, f);
 }
 
-/// Begins the rows of the segment of `e`, unless they are begun, where the rows of all that is drawn
-/// after it are made.
+/// Begins the rows of the segment of `e`, unless they are begun, where the rows of all that is
+/// drawn after it are made.
 fn begin_segment(words: &mut [u64], begun: &mut [u64], chart: &Chart, inputs: bool, e: Event)
-    requires square { length words.old ≡ length chart.now.events * stride (length chart.now.events) }
+    requires square { length words.old
+        ≡ length chart.now.events * stride (length chart.now.events) }
     requires marks { HasRow (length chart.now.events) begun.old 0 }
     requires known { e < length chart.now.events }
     requires begun { AreBegun chart.now.events inputs words.old begun.old }
     requires later { (f : ℕ) → IsTrue (before chart.now.events e f)
         → HasRowOf (Led chart.now.events inputs) (pairs_of chart.now.events words.old) f }
     ensures begun { AreBegun chart.now.events inputs words.new begun.new }
-    ensures kept { Keeps (pairs_of chart.now.events words.old) (pairs_of chart.now.events words.new) }
+    ensures kept { Keeps (pairs_of chart.now.events words.old)
+        (pairs_of chart.now.events words.new) }
     ensures here { IsTrue (pairs_of chart.now.events begun.new 0 e) }
 {
     let events = chart.events();
@@ -89,14 +99,16 @@ fn begin_segment(words: &mut [u64], begun: &mut [u64], chart: &Chart, inputs: bo
 
 /// Makes the row of `e`, where the rows of all that comes after it are made.
 fn add_row(words: &mut [u64], begun: &mut [u64], chart: &Chart, inputs: bool, e: Event)
-    requires square { length words.old ≡ length chart.now.events * stride (length chart.now.events) }
+    requires square { length words.old
+        ≡ length chart.now.events * stride (length chart.now.events) }
     requires marks { HasRow (length chart.now.events) begun.old 0 }
     requires known { e < length chart.now.events }
     requires begun { AreBegun chart.now.events inputs words.old begun.old }
     requires later { (f : ℕ) → Visual chart.now.events e f
         → HasRowOf (Led chart.now.events inputs) (pairs_of chart.now.events words.old) f }
     ensures begun { AreBegun chart.now.events inputs words.new begun.new }
-    ensures kept { Keeps (pairs_of chart.now.events words.old) (pairs_of chart.now.events words.new) }
+    ensures kept { Keeps (pairs_of chart.now.events words.old)
+        (pairs_of chart.now.events words.new) }
     ensures row { HasRowOf (Led chart.now.events inputs) (pairs_of chart.now.events words.new) e }
 {
     let events = chart.events();
@@ -108,7 +120,8 @@ fn add_row(words: &mut [u64], begun: &mut [u64], chart: &Chart, inputs: bool, e:
 
 /// Makes all rows.
 fn add_rows(words: &mut [u64], begun: &mut [u64], chart: &Chart, inputs: bool)
-    requires square { length words.old ≡ length chart.now.events * stride (length chart.now.events) }
+    requires square { length words.old
+        ≡ length chart.now.events * stride (length chart.now.events) }
     requires marks { HasRow (length chart.now.events) begun.old 0 }
     requires begun { AreBegun chart.now.events inputs words.old begun.old }
     ensures { IsTestOf (Led chart.now.events inputs) (pairs_of chart.now.events words.new) }
@@ -129,9 +142,11 @@ pub fn close(
     chart: &Chart,
     inputs: bool,
 ) -> Result<(), AllocError>
-    requires square { length words.old ≡ length chart.now.events * stride (length chart.now.events) }
+    requires square { length words.old
+        ≡ length chart.now.events * stride (length chart.now.events) }
     requires blank { (x y : ℕ) → pairs_of chart.now.events words.old x y ≡ false }
-    ensures { OnOk result (IsTestOf (Led chart.now.events inputs) (pairs_of chart.now.events words.new)) }
+    ensures { OnOk result
+        (IsTestOf (Led chart.now.events inputs) (pairs_of chart.now.events words.new)) }
 {
     let mut begun = blank(alloc, 1, chart.events())?;
     add_rows(words, &mut begun, chart, inputs);
