@@ -114,10 +114,6 @@ module _ (events : List ChartEvent) (inputs : Bool) where
             (taken start (omega arith) n.0).1 y (later start drawn y (line_led start y after))
       ]
 
-  -- where no segment comes next, the line leads to nothing
-  pub none_led : (e start end : ℕ) → IsNextSegment events e start end → end ≤ start → (y : ℕ) → LedByLine events inputs e y → ⊥
-  none_led e start end segment none y l = let n = segment.next l.first l.drawn in omega (arith, none, n.0)
-
   -- a blank table is one of which no row is begun
   pub begun_none : (test : ℕ → ℕ → Bool) (begun : ℕ → Bool) → ((x y : ℕ) → test x y ≡ false) → ((x : ℕ) → begun x ≡ false) → IsBegun events inputs test begun
   begun_none test begun blank none = record {
