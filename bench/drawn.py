@@ -2,14 +2,18 @@
 import random
 
 
-def chart(lines, concurrent=False):
-    """The text of a chart; `lines` has for each instance its events (way, message, address)."""
+def chart(lines, coregions=0):
+    """The text of a chart; `lines` has for each instance its events (way, message, address), in so many
+    coregions of one size each, or in none."""
     text = "msc t;"
     for name, events in lines.items():
-        text += f"instance {name};" + "concurrent;" * concurrent
-        for way, message, address in events:
-            text += f"{way} m{message} {'to' if way == 'out' else 'from'} {address};"
-        text += "endconcurrent;" * concurrent + "endinstance;"
+        text += f"instance {name};"
+        texts = [f"{way} m{message} {'to' if way == 'out' else 'from'} {address};" for way, message, address in events]
+        for k in range(coregions):
+            segment = texts[k * len(texts) // coregions:(k + 1) * len(texts) // coregions]
+            text += "concurrent;" + "".join(segment) + "endconcurrent;"
+        text += "" if coregions else "".join(texts)
+        text += "endinstance;"
     return text + "endmsc;"
 
 
@@ -67,7 +71,16 @@ def coregions(messages):
     """All outputs in one coregion, all inputs in another, drawn in reverse."""
     lines = {"a": [("out", m, "b") for m in range(messages)]}
     lines["b"] = [("in", m, "a") for m in reversed(range(messages))]
-    return chart(lines, concurrent=True)
+    return chart(lines, coregions=1)
+
+
+def coregions_in_turn(messages):
+    """On one line a coregion of outputs and then one of inputs, on the other the inputs and then outputs
+    that answer."""
+    first, answers = range(messages // 2), range(messages // 2, messages)
+    lines = {"a": [("out", m, "b") for m in first] + [("in", m, "b") for m in reversed(answers)]}
+    lines["b"] = [("in", m, "a") for m in reversed(first)] + [("out", m, "a") for m in answers]
+    return chart(lines, coregions=2)
 
 
 def cycle(messages):

@@ -26,7 +26,9 @@ pub struct Event {
     /// The other end of its message.
     pub partner: usize,
     pub message: usize,
-    /// The number past its segment: the event alone, or the coregion that it is in.
+    /// The first number of its segment: the event alone, or the coregion that it is in.
+    pub segment_start: usize,
+    /// The number past its segment.
     pub segment_end: usize,
     /// The number past the events of its line.
     pub line_end: usize,
@@ -67,13 +69,15 @@ fn events<'a>(draft: &'a Draft, lines: &HashMap<&Name, usize>) -> Option<Vec<(Ev
     for (line, section) in draft.sections.iter().enumerate() {
         let line_end = events.len() + segments(section).map(<[Signal]>::len).sum::<usize>();
         for segment in segments(section) {
-            let segment_end = events.len() + segment.len();
+            let segment_start = events.len();
+            let segment_end = segment_start + segment.len();
             for signal in segment {
                 let event = Event {
                     way: signal.way,
                     line,
                     partner: 0,
                     message: 0,
+                    segment_start,
                     segment_end,
                     line_end,
                 };
@@ -170,6 +174,11 @@ impl Chart {
 
     pub fn is_output(&self, e: usize) -> bool {
         self.events[e].way == Way::Output
+    }
+
+    /// The events of the segment of `e`.
+    pub fn segment(&self, e: usize) -> Range<usize> {
+        self.events[e].segment_start..self.events[e].segment_end
     }
 
     /// The events of the next segment of the line of `e`.

@@ -39,16 +39,33 @@ impl Order {
         }
     }
 
+    /// Begins the rows of the segment of `e`, all blank, with what the line leads to.
+    fn begin_segment(&mut self, chart: &Chart, inputs: bool, e: usize) {
+        let next = chart.next_segment(e);
+        if next.is_empty() {
+            return;
+        }
+        for f in next {
+            self.take_in(e, f);
+            if inputs || chart.is_output(f) {
+                self.put(e, f);
+            }
+        }
+        for f in chart.segment(e).filter(|&f| f != e) {
+            let row = e * self.stride..(e + 1) * self.stride;
+            self.words.copy_within(row, f * self.stride);
+        }
+    }
+
     /// Closes blank rows under the rules of lines and messages, from the last event of a linear
     /// order back: what is drawn before an event comes before it, where `inputs` says so before
     /// each event, otherwise before each output; and an output comes before its input.
     fn close(&mut self, chart: &Chart, inputs: bool) {
+        let mut begun = vec![false; chart.events.len()];
         for &e in chart.order.iter().rev() {
-            for f in chart.next_segment(e) {
-                self.take_in(e, f);
-                if inputs || chart.is_output(f) {
-                    self.put(e, f);
-                }
+            if !begun[e] {
+                self.begin_segment(chart, inputs, e);
+                begun[chart.segment(e)].fill(true);
             }
             if chart.is_output(e) {
                 let input = chart.events[e].partner;

@@ -24,6 +24,7 @@ module _ (events : List ChartEvent) (text : IsInTextOrder events) where
   -- where nothing is drawn after its segment, no segment comes next
   pub none_next : (e start : ℕ) → IsSegmentEnd events e start → (start < length events → before events e start ≡ false) → IsNextSegment events e start start
   none_next e start s none = record {
+    rising = omega arith;
     within = s.within;
     drawn = λ f low high. absurd (omega (arith, low, high));
     next = λ y b.
@@ -44,6 +45,7 @@ module _ (events : List ChartEvent) (text : IsInTextOrder events) where
   is_next e start end s b t =
       let q = before_parts events e start b in
       record {
+        rising = let l = t.later in omega (arith, l);
         within = t.within;
         drawn = λ f low high.
             let g = t.together f low high in

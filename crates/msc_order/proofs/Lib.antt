@@ -4,6 +4,7 @@ pub mod Marks
 pub mod Drawing
 pub mod Wires
 pub mod Leading
+pub mod LineRows
 pub mod Once
 pub mod Between
 pub mod Seen

@@ -5,6 +5,7 @@ use Rattle.msc_chart.specs.declared.event.ChartEvent.{ChartEvent}
 use Rattle.msc_chart.specs.Lists.{occurs}
 use Rattle.msc_chart.specs.Charts.{partner, is_output, is_input, before}
 use Rattle.msc_chart.specs.Orders.{WiredChart, queue, Enforced}
+use Rattle.msc_order.specs.Tables.{cell}
 
 -- The least transitive relation that puts each output before its input, and what is drawn before an
 -- event before it: where `inputs` says so before each event, otherwise before each output.
@@ -17,8 +18,17 @@ pub data Led (events : List ChartEvent) (inputs : Bool) : ℕ → ℕ → Type 0
 abbrev pub Caused : List ChartEvent → ℕ → ℕ → Type 0
 Caused events = Led events false
 
+-- What the line of e leads to: an event that is drawn after e and led to, and what comes after such
+-- an event.
+pub record LedByLine (events : List ChartEvent) (inputs : Bool) (e y : ℕ) : Type 0 where
+  pub first : ℕ
+  pub drawn : IsTrue (before events e first)
+  pub led_to : IsTrue (inputs || is_output events first)
+  pub onward : (first ≡ y) ⊎ Led events inputs first y
+
 -- the numbers from start up to end are the events of the next segment after that of e on its line
 pub record IsNextSegment (events : List ChartEvent) (e start end : ℕ) : Type 0 where
+  pub rising : start ≤ end
   pub within : end ≤ length events
   pub drawn : (f : ℕ) → start ≤ f → f < end → IsTrue (before events e f)
   pub next : (y : ℕ) → IsTrue (before events e y)
@@ -45,12 +55,20 @@ Keeps old new = (x y : ℕ) → IsTrue (old x y) → IsTrue (new x y)
 abbrev pub KeepsOthers : ℕ → (ℕ → ℕ → Bool) → (ℕ → ℕ → Bool) → Type 0
 KeepsOthers e old new = (x y : ℕ) → x ≢ e → new x y ≡ old x y
 
--- row e has what the next segment of its line leads to, as the rows of that segment tell, and it has
--- kept what it had
-pub record HasNextRows (events : List ChartEvent) (inputs : Bool) (old new : ℕ → ℕ → Bool) (e : ℕ) : Type 0 where
-  pub kept : Keeps old new
-  pub next : (start end : ℕ) × IsNextSegment events e start end × ((f : ℕ) → start ≤ f → f < end
-      → (IsTrue (inputs || is_output events f) → IsTrue (new e f)) × ((y : ℕ) → IsTrue (old f y) → IsTrue (new e y)))
+-- A test while it is closed, row by row: it holds only pairs that are led to. A row that is begun has
+-- all that the line of its event leads to, and no other has anything.
+pub record IsBegun (events : List ChartEvent) (inputs : Bool) (test : ℕ → ℕ → Bool) (begun : ℕ → Bool) : Type 0 where
+  pub sound : IsSound (Led events inputs) test
+  pub lines : (x : ℕ) → IsTrue (begun x) → HasRowOf (LedByLine events inputs) test x
+  pub blank : (x y : ℕ) → begun x ≡ false → test x y ≡ false
+
+-- the pairs of events that rows of words hold
+abbrev pub pairs_of : List ChartEvent → List ℕ → ℕ → ℕ → Bool
+pairs_of events words = cell (length events) words
+
+-- the same of rows of words and of one row of marks
+abbrev pub AreBegun : List ChartEvent → Bool → List ℕ → List ℕ → Type 0
+AreBegun events inputs words begun = IsBegun events inputs (pairs_of events words) (pairs_of events begun 0)
 
 -- event x does not stand among the first k of the order
 abbrev pub IsBehind : List ℕ → ℕ → ℕ → Type 0

@@ -1,14 +1,21 @@
 //! Closing a table under the rules of lines and messages: row by row, in the reverse of a linear
 //! order of the events, so that each row is made of rows that are finished.
+//!
+//! What a line leads to from an event is the same for all events of a segment. So the first of them
+//! that is reached takes in the rows of the next segment, and the rows of the others are begun as
+//! its row.
 
-ghost use Rattle.std.specs.Prelude.{◌≡◌, ℕ, ◌*◌, ◌<◌, ◌≤◌, ◌||◌, length, IsTrue, false};
-ghost use Rattle.msc_chart.specs.Charts.{is_output, Visual};
-ghost use Rattle.msc_order.specs.Tables.{cell, stride};
-ghost use Rattle.msc_order.specs.Causes.{Led, IsSound, HasRowOf, IsTestOf, IsNextSegment, HasNextRows, KeepsOthers};
+ghost use Rattle.std.specs.Prelude.{◌≡◌, ℕ, ◌*◌, ◌<◌, ◌||◌, ◌&&◌, ◌↔◌, length, nat_eq};
+ghost use Rattle.std.specs.Prelude.{IsTrue, OnOk, false};
+ghost use Rattle.msc_chart.specs.Charts.{before, is_output, Visual};
+ghost use Rattle.msc_order.specs.Tables.{cell, stride, HasRow};
+ghost use Rattle.msc_order.specs.Causes.{Led, LedByLine, IsNextSegment, IsSound, IsTestOf};
+ghost use Rattle.msc_order.specs.Causes.{pairs_of, AreBegun, HasRowOf, Keeps, KeepsOthers};
 
-use crate::segments::{is_output, next_segment, partner};
-use crate::table::take_in;
+use crate::segments::{is_output, next_segment, partner, share_segment};
+use crate::table::{blank, has, merge, put, take_in};
 use msc_chart::{Chart, Event};
+use std::alloc::{AllocError, Global};
 
 /// Whether what is drawn before `f` leads to it.
 fn leads(chart: &Chart, inputs: bool, f: Event) -> bool
@@ -18,50 +25,130 @@ fn leads(chart: &Chart, inputs: bool, f: Event) -> bool
     inputs || is_output(chart, f)
 }
 
-/// Adds what the next segment of the line of `e` leads to.
-fn add_lines(words: &mut [u64], chart: &Chart, inputs: bool, e: Event)
-    requires square { length words.old ≡ length chart.now.events * stride (length chart.now.events) }
+/// The row of `e`, a blank one, takes in what the line leads to from `e`, where the events from
+/// `start` up to `end` are the next segment, and the rows of all that is drawn after `e` are made.
+fn add_lines(words: &mut [u64], chart: &Chart, inputs: bool, e: Event, start: Event, end: Event)
+    requires square { length words.old
+        ≡ length chart.now.events * stride (length chart.now.events) }
     requires known { e < length chart.now.events }
-    requires sound { IsSound (Led chart.now.events inputs) (cell (length chart.now.events) words.old) }
-    ensures sound { IsSound (Led chart.now.events inputs) (cell (length chart.now.events) words.new) }
-    ensures others { KeepsOthers e (cell (length chart.now.events) words.old) (cell (length chart.now.events) words.new) }
-    ensures next { HasNextRows chart.now.events inputs (cell (length chart.now.events) words.old) (cell (length chart.now.events) words.new) e }
+    requires next { IsNextSegment chart.now.events e start end }
+    requires sound { IsSound (Led chart.now.events inputs) (pairs_of chart.now.events words.old) }
+    requires blank { (y : ℕ) → pairs_of chart.now.events words.old e y ≡ false }
+    requires later { (f : ℕ) → IsTrue (before chart.now.events e f)
+        → HasRowOf (Led chart.now.events inputs) (pairs_of chart.now.events words.old) f }
+    ensures others { KeepsOthers e (pairs_of chart.now.events words.old)
+        (pairs_of chart.now.events words.new) }
+    ensures row { (y : ℕ) → IsTrue (pairs_of chart.now.events words.new e y)
+        ↔ LedByLine chart.now.events inputs e y }
 {
     let events = chart.events();
-    let (start, end) = next_segment(chart, e);
     for f in start..end {
         take_in(words, events, e, f, leads(chart, inputs, f));
     }
 }
 
-/// Makes the row of `e`, where the rows of all that comes after it are made.
-fn add_row(words: &mut [u64], chart: &Chart, inputs: bool, e: Event)
-    requires square { length words.old ≡ length chart.now.events * stride (length chart.now.events) }
+/// Begins row `f` as row `e`, which has more than it only where `more` says so.
+fn begin_as(words: &mut [u64], begun: &mut [u64], n: u32, e: Event, f: Event, more: bool)
+    requires row { HasRow n words.old f }
+    requires other { HasRow n words.old e }
+    requires marks { HasRow n begun.old 0 }
+    requires column { f < n }
+    requires more { more ≡ false
+        → (y : ℕ) → IsTrue (cell n words.old e y) → IsTrue (cell n words.old f y) }
+    ensures rows { (x y : ℕ) → cell n words.new x y
+        ≡ (cell n words.old x y || (nat_eq x f && cell n words.old e y)) }
+    ensures begun { (x y : ℕ) → cell n begun.new x y
+        ≡ (cell n begun.old x y || (nat_eq x 0 && nat_eq y f)) }
+{
+    if more {
+        merge(words, n, f, e);
+    }
+    put(begun, n, 0, f);
+}
+
+/// Begins the rows of the segment of `e`, unless they are begun, where the rows of all that is
+/// drawn after it are made.
+fn begin_segment(words: &mut [u64], begun: &mut [u64], chart: &Chart, inputs: bool, e: Event)
+    requires square { length words.old
+        ≡ length chart.now.events * stride (length chart.now.events) }
+    requires marks { HasRow (length chart.now.events) begun.old 0 }
     requires known { e < length chart.now.events }
-    requires sound { IsSound (Led chart.now.events inputs) (cell (length chart.now.events) words.old) }
-    requires later { (f : ℕ) → Visual chart.now.events e f → HasRowOf (Led chart.now.events inputs) (cell (length chart.now.events) words.old) f }
-    ensures sound { IsSound (Led chart.now.events inputs) (cell (length chart.now.events) words.new) }
-    ensures others { KeepsOthers e (cell (length chart.now.events) words.old) (cell (length chart.now.events) words.new) }
-    ensures row { HasRowOf (Led chart.now.events inputs) (cell (length chart.now.events) words.new) e }
+    requires begun { AreBegun chart.now.events inputs words.old begun.old }
+    requires later { (f : ℕ) → IsTrue (before chart.now.events e f)
+        → HasRowOf (Led chart.now.events inputs) (pairs_of chart.now.events words.old) f }
+    ensures begun { AreBegun chart.now.events inputs words.new begun.new }
+    ensures kept { Keeps (pairs_of chart.now.events words.old)
+        (pairs_of chart.now.events words.new) }
+    ensures here { IsTrue (pairs_of chart.now.events begun.new 0 e) }
 {
     let events = chart.events();
-    add_lines(words, chart, inputs, e);
+    if has(begun, events, 0, e) {
+        return;
+    }
+    let (start, end) = next_segment(chart, e);
+    add_lines(words, chart, inputs, e, start, end);
+    put(begun, events, 0, e);
+    for passed in 0..start {
+        let f = start - 1 - passed;
+        if !share_segment(chart, e, f) {
+            return;
+        }
+        begin_as(words, begun, events, e, f, start < end && f != e);
+    }
+}
+
+/// Makes the row of `e`, where the rows of all that comes after it are made.
+fn add_row(words: &mut [u64], begun: &mut [u64], chart: &Chart, inputs: bool, e: Event)
+    requires square { length words.old
+        ≡ length chart.now.events * stride (length chart.now.events) }
+    requires marks { HasRow (length chart.now.events) begun.old 0 }
+    requires known { e < length chart.now.events }
+    requires begun { AreBegun chart.now.events inputs words.old begun.old }
+    requires later { (f : ℕ) → Visual chart.now.events e f
+        → HasRowOf (Led chart.now.events inputs) (pairs_of chart.now.events words.old) f }
+    ensures begun { AreBegun chart.now.events inputs words.new begun.new }
+    ensures kept { Keeps (pairs_of chart.now.events words.old)
+        (pairs_of chart.now.events words.new) }
+    ensures row { HasRowOf (Led chart.now.events inputs) (pairs_of chart.now.events words.new) e }
+{
+    let events = chart.events();
+    begin_segment(words, begun, chart, inputs, e);
     if is_output(chart, e) {
         take_in(words, events, e, partner(chart, e), true);
+    }
+}
+
+/// Makes all rows.
+fn add_rows(words: &mut [u64], begun: &mut [u64], chart: &Chart, inputs: bool)
+    requires square { length words.old
+        ≡ length chart.now.events * stride (length chart.now.events) }
+    requires marks { HasRow (length chart.now.events) begun.old 0 }
+    requires begun { AreBegun chart.now.events inputs words.old begun.old }
+    ensures { IsTestOf (Led chart.now.events inputs) (pairs_of chart.now.events words.new) }
+{
+    let _accepted = chart.events();
+    let order = chart.linear_order();
+    for done in 0..order.len() {
+        add_row(words, begun, chart, inputs, order[order.len() - 1 - done]);
     }
 }
 
 /// Closes a blank table under the rules of lines and messages: what is drawn before an event comes
 /// before it, where `inputs` says so before each event, otherwise before each output; and an output
 /// comes before its input.
-pub fn close(words: &mut [u64], chart: &Chart, inputs: bool)
-    requires square { length words.old ≡ length chart.now.events * stride (length chart.now.events) }
-    requires blank { (x y : ℕ) → cell (length chart.now.events) words.old x y ≡ false }
-    ensures { IsTestOf (Led chart.now.events inputs) (cell (length chart.now.events) words.new) }
+pub fn close(
+    alloc: Global,
+    words: &mut [u64],
+    chart: &Chart,
+    inputs: bool,
+) -> Result<(), AllocError>
+    requires square { length words.old
+        ≡ length chart.now.events * stride (length chart.now.events) }
+    requires blank { (x y : ℕ) → pairs_of chart.now.events words.old x y ≡ false }
+    ensures { OnOk result
+        (IsTestOf (Led chart.now.events inputs) (pairs_of chart.now.events words.new)) }
 {
-    let _accepted = chart.events();
-    let order = chart.linear_order();
-    for done in 0..order.len() {
-        add_row(words, chart, inputs, order[order.len() - 1 - done]);
-    }
+    let mut begun = blank(alloc, 1, chart.events())?;
+    add_rows(words, &mut begun, chart, inputs);
+    Ok(())
 }

@@ -39,7 +39,7 @@ impl Order {
     {
         let events = chart.events();
         let mut words = blank(alloc, events, events)?;
-        close(&mut words, chart, true);
+        close(alloc, &mut words, chart, true)?;
         Ok(Order { events, words })
     }
 

@@ -118,7 +118,7 @@ pub fn close_under_queues(
     let events = wiring.chart.events();
     let mut masks = blank(alloc, wiring.queue_count(), events)?;
     let mut left = blank(alloc, 1, events)?;
-    close(words, wiring.chart, false);
+    close(alloc, words, wiring.chart, false)?;
     add_queues(words, &mut masks, &mut left, wiring);
     Ok(())
 }

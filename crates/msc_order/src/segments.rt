@@ -1,7 +1,7 @@
 //! The segments of a chart's lines, by the numbers of their events.
 
-ghost use Rattle.std.specs.Prelude.{◌≡◌, ◌<◌, length};
-ghost use Rattle.msc_chart.specs.Charts.{is_output, partner};
+ghost use Rattle.std.specs.Prelude.{◌≡◌, ◌<◌, ◌↔◌, length, IsTrue};
+ghost use Rattle.msc_chart.specs.Charts.{is_output, partner, ShareSegment};
 ghost use Rattle.msc_order.specs.Causes.{IsNextSegment};
 
 use msc_chart::{Chart, Event, EventKind};
@@ -28,8 +28,17 @@ pub fn partner(chart: &Chart, e: Event) -> Event
     }
 }
 
+/// Whether `e` and `f` are on one line, and in one segment of it.
+pub fn share_segment(chart: &Chart, e: Event, f: Event) -> bool
+    requires e_known { e < length chart.now.events }
+    requires f_known { f < length chart.now.events }
+    ensures { IsTrue result ↔ ShareSegment chart.now.events e f }
+{
+    chart.instance_of(e) == chart.instance_of(f) && chart.segment(e) == chart.segment(f)
+}
+
 /// The events of the next segment after that of `e` on its line: from the first number up to the
-/// second.
+/// second. The first is the number past the segment of `e`, also where no other comes next.
 pub fn next_segment(chart: &Chart, e: Event) -> (Event, Event)
     requires { e < length chart.now.events }
     ensures { IsNextSegment chart.now.events e result.0 result.1 }

@@ -1,37 +1,42 @@
-use Rattle.std.proofs.Common.{ℕ, ◌<◌, length, sym, ◌∙◌, arith}
-use Rattle.msc_order.specs.Tables.{cell}
+use Rattle.std.proofs.Common.{◌≢◌, ◌<◌, refl, sym, ◌∙◌, arith}
+use Rattle.msc_order.specs.Causes.{pairs_of}
+use Rattle.msc_order.proofs.Cells.{clash}
 use Rattle.msc_order.proofs.Drawing.{before_later}
-use Rattle.msc_order.proofs.Leading.{lines_sound, taken_more, row_kept, row_others}
+use Rattle.msc_order.proofs.Leading.{row_others}
+use Rattle.msc_order.proofs.LineRows.{line_row, line_taken, taken_more}
 use Rattle.msc_order.proofs.closing.add_lines.Goals as goal
+
+pub loop-f-init : goal.loop-f-init
+loop-f-init c = record {
+  others = λ x y other. refl;
+  within = λ y h. clash h (c.requires.blank y);
+  taken = λ g low high. absurd (omega (arith, low, high));
+}
 
 pub loop-f-preserved : goal.loop-f-preserved
 loop-f-preserved c =
     let events = c.args.chart.now.events in
-    let n : ℕ = length events in
     let e = c.args.e in
     let f = c.loop-f.f in
-    let test = cell n c.args.words.now in
-    let now = cell n c.loop-f.words in
-    let last = cell n c.take_in.new.words in
+    let test = pairs_of events c.args.words.now in
+    let now = pairs_of events c.loop-f.words in
+    let last = pairs_of events c.take_in.new.words in
     let wanted = c.leads.result in
-    let drawn = c.next_segment-start.ensures.drawn f (omega arith) (omega arith) in
+    let drawn = c.requires.next.drawn f (omega arith) (omega arith) in
     let later : e < f = before_later events c.events-events.ensures.accepted.in_text_order e f drawn in
+    let apart : f ≢ e = λ same. omega (arith, same, later) in
     let put = rw c.events-events.ensures.number at c.take_in.ensures in
     record {
-      sound = lines_sound events c.args.inputs now last e f wanted c.loop-f.invariant.sound drawn (λ h. sym c.leads.ensures ∙ h) put;
       others = λ x y other. put x y ∙ row_others now e f wanted x y other ∙ c.loop-f.invariant.others x y other;
-      kept = λ x y h. put x y ∙ row_kept now e f wanted x y (c.loop-f.invariant.kept x y h);
-      taken = taken_more events c.args.inputs c.next_segment-start.result.0 e f test now last wanted (λ same. omega (arith, same, later)) c.leads.ensures put
-          c.loop-f.invariant.others c.loop-f.invariant.taken;
+      within = line_taken events c.args.inputs test now last e f wanted c.requires.sound drawn (λ h. sym c.leads.ensures ∙ h) apart
+          c.loop-f.invariant.others put c.loop-f.invariant.within;
+      taken = taken_more events c.args.inputs c.args.start e f test now last wanted apart c.leads.ensures put c.loop-f.invariant.others c.loop-f.invariant.taken;
     }
 
-pub returns-clause-next : goal.returns-clause-next
-returns-clause-next c = record {
-  kept = c.loop-f.invariant.kept;
-  next = (
-    c.next_segment-start.result.0,
-    c.next_segment-start.result.1,
-    c.next_segment-start.ensures,
-    λ f low high. c.loop-f.invariant.taken f low (omega (arith, high, c.loop-f-test.false)),
-  );
-}
+pub returns-clause-row : goal.returns-clause-row
+returns-clause-row c y =
+    let events = c.args.chart.now.events in (
+      c.loop-f.invariant.within y,
+      line_row events c.args.inputs (pairs_of events c.args.words.now) (pairs_of events c.loop-f.words) c.args.e c.args.start c.args.end c.requires.next c.requires.later
+          (λ g low high. c.loop-f.invariant.taken g low (omega (arith, high, c.loop-f-test.false))) y,
+    )

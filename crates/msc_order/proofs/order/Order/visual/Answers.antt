@@ -16,7 +16,7 @@ pub returns-clause-visual : goal.returns-clause-visual
 returns-clause-visual c =
     let n : ℕ = length c.args.chart.now.events in
     let same = with_items_is c.in_ok-words.words c.close.new.words (c.close.auto.words ∙ c.deref_mut.ensures.len) in
-    rw (c.events-events.ensures.number, same) (visual_seen c.args.chart.now.events c.events-events.ensures.accepted.matched c.close.new.words c.close.ensures)
+    rw (c.events-events.ensures.number, same) (visual_seen c.args.chart.now.events c.events-events.ensures.accepted.matched c.close.new.words c.in_ok-close.ensures)
 
 pub invariant_of-result : goal.invariant_of-result
 invariant_of-result c =
@@ -24,5 +24,5 @@ invariant_of-result c =
     let same = with_items_is c.in_ok-words.words c.close.new.words (c.close.auto.words ∙ c.deref_mut.ensures.len) in
     rw (c.events-events.ensures.number) (subst (λ (words : List ℕ). IsWellKept n words) (sym same) (record {
       square = c.close.auto.words ∙ blank_len c.in_ok-words.words c.deref_mut.result.now n c.deref_mut.ensures.value (rw c.events-events.ensures.number at c.in_ok-words.ensures);
-      tight = λ x y h. (led_below c.args.chart.now.events true c.events-events.ensures.accepted.matched x y (c.close.ensures.sound x y h)).1;
+      tight = λ x y h. (led_below c.args.chart.now.events true c.events-events.ensures.accepted.matched x y (c.in_ok-close.ensures.sound x y h)).1;
     }))
