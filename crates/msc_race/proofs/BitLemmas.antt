@@ -1,7 +1,7 @@
 -- What the reads and writes of rows of bits do to their numbers.
-use Rattle.std.proofs.Common.{◌≡◌, ◌≢◌, ℕ, ◌+◌, ◌*◌, ◌/◌, ◌%◌, ◌^◌, ◌<◌, ◌≤◌, Bool, false, not, ◌&&◌, ◌||◌, inl, inr, eqb, List, length, get_or, set, replicate, refl, sym, ap, ◌∙◌, arith, get_or-set_same, get_or-set_other, bit_or, bit_and, w64}
+use Rattle.std.proofs.Common.{◌≡◌, ◌≢◌, ℕ, ◌+◌, ◌*◌, ◌/◌, ◌%◌, ◌^◌, ◌<◌, ◌≤◌, ◌↔◌, Bool, false, not, ◌&&◌, ◌||◌, inl, inr, eqb, ltb, List, length, get_or, set, replicate, refl, sym, ap, ◌∙◌, arith, get_or-set_same, get_or-set_other, bit_or, bit_and, w64}
 use Rattle.std.specs.Int.{bit_not, trailing_zeros}
-use Rattle.std.proofs.lemmas.Bool.{eq-eqb, ne_eqb, cases_eq, cases_lt}
+use Rattle.std.proofs.lemmas.Bool.{lt-ltb, ltb-true, eq-eqb, ne_eqb, cases_eq, cases_lt}
 use Rattle.std.proofs.lemmas.List.{get_or_past, get_or-replicate, length-replicate}
 use Rattle.std.proofs.lemmas.Grind.{div_ceil_times}
 use Rattle.std.proofs.lemmas.Nat.Bits.{bit_at-trailing_zeros}
@@ -10,7 +10,7 @@ use Rattle.std.proofs.Math.Bool.{or-false, and-false, and-true}
 use Rattle.msc_order.proofs.Bits.{stride_enough, bit_put, bit_join, bit_meet, bit_other, bit_alone, bit_zero}
 use Rattle.std.specs.Prelude.{IsTrue}
 use Rattle.msc_chart.specs.Chosen.{IsLeast}
-use Rattle.msc_race.specs.Bits.{holds, picks, IsRow}
+use Rattle.msc_race.specs.Bits.{holds, picks, IsFirstWord, IsRow}
 use Rattle.msc_race.proofs.Shared.{clash}
 
 -- numbers of one word differ as their bits do
@@ -110,6 +110,19 @@ holds_none row y none = rw none (bit_zero (y % 64))
 pub holds_past : (row : List ℕ) (y : ℕ) → 64 * length row ≤ y → holds row y ≡ false
 holds_past row y past = holds_none row y (get_or_past row (y / 64) 0 (omega (arith, past)))
 
+-- a row has a number where it has a first word
+pub has_number : (row : List ℕ) (k : ℕ) → IsFirstWord row k → IsTrue (ltb k (length row)) ↔ ((y : ℕ) × IsTrue (holds row y))
+has_number row k first = (
+  λ within. first.some (ltb-true k (length row) within),
+  λ some. lt-ltb k (length row) (elim (cases_lt k (length row)) [
+    | inl within ↦ within
+    | inr past ↦ clash some.1 (elim (cases_lt some.0 (64 * k)) [
+      | inl below ↦ first.blank some.0 below
+      | inr above ↦ holds_past row some.0 (omega (arith, past, above))
+    ])
+  ]),
+)
+
 -- the word of what is picked from three rows
 pub picks_word : (a b mask : List ℕ) (y : ℕ)
     → picks a b mask y ≡ bit_of (bit_and (bit_or (get_or a (y / 64) 0) (get_or b (y / 64) 0)) (get_or mask (y / 64) 0)) (y % 64)
@@ -119,10 +132,10 @@ picks_word a b mask y =
     sym (bit_meet (bit_or (get_or a (y / 64) 0) (get_or b (y / 64) 0)) (get_or mask (y / 64) 0) (y % 64)
     ∙ ap (λ c. c && bit_of (get_or mask (y / 64) 0) (y % 64)) joined)
 
--- nothing is picked past the last word
-pub picks_past : (a b mask : List ℕ) (y : ℕ) → 64 * length mask ≤ y → picks a b mask y ≡ false
+-- nothing is picked that is not in the mask
+pub picks_none : (a b mask : List ℕ) (y : ℕ) → holds mask y ≡ false → picks a b mask y ≡ false
 unfolding picks
-picks_past a b mask y past = rw (holds_past mask y past) (and-false (holds a y || holds b y))
+picks_none a b mask y out = rw out (and-false (holds a y || holds b y))
 
 -- a number of a row is a bit of its word
 pub holds_word : (row : List ℕ) (y : ℕ) → holds row y ≡ bit_of (get_or row (y / 64) 0) (y % 64)

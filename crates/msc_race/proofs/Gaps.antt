@@ -1,89 +1,81 @@
--- The ones and zeros of a row of words.
-use Rattle.std.proofs.Common.{◌≡◌, ℕ, ◌+◌, ◌-◌, ◌*◌, ◌/◌, ◌%◌, ◌^◌, ◌<◌, ◌≤◌, ◌⊎◌, true, false, inl, inr, List, get_or, eqb, refl, sym, ap, ◌∙◌, arith, bit_and, w64}
-use Rattle.std.specs.Int.{bit_at, trailing_ones}
-use Rattle.std.specs.Int.Count.{trailing_of_zero}
-use Rattle.std.proofs.Math.Nat.{div-div-eq-div-mul, div-le_self}
-use Rattle.std.proofs.Math.Bool.{and-false}
-use Rattle.std.proofs.lemmas.Bool.{cases_lt, le-leb, lt-leb}
-use Rattle.std.proofs.lemmas.Nat.{pow-add}
-use Rattle.std.proofs.lemmas.Nat.Bits.{shr_and_one, bit_at_above, bit_at_ones, bit_at-trailing_ones}
-use Rattle.std.specs.Prelude.{nat_le}
+-- The zeros of a row in a range of numbers, word by word.
+use Rattle.std.proofs.Common.{◌≡◌, ℕ, ◌+◌, ◌-◌, ◌*◌, ◌/◌, ◌%◌, ◌^◌, ◌<◌, ◌≤◌, Bool, false, not, ◌&&◌, inl, inr, List, [], ◌++◌, get_or, leb, ltb, min, sym, ap, ◌∙◌, refl, arith, bit_and, w64}
+use Rattle.std.specs.Int.{bit_not}
+use Rattle.std.proofs.Math.Bool.{and-false, and-true, and_comm}
+use Rattle.std.proofs.lemmas.Bool.{cases_lt, le-leb, lt-leb, lt-ltb, le-ltb}
+use Rattle.std.proofs.lemmas.Bool.Decides.{nat_tests}
+use Rattle.std.proofs.lemmas.Nat.Bits.{bit_at_ones, bit_at_ones_above, bit_at_mask_inside, bit_at_mask_below, ones_shl, ones_shr}
 use Rattle.msc_order.specs.Tables.{bit_of}
-use Rattle.msc_race.specs.Races.{bit_in, is_gap}
+use Rattle.msc_order.proofs.Bits.{bit_meet, bit_other}
+use Rattle.msc_race.specs.Races.{bit_in, is_gap, is_in_word, pairs_to}
+use Rattle.msc_race.proofs.Pairs.{pairs_between, pairs_join, pairs_none}
+use Rattle.msc_race.proofs.Words.{in_word, out_of_word}
 
--- a bit of a word that was shifted down
-bit_shifted : (n s i : ℕ) → bit_at (n / 2 ^ s) i ≡ bit_at n (s + i)
-bit_shifted n s i =
-    sym (shr_and_one (n / 2 ^ s) i)
-    ∙ ap (λ (d : ℕ). bit_and d 1) (div-div-eq-div-mul n (2 ^ s) (2 ^ i) ∙ ap (λ (d : ℕ). n / d) (sym (pow-add 2 s i)))
-    ∙ shr_and_one n (s + i)
+-- the ones of a word from bit s on
+high_ones : (s i : ℕ) → s ≤ 64 → i < 64 → bit_of (18446744073709551615 * 2 ^ s % 2 ^ 64) i ≡ leb s i
+unfolding bit_of
+high_ones s i fits inside =
+    rw (ones_shl 64 s fits) (elim (cases_lt i s) [
+      | inl below ↦ rw (bit_at_mask_below s 64 i below, lt-leb s i below) refl
+      | inr from ↦ rw (bit_at_mask_inside s 64 i from inside, le-leb s i from) refl
+    ])
 
--- the lowest ones of a word, and the zero past them
-lowest_ones : (m : ℕ) → m < 2 ^ 64 → ((i : ℕ) → i < trailing_ones w64 m → bit_at m i ≡ 1) × ((bit_at m (trailing_ones w64 m) ≡ 0) ⊎ (64 ≤ trailing_ones w64 m))
-lowest_ones m fits =
-    elim (cases_lt (m + 1) (2 ^ 64)) [
-      | inl less ↦ let t = bit_at-trailing_ones w64 m less in (t.2, inl t.1)
-      | inr full ↦
-          let all : m ≡ 18446744073709551615 = omega (arith, fits, full) in
-          let most : trailing_ones w64 m ≡ 64 = rw all (trailing_of_zero 64) in
-          (λ i below. rw all (bit_at_ones 64 i (omega (arith, below, most))), inr (omega (arith, most)))
-    ]
+-- the ones of a word below bit 64 - s
+low_ones : (s i : ℕ) → s ≤ 64 → bit_of (18446744073709551615 / 2 ^ s) i ≡ ltb i (64 - s)
+unfolding bit_of
+low_ones s i fits =
+    rw (ones_shr 64 s fits) (elim (cases_lt i (64 - s)) [
+      | inl below ↦ rw (bit_at_ones (64 - s) i below, lt-ltb i (64 - s) below) refl
+      | inr past ↦ rw (bit_at_ones_above (64 - s) i past, le-ltb i (64 - s) past) refl
+    ])
 
-module _ (row : List ℕ) (f : ℕ) (fits : get_or row (f / 64) 0 < 2 ^ 64) (t : ℕ) (is : t ≡ trailing_ones w64 (get_or row (f / 64) 0 / 2 ^ (f % 64))) where
-  shifted_fits : get_or row (f / 64) 0 / 2 ^ (f % 64) < 2 ^ 64
-  shifted_fits = let less = div-le_self (get_or row (f / 64) 0) (2 ^ (f % 64)) in omega (arith, less, fits)
+-- the zeros of word k within a range
+pub gap_bits : (word k start end from past f : ℕ) → word < 2 ^ 64 → start < 64 * k + 64 → 64 * k < end
+    → from ≡ start - 64 * k → past ≡ 64 * k + 64 - end → f / 64 ≡ k
+    → bit_of (bit_and (bit_and (bit_not w64 word) (18446744073709551615 * 2 ^ from % 2 ^ 64)) (18446744073709551615 / 2 ^ past)) (f % 64)
+    ≡ (not (bit_of word (f % 64)) && leb start f && ltb f end)
+gap_bits word k start end from past f fits low high is_from is_past here =
+    let i : ℕ = f % 64 in
+    let start_same : leb from i ≡ leb start f = grind (arith, nat_tests) in
+    let end_same : ltb i (64 - past) ≡ ltb f end = grind (arith, nat_tests) in
+    bit_meet (bit_and (bit_not w64 word) (18446744073709551615 * 2 ^ from % 2 ^ 64)) (18446744073709551615 / 2 ^ past) i
+    ∙ rw (
+      bit_meet (bit_not w64 word) (18446744073709551615 * 2 ^ from % 2 ^ 64) i,
+      bit_other word i fits (omega arith),
+      high_ones from i (omega (arith, is_from, low)) (omega arith),
+      low_ones past i (omega (arith, is_past, high)),
+      start_same,
+      end_same,
+    ) refl
 
-  -- the ones end with the word
-  pub ones_within : f + t ≤ 64 * (f / 64) + 64
-  ones_within =
-      let s : ℕ = f % 64 in
-      let word : ℕ = get_or row (f / 64) 0 in
-      elim (cases_lt (64 - s) t) [
-        | inr few ↦ omega (arith, few)
-        | inl many ↦
-            let one = (lowest_ones (word / 2 ^ s) shifted_fits).0 (64 - s) (omega (arith, many, is)) in
-            let past : s + (64 - s) ≡ 64 = omega arith in
-            let none : bit_at (word / 2 ^ s) (64 - s) ≡ 0 = bit_shifted word s (64 - s) ∙ ap (λ (i : ℕ). bit_at word i) past ∙ bit_at_above word 64 64 fits (omega arith) in
-            absurd (omega (arith, one, none))
-      ]
-
-  -- a bit of the word from f on
-  bit_from : (y : ℕ) → f ≤ y → y < 64 * (f / 64) + 64 → bit_in row y ≡ eqb (bit_at (get_or row (f / 64) 0 / 2 ^ (f % 64)) (y - f)) 1
-  unfolding bit_in bit_of
-  bit_from y low high =
-      let place : y / 64 ≡ f / 64 = omega (arith, low, high) in
-      let rest : y % 64 ≡ f % 64 + (y - f) = omega (arith, low, high) in
-      rw (place, rest, bit_shifted (get_or row (f / 64) 0) (f % 64) (y - f)) refl
-
-  -- all bits up to the zero are ones
-  pub ones_there : (y : ℕ) → f ≤ y → y < f + t → bit_in row y ≡ true
-  ones_there y low high =
-      let within = ones_within in
-      let one = (lowest_ones (get_or row (f / 64) 0 / 2 ^ (f % 64)) shifted_fits).0 (y - f) (omega (arith, low, high, is)) in
-      bit_from y low (omega (arith, high, within)) ∙ rw one refl
-
-  -- the bit past the ones is a zero, where it is in the word
-  pub zero_past : f + t < 64 * (f / 64) + 64 → bit_in row (f + t) ≡ false
-  zero_past inside =
-      let here : f + t - f ≡ t = omega arith in
-      elim (lowest_ones (get_or row (f / 64) 0 / 2 ^ (f % 64)) shifted_fits).1 [
-        | inr many ↦ absurd (omega (arith, many, is, inside))
-        | inl none ↦ bit_from (f + t) (omega arith) inside
-            ∙ ap (λ (i : ℕ). eqb (bit_at (get_or row (f / 64) 0 / 2 ^ (f % 64)) i) 1) (here ∙ is) ∙ rw none refl
-      ]
-
-module _ (row : List ℕ) (start e y : ℕ) where
+module _ (row : List ℕ) (start end e : ℕ) where
   -- below the start is no gap
-  pub gap_below : y < start → is_gap row start e y ≡ false
+  gap_below : (f : ℕ) → f < start → is_gap row start e f ≡ false
   unfolding is_gap
-  gap_below below = rw (lt-leb start y below) refl
+  gap_below f below = rw (lt-leb start f below) refl
 
-  -- a one is no gap
-  pub gap_one : bit_in row y ≡ true → is_gap row start e y ≡ false
-  unfolding is_gap
-  gap_one one = rw one (and-false (nat_le start y))
+  -- so up to the start there are none
+  pub no_gaps_yet : (n : ℕ) → n ≤ start → pairs_to (is_gap row start) e n ≡ []
+  no_gaps_yet n le = pairs_between (is_gap row start) e 0 n (omega arith) (λ f low below. gap_below f (omega (arith, below, le))) ∙ pairs_none (is_gap row start) e
 
-  -- a zero from the start on is a gap
-  pub gap_zero : start ≤ y → bit_in row y ≡ false → is_gap row start e y ≡ true
-  unfolding is_gap
-  gap_zero low zero = rw (zero, le-leb start y low) refl
+  -- and word k adds those that are in it
+  pub gaps_more : (k gaps : ℕ) → 64 * k < end
+      → ((f : ℕ) → f / 64 ≡ k → bit_of gaps (f % 64) ≡ (not (bit_of (get_or row k 0) (f % 64)) && leb start f && ltb f end))
+      → pairs_to (is_gap row start) e (min (64 * (k + 1)) end)
+      ≡ pairs_to (is_gap row start) e (min (64 * k) end) ++ pairs_to (is_in_word gaps k) e (64 * k + 64)
+  unfolding is_gap bit_in
+  gaps_more k gaps more bits =
+      let gap = is_gap row start in
+      let inside = is_in_word gaps k in
+      let n : ℕ = min (64 * (k + 1)) end in
+      let before : min (64 * k) end ≡ 64 * k = omega arith in
+      let below : (f : ℕ) → f < 64 * k → inside e f ≡ false = λ f less. out_of_word gaps k e f (λ same. omega (arith, same, less)) in
+      let here : (f : ℕ) → 64 * k ≤ f → f < n → gap e f ≡ inside e f = λ f low high.
+      let place : f / 64 ≡ k = omega (arith, low, high) in
+      let zero : Bool = not (bit_of (get_or row k 0) (f % 64)) in
+      sym (in_word gaps k e f place ∙ bits f place ∙ rw (lt-ltb f end (omega (arith, high)), place) (and-true (zero && leb start f) ∙ and_comm zero (leb start f))) in
+      let past : (f : ℕ) → n ≤ f → f < 64 * k + 64 → inside e f ≡ false = λ f low high.
+      let place : f / 64 ≡ k = omega (arith, low, high, more) in
+      in_word gaps k e f place ∙ bits f place ∙ rw (le-ltb f end (omega (arith, low, high))) (and-false (not (bit_of (get_or row k 0) (f % 64)) && leb start f)) in
+      rw before (pairs_join gap inside e (64 * k) n (omega arith) below here
+      ∙ ap (λ (l : List (ℕ × ℕ)). pairs_to gap e (64 * k) ++ l) (sym (pairs_between inside e n (64 * k + 64) (omega arith) past)))

@@ -18,8 +18,9 @@ pub mod Telling
 pub mod FreeRuns
 pub mod ChosenExists
 pub mod RunTests
-pub mod Gaps
 pub mod Pairs
+pub mod Words
+pub mod Gaps
 pub mod DrawnPairs
 pub mod RaceLists
 pub mod RaceRows

@@ -1,8 +1,8 @@
 -- Lists of the pairs that pass a test, one more at a time.
-use Rattle.std.proofs.Common.{zero, suc, ◌≡◌, ℕ, ◌+◌, ◌-◌, ◌<◌, ◌≤◌, ◌⊎◌, Bool, true, false, cond, inl, inr, List, [], ◌∷◌, ◌++◌, refl, sym, ap, ◌∙◌, subst, arith, Some, add-zero}
+use Rattle.std.proofs.Common.{zero, suc, ◌≡◌, ℕ, ◌+◌, ◌-◌, ◌<◌, ◌≤◌, ◌⊎◌, Bool, true, false, cond, inl, inr, List, [], ◌∷◌, ◌++◌, refl, sym, ap, ap₂, ◌∙◌, subst, arith, Some, add-zero}
 use Rattle.std.specs.List.{range_with_len, flat_map}
 use Rattle.std.proofs.lemmas.Bool.{cases_eq}
-use Rattle.std.proofs.lemmas.List.{append-nil, flat_map_more, map-id}
+use Rattle.std.proofs.lemmas.List.{append-nil, append_assoc, flat_map_more, map-id}
 use Rattle.std.proofs.lemmas.List.FromFn.{filter_of_map_range_with_len_more, map-range_with_len_more}
 use Rattle.msc_chart.specs.Faults.{Occurs}
 use Rattle.msc_race.specs.Races.{pairs_to, pairs_of}
@@ -72,6 +72,27 @@ pairs_same p q e (suc k) h =
     ∙ ap (λ (b : Bool). pairs_to p e k ++ cond b ((e, k) ∷ []) []) (h k (omega arith))
     ∙ ap (λ (l : List (ℕ × ℕ)). l ++ cond (q e k) ((e, k) ∷ []) []) (pairs_same p q e k (λ f below. h f (omega arith)))
     ∙ sym (pairs_next q e k))
+
+-- Where a test passes no number below i, and from there on what another passes, the pairs of the other
+-- are those below i and then those of the test.
+pub pairs_join : (p q : ℕ → ℕ → Bool) (e i n : ℕ) → i ≤ n → ((f : ℕ) → f < i → q e f ≡ false)
+    → ((f : ℕ) → i ≤ f → f < n → p e f ≡ q e f) → pairs_to p e n ≡ pairs_to p e i ++ pairs_to q e n
+pairs_join p q e i zero le none same =
+    let all : i ≡ 0 = omega arith in
+    rw (all, pairs_none p e, pairs_none q e) refl
+pairs_join p q e i (suc n) le none same =
+    let one : suc n ≡ n + 1 = omega arith in
+    elim (cases_eq i (suc n)) [
+      | inl all ↦
+          let empty = pairs_between q e 0 (suc n) (omega arith) (λ f low below. none f (omega (arith, below, all))) ∙ pairs_none q e in
+          rw (all, empty) (sym (append-nil (pairs_to p e (suc n))))
+      | inr more ↦
+          let before = pairs_join p q e i n (omega (arith, le, more)) none (λ f low below. same f low (omega arith)) in
+          rw one (pairs_next p e n
+          ∙ ap₂ (λ (l : List (ℕ × ℕ)) (b : Bool). l ++ cond b ((e, n) ∷ []) []) before (same n (omega (arith, le, more)) (omega arith))
+          ∙ append_assoc (pairs_to p e i) (pairs_to q e n) (cond (q e n) ((e, n) ∷ []) [])
+          ∙ ap (λ (l : List (ℕ × ℕ)). pairs_to p e i ++ l) (sym (pairs_next q e n)))
+    ]
 
 module _ {T : Type 0} where
   -- what occurs in two lists occurs in one of them

@@ -6,7 +6,7 @@ use Rattle.msc_race.specs.declared.choosing.Choice.{Choice}
 use Rattle.msc_race.specs.declared.frontier.Frontier.{Frontier}
 use Rattle.msc_race.specs.Bits.{holds}
 use Rattle.msc_race.specs.Choices.{chart_of, size}
-use Rattle.msc_race.specs.Remainders.{AreRows, IsUnheld, IsPassedOnWith}
+use Rattle.msc_race.specs.Remainders.{AreRows, HasFirstWords, IsUnheld, IsPassedOnWith}
 use Rattle.msc_race.specs.Fronts.{HoldsLines}
 use Rattle.msc_race.specs.Channels.{HoldsQueues}
 
@@ -24,6 +24,7 @@ pub record IsKept (c : Choice) (f : Frontier) : Type 0 where
   pub lines : HoldsLines c.chart.now f.lines
   pub queues : HoldsQueues (chart_of c) (run_of f) f.channels
   pub rows : AreRows (size c) f.remaining
+  pub first : HasFirstWords f.remaining
   pub left : HoldsLeft f.lines.left.items (λ y. y < size c) (run_of f)
   pub free : HoldsLeft f.remaining.free.items (IsFree (chart_of c) c.e) (run_of f)
   pub unheld : HoldsLeft f.remaining.unheld.items (IsUnheld (chart_of c) c.e) (run_of f)

@@ -1,5 +1,5 @@
 -- Races as lists of pairs of events, and verdicts.
-use Rattle.std.specs.Prelude.{◌≡◌, ◌≢◌, ℕ, ◌/◌, ◌%◌, ◌↔◌, Bool, ◌&&◌, not, List, [], filter, map, length, slice_index, nat_le, IsTrue}
+use Rattle.std.specs.Prelude.{◌≡◌, ◌≢◌, ℕ, ◌/◌, ◌%◌, ◌↔◌, Bool, ◌&&◌, not, List, [], filter, map, length, slice_index, nat_eq, nat_le, IsTrue}
 use Rattle.std.specs.List.{range_with_len, flat_map}
 use Rattle.msc_chart.specs.declared.event.ChartEvent.{ChartEvent}
 use Rattle.msc_chart.specs.Charts.{before}
@@ -30,6 +30,10 @@ all_races events order = pairs_of (is_raced events order) (length events)
 -- bit f of a row of words
 unfoldable pub bit_in : List ℕ → ℕ → Bool
 bit_in row f = bit_of (slice_index row (f / 64)) (f % 64)
+
+-- f is a number of word k of a row, and its bit in the word is 1
+unfoldable pub is_in_word : ℕ → ℕ → ℕ → ℕ → Bool
+is_in_word word k e f = nat_eq (f / 64) k && bit_of word (f % 64)
 
 -- f is not below start, and its bit is 0
 unfoldable pub is_gap : List ℕ → ℕ → ℕ → ℕ → Bool

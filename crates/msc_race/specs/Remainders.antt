@@ -4,7 +4,7 @@ use Rattle.msc_chart.specs.Orders.{WiredChart, queue}
 use Rattle.msc_chart.specs.Chosen.{IsFree, IsHeld, IsPassedOn}
 use Rattle.msc_race.specs.declared.choosing.Choice.{Choice}
 use Rattle.msc_race.specs.declared.remaining.Remaining.{Remaining}
-use Rattle.msc_race.specs.Bits.{holds, IsRow, IsWithout}
+use Rattle.msc_race.specs.Bits.{holds, IsFirstWord, IsRow, IsWithout}
 use Rattle.msc_race.specs.Choices.{chart_of}
 
 -- the row holds the numbers below k with a property
@@ -31,6 +31,11 @@ pub record AreRows (n : ℕ) (r : Remaining) : Type 0 where
   pub free : IsRow n r.free.items
   pub unheld : IsRow n r.unheld.items
   pub passed : IsRow n r.passed.items
+
+-- it is known where the rows of free events and of what is passed on begin
+pub record HasFirstWords (r : Remaining) : Type 0 where
+  pub free : IsFirstWord r.free.items r.free_from
+  pub passed : IsFirstWord r.passed.items r.passed_from
 
 -- the rows have lost x, and nothing else
 pub record AreWithout (old new : Remaining) (x : ℕ) : Type 0 where

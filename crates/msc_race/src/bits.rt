@@ -3,7 +3,7 @@
 ghost use Rattle.std.specs.Prelude.{◌≡◌, ℕ, ◌*◌, ◌<◌, ◌≤◌, ◌||◌, ◌↔◌, false, length, nat_eq, replicate, IsTrue, IfOk, IfSome, IfNone};
 ghost use Rattle.msc_chart.specs.Chosen.{IsLeast};
 ghost use Rattle.msc_order.specs.Tables.{stride};
-ghost use Rattle.msc_race.specs.Bits.{holds, picks, IsRow, IsWith, IsWithout};
+ghost use Rattle.msc_race.specs.Bits.{holds, picks, IsBlankTo, IsFirstWord, IsRow, IsWith, IsWithout};
 
 use std::alloc::{AllocError, Global};
 
@@ -65,27 +65,30 @@ pub fn has(row: &[u64], y: u32) -> bool
     (word >> (y % 64)) & 1 == 1
 }
 
-/// Whether the row has a number.
-pub fn has_any(row: &[u64]) -> bool
-    ensures { IsTrue result ↔ ((y : ℕ) × IsTrue (holds row.now y)) }
+/// The first word of the row that has a number, where the words below `from` have none; or how many
+/// words there are.
+pub fn first_word(row: &[u64], from: usize) -> usize
+    requires { IsBlankTo row.now from }
+    ensures { IsFirstWord row.now result }
 {
-    for k in 0..row.len() {
+    for k in from..row.len() {
         if row[k] != 0 {
-            return true;
+            return k;
         }
     }
-    false
+    row.len()
 }
 
-/// The least number of two rows that is in the mask too.
-pub fn lowest(a: &[u64], b: &[u64], mask: &[u64]) -> Option<u32>
+/// The least number of two rows that is in the mask too, which has none in its words below `from`.
+pub fn lowest(a: &[u64], b: &[u64], mask: &[u64], from: usize) -> Option<u32>
     requires few { length a.now ≤ 64 }
     requires b { length b.now ≡ length a.now }
     requires mask { length mask.now ≡ length a.now }
+    requires blank { IsBlankTo mask.now from }
     ensures some { IfSome result (λ y. IsLeast (λ z. IsTrue (picks a.now b.now mask.now z)) y) }
     ensures none { IfNone result ((y : ℕ) → IsTrue (picks a.now b.now mask.now y) → ⊥) }
 {
-    for k in 0..a.len() {
+    for k in from..a.len() {
         let word = (a[k] | b[k]) & mask[k];
         if word != 0 {
             return Some(64 * k as u32 + word.trailing_zeros());

@@ -8,7 +8,7 @@ ghost use Rattle.msc_chart.specs.Chosen.{IsChosenNext};
 ghost use Rattle.msc_race.specs.Choices.{chart_of, size, IsSettled};
 ghost use Rattle.msc_race.specs.Frontiers.{IsKept, run_of};
 
-use crate::bits::{has_any, lowest};
+use crate::bits::lowest;
 use crate::channels::Channels;
 use crate::choosing::Choice;
 use crate::laws::{a_chosen_run_goes_on, no_run_is_stuck};
@@ -58,13 +58,14 @@ impl Frontier {
         ends_share_queues();
         let outputs = &self.lines.outputs;
         let inputs = &self.channels.inputs;
-        if !has_any(&self.remaining.free) {
-            return lowest(outputs, inputs, &self.lines.left);
+        if !self.remaining.has_free() {
+            return lowest(outputs, inputs, &self.lines.left, 0);
         }
-        if has_any(&self.remaining.passed) {
-            return lowest(outputs, inputs, &self.remaining.unheld);
+        let from = self.remaining.free_from;
+        if self.remaining.has_passed() {
+            return lowest(outputs, inputs, &self.remaining.unheld, from);
         }
-        lowest(outputs, inputs, &self.remaining.free)
+        lowest(outputs, inputs, &self.remaining.free, from)
     }
 
     /// `x` comes next.

@@ -4,12 +4,12 @@
 //! drawn after it. Of these the zeros of the event's row are its races, so whole words of ones are
 //! passed over at once.
 
-ghost use Rattle.std.specs.Prelude.{◌≡◌, ℕ, ◌+◌, ◌*◌, ◌/◌, ◌<◌, ◌≤◌, ◌++◌, ◌⊎◌, length, IsTrue, false, IfOk, OnOk};
+ghost use Rattle.std.specs.Prelude.{◌≡◌, ℕ, ◌+◌, ◌*◌, ◌/◌, ◌%◌, ◌<◌, ◌≤◌, ◌++◌, ◌&&◌, not, nat_le, nat_lt, length, IfOk, OnOk};
 ghost use Rattle.msc_chart.specs.Charts.{IsLineEnd, IsSegmentEnd};
 ghost use Rattle.msc_chart.specs.declared.queue.Queues.{Queues};
 ghost use Rattle.msc_chart.specs.Orders.{wired, IsEnforcedOrder};
-ghost use Rattle.msc_order.specs.Tables.{orders};
-ghost use Rattle.msc_race.specs.Races.{all_races, bit_in, is_gap, pairs_to, IsVerdict, TellsRuns};
+ghost use Rattle.msc_order.specs.Tables.{bit_of, orders};
+ghost use Rattle.msc_race.specs.Races.{all_races, is_gap, is_in_word, pairs_to, IsVerdict, TellsRuns};
 
 use crate::laws::races_are_what_runs_reverse;
 use crate::verdict::Verdict;
@@ -18,17 +18,32 @@ use msc_chart::{Chart, Event, Queues};
 use msc_order::Order;
 use std::alloc::{AllocError, Global};
 
-/// The number past the ones that stand in a row from `f` on, within the word of `f`.
-fn past_ones(row: &[u64], f: u32) -> u32
-    requires word { f / 64 < length row.now }
-    requires few { 64 * length row.now < 4294967232 }
-    ensures from { f ≤ result }
-    ensures within { result ≤ 64 * (f / 64) + 64 }
-    ensures ones { (y : ℕ) → f ≤ y → y < result → IsTrue (bit_in row.now y) }
-    ensures zero { result < 64 * (f / 64) + 64 → bit_in row.now result ≡ false }
+/// The bits of word `k` of a row that are 0 and stand for numbers from `start` up to `end`, which
+/// the word has some of.
+fn gaps_of(word: u64, k: u32, start: u32, end: u32) -> u64
+    requires few { 64 * k < 4294967232 }
+    requires start { start < 64 * k + 64 }
+    requires end { 64 * k < end }
+    ensures { (f : ℕ) → f / 64 ≡ k
+        → bit_of result (f % 64) ≡ (not (bit_of word (f % 64)) && nat_le start f && nat_lt f end) }
 {
-    let word = row[(f / 64) as usize] >> (f % 64);
-    f + word.trailing_ones()
+    let from = start.saturating_sub(64 * k);
+    let past = (64 * k + 64).saturating_sub(end);
+    !word & (u64::MAX << from) & (u64::MAX >> past)
+}
+
+/// Appends the pairs of `e` with the numbers that `word` has as word `k` of a row.
+fn push_word(list: &mut Vec<(Event, Event)>, word: u64, e: Event, k: u32) -> Result<(), AllocError>
+    requires few { 64 * k < 4294967232 }
+    ensures { OnOk result
+        (list.new.items ≡ list.old.items ++ pairs_to (is_in_word word k) e (64 * k + 64)) }
+{
+    let mut left = word;
+    while left != 0 {
+        list.push((e, 64 * k + left.trailing_zeros()))?;
+        left &= left - 1;
+    }
+    Ok(())
 }
 
 /// Appends the pairs of `e` with the numbers from `start` up to `end` whose bit is 0.
@@ -41,20 +56,14 @@ fn push_gaps(
 ) -> Result<(), AllocError>
     requires reach { end ≤ 64 * length row.now }
     requires few { 64 * length row.now < 4294967232 }
-    ensures { OnOk result (list.new.items ≡ list.old.items ++ pairs_to (is_gap row.now start) e end) }
+    ensures { OnOk result
+        (list.new.items ≡ list.old.items ++ pairs_to (is_gap row.now start) e end) }
 {
-    let mut f = start;
-    while f < end {
-        let gap = past_ones(row, f);
-        if gap >= end {
-            return Ok(());
-        }
-        if gap / 64 == f / 64 {
-            list.push((e, gap))?;
-            f = gap + 1;
-        } else {
-            f = gap;
-        }
+    if start >= end {
+        return Ok(());
+    }
+    for k in start / 64..end.div_ceil(64) {
+        push_word(list, gaps_of(row[k as usize], k, start, end), e, k)?;
     }
     Ok(())
 }

@@ -1,21 +1,25 @@
 //! The events that the choice of the next one depends on, as rows of bits.
 
-ghost use Rattle.std.specs.Prelude.{◌≡◌, ◌+◌, ◌<◌, ◌≤◌, IfOk};
+ghost use Rattle.std.specs.Prelude.{◌≡◌, ℕ, ◌+◌, ◌<◌, ◌≤◌, ◌↔◌, IfOk, IsTrue};
 ghost use Rattle.msc_race.specs.Choices.{size, IsSettled};
-ghost use Rattle.msc_race.specs.Remainders.{AreBelow, AreRows, AreWithout};
+ghost use Rattle.msc_race.specs.Bits.{holds};
+ghost use Rattle.msc_race.specs.Remainders.{AreBelow, AreRows, AreWithout, HasFirstWords};
 
-use crate::bits::{blank, clear, put_where};
+use crate::bits::{blank, clear, first_word, put_where};
 use crate::choosing::Choice;
 use msc_chart::Event;
 use std::alloc::{AllocError, Global};
 
 /// Of the events that have not occurred: those that are free of `e`, those of them that are not held,
-/// and the outputs to the queue of `e` that are passed on.
+/// and the outputs to the queue of `e` that are passed on; and the first words with free events and
+/// with such outputs.
 #[derive(Drop)]
 pub struct Remaining {
     pub free: Vec<u64>,
     pub unheld: Vec<u64>,
     pub passed: Vec<u64>,
+    pub free_from: usize,
+    pub passed_from: usize,
 }
 
 impl Remaining {
@@ -30,6 +34,8 @@ impl Remaining {
             free: blank(alloc, events)?,
             unheld: blank(alloc, events)?,
             passed: blank(alloc, events)?,
+            free_from: 0,
+            passed_from: 0,
         })
     }
 
@@ -52,11 +58,14 @@ impl Remaining {
         requires { IsSettled choice.now }
         ensures rows { IfOk result (λ r. AreRows (size choice.now) r) }
         ensures below { IfOk result (λ r. AreBelow choice.now r (size choice.now)) }
+        ensures first { IfOk result HasFirstWords }
     {
         let mut rows = Remaining::blank(alloc, choice)?;
         for x in 0..choice.chart.events() {
             rows.add(choice, x);
         }
+        rows.free_from = first_word(&rows.free, 0);
+        rows.passed_from = first_word(&rows.passed, 0);
         Ok(rows)
     }
 
@@ -64,12 +73,32 @@ impl Remaining {
     pub fn occur(&mut self, choice: &Choice, x: Event)
         requires known { x < size choice.now }
         requires rows { AreRows (size choice.now) self.old }
+        requires first { HasFirstWords self.old }
         ensures rows { AreRows (size choice.now) self.new }
         ensures without { AreWithout self.old self.new x }
+        ensures first { HasFirstWords self.new }
     {
         let _events = choice.chart.events();
         clear(&mut self.free, x);
         clear(&mut self.unheld, x);
         clear(&mut self.passed, x);
+        self.free_from = first_word(&self.free, self.free_from);
+        self.passed_from = first_word(&self.passed, self.passed_from);
+    }
+
+    /// Whether a free event is left.
+    pub fn has_free(&self) -> bool
+        requires { HasFirstWords self.now }
+        ensures { IsTrue result ↔ ((y : ℕ) × IsTrue (holds self.now.free.items y)) }
+    {
+        self.free_from < self.free.len()
+    }
+
+    /// Whether an output to the queue of `e` that is passed on is left.
+    pub fn has_passed(&self) -> bool
+        requires { HasFirstWords self.now }
+        ensures { IsTrue result ↔ ((y : ℕ) × IsTrue (holds self.now.passed.items y)) }
+    {
+        self.passed_from < self.passed.len()
     }
 }

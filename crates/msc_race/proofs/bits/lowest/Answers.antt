@@ -3,7 +3,7 @@ use Rattle.std.proofs.Math.Facts.{Fits-lt-pow, Fits-and_r}
 use Rattle.std.proofs.lemmas.Bool.{cases_lt}
 use Rattle.msc_race.specs.Bits.{picks}
 use Rattle.msc_race.proofs.Shared.{clash}
-use Rattle.msc_race.proofs.BitLemmas.{first_number, none_further, picks_word, picks_past}
+use Rattle.msc_race.proofs.BitLemmas.{first_number, none_further, picks_word, picks_none, holds_past}
 use Rattle.msc_race.proofs.bits.lowest.Goals as goal
 
 pub returns-then-word-ne0-clause-some : goal.returns-then-word-ne0-clause-some
@@ -13,6 +13,9 @@ returns-then-word-ne0-clause-some c =
     let mask = c.args.mask.now in
     first_number (picks a b mask) (λ k. bit_and (bit_or (get_or a k 0) (get_or b k 0)) (get_or mask k 0)) (picks_word a b mask)
     c.loop-k.k c.loop-k.invariant c.if-word-ne0.true (Fits-lt-pow (Fits-and_r _ (c.type_inv.mask c.loop-k.k)))
+
+pub loop-k-init : goal.loop-k-init
+loop-k-init c = λ y below. picks_none c.args.a.now c.args.b.now c.args.mask.now y (c.requires.blank y below)
 
 pub loop-k-preserved : goal.loop-k-preserved
 loop-k-preserved c =
@@ -28,5 +31,5 @@ returns-clause-none c y picked =
     let same = c.requires.mask in
     elim (cases_lt y (64 * length c.args.mask.now)) [
       | inl below ↦ clash picked (c.loop-k.invariant y (omega (arith, out, same, below)))
-      | inr past ↦ clash picked (picks_past c.args.a.now c.args.b.now c.args.mask.now y past)
+      | inr past ↦ clash picked (picks_none c.args.a.now c.args.b.now c.args.mask.now y (holds_past c.args.mask.now y past))
     ]

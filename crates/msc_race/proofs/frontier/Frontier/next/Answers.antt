@@ -12,8 +12,8 @@ use Rattle.msc_race.proofs.ChoiceLemmas.{iff_trans, some_map, none_map}
 use Rattle.msc_race.proofs.FrontierLemmas.{least_same, picked, unheld_free, all_free}
 use Rattle.msc_race.proofs.frontier.Frontier.next.Goals as goal
 
-pub returns-then-not-has_any-clause-some : goal.returns-then-not-has_any-clause-some
-returns-then-not-has_any-clause-some c =
+pub returns-then-not-has_free-clause-some : goal.returns-then-not-has_free-clause-some
+returns-then-not-has_free-clause-some c =
     let choice = c.args.choice.now in
     let self = c.args.self.now in
     let kept = c.requires.kept in
@@ -24,8 +24,8 @@ returns-then-not-has_any-clause-some c =
     let told = settled.enforced in
     let pick = picked chart is_wired past self.lines.left.items self.lines.outputs.items self.channels.inputs.items kept.left kept.lines.outputs kept.queues.inputs in
     let none_left : SomeFreeLeft chart choice.e past → ⊥ = λ some.
-    clash (c.has_any.ensures.1 (some.0, rw c.deref.ensures.value ((kept.free some.0).1 (some.1, some.2)))) c.if-not-has_any.true in
-    let row = rw (c.deref-then-not-has_any.ensures.value, c.deref-then-not-has_any-2.ensures.value, c.deref-then-not-has_any-3.ensures.value) at c.lowest.ensures.some in
+    clash (c.has_free.ensures.1 (some.0, (kept.free some.0).1 (some.1, some.2))) c.if-not-has_free.true in
+    let row = rw (c.deref.ensures.value, c.deref-then-not-has_free.ensures.value, c.deref-then-not-has_free-2.ensures.value) at c.lowest.ensures.some in
     let mask = pick self.lines.left.items (λ y. y < size choice) kept.left in
     some_map c.lowest.result (IsLeast (λ z. IsTrue (picks self.lines.outputs.items self.channels.inputs.items self.lines.left.items z))) (IsChosenNext chart choice.e past)
     (λ x h. inr (
@@ -34,8 +34,8 @@ returns-then-not-has_any-clause-some c =
           (λ y. iff_trans (mask y) (λ m. m.0, λ m. (m, m.event))) x h,
     )) row
 
-pub returns-then-not-has_any-clause-none : goal.returns-then-not-has_any-clause-none
-returns-then-not-has_any-clause-none c =
+pub returns-then-not-has_free-clause-none : goal.returns-then-not-has_free-clause-none
+returns-then-not-has_free-clause-none c =
     let choice = c.args.choice.now in
     let self = c.args.self.now in
     let kept = c.requires.kept in
@@ -46,8 +46,8 @@ returns-then-not-has_any-clause-none c =
     let told = settled.enforced in
     let pick = picked chart is_wired past self.lines.left.items self.lines.outputs.items self.channels.inputs.items kept.left kept.lines.outputs kept.queues.inputs in
     let none_left : SomeFreeLeft chart choice.e past → ⊥ = λ some.
-    clash (c.has_any.ensures.1 (some.0, rw c.deref.ensures.value ((kept.free some.0).1 (some.1, some.2)))) c.if-not-has_any.true in
-    let row = rw (c.deref-then-not-has_any.ensures.value, c.deref-then-not-has_any-2.ensures.value, c.deref-then-not-has_any-3.ensures.value) at c.lowest.ensures.none in
+    clash (c.has_free.ensures.1 (some.0, (kept.free some.0).1 (some.1, some.2))) c.if-not-has_free.true in
+    let row = rw (c.deref.ensures.value, c.deref-then-not-has_free.ensures.value, c.deref-then-not-has_free-2.ensures.value) at c.lowest.ensures.none in
     let mask = pick self.lines.left.items (λ y. y < size choice) kept.left in
     let run = c.a_chosen_run_goes_on.ensures.run choice.queues choice.chart.now choice.e past kept.steps in
     none_map c.lowest.result ((y : ℕ) → IsTrue (picks self.lines.outputs.items self.channels.inputs.items self.lines.left.items y) → ⊥) (IsWhole chart past)
@@ -56,8 +56,8 @@ returns-then-not-has_any-clause-none c =
       | inr next ↦ absurd (none next.0 ((mask next.0).1 (next.1, next.1.event)))
     ]) row
 
-pub returns-then-has_any-clause-some : goal.returns-then-has_any-clause-some
-returns-then-has_any-clause-some c =
+pub returns-then-has_passed-clause-some : goal.returns-then-has_passed-clause-some
+returns-then-has_passed-clause-some c =
     let choice = c.args.choice.now in
     let self = c.args.self.now in
     let kept = c.requires.kept in
@@ -67,23 +67,23 @@ returns-then-has_any-clause-some c =
     let is_wired = c.ends_share_queues.ensures choice.queues choice.chart.now settled.accepted in
     let told = settled.enforced in
     let pick = picked chart is_wired past self.lines.left.items self.lines.outputs.items self.channels.inputs.items kept.left kept.lines.outputs kept.queues.inputs in
-    let some_free = rw c.deref.ensures.value at (c.has_any.ensures.0 c.if-not-has_any.false) in
+    let some_free = c.has_free.ensures.0 c.if-not-has_free.false in
     let some_left : SomeFreeLeft chart choice.e past = (some_free.0, ((kept.free some_free.0).0 some_free.1).0, ((kept.free some_free.0).0 some_free.1).1) in
-    let some_passed = rw c.deref-2.ensures.value at (c.has_any-2.ensures.0 c.if-has_any.true) in
+    let some_passed = c.has_passed.ensures.0 c.if-has_passed.true in
     let t : ℕ = some_passed.0 in
     let t_is = (kept.passed t).0 some_passed.1 in
     let same = unheld_free chart is_wired (orders choice.order.now) told choice.e settled.known past t t_is.0 t_is.1 in
-    let row = rw (c.deref-then-has_any.ensures.value, c.deref-then-has_any-2.ensures.value, c.deref-then-has_any-3.ensures.value) at c.lowest-then-has_any.ensures.some in
+    let row = rw (c.deref-then-has_passed.ensures.value, c.deref-then-has_passed-2.ensures.value, c.deref-then-has_passed-3.ensures.value) at c.lowest-then-has_passed.ensures.some in
     let mask = pick self.remaining.unheld.items (IsUnheld chart choice.e) kept.unheld in
-    some_map c.lowest-then-has_any.result (IsLeast (λ z. IsTrue (picks self.lines.outputs.items self.channels.inputs.items self.remaining.unheld.items z))) (IsChosenNext chart choice.e past)
+    some_map c.lowest-then-has_passed.result (IsLeast (λ z. IsTrue (picks self.lines.outputs.items self.channels.inputs.items self.remaining.unheld.items z))) (IsChosenNext chart choice.e past)
     (λ x h. inl (
       some_left,
       least_same (λ z. IsTrue (picks self.lines.outputs.items self.channels.inputs.items self.remaining.unheld.items z)) (MayComeFree chart choice.e past)
           (λ y. iff_trans (mask y) (same y)) x h,
     )) row
 
-pub returns-then-has_any-clause-none : goal.returns-then-has_any-clause-none
-returns-then-has_any-clause-none c =
+pub returns-then-has_passed-clause-none : goal.returns-then-has_passed-clause-none
+returns-then-has_passed-clause-none c =
     let choice = c.args.choice.now in
     let self = c.args.self.now in
     let kept = c.requires.kept in
@@ -93,15 +93,15 @@ returns-then-has_any-clause-none c =
     let is_wired = c.ends_share_queues.ensures choice.queues choice.chart.now settled.accepted in
     let told = settled.enforced in
     let pick = picked chart is_wired past self.lines.left.items self.lines.outputs.items self.channels.inputs.items kept.left kept.lines.outputs kept.queues.inputs in
-    let some_free = rw c.deref.ensures.value at (c.has_any.ensures.0 c.if-not-has_any.false) in
+    let some_free = c.has_free.ensures.0 c.if-not-has_free.false in
     let some_left : SomeFreeLeft chart choice.e past = (some_free.0, ((kept.free some_free.0).0 some_free.1).0, ((kept.free some_free.0).0 some_free.1).1) in
-    let some_passed = rw c.deref-2.ensures.value at (c.has_any-2.ensures.0 c.if-has_any.true) in
+    let some_passed = c.has_passed.ensures.0 c.if-has_passed.true in
     let t : ℕ = some_passed.0 in
     let t_is = (kept.passed t).0 some_passed.1 in
     let same = unheld_free chart is_wired (orders choice.order.now) told choice.e settled.known past t t_is.0 t_is.1 in
-    let row = rw (c.deref-then-has_any.ensures.value, c.deref-then-has_any-2.ensures.value, c.deref-then-has_any-3.ensures.value) at c.lowest-then-has_any.ensures.none in
+    let row = rw (c.deref-then-has_passed.ensures.value, c.deref-then-has_passed-2.ensures.value, c.deref-then-has_passed-3.ensures.value) at c.lowest-then-has_passed.ensures.none in
     let mask = pick self.remaining.unheld.items (IsUnheld chart choice.e) kept.unheld in
-    none_map c.lowest-then-has_any.result ((y : ℕ) → IsTrue (picks self.lines.outputs.items self.channels.inputs.items self.remaining.unheld.items y) → ⊥) (IsWhole chart past)
+    none_map c.lowest-then-has_passed.result ((y : ℕ) → IsTrue (picks self.lines.outputs.items self.channels.inputs.items self.remaining.unheld.items y) → ⊥) (IsWhole chart past)
     (λ none.
     let next = c.a_chosen_run_goes_on.ensures.next choice.queues choice.chart.now settled.accepted choice.e settled.known past kept.steps some_left in
     absurd (none next.0 ((mask next.0).1 ((same next.0).1 next.1)))) row
@@ -117,11 +117,11 @@ returns-clause-some c =
     let is_wired = c.ends_share_queues.ensures choice.queues choice.chart.now settled.accepted in
     let told = settled.enforced in
     let pick = picked chart is_wired past self.lines.left.items self.lines.outputs.items self.channels.inputs.items kept.left kept.lines.outputs kept.queues.inputs in
-    let some_free = rw c.deref.ensures.value at (c.has_any.ensures.0 c.if-not-has_any.false) in
+    let some_free = c.has_free.ensures.0 c.if-not-has_free.false in
     let some_left : SomeFreeLeft chart choice.e past = (some_free.0, ((kept.free some_free.0).0 some_free.1).0, ((kept.free some_free.0).0 some_free.1).1) in
     let same = all_free chart is_wired (orders choice.order.now) told choice.e settled.known past
-    (λ t passed out. clash (c.has_any-2.ensures.1 (t, rw c.deref-2.ensures.value ((kept.passed t).1 (passed, out)))) c.if-has_any.false) in
-    let row = rw (c.deref-3.ensures.value, c.deref-4.ensures.value, c.deref-5.ensures.value) at c.lowest-2.ensures.some in
+    (λ t passed out. clash (c.has_passed.ensures.1 (t, (kept.passed t).1 (passed, out))) c.if-has_passed.false) in
+    let row = rw (c.deref-2.ensures.value, c.deref-3.ensures.value, c.deref-4.ensures.value) at c.lowest-2.ensures.some in
     let mask = pick self.remaining.free.items (IsFree chart choice.e) kept.free in
     some_map c.lowest-2.result (IsLeast (λ z. IsTrue (picks self.lines.outputs.items self.channels.inputs.items self.remaining.free.items z))) (IsChosenNext chart choice.e past)
     (λ x h. inl (
@@ -141,11 +141,11 @@ returns-clause-none c =
     let is_wired = c.ends_share_queues.ensures choice.queues choice.chart.now settled.accepted in
     let told = settled.enforced in
     let pick = picked chart is_wired past self.lines.left.items self.lines.outputs.items self.channels.inputs.items kept.left kept.lines.outputs kept.queues.inputs in
-    let some_free = rw c.deref.ensures.value at (c.has_any.ensures.0 c.if-not-has_any.false) in
+    let some_free = c.has_free.ensures.0 c.if-not-has_free.false in
     let some_left : SomeFreeLeft chart choice.e past = (some_free.0, ((kept.free some_free.0).0 some_free.1).0, ((kept.free some_free.0).0 some_free.1).1) in
     let same = all_free chart is_wired (orders choice.order.now) told choice.e settled.known past
-    (λ t passed out. clash (c.has_any-2.ensures.1 (t, rw c.deref-2.ensures.value ((kept.passed t).1 (passed, out)))) c.if-has_any.false) in
-    let row = rw (c.deref-3.ensures.value, c.deref-4.ensures.value, c.deref-5.ensures.value) at c.lowest-2.ensures.none in
+    (λ t passed out. clash (c.has_passed.ensures.1 (t, (kept.passed t).1 (passed, out))) c.if-has_passed.false) in
+    let row = rw (c.deref-2.ensures.value, c.deref-3.ensures.value, c.deref-4.ensures.value) at c.lowest-2.ensures.none in
     let mask = pick self.remaining.free.items (IsFree chart choice.e) kept.free in
     none_map c.lowest-2.result ((y : ℕ) → IsTrue (picks self.lines.outputs.items self.channels.inputs.items self.remaining.free.items y) → ⊥) (IsWhole chart past)
     (λ none.

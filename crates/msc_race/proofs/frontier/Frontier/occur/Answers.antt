@@ -16,6 +16,7 @@ returns-clause-kept c =
       lines = c.occur-2.ensures.kept;
       queues = queues;
       rows = c.occur.ensures.rows;
+      first = c.occur.ensures.first;
       left = rw run (left_after _ _ _ past c.args.x kept.left c.occur-2.ensures.without);
       free = rw run (left_after _ _ _ past c.args.x kept.free lost.free);
       unheld = rw run (left_after _ _ _ past c.args.x kept.unheld lost.unheld);

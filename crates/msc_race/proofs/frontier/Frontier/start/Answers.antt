@@ -12,6 +12,7 @@ returns c =
       lines = c.in_ok-start-2.ensures.kept;
       queues = rw run c.in_ok-start-3.ensures.queues;
       rows = c.in_ok-start.ensures.rows;
+      first = c.in_ok-start.ensures.first;
       left = rw run (all_at_first _ _ c.in_ok-start-2.ensures.left);
       free = rw run (left_at_first _ _ (size choice) below.free (λ y free. free.0));
       unheld = rw run (left_at_first _ _ (size choice) below.unheld (λ y unheld. unheld.0.0));

@@ -1,0 +1,7 @@
+use Rattle.msc_race.proofs.Gaps.{gap_bits}
+use Rattle.msc_race.proofs.racing.gaps_of.Goals as goal
+
+pub returns : goal.returns
+returns c f here =
+    gap_bits c.args.word c.args.k c.args.start c.args.end c.saturating_sub-from.result c.saturating_sub-past.result f
+    c.ranges.word.fits c.requires.start c.requires.end c.saturating_sub-from.ensures c.saturating_sub-past.ensures here
