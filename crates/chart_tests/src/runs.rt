@@ -1,7 +1,6 @@
 //! Runs that reverse pairs of events.
 
-use crate::charts::{COREGION, RELAY, TWO_SENDERS};
-use crate::races::{CROSSING, OVERTAKING, TWO_MAILBOXES};
+use example_charts::{COREGION, CROSSING, OVERTAKING, RELAY, TWO_MAILBOXES, TWO_SENDERS};
 use msc_chart::{Chart, Event, Queues};
 use msc_order::Order;
 use msc_parser::parse;
@@ -16,6 +15,8 @@ fn the_reversing_runs_of_the_worked_charts(rt: HostRuntime) -> Result<(), Fail> 
         (TWO_SENDERS, Queues::Mailbox, 1, 2, &[3, 0, 2, 1]),
         (TWO_SENDERS, Queues::Pair, 3, 0, &[0, 1, 3, 2]),
         (TWO_SENDERS, Queues::Mailbox, 3, 0, &[0, 1, 3, 2]),
+        (COREGION, Queues::Pair, 1, 2, &[0, 3, 2, 1]),
+        (COREGION, Queues::Pair, 2, 1, &[0, 1, 3, 2]),
         (COREGION, Queues::Mailbox, 1, 2, &[3, 0, 2, 1]),
         (COREGION, Queues::Mailbox, 2, 1, &[0, 1, 3, 2]),
         (RELAY, Queues::Pair, 2, 3, &[0, 1, 4, 5, 3, 2]),

@@ -2,49 +2,17 @@
 
 use crate::devices::Narrow;
 use crate::program::run;
+use example_charts::{
+    COREGION, CROSSING, EMPTY, NUMBERED, ONE_MESSAGE, OVERTAKING, RELAY, TWO_MAILBOXES, TWO_SENDERS,
+};
 use msc_chart::{Chart, Queues};
 use msc_parser::parse;
 use msc_tool::{Fault, check_text, write_race};
 use std::alloc::{AllocError, Global};
 use std::test::Fail;
 
-/// The chart `empty`.
-const EMPTY: &[u8] = b"msc t; endmsc;";
-
-/// The chart `one_message`.
-const ONE_MESSAGE: &[u8] =
-    b"msc t; instance a; out m to b; endinstance; instance b; in m from a; endinstance; endmsc;";
-
-/// The chart `two_senders`.
-const TWO_SENDERS: &[u8] =
-    b"msc t; instance a; out m1 to b; endinstance; instance b; in m1 from a; in m2 from c; endinstance; instance c; out m2 to b; endinstance; endmsc;";
-
-/// The chart `relay`.
-const RELAY: &[u8] =
-    b"msc t; instance a; out m1 to b; out x to c; endinstance; instance b; in m1 from a; in m2 from c; endinstance; instance c; in x from a; out m2 to b; endinstance; endmsc;";
-
-/// The chart `overtaking`.
-const OVERTAKING: &[u8] =
-    b"msc t; instance a; out m1 to b; out m2 to b; endinstance; instance b; in m2 from a; in m1 from a; endinstance; endmsc;";
-
-/// The chart `coregion`.
-const COREGION: &[u8] =
-    b"msc t; instance a; out m1 to b; endinstance; instance b; concurrent; in m1 from a; in m2 from c; endconcurrent; endinstance; instance c; out m2 to b; endinstance; endmsc;";
-
-/// The chart `crossing`.
-const CROSSING: &[u8] =
-    b"msc t; instance a; out p to b; in q from b; endinstance; instance b; out q to a; in p from a; endinstance; endmsc;";
-
-/// The chart `numbered`.
-const NUMBERED: &[u8] =
-    b"msc t; instance a; out m, 1 to b; out m, 2 to b; endinstance; instance b; in m, 1 from a; in m, 2 from a; endinstance; endmsc;";
-
-/// The chart `two_mailboxes`.
-const TWO_MAILBOXES: &[u8] =
-    b"msc t; instance a; out m1 to q; out m3 to z; endinstance; instance b; out m4 to z; out m2 to q; endinstance; instance q; in m1 from a; in m2 from b; endinstance; instance z; in m4 from b; in m3 from a; endinstance; endmsc;";
-
-/// Whether the program prints the verdict of a chart named `t` as `pair` and `mailbox` say what stands
-/// behind the head's first two lines, and ends with the status of that verdict.
+/// Whether the program prints the verdict of a chart named `t` as `pair` and `mailbox` say what
+/// stands behind the head's first two lines, and ends with the status of that verdict.
 fn prints(rt: &HostRuntime, text: &[u8], pair: &[u8], mailbox: &[u8]) -> Result<bool, AllocError> {
     for (queues, head, rest) in [
         ("pair", b"chart t\nqueues pair\n".as_slice(), pair),
@@ -108,8 +76,8 @@ fn coregion(rt: HostRuntime) -> Result<(), Fail> {
 
 #[test]
 fn crossing(rt: HostRuntime) -> Result<(), Fail> {
-    let races =
-        b"races 2\nrace 0 1 on a: out p to b; in q from b\nrace 2 3 on b: out q to a; in p from a\n";
+    let races = b"races 2\nrace 0 1 on a: out p to b; in q from b\n\
+race 2 3 on b: out q to a; in p from a\n";
     assert!(rt; prints(&rt, CROSSING, races, races)?);
     Ok(())
 }
@@ -122,8 +90,8 @@ fn numbered(rt: HostRuntime) -> Result<(), Fail> {
 
 #[test]
 fn two_mailboxes(rt: HostRuntime) -> Result<(), Fail> {
-    let races =
-        b"races 2\nrace 4 5 on q: in m1 from a; in m2 from b\nrace 6 7 on z: in m4 from b; in m3 from a\n";
+    let races = b"races 2\nrace 4 5 on q: in m1 from a; in m2 from b\n\
+race 6 7 on z: in m4 from b; in m3 from a\n";
     assert!(rt; prints(&rt, TWO_MAILBOXES, races, races)?);
     Ok(())
 }
@@ -138,7 +106,8 @@ fn a_message_to_itself(rt: HostRuntime) -> Result<(), Fail> {
 #[test]
 fn message_instance_names_without_parameters(rt: HostRuntime) -> Result<(), Fail> {
     let text = b"msc t; instance a; out m, 1(x) to b; endinstance; \
-instance b; in m, 1(y, z) from a; in m() from c; endinstance; instance c; out m to b; endinstance; endmsc;";
+instance b; in m, 1(y, z) from a; in m() from c; endinstance; \
+instance c; out m to b; endinstance; endmsc;";
     let races = b"races 1\nrace 1 2 on b: in m, 1 from a; in m from c\n";
     assert!(rt; prints(&rt, text, races, races)?);
     Ok(())
@@ -197,7 +166,8 @@ fn a_file_that_is_not_there(rt: HostRuntime) -> Result<(), Fail> {
     Ok(())
 }
 
-/// A writer that takes a few bytes at a time and fails at this call, from 1, or at none where it is 0.
+/// A writer that takes a few bytes at a time and fails at this call, from 1, or at none where it is
+/// 0.
 fn narrow(alloc: Global, fails_at: u32) -> Narrow {
     Narrow {
         written: Vec::new(alloc),

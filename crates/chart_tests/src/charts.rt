@@ -1,25 +1,12 @@
 //! Charts of drafts: numbers, segments, queues, and drafts that are no chart.
 
+use example_charts::{COREGION, EMPTY, NUMBERED, RELAY, TWO_SENDERS};
 use msc_chart::{Chart, ChartFault, EventKind, Queues};
 use msc_parser::parse;
 use msc_tool::{Fault, write_fault};
 use std::alloc::{AllocError, Global};
 use std::fmt::Write;
 use std::test::Fail;
-
-/// The chart `two_senders`.
-pub(crate) const TWO_SENDERS: &[u8] = b"msc t; instance a; out m1 to b; endinstance; \
-instance b; in m1 from a; in m2 from c; endinstance; instance c; out m2 to b; endinstance; endmsc;";
-
-/// The chart `coregion`.
-pub(crate) const COREGION: &[u8] = b"msc t; instance a; out m1 to b; endinstance; \
-instance b; concurrent; in m1 from a; in m2 from c; endconcurrent; endinstance; \
-instance c; out m2 to b; endinstance; endmsc;";
-
-/// The chart `relay`.
-pub(crate) const RELAY: &[u8] = b"msc t; instance a; out m1 to b; out x to c; endinstance; \
-instance b; in m1 from a; in m2 from c; endinstance; \
-instance c; in x from a; out m2 to b; endinstance; endmsc;";
 
 /// The fault of a text whose draft is no chart.
 fn fault(alloc: Global, text: &[u8]) -> Option<ChartFault> {
@@ -73,10 +60,9 @@ instance b; in m from a; in m from a; endinstance; endmsc;",
 #[test]
 fn charts_that_are_accepted(rt: HostRuntime) {
     for text in [
-        b"msc t; endmsc;".as_slice(),
+        EMPTY,
         b"msc t; instance a; out m to a; in m from a; endinstance; endmsc;",
-        b"msc t; instance a; out m, 1 to b; out m, 2 to b; endinstance; \
-instance b; in m, 1 from a; in m, 2 from a; endinstance; endmsc;",
+        NUMBERED,
         TWO_SENDERS,
         COREGION,
         RELAY,

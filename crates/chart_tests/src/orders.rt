@@ -1,7 +1,6 @@
 //! Orders of charts, and their rows of bits.
 
-use crate::charts::{RELAY, TWO_SENDERS};
-use crate::races::{OVERTAKING, TWO_MAILBOXES};
+use example_charts::{OVERTAKING, RELAY, TWO_MAILBOXES, TWO_SENDERS};
 use msc_chart::{Chart, Queues};
 use msc_order::Order;
 use msc_parser::parse;

@@ -1,31 +1,12 @@
 //! Races of charts, and verdicts.
 
-use crate::charts::{COREGION, RELAY, TWO_SENDERS};
+use example_charts::{COREGION, CROSSING, NUMBERED, OVERTAKING, RELAY, TWO_MAILBOXES, TWO_SENDERS};
 use msc_chart::{Chart, Event, Queues};
 use msc_parser::parse;
 use msc_race::{Verdict, check};
 use std::alloc::{AllocError, Global};
 use std::fmt::Write;
 use std::test::Fail;
-
-/// The chart `overtaking`.
-pub(crate) const OVERTAKING: &[u8] = b"msc t; instance a; out m1 to b; out m2 to b; endinstance; \
-instance b; in m2 from a; in m1 from a; endinstance; endmsc;";
-
-/// The chart `crossing`.
-pub(crate) const CROSSING: &[u8] = b"msc t; instance a; out p to b; in q from b; endinstance; \
-instance b; out q to a; in p from a; endinstance; endmsc;";
-
-/// The chart `numbered`.
-const NUMBERED: &[u8] = b"msc t; instance a; out m, 1 to b; out m, 2 to b; endinstance; \
-instance b; in m, 1 from a; in m, 2 from a; endinstance; endmsc;";
-
-/// The chart `two_mailboxes`.
-pub(crate) const TWO_MAILBOXES: &[u8] =
-    b"msc t; instance a; out m1 to q; out m3 to z; endinstance; \
-instance b; out m4 to z; out m2 to q; endinstance; \
-instance q; in m1 from a; in m2 from b; endinstance; \
-instance z; in m4 from b; in m3 from a; endinstance; endmsc;";
 
 /// A chart in which what follows the queue rule is enforced as well.
 const REPLY: &[u8] = b"msc t; instance a; out m1 to b; out m2 to b; endinstance; \
