@@ -8,6 +8,11 @@ use std::alloc::{AllocError, Global};
 use std::fmt::Write;
 use std::test::Fail;
 
+/// The chart of a text that has one.
+pub(crate) fn chart_of(alloc: Global, text: &[u8]) -> Result<Chart, Fail> {
+    Ok(Chart::build(alloc, &parse(alloc, text)?)?)
+}
+
 /// The fault of a text whose draft is no chart.
 fn fault(alloc: Global, text: &[u8]) -> Option<ChartFault> {
     match parse(alloc, text) {
@@ -116,11 +121,11 @@ fn the_limit_of_instances(rt: HostRuntime) -> Result<(), Fail> {
 #[test]
 fn segments_of_a_coregion(rt: HostRuntime) -> Result<(), Fail> {
     let alloc = rt.alloc();
-    let chart = Chart::build(alloc, &parse(alloc, COREGION)?)?;
+    let chart = chart_of(alloc, COREGION)?;
     assert_eq!(rt; chart.events(), 4);
     assert_eq!(rt; (chart.segment(1), chart.segment(2)), (0, 0));
     assert!(rt; !chart.before(1, 2));
-    let chart = Chart::build(alloc, &parse(alloc, TWO_SENDERS)?)?;
+    let chart = chart_of(alloc, TWO_SENDERS)?;
     assert_eq!(rt; chart.events(), 4);
     assert_eq!(rt; (chart.segment(1), chart.segment(2)), (0, 1));
     assert!(rt; chart.before(1, 2));
@@ -132,7 +137,7 @@ fn an_empty_coregion_takes_no_segment(rt: HostRuntime) -> Result<(), Fail> {
     let alloc = rt.alloc();
     let text = b"msc t; instance a; out m to a; concurrent; endconcurrent; in m from a; \
 endinstance; endmsc;";
-    let chart = Chart::build(alloc, &parse(alloc, text)?)?;
+    let chart = chart_of(alloc, text)?;
     assert_eq!(rt; chart.events(), 2);
     assert_eq!(rt; (chart.segment(0), chart.segment(1)), (0, 1));
     Ok(())
@@ -141,7 +146,7 @@ endinstance; endmsc;";
 #[test]
 fn events_of_relay(rt: HostRuntime) -> Result<(), Fail> {
     let alloc = rt.alloc();
-    let chart = Chart::build(alloc, &parse(alloc, RELAY)?)?;
+    let chart = chart_of(alloc, RELAY)?;
     assert_eq!(rt; chart.name(), b"t".as_slice());
     assert_eq!(rt; chart.instances(), 3);
     assert_eq!(rt; chart.instance_name(2), b"c".as_slice());
@@ -160,7 +165,7 @@ fn events_of_relay(rt: HostRuntime) -> Result<(), Fail> {
 #[test]
 fn messages_and_queues_of_relay(rt: HostRuntime) -> Result<(), Fail> {
     let alloc = rt.alloc();
-    let chart = Chart::build(alloc, &parse(alloc, RELAY)?)?;
+    let chart = chart_of(alloc, RELAY)?;
     assert_eq!(rt; chart.messages(), 3);
     assert_eq!(rt; (chart.output_of(1), chart.input_of(1)), (1, 4));
     assert_eq!(rt; (chart.sender(2), chart.receiver(2)), (2, 1));

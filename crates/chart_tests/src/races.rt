@@ -1,8 +1,8 @@
 //! Races of charts, and verdicts.
 
+use crate::charts::chart_of;
 use example_charts::{COREGION, CROSSING, NUMBERED, OVERTAKING, RELAY, TWO_MAILBOXES, TWO_SENDERS};
-use msc_chart::{Chart, Event, Queues};
-use msc_parser::parse;
+use msc_chart::{Event, Queues};
 use msc_race::{Verdict, check};
 use std::alloc::{AllocError, Global};
 use std::fmt::Write;
@@ -45,7 +45,7 @@ fn the_race_lists_of_the_worked_charts(rt: HostRuntime) -> Result<(), Fail> {
         ),
         ("one message to oneself", one_self, &[], &[]),
     ] {
-        let chart = Chart::build(alloc, &parse(alloc, text)?)?;
+        let chart = chart_of(alloc, text)?;
         let verdict = check(alloc, &chart, Queues::Pair)?;
         assert_eq!(rt; listed(&verdict), pair, "{name}");
         let verdict = check(alloc, &chart, Queues::Mailbox)?;
@@ -57,7 +57,7 @@ fn the_race_lists_of_the_worked_charts(rt: HostRuntime) -> Result<(), Fail> {
 #[test]
 fn what_follows_the_queue_rule_is_enforced(rt: HostRuntime) -> Result<(), Fail> {
     let alloc = rt.alloc();
-    let chart = Chart::build(alloc, &parse(alloc, REPLY)?)?;
+    let chart = chart_of(alloc, REPLY)?;
     let verdict = check(alloc, &chart, Queues::Pair)?;
     assert_eq!(rt; listed(&verdict), [(2, 4), (3, 4)].as_slice());
     Ok(())
@@ -86,7 +86,7 @@ fn messages_in_reverse(rt: HostRuntime) -> Result<(), Fail> {
         (33, 528, (33, 34), (64, 65)),
     ] {
         let text = messages(alloc, count, true)?;
-        let chart = Chart::build(alloc, &parse(alloc, text.as_bytes())?)?;
+        let chart = chart_of(alloc, text.as_bytes())?;
         for queues in [Queues::Pair, Queues::Mailbox] {
             let verdict = check(alloc, &chart, queues)?;
             let list = listed(&verdict);
@@ -105,7 +105,7 @@ fn messages_in_reverse(rt: HostRuntime) -> Result<(), Fail> {
 fn a_thousand_messages_in_one_order(rt: HostRuntime) -> Result<(), Fail> {
     let alloc = rt.alloc();
     let text = messages(alloc, 1_024, false)?;
-    let chart = Chart::build(alloc, &parse(alloc, text.as_bytes())?)?;
+    let chart = chart_of(alloc, text.as_bytes())?;
     for queues in [Queues::Pair, Queues::Mailbox] {
         let verdict = check(alloc, &chart, queues)?;
         assert!(rt; matches!(verdict, Verdict::Pass), "{queues:?}");

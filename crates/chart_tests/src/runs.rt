@@ -1,9 +1,9 @@
 //! Runs that reverse pairs of events.
 
+use crate::charts::chart_of;
 use example_charts::{COREGION, CROSSING, OVERTAKING, RELAY, TWO_MAILBOXES, TWO_SENDERS};
-use msc_chart::{Chart, Event, Queues};
+use msc_chart::{Event, Queues};
 use msc_order::Order;
-use msc_parser::parse;
 use msc_race::reversing_run;
 use std::test::Fail;
 
@@ -39,7 +39,7 @@ fn the_reversing_runs_of_the_worked_charts(rt: HostRuntime) -> Result<(), Fail> 
             &[0, 1, 2, 3, 4, 5, 7, 6],
         ),
     ] {
-        let chart = Chart::build(alloc, &parse(alloc, text)?)?;
+        let chart = chart_of(alloc, text)?;
         let order = Order::enforced(alloc, &chart, queues)?;
         assert!(rt;
             e < chart.events() && f < chart.events() && e != f,
