@@ -10,3 +10,5 @@ mod devices;
 mod inputs;
 #[cfg(test)]
 mod program;
+#[cfg(test)]
+mod shown;
