@@ -18,6 +18,6 @@ mod remaining;
 mod reversing;
 mod verdict;
 
-pub use racing::{check, races};
+pub use racing::{check, check_order, races};
 pub use reversing::{chosen_run, reversing_run};
 pub use verdict::Verdict;

@@ -6,7 +6,9 @@
 
 ghost use Rattle.std.specs.Prelude.{◌≡◌, ℕ, ◌+◌, ◌*◌, ◌/◌, ◌<◌, ◌≤◌, ◌++◌, ◌⊎◌, length, IsTrue, false, IfOk, OnOk};
 ghost use Rattle.msc_chart.specs.Charts.{IsLineEnd, IsSegmentEnd};
-ghost use Rattle.msc_chart.specs.Orders.{wired};
+ghost use Rattle.msc_chart.specs.declared.queue.Queues.{Queues};
+ghost use Rattle.msc_chart.specs.Orders.{wired, IsEnforcedOrder};
+ghost use Rattle.msc_order.specs.Tables.{orders};
 ghost use Rattle.msc_race.specs.Races.{all_races, bit_in, is_gap, pairs_to, IsVerdict, TellsRuns};
 
 use crate::laws::races_are_what_runs_reverse;
@@ -97,6 +99,26 @@ pub fn races(alloc: Global, chart: &Chart, order: &Order) -> Result<Vec<(Event, 
     Ok(list)
 }
 
+/// The verdict on a chart under each architecture of which `order` is the enforced order: as
+/// [`check`], for a caller that has made the order. An error is a growth of memory that was refused.
+pub fn check_order(alloc: Global, chart: &Chart, order: &Order) -> Result<Verdict, AllocError>
+    requires events { length order.now ≡ length chart.now.events }
+    ensures verdict { IfOk result (λ v. (queues : Queues)
+        → IsEnforcedOrder (wired queues chart.now) (orders order.now)
+        → IsVerdict (wired queues chart.now) v) }
+    ensures runs { IfOk result (λ v. (queues : Queues)
+        → IsEnforcedOrder (wired queues chart.now) (orders order.now)
+        → TellsRuns (wired queues chart.now) v) }
+{
+    races_are_what_runs_reverse();
+    let _accepted = chart.events();
+    let list = races(alloc, chart, order)?;
+    if list.is_empty() {
+        return Ok(Verdict::Pass);
+    }
+    Ok(Verdict::Races(Listed::from_vec(list)))
+}
+
 /// Whether a chart has races under an architecture, and which: [`Verdict::Pass`] exactly where no
 /// drawn pair is a race, so where every run keeps the drawn order; otherwise all races, which are
 /// the drawn pairs that some run reverses. An error is a growth of memory that was refused.
@@ -104,12 +126,5 @@ pub fn check(alloc: Global, chart: &Chart, queues: Queues) -> Result<Verdict, Al
     ensures verdict { IfOk result (IsVerdict (wired queues chart.now)) }
     ensures runs { IfOk result (TellsRuns (wired queues chart.now)) }
 {
-    races_are_what_runs_reverse();
-    let _accepted = chart.events();
-    let order = Order::enforced(alloc, chart, queues)?;
-    let list = races(alloc, chart, &order)?;
-    if list.is_empty() {
-        return Ok(Verdict::Pass);
-    }
-    Ok(Verdict::Races(Listed::from_vec(list)))
+    check_order(alloc, chart, &Order::enforced(alloc, chart, queues)?)
 }

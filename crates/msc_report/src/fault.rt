@@ -1,12 +1,13 @@
 //! Why a call gave no answer.
 
 ghost use Rattle.std.specs.Prelude.{◌≡◌};
-ghost use Rattle.msc_report.specs.declared.fault.Fault.TheVariants.{Memory};
+ghost use Rattle.msc_report.specs.declared.fault.Fault.TheVariants.{Device, Memory};
 ghost use Rattle.msc_report.specs.Refusals.{chart_refusal_of, refusal_of};
 
 use msc_chart::ChartFault;
 use msc_parser::ParseFault;
 use std::alloc::AllocError;
+use std::io;
 use thiserror::Error;
 
 /// Why a call gave no answer. The first that stands is answered, in this order, but for want of
@@ -32,6 +33,14 @@ impl From<AllocError> for Fault {
 
     fn from(_e: AllocError) -> Fault {
         Fault::Memory
+    }
+}
+
+impl From<io::Error> for Fault {
+    ghost from_gives = { λ _ e. e ≡ Device };
+
+    fn from(_e: io::Error) -> Fault {
+        Fault::Device
     }
 }
 

@@ -2,7 +2,8 @@
 //!
 //! Each call writes exactly its text or answers an `io::Error`; how much went out before an error is
 //! not said. The texts are definitions of their own, beside which each call's contract stands. No
-//! call takes memory, beyond what the writer does. Events are numbered from 0, over all lines.
+//! call but `run_line` takes memory, beyond what the writer does. Events are numbered from 0, over all
+//! lines.
 #![tactic(auto)]
 
 mod fault;
@@ -11,6 +12,6 @@ mod verdict;
 mod writing;
 
 pub use fault::Fault;
-pub use race::write_race;
+pub use race::{run_line, write_race};
 pub use verdict::write_verdict;
 pub use writing::{write_draft, write_fault};

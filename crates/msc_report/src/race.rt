@@ -1,6 +1,6 @@
 //! The text of one race.
 
-ghost use Rattle.std.specs.Prelude.{◌≡◌, ◌<◌, ◌++◌, OnOk, length};
+ghost use Rattle.std.specs.Prelude.{◌≡◌, ◌<◌, ◌++◌, IfOk, OnOk, Some, length};
 ghost use Rattle.std.specs.Io.KnownBytes.{Appends};
 ghost use Rattle.std.specs.List.{flat_map};
 ghost use Rattle.std.specs.Option.{option_copied};
@@ -9,6 +9,7 @@ ghost use Rattle.msc_chart.specs.Drawings.{message_at};
 ghost use Rattle.msc_report.specs.Verdicts.{event_text, instance_text, message_text, number_text, race_events, race_place, race_text, run_line, spaced};
 
 use msc_chart::{Chart, Event, EventKind};
+use std::alloc::{AllocError, Global};
 use std::io;
 use std::io::Write;
 
@@ -125,6 +126,18 @@ fn write_run<W: Write>(writer: &mut W, run: Option<&[Event]>) -> io::Result<()>
             writer.write_all(b"\n")
         }
         None => Ok(()),
+    }
+}
+
+/// The line of a run, for a caller that writes it behind more than one race. An error is a growth of
+/// memory that was refused.
+pub fn run_line(alloc: Global, run: &[Event]) -> Result<Vec<u8>, AllocError>
+    ensures { IfOk result (λ line. line.items ≡ run_line (Some run.now)) }
+{
+    let mut line = Vec::new(alloc);
+    match write_run(&mut line, Some(run)) {
+        Ok(()) => Ok(line),
+        Err(_) => Err(AllocError),
     }
 }
 

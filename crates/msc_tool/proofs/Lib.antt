@@ -1,3 +1,5 @@
 pub mod ReadingLemmas
 pub mod Refusals
 pub mod Races
+pub mod Shown
+pub mod Answered

@@ -20,7 +20,7 @@ unfolding before
 drawn_events events e f drawn = (grind (arith, drawn), grind (arith, drawn))
 
 -- a pair that stands in the list of races is one of events
-pair_events : (queues : Queues) (d : Drawing) (pairs : List (ℕ × ℕ)) (p : ℕ × ℕ) → AreRaces (wired queues d) pairs → Occurs pairs p
+pub pair_events : (queues : Queues) (d : Drawing) (pairs : List (ℕ × ℕ)) (p : ℕ × ℕ) → AreRaces (wired queues d) pairs → Occurs pairs p
     → (p.0 < length d.events) × (p.1 < length d.events)
 pair_events queues d pairs (e, f) races there = drawn_events d.events e f ((races e f).1 there).0
 

@@ -44,6 +44,15 @@ refuses {A} text (grammar.Expected at w) said = refuses_with text (grammar.Expec
 abbrev pub IsDraft : List ℕ → Tree → Type 0
 IsDraft text d = HasDraft text d × ((t : Tree) → HasDraft text t → d ≡ t)
 
+-- where a text has a draft, no fault of a text is answered
+pub text_stands : {A : Type 0} (text : List ℕ) (answer : Result A Fault) → ((f : ParseFault) → HasParseFault text f → ⊥)
+    → ((f : ParseFault) → answer ≢ Err (Parse f)) → RefusesText text answer
+text_stands {A} text answer faultless other = record {
+  stands = λ f e. absurd (other f e);
+  comes = λ f has. absurd (faultless f has);
+  accepted = λ t has f. other f;
+}
+
 -- want of memory is no word on a draft
 pub memory_of_draft : {A : Type 0} (text : List ℕ) → RefusesDraft {A = A} text (Err Memory)
 memory_of_draft {A} text = record {

@@ -1,17 +1,21 @@
 //! From a text to the verdict on its chart, bytes to bytes.
 
-ghost use Rattle.std.specs.Prelude.{◌≡◌, ◌≢◌, IfErr, IfOk, IfSome, OnOk};
-ghost use Rattle.std.specs.Io.KnownBytes.{Appends};
+ghost use Rattle.std.specs.Prelude.{◌≡◌, ◌≢◌, ◌⊎◌, ℕ, List, length, IfErr, IfOk, IfSome};
+ghost use Rattle.msc_chart.specs.Orders.{wired, IsEnforcedOrder};
+ghost use Rattle.msc_order.specs.Tables.{orders};
+ghost use Rattle.msc_race.specs.Races.{IsVerdict};
 ghost use Rattle.msc_tool.specs.Answers.{RefusesText};
-ghost use Rattle.msc_tool.specs.Checking.{checked_text, passes, races_of, races_text, AreEvents, RefusesDraft, WritesVerdict};
+ghost use Rattle.msc_tool.specs.Checking.{passes, races_of, BeginsVerdict, PrintsVerdict, RefusesDraft, Writes, WritesVerdict};
 
 use crate::reading::read_all;
+use crate::showing::write_races;
 use msc_chart::{Chart, Event, Queues};
+use msc_order::Order;
 use msc_parser::parse;
-use msc_race::{Verdict, check};
-use msc_report::{Fault, write_race, write_verdict};
+use msc_race::laws::the_chosen_run_reverses;
+use msc_race::{Verdict, check_order};
+use msc_report::{Fault, write_verdict};
 use std::alloc::Global;
-use std::io;
 use std::io::{Read, Write};
 
 /// Whether a verdict is `pass`.
@@ -34,40 +38,40 @@ fn races_of<'v>(verdict: &'v Verdict) -> &'v [(Event, Event)]
     }
 }
 
-/// Writes each of these races, in order.
-fn write_races<W: Write>(writer: &mut W, chart: &Chart, races: &[(Event, Event)]) -> io::Result<()>
-    requires { AreEvents chart.now races.now }
-    ensures { OnOk result (Appends (W.contents writer.old) (W.contents writer.new)
-        (races_text chart.now races.now)) }
-{
-    for race in races {
-        let (e, f) = *race;
-        write_race(writer, chart, e, f, None)?;
-    }
-    Ok(())
-}
-
-/// Writes the head of a verdict and each race in order.
+/// Writes the head of a verdict and each race, the first `show` with the chosen run of their first
+/// event; answers whether the verdict is `pass`.
 fn write_checked<W: Write>(
+    alloc: Global,
     writer: &mut W,
     chart: &Chart,
     queues: Queues,
+    order: &Order,
     verdict: &Verdict,
-) -> io::Result<()>
-    requires { AreEvents chart.now (races_of verdict.now) }
-    ensures { OnOk result (Appends (W.contents writer.old) (W.contents writer.new)
-        (checked_text chart.now queues verdict.now)) }
+    show: u32,
+) -> Result<bool, Fault>
+    requires enforced { IsEnforcedOrder (wired queues chart.now) (orders order.now) }
+    requires square { length order.now ≡ length chart.now.events }
+    requires verdict { IsVerdict (wired queues chart.now) verdict.now }
+    ensures answered { IfOk result (λ passed. passed ≡ passes verdict.now) }
+    ensures written { (printed : List ℕ)
+        × PrintsVerdict chart.now queues show verdict.now printed
+        × Writes result (W.contents writer.old) (W.contents writer.new) printed }
 {
+    the_chosen_run_reverses();
+    let _accepted = chart.events();
     write_verdict(writer, chart, queues, verdict)?;
-    write_races(writer, chart, races_of(verdict))
+    write_races(alloc, writer, chart, queues, order, races_of(verdict), show)?;
+    Ok(passes(verdict))
 }
 
-/// Writes the verdict on a text's chart under an architecture, and each race in order; answers
-/// whether it is `pass`. No run is shown yet: `show` is 0.
+/// Writes the verdict on a text's chart under an architecture, and each race in order, the first
+/// `show` with the chosen run of their first event, which reverses them; answers whether the verdict
+/// is `pass`.
 ///
 /// A text without a draft is refused with its first fault, a draft that is no chart with its own, and
-/// want of memory is answered as `Memory`; the writer then has had no call. `Device` is answered
-/// where the writer fails.
+/// want of memory is answered as `Memory`. After `Memory` a beginning of the answer may have been
+/// written, after the other refusals the writer has had no call. `Device` is answered where the
+/// writer fails.
 pub fn check_text<W: Write>(
     alloc: Global,
     text: &[u8],
@@ -75,25 +79,24 @@ pub fn check_text<W: Write>(
     show: u32,
     writer: &mut W,
 ) -> Result<bool, Fault>
-    requires shown { show ≡ 0 }
     ensures written { IfOk result (λ passed.
-        WritesVerdict text.now queues passed (W.contents writer.old) (W.contents writer.new)) }
+        WritesVerdict text.now queues show passed (W.contents writer.old) (W.contents writer.new)) }
     ensures refused { RefusesText text.now result }
     ensures no_chart { RefusesDraft text.now result }
-    ensures untouched { IfErr result (λ e. e ≢ Fault.Device → writer.new ≡ writer.old) }
+    ensures begun { IfErr result (λ e. e ≡ Fault.Memory → (writer.new ≡ writer.old)
+        ⊎ BeginsVerdict text.now queues show (W.contents writer.old) (W.contents writer.new)) }
+    ensures untouched { IfErr result
+        (λ e. e ≢ Fault.Memory → e ≢ Fault.Device → writer.new ≡ writer.old) }
 {
-    let _show = show;
     let draft = parse(alloc, text)?;
     let chart = Chart::build(alloc, &draft)?;
-    let verdict = check(alloc, &chart, queues)?;
-    match write_checked(writer, &chart, queues, &verdict) {
-        Ok(()) => Ok(passes(&verdict)),
-        Err(_) => Err(Fault::Device),
-    }
+    let order = Order::enforced(alloc, &chart, queues)?;
+    let verdict = check_order(alloc, &chart, &order)?;
+    write_checked(alloc, writer, &chart, queues, &order, &verdict, show)
 }
 
-/// Reads an input to its end, and writes the verdict on its chart and each race in order; answers
-/// whether the verdict is `pass`.
+/// Reads an input to its end, and writes the verdict on its chart and each race in order, as
+/// [`check_text`]; answers whether the verdict is `pass`.
 ///
 /// The faults are those of [`read_all`](crate::read_all) and then those of [`check_text`].
 pub fn check_input<R: Read, W: Write>(
@@ -103,10 +106,13 @@ pub fn check_input<R: Read, W: Write>(
     show: u32,
     writer: &mut W,
 ) -> Result<bool, Fault>
-    requires shown { show ≡ 0 }
     ensures written { IfOk result (λ passed. IfSome (R.remaining reader.old) (λ bytes.
-        WritesVerdict bytes queues passed (W.contents writer.old) (W.contents writer.new))) }
-    ensures untouched { IfErr result (λ e. e ≢ Fault.Device → writer.new ≡ writer.old) }
+        WritesVerdict bytes queues show passed (W.contents writer.old) (W.contents writer.new))) }
+    ensures begun { IfErr result (λ e. e ≡ Fault.Memory → (writer.new ≡ writer.old)
+        ⊎ IfSome (R.remaining reader.old) (λ bytes.
+        BeginsVerdict bytes queues show (W.contents writer.old) (W.contents writer.new))) }
+    ensures untouched { IfErr result
+        (λ e. e ≢ Fault.Memory → e ≢ Fault.Device → writer.new ≡ writer.old) }
 {
     let text = read_all(alloc, reader)?;
     check_text(alloc, text.as_slice(), queues, show, writer)

@@ -8,6 +8,7 @@
 mod checking;
 mod program;
 mod reading;
+mod showing;
 mod text;
 
 pub use checking::{check_input, check_text};

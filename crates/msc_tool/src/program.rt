@@ -7,7 +7,7 @@ ghost use Rattle.msc_tool.specs.Program.{status_code, status_of};
 
 use crate::checking::check_input;
 use crate::text::read_input;
-use clap::{Arg, ArgMatches, Command, Error};
+use clap::{Arg, ArgMatches, Command, Error, value_parser};
 use msc_chart::Queues;
 use msc_report::{Fault, write_fault};
 use std::alloc::{AllocError, Global};
@@ -47,8 +47,8 @@ impl Status {
 enum Task {
     /// The canonical text.
     Read,
-    /// The verdict under an architecture.
-    Check(Queues),
+    /// The verdict under an architecture, and how many races are shown with a run.
+    Check(Queues, u32),
 }
 
 /// The words for the architectures.
@@ -71,9 +71,15 @@ fn grammar<'a>(alloc: Global) -> Result<Command<'a>, AllocError> {
         .help("A queue for each sender and receiver, or one for each receiver")
         .value_parser(ARCHITECTURES)
         .required(true);
+    let show = Arg::new(alloc, "show")
+        .long("show")
+        .value_name("N")
+        .help("Print a run for each of the first N races; without it, for all")
+        .value_parser(value_parser!(u32));
     let check = Command::new(alloc, "check")
-        .about("Print whether the chart has races, and which")
+        .about("Print whether the chart has races, and for each a run that shows it")
         .arg(queues)?
+        .arg(show)?
         .arg(file(alloc))?;
     Command::new(alloc, "msc")
         .about("Check message sequence charts for races")
@@ -87,10 +93,11 @@ fn task_of(command: &str, words: &ArgMatches) -> Task {
     if command != "check" {
         return Task::Read;
     }
-    match words.get_str("queues") {
-        Some("mailbox") => Task::Check(Queues::Mailbox),
-        _ => Task::Check(Queues::Pair),
-    }
+    let queues = match words.get_str("queues") {
+        Some("mailbox") => Queues::Mailbox,
+        _ => Queues::Pair,
+    };
+    Task::Check(queues, words.get_one("show").unwrap_or(u32::MAX))
 }
 
 /// Writes a fault's line, where that succeeds, and tells how the run ended.
@@ -108,6 +115,7 @@ fn end_with<E: Write>(faults: &mut E, fault: Fault) -> Status
 fn check_buffered<I: Read, O: Write>(
     alloc: Global,
     queues: Queues,
+    show: u32,
     input: &mut I,
     output: &mut O,
 ) -> Result<Status, Fault> {
@@ -115,7 +123,7 @@ fn check_buffered<I: Read, O: Write>(
         Ok(buffered) => buffered,
         Err(_) => return Err(Fault::Memory),
     };
-    let passed = check_input(alloc, input, queues, 0, &mut buffered)?;
+    let passed = check_input(alloc, input, queues, show, &mut buffered)?;
     match buffered.flush() {
         Ok(()) if passed => Ok(Status::Done),
         Ok(()) => Ok(Status::Races),
@@ -135,7 +143,7 @@ fn perform<I: Read, O: Write>(
             read_input(alloc, input, output)?;
             Ok(Status::Done)
         }
-        Task::Check(queues) => check_buffered(alloc, queues, input, output),
+        Task::Check(queues, show) => check_buffered(alloc, queues, show, input, output),
     }
 }
 
@@ -215,7 +223,8 @@ pub fn refuse_words<E: Write>(faults: &mut E, error: &io::Error) -> u8
 /// The program `msc` over its words, the program's name first; answers the exit status.
 ///
 /// `msc read FILE` writes the canonical text of FILE to `output`, `msc check --queues pair|mailbox
-/// FILE` the verdict on its chart and each race. FILE `-` is `input`, any other FILE is opened
+/// [--show N] FILE` the verdict on its chart and each race, the first N with a run that shows it. N is
+/// from 0 to 4294967295, by default 4294967295. FILE `-` is `input`, any other FILE is opened
 /// through `rt`. What goes wrong is found in the order: the words, opening FILE, reading it, its
 /// text. A fault's line, and what `clap` says of wrong words, go to `faults`; where that writing
 /// fails the status stays. The status is 0 where the answer or the help asked for was written, 1

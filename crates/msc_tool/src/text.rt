@@ -22,10 +22,8 @@ pub fn read_text<W: Write>(alloc: Global, text: &[u8], writer: &mut W) -> Result
 {
     let draft = parse(alloc, text)?;
     let canonical = draft.write(alloc)?;
-    match write_draft(writer, canonical.as_slice()) {
-        Ok(()) => Ok(()),
-        Err(_) => Err(Fault::Device),
-    }
+    write_draft(writer, canonical.as_slice())?;
+    Ok(())
 }
 
 /// Reads an input to its end and writes the canonical text of its draft.

@@ -1,0 +1,19 @@
+use Rattle.std.proofs.Common.{inl, inr}
+use Rattle.std.proofs.lemmas.Result.{IfErr-weaker, IfOk-weaker}
+use Rattle.msc_tool.proofs.Answered.{of_input}
+use Rattle.msc_tool.proofs.checking.check_input.Goals as goal
+
+pub returns-clause-written : goal.returns-clause-written
+returns-clause-written g c =
+    IfOk-weaker c.check_text.result _ _
+    (λ passed wrote. of_input _ (g.R.Read.remaining c.args.reader.now) _ (rw c.as_slice.ensures.value c.in_ok-text.ensures.bytes) wrote.1.draft wrote.1.has wrote)
+    c.check_text.ensures.written
+
+pub returns-clause-begun : goal.returns-clause-begun
+returns-clause-begun g c =
+    IfErr-weaker c.check_text.result _ _
+    (λ e begun memory. elim (begun memory) [
+      | inl same ↦ inl same
+      | inr wrote ↦ inr (of_input _ (g.R.Read.remaining c.args.reader.now) _ (rw c.as_slice.ensures.value c.in_ok-text.ensures.bytes) wrote.2.draft wrote.2.has wrote)
+    ])
+    c.check_text.ensures.begun
