@@ -1,4 +1,5 @@
-"""What the benchmarks share: building the plain programs, and measuring a run of a program."""
+"""What the benchmarks share: building the plain programs, and measuring runs of a program."""
+import math
 import os
 import pathlib
 import re
@@ -53,3 +54,46 @@ def instructions(words, file):
     """The instructions of a run."""
     tool = ["valgrind", "--tool=callgrind", "--callgrind-out-file=/dev/null"]
     return reported(tool, words, file, rb"Collected : (\d+)")
+
+
+def beside(pair, unit):
+    """Both figures and their ratio."""
+    if not all(pair):
+        return "-"
+    return f"{pair[0] / unit:.1f} / {pair[1] / unit:.1f} = {pair[0] / pair[1]:.2f}"
+
+
+def show(cells):
+    """Prints a row of a table."""
+    print("| " + " | ".join(cells) + " |", flush=True)
+
+
+class Compared:
+    """What msc and the plain program did with one text; each figure is the pair of msc's and the plain
+    one's."""
+
+    def __init__(self, name, file, programs, options):
+        self.name = name
+        answers = [answer(words, file)[:2] for words in programs]
+        self.differ = answers[0] != answers[1]
+        self.status, self.printed = answers[1][0], len(answers[1][1])
+        times = [[processor_time(words, file) for words in programs] for _ in range(options.runs)]
+        self.time = [min(each) for each in zip(*times)]
+        self.memory = [peak_memory(words, file) for words in programs]
+        self.count = [None if options.quick else instructions(words, file) for words in programs]
+
+    def figures(self):
+        """Processor time, memory, instructions, and how the runs ended."""
+        ends = "DIFFER" if self.differ else f"status {self.status}"
+        return [beside(self.time, 1e-3), beside(self.memory, 1e6), beside(self.count, 1e6), ends]
+
+
+def summarise(rows):
+    """Mean and worst ratios."""
+    for what, name in (("time", "processor time"), ("memory", "memory"), ("count", "instructions")):
+        ratios = [(pair[0] / pair[1], row.name) for row in rows if all(pair := getattr(row, what))]
+        if ratios:
+            mean = math.exp(sum(math.log(ratio) for ratio, _ in ratios) / len(ratios))
+            most, name_of_most = max(ratios)
+            print(f"- {name}: {mean:.2f} times the plain program's in the geometric mean, "
+                  f"at most {most:.2f} times ({name_of_most})")

@@ -4,4 +4,5 @@
 pub mod chart;
 pub mod draft;
 pub mod order;
+pub mod run;
 mod writing;

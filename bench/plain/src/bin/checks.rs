@@ -1,12 +1,14 @@
 //! Does what `msc check` does, in plain Rust: reads a chart's text from standard input and prints its
-//! verdict and each race. It is the yardstick of `bench/checks`.
+//! verdict and each race, the first of them with a run that shows it. It is the yardstick of
+//! `bench/checks` and `bench/runs`.
 //!
-//! One word: `pair` or `mailbox`. The exit status is 0 for `pass`, 1 for races, and 2 for a text that
-//! is no chart.
+//! Two words: `pair` or `mailbox`, and how many races get a run, by default all. The exit status is 0
+//! for `pass`, 1 for races, and 2 for a text that is no chart.
 
 use plain::chart::{Chart, Queues};
 use plain::draft::{parse, Draft, Item, Signal, Way, TEXT_LIMIT};
 use plain::order::{races, Order};
+use plain::run::Runs;
 use std::io::{self, BufWriter, Read, Write};
 use std::process::ExitCode;
 use std::{env, slice};
@@ -41,8 +43,50 @@ fn write_event(out: &mut impl Write, signal: &Signal) -> io::Result<()> {
     out.write_all(&signal.address)
 }
 
-/// Prints the verdict and each race; answers whether there is none.
-fn check(draft: &Draft, chart: &Chart, queues: Queues, out: &mut impl Write) -> io::Result<bool> {
+/// The lines `run` of races, each made once for all races of one event.
+struct RunLines<'a> {
+    runs: Runs<'a>,
+    /// Each event's number behind a space.
+    numbers: Vec<String>,
+    /// The event whose line was made last.
+    of: Option<u32>,
+    line: Vec<u8>,
+}
+
+impl<'a> RunLines<'a> {
+    fn new(runs: Runs<'a>, count: usize) -> RunLines<'a> {
+        RunLines {
+            runs,
+            numbers: (0..count).map(|e| format!(" {e}")).collect(),
+            of: None,
+            line: Vec::new(),
+        }
+    }
+
+    /// The line of the chosen run of `e`.
+    fn line(&mut self, e: u32) -> &[u8] {
+        if self.of != Some(e) {
+            self.of = Some(e);
+            self.line.clear();
+            self.line.extend_from_slice(b"run");
+            let (line, numbers) = (&mut self.line, &self.numbers);
+            self.runs.chosen(e as usize, |x| {
+                line.extend_from_slice(numbers[x].as_bytes())
+            });
+            self.line.push(b'\n');
+        }
+        &self.line
+    }
+}
+
+/// Prints the verdict and each race, so many of them with a run; answers whether there is none.
+fn check(
+    draft: &Draft,
+    chart: &Chart,
+    queues: Queues,
+    show: u32,
+    out: &mut impl Write,
+) -> io::Result<bool> {
     let order = Order::enforced(chart, queues);
     let races = races(chart, &order);
     out.write_all(b"chart ")?;
@@ -58,7 +102,8 @@ fn check(draft: &Draft, chart: &Chart, queues: Queues, out: &mut impl Write) -> 
     }
     writeln!(out, "races {}", races.len())?;
     let signals = signals(draft);
-    for (e, f) in races {
+    let mut lines = RunLines::new(Runs::new(chart, &order, queues), chart.events.len());
+    for (place, (e, f)) in races.into_iter().enumerate() {
         let (line, first) = signals[e as usize];
         write!(out, "race {e} {f} on ")?;
         out.write_all(line)?;
@@ -67,11 +112,14 @@ fn check(draft: &Draft, chart: &Chart, queues: Queues, out: &mut impl Write) -> 
         out.write_all(b"; ")?;
         write_event(out, signals[f as usize].1)?;
         out.write_all(b"\n")?;
+        if place < show as usize {
+            out.write_all(lines.line(e))?;
+        }
     }
     Ok(false)
 }
 
-fn read_and_check(queues: Queues) -> io::Result<Option<bool>> {
+fn read_and_check(queues: Queues, show: u32) -> io::Result<Option<bool>> {
     let mut text = Vec::new();
     let limit = TEXT_LIMIT as u64 + 1;
     io::stdin().lock().take(limit).read_to_end(&mut text)?;
@@ -81,16 +129,25 @@ fn read_and_check(queues: Queues) -> io::Result<Option<bool>> {
     let Some(chart) = Chart::build(&draft) else {
         return Ok(None);
     };
-    let mut out = BufWriter::new(io::stdout().lock());
-    let passed = check(&draft, &chart, queues, &mut out)?;
+    let mut out = BufWriter::with_capacity(65_536, io::stdout().lock());
+    let passed = check(&draft, &chart, queues, show, &mut out)?;
     out.flush()?;
     Ok(Some(passed))
 }
 
 fn main() -> ExitCode {
     let mailbox = env::args().nth(1).as_deref() == Some("mailbox");
-    let queues = if mailbox { Queues::Mailbox } else { Queues::Pair };
-    match read_and_check(queues) {
+    let queues = if mailbox {
+        Queues::Mailbox
+    } else {
+        Queues::Pair
+    };
+    let show = match env::args().nth(2).map(|word| word.parse()) {
+        None => u32::MAX,
+        Some(Ok(show)) => show,
+        Some(Err(_)) => return ExitCode::from(2),
+    };
+    match read_and_check(queues, show) {
         Ok(Some(passed)) => ExitCode::from(u8::from(!passed)),
         Ok(None) => ExitCode::from(2),
         Err(_) => ExitCode::from(4),

@@ -1,11 +1,9 @@
 //! Reading an input to its end, and writing to devices that fail.
 
 use crate::devices::{Narrow, Unsteady};
+use example_charts::EMPTY;
 use msc_tool::{CALL_LIMIT, Fault, read_all, read_text};
 use std::test::Fail;
-
-/// The chart `empty`.
-const EMPTY: &[u8] = b"msc t; endmsc;";
 
 #[test]
 fn an_input_in_memory(rt: HostRuntime) -> Result<(), Fail> {

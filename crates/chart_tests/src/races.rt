@@ -1,31 +1,12 @@
 //! Races of charts, and verdicts.
 
-use crate::charts::{COREGION, RELAY, TWO_SENDERS};
-use msc_chart::{Chart, Event, Queues};
-use msc_parser::parse;
+use crate::charts::chart_of;
+use example_charts::{COREGION, CROSSING, NUMBERED, OVERTAKING, RELAY, TWO_MAILBOXES, TWO_SENDERS};
+use msc_chart::{Event, Queues};
 use msc_race::{Verdict, check};
 use std::alloc::{AllocError, Global};
 use std::fmt::Write;
 use std::test::Fail;
-
-/// The chart `overtaking`.
-pub(crate) const OVERTAKING: &[u8] = b"msc t; instance a; out m1 to b; out m2 to b; endinstance; \
-instance b; in m2 from a; in m1 from a; endinstance; endmsc;";
-
-/// The chart `crossing`.
-pub(crate) const CROSSING: &[u8] = b"msc t; instance a; out p to b; in q from b; endinstance; \
-instance b; out q to a; in p from a; endinstance; endmsc;";
-
-/// The chart `numbered`.
-const NUMBERED: &[u8] = b"msc t; instance a; out m, 1 to b; out m, 2 to b; endinstance; \
-instance b; in m, 1 from a; in m, 2 from a; endinstance; endmsc;";
-
-/// The chart `two_mailboxes`.
-pub(crate) const TWO_MAILBOXES: &[u8] =
-    b"msc t; instance a; out m1 to q; out m3 to z; endinstance; \
-instance b; out m4 to z; out m2 to q; endinstance; \
-instance q; in m1 from a; in m2 from b; endinstance; \
-instance z; in m4 from b; in m3 from a; endinstance; endmsc;";
 
 /// A chart in which what follows the queue rule is enforced as well.
 const REPLY: &[u8] = b"msc t; instance a; out m1 to b; out m2 to b; endinstance; \
@@ -64,7 +45,7 @@ fn the_race_lists_of_the_worked_charts(rt: HostRuntime) -> Result<(), Fail> {
         ),
         ("one message to oneself", one_self, &[], &[]),
     ] {
-        let chart = Chart::build(alloc, &parse(alloc, text)?)?;
+        let chart = chart_of(alloc, text)?;
         let verdict = check(alloc, &chart, Queues::Pair)?;
         assert_eq!(rt; listed(&verdict), pair, "{name}");
         let verdict = check(alloc, &chart, Queues::Mailbox)?;
@@ -76,7 +57,7 @@ fn the_race_lists_of_the_worked_charts(rt: HostRuntime) -> Result<(), Fail> {
 #[test]
 fn what_follows_the_queue_rule_is_enforced(rt: HostRuntime) -> Result<(), Fail> {
     let alloc = rt.alloc();
-    let chart = Chart::build(alloc, &parse(alloc, REPLY)?)?;
+    let chart = chart_of(alloc, REPLY)?;
     let verdict = check(alloc, &chart, Queues::Pair)?;
     assert_eq!(rt; listed(&verdict), [(2, 4), (3, 4)].as_slice());
     Ok(())
@@ -105,7 +86,7 @@ fn messages_in_reverse(rt: HostRuntime) -> Result<(), Fail> {
         (33, 528, (33, 34), (64, 65)),
     ] {
         let text = messages(alloc, count, true)?;
-        let chart = Chart::build(alloc, &parse(alloc, text.as_bytes())?)?;
+        let chart = chart_of(alloc, text.as_bytes())?;
         for queues in [Queues::Pair, Queues::Mailbox] {
             let verdict = check(alloc, &chart, queues)?;
             let list = listed(&verdict);
@@ -124,7 +105,7 @@ fn messages_in_reverse(rt: HostRuntime) -> Result<(), Fail> {
 fn a_thousand_messages_in_one_order(rt: HostRuntime) -> Result<(), Fail> {
     let alloc = rt.alloc();
     let text = messages(alloc, 1_024, false)?;
-    let chart = Chart::build(alloc, &parse(alloc, text.as_bytes())?)?;
+    let chart = chart_of(alloc, text.as_bytes())?;
     for queues in [Queues::Pair, Queues::Mailbox] {
         let verdict = check(alloc, &chart, queues)?;
         assert!(rt; matches!(verdict, Verdict::Pass), "{queues:?}");

@@ -1,16 +1,15 @@
 //! Orders of charts, and their rows of bits.
 
-use crate::charts::{RELAY, TWO_SENDERS};
-use crate::races::{OVERTAKING, TWO_MAILBOXES};
-use msc_chart::{Chart, Queues};
+use crate::charts::chart_of;
+use example_charts::{OVERTAKING, RELAY, TWO_MAILBOXES, TWO_SENDERS};
+use msc_chart::Queues;
 use msc_order::Order;
-use msc_parser::parse;
 use std::test::Fail;
 
 #[test]
 fn overtaking_is_drawn_one_way_and_enforced_the_other(rt: HostRuntime) -> Result<(), Fail> {
     let alloc = rt.alloc();
-    let chart = Chart::build(alloc, &parse(alloc, OVERTAKING)?)?;
+    let chart = chart_of(alloc, OVERTAKING)?;
     assert_eq!(rt; chart.events(), 4);
     let visual = Order::visual(alloc, &chart)?;
     assert!(rt; visual.holds(2, 3) && !visual.holds(3, 2));
@@ -24,7 +23,7 @@ fn overtaking_is_drawn_one_way_and_enforced_the_other(rt: HostRuntime) -> Result
 #[test]
 fn a_relay_is_enforced_in_a_mailbox_alone(rt: HostRuntime) -> Result<(), Fail> {
     let alloc = rt.alloc();
-    let chart = Chart::build(alloc, &parse(alloc, RELAY)?)?;
+    let chart = chart_of(alloc, RELAY)?;
     assert_eq!(rt; chart.events(), 6);
     for (queues, wanted) in [(Queues::Pair, false), (Queues::Mailbox, true)] {
         let enforced = Order::enforced(alloc, &chart, queues)?;
@@ -36,7 +35,7 @@ fn a_relay_is_enforced_in_a_mailbox_alone(rt: HostRuntime) -> Result<(), Fail> {
 #[test]
 fn the_enforced_pairs_of_two_mailboxes(rt: HostRuntime) -> Result<(), Fail> {
     let alloc = rt.alloc();
-    let chart = Chart::build(alloc, &parse(alloc, TWO_MAILBOXES)?)?;
+    let chart = chart_of(alloc, TWO_MAILBOXES)?;
     assert_eq!(rt; chart.events(), 8);
     let enforced = Order::enforced(alloc, &chart, Queues::Mailbox)?;
     let mut pairs = Vec::new(alloc);
@@ -67,7 +66,7 @@ fn the_enforced_pairs_of_two_mailboxes(rt: HostRuntime) -> Result<(), Fail> {
 #[test]
 fn the_rows_of_two_senders(rt: HostRuntime) -> Result<(), Fail> {
     let alloc = rt.alloc();
-    let chart = Chart::build(alloc, &parse(alloc, TWO_SENDERS)?)?;
+    let chart = chart_of(alloc, TWO_SENDERS)?;
     assert_eq!(rt; chart.events(), 4);
     let enforced = Order::enforced(alloc, &chart, Queues::Pair)?;
     for (e, wanted) in [(0, [2]), (1, [0]), (2, [0]), (3, [4])] {

@@ -1,11 +1,8 @@
 //! Drafts: the parts that the readers show, and the canonical text.
 
+use example_charts::ONE_MESSAGE;
 use msc_parser::{Draft, Item, Way, parse};
 use std::test::Fail;
-
-/// The chart `one_message`.
-const ONE_MESSAGE: &[u8] =
-    b"msc t; instance a; out m to b; endinstance; instance b; in m from a; endinstance; endmsc;";
 
 #[test]
 fn the_parts_of_one_message(rt: HostRuntime) -> Result<(), Fail> {

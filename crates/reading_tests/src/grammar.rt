@@ -1,13 +1,10 @@
 //! The whole grammar: drafts of kinds, message instance names, parameters and coregions, and a
 //! refused text for each place.
 
+use example_charts::KINDS_AND_COMMENTS;
 use msc_lexer::LexFault;
 use msc_parser::{Draft, Item, ParseFault, What, parse};
 use std::test::Fail;
-
-/// The chart `kinds_and_comments`.
-const KINDS_AND_COMMENTS: &[u8] = b"msc t; inst a, b; instance a : process p comment 'it''s'; \
-/* note */ out m, 1(x, y) to b; endinstance; instance b; in m, 1(z) from a; endinstance; endmsc;";
 
 #[test]
 fn kinds_numbers_and_parameters(rt: HostRuntime) -> Result<(), Fail> {

@@ -1,60 +1,44 @@
-//! `msc check`: the verdicts and races of charts, what it prints, and its exit statuses.
+//! `msc check`: the verdicts, races and runs of charts, what it prints, and its exit statuses.
 
 use crate::devices::Narrow;
 use crate::program::run;
+use example_charts::{
+    COREGION, CROSSING, EMPTY, NUMBERED, ONE_MESSAGE, OVERTAKING, RELAY, TWO_MAILBOXES, TWO_SENDERS,
+};
 use msc_chart::{Chart, Queues};
 use msc_parser::parse;
 use msc_tool::{Fault, check_text, write_race};
 use std::alloc::{AllocError, Global};
 use std::test::Fail;
 
-/// The chart `empty`.
-const EMPTY: &[u8] = b"msc t; endmsc;";
-
-/// The chart `one_message`.
-const ONE_MESSAGE: &[u8] =
-    b"msc t; instance a; out m to b; endinstance; instance b; in m from a; endinstance; endmsc;";
-
-/// The chart `two_senders`.
-const TWO_SENDERS: &[u8] =
-    b"msc t; instance a; out m1 to b; endinstance; instance b; in m1 from a; in m2 from c; endinstance; instance c; out m2 to b; endinstance; endmsc;";
-
-/// The chart `relay`.
-const RELAY: &[u8] =
-    b"msc t; instance a; out m1 to b; out x to c; endinstance; instance b; in m1 from a; in m2 from c; endinstance; instance c; in x from a; out m2 to b; endinstance; endmsc;";
-
-/// The chart `overtaking`.
-const OVERTAKING: &[u8] =
-    b"msc t; instance a; out m1 to b; out m2 to b; endinstance; instance b; in m2 from a; in m1 from a; endinstance; endmsc;";
-
-/// The chart `coregion`.
-const COREGION: &[u8] =
-    b"msc t; instance a; out m1 to b; endinstance; instance b; concurrent; in m1 from a; in m2 from c; endconcurrent; endinstance; instance c; out m2 to b; endinstance; endmsc;";
-
-/// The chart `crossing`.
-const CROSSING: &[u8] =
-    b"msc t; instance a; out p to b; in q from b; endinstance; instance b; out q to a; in p from a; endinstance; endmsc;";
-
-/// The chart `numbered`.
-const NUMBERED: &[u8] =
-    b"msc t; instance a; out m, 1 to b; out m, 2 to b; endinstance; instance b; in m, 1 from a; in m, 2 from a; endinstance; endmsc;";
-
-/// The chart `two_mailboxes`.
-const TWO_MAILBOXES: &[u8] =
-    b"msc t; instance a; out m1 to q; out m3 to z; endinstance; instance b; out m4 to z; out m2 to q; endinstance; instance q; in m1 from a; in m2 from b; endinstance; instance z; in m4 from b; in m3 from a; endinstance; endmsc;";
-
-/// Whether the program prints the verdict of a chart named `t` as `pair` and `mailbox` say what stands
-/// behind the head's first two lines, and ends with the status of that verdict.
+/// Whether the program and `check_text` print the verdict of a chart named `t`, its races and their
+/// runs as `pair` and `mailbox` say what stands behind the head's first two lines, and end with the
+/// status and the answer of that verdict.
 fn prints(rt: &HostRuntime, text: &[u8], pair: &[u8], mailbox: &[u8]) -> Result<bool, AllocError> {
-    for (queues, head, rest) in [
-        ("pair", b"chart t\nqueues pair\n".as_slice(), pair),
-        ("mailbox", b"chart t\nqueues mailbox\n", mailbox),
+    for (queues, word, head, rest) in [
+        (
+            Queues::Pair,
+            "pair",
+            b"chart t\nqueues pair\n".as_slice(),
+            pair,
+        ),
+        (
+            Queues::Mailbox,
+            "mailbox",
+            b"chart t\nqueues mailbox\n",
+            mailbox,
+        ),
     ] {
-        let run = run(rt, &["check", "--queues", queues, "-"], text)?;
-        let status = if rest == b"pass\n".as_slice() { 0 } else { 1 };
+        let run = run(rt, &["check", "--queues", word, "-"], text)?;
+        let passed = rest == b"pass\n".as_slice();
         let printed = run.output.as_slice();
         let is_right = printed.strip_prefix(head) == Some(rest);
-        if !is_right || run.faults.len() > 0 || run.status != status {
+        if !is_right || run.faults.len() > 0 || run.status != u8::from(!passed) {
+            return Ok(false);
+        }
+        let mut written = Vec::new(rt.alloc());
+        let answer = check_text(rt.alloc(), text, queues, u32::MAX, &mut written);
+        if answer.ok() != Some(passed) || written.as_slice() != printed {
             return Ok(false);
         }
     }
@@ -75,8 +59,14 @@ fn one_message(rt: HostRuntime) -> Result<(), Fail> {
 
 #[test]
 fn two_senders(rt: HostRuntime) -> Result<(), Fail> {
-    let races = b"races 1\nrace 1 2 on b: in m1 from a; in m2 from c\n";
-    assert!(rt; prints(&rt, TWO_SENDERS, races, races)?);
+    assert!(rt;
+        prints(
+            &rt,
+            TWO_SENDERS,
+            b"races 1\nrace 1 2 on b: in m1 from a; in m2 from c\nrun 0 3 2 1\n",
+            b"races 1\nrace 1 2 on b: in m1 from a; in m2 from c\nrun 3 0 2 1\n"
+        )?
+    );
     Ok(())
 }
 
@@ -86,7 +76,7 @@ fn relay(rt: HostRuntime) -> Result<(), Fail> {
         prints(
             &rt,
             RELAY,
-            b"races 1\nrace 2 3 on b: in m1 from a; in m2 from c\n",
+            b"races 1\nrace 2 3 on b: in m1 from a; in m2 from c\nrun 0 1 4 5 3 2\n",
             b"pass\n"
         )?
     );
@@ -95,7 +85,7 @@ fn relay(rt: HostRuntime) -> Result<(), Fail> {
 
 #[test]
 fn overtaking(rt: HostRuntime) -> Result<(), Fail> {
-    let races = b"races 1\nrace 2 3 on b: in m2 from a; in m1 from a\n";
+    let races = b"races 1\nrace 2 3 on b: in m2 from a; in m1 from a\nrun 0 1 3 2\n";
     assert!(rt; prints(&rt, OVERTAKING, races, races)?);
     Ok(())
 }
@@ -108,8 +98,8 @@ fn coregion(rt: HostRuntime) -> Result<(), Fail> {
 
 #[test]
 fn crossing(rt: HostRuntime) -> Result<(), Fail> {
-    let races =
-        b"races 2\nrace 0 1 on a: out p to b; in q from b\nrace 2 3 on b: out q to a; in p from a\n";
+    let races = b"races 2\nrace 0 1 on a: out p to b; in q from b\nrun 2 1 0 3\n\
+race 2 3 on b: out q to a; in p from a\nrun 0 3 2 1\n";
     assert!(rt; prints(&rt, CROSSING, races, races)?);
     Ok(())
 }
@@ -122,9 +112,16 @@ fn numbered(rt: HostRuntime) -> Result<(), Fail> {
 
 #[test]
 fn two_mailboxes(rt: HostRuntime) -> Result<(), Fail> {
-    let races =
-        b"races 2\nrace 4 5 on q: in m1 from a; in m2 from b\nrace 6 7 on z: in m4 from b; in m3 from a\n";
-    assert!(rt; prints(&rt, TWO_MAILBOXES, races, races)?);
+    assert!(rt;
+        prints(
+            &rt,
+            TWO_MAILBOXES,
+            b"races 2\nrace 4 5 on q: in m1 from a; in m2 from b\nrun 0 1 2 3 5 6 7 4\n\
+race 6 7 on z: in m4 from b; in m3 from a\nrun 0 1 2 3 4 5 7 6\n",
+            b"races 2\nrace 4 5 on q: in m1 from a; in m2 from b\nrun 2 3 0 1 5 6 7 4\n\
+race 6 7 on z: in m4 from b; in m3 from a\nrun 0 1 2 3 4 5 7 6\n"
+        )?
+    );
     Ok(())
 }
 
@@ -138,9 +135,16 @@ fn a_message_to_itself(rt: HostRuntime) -> Result<(), Fail> {
 #[test]
 fn message_instance_names_without_parameters(rt: HostRuntime) -> Result<(), Fail> {
     let text = b"msc t; instance a; out m, 1(x) to b; endinstance; \
-instance b; in m, 1(y, z) from a; in m() from c; endinstance; instance c; out m to b; endinstance; endmsc;";
-    let races = b"races 1\nrace 1 2 on b: in m, 1 from a; in m from c\n";
-    assert!(rt; prints(&rt, text, races, races)?);
+instance b; in m, 1(y, z) from a; in m() from c; endinstance; \
+instance c; out m to b; endinstance; endmsc;";
+    assert!(rt;
+        prints(
+            &rt,
+            text,
+            b"races 1\nrace 1 2 on b: in m, 1 from a; in m from c\nrun 0 3 2 1\n",
+            b"races 1\nrace 1 2 on b: in m, 1 from a; in m from c\nrun 3 0 2 1\n"
+        )?
+    );
     Ok(())
 }
 
@@ -177,6 +181,9 @@ fn wrong_usage(rt: HostRuntime) -> Result<(), Fail> {
         &["check", "--queues", "pair"],
         &["check", "--queues", "bag", "-"],
         &["check", "--queues", "pair", "-", "-"],
+        &["check", "--queues", "pair", "--show", "4294967296", "-"],
+        &["check", "--queues", "pair", "--show", "x", "-"],
+        &["read", "--show", "0", "-"],
         &["read", "--queues", "pair", "-"],
     ] {
         let run = run(&rt, words, ONE_MESSAGE)?;
@@ -197,11 +204,11 @@ fn a_file_that_is_not_there(rt: HostRuntime) -> Result<(), Fail> {
     Ok(())
 }
 
-/// A writer that takes a few bytes at a time and fails at this call, from 1, or at none where it is 0.
+/// A writer that takes a byte at a time and fails at this call, from 1, or at none where it is 0.
 fn narrow(alloc: Global, fails_at: u32) -> Narrow {
     Narrow {
         written: Vec::new(alloc),
-        step: 5,
+        step: 1,
         calls: 0,
         fails_at,
     }
@@ -221,13 +228,14 @@ fn the_answer_is_true_for_pass(rt: HostRuntime) -> Result<(), Fail> {
 #[test]
 fn failing_writes_are_a_device_fault(rt: HostRuntime) -> Result<(), Fail> {
     let alloc = rt.alloc();
-    let wanted = b"chart t\nqueues pair\nraces 1\nrace 1 2 on b: in m1 from a; in m2 from c\n";
+    let wanted = b"chart t\nqueues pair\nraces 1\n\
+race 1 2 on b: in m1 from a; in m2 from c\nrun 0 3 2 1\n";
     let mut writer = narrow(alloc, 0);
-    check_text(alloc, TWO_SENDERS, Queues::Pair, 0, &mut writer)?;
+    check_text(alloc, TWO_SENDERS, Queues::Pair, 1, &mut writer)?;
     assert_eq!(rt; writer.written.as_slice(), wanted.as_slice());
     for call in 0..writer.calls {
         let mut failing = narrow(alloc, call.wrapping_add(1));
-        let outcome = check_text(alloc, TWO_SENDERS, Queues::Pair, 0, &mut failing);
+        let outcome = check_text(alloc, TWO_SENDERS, Queues::Pair, 1, &mut failing);
         assert_eq!(rt; outcome.err(), Some(Fault::Device));
         assert!(rt; wanted.starts_with(failing.written.as_slice()));
     }

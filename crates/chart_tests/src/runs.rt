@@ -1,10 +1,9 @@
 //! Runs that reverse pairs of events.
 
-use crate::charts::{COREGION, RELAY, TWO_SENDERS};
-use crate::races::{CROSSING, OVERTAKING, TWO_MAILBOXES};
-use msc_chart::{Chart, Event, Queues};
+use crate::charts::chart_of;
+use example_charts::{COREGION, CROSSING, OVERTAKING, RELAY, TWO_MAILBOXES, TWO_SENDERS};
+use msc_chart::{Event, Queues};
 use msc_order::Order;
-use msc_parser::parse;
 use msc_race::reversing_run;
 use std::test::Fail;
 
@@ -16,6 +15,8 @@ fn the_reversing_runs_of_the_worked_charts(rt: HostRuntime) -> Result<(), Fail> 
         (TWO_SENDERS, Queues::Mailbox, 1, 2, &[3, 0, 2, 1]),
         (TWO_SENDERS, Queues::Pair, 3, 0, &[0, 1, 3, 2]),
         (TWO_SENDERS, Queues::Mailbox, 3, 0, &[0, 1, 3, 2]),
+        (COREGION, Queues::Pair, 1, 2, &[0, 3, 2, 1]),
+        (COREGION, Queues::Pair, 2, 1, &[0, 1, 3, 2]),
         (COREGION, Queues::Mailbox, 1, 2, &[3, 0, 2, 1]),
         (COREGION, Queues::Mailbox, 2, 1, &[0, 1, 3, 2]),
         (RELAY, Queues::Pair, 2, 3, &[0, 1, 4, 5, 3, 2]),
@@ -38,7 +39,7 @@ fn the_reversing_runs_of_the_worked_charts(rt: HostRuntime) -> Result<(), Fail> 
             &[0, 1, 2, 3, 4, 5, 7, 6],
         ),
     ] {
-        let chart = Chart::build(alloc, &parse(alloc, text)?)?;
+        let chart = chart_of(alloc, text)?;
         let order = Order::enforced(alloc, &chart, queues)?;
         assert!(rt;
             e < chart.events() && f < chart.events() && e != f,

@@ -44,8 +44,8 @@ impl Read for Unsteady<'_> {
     }
 }
 
-/// A writer that takes at most `step` bytes at a time, and fails at its call number `fails_at`, from
-/// 1.
+/// A writer that takes at most `step` bytes at a time, and fails at its call number `fails_at`,
+/// from 1.
 #[derive(Drop)]
 pub struct Narrow {
     pub written: Vec<u8>,

@@ -1,5 +1,6 @@
 //! Runs of the program: words, standard input, what it prints, and its exit status.
 
+use example_charts::{EMPTY, KINDS_AND_COMMENTS, ONE_MESSAGE};
 use msc_tool::command;
 use std::alloc::{AllocError, Global};
 use std::test::Fail;
@@ -40,18 +41,17 @@ pub fn run(rt: &HostRuntime, words: &[&str], stdin: &[u8]) -> Result<Outcome, Al
 #[test]
 fn texts_that_are_read(rt: HostRuntime) -> Result<(), Fail> {
     for (text, printed) in [
-        (
-            b"msc t; endmsc;".as_slice(),
-            b"msc t;\nendmsc;\n".as_slice(),
-        ),
+        (EMPTY, b"msc t;\nendmsc;\n".as_slice()),
         (b"MSC t; ENDMSC;", b"msc t;\nendmsc;\n"),
         (
-            b"msc t; inst a, b; instance a : process p comment 'it''s'; /* note */ out m, 1(x, y) to b; endinstance; instance b; in m, 1(z) from a; endinstance; endmsc;",
-            b"msc t;\ninst a, b;\ninstance a : process p;\n  out m, 1(x, y) to b;\nendinstance;\ninstance b;\n  in m, 1(z) from a;\nendinstance;\nendmsc;\n",
+            KINDS_AND_COMMENTS,
+            b"msc t;\ninst a, b;\ninstance a : process p;\n  out m, 1(x, y) to b;\nendinstance;\n\
+instance b;\n  in m, 1(z) from a;\nendinstance;\nendmsc;\n",
         ),
         (
-            b"msc t; instance a; out m to b; endinstance; instance b; in m from a; endinstance; endmsc;",
-            b"msc t;\ninstance a;\n  out m to b;\nendinstance;\ninstance b;\n  in m from a;\nendinstance;\nendmsc;\n",
+            ONE_MESSAGE,
+            b"msc t;\ninstance a;\n  out m to b;\nendinstance;\n\
+instance b;\n  in m from a;\nendinstance;\nendmsc;\n",
         ),
     ] {
         let run = run(&rt, &["read", "-"], text)?;
@@ -143,7 +143,7 @@ fn texts_at_the_limit(rt: HostRuntime) -> Result<(), Fail> {
 
 #[test]
 fn a_file_that_is_not_there(rt: HostRuntime) -> Result<(), Fail> {
-    let run = run(&rt, &["read", "no/such/file.msc"], b"msc t; endmsc;")?;
+    let run = run(&rt, &["read", "no/such/file.msc"], EMPTY)?;
     assert_eq!(rt; run.output.len(), 0);
     assert_eq!(rt; run.faults.as_slice(), b"device fault\n".as_slice());
     assert_eq!(rt; run.status, 4);
@@ -159,7 +159,7 @@ fn wrong_usage(rt: HostRuntime) -> Result<(), Fail> {
         &["read", "--no-such-option", "-"],
         &["write", "-"],
     ] {
-        let run = run(&rt, words, b"msc t; endmsc;")?;
+        let run = run(&rt, words, EMPTY)?;
         assert_eq!(rt; run.output.len(), 0);
         assert!(rt; run.faults.len() > 0);
         assert_eq!(rt; run.status, 2);

@@ -1,5 +1,6 @@
 //! Charts of drafts: numbers, segments, queues, and drafts that are no chart.
 
+use example_charts::{COREGION, EMPTY, NUMBERED, RELAY, TWO_SENDERS};
 use msc_chart::{Chart, ChartFault, EventKind, Queues};
 use msc_parser::parse;
 use msc_tool::{Fault, write_fault};
@@ -7,19 +8,10 @@ use std::alloc::{AllocError, Global};
 use std::fmt::Write;
 use std::test::Fail;
 
-/// The chart `two_senders`.
-pub(crate) const TWO_SENDERS: &[u8] = b"msc t; instance a; out m1 to b; endinstance; \
-instance b; in m1 from a; in m2 from c; endinstance; instance c; out m2 to b; endinstance; endmsc;";
-
-/// The chart `coregion`.
-pub(crate) const COREGION: &[u8] = b"msc t; instance a; out m1 to b; endinstance; \
-instance b; concurrent; in m1 from a; in m2 from c; endconcurrent; endinstance; \
-instance c; out m2 to b; endinstance; endmsc;";
-
-/// The chart `relay`.
-pub(crate) const RELAY: &[u8] = b"msc t; instance a; out m1 to b; out x to c; endinstance; \
-instance b; in m1 from a; in m2 from c; endinstance; \
-instance c; in x from a; out m2 to b; endinstance; endmsc;";
+/// The chart of a text that has one.
+pub(crate) fn chart_of(alloc: Global, text: &[u8]) -> Result<Chart, Fail> {
+    Ok(Chart::build(alloc, &parse(alloc, text)?)?)
+}
 
 /// The fault of a text whose draft is no chart.
 fn fault(alloc: Global, text: &[u8]) -> Option<ChartFault> {
@@ -73,10 +65,9 @@ instance b; in m from a; in m from a; endinstance; endmsc;",
 #[test]
 fn charts_that_are_accepted(rt: HostRuntime) {
     for text in [
-        b"msc t; endmsc;".as_slice(),
+        EMPTY,
         b"msc t; instance a; out m to a; in m from a; endinstance; endmsc;",
-        b"msc t; instance a; out m, 1 to b; out m, 2 to b; endinstance; \
-instance b; in m, 1 from a; in m, 2 from a; endinstance; endmsc;",
+        NUMBERED,
         TWO_SENDERS,
         COREGION,
         RELAY,
@@ -130,11 +121,11 @@ fn the_limit_of_instances(rt: HostRuntime) -> Result<(), Fail> {
 #[test]
 fn segments_of_a_coregion(rt: HostRuntime) -> Result<(), Fail> {
     let alloc = rt.alloc();
-    let chart = Chart::build(alloc, &parse(alloc, COREGION)?)?;
+    let chart = chart_of(alloc, COREGION)?;
     assert_eq!(rt; chart.events(), 4);
     assert_eq!(rt; (chart.segment(1), chart.segment(2)), (0, 0));
     assert!(rt; !chart.before(1, 2));
-    let chart = Chart::build(alloc, &parse(alloc, TWO_SENDERS)?)?;
+    let chart = chart_of(alloc, TWO_SENDERS)?;
     assert_eq!(rt; chart.events(), 4);
     assert_eq!(rt; (chart.segment(1), chart.segment(2)), (0, 1));
     assert!(rt; chart.before(1, 2));
@@ -146,7 +137,7 @@ fn an_empty_coregion_takes_no_segment(rt: HostRuntime) -> Result<(), Fail> {
     let alloc = rt.alloc();
     let text = b"msc t; instance a; out m to a; concurrent; endconcurrent; in m from a; \
 endinstance; endmsc;";
-    let chart = Chart::build(alloc, &parse(alloc, text)?)?;
+    let chart = chart_of(alloc, text)?;
     assert_eq!(rt; chart.events(), 2);
     assert_eq!(rt; (chart.segment(0), chart.segment(1)), (0, 1));
     Ok(())
@@ -155,7 +146,7 @@ endinstance; endmsc;";
 #[test]
 fn events_of_relay(rt: HostRuntime) -> Result<(), Fail> {
     let alloc = rt.alloc();
-    let chart = Chart::build(alloc, &parse(alloc, RELAY)?)?;
+    let chart = chart_of(alloc, RELAY)?;
     assert_eq!(rt; chart.name(), b"t".as_slice());
     assert_eq!(rt; chart.instances(), 3);
     assert_eq!(rt; chart.instance_name(2), b"c".as_slice());
@@ -174,7 +165,7 @@ fn events_of_relay(rt: HostRuntime) -> Result<(), Fail> {
 #[test]
 fn messages_and_queues_of_relay(rt: HostRuntime) -> Result<(), Fail> {
     let alloc = rt.alloc();
-    let chart = Chart::build(alloc, &parse(alloc, RELAY)?)?;
+    let chart = chart_of(alloc, RELAY)?;
     assert_eq!(rt; chart.messages(), 3);
     assert_eq!(rt; (chart.output_of(1), chart.input_of(1)), (1, 4));
     assert_eq!(rt; (chart.sender(2), chart.receiver(2)), (2, 1));

@@ -1,0 +1,45 @@
+//! The texts of example charts, for tests. Each stands in `charts/` as a file of the same name.
+#![tactic(auto)]
+
+/// A chart without instances.
+pub const EMPTY: &[u8] = b"msc t; endmsc;";
+
+/// One message between two instances.
+pub const ONE_MESSAGE: &[u8] = b"msc t; instance a; out m to b; endinstance; \
+instance b; in m from a; endinstance; endmsc;";
+
+/// Two instances each send a message to a third.
+pub const TWO_SENDERS: &[u8] = b"msc t; instance a; out m1 to b; endinstance; \
+instance b; in m1 from a; in m2 from c; endinstance; instance c; out m2 to b; endinstance; endmsc;";
+
+/// `two_senders` with both inputs in a coregion.
+pub const COREGION: &[u8] = b"msc t; instance a; out m1 to b; endinstance; \
+instance b; concurrent; in m1 from a; in m2 from c; endconcurrent; endinstance; \
+instance c; out m2 to b; endinstance; endmsc;";
+
+/// The second message to b is sent on behalf of the sender of the first.
+pub const RELAY: &[u8] = b"msc t; instance a; out m1 to b; out x to c; endinstance; \
+instance b; in m1 from a; in m2 from c; endinstance; \
+instance c; in x from a; out m2 to b; endinstance; endmsc;";
+
+/// Two messages of one queue, taken in the order in which they were not sent.
+pub const OVERTAKING: &[u8] = b"msc t; instance a; out m1 to b; out m2 to b; endinstance; \
+instance b; in m2 from a; in m1 from a; endinstance; endmsc;";
+
+/// Two instances each send before they take.
+pub const CROSSING: &[u8] = b"msc t; instance a; out p to b; in q from b; endinstance; \
+instance b; out q to a; in p from a; endinstance; endmsc;";
+
+/// Two messages of one name, told apart by their message instance names.
+pub const NUMBERED: &[u8] = b"msc t; instance a; out m, 1 to b; out m, 2 to b; endinstance; \
+instance b; in m, 1 from a; in m, 2 from a; endinstance; endmsc;";
+
+/// Two races that no run of mailboxes reverses both.
+pub const TWO_MAILBOXES: &[u8] = b"msc t; instance a; out m1 to q; out m3 to z; endinstance; \
+instance b; out m4 to z; out m2 to q; endinstance; \
+instance q; in m1 from a; in m2 from b; endinstance; \
+instance z; in m4 from b; in m3 from a; endinstance; endmsc;";
+
+/// Kinds, a comment, a note, a message instance name and parameters.
+pub const KINDS_AND_COMMENTS: &[u8] = b"msc t; inst a, b; instance a : process p comment 'it''s'; \
+/* note */ out m, 1(x, y) to b; endinstance; instance b; in m, 1(z) from a; endinstance; endmsc;";

@@ -1,0 +1,14 @@
+//! Tests of the program and its calls: what they print, exit statuses, and inputs and outputs that
+//! fail.
+#![tactic(auto)]
+
+#[cfg(test)]
+mod checks;
+#[cfg(test)]
+mod devices;
+#[cfg(test)]
+mod inputs;
+#[cfg(test)]
+mod program;
+#[cfg(test)]
+mod shown;

@@ -1,0 +1,166 @@
+#!/usr/bin/env python3
+"""Prints what `msc check` prints for a chart, straight from the definitions of docs/MODEL.md.
+
+    verdict.py [--show N] pair|mailbox < CHART
+
+Each definition is a function of its own, written for a reader and not for speed; sets of events are
+numbers, with a bit for each event. It shares nothing with the crates, so that expected outputs can be
+taken from it. The text has to be a chart: it names no fault. The exit status is 0 for `pass`, 1 for races.
+"""
+import argparse
+import re
+import sys
+
+TOKEN = re.compile(r"\s+|/\*.*?\*/|(?:'[^']*')+|\w+|.", re.DOTALL)
+SIGNAL = re.compile(r"(in|out) (\w+)(?: , (\w+))?(?: \( [^)]*\))? (?:from|to) (\w+)", re.IGNORECASE)
+
+
+def statements(text):
+    """The statements of a text, without notes and comments: each its tokens with a space between two."""
+    tokens = [token for token in TOKEN.findall(text) if not token.isspace() and token[:2] != "/*"]
+    for statement in " ".join(tokens).split(" ;"):
+        yield re.sub(r" ?comment '.*", "", statement.strip(), flags=re.IGNORECASE)
+
+
+class Event:
+    """An output or an input on a line: the message's key is sender, receiver, name and number."""
+
+    def __init__(self, line, segment, signal, names):
+        way, name, number, self.address = SIGNAL.fullmatch(signal).groups()
+        self.line, self.segment, self.is_output = line, segment, way.lower() == "out"
+        ends = [line, names.index(self.address)]
+        self.sender, self.receiver = ends if self.is_output else reversed(ends)
+        self.key = (self.sender, self.receiver, name, number)
+        message = name if number is None else f"{name}, {number}"
+        self.text = f"{way.lower()} {message} {'to' if self.is_output else 'from'} {self.address}"
+
+
+class Chart:
+    def __init__(self, text, queues):
+        lines = list(statements(text))
+        self.name, self.queues = lines[0].split()[1], queues
+        self.names = [line.split()[1] for line in lines if re.match("instance ", line, re.IGNORECASE)]
+        self.events = []
+        line, segment, shared = -1, 0, False
+        for statement in lines:
+            word = statement.split(" ")[0].lower()
+            if word == "instance":
+                line, segment = line + 1, 0
+            elif word in ("concurrent", "endconcurrent"):
+                shared, segment = word == "concurrent", segment + 1
+            elif word in ("in", "out"):
+                self.events.append(Event(line, segment, statement, self.names))
+                segment += not shared
+        self.all = range(len(self.events))
+        ends = {(event.is_output, event.key): e for e, event in enumerate(self.events)}
+        self.partner = [ends[not event.is_output, event.key] for event in self.events]
+        self.drawn_before = [self.set_of(d for d in self.all if self.before(d, e)) for e in self.all]
+        self.enforced = self.enforced_order()
+
+    @staticmethod
+    def set_of(numbers):
+        return sum(1 << number for number in numbers)
+
+    def is_output(self, e):
+        return self.events[e].is_output
+
+    def before(self, d, e):
+        """d is drawn before e."""
+        first, second = self.events[d], self.events[e]
+        return first.line == second.line and first.segment < second.segment
+
+    def queue(self, e):
+        """The queue of the message of e."""
+        event = self.events[e]
+        return (event.sender, event.receiver) if self.queues == "pair" else event.receiver
+
+    def enforced_order(self):
+        """For each event the set of those that are enforced after it: the least relation of four rules,
+        made by adding what a rule asks for until none asks for more."""
+        after = [0 for _ in self.all]
+        for e in self.all:
+            for f in self.all:
+                if self.before(e, f) and self.is_output(f) or self.is_output(e) and self.partner[e] == f:
+                    after[e] |= 1 << f
+        outputs = [e for e in self.all if self.is_output(e)]
+        while True:
+            earlier = list(after)
+            for middle in self.all:
+                for e in self.all:
+                    if after[e] >> middle & 1:
+                        after[e] |= after[middle]
+            for s in outputs:
+                for t in outputs:
+                    if after[s] >> t & 1 and self.queue(s) == self.queue(t):
+                        after[self.partner[s]] |= 1 << self.partner[t]
+            if after == earlier:
+                return after
+
+    def races(self):
+        """The pairs that are drawn in an order which is not enforced, ascending."""
+        return [(e, f) for e in self.all for f in self.all if self.before(e, f) and not self.enforced[e] >> f & 1]
+
+    def is_free(self, e, x):
+        """x is another event than e that is not enforced after e."""
+        return x != e and not self.enforced[e] >> x & 1
+
+    def chosen_run(self, e):
+        """While free events are left, the least of them that may come next and does not wait; then the
+        least event that may come next; until all events have occurred."""
+        free = self.set_of(x for x in self.all if self.is_free(e, x))
+        passed_on = [s for s in self.all if self.is_output(s) and free >> s & 1 and free >> self.partner[s] & 1]
+        run, past, sent = [], 0, {self.queue(x): [] for x in self.all}
+
+        def may_come(x):
+            if past >> x & 1:
+                return False
+            if self.is_output(x):
+                return not self.drawn_before[x] & ~past
+            return sent[self.queue(x)][:1] == [self.partner[x]]
+
+        def waits(x):
+            is_held = self.is_output(x) and not free >> self.partner[x] & 1
+            return is_held and any(self.queue(t) == self.queue(x) and not past >> t & 1 for t in passed_on)
+
+        while len(run) < len(self.all):
+            if free & ~past:
+                x = next(x for x in self.all if free >> x & 1 and may_come(x) and not waits(x))
+            else:
+                x = next(x for x in self.all if may_come(x))
+            run.append(x)
+            past |= 1 << x
+            if self.is_output(x):
+                sent[self.queue(x)].append(x)
+            else:
+                sent[self.queue(x)].pop(0)
+        return run
+
+    def verdict(self, show=2 ** 32 - 1):
+        """What `msc check` prints, line by line."""
+        yield f"chart {self.name}"
+        yield f"queues {self.queues}"
+        races = self.races()
+        yield f"races {len(races)}" if races else "pass"
+        runs = {}
+        for place, (e, f) in enumerate(races):
+            first, second = self.events[e], self.events[f]
+            yield f"race {e} {f} on {self.names[first.line]}: {first.text}; {second.text}"
+            if place < show:
+                if e not in runs:
+                    runs[e] = " ".join(map(str, ["run", *self.chosen_run(e)]))
+                yield runs[e]
+
+
+def main():
+    words = argparse.ArgumentParser(description=__doc__, formatter_class=argparse.RawDescriptionHelpFormatter)
+    words.add_argument("--show", type=int, default=2 ** 32 - 1, metavar="N")
+    words.add_argument("queues", choices=["pair", "mailbox"])
+    options = words.parse_args()
+    chart = Chart(sys.stdin.read(), options.queues)
+    for line in chart.verdict(options.show):
+        print(line)
+    return int(bool(chart.races()))
+
+
+if __name__ == "__main__":
+    sys.exit(main())
