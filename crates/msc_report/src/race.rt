@@ -109,10 +109,8 @@ fn write_numbers<W: Write>(writer: &mut W, numbers: &[u32]) -> io::Result<()>
     ensures { OnOk result (Appends (W.contents writer.old) (W.contents writer.new)
         (flat_map spaced numbers.now)) }
 {
-    let mut digits = Buffer::new();
     for number in numbers {
-        writer.write_all(b" ")?;
-        writer.write_all(digits.format(*number).as_bytes())?;
+        write!(writer, " {number}")?;
     }
     Ok(())
 }
@@ -137,11 +135,14 @@ fn write_run<W: Write>(writer: &mut W, run: Option<&[Event]>) -> io::Result<()>
 pub fn run_line(alloc: Global, run: &[Event]) -> Result<Vec<u8>, AllocError>
     ensures { IfOk result (λ line. line.items ≡ run_line (Some run.now)) }
 {
-    let mut line = Vec::new(alloc);
-    match write_run(&mut line, Some(run)) {
-        Ok(()) => Ok(line),
-        Err(_) => Err(AllocError),
+    let mut line = Vec::from_slice(alloc, b"run")?;
+    let mut digits = Buffer::new();
+    for e in run {
+        line.push(b' ')?;
+        line.extend_from_slice(digits.format(*e).as_bytes())?;
     }
+    line.push(b'\n')?;
+    Ok(line)
 }
 
 /// Writes which events race, and on which line.

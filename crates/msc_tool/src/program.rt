@@ -54,6 +54,9 @@ enum Task {
 /// The words for the architectures.
 const ARCHITECTURES: &[&str] = &["pair", "mailbox"];
 
+/// How many bytes of an answer go out at once: some lines of runs, which have up to 10,000 bytes.
+const BUFFER_SIZE: usize = 65_536;
+
 /// The chart that a command reads.
 fn file<'a>(alloc: Global) -> Arg<'a> {
     Arg::new(alloc, "FILE")
@@ -119,7 +122,7 @@ fn check_buffered<I: Read, O: Write>(
     input: &mut I,
     output: &mut O,
 ) -> Result<Status, Fault> {
-    let mut buffered = match BufWriter::new(alloc, output) {
+    let mut buffered = match BufWriter::with_capacity(alloc, BUFFER_SIZE, output) {
         Ok(buffered) => buffered,
         Err(_) => return Err(Fault::Memory),
     };
