@@ -9,8 +9,8 @@ use crate::choosing::Choice;
 use msc_chart::Event;
 use std::alloc::{AllocError, Global};
 
-/// Of the events that have not occurred: those that are free of `e`, those of them that are not held,
-/// and the outputs to the queue of `e` that are passed on.
+/// Of the events that have not occurred: those that are free of `e`, those of them that are not
+/// held, and the outputs to the queue of `e` that are passed on.
 #[derive(Drop)]
 pub struct Remaining {
     pub free: Vec<u64>,
