@@ -1,19 +1,14 @@
--- How the queues and the inputs whose messages are first change when an event occurs.
-use Rattle.std.proofs.Common.{◌≡◌, ◌≢◌, ℕ, ◌<◌, Bool, true, false, ◌&&◌, cond, ◌↔◌, inl, inr, List, [], ◌∷◌, ◌++◌, filter, length, get_or, set, eqb, refl, sym, ap, ◌∙◌, subst, arith, get_or-set_same, get_or-set_other}
-use Rattle.std.proofs.lemmas.Bool.{eqb-true, eq-eqb, cases_eq, or_cases, or_left, or_right}
-use Rattle.std.proofs.lemmas.List.{length-set}
+-- What stands in a queue, and which inputs have arrived, when an event of another queue occurs.
+use Rattle.std.proofs.Common.{◌≡◌, ◌≢◌, ℕ, ◌<◌, Bool, true, false, cond, inl, inr, List, [], ◌∷◌, ◌++◌, filter, length, get_or, eqb, refl, sym, subst}
+use Rattle.std.proofs.lemmas.Bool.{eqb-true, or_cases}
 use Rattle.msc_chart.specs.Lists.{occurs, IsFirst}
-use Rattle.msc_chart.specs.Charts.{partner, is_output, is_input}
-use Rattle.msc_chart.specs.Orders.{WiredChart, IsWired, queue}
-use Rattle.msc_chart.specs.Runs.{Run, MayCome, is_waiting, state}
-use Rattle.msc_race.specs.Bits.{holds, IsWith, IsWithout}
-use Rattle.msc_race.specs.Channels.{IsQueue, IsArrived, AreQueues}
-use Rattle.msc_race.proofs.BitLemmas.{row_same}
-use Rattle.msc_race.proofs.FrontLemmas.{still_in, was_in}
-use Rattle.msc_race.proofs.EventLemmas.{output_below, input_below, input_of}
+use Rattle.msc_chart.specs.Charts.{partner, is_output}
+use Rattle.msc_chart.specs.Orders.{WiredChart, queue}
+use Rattle.msc_chart.specs.Runs.{Run, is_waiting, state}
+use Rattle.msc_race.specs.Channels.{IsQueue, IsArrived}
+use Rattle.msc_race.proofs.EventLemmas.{output_below}
 use Rattle.msc_race.proofs.QueueLemmas.{waiting_parts}
-use Rattle.msc_race.proofs.StateLemmas.{IsDistinct, distinct, distinct_filter, state_sent, state_sent_elsewhere, state_taken, state_taken_elsewhere}
-use Rattle.msc_race.proofs.LinkLemmas.{empty_queue, last_in, queue_same, queue_push, queue_ends, queue_goes_on, first_parts}
+use Rattle.msc_race.proofs.StateLemmas.{IsDistinct, distinct, distinct_filter}
 
 -- what occurs in a filter passes it
 passes : (p : ℕ → Bool) (xs : List ℕ) (y : ℕ) → occurs (filter p xs) y ≡ true → p y ≡ true
@@ -28,292 +23,37 @@ passes p (x ∷ xs) y h =
       | false ↦ λ out k. passes p xs y k
     ]) refl h
 
--- the first of a list that is not empty is the first with one more at its end
-first_append : (xs : List ℕ) (x y s : ℕ) → occurs xs y ≡ true → IsFirst (xs ++ x ∷ []) s ↔ IsFirst xs s
-unfolding occurs
-first_append [] x y s h = cc
-first_append (a ∷ xs) x y s h = (λ f. f, λ f. f)
-
--- a list has one first
-first_unique : (xs : List ℕ) (s t : ℕ) → IsFirst xs s → IsFirst xs t → s ≡ t
-first_unique [] s t h k = absurd h
-first_unique (x ∷ xs) s t h k = sym h ∙ k
-
--- the first of the rest occurs in the list
-first_later : (s : ℕ) (rest : List ℕ) (t : ℕ) → IsFirst rest t → occurs (s ∷ rest) t ≡ true
-unfolding occurs
-first_later s [] t h = absurd h
-first_later s (b ∷ rest) t h = or_right (eqb s t) _ (or_left (eqb b t) _ (eq-eqb b t h))
-
-module _ (chart : WiredChart) (is_wired : IsWired chart) (past : List ℕ) (x : ℕ) (run : Run chart past) (may : MayCome chart past x)
-    (heads lasts next inputs : List ℕ)
-    (were : AreQueues chart (λ p. state chart p past) heads lasts next inputs) where
-  abbrev n : ℕ
-  n = length chart.events
-
-  abbrev q : ℕ
-  q = queue chart x
-
-  abbrev after : ℕ → List ℕ
-  after p = state chart p (past ++ x ∷ [])
-
-  abbrev head : ℕ
-  head = get_or heads q 0
-
-  abbrev last : ℕ
-  last = get_or lasts q 0
-
-  -- the queue of x is there
-  q_in : q < length heads
-  q_in = were.heads x may.event
-
-  -- so is its last
-  q_last : q < length lasts
-  q_last = let same = were.lasts in let inside = q_in in omega (arith, same, inside)
-
+module _ (chart : WiredChart) (past : List ℕ) where
   -- what is in a queue is an output of it
-  member : (p y : ℕ) → occurs (state chart p past) y ≡ true → (is_output chart.events y ≡ true) × (y < n) × (queue chart y ≡ p)
+  pub member : (p y : ℕ) → occurs (state chart p past) y ≡ true → (is_output chart.events y ≡ true) × (y < length chart.events) × (queue chart y ≡ p)
   member p y there =
       let w = waiting_parts chart p past y (passes (is_waiting chart p past) past y there) in
       (w.0, output_below chart.events y w.0, w.1)
 
   -- a queue holds no output twice
-  once : (p : ℕ) → IsDistinct (state chart p past)
-  once p = distinct_filter (is_waiting chart p past) past (distinct chart [] past run)
+  pub once : Run chart past → (p : ℕ) → IsDistinct (state chart p past)
+  once run p = distinct_filter (is_waiting chart p past) past (distinct chart [] past run)
 
-  -- the last of the queue of x, where that has a head, is an event
-  pub last_known : head ≢ n → last < n
-  last_known some = (member q last (last_in n next head last (state chart q past) (were.linked q q_in) some)).1
-
-  -- an input whose output is that of another input is that input
-  same_partner : (y z : ℕ) → y < n → z < n → partner chart.events y ≡ partner chart.events z → y ≡ z
-  same_partner y z y_in z_in same =
-      sym (is_wired.matched.to_and_fro y y_in) ∙ ap (λ e. partner chart.events e) same ∙ is_wired.matched.to_and_fro z z_in
-
-  -- an input of another queue
-  module _ (elsewhere : (p : ℕ) → q ≢ p → after p ≡ state chart p past) where
+  -- an event occurs that changes its own queue alone
+  module _ (x : ℕ) (elsewhere : (p : ℕ) → queue chart x ≢ p → state chart p (past ++ x ∷ []) ≡ state chart p past) where
     -- what had arrived from another queue has arrived
-    still_arrived : (y : ℕ) → queue chart y ≢ q → IsArrived chart (λ p. state chart p past) y → IsArrived chart after y
+    pub still_arrived : (y : ℕ) → queue chart y ≢ queue chart x → IsArrived chart (λ p. state chart p past) y → IsArrived chart (λ p. state chart p (past ++ x ∷ [])) y
     still_arrived y other a = record {
       input = a.input;
       first = subst (λ (l : List ℕ). IsFirst l (partner chart.events y)) (sym (elsewhere (queue chart y) (λ h. other (sym h)))) a.first;
     }
 
     -- and the other way round
-    had_arrived : (y : ℕ) → queue chart y ≢ q → IsArrived chart after y → IsArrived chart (λ p. state chart p past) y
+    pub had_arrived : (y : ℕ) → queue chart y ≢ queue chart x → IsArrived chart (λ p. state chart p (past ++ x ∷ [])) y → IsArrived chart (λ p. state chart p past) y
     had_arrived y other a = record {
       input = a.input;
       first = subst (λ (l : List ℕ). IsFirst l (partner chart.events y)) (elsewhere (queue chart y) (λ h. other (sym h))) a.first;
     }
 
     -- the links of another queue, where its head and last stay
-    linked_elsewhere : (new_heads new_lasts : List ℕ) (p : ℕ) → p < length heads → p ≢ q
+    pub linked_elsewhere : (heads lasts next new_heads new_lasts : List ℕ) (p : ℕ) → p ≢ queue chart x
+        → IsQueue (length chart.events) next (get_or heads p 0) (get_or lasts p 0) (state chart p past)
         → get_or new_heads p 0 ≡ get_or heads p 0 → get_or new_lasts p 0 ≡ get_or lasts p 0
-        → IsQueue n next (get_or new_heads p 0) (get_or new_lasts p 0) (after p)
-    linked_elsewhere new_heads new_lasts p p_in other same_head same_last =
-        rw (same_head, same_last, elsewhere p (λ h. other (sym h))) (were.linked p p_in)
-
-  module _ (o : is_output chart.events x ≡ true) where
-    away : (p : ℕ) → q ≢ p → after p ≡ state chart p past
-    away p other = state_sent_elsewhere chart past x is_wired run may o p other
-
-    -- an output becomes the head of an empty queue
-    pub sent_first : head ≡ n → (new_inputs : List ℕ) → length new_inputs ≡ length inputs
-        → IsWith inputs new_inputs true (partner chart.events x)
-        → AreQueues chart after (set heads q x) (set lasts q x) next new_inputs
-    sent_first none new_inputs same wider =
-        let empty = empty_queue n next head last (state chart q past) (were.linked q q_in) none (λ y there. (member q y there).1) in
-        let full : after q ≡ x ∷ [] = state_sent chart past x is_wired run may o ∙ ap (λ l. l ++ x ∷ []) empty in
-        record {
-          inputs_row = row_same n inputs new_inputs same were.inputs_row;
-          heads = λ e below. rw (length-set heads q x) (were.heads e below);
-          lasts = length-set lasts q x ∙ were.lasts ∙ sym (length-set heads q x);
-          next = were.next;
-          linked = λ p p_below. elim (cases_eq p q) [
-            | inl here ↦ rw (here, get_or-set_same heads q x 0 q_in, get_or-set_same lasts q x 0 q_last, full) (refl, refl)
-            | inr other ↦
-                linked_elsewhere away (set heads q x) (set lasts q x) p (rw (length-set heads q x) at p_below) other
-                (get_or-set_other heads q p x 0 other) (get_or-set_other lasts q p x 0 other)
-          ];
-          inputs = λ y. (
-            λ h. elim (or_cases (holds inputs y) (true && eqb y (partner chart.events x)) (sym (wider y) ∙ h)) [
-              | inl there ↦ let a = (were.inputs y).0 there in elim (cases_eq (queue chart y) q) [
-                | inl here ↦ absurd (subst (λ (l : List ℕ). IsFirst l (partner chart.events y)) (ap (λ p. state chart p past) here ∙ empty) a.first)
-                | inr other ↦ still_arrived away y other a
-              ]
-              | inr added ↦ subst (λ (z : ℕ). IsArrived chart after z) (sym (eqb-true y (partner chart.events x) added)) (record {
-                input = input_of chart.events is_wired.matched x o;
-                first = rw (is_wired.one_queue x may.event, full, is_wired.matched.to_and_fro x may.event) refl;
-              })
-            ],
-            λ a. wider y ∙ elim (cases_eq (queue chart y) q) [
-              | inl here ↦
-                  let first : x ≡ partner chart.events y = subst (λ (l : List ℕ). IsFirst l (partner chart.events y)) (ap after here ∙ full) a.first in
-                  let y_in = input_below chart.events y a.input in
-                  or_right (holds inputs y) (true && eqb y (partner chart.events x))
-                  (eq-eqb y (partner chart.events x) (sym (ap (λ e. partner chart.events e) first ∙ is_wired.matched.to_and_fro y y_in)))
-              | inr other ↦ or_left (holds inputs y) (true && eqb y (partner chart.events x)) ((were.inputs y).1 (had_arrived away y other a))
-            ],
-          );
-        }
-
-    -- an output is put at the end of a queue with a head
-    pub sent_later : head ≢ n → AreQueues chart after heads (set lasts q x) (set next last x) inputs
-    sent_later some =
-        let there = last_in n next head last (state chart q past) (were.linked q q_in) some in
-        let size = were.next in
-        let known = last_known some in
-        let full : after q ≡ state chart q past ++ x ∷ [] = state_sent chart past x is_wired run may o in
-        record {
-          inputs_row = were.inputs_row;
-          heads = were.heads;
-          lasts = length-set lasts q x ∙ were.lasts;
-          next = length-set next last x ∙ were.next;
-          linked = λ p p_below. elim (cases_eq p q) [
-            | inl here ↦ rw (here, get_or-set_same lasts q x 0 q_last, full)
-                (queue_push n next head last x (state chart q past) (were.linked q q_in) some (once q) (omega (arith, known, size)))
-            | inr other ↦ rw (get_or-set_other lasts q p x 0 other, away p (λ h. other (sym h)))
-                (queue_same n next (get_or heads p 0) (get_or lasts p 0) (set next last x) (state chart p past)
-                (λ y in_p. get_or-set_other next last y x 0
-                (λ same. other (sym (member p y in_p).2 ∙ ap (λ z. queue chart z) same ∙ (member q last there).2)))
-                (were.linked p p_below))
-          ];
-          inputs = λ y. (
-            λ h. let a = (were.inputs y).0 h in elim (cases_eq (queue chart y) q) [
-              | inl here ↦ record {
-                input = a.input;
-                first = subst (λ (l : List ℕ). IsFirst l (partner chart.events y)) (sym (ap after here ∙ full))
-                    ((first_append (state chart q past) x last (partner chart.events y) there).1
-                    (subst (λ (p : ℕ). IsFirst (state chart p past) (partner chart.events y)) here a.first));
-              }
-              | inr other ↦ still_arrived away y other a
-            ],
-            λ a. (were.inputs y).1 (elim (cases_eq (queue chart y) q) [
-              | inl here ↦ record {
-                input = a.input;
-                first = subst (λ (p : ℕ). IsFirst (state chart p past) (partner chart.events y)) (sym here)
-                    ((first_append (state chart q past) x last (partner chart.events y) there).0
-                    (subst (λ (l : List ℕ). IsFirst l (partner chart.events y)) (ap after here ∙ full) a.first));
-              }
-              | inr other ↦ had_arrived away y other a
-            ]),
-          );
-        }
-
-  module _ (i : is_input chart.events x ≡ true) where
-    gone : (p : ℕ) → q ≢ p → after p ≡ state chart p past
-    gone p other = state_taken_elsewhere chart past x is_wired run may i p other
-
-    abbrev s : ℕ
-    s = partner chart.events x
-
-    -- the message of x is the first of its queue
-    full_queue : (rest : List ℕ) × (state chart q past ≡ s ∷ rest)
-    full_queue = first_parts (state chart q past) s (may.input i)
-
-    abbrev rest : List ℕ
-    rest = full_queue.0
-
-    full : state chart q past ≡ s ∷ rest
-    full = full_queue.1
-
-    left : after q ≡ rest
-    left = state_taken chart past x is_wired run may i rest full
-
-    linked_full : IsQueue n next head last (s ∷ rest)
-    linked_full = subst (λ (l : List ℕ). IsQueue n next head last l) full (were.linked q q_in)
-
-    -- no other input of the queue had arrived
-    not_arrived : (y : ℕ) → queue chart y ≡ q → IsArrived chart (λ p. state chart p past) y → y ≡ x
-    not_arrived y here a =
-        let first : s ≡ partner chart.events y = subst (λ (l : List ℕ). IsFirst l (partner chart.events y)) (ap (λ p. state chart p past) here ∙ full) a.first in
-        same_partner y x (input_below chart.events y a.input) may.event (sym first)
-
-    -- where the first is the last, the queue is empty
-    pub taken_last : last ≡ s → (new_inputs : List ℕ) → length new_inputs ≡ length inputs → IsWithout inputs new_inputs x
-        → AreQueues chart after (set heads q n) lasts next new_inputs
-    taken_last same new_inputs size without =
-        let none = queue_ends n next head last s rest linked_full (subst IsDistinct full (once q)) same in
-        let empty : after q ≡ [] = left ∙ none in
-        record {
-          inputs_row = row_same n inputs new_inputs size were.inputs_row;
-          heads = λ e below. rw (length-set heads q n) (were.heads e below);
-          lasts = were.lasts ∙ sym (length-set heads q n);
-          next = were.next;
-          linked = λ p p_below. elim (cases_eq p q) [
-            | inl here ↦ rw (here, get_or-set_same heads q n 0 q_in, empty) refl
-            | inr other ↦
-                linked_elsewhere gone (set heads q n) lasts p (rw (length-set heads q n) at p_below) other (get_or-set_other heads q p n 0 other) refl
-          ];
-          inputs = λ y. (
-            λ h.
-                let was = was_in inputs new_inputs x without y h in
-                let a = (were.inputs y).0 was.0 in
-                elim (cases_eq (queue chart y) q) [
-                  | inl here ↦ absurd (was.1 (not_arrived y here a))
-                  | inr other ↦ still_arrived gone y other a
-                ],
-            λ a. elim (cases_eq (queue chart y) q) [
-              | inl here ↦ absurd (subst (λ (l : List ℕ). IsFirst l (partner chart.events y)) (ap after here ∙ empty) a.first)
-              | inr other ↦ still_in inputs new_inputs x without y ((were.inputs y).1 (had_arrived gone y other a)) (λ same. other (ap (λ z. queue chart z) same))
-            ],
-          );
-        }
-
-    -- else the next of the queue is its first
-    following : last ≢ s → IsFirst rest (get_or next s 0) × IsQueue n next (get_or next s 0) last rest
-    following other = queue_goes_on n next head last s rest linked_full other
-
-    -- which is an output of the queue
-    follower : last ≢ s → (is_output chart.events (get_or next s 0) ≡ true) × (get_or next s 0 < n) × (queue chart (get_or next s 0) ≡ q)
-    follower other =
-        member q (get_or next s 0) (subst (λ (l : List ℕ). occurs l (get_or next s 0) ≡ true) (sym full) (first_later s rest (get_or next s 0) (following other).0))
-
-    -- and so an event
-    pub following_known : last ≢ s → get_or next s 0 < n
-    following_known other = (follower other).1
-
-    -- and its input arrives
-    pub taken_more : last ≢ s → (cleared new_inputs : List ℕ) → length cleared ≡ length inputs → length new_inputs ≡ length cleared
-        → IsWithout inputs cleared x → IsWith cleared new_inputs true (partner chart.events (get_or next s 0))
-        → AreQueues chart after (set heads q (get_or next s 0)) lasts next new_inputs
-    taken_more differs cleared new_inputs size more without wider =
-        let t : ℕ = get_or next s 0 in
-        let next_first = following differs in
-        let t_is = follower differs in
-        record {
-          inputs_row = row_same n inputs new_inputs (more ∙ size) were.inputs_row;
-          heads = λ e below. rw (length-set heads q t) (were.heads e below);
-          lasts = were.lasts ∙ sym (length-set heads q t);
-          next = were.next;
-          linked = λ p p_below. elim (cases_eq p q) [
-            | inl here ↦ rw (here, get_or-set_same heads q t 0 q_in, left) next_first.1
-            | inr other ↦
-                linked_elsewhere gone (set heads q t) lasts p (rw (length-set heads q t) at p_below) other (get_or-set_other heads q p t 0 other) refl
-          ];
-          inputs = λ y. (
-            λ h. elim (or_cases (holds cleared y) (true && eqb y (partner chart.events t)) (sym (wider y) ∙ h)) [
-              | inl there ↦
-                  let was = was_in inputs cleared x without y there in
-                  let a = (were.inputs y).0 was.0 in
-                  elim (cases_eq (queue chart y) q) [
-                    | inl here ↦ absurd (was.1 (not_arrived y here a))
-                    | inr other ↦ still_arrived gone y other a
-                  ]
-              | inr added ↦ subst (λ (z : ℕ). IsArrived chart after z) (sym (eqb-true y (partner chart.events t) added)) (record {
-                input = input_of chart.events is_wired.matched t t_is.0;
-                first = rw (is_wired.one_queue t t_is.1, t_is.2, left, is_wired.matched.to_and_fro t t_is.1) next_first.0;
-              })
-            ],
-            λ a. wider y ∙ elim (cases_eq (queue chart y) q) [
-              | inl here ↦
-                  let first : IsFirst rest (partner chart.events y) = subst (λ (l : List ℕ). IsFirst l (partner chart.events y)) (ap after here ∙ left) a.first in
-                  let same = first_unique rest (partner chart.events y) t first next_first.0 in
-                  let y_in = input_below chart.events y a.input in
-                  or_right (holds cleared y) (true && eqb y (partner chart.events t))
-                  (eq-eqb y (partner chart.events t) (sym (is_wired.matched.to_and_fro y y_in) ∙ ap (λ e. partner chart.events e) same))
-              | inr other ↦ or_left (holds cleared y) (true && eqb y (partner chart.events t))
-                  (still_in inputs cleared x without y ((were.inputs y).1 (had_arrived gone y other a)) (λ same. other (ap (λ z. queue chart z) same)))
-            ],
-          );
-        }
+        → IsQueue (length chart.events) next (get_or new_heads p 0) (get_or new_lasts p 0) (state chart p (past ++ x ∷ []))
+    linked_elsewhere heads lasts next new_heads new_lasts p other linked same_head same_last =
+        rw (same_head, same_last, elsewhere p (λ h. other (sym h))) linked

@@ -32,5 +32,7 @@ pub mod RemainderLemmas
 pub mod FrontLemmas
 pub mod LinkLemmas
 pub mod ChannelLemmas
+pub mod SendLemmas
+pub mod TakeLemmas
 pub mod StartLemmas
 pub mod FrontierLemmas

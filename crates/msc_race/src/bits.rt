@@ -1,6 +1,7 @@
 //! Rows of bits: number `y` is bit `y % 64` of word `y / 64`.
 
-ghost use Rattle.std.specs.Prelude.{◌≡◌, ℕ, ◌*◌, ◌<◌, ◌≤◌, ◌||◌, ◌↔◌, false, length, nat_eq, replicate, IsTrue, IfOk, IfSome, IfNone};
+ghost use Rattle.std.specs.Prelude.{◌≡◌, ℕ, ◌*◌, ◌<◌, ◌≤◌, ◌||◌, ◌↔◌, false, length, nat_eq};
+ghost use Rattle.std.specs.Prelude.{replicate, IsTrue, IfOk, IfSome, IfNone};
 ghost use Rattle.msc_chart.specs.Chosen.{IsLeast};
 ghost use Rattle.msc_order.specs.Tables.{stride};
 ghost use Rattle.msc_race.specs.Bits.{holds, picks, IsBlankTo, IsFirstWord, IsRow, IsWith, IsWithout};

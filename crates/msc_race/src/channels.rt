@@ -1,6 +1,7 @@
 //! A run, and what is in its queues, so that it is known which inputs may come next.
 
-ghost use Rattle.std.specs.Prelude.{◌≡◌, ℕ, ◌<◌, ◌≤◌, false, [], ◌∷◌, ◌++◌, length, IfOk, OnOk, IsTrue};
+ghost use Rattle.std.specs.Prelude.{◌≡◌, ℕ, ◌<◌, ◌≤◌, false, [], ◌∷◌, ◌++◌, length, IfOk, OnOk};
+ghost use Rattle.std.specs.Prelude.{IsTrue};
 ghost use Rattle.msc_chart.specs.Charts.{is_output};
 ghost use Rattle.msc_chart.specs.Orders.{queue};
 ghost use Rattle.msc_chart.specs.Runs.{MayCome, Run};
@@ -102,7 +103,8 @@ impl Channels {
         requires queues { HoldsQueues (chart_of choice.now) self.old.run.items self.old }
         requires run { Run (chart_of choice.now) self.old.run.items }
         requires may { MayCome (chart_of choice.now) self.old.run.items x }
-        ensures queues { OnOk result (HoldsQueues (chart_of choice.now) self.new.run.items self.new) }
+        ensures queues { OnOk result
+            (HoldsQueues (chart_of choice.now) self.new.run.items self.new) }
         ensures run { OnOk result (self.new.run.items ≡ self.old.run.items ++ x ∷ []) }
     {
         if choice.is_output(x) {

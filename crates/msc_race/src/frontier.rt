@@ -50,7 +50,8 @@ impl Frontier {
     pub fn next(&self, choice: &Choice) -> Option<Event>
         requires settled { IsSettled choice.now }
         requires kept { IsKept choice.now self.now }
-        ensures some { IfSome result (λ x. IsChosenNext (chart_of choice.now) choice.now.e (run_of self.now) x) }
+        ensures some { IfSome result
+            (λ x. IsChosenNext (chart_of choice.now) choice.now.e (run_of self.now) x) }
         ensures none { IfNone result (IsWhole (chart_of choice.now) (run_of self.now)) }
     {
         a_chosen_run_goes_on();

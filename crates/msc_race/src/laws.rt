@@ -1,14 +1,22 @@
 //! Laws of the runs of a chart, over the definitions alone. The functions do nothing when they run:
-//! a caller calls one to rest its own proof on the law. Each law holds of every accepted chart under
-//! either architecture.
+//! a caller calls one to rest its own proof on the law. Each law holds of every accepted chart
+//! under either architecture.
 
 ghost use Rattle.std.specs.Prelude.{[], ◌∷◌};
 ghost use Rattle.msc_chart.specs.declared.queue.Queues.{Queues};
 ghost use Rattle.msc_chart.specs.declared.queue.Queues.TheVariants.{Mailbox, Pair};
 ghost use Rattle.msc_chart.specs.Orders.{Enforced};
 ghost use Rattle.msc_chart.specs.Runs.{Run};
-ghost use Rattle.msc_race.specs.Laws.{AChosenRunExists, ChosenRunsAreUnique, ChosenRunsAreWhole, ChosenRunsGoOn, ChosenRunsReverse, ChosenRunsReverseRaces, ChosenStepsAreARun, EveryRunGoesOnToAWholeOne, EveryRunKeepsTheEnforcedOrder, NoRunIsStuck, RacesAreWhatRunsReverse, RunsKeepTheDrawnOrder, TheEnforcedOrderHasNoCycle, TheEnforcedOrderIsExact, WhatIsEnforcedIsNeverReversed, WhatIsNotEnforcedIsReversed, WhatMayComeMakesALongerRun};
-ghost use Rattle.msc_race.specs.Samples.{IsReversal, NoRunReversesBoth, crossed, mailboxes, overtaken, relayed, senders, unordered};
+ghost use Rattle.msc_race.specs.Laws.{AChosenRunExists, ChosenRunsAreUnique, ChosenRunsAreWhole};
+ghost use Rattle.msc_race.specs.Laws.{ChosenRunsGoOn, ChosenRunsReverse, ChosenRunsReverseRaces};
+ghost use Rattle.msc_race.specs.Laws.{ChosenStepsAreARun, EveryRunGoesOnToAWholeOne};
+ghost use Rattle.msc_race.specs.Laws.{EveryRunKeepsTheEnforcedOrder, NoRunIsStuck};
+ghost use Rattle.msc_race.specs.Laws.{RacesAreWhatRunsReverse, RunsKeepTheDrawnOrder};
+ghost use Rattle.msc_race.specs.Laws.{TheEnforcedOrderHasNoCycle, TheEnforcedOrderIsExact};
+ghost use Rattle.msc_race.specs.Laws.{WhatIsEnforcedIsNeverReversed, WhatIsNotEnforcedIsReversed};
+ghost use Rattle.msc_race.specs.Laws.{WhatMayComeMakesALongerRun};
+ghost use Rattle.msc_race.specs.Samples.{IsReversal, NoRunReversesBoth, crossed, mailboxes};
+ghost use Rattle.msc_race.specs.Samples.{overtaken, relayed, senders, unordered};
 ghost use Rattle.msc_race.specs.Races.{AreRaces};
 
 use msc_chart::laws::ends_share_queues;

@@ -4,7 +4,8 @@ ghost use Rattle.std.specs.Prelude.{◌≡◌, ℕ, ◌+◌, ◌<◌, ◌≤◌,
 ghost use Rattle.msc_chart.specs.Charts.{before, is_output, line};
 ghost use Rattle.msc_race.specs.Bits.{holds, IsRow, IsWithout};
 ghost use Rattle.msc_race.specs.Choices.{size, IsSettled};
-ghost use Rattle.msc_race.specs.Fronts.{HoldsLines, HoldsLinesFrom, HoldsLinesTo, IsNextLeft, IsOpened};
+ghost use Rattle.msc_race.specs.Fronts.{HoldsLines, HoldsLinesFrom, HoldsLinesTo, IsNextLeft};
+ghost use Rattle.msc_race.specs.Fronts.{IsOpened};
 
 use crate::bits::{blank, clear, has, put_where};
 use crate::choosing::Choice;
@@ -67,7 +68,8 @@ fn is_first(choice: &Choice, front: Event, x: Event) -> bool
     requires front { front < size choice.now }
     requires known { x < size choice.now }
     ensures { IsTrue result
-        ↔ (IsTrue (is_output choice.now.chart.now.events x) × (before choice.now.chart.now.events front x ≡ false)) }
+        ↔ (IsTrue (is_output choice.now.chart.now.events x)
+        × (before choice.now.chart.now.events front x ≡ false)) }
 {
     if !choice.is_output(x) {
         return false;
@@ -115,7 +117,8 @@ impl Lines {
     pub fn start(alloc: Global, choice: &Choice) -> Result<Lines, AllocError>
         requires { IsSettled choice.now }
         ensures kept { IfOk result (λ l. HoldsLines choice.now.chart.now l) }
-        ensures left { IfOk result (λ l. (y : ℕ) → IsTrue (holds l.left.items y) ↔ (y < size choice.now)) }
+        ensures left { IfOk result
+            (λ l. (y : ℕ) → IsTrue (holds l.left.items y) ↔ (y < size choice.now)) }
     {
         let events = choice.chart.events();
         let mut lines = Lines::blank(alloc, choice)?;

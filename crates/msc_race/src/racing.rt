@@ -1,15 +1,17 @@
 //! Races: drawn pairs that an order does not hold.
 //!
-//! After an event of a line come the rest of its segment and then, up to the end of the line, what is
-//! drawn after it. Of these the zeros of the event's row are its races, so whole words of ones are
-//! passed over at once.
+//! After an event of a line come the rest of its segment and then, up to the end of the line, what
+//! is drawn after it. Of these the zeros of the event's row are its races, so whole words of ones
+//! are passed over at once.
 
-ghost use Rattle.std.specs.Prelude.{◌≡◌, ℕ, ◌+◌, ◌*◌, ◌/◌, ◌%◌, ◌<◌, ◌≤◌, ◌++◌, ◌&&◌, not, nat_le, nat_lt, length, IfOk, OnOk};
+ghost use Rattle.std.specs.Prelude.{◌≡◌, ℕ, ◌+◌, ◌*◌, ◌/◌, ◌%◌, ◌<◌, ◌≤◌, ◌++◌, ◌&&◌, not, nat_le};
+ghost use Rattle.std.specs.Prelude.{nat_lt, length, IfOk, OnOk};
 ghost use Rattle.msc_chart.specs.Charts.{IsLineEnd, IsSegmentEnd};
 ghost use Rattle.msc_chart.specs.declared.queue.Queues.{Queues};
 ghost use Rattle.msc_chart.specs.Orders.{wired, IsEnforcedOrder};
 ghost use Rattle.msc_order.specs.Tables.{bit_of, orders};
-ghost use Rattle.msc_race.specs.Races.{all_races, is_gap, is_in_word, pairs_to, IsVerdict, TellsRuns};
+ghost use Rattle.msc_race.specs.Races.{all_races, is_gap, is_in_word, pairs_to, IsVerdict};
+ghost use Rattle.msc_race.specs.Races.{TellsRuns};
 
 use crate::laws::races_are_what_runs_reverse;
 use crate::verdict::Verdict;

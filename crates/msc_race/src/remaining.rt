@@ -10,9 +10,9 @@ use crate::choosing::Choice;
 use msc_chart::Event;
 use std::alloc::{AllocError, Global};
 
-/// Of the events that have not occurred: those that are free of `e`, those of them that are not held,
-/// and the outputs to the queue of `e` that are passed on; and the first words with free events and
-/// with such outputs.
+/// Of the events that have not occurred: those that are free of `e`, those of them that are not
+/// held, and the outputs to the queue of `e` that are passed on; and the first words with free
+/// events and with such outputs.
 #[derive(Drop)]
 pub struct Remaining {
     pub free: Vec<u64>,

@@ -15,9 +15,9 @@ use msc_order::Order;
 use std::alloc::{AllocError, Global};
 
 /// The chosen run of event `e`: while events are left that are free of `e`, that is other than `e`
-/// and not enforced after it, the least of them that may come next and does not wait; then the least
-/// event that may come next. It reverses every race of `e`. An error is a growth of memory that was
-/// refused.
+/// and not enforced after it, the least of them that may come next and does not wait; then the
+/// least event that may come next. It reverses every race of `e`. An error is a growth of memory
+/// that was refused.
 pub fn chosen_run(
     alloc: Global,
     chart: &Chart,

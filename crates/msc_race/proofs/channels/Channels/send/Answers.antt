@@ -2,7 +2,7 @@ use Rattle.std.proofs.Common.{length, get_or, sym, ap, ◌∙◌, arith}
 use Rattle.std.proofs.lemmas.List.{with_items_is}
 use Rattle.msc_race.specs.Choices.{chart_of}
 use Rattle.msc_race.proofs.LinkLemmas.{any_default}
-use Rattle.msc_race.proofs.ChannelLemmas.{last_known, sent_first, sent_later}
+use Rattle.msc_race.proofs.SendLemmas.{last_known, sent_first, sent_later}
 use Rattle.msc_race.proofs.channels.Channels.send.Goals as goal
 
 pub index_mut-requires-else-index-events : goal.index_mut-requires-else-index-events

@@ -7,7 +7,7 @@ use Rattle.msc_race.specs.Choices.{chart_of}
 use Rattle.msc_race.proofs.Shared.{clash}
 use Rattle.msc_race.proofs.EventLemmas.{output_or_input}
 use Rattle.msc_race.proofs.LinkLemmas.{any_default}
-use Rattle.msc_race.proofs.ChannelLemmas.{following_known, taken_last, taken_more}
+use Rattle.msc_race.proofs.TakeLemmas.{following_known, taken_last, taken_more}
 use Rattle.msc_race.proofs.channels.Channels.take.Goals as goal
 
 pub partner-requires-clause-known : goal.partner-requires-clause-known
