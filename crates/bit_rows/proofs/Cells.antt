@@ -7,7 +7,7 @@ use Rattle.std.proofs.lemmas.Nat.{same_from_place}
 use Rattle.bit_rows.specs.Rows.{bit_of, has, word_count}
 use Rattle.bit_rows.specs.Tables.{cell, with_row, HasRow}
 use Rattle.std.proofs.Math.Bool.{or-false, or-true, and-false}
-use Rattle.bit_rows.proofs.Bits.{by_test, words_enough, word_below, below-suc, bit_put, bit_join, bit_zero}
+use Rattle.bit_rows.proofs.Bits.{by_test, words_enough, word_below, below-suc, bit_put, bit_join}
 use Rattle.bit_rows.proofs.Rows.{has_past, has_blank, same_bit}
 
 -- a cell of a column of the table

@@ -1,12 +1,11 @@
 -- What writing one word after the other does to a row of bits.
-use Rattle.std.proofs.Common.{◌≡◌, ℕ, ◌+◌, ◌*◌, ◌/◌, ◌%◌, ◌^◌, ◌<◌, ◌≤◌, Bool, true, false, not, ◌&&◌, ◌||◌, cond, inl, inr, eqb, ltb, List, length, get_or, set, refl, sym, ap, ◌∙◌, arith, get_or-set_same, get_or-set_other, bit_and, w64}
+use Rattle.std.proofs.Common.{◌≡◌, ℕ, ◌+◌, ◌*◌, ◌/◌, ◌%◌, ◌^◌, ◌<◌, Bool, true, false, not, ◌&&◌, ◌||◌, cond, inl, inr, ltb, List, length, get_or, set, refl, ap, ◌∙◌, arith, get_or-set_same, get_or-set_other, bit_and, w64}
 use Rattle.std.proofs.lemmas.Bool.{lt-ltb, le-ltb, ne_eqb, cases_lt, cases_eq}
-use Rattle.std.specs.Int.{bit_not, trailing_zeros}
-use Rattle.std.proofs.lemmas.Nat.Bits.{bit_at-trailing_zeros}
+use Rattle.std.specs.Int.{bit_not}
 use Rattle.bit_rows.specs.Rows.{bit_of, has, word_count}
 use Rattle.bit_rows.specs.Tables.{cell}
 use Rattle.std.proofs.Math.Bool.{or-false}
-use Rattle.bit_rows.proofs.Bits.{words_enough, word_below, below-suc, bit_meet, bit_other, bit_alone, bit_zero}
+use Rattle.bit_rows.proofs.Bits.{word_below, below-suc, bit_meet, bit_other}
 use Rattle.bit_rows.proofs.Rows.{has_past}
 use Rattle.bit_rows.proofs.Cells.{cell_in, cell_out}
 

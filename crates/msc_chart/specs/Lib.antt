@@ -10,7 +10,6 @@ pub mod Chosen
 pub mod Faults
 pub mod Laws
 pub mod Samples
-
 -- what the code keeps
 pub mod Views
 pub mod Numbering

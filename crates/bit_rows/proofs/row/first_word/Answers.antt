@@ -1,5 +1,4 @@
-use Rattle.std.proofs.Common.{◌/◌, ◌%◌, ◌*◌, ◌+◌, ℕ, ◌≡◌, ◌<◌, get_or, arith, w64, ◌∙◌, refl}
-use Rattle.std.specs.Int.{trailing_zeros}
+use Rattle.std.proofs.Common.{arith}
 use Rattle.std.proofs.Math.Facts.{Fits-lt-pow}
 use Rattle.bit_rows.proofs.Rows.{none_further, some_number}
 use Rattle.bit_rows.proofs.row.first_word.Goals as goal

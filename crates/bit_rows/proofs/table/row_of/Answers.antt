@@ -1,4 +1,3 @@
-use Rattle.std.proofs.Common.{sym}
 use Rattle.bit_rows.proofs.Cells.{row_numbers}
 use Rattle.bit_rows.proofs.table.row_of.Goals as goal
 

@@ -1,5 +1,5 @@
 use Rattle.std.proofs.Common.{◌∙◌, refl}
-use Rattle.msc_chart.specs.Orders.{queue_of, queue_number}
+use Rattle.msc_chart.specs.Orders.{queue_of}
 use Rattle.msc_chart.proofs.chart.Chart.queue.Goals as goal
 
 pub returns : goal.returns

@@ -1,4 +1,4 @@
-use Rattle.std.proofs.Common.{ℕ, ◌<◌, ◌≡◌, ◌*◌, refl, sym, subst}
+use Rattle.std.proofs.Common.{ℕ, ◌<◌, refl, sym, subst}
 use Rattle.msc_chart.specs.Orders.{queue, queue_bound}
 use Rattle.msc_chart.specs.Wirings.{wired_by}
 use Rattle.msc_chart.proofs.QueueLemmas.{number_bounded}
