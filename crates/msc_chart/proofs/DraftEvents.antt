@@ -15,7 +15,7 @@ use Rattle.msc_chart.proofs.Places.{map-place}
 use Rattle.msc_chart.proofs.EndLemmas.{next-room}
 
 -- an element of two joined lists is in one of them
-joined : {X : Type 0} (xs ys : List X) (x : X) → Occurs (xs ++ ys) x → Occurs xs x ⊎ Occurs ys x
+pub joined : {X : Type 0} (xs ys : List X) (x : X) → Occurs (xs ++ ys) x → Occurs xs x ⊎ Occurs ys x
 joined [] ys x h = inr h
 joined (y ∷ xs) ys x (zero, h) = inl (0, h)
 joined (y ∷ xs) ys x (suc j, h) = elim (joined xs ys x (j, h)) [ inl l ↦ inl (suc l.0, l.1) | inr r ↦ inr r ]

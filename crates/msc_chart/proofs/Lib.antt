@@ -6,6 +6,7 @@ pub mod NumberingLemmas
 pub mod CycleLemmas
 pub mod EndLemmas
 pub mod DraftEvents
+pub mod ItemLemmas
 pub mod MatchingLemmas
 pub mod Places
 pub mod FaultLemmas

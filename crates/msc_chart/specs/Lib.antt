@@ -3,6 +3,7 @@ pub mod Lists
 pub mod Events
 pub mod Charts
 pub mod Drawings
+pub mod Items
 pub mod Orders
 pub mod Wirings
 pub mod Runs

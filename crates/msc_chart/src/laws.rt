@@ -4,6 +4,7 @@
 ghost use Rattle.std.specs.Prelude.{◌≡◌, ◌∷◌, [], map};
 ghost use Rattle.msc_chart.specs.declared.queue.Queues.TheVariants.{Pair, Mailbox};
 ghost use Rattle.msc_chart.specs.Drawings.{chart_events, chart_of};
+ghost use Rattle.msc_chart.specs.Items.{EachHasAnEvent, ItemsAreDrawnInOrder};
 ghost use Rattle.msc_chart.specs.Orders.{wired};
 ghost use Rattle.msc_chart.specs.Laws.{EndsShareQueues, EventsHaveQueues, InputsShareLines, LinesAreRanges, PairsHaveQueuesOfTheirOwn, QueueBoundsAreSmall, QueueNumbersAreBounded, QueuesAreBounded, SegmentsRise};
 ghost use Rattle.msc_chart.specs.Samples.{AreEnforcedPairs, below_coregion, coregion, drawn_pairs, empty_coregion, queue_numbers, relay, two_mailboxes, two_mailboxes_pairs, two_senders};
@@ -44,6 +45,13 @@ pub fn inputs_share_lines()
 pub fn lines_are_ranges()
     ensures ranges { LinesAreRanges }
     ensures rise { SegmentsRise }
+{}
+
+/// Of two events of a section the first is drawn before the second exactly where it stands in an
+/// earlier item; a coregion is one item.
+pub fn items_are_drawn_in_order()
+    ensures order { ItemsAreDrawnInOrder }
+    ensures each { EachHasAnEvent }
 {}
 
 /// What the definitions say of small charts: the drawn order, the segments around an empty coregion,
