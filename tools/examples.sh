@@ -26,7 +26,7 @@ compare() {
     passed=$((passed + 1))
   else
     failed=$((failed + 1))
-    echo "examples: msc ${*:4}: not as wanted; its status was $status, wanted is $3"
+    echo "examples: failed: msc ${*:4} (status $status, wanted $3)"
   fi
 }
 
