@@ -85,20 +85,25 @@ class Cost:
                 rooms[crate][room] = rooms[crate].get(room, 0) + seconds
         yield "| crate | proof | tests | edits | all | number of edits |"
         yield "| --- | ---: | ---: | ---: | ---: | ---: |"
-        edits = {crate: [it.stem for it in sorted(CRATES.glob(f"{crate}/must-fail/*.edit"))] for crate in spent}
+        edits = {crate: edits_of(crate) for crate in spent}
         for crate in sorted(spent, key=lambda it: -sum(spent[it].values())):
             yield row(crate, spent[crate], len(edits[crate]))
-        yield row("all crates", sum(spent.values(), collections.Counter()), sum(map(len, edits.values())))
+        every = sum(spent.values(), collections.Counter())
+        yield row("all crates", every, sum(map(len, edits.values())))
         yield ""
         yield "| edit | seconds |"
         yield "| --- | ---: |"
         # the gate tries a crate's edits in the order of their names
-        each = [(seconds, crate, edit) for crate in rooms for edit, seconds in zip(edits[crate], rooms[crate].values())]
-        for seconds, crate, edit in sorted(each, reverse=True)[:20]:
+        tried = [(crate, pair) for crate in rooms for pair in zip(edits[crate], rooms[crate].values())]
+        for crate, (edit, seconds) in sorted(tried, key=lambda it: -it[1][1])[:20]:
             yield f"| `{crate}`: {edit} | {seconds:.0f} |"
         yield ""
         seen = sum(self.seconds.values())
         yield f"{whole:.0f} processor seconds in all, {whole - seen:.0f} of them beside the crates' checks."
+
+
+def edits_of(crate):
+    return [it.stem for it in sorted(CRATES.glob(f"{crate}/must-fail/*.edit"))]
 
 
 def row(name, spent, edits):

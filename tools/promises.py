@@ -35,6 +35,13 @@ def missing_words(crate, cell):
             waiting = []
 
 
+def missing_edits(crate, cell):
+    """The edits of a cell that are not there; behind one may stand the crate that has it."""
+    for name, other in EDIT.findall(cell):
+        if not (CRATES / (other or crate) / f"must-fail/{name}.edit").is_file():
+            yield f"edit {name}"
+
+
 def missing_tests(cell, crates):
     """The tests of a cell, MODULE::NAME, that are in none of the crates."""
     for module, name in re.findall(r"`(\w+)::(\w+)`", cell):
@@ -52,13 +59,13 @@ def missing(text):
             crate = named and named[1]
         cells = line.strip("| ").split(" | ")
         found = []
-        if crate and line.startswith("| "):
-            if len(cells) == 5:
-                found += [*missing_words(crate, cells[2]), *missing_words(crate, cells[3])]
-                edits = [(CRATES / (other or crate) / f"must-fail/{it}.edit", it) for it, other in EDIT.findall(cells[4])]
-                found += [f"edit {it}" for file, it in edits if not file.is_file()]
+        if crate and line.startswith("| ") and len(cells) == 5:
+            for cell in cells[2:4]:
+                found += missing_words(crate, cell)
+            found += missing_edits(crate, cells[4])
         elif crate:
-            found += [it for it in re.findall(r"`(src/\w+\.rt)`", line) if not (CRATES / crate / it).is_file()]
+            sources = re.findall(r"`(src/\w+\.rt)`", line)
+            found += [it for it in sources if not (CRATES / crate / it).is_file()]
         elif line.startswith("| ") and len(cells) == 3:
             found += missing_tests(cells[1], cells[2])
         yield from ((number, it) for it in found)
