@@ -1,22 +1,58 @@
 #!/usr/bin/env bash
-# Runs the program on each chart of charts/ that has an expected output beside it, and compares.
+# Runs the program on each chart of charts/, and compares what it writes to both streams, and its status,
+# with what stands beside the chart. A chart with nothing beside it fails.
+#
+#     tools/examples.sh [PROGRAM]
+#
+# PROGRAM is ./msc where it is left out. Beside charts/NAME.msc stand NAME.read.txt, the output of
+# `msc read`, and NAME.pair.txt and NAME.mailbox.txt, those of `msc check`, whose status is 1 where there
+# are races. Beside charts/refused/NAME.msc stands NAME.txt: what is written to standard error, and then
+# the status. `msc check` refuses each of them. `msc read` meets no fault of charts; charts with such a
+# fault are canonical texts, so it prints them as they are.
 set -u
 cd "$(dirname "$(readlink -f "${BASH_SOURCE[0]}")")/.." || exit 1
-failed=0
-for wanted in charts/*.read.txt; do
-  chart=${wanted%.read.txt}.msc
-  if ! ./msc read "$chart" | diff -u "$wanted" -; then
-    echo "$chart: msc read prints something else than $wanted"
-    failed=1
+program=${1-./msc}
+passed=0 failed=0
+room=$(mktemp -d)
+trap 'rm -rf "$room"' EXIT
+
+# Compares a run with the words $4 .. : its output with the file $1, its standard error with the file $2,
+# its status with $3.
+compare() {
+  local status
+  "$program" "${@:4}" </dev/null >"$room/output" 2>"$room/error"
+  status=$?
+  if diff -u "$1" "$room/output" && diff -u "$2" "$room/error" && [ "$status" = "$3" ]; then
+    passed=$((passed + 1))
+  else
+    failed=$((failed + 1))
+    echo "examples: failed: msc ${*:4} (status $status, wanted $3)"
   fi
-done
-for queues in pair mailbox; do
-  for wanted in charts/*.$queues.txt; do
-    chart=${wanted%.$queues.txt}.msc
-    if ! ./msc check --queues "$queues" "$chart" | diff -u "$wanted" -; then
-      echo "$chart: msc check --queues $queues prints something else than $wanted"
-      failed=1
-    fi
+}
+
+for chart in charts/*.msc; do
+  name=${chart%.msc}
+  compare "$name.read.txt" /dev/null 0 read "$chart"
+  for queues in pair mailbox; do
+    status=0
+    if grep -qs '^races ' "$name.$queues.txt"; then status=1; fi
+    compare "$name.$queues.txt" /dev/null "$status" check --queues "$queues" "$chart"
   done
 done
-exit $failed
+
+for chart in charts/refused/*.msc; do
+  name=${chart%.msc}
+  sed '/^status /d' "$name.txt" >"$room/fault"
+  status=$(sed -n 's/^status //p' "$name.txt")
+  for queues in pair mailbox; do
+    compare /dev/null "$room/fault" "$status" check --queues "$queues" "$chart"
+  done
+  if grep -q '^chart fault ' "$room/fault"; then
+    compare "$chart" /dev/null 0 read "$chart"
+  else
+    compare /dev/null "$room/fault" "$status" read "$chart"
+  fi
+done
+
+echo "examples: $passed passed, $failed failed"
+[ "$failed" = 0 ]

@@ -1,5 +1,5 @@
 //! Does what `msc read -` does, in plain Rust: reads a chart's text from standard input and prints
-//! its canonical text, or a fault's line. It is the yardstick of `bench/run`.
+//! its canonical text, or a fault's line. It is the yardstick of `bench/reading`.
 
 use plain::draft::{parse, Fault, TEXT_LIMIT};
 use std::io::{self, BufWriter, Read, Write};

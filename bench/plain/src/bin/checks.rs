@@ -1,6 +1,6 @@
 //! Does what `msc check` does, in plain Rust: reads a chart's text from standard input and prints its
 //! verdict and each race, the first of them with a run that shows it. It is the yardstick of
-//! `bench/checks` and `bench/runs`.
+//! `bench/checks` and `bench/shown_runs`.
 //!
 //! Two words: `pair` or `mailbox`, and how many races get a run, by default all. The exit status is 0
 //! for `pass`, 1 for races, and 2 for a text that is no chart.
