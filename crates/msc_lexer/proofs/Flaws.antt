@@ -3,6 +3,7 @@ use Rattle.std.proofs.Common.{◌≡◌, ℕ, ◌<◌, false, ◌||◌, eqb, nat
 use Rattle.std.specs.List.{take_while}
 use Rattle.std.specs.Option.{is_some}
 use Rattle.std.proofs.lemmas.Bool.{or_parts, true≢false}
+use Rattle.msc_lexer.specs.declared.TheConstants.{NAME_LIMIT}
 use Rattle.msc_lexer.specs.declared.token.Kind.{Kind}
 use Rattle.msc_lexer.specs.declared.fault.LexFault.{LexFault}
 use Rattle.msc_lexer.specs.declared.fault.LexFault.TheVariants.{TooLong, BadByte, OpenNote, OpenText, LongName, Memory}
@@ -115,7 +116,7 @@ run_class_at bytes rest run =
     ap (λ (t : List ℕ). class_at (t ++ rest)) r.2 ∙ run_class r.0 r.3
 
 -- none stands at a long name: the run there is the name, which does not fit
-pub long_name_stops : (bytes rest : List ℕ) → IsRun bytes rest → word_of bytes ≡ None → 64 < length bytes → Stops (bytes ++ rest)
+pub long_name_stops : (bytes rest : List ℕ) → IsRun bytes rest → word_of bytes ≡ None → NAME_LIMIT < length bytes → Stops (bytes ++ rest)
 unfolding Stops shape_of
 long_name_stops bytes rest run none long (Run other) more f e =
     let same = same_run bytes other rest more run f.0 e in

@@ -3,6 +3,7 @@ use Rattle.std.proofs.Common.{◌≡◌, ◌≢◌, ◌⊎◌, ℕ, ◌<◌, Lis
 use Rattle.std.specs.Prelude.{IfOk, IfErr}
 use Rattle.std.specs.Global.{Vec}
 use Rattle.std.proofs.lemmas.List.{append_cancel_left, length-append, get_or_at, get_or-append-add}
+use Rattle.msc_lexer.specs.declared.TheConstants.{TEXT_LIMIT}
 use Rattle.msc_lexer.specs.declared.token.Token.{Token}
 use Rattle.msc_lexer.specs.declared.fault.LexFault.{LexFault}
 use Rattle.msc_lexer.specs.declared.fault.LexFault.TheVariants.{TooLong, BadByte, OpenNote, OpenText, LongName, Memory}
@@ -62,7 +63,7 @@ one_first_flaw text f g a b =
     one_flaw f g (length (text_of b.pieces)) b.rest (rw (same.0, same.1) at a.flaw) b.flaw
 
 -- where a text has a fault, it is too long or has a flaw
-fault_cases : (text : List ℕ) (f : LexFault) → HasFault text f → ((f ≡ TooLong) × (1048576 < length text)) ⊎ IsFirstFlaw text f
+fault_cases : (text : List ℕ) (f : LexFault) → HasFault text f → ((f ≡ TooLong) × (TEXT_LIMIT < length text)) ⊎ IsFirstFlaw text f
 fault_cases text TooLong h = inl (refl, h)
 fault_cases text Memory h = absurd h
 fault_cases text (BadByte a) h = inr h

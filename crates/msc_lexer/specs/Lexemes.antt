@@ -1,6 +1,7 @@
 -- What a grammar sees of tokens: what each is, with its bytes, and where it begins.
 use Rattle.std.specs.Prelude.{◌≡◌, ◌≢◌, ℕ, ◌+◌, ◌≤◌, true, false, List, [], ◌∷◌, ◌++◌, length, map, slice_range, Option, Some, None, All}
 use Rattle.std.specs.List.{list_all}
+use Rattle.msc_lexer.specs.declared.TheConstants.{NAME_LIMIT}
 use Rattle.msc_lexer.specs.declared.word.Word.{Word}
 use Rattle.msc_lexer.specs.declared.token.Kind.{Kind}
 use Rattle.msc_lexer.specs.declared.token.Kind.TheVariants as kinds
@@ -49,12 +50,13 @@ pub record IsWithin (text : List ℕ) (t : Token) : Type 0 where
 abbrev pub AreWithin : List ℕ → List Token → Type 0
 AreWithin text tokens = All (IsWithin text) tokens
 
--- a name that a text can have: 1 to 64 letters, digits and underscores that are no reserved word
+-- a name that a text can have: letters, digits and underscores, one at least and not too many, that
+-- are no reserved word
 pub record IsName (name : List ℕ) : Type 0 where
   pub some : name ≢ []
   pub run : list_all is_run_byte name ≡ true
   pub free : word_of name ≡ None
-  pub short : length name ≤ 64
+  pub short : length name ≤ NAME_LIMIT
 
 -- the name of a symbol, if it has one, is a name
 abbrev pub HasName : Symbol → Type 0

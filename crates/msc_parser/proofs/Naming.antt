@@ -3,6 +3,7 @@
 use Rattle.std.proofs.Common.{ℕ, ◌≤◌, List, [], ◌∷◌, ◌++◌, length, Option, Some, None, sym, subst, arith}
 use Rattle.std.specs.Prelude.{IfSome}
 use Rattle.std.specs.List.{flat_map, AllByRecursion}
+use Rattle.msc_lexer.specs.declared.TheConstants.{TEXT_LIMIT}
 use Rattle.msc_lexer.specs.declared.word.Word.TheVariants as words
 use Rattle.msc_lexer.specs.Lexemes.{Symbol, Reserved, Named, Semicolon, Comma, Colon, LeftParen, RightParen, Lexeme, IsName, HasName, HaveNames}
 use Rattle.msc_parser.specs.declared.tree.Item.TheVariants.{Single, Coregion}
@@ -139,7 +140,7 @@ flat_all P [] h = tt
 flat_all P (g ∷ groups) h = append_all P g (flat_map (λ g. g) groups) h.0 (flat_all P groups h.1)
 
 -- a chart of few tokens with names is a draft
-pub chart_draft : (ls : List Lexeme) (t : Tree) → IsChart ls t → HaveNames ls → length ls ≤ 1048576 → IsDraft t
+pub chart_draft : (ls : List Lexeme) (t : Tree) → IsChart ls t → HaveNames ls → length ls ≤ TEXT_LIMIT → IsDraft t
 chart_draft ls t h names few =
     let t0 = token_names _ ls h.name h.is_msc names in
     let t1 = token_names (Named t.name) h.name h.close h.is_name t0.1 in

@@ -3,6 +3,7 @@ use Rattle.std.proofs.Common.{◌≡◌, ℕ, ◌≤◌, List, [], ◌∷◌, �
 use Rattle.std.specs.Prelude.{IfOk}
 use Rattle.std.specs.List.{flat_map, AllByRecursion}
 use Rattle.std.specs.declared.alloc.AllocError.{AllocError}
+use Rattle.msc_lexer.specs.declared.TheConstants.{TEXT_LIMIT}
 use Rattle.msc_lexer.specs.declared.word.Word.TheVariants as words
 use Rattle.msc_lexer.specs.Pieces.{Piece, Blank, Run, Mark, AreCut, tokens_of}
 use Rattle.msc_lexer.specs.Lexemes.{Reserved, Semicolon, Lexeme, lexemes_of, PrintsPieces}
@@ -159,7 +160,7 @@ module _ (laws : PrintsPieces) where
       )
 
   -- what is written is a text of the draft, where it is short enough
-  written_again : (t : Tree) → IsDraft t → length (canonical t) ≤ 1048576 → HasDraft (canonical t) t
+  written_again : (t : Tree) → IsDraft t → length (canonical t) ≤ TEXT_LIMIT → HasDraft (canonical t) t
   written_again t named short =
       let c = a_chart t named in (
         tokens_of 0 (printed t),
@@ -168,6 +169,6 @@ module _ (laws : PrintsPieces) where
       )
 
   -- the text that was written is a text of the draft
-  pub again : (t : Tree) (r : Result (Vec ℕ Global) AllocError) → IsDraft t → IfOk r (λ v. v.items ≡ canonical t) → IfOk r (λ v. length v.items ≤ 1048576 → HasDraft v.items t)
-  again t (Ok v) named text = λ short. subst (λ (x : List ℕ). HasDraft x t) (sym text) (written_again t named (subst (λ (x : List ℕ). length x ≤ 1048576) text short))
+  pub again : (t : Tree) (r : Result (Vec ℕ Global) AllocError) → IsDraft t → IfOk r (λ v. v.items ≡ canonical t) → IfOk r (λ v. length v.items ≤ TEXT_LIMIT → HasDraft v.items t)
+  again t (Ok v) named text = λ short. subst (λ (x : List ℕ). HasDraft x t) (sym text) (written_again t named (subst (λ (x : List ℕ). length x ≤ TEXT_LIMIT) text short))
   again t (Err e) named text = tt

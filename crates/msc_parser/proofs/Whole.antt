@@ -2,6 +2,7 @@
 use Rattle.std.proofs.Common.{◌≡◌, ℕ, ◌<◌, ◌≤◌, List, [], ◌∷◌, length, Option, Some, None, Result, Ok, Err, refl, sym, ap, subst, ◌∙◌, arith}
 use Rattle.std.specs.Prelude.{IsErrAnd}
 use Rattle.std.proofs.lemmas.List.{length-map}
+use Rattle.msc_lexer.specs.declared.TheConstants.{TEXT_LIMIT}
 use Rattle.msc_lexer.specs.declared.word.Word.TheVariants as words
 use Rattle.msc_lexer.specs.declared.token.Kind.TheVariants as kinds
 use Rattle.msc_lexer.specs.declared.token.Token.{Token}
@@ -77,5 +78,5 @@ chart_exits text tokens (Ok x) e h stop = absurd h
 chart_exits text tokens (Err y) e h stop = subst (λ (f : ParseFault). Stops text Start tokens f) (sym h) stop
 
 -- as many lexemes as tokens
-pub lexemes_few : (text : List ℕ) (tokens : List Token) → length tokens ≤ 1048576 → length (lexemes text tokens) ≤ 1048576
+pub lexemes_few : (text : List ℕ) (tokens : List Token) → length tokens ≤ TEXT_LIMIT → length (lexemes text tokens) ≤ TEXT_LIMIT
 lexemes_few text tokens few = omega (arith, few, length-map tokens (lexeme_of text))
