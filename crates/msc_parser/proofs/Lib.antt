@@ -7,6 +7,7 @@ pub mod Following
 pub mod Backwards
 pub mod Continuing
 pub mod FirstFault
+pub mod Fitting
 pub mod Steps
 pub mod Endings
 pub mod Parts
