@@ -10,6 +10,7 @@ use Rattle.msc_lexer.specs.Bytes.{is_run_byte, begins}
 use Rattle.msc_lexer.specs.Words.{spelling, word_of}
 use Rattle.msc_lexer.specs.Pieces.{Piece, Run, Fits, spelled, kind_of, text_of, AreCut, tokens_of}
 
+-- what a token is to a grammar: a reserved word, a name, a text or a mark
 pub data Symbol : Type 0 where
   Reserved : Word → Symbol
   Named : List ℕ → Symbol  -- a name, with its bytes
@@ -25,6 +26,7 @@ pub record Lexeme : Type 0 where
   pub symbol : Symbol
   pub place : ℕ
 
+-- the symbol of a token of a kind with these bytes
 abbrev pub symbol_of : Kind → List ℕ → Symbol
 symbol_of (kinds.Word w) bytes = Reserved w
 symbol_of kinds.Name bytes = Named bytes
@@ -39,6 +41,7 @@ symbol_of kinds.RightParen bytes = RightParen
 abbrev pub lexeme_of : List ℕ → Token → Lexeme
 lexeme_of text t = record { symbol = symbol_of t.kind (slice_range text t.start t.«end»); place = t.start }
 
+-- the tokens of a text, with their bytes
 abbrev pub lexemes : List ℕ → List Token → List Lexeme
 lexemes text tokens = map (lexeme_of text) tokens
 
@@ -47,6 +50,7 @@ pub record IsWithin (text : List ℕ) (t : Token) : Type 0 where
   pub ordered : t.start ≤ t.«end»
   pub inside : t.«end» ≤ length text
 
+-- all tokens stand in the text
 abbrev pub AreWithin : List ℕ → List Token → Type 0
 AreWithin text tokens = All (IsWithin text) tokens
 
@@ -63,6 +67,7 @@ abbrev pub HasName : Symbol → Type 0
 HasName (Named name) = IsName name
 HasName symbol = Unit {0}
 
+-- the names of all symbols are names
 abbrev pub HaveNames : List Lexeme → Type 0
 HaveNames [] = Unit {0}
 HaveNames (l ∷ ls) = HasName l.symbol × HaveNames ls

@@ -9,6 +9,7 @@ use Rattle.msc_lexer.specs.declared.token.Token.{Token}
 use Rattle.msc_lexer.specs.Bytes.{is_white, is_run_byte, begins}
 use Rattle.msc_lexer.specs.Words.{word_of}
 
+-- a piece of a text, which is a token unless it is white space or a note
 pub data Piece : Type 0 where
   Blank : ℕ → Piece  -- one byte of white space
   Note : List ℕ → Piece  -- the bytes between `/*` and `*/`

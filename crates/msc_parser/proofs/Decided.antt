@@ -1,7 +1,7 @@
 -- Lists of parts that begin and end in one way begin and end in one way.
 use Rattle.std.proofs.Common.{◌≡◌, List, [], ◌∷◌, refl, sym, subst, ◌∙◌}
 use Rattle.msc_lexer.specs.Lexemes.{Symbol, Comma, Lexeme}
-use Rattle.msc_parser.specs.Forms.{AreMany, IsBehind, AreListed}
+use Rattle.msc_parser.specs.Forms.{AreMany, IsLedBy, AreListed}
 use Rattle.msc_parser.proofs.Tokens.{token_same}
 
 -- where what follows stops the part, its value and what follows are determined
@@ -38,16 +38,16 @@ many_same IsPart Stop Ends seq (x ∷ xs) (y ∷ ys) b a c h g ends_a ends_c =
     (pair_same first.0 others.0, others.1)
 
 -- a part behind a token is determined where the part is
-pub behind_same : {X : Type 0} (s : Symbol) (IsPart : List Lexeme → X → List Lexeme → Type 0) (Stop : List Lexeme → Type 0) → Decided Stop IsPart → Decided Stop (IsBehind s IsPart)
+pub behind_same : {X : Type 0} (s : Symbol) (IsPart : List Lexeme → X → List Lexeme → Type 0) (Stop : List Lexeme → Type 0) → Decided Stop IsPart → Decided Stop (IsLedBy s IsPart)
 behind_same s IsPart Stop one b a c x y h g stop_a stop_c =
     let e = (token_same s s b h.0 g.0 h.1 g.1).1 in
     one g.0 a c x y (subst (λ (m : List Lexeme). IsPart m x a) e h.2) g.2 stop_a stop_c
 
 -- parts with commas between them are determined
-pub listed_same : {X : Type 0} (IsPart : List Lexeme → X → List Lexeme → Type 0) (Stop Ends : List Lexeme → Type 0) → Decided Stop IsPart → IsSequence (IsBehind Comma IsPart) Stop Ends → Decided Ends (AreListed IsPart)
+pub listed_same : {X : Type 0} (IsPart : List Lexeme → X → List Lexeme → Type 0) (Stop Ends : List Lexeme → Type 0) → Decided Stop IsPart → IsSequence (IsLedBy Comma IsPart) Stop Ends → Decided Ends (AreListed IsPart)
 listed_same IsPart Stop Ends one seq b a c [] ys h g ends_a ends_c = absurd h
 listed_same IsPart Stop Ends one seq b a c xs [] h g ends_a ends_c = absurd g
 listed_same IsPart Stop Ends one seq b a c (x ∷ xs) (y ∷ ys) h g ends_a ends_c =
-    let first = one b h.0 g.0 x y h.1 g.1 (stopped (IsBehind Comma IsPart) Stop Ends seq xs h.0 a h.2 ends_a) (stopped (IsBehind Comma IsPart) Stop Ends seq ys g.0 c g.2 ends_c) in
-    let others = many_same (IsBehind Comma IsPart) Stop Ends seq xs ys g.0 a c (subst (λ (m : List Lexeme). AreMany (IsBehind Comma IsPart) m xs a) first.1 h.2) g.2 ends_a ends_c in
+    let first = one b h.0 g.0 x y h.1 g.1 (stopped (IsLedBy Comma IsPart) Stop Ends seq xs h.0 a h.2 ends_a) (stopped (IsLedBy Comma IsPart) Stop Ends seq ys g.0 c g.2 ends_c) in
+    let others = many_same (IsLedBy Comma IsPart) Stop Ends seq xs ys g.0 a c (subst (λ (m : List Lexeme). AreMany (IsLedBy Comma IsPart) m xs a) first.1 h.2) g.2 ends_a ends_c in
     (pair_same first.0 others.0, others.1)

@@ -2,6 +2,7 @@ pub mod Tokens
 pub mod Decided
 pub mod OnePart
 pub mod OneChart
+pub mod Leading
 pub mod Accepting
 pub mod Following
 pub mod Backwards

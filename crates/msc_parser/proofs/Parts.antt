@@ -4,7 +4,7 @@ use Rattle.msc_lexer.specs.declared.token.Kind.TheVariants as kinds
 use Rattle.msc_lexer.specs.declared.token.Token.{Token}
 use Rattle.msc_lexer.specs.Lexemes.{Symbol, Named, Comma, Lexeme, lexemes}
 use Rattle.msc_parser.specs.declared.fault.ParseFault.{ParseFault}
-use Rattle.msc_parser.specs.Forms.{IsNamed, AreMany, IsBehind, AreListed}
+use Rattle.msc_parser.specs.Forms.{IsNamed, AreMany, IsLedBy, AreListed}
 use Rattle.msc_parser.specs.Places.{Place, next}
 use Rattle.msc_parser.specs.Reading.{first_kind, Stops, DidTake, DidRead, AreUpTo}
 use Rattle.msc_parser.proofs.Steps.{others, took, leads_on, Stops-back}
@@ -14,7 +14,7 @@ pub named_read : (text : List ℕ) (p q : Place) (a b : List Token) (n : List �
 named_read text p q a b n h step = record { part = h.part; within = h.within; shorter = omega (arith, h.shorter); leads = leads_on text p q (Named n) a b h step }
 
 -- a token and then a part
-pub behind_read : {X : Type 0} (text : List ℕ) (IsPart : List Lexeme → X → List Lexeme → Type 0) (p r q : Place) (s : Symbol) (a b c : List Token) (x : X) → DidTake text s a b → next p s ≡ Some r → DidRead text IsPart r q b c x → DidRead text (IsBehind s IsPart) p q a c x
+pub behind_read : {X : Type 0} (text : List ℕ) (IsPart : List Lexeme → X → List Lexeme → Type 0) (p r q : Place) (s : Symbol) (a b c : List Token) (x : X) → DidTake text s a b → next p s ≡ Some r → DidRead text IsPart r q b c x → DidRead text (IsLedBy s IsPart) p q a c x
 behind_read text IsPart p r q s a b c x h step rest = record {
   part = (lexemes text b, h.part, rest.part);
   within = rest.within;
@@ -54,9 +54,9 @@ pub listed_first : {X : Type 0} (text : List ℕ) (IsPart : List Lexeme → X �
 listed_first text IsPart p q a b x xs h pushed = rw pushed (record { part = (lexemes text b, h.part, refl); within = h.within; shorter = h.shorter; leads = h.leads })
 
 -- one more part behind a comma
-AreListed-push : {X : Type 0} (IsPart : List Lexeme → X → List Lexeme → Type 0) (before : List Lexeme) (xs : List X) (mid : List Lexeme) (x : X) (after : List Lexeme) → AreListed IsPart before xs mid → IsBehind Comma IsPart mid x after → AreListed IsPart before (xs ++ x ∷ []) after
+AreListed-push : {X : Type 0} (IsPart : List Lexeme → X → List Lexeme → Type 0) (before : List Lexeme) (xs : List X) (mid : List Lexeme) (x : X) (after : List Lexeme) → AreListed IsPart before xs mid → IsLedBy Comma IsPart mid x after → AreListed IsPart before (xs ++ x ∷ []) after
 AreListed-push IsPart before [] mid x after h one = absurd h
-AreListed-push IsPart before (y ∷ ys) mid x after h one = (h.0, h.1, AreMany-push (IsBehind Comma IsPart) h.0 ys mid x after h.2 one)
+AreListed-push IsPart before (y ∷ ys) mid x after h one = (h.0, h.1, AreMany-push (IsLedBy Comma IsPart) h.0 ys mid x after h.2 one)
 
 -- one more, behind a comma
 pub listed_more : {X : Type 0} (text : List ℕ) (IsPart : List Lexeme → X → List Lexeme → Type 0) (p q r : Place) (a b c : List Token) (xs ys : List X) (x : X) → DidRead text (AreListed IsPart) p q a b xs → first_kind b ≡ Some kinds.Comma → next q Comma ≡ Some r

@@ -3,7 +3,7 @@ use Rattle.msc_lexer.specs.Lexemes.{Reserved}
 use Rattle.msc_lexer.specs.declared.word.Word.TheVariants as words
 use Rattle.msc_lexer.specs.declared.token.Kind.TheVariants as kinds
 use Rattle.msc_parser.specs.Grammar.{IsEvent}
-use Rattle.msc_parser.specs.Places.{Events, Items, End}
+use Rattle.msc_parser.specs.Places.{Events, Items, StatementEnd}
 use Rattle.msc_parser.proofs.Steps.{took}
 use Rattle.msc_parser.proofs.Parts.{many_more, many_up_to}
 use Rattle.msc_parser.proofs.sectioning.events.Goals as goal
@@ -14,5 +14,5 @@ statements-preserved c =
 
 pub returns : goal.returns
 returns c =
-    rw c.from_vec.ensures (many_up_to c.args.text.now IsEvent Events (End Items) (Reserved words.EndConcurrent) c.args.tokens.now c.statements.rest.now _ c.statements.events.items c.statements.invariant
+    rw c.from_vec.ensures (many_up_to c.args.text.now IsEvent Events (StatementEnd Items) (Reserved words.EndConcurrent) c.args.tokens.now c.statements.rest.now _ c.statements.events.items c.statements.invariant
     (took c.args.text.now (kinds.Word words.EndConcurrent) c.statements.rest.now c.statements.invariant.within (c.stands.ensures.0 c.statements-test.false)).1 refl)
