@@ -66,27 +66,33 @@ kind_first_refused text a e within colon refused st =
     (refuses_name text (KindFirst st) whats.Name (others a) e (λ len ls. refl) (only-KindFirst st) refl refused)
 
 -- a kind of one name
-pub kind_one : (text : List ℕ) (a b : List Token) (n : List ℕ) (ks : List (List ℕ)) → AreWithin text a → first_kind a ≡ Some kinds.Colon → DidTake text (Named n) (others a) b → first_kind b ≢ Some kinds.Name → ks ≡ n ∷ [] → (st : Statement) → DidRead text IsKind (DeclKind st) (DeclEnd st) a b ks
-kind_one text a b n ks within colon name no_name one st =
+pub kind_one : (text : List ℕ) (a : List Token) {b : List Token} {n : List ℕ}
+    → AreWithin text a → first_kind a ≡ Some kinds.Colon → DidTake text (Named n) (others a) b
+    → first_kind b ≢ Some kinds.Name
+    → (st : Statement) → DidRead text IsKind (DeclKind st) (DeclEnd st) a b (n ∷ [])
+kind_one text a {b} {n} within colon name no_name st =
     let word = (took text kinds.Colon a within colon).1 in
-    rw one (record {
+    record {
       part = (lexemes text (others a), lexemes text b, word.part, name.part, refl);
       within = name.within;
       shorter = omega (arith, word.shorter, name.shorter);
       leads = first_leads text a b n st within colon name
           ∙ fault_but text (KindSecond st) (DeclEnd st) kinds.Name b (alike-KindSecond st) no_name refl (λ len ls. refl) (λ len ls. refl);
-    })
+    }
 
 -- a kind of two names
-pub kind_two : (text : List ℕ) (a b c : List Token) (n m : List ℕ) (ks : List (List ℕ)) → AreWithin text a → first_kind a ≡ Some kinds.Colon → DidTake text (Named n) (others a) b → DidTake text (Named m) b c → ks ≡ n ∷ m ∷ [] → (st : Statement) → DidRead text IsKind (DeclKind st) (DeclEnd st) a c ks
-kind_two text a b c n m ks within colon name second two st =
+pub kind_two : (text : List ℕ) (a : List Token) {b c : List Token} {n m : List ℕ}
+    → AreWithin text a → first_kind a ≡ Some kinds.Colon → DidTake text (Named n) (others a) b
+    → DidTake text (Named m) b c
+    → (st : Statement) → DidRead text IsKind (DeclKind st) (DeclEnd st) a c (n ∷ m ∷ [])
+kind_two text a {b} {c} {n} {m} within colon name second st =
     let word = (took text kinds.Colon a within colon).1 in
-    rw two (record {
+    record {
       part = (lexemes text (others a), lexemes text b, word.part, name.part, second.part);
       within = second.within;
       shorter = omega (arith, word.shorter, name.shorter, second.shorter);
       leads = first_leads text a b n st within colon name ∙ leads_on text (KindSecond st) (DeclEnd st) (Named m) b c second (second_leads st m);
-    })
+    }
 
 -- ---- decls
 
@@ -134,12 +140,16 @@ inst_end_refused text a b ds e h no_comma stop = Stops-back text (DeclName InIns
 -- ---- the header
 
 -- one more `inst` statement
-pub header_more : (text : List ℕ) (a b c : List Token) (hs ds more : List Decl) → DidRead text IsHeader Header Header a b hs → first_kind b ≡ Some (kinds.Word words.Inst) → DidRead text AreDecls (DeclName InInst) Header (others b) c ds → more ≡ hs ++ ds → DidRead text IsHeader Header Header a c more
-header_more text a b c hs ds more h inst one pushed =
-    let group = behind_read text AreDecls Header (DeclName InInst) Header (Reserved words.Inst) b (others b) c ds (took text (kinds.Word words.Inst) b h.within inst).1 refl one in
+pub header_more : (text : List ℕ) {a b c : List Token} {hs ds : List Decl}
+    → DidRead text IsHeader Header Header a b hs → first_kind b ≡ Some (kinds.Word words.Inst)
+    → DidRead text AreDecls (DeclName InInst) Header (others b) c ds
+    → DidRead text IsHeader Header Header a c (hs ++ ds)
+header_more text {a} {b} {c} {hs} {ds} h inst one =
+    let word = (took text (kinds.Word words.Inst) b h.within inst).1 in
+    let group = behind_read text AreDecls Header (DeclName InInst) Header word refl one in
     let all : hs ++ ds ≡ flat_map (λ g. g) (h.part.0 ++ ds ∷ []) = rw h.part.1 (ap (λ (x : List Decl). flat_map (λ g. g) h.part.0 ++ x) (sym (append-nil ds)) ∙ sym (flat_map-append (λ (g : List Decl). g) h.part.0 (ds ∷ []))) in
     record {
-      part = (h.part.0 ++ ds ∷ [], pushed ∙ all, AreMany-push (IsLedBy (Reserved words.Inst) AreDecls) (lexemes text a) h.part.0 (lexemes text b) ds (lexemes text c) h.part.2 group.part);
+      part = (h.part.0 ++ ds ∷ [], all, AreMany-push (IsLedBy (Reserved words.Inst) AreDecls) (lexemes text a) h.part.0 (lexemes text b) ds (lexemes text c) h.part.2 group.part);
       within = group.within;
       shorter = omega (arith, h.shorter, group.shorter);
       leads = h.leads ∙ group.leads;

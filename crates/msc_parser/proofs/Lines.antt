@@ -130,7 +130,7 @@ concurrent text a within first = (took text (kinds.Word words.Concurrent) a with
 -- a coregion is an item
 pub coregion_item : (text : List ℕ) (a b : List Token) (es : List Signal) → AreWithin text a → first_kind a ≡ Some (kinds.Word words.Concurrent) → DidRead text IsCoregion (StatementEnd Events) Items (others a) b es → DidRead text IsItem Items Items a b (Coregion es)
 coregion_item text a b es within first h =
-    let r = behind_read text IsCoregion Items (StatementEnd Events) Items (Reserved words.Concurrent) a (others a) b es (concurrent text a within first) refl h in
+    let r = behind_read text IsCoregion Items (StatementEnd Events) Items (concurrent text a within first) refl h in
     record { part = r.part; within = r.within; shorter = r.shorter; leads = r.leads }
 
 -- a fault of a coregion behind its first word is a fault of the item
@@ -153,9 +153,12 @@ section_decl_leads text a [] d h = h.leads ∙ same_fault text (DeclEnd InInstan
 section_decl_leads text a (t ∷ ts) d h = h.leads ∙ same_fault text (DeclEnd InInstance) (StatementEnd Items) (t ∷ ts) (ends_alike t.kind _) refl (λ len ls. refl) (λ len ls. refl)
 
 -- a section is its decl, its end, its items, `endinstance` and its end
-pub section_read : (text : List ℕ) (a b c d e : List Token) (x : Decl) (xs : List Item) → DidRead text IsDecl (DeclName InInstance) (DeclEnd InInstance) a b x → DidEnd text b c → DidRead text (AreUpTo (Reserved words.EndInstance) IsItem) Items (StatementEnd Sections) c d xs → DidEnd text d e
+pub section_read : (text : List ℕ) {a b c d e : List Token} {x : Decl} {xs : List Item}
+    → DidRead text IsDecl (DeclName InInstance) (DeclEnd InInstance) a b x → DidEnd text b c
+    → DidRead text (AreUpTo (Reserved words.EndInstance) IsItem) Items (StatementEnd Sections) c d xs
+    → DidEnd text d e
     → DidRead text IsInstance (DeclName InInstance) Sections a e record { decl = x; items = xs }
-section_read text a b c d e x xs decl end items last = record {
+section_read text {a} {b} {c} {d} {e} {x} {xs} decl end items last = record {
   part = record {
     close = lexemes text b;
     items = lexemes text c;
@@ -173,11 +176,15 @@ section_read text a b c d e x xs decl end items last = record {
 }
 
 -- one more section
-pub sections_more : (text : List ℕ) (a b c : List Token) (ss more : List Section) (s : Section) → DidRead text (AreMany IsSection) Sections Sections a b ss → first_kind b ≡ Some (kinds.Word words.Instance) → DidRead text IsInstance (DeclName InInstance) Sections (others b) c s → more ≡ ss ++ s ∷ []
-    → DidRead text (AreMany IsSection) Sections Sections a c more
-sections_more text a b c ss more s h first one pushed =
-    let r = behind_read text IsInstance Sections (DeclName InInstance) Sections (Reserved words.Instance) b (others b) c s (took text (kinds.Word words.Instance) b h.within first).1 refl one in
-    many_more text IsSection Sections a b c ss more s h (record { part = r.part; within = r.within; shorter = r.shorter; leads = r.leads }) pushed
+pub sections_more : (text : List ℕ) {a b c : List Token} {ss : List Section} {s : Section}
+    → DidRead text (AreMany IsSection) Sections Sections a b ss
+    → first_kind b ≡ Some (kinds.Word words.Instance)
+    → DidRead text IsInstance (DeclName InInstance) Sections (others b) c s
+    → DidRead text (AreMany IsSection) Sections Sections a c (ss ++ s ∷ [])
+sections_more text {a} {b} {c} {ss} {s} h first one =
+    let word = (took text (kinds.Word words.Instance) b h.within first).1 in
+    let r = behind_read text IsInstance Sections (DeclName InInstance) Sections word refl one in
+    many_more text IsSection Sections h (record { part = r.part; within = r.within; shorter = r.shorter; leads = r.leads })
 
 -- a fault of a section is a fault of the sections
 pub sections_stop : (text : List ℕ) (a b : List Token) (ss : List Section) (e : ParseFault) → DidRead text (AreMany IsSection) Sections Sections a b ss → first_kind b ≡ Some (kinds.Word words.Instance) → Stops text (DeclName InInstance) (others b) e → Stops text Sections a e

@@ -124,16 +124,22 @@ pub names_stop : (text : List ℕ) (a : List Token) (e : ParseFault) → AreWith
 names_stop text a e within paren w p stop = Stops-back text (AfterNumber w p) (Parameters w p) a (others a) e (opened text a within paren w p) stop
 
 -- neither a comma nor `)` stands behind the parameters
-pub close_refused : (text : List ℕ) (a b : List Token) (ps : List (List ℕ)) (e : ParseFault) → AreWithin text a → first_kind a ≡ Some kinds.LeftParen → (w : Way) (p : Place) → DidRead text (AreListed IsNamed) (Parameters w p) (AfterParameter w p) (others a) b ps → first_kind b ≢ Some kinds.Comma
-    → Refuses text kinds.RightParen whats.Parameter b e → Stops text (AfterNumber w p) a e
-close_refused text a b ps e within paren w p names no_comma refused =
+pub close_refused : (text : List ℕ) (a : List Token) {b : List Token} {ps : List (List ℕ)} (e : ParseFault)
+    → AreWithin text a → first_kind a ≡ Some kinds.LeftParen → (w : Way) (p : Place)
+    → DidRead text (AreListed IsNamed) (Parameters w p) (AfterParameter w p) (others a) b ps
+    → first_kind b ≢ Some kinds.Comma → Refuses text kinds.RightParen whats.Parameter b e
+    → Stops text (AfterNumber w p) a e
+close_refused text a {b} e within paren w p names no_comma refused =
     Stops-back text (AfterNumber w p) (AfterParameter w p) a b e (opened text a within paren w p ∙ names.leads)
     (stops_here text (AfterParameter w p) whats.Parameter b e (λ len ls. refl) (stuck_but_two text (AfterParameter w p) kinds.Comma kinds.RightParen b (only-AfterParameter w p) no_comma refused.1) refl refused.0)
 
 -- names in parentheses are parameters
-pub parameters_read : (text : List ℕ) (a b c : List Token) (ps : List (List ℕ)) → AreWithin text a → first_kind a ≡ Some kinds.LeftParen → (w : Way) (p : Place) → DidRead text (AreListed IsNamed) (Parameters w p) (AfterParameter w p) (others a) b ps
-    → DidTake text RightParen b c → DidRead text AreParameters (AfterNumber w p) (AfterParameters w p) a c ps
-parameters_read text a b c ps within paren w p names close =
+pub parameters_read : (text : List ℕ) (a : List Token) {b c : List Token} {ps : List (List ℕ)}
+    → AreWithin text a → first_kind a ≡ Some kinds.LeftParen → (w : Way) (p : Place)
+    → DidRead text (AreListed IsNamed) (Parameters w p) (AfterParameter w p) (others a) b ps
+    → DidTake text RightParen b c
+    → DidRead text AreParameters (AfterNumber w p) (AfterParameters w p) a c ps
+parameters_read text a {b} {c} within paren w p names close =
     let first = (took text kinds.LeftParen a within paren).1 in
     record {
       part = Given (lexemes text (others a)) (lexemes text b) first.part names.part close.part;
@@ -187,9 +193,13 @@ pub address_refused : (text : List ℕ) (p : Place) (a : List Token) (e : ParseF
 address_refused text p a e refused = refuses_name text (Address p) whats.Name a e (λ len ls. refl) (only-Address p) refl refused
 
 -- an event behind its first word is its ident, a word, an address and an end
-pub signal_read : (text : List ℕ) (w : Way) (p : Place) (a b c d e f g : List Token) (n m : List ℕ) (o : Option (List ℕ)) (ps : List (List ℕ)) (v : Word) → DidTake text (Named n) a b → DidRead text IsNumber (AfterMessage w p) (AfterNumber w p) b c o → DidRead text AreParameters (AfterNumber w p) (AfterParameters w p) c d ps
-    → v ≡ address_word w → DidTake text (Reserved v) d e → DidTake text (Named m) e f → DidEnd text f g → DidRead text (IsSignalOf w) (Message w p) p a g record { way = w; name = n; number = o; parameters = ps; address = m }
-signal_read text w p a b c d e f g n m o ps v name number parameters same word address end = record {
+pub signal_read : (text : List ℕ) (w : Way) (p : Place)
+    {a b c d e f g : List Token} {n m : List ℕ} {o : Option (List ℕ)} {ps : List (List ℕ)} {v : Word}
+    → DidTake text (Named n) a b → DidRead text IsNumber (AfterMessage w p) (AfterNumber w p) b c o
+    → DidRead text AreParameters (AfterNumber w p) (AfterParameters w p) c d ps
+    → v ≡ address_word w → DidTake text (Reserved v) d e → DidTake text (Named m) e f → DidEnd text f g
+    → DidRead text (IsSignalOf w) (Message w p) p a g record { way = w; name = n; number = o; parameters = ps; address = m }
+signal_read text w p {a} {b} {c} {d} {e} {f} {g} {n} {m} {v = v} name number parameters same word address end = record {
   part = (
     refl,
     record {

@@ -53,10 +53,13 @@ more_refused text (t ∷ ts) e some fault =
     nothing x = refl
 
 -- all parts of a chart, and nothing behind them
-pub chart_read : (text : List ℕ) (a b c d e f g : List Token) (t : Tree) → DidTake text (Reserved words.Msc) a b → DidTake text (Named t.name) b c → DidEnd text c d → DidRead text IsHeader Header Sections d e t.header
-    → DidRead text (AreUpTo (Reserved words.EndMsc) IsSection) Sections (StatementEnd Done) e f t.sections → DidEnd text f g → length g ≡ 0 → IsChart (lexemes text a) t
-chart_read text a b c d e f (x ∷ g) t msc name end header sections last none = absurd (omega (arith, none))
-chart_read text a b c d e f [] t msc name end header sections last none = record {
+pub chart_read : (text : List ℕ) {a b c d e f : List Token} (g : List Token) (t : Tree)
+    → DidTake text (Reserved words.Msc) a b → DidTake text (Named t.name) b c → DidEnd text c d
+    → DidRead text IsHeader Header Sections d e t.header
+    → DidRead text (AreUpTo (Reserved words.EndMsc) IsSection) Sections (StatementEnd Done) e f t.sections
+    → DidEnd text f g → length g ≡ 0 → IsChart (lexemes text a) t
+chart_read text (x ∷ g) t msc name end header sections last none = absurd (omega (arith, none))
+chart_read text {a} {b} {c} {d} {e} {f} [] t msc name end header sections last none = record {
   name = lexemes text b;
   close = lexemes text c;
   header = lexemes text d;

@@ -46,11 +46,11 @@ pub new-requires : goal.new-requires
 new-requires c =
     let none : length c.in_ok-rest-3.rest.now ≡ 0 = eqb-true (length c.in_ok-rest-3.rest.now) 0 (sym c.is_empty.ensures ∙ c.if-not-is_empty.false) in
     chart_draft (lexemes c.args.text.now c.args.tokens.now) _
-    (chart_read c.args.text.now _ _ _ _ _ _ c.in_ok-rest-3.rest.now (record { name = c.in_ok-name.name; header = c.in_ok-header.header; sections = c.in_ok-sections.sections }) c.in_ok-rest.ensures.1 c.in_ok-name.ensures c.in_ok-rest-2.ensures c.in_ok-header.ensures c.in_ok-sections.ensures c.in_ok-rest-3.ensures none)
+    (chart_read c.args.text.now c.in_ok-rest-3.rest.now (record { name = c.in_ok-name.name; header = c.in_ok-header.header; sections = c.in_ok-sections.sections }) c.in_ok-rest.ensures.1 c.in_ok-name.ensures c.in_ok-rest-2.ensures c.in_ok-header.ensures c.in_ok-sections.ensures c.in_ok-rest-3.ensures none)
     c.requires.named (lexemes_few c.args.text.now c.args.tokens.now c.requires.few)
 
 pub returns : goal.returns
 returns c =
     let none : length c.in_ok-rest-3.rest.now ≡ 0 = eqb-true (length c.in_ok-rest-3.rest.now) 0 (sym c.is_empty.ensures ∙ c.if-not-is_empty.false) in
     rw c.new.ensures
-    (chart_read c.args.text.now _ _ _ _ _ _ c.in_ok-rest-3.rest.now (record { name = c.in_ok-name.name; header = c.in_ok-header.header; sections = c.in_ok-sections.sections }) c.in_ok-rest.ensures.1 c.in_ok-name.ensures c.in_ok-rest-2.ensures c.in_ok-header.ensures c.in_ok-sections.ensures c.in_ok-rest-3.ensures none)
+    (chart_read c.args.text.now c.in_ok-rest-3.rest.now (record { name = c.in_ok-name.name; header = c.in_ok-header.header; sections = c.in_ok-sections.sections }) c.in_ok-rest.ensures.1 c.in_ok-name.ensures c.in_ok-rest-2.ensures c.in_ok-header.ensures c.in_ok-sections.ensures c.in_ok-rest-3.ensures none)

@@ -27,4 +27,4 @@ returns-in_err-rest-2 c =
     (section_decl_leads c.args.text.now _ _ _ (c.in_ok-decl.ensures InInstance) ∙ c.in_ok-rest.ensures.leads Items ∙ c.in_ok-items.ensures.leads) (c.in_err-rest-2.ensures Sections))
 
 pub returns : goal.returns
-returns c = section_read c.args.text.now _ _ _ _ _ _ _ (c.in_ok-decl.ensures InInstance) c.in_ok-rest.ensures c.in_ok-items.ensures c.in_ok-rest-2.ensures
+returns c = section_read c.args.text.now (c.in_ok-decl.ensures InInstance) c.in_ok-rest.ensures c.in_ok-items.ensures c.in_ok-rest-2.ensures

@@ -1,6 +1,4 @@
 use Rattle.std.proofs.Common.{refl}
-use Rattle.msc_lexer.specs.Lexemes.{Reserved}
-use Rattle.msc_lexer.specs.declared.word.Word.TheVariants as words
 use Rattle.msc_parser.specs.Grammar.{IsSection}
 use Rattle.msc_parser.specs.Places.{Sections, StatementEnd, Done}
 use Rattle.msc_parser.proofs.Steps.{not_both, exits}
@@ -15,7 +13,8 @@ returns-in_err-section c =
 
 pub instances-preserved : goal.instances-preserved
 instances-preserved c =
-    sections_more c.args.text.now c.args.tokens.now c.instances.rest.now c.in_ok-section.after.now c.instances.sections.items _ c.in_ok-section.section c.instances.invariant (c.stands.ensures.0 c.instances-test.true) c.in_ok-section.ensures c.in_ok-push.ensures.items
+    rw c.in_ok-push.ensures.items
+    (sections_more c.args.text.now c.instances.invariant (c.stands.ensures.0 c.instances-test.true) c.in_ok-section.ensures)
 
 pub returns-in_err-rest : goal.returns-in_err-rest
 returns-in_err-rest c =
@@ -24,4 +23,4 @@ returns-in_err-rest c =
 
 pub returns : goal.returns
 returns c =
-    rw c.from_vec.ensures (many_up_to c.args.text.now IsSection Sections (StatementEnd Done) (Reserved words.EndMsc) c.args.tokens.now c.instances.rest.now c.in_ok-rest.rest.now c.instances.sections.items c.instances.invariant c.in_ok-rest.ensures.1 refl)
+    rw c.from_vec.ensures (many_up_to c.args.text.now IsSection Sections (StatementEnd Done) c.instances.invariant c.in_ok-rest.ensures.1 refl)

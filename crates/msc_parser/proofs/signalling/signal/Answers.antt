@@ -54,4 +54,4 @@ returns-in_err-rest-2 c = λ p.
 pub returns : goal.returns
 returns c = λ p.
     let w = c.args.way in
-    signal_read c.args.text.now w p _ _ _ _ _ _ _ _ _ _ _ c.address_word.result c.in_ok-name.ensures (c.in_ok-number.ensures w p) (c.in_ok-parameters.ensures w p) c.address_word.ensures c.in_ok-rest.ensures.1 c.in_ok-address.ensures c.in_ok-rest-2.ensures
+    signal_read c.args.text.now w p c.in_ok-name.ensures (c.in_ok-number.ensures w p) (c.in_ok-parameters.ensures w p) c.address_word.ensures c.in_ok-rest.ensures.1 c.in_ok-address.ensures c.in_ok-rest-2.ensures
