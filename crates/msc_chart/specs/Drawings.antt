@@ -1,5 +1,6 @@
 -- The chart of a draft.
 use Rattle.std.specs.Prelude.{◌≡◌, ℕ, ◌+◌, ◌<◌, ◌≤◌, true, cond, List, [], ◌∷◌, length, get_or, map, take, count_by, None, IsTrue, ◌↔◌}
+use Rattle.msc_chart.specs.declared.TheConstants.{EVENT_LIMIT, INSTANCE_LIMIT, MESSAGE_LIMIT}
 use Rattle.std.specs.List.{position_or_len}
 use Rattle.msc_chart.specs.declared.event.EventKind.TheVariants.{Output, Input}
 use Rattle.msc_chart.specs.declared.event.ChartEvent.{ChartEvent}
@@ -96,9 +97,9 @@ pub record HasMessages (d : Drawing) : Type 0 where
 
 -- what holds of every chart that was built
 pub record IsAccepted (d : Drawing) : Type 0 where
-  pub few_instances : length d.instances ≤ 32
-  pub few_messages : length d.messages ≤ 1024
-  pub few_events : length d.events ≤ 2048
+  pub few_instances : length d.instances ≤ INSTANCE_LIMIT
+  pub few_messages : length d.messages ≤ MESSAGE_LIMIT
+  pub few_events : length d.events ≤ EVENT_LIMIT
   pub on_lines : AreOnLines (length d.instances) d.events
   pub in_text_order : IsInTextOrder d.events
   pub matched : IsMatched d.events

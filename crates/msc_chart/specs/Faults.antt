@@ -1,5 +1,6 @@
 -- What makes a draft no chart, and which of several faults is answered.
 use Rattle.std.specs.Prelude.{◌≡◌, ℕ, ◌<◌, ◌≤◌, ◌⊎◌, Bool, true, false, List, length, Option, count_by, MatchOption}
+use Rattle.msc_chart.specs.declared.TheConstants.{INSTANCE_LIMIT, MESSAGE_LIMIT}
 use mathlib.Core.Bool.{beq}
 use Rattle.msc_parser.specs.Grammar.{Tree}
 use Rattle.msc_chart.specs.Lists.{StandsAt, Occurs, IsLeast}
@@ -31,11 +32,11 @@ pub record IsUnmatched (sends : Bool) (ends : List End) (end : End) : Type 0 whe
   pub alone : Occurs ends (other_end end) → ⊥
 
 abbrev pub AreTooMany : List End → Type 0
-AreTooMany ends = (1024 < count_by (λ x. beq x.sends true) ends) ⊎ (1024 < count_by (λ x. beq x.sends false) ends)
+AreTooMany ends = (MESSAGE_LIMIT < count_by (λ x. beq x.sends true) ends) ⊎ (MESSAGE_LIMIT < count_by (λ x. beq x.sends false) ends)
 
 -- the fault stands in the draft
 unfoldable pub Stands : Tree → ChartFault → Type 0
-Stands d TooManyInstances = 32 < length (instances_of d)
+Stands d TooManyInstances = INSTANCE_LIMIT < length (instances_of d)
 Stands d (TwiceInstance i) = IsRepeat (instances_of d) i
 Stands d (HeaderWithoutBody k) = HoldsAt (IsUnknown (instances_of d)) (header_of d) k
 Stands d (UnknownAddress e) = HoldsAt (λ end. IsUnknown (instances_of d) (address_of end)) (ends_of d) e

@@ -1,5 +1,6 @@
 -- Laws of charts, for the crates that rest on this one.
-use Rattle.std.specs.Prelude.{◌≡◌, ℕ, ◌+◌, ◌<◌, ◌≤◌, Bool, List, length, filter, IsTrue, nat_eq}
+use Rattle.std.specs.Prelude.{◌≡◌, ℕ, ◌+◌, ◌*◌, ◌<◌, ◌≤◌, Bool, List, length, filter, IsTrue, nat_eq}
+use Rattle.msc_chart.specs.declared.TheConstants.{INSTANCE_LIMIT, MESSAGE_LIMIT}
 use Rattle.std.specs.List.{list_any, range_with_len}
 use Rattle.msc_chart.specs.declared.queue.Queues.{Queues}
 use Rattle.msc_chart.specs.declared.queue.Queues.TheVariants.{Pair}
@@ -22,8 +23,8 @@ senders_in queues d q = filter (sends_to queues d q) (range_with_len 0 (length d
 -- the queue has from 1 to 32 senders, one receiver, and at most 1,024 messages
 pub record IsBounded (queues : Queues) (d : Drawing) (q : ℕ) : Type 0 where
   pub some_sender : 1 ≤ length (senders_in queues d q)
-  pub few_senders : length (senders_in queues d q) ≤ 32
-  pub few_messages : length (messages_in queues d q) ≤ 1024
+  pub few_senders : length (senders_in queues d q) ≤ INSTANCE_LIMIT
+  pub few_messages : length (messages_in queues d q) ≤ MESSAGE_LIMIT
   pub one_receiver : (k m : ℕ) → k < length d.messages → m < length d.messages
       → queue_of queues d k ≡ q → queue_of queues d m ≡ q → receiver_of d k ≡ receiver_of d m
 
@@ -54,9 +55,9 @@ QueueNumbersAreBounded =
     (queues : Queues) (d : Drawing) (e : ℕ) → IsAccepted d → e < length d.events
     → queue (wired queues d) e < queue_bound queues d
 
--- and the bound is at most 1,024
+-- and the bound is small
 abbrev pub QueueBoundsAreSmall : Type 0
-QueueBoundsAreSmall = (queues : Queues) (d : Drawing) → IsAccepted d → queue_bound queues d ≤ 1024
+QueueBoundsAreSmall = (queues : Queues) (d : Drawing) → IsAccepted d → queue_bound queues d ≤ INSTANCE_LIMIT * INSTANCE_LIMIT
 
 -- the inputs of a queue are on one line
 abbrev pub InputsShareLines : Type 0

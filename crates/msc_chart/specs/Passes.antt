@@ -1,5 +1,6 @@
 -- What the pass that puts the events into a linear order keeps.
 use Rattle.std.specs.Prelude.{◌≡◌, ℕ, ◌+◌, ◌<◌, ◌≤◌, ◌⊎◌, Bool, false, not, List, [], length, get_or, count_by, vec_len, IsTrue}
+use Rattle.msc_chart.specs.declared.TheConstants.{EVENT_LIMIT}
 use Rattle.msc_chart.specs.declared.event.ChartEvent.{ChartEvent}
 use Rattle.msc_chart.specs.declared.linear.Pass.{Pass}
 use Rattle.msc_chart.specs.declared.fault.ChartFault.{ChartFault}
@@ -41,7 +42,7 @@ IsStuckBelow events marks k = (e : ℕ) → e < k → IsStuckAt events marks e
 
 -- what is known of the events
 pub record AreReady (lines : ℕ) (events : List ChartEvent) : Type 0 where
-  pub few : length events ≤ 2048
+  pub few : length events ≤ EVENT_LIMIT
   pub matched : IsMatched events
   pub in_text_order : IsInTextOrder events
   pub on_lines : AreOnLines lines events

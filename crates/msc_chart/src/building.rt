@@ -8,6 +8,7 @@ ghost use Rattle.msc_chart.specs.Drawings.{chart_events};
 ghost use Rattle.msc_chart.specs.Views.{end_view, event_view};
 ghost use Rattle.msc_chart.specs.Faults.{IsClearBelow, IsFaultless, IsFirstOrMemory};
 
+use crate::{EVENT_LIMIT, INSTANCE_LIMIT};
 use crate::charting::chart_events;
 use crate::check::{are_too_many, unknown_address, unknown_header, unmatched};
 use crate::end::{DraftEvent, End, events_of};
@@ -44,11 +45,11 @@ fn ends_of<'d>(alloc: Global, events: &[DraftEvent<'d>]) -> Result<Vec<End<'d>>,
 /// The instances by number, where the draft has none of the faults that concern their names.
 fn instances<'d>(alloc: Global, draft: &'d Draft) -> Result<IndexSet<&'d [u8]>, ChartFault>
     ensures names { IfOk result (λ names. map deref names.keys ≡ instances_of draft.entry.now) }
-    ensures few { OnOk result (length draft.entry.now.sections ≤ 32) }
+    ensures few { OnOk result (length draft.entry.now.sections ≤ INSTANCE_LIMIT) }
     ensures clear { OnOk result (IsClearBelow draft.entry.now 4) }
     ensures fault { IfErr result (IsFirstOrMemory draft.entry.now) }
 {
-    if draft.sections().len() > 32 {
+    if draft.sections().len() > INSTANCE_LIMIT as usize {
         return Err(ChartFault::TooManyInstances);
     }
     let names = section_names(alloc, draft)?;
@@ -69,11 +70,11 @@ fn matched_events<'d>(
     instances: &IndexSet<&'d [u8]>,
 ) -> Result<(Vec<DraftEvent<'d>>, IndexSet<End<'d>>), ChartFault>
     requires names { map deref instances.now.keys ≡ instances_of draft.now }
-    requires few { length draft.now.sections ≤ 32 }
+    requires few { length draft.now.sections ≤ INSTANCE_LIMIT }
     requires clear { IsClearBelow draft.now 4 }
     ensures events { IfOk result (λ r. map event_view r.0.items ≡ events_of draft.entry.now) }
     ensures ends { IfOk result (λ r. map end_view r.1.keys ≡ ends_of draft.entry.now) }
-    ensures few { IfOk result (λ r. length r.1.keys ≤ 2048) }
+    ensures few { IfOk result (λ r. length r.1.keys ≤ EVENT_LIMIT) }
     ensures clear { OnOk result (IsClearBelow draft.entry.now 9) }
     ensures fault { IfErr result (IsFirstOrMemory draft.entry.now) }
 {
@@ -108,7 +109,7 @@ pub(crate) fn lawful_events<'d>(
     ensures events { IfOk result (λ r. r.0.items ≡ chart_events draft.entry.now) }
     ensures order { IfOk result (λ r. IsLinearOrder r.0.items r.1.items) }
     ensures ends { IfOk result (λ r. map end_view r.2.keys ≡ ends_of draft.entry.now) }
-    ensures few { IfOk result (λ r. length r.2.keys ≤ 2048) }
+    ensures few { IfOk result (λ r. length r.2.keys ≤ EVENT_LIMIT) }
     ensures faultless { OnOk result (IsFaultless draft.entry.now) }
     ensures fault { IfErr result (IsFirstOrMemory draft.entry.now) }
 {

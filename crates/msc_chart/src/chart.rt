@@ -11,6 +11,7 @@ ghost use Rattle.msc_chart.specs.Drawings.{Drawing, IsAccepted, IsBuilt, IsLine,
 ghost use Rattle.msc_chart.specs.Orders.{queue_of};
 ghost use Rattle.msc_chart.specs.Faults.{IsFaultless, IsFirstFault};
 
+use crate::{INSTANCE_LIMIT, MESSAGE_LIMIT};
 use crate::building::lawful_events;
 use crate::charting::{instance_names, messages, owned};
 use crate::event::{ChartEvent, Event, EventKind};
@@ -73,7 +74,7 @@ impl Chart {
     /// The number of instances. It takes no memory.
     pub fn instances(&self) -> u32
         ensures number { result ≡ length self.now.instances }
-        ensures few { length self.now.instances ≤ 32 }
+        ensures few { length self.now.instances ≤ INSTANCE_LIMIT }
     {
         self.instances.as_slice().len() as u32
     }
@@ -99,7 +100,7 @@ impl Chart {
     /// The number of messages. It takes no memory.
     pub fn messages(&self) -> u32
         ensures number { result ≡ length self.now.messages }
-        ensures few { length self.now.messages ≤ 1024 }
+        ensures few { length self.now.messages ≤ MESSAGE_LIMIT }
     {
         let _events = &self.events;
         self.messages.as_slice().len() as u32

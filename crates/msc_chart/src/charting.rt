@@ -6,6 +6,7 @@ ghost use Rattle.msc_chart.specs.Events.{instances_of};
 ghost use Rattle.msc_chart.specs.Drawings.{place_of, event_of, outputs_before, messages_from};
 ghost use Rattle.msc_chart.specs.Views.{end_view, event_view};
 
+use crate::EVENT_LIMIT;
 use crate::end::{DraftEvent, End};
 use crate::event::{ChartEvent, EventKind};
 use crate::message::Message;
@@ -24,7 +25,7 @@ fn place<'d>(places: &IndexSet<End<'d>>, end: End<'d>) -> usize
 
 /// How many outputs stand before each place, the place past the last one too.
 fn outputs_before(alloc: Global, ends: &[End]) -> Result<Vec<u32>, AllocError>
-    requires { length ends.now ≤ 2048 }
+    requires { length ends.now ≤ EVENT_LIMIT }
     ensures len { IfOk result (λ counts. vec_len counts ≡ length ends.now + 1) }
     ensures counts { IfOk result (λ counts.
         (k : ℕ) → k ≤ length ends.now
@@ -55,7 +56,7 @@ fn kind_of(sends: bool) -> EventKind
 
 /// The event of a chart that an event of a draft becomes.
 fn charted<'d>(event: &DraftEvent<'d>, places: &IndexSet<End<'d>>, counts: &[u32]) -> ChartEvent
-    requires small { length places.now.keys ≤ 2048 }
+    requires small { length places.now.keys ≤ EVENT_LIMIT }
     requires len { length counts.now ≡ length places.now.keys + 1 }
     requires counts { (k : ℕ) → k ≤ length places.now.keys
         → get_or counts.now k 0 ≡ outputs_before (map end_view places.now.keys) k }
@@ -76,7 +77,7 @@ pub(crate) fn chart_events<'d>(
     events: &[DraftEvent<'d>],
     places: &IndexSet<End<'d>>,
 ) -> Result<Vec<ChartEvent>, AllocError>
-    requires { length places.now.keys ≤ 2048 }
+    requires { length places.now.keys ≤ EVENT_LIMIT }
     ensures { IfOk result (λ chart.
         chart.items ≡ map (event_of (map end_view places.now.keys)) (map event_view events.now)) }
 {
@@ -118,7 +119,7 @@ fn owned_number(alloc: Global, number: Option<&[u8]>) -> Result<Option<Name>, Al
 
 /// The messages, by their outputs.
 pub(crate) fn messages<'d>(alloc: Global, ends: &[End<'d>]) -> Result<Listed<Message>, AllocError>
-    requires { length ends.now ≤ 2048 }
+    requires { length ends.now ≤ EVENT_LIMIT }
     ensures { IfOk result (λ messages. messages ≡ messages_from 0 (map end_view ends.now)) }
 {
     let mut messages = Vec::new(alloc);

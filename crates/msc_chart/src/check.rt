@@ -7,6 +7,7 @@ ghost use mathlib.Core.Bool.{beq};
 ghost use Rattle.msc_chart.specs.Views.{end_view};
 ghost use Rattle.msc_chart.specs.Faults.{AnswersLeast, HoldsAt, IsUnknown, IsUnmatched, AreTooMany};
 
+use crate::MESSAGE_LIMIT;
 use crate::end::End;
 use indexmap::IndexSet;
 use msc_parser::Decl;
@@ -80,5 +81,6 @@ fn ends_that(ends: &[End], sends: bool) -> usize
 pub(crate) fn are_too_many(ends: &[End]) -> bool
     ensures { IsTrue result ↔ AreTooMany (map end_view ends.now) }
 {
-    ends_that(ends, true) > 1024 || ends_that(ends, false) > 1024
+    let limit = MESSAGE_LIMIT as usize;
+    ends_that(ends, true) > limit || ends_that(ends, false) > limit
 }

@@ -10,6 +10,7 @@ ghost use Rattle.std.specs.Bool.{OnTrue, OnFalse};
 ghost use Rattle.msc_chart.specs.Charts.{AreOnLines, IsMatched, IsAcyclic, IsLeastCyclic, Visual, at};
 ghost use Rattle.msc_chart.specs.Reach.{IsPassed, AreReached, IsClosedAt, AreClosedBelow};
 
+use crate::EVENT_LIMIT;
 use crate::event::ChartEvent;
 use std::alloc::{AllocError, Global};
 
@@ -70,7 +71,7 @@ fn round(events: &[ChartEvent], e: usize, low: &mut [u32]) -> bool
 fn reach(events: &[ChartEvent], e: usize, low: &mut [u32])
     requires matched { IsMatched events.now }
     requires lines { AreOnLines (length low.old) events.now }
-    requires few { length events.now ≤ 2048 }
+    requires few { length events.now ≤ EVENT_LIMIT }
     requires from { e < length events.now }
     ensures sound { AreReached events.now e low.new }
     ensures closed { AreClosedBelow events.now e low.new (length events.now) }
@@ -101,7 +102,7 @@ fn search(events: &[ChartEvent], e: usize, low: &mut [u32])
 fn precedes_itself(events: &[ChartEvent], e: usize, low: &mut [u32]) -> bool
     requires matched { IsMatched events.now }
     requires lines { AreOnLines (length low.old) events.now }
-    requires few { length events.now ≤ 2048 }
+    requires few { length events.now ≤ EVENT_LIMIT }
     requires from { e < length events.now }
     ensures { IsTrue result ↔ Visual events.now e e }
 {
@@ -123,7 +124,7 @@ pub(crate) fn least_cyclic(
 ) -> Result<Option<usize>, AllocError>
     requires matched { IsMatched events.now }
     requires lines { AreOnLines lines events.now }
-    requires few { length events.now ≤ 2048 }
+    requires few { length events.now ≤ EVENT_LIMIT }
     ensures { IfOk result (λ r. MatchOption r (IsAcyclic events.now) (IsLeastCyclic events.now)) }
 {
     let mut low = vec![in alloc; 0u32; lines]?;

@@ -5,6 +5,8 @@ ghost use Rattle.msc_chart.specs.Events.{events_of, events_of_item, events_of_it
 ghost use Rattle.msc_chart.specs.Drawings.{output_end};
 ghost use Rattle.msc_chart.specs.Views.{end_view, event_view};
 
+use crate::INSTANCE_LIMIT;
+use msc_lexer::TEXT_LIMIT;
 use msc_parser::{Draft, Item, Section, Signal, Way};
 use std::alloc::{AllocError, Global};
 
@@ -169,12 +171,12 @@ pub(crate) fn events_of<'d>(
     alloc: Global,
     draft: &'d Draft,
 ) -> Result<Vec<DraftEvent<'d>>, AllocError>
-    requires sections { length draft.now.sections ≤ 32 }
+    requires sections { length draft.now.sections ≤ INSTANCE_LIMIT }
     ensures events { IfOk result (λ events.
         map event_view events.items ≡ events_of draft.entry.now) }
 
     // No draft has more events than a text has bytes.
-    ensures few { IfOk result (λ events. length events.items ≤ 1048576) }
+    ensures few { IfOk result (λ events. length events.items ≤ TEXT_LIMIT) }
 {
     let mut events = Vec::new(alloc);
     let mut line = 0;

@@ -30,7 +30,8 @@ pub fn pairs_have_queues_of_their_own()
     ensures { PairsHaveQueuesOfTheirOwn }
 {}
 
-/// The number of each queue with a message is below a bound, which is at most 1,024.
+/// The number of each event's queue is below a bound, which is at most the square of the greatest
+/// number of instances.
 pub fn queue_numbers_are_bounded()
     ensures numbers { QueueNumbersAreBounded }
     ensures few { QueueBoundsAreSmall }

@@ -7,7 +7,7 @@
 //! order is that of Alur, Holzmann and Peled (1996); the enforced order, runs and races of an
 //! architecture are defined beside it, for the crates that rest on this one.
 //!
-//! Limits: 32 instances and 1,024 messages.
+//! Limits: [`INSTANCE_LIMIT`] instances and [`MESSAGE_LIMIT`] messages.
 #![tactic(auto)]
 
 mod building;
@@ -30,3 +30,12 @@ pub use event::{Event, EventKind};
 pub use fault::ChartFault;
 pub use queue::Queues;
 pub use wiring::Wiring;
+
+/// The greatest number of instances of a chart.
+pub const INSTANCE_LIMIT: u32 = 32;
+
+/// The greatest number of messages of a chart.
+pub const MESSAGE_LIMIT: u32 = 1_024;
+
+/// The greatest number of events of a chart: two for each message.
+pub const EVENT_LIMIT: u32 = 2 * MESSAGE_LIMIT;

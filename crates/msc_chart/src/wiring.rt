@@ -1,16 +1,17 @@
 //! A chart under an architecture.
 
-ghost use Rattle.std.specs.Prelude.{◌≡◌, ℕ, ◌<◌, ◌≤◌, length};
+ghost use Rattle.std.specs.Prelude.{◌≡◌, ℕ, ◌*◌, ◌<◌, ◌≤◌, length};
 ghost use Rattle.msc_chart.specs.Orders.{queue, queue_bound, queue_number, receiver_at, sender_at};
 ghost use Rattle.msc_chart.specs.Wirings.{size, wired_by};
 
+use crate::INSTANCE_LIMIT;
 use crate::chart::Chart;
 use crate::event::Event;
 use crate::queue::Queues;
 
 /// The number of the queue from a sender to a receiver, of so many instances.
 pub(crate) fn queue_number(queues: Queues, instances: u32, sender: u32, receiver: u32) -> u32
-    requires few { instances ≤ 32 }
+    requires few { instances ≤ INSTANCE_LIMIT }
     requires sender { sender < instances }
     requires receiver { receiver < instances }
     ensures { result ≡ queue_number queues instances sender receiver }
@@ -70,7 +71,7 @@ impl Wiring<'_> {
     pub fn queue_count(&self) -> u32
         ensures value { result ≡ queue_bound self.now.queues self.now.chart.now }
         ensures past { (e : ℕ) → e < size self.now → queue (wired_by self.now) e < result }
-        ensures few { result ≤ 1024 }
+        ensures few { result ≤ INSTANCE_LIMIT * INSTANCE_LIMIT }
     {
         self.chart.accepted();
         let instances = self.chart.instances();

@@ -2,6 +2,7 @@
 use Rattle.std.proofs.Common.{◌≡◌, ℕ, ◌+◌, ◌≤◌, List, [], ◌∷◌, ◌++◌, length, drop, Option, Some, None, refl, sym, ap, subst, ◌∙◌, append_assoc, zero-add, arith}
 use Rattle.std.proofs.lemmas.List.{length-append, drop_at, drop_all, drop-drop, append-nil}
 use Rattle.std.proofs.lemmas.List.Concat.{flat_map-append}
+use Rattle.msc_lexer.specs.declared.TheConstants.{TEXT_LIMIT}
 use Rattle.msc_lexer.specs.declared.token.Kind.{Kind}
 use Rattle.msc_lexer.specs.declared.token.Token.{Token}
 use Rattle.msc_lexer.specs.declared.fault.LexFault.{LexFault}
@@ -64,7 +65,7 @@ reads_one text at tokens kind len so_far next =
     }
 
 -- at the end of a short text its tokens have been read
-pub reads_all : (text : List ℕ) (at : ℕ) (tokens : List Token) → length text ≤ 1048576 → length text ≤ at → IsReadTo text at tokens → HasTokens text tokens
+pub reads_all : (text : List ℕ) (at : ℕ) (tokens : List Token) → length text ≤ TEXT_LIMIT → length text ≤ at → IsReadTo text at tokens → HasTokens text tokens
 reads_all text at tokens short all so_far =
     let nothing : drop at text ≡ [] = drop_all at text all in
     record {
@@ -76,7 +77,7 @@ reads_all text at tokens short all so_far =
     }
 
 -- a flaw where reading stands is the first one
-first_flaw : (text : List ℕ) (at : ℕ) (tokens : List Token) (fault : LexFault) → length text ≤ 1048576 → IsReadTo text at tokens → IsFlaw fault at (drop at text) → IsFirstFlaw text fault
+first_flaw : (text : List ℕ) (at : ℕ) (tokens : List Token) (fault : LexFault) → length text ≤ TEXT_LIMIT → IsReadTo text at tokens → IsFlaw fault at (drop at text) → IsFirstFlaw text fault
 first_flaw text at tokens fault short so_far flaw =
     record {
       pieces = so_far.pieces;
@@ -88,7 +89,7 @@ first_flaw text at tokens fault short so_far flaw =
     }
 
 -- so it is the fault of the text
-pub flaw_found : (text : List ℕ) (at : ℕ) (tokens : List Token) (fault : LexFault) → length text ≤ 1048576 → IsReadTo text at tokens → IsFlaw fault at (drop at text) → HasFault text fault
+pub flaw_found : (text : List ℕ) (at : ℕ) (tokens : List Token) (fault : LexFault) → length text ≤ TEXT_LIMIT → IsReadTo text at tokens → IsFlaw fault at (drop at text) → HasFault text fault
 flaw_found text at tokens TooLong short so_far flaw = absurd flaw
 flaw_found text at tokens Memory short so_far flaw = absurd flaw
 flaw_found text at tokens (BadByte a) short so_far flaw = first_flaw text at tokens (BadByte a) short so_far flaw

@@ -3,6 +3,7 @@ use Rattle.std.proofs.Common.{◌≡◌, ℕ, ◌<◌, false, ◌||◌, eqb, nat
 use Rattle.std.specs.List.{take_while}
 use Rattle.std.specs.Option.{is_some}
 use Rattle.std.proofs.lemmas.Bool.{or_parts, true≢false}
+use Rattle.msc_lexer.specs.declared.TheConstants.{NAME_LIMIT}
 use Rattle.msc_lexer.specs.declared.token.Kind.{Kind}
 use Rattle.msc_lexer.specs.declared.fault.LexFault.{LexFault}
 use Rattle.msc_lexer.specs.declared.fault.LexFault.TheVariants.{TooLong, BadByte, OpenNote, OpenText, LongName, Memory}
@@ -14,12 +15,12 @@ use Rattle.msc_lexer.proofs.Shapes.{class_of, class_at, shape_of, class_of_piece
 use Rattle.msc_lexer.proofs.OnePiece.{doubled_first, note_at_end}
 
 -- no piece stands at the front of the text
-unfoldable pub Stops : List ℕ → Type 0
-Stops text = (p : Piece) (rest : List ℕ) → Fits p rest → text ≡ spelled p ++ rest → ⊥
+unfoldable pub NoPieceStands : List ℕ → Type 0
+NoPieceStands text = (p : Piece) (rest : List ℕ) → Fits p rest → text ≡ spelled p ++ rest → ⊥
 
 -- none stands at the end of a text
-pub nil_stops : Stops []
-unfolding Stops class_at shape_of
+pub nil_stops : NoPieceStands []
+unfolding NoPieceStands class_at shape_of
 nil_stops (Blank b) rest f e = cc
 nil_stops (Run bytes) rest f e = let r = run_begins bytes rest f.0 in let t : [] ≡ (r.0 ∷ r.1) ++ rest = e ∙ ap (λ (t : List ℕ). t ++ rest) r.2 in cc
 nil_stops (Quoted body) rest f e = cc
@@ -31,8 +32,8 @@ pub flaw_class : (fault : LexFault) (at : ℕ) (text : List ℕ) → IsFlaw faul
 flaw_class fault at text flaw = class_at text
 
 -- none stands at a byte that begins none
-pub bad_stops : (text : List ℕ) → BeginsNothing text → Stops text
-unfolding Stops
+pub bad_stops : (text : List ℕ) → BeginsNothing text → NoPieceStands text
+unfolding NoPieceStands
 bad_stops text bad (Blank b) rest f e =
     let h = (subst BeginsNothing e bad).0 in
     let w = (or_parts (is_white b) (is_run_byte b) (or_parts (is_white b || is_run_byte b) (is_some (mark_of b)) (or_parts (is_white b || is_run_byte b || is_some (mark_of b)) (eqb b 39) h).0).0).0 in
@@ -56,8 +57,8 @@ bad_stops text bad (Mark b) rest f e =
     none_of (Some k) h = absurd (true≢false h)
 
 -- none stands at a note without end
-pub open_note_stops : (body : List ℕ) → NeverCloses body → Stops (47 ∷ 42 ∷ body)
-unfolding Stops class_at class_of shape_of
+pub open_note_stops : (body : List ℕ) → NeverCloses body → NoPieceStands (47 ∷ 42 ∷ body)
+unfolding NoPieceStands class_at class_of shape_of
 open_note_stops body never (Note inner) rest f e =
     let t : body ≡ (inner ++ 42 ∷ 47 ∷ []) ++ rest = cc in
     let ends = note_at_end inner rest in
@@ -93,8 +94,8 @@ no_open_quote (x ∷ xs) (y ∷ ys) r f e =
     ]
 
 -- none stands at a text without end
-pub open_text_stops : (body : List ℕ) → Stops (39 ∷ doubled body)
-unfolding Stops class_at class_of shape_of
+pub open_text_stops : (body : List ℕ) → NoPieceStands (39 ∷ doubled body)
+unfolding NoPieceStands class_at class_of shape_of
 open_text_stops body (Quoted inner) rest f e =
     let t : doubled body ≡ (doubled inner ++ 39 ∷ []) ++ rest = cc in
     no_open_quote body inner rest f t
@@ -115,8 +116,8 @@ run_class_at bytes rest run =
     ap (λ (t : List ℕ). class_at (t ++ rest)) r.2 ∙ run_class r.0 r.3
 
 -- none stands at a long name: the run there is the name, which does not fit
-pub long_name_stops : (bytes rest : List ℕ) → IsRun bytes rest → word_of bytes ≡ None → 64 < length bytes → Stops (bytes ++ rest)
-unfolding Stops shape_of
+pub long_name_stops : (bytes rest : List ℕ) → IsRun bytes rest → word_of bytes ≡ None → NAME_LIMIT < length bytes → NoPieceStands (bytes ++ rest)
+unfolding NoPieceStands shape_of
 long_name_stops bytes rest run none long (Run other) more f e =
     let same = same_run bytes other rest more run f.0 e in
     omega (arith, long, ap length same, f.1 (rw (← same) none))
@@ -126,10 +127,10 @@ long_name_stops bytes rest run none long (Note b) more f e = let h = sym (run_cl
 long_name_stops bytes rest run none long (Mark b) more f e = let h = sym (run_class_at bytes rest run) ∙ ap class_at e ∙ class_of_piece (Mark b) more f in absurd (omega (arith, h))
 
 -- none stands at a flaw
-pub flaw_stops : (fault : LexFault) (at : ℕ) (text : List ℕ) → IsFlaw fault at text → Stops text
+pub flaw_stops : (fault : LexFault) (at : ℕ) (text : List ℕ) → IsFlaw fault at text → NoPieceStands text
 flaw_stops TooLong at text flaw = absurd flaw
 flaw_stops Memory at text flaw = absurd flaw
 flaw_stops (BadByte a) at text flaw = bad_stops text flaw.1
-flaw_stops (OpenNote a) at text flaw = subst Stops (sym flaw.2) (open_note_stops flaw.1 flaw.3)
-flaw_stops (OpenText a) at text flaw = subst Stops (sym flaw.2) (open_text_stops flaw.1)
-flaw_stops (LongName a) at text flaw = subst Stops (sym flaw.3) (long_name_stops flaw.1 flaw.2 flaw.4 flaw.5 flaw.6)
+flaw_stops (OpenNote a) at text flaw = subst NoPieceStands (sym flaw.2) (open_note_stops flaw.1 flaw.3)
+flaw_stops (OpenText a) at text flaw = subst NoPieceStands (sym flaw.2) (open_text_stops flaw.1)
+flaw_stops (LongName a) at text flaw = subst NoPieceStands (sym flaw.3) (long_name_stops flaw.1 flaw.2 flaw.4 flaw.5 flaw.6)

@@ -3,6 +3,7 @@ use Rattle.std.proofs.Common.{◌≡◌, ℕ, ◌+◌, ◌<◌, ◌≤◌, true,
 use Rattle.std.specs.List.{prefix_len}
 use Rattle.std.proofs.lemmas.List.{take-append-drop, length-append, length-take, drop_more}
 use Rattle.std.proofs.lemmas.List.Folds.{length-prefix_len}
+use Rattle.msc_lexer.specs.declared.TheConstants.{NAME_LIMIT}
 use Rattle.msc_lexer.specs.declared.token.Kind.{Kind}
 use Rattle.msc_lexer.specs.declared.token.Kind.TheVariants as kinds
 use Rattle.msc_lexer.specs.Bytes.{begins, is_run_byte, is_white}
@@ -49,7 +50,7 @@ quoted_front body at len ends l = record {
 
 -- the longest run stands at the front, if as a name it is not too long
 pub run_front : (text : List ℕ) (kind : Kind) (len : ℕ) → begins is_run_byte text ≡ true → len ≡ prefix_len is_run_byte text
-    → Some kind ≡ Rattle.msc_lexer.specs.Pieces.kind_of (Run (take len text)) → (word_of (take len text) ≡ None → len ≤ 64) → StartsWith text (Some kind) len
+    → Some kind ≡ Rattle.msc_lexer.specs.Pieces.kind_of (Run (take len text)) → (word_of (take len text) ≡ None → len ≤ NAME_LIMIT) → StartsWith text (Some kind) len
 run_front text kind len h l k short =
     let len_is : len ≡ length (take len text) = rw l (sym (length-prefix_len is_run_byte text)) in
     record {

@@ -3,18 +3,19 @@ use Rattle.std.proofs.Common.{◌≡◌, ◌≢◌, ◌⊎◌, ℕ, ◌<◌, Lis
 use Rattle.std.specs.Prelude.{IfOk, IfErr}
 use Rattle.std.specs.Global.{Vec}
 use Rattle.std.proofs.lemmas.List.{append_cancel_left, length-append, get_or_at, get_or-append-add}
+use Rattle.msc_lexer.specs.declared.TheConstants.{TEXT_LIMIT}
 use Rattle.msc_lexer.specs.declared.token.Token.{Token}
 use Rattle.msc_lexer.specs.declared.fault.LexFault.{LexFault}
 use Rattle.msc_lexer.specs.declared.fault.LexFault.TheVariants.{TooLong, BadByte, OpenNote, OpenText, LongName, Memory}
 use Rattle.msc_lexer.specs.Pieces.{Piece, spelled, text_of, AreCut, tokens_of}
 use Rattle.msc_lexer.specs.Lexing.{HasTokens, HasFault, IsFirstFlaw, IsFlaw, IsOkOrMemory, IsErrOrMemory}
 use Rattle.msc_lexer.proofs.OnePiece.{same_front}
-use Rattle.msc_lexer.proofs.Flaws.{Stops, nil_stops, flaw_stops}
+use Rattle.msc_lexer.proofs.Flaws.{NoPieceStands, nil_stops, flaw_stops}
 use Rattle.msc_lexer.proofs.OneFlaw.{one_flaw}
 
 -- a text is cut in one way up to a place at which no piece stands
-one_cut : (ps qs : List Piece) (r s : List ℕ) → AreCut ps r → AreCut qs s → text_of ps ++ r ≡ text_of qs ++ s → Stops r → Stops s → (ps ≡ qs) × (r ≡ s)
-unfolding Stops
+one_cut : (ps qs : List Piece) (r s : List ℕ) → AreCut ps r → AreCut qs s → text_of ps ++ r ≡ text_of qs ++ s → NoPieceStands r → NoPieceStands s → (ps ≡ qs) × (r ≡ s)
+unfolding NoPieceStands
 one_cut [] [] r s a b e stop_r stop_s = (refl, e)
 one_cut [] (q ∷ qs) r s a b e stop_r stop_s = absurd (stop_r q (text_of qs ++ s) b.0 (e ∙ append_assoc (spelled q) (text_of qs) s))
 one_cut (p ∷ ps) [] r s a b e stop_r stop_s = absurd (stop_s p (text_of ps ++ r) a.0 (sym e ∙ append_assoc (spelled p) (text_of ps) r))
@@ -41,7 +42,7 @@ one_tokens text ts us a b =
 
 -- a text with tokens has no flaw
 tokens_or_flaw : (text : List ℕ) (ts : List Token) (fault : LexFault) → HasTokens text ts → IsFirstFlaw text fault → ⊥
-unfolding Stops
+unfolding NoPieceStands
 tokens_or_flaw text ts fault a b =
     let e : text_of a.pieces ++ [] ≡ text_of b.pieces ++ b.rest = sym (nil_right text (text_of a.pieces) a.whole) ∙ b.whole in
     let same = one_cut a.pieces b.pieces [] b.rest a.cut b.cut e nil_stops (flaw_stops fault _ b.rest b.flaw) in
@@ -62,7 +63,7 @@ one_first_flaw text f g a b =
     one_flaw f g (length (text_of b.pieces)) b.rest (rw (same.0, same.1) at a.flaw) b.flaw
 
 -- where a text has a fault, it is too long or has a flaw
-fault_cases : (text : List ℕ) (f : LexFault) → HasFault text f → ((f ≡ TooLong) × (1048576 < length text)) ⊎ IsFirstFlaw text f
+fault_cases : (text : List ℕ) (f : LexFault) → HasFault text f → ((f ≡ TooLong) × (TEXT_LIMIT < length text)) ⊎ IsFirstFlaw text f
 fault_cases text TooLong h = inl (refl, h)
 fault_cases text Memory h = absurd h
 fault_cases text (BadByte a) h = inr h

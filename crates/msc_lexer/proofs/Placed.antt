@@ -6,6 +6,7 @@ use Rattle.std.proofs.lemmas.Bool.{and_from, cases_Bool}
 use Rattle.std.proofs.lemmas.List.{length-append}
 use Rattle.std.proofs.lemmas.List.Elements.{All-nil, All-cons, All-same}
 use Rattle.std.proofs.lemmas.List.Sums.{take_while-cons}
+use Rattle.msc_lexer.specs.declared.TheConstants.{NAME_LIMIT}
 use Rattle.msc_lexer.specs.declared.word.Word.{Word}
 use Rattle.msc_lexer.specs.declared.token.Kind.{Kind}
 use Rattle.msc_lexer.specs.declared.token.Kind.TheVariants as kinds
@@ -48,11 +49,11 @@ while_all p (x ∷ xs) =
     ]
 
 -- a run that is no word is a name
-run_name : (bytes rest : List ℕ) → IsRun bytes rest → (word_of bytes ≡ None → length bytes ≤ 64) → word_of bytes ≡ None → IsName bytes
+run_name : (bytes rest : List ℕ) → IsRun bytes rest → (word_of bytes ≡ None → length bytes ≤ NAME_LIMIT) → word_of bytes ≡ None → IsName bytes
 run_name bytes rest h short none = record { some = h.some; run = rw h.longest (while_all is_run_byte (bytes ++ rest)); free = none; short = short none }
 
 -- a run is a word, or named by a name
-run_named : (bytes rest : List ℕ) (at : ℕ) (ls : List Lexeme) (o : Option Word) → word_of bytes ≡ o → IsRun bytes rest → (word_of bytes ≡ None → length bytes ≤ 64) → HaveNames ls → HaveNames (lexeme_at (Some (unwrap_or (option_map kinds.Word o) kinds.Name)) bytes at ++ ls)
+run_named : (bytes rest : List ℕ) (at : ℕ) (ls : List Lexeme) (o : Option Word) → word_of bytes ≡ o → IsRun bytes rest → (word_of bytes ≡ None → length bytes ≤ NAME_LIMIT) → HaveNames ls → HaveNames (lexeme_at (Some (unwrap_or (option_map kinds.Word o) kinds.Name)) bytes at ++ ls)
 unfolding lexeme_at
 run_named bytes rest at ls None e h short others = (run_name bytes rest h short e, others)
 run_named bytes rest at ls (Some w) e h short others = (tt, others)

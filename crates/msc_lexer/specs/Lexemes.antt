@@ -1,6 +1,7 @@
 -- What a grammar sees of tokens: what each is, with its bytes, and where it begins.
 use Rattle.std.specs.Prelude.{◌≡◌, ◌≢◌, ℕ, ◌+◌, ◌≤◌, true, false, List, [], ◌∷◌, ◌++◌, length, map, slice_range, Option, Some, None, All}
 use Rattle.std.specs.List.{list_all}
+use Rattle.msc_lexer.specs.declared.TheConstants.{NAME_LIMIT}
 use Rattle.msc_lexer.specs.declared.word.Word.{Word}
 use Rattle.msc_lexer.specs.declared.token.Kind.{Kind}
 use Rattle.msc_lexer.specs.declared.token.Kind.TheVariants as kinds
@@ -9,6 +10,7 @@ use Rattle.msc_lexer.specs.Bytes.{is_run_byte, begins}
 use Rattle.msc_lexer.specs.Words.{spelling, word_of}
 use Rattle.msc_lexer.specs.Pieces.{Piece, Run, Fits, spelled, kind_of, text_of, AreCut, tokens_of}
 
+-- what a token is to a grammar: a reserved word, a name, a text or a mark
 pub data Symbol : Type 0 where
   Reserved : Word → Symbol
   Named : List ℕ → Symbol  -- a name, with its bytes
@@ -24,6 +26,7 @@ pub record Lexeme : Type 0 where
   pub symbol : Symbol
   pub place : ℕ
 
+-- the symbol of a token of a kind with these bytes
 abbrev pub symbol_of : Kind → List ℕ → Symbol
 symbol_of (kinds.Word w) bytes = Reserved w
 symbol_of kinds.Name bytes = Named bytes
@@ -38,6 +41,7 @@ symbol_of kinds.RightParen bytes = RightParen
 abbrev pub lexeme_of : List ℕ → Token → Lexeme
 lexeme_of text t = record { symbol = symbol_of t.kind (slice_range text t.start t.«end»); place = t.start }
 
+-- the tokens of a text, with their bytes
 abbrev pub lexemes : List ℕ → List Token → List Lexeme
 lexemes text tokens = map (lexeme_of text) tokens
 
@@ -46,21 +50,24 @@ pub record IsWithin (text : List ℕ) (t : Token) : Type 0 where
   pub ordered : t.start ≤ t.«end»
   pub inside : t.«end» ≤ length text
 
+-- all tokens stand in the text
 abbrev pub AreWithin : List ℕ → List Token → Type 0
 AreWithin text tokens = All (IsWithin text) tokens
 
--- a name that a text can have: 1 to 64 letters, digits and underscores that are no reserved word
+-- a name that a text can have: letters, digits and underscores, one at least and not too many, that
+-- are no reserved word
 pub record IsName (name : List ℕ) : Type 0 where
   pub some : name ≢ []
   pub run : list_all is_run_byte name ≡ true
   pub free : word_of name ≡ None
-  pub short : length name ≤ 64
+  pub short : length name ≤ NAME_LIMIT
 
 -- the name of a symbol, if it has one, is a name
 abbrev pub HasName : Symbol → Type 0
 HasName (Named name) = IsName name
 HasName symbol = Unit {0}
 
+-- the names of all symbols are names
 abbrev pub HaveNames : List Lexeme → Type 0
 HaveNames [] = Unit {0}
 HaveNames (l ∷ ls) = HasName l.symbol × HaveNames ls

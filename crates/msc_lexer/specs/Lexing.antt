@@ -1,6 +1,7 @@
 -- The tokens of a text, and its first lexical fault (this project's profile of MSC/PR).
 use Rattle.std.specs.Prelude.{◌≡◌, ◌⊎◌, ℕ, ◌≤◌, ◌<◌, false, ◌||◌, ◌&&◌, ◌==◌, nat_eq, List, [], ◌∷◌, ◌++◌, length, None, is_some, Result, Ok, Err}
 use Rattle.std.specs.Global.{Vec}
+use Rattle.msc_lexer.specs.declared.TheConstants.{TEXT_LIMIT, NAME_LIMIT}
 use Rattle.msc_lexer.specs.declared.token.Token.{Token}
 use Rattle.msc_lexer.specs.declared.fault.LexFault.{LexFault}
 use Rattle.msc_lexer.specs.declared.fault.LexFault.TheVariants.{TooLong, BadByte, OpenNote, OpenText, LongName, Memory}
@@ -11,7 +12,7 @@ use Rattle.msc_lexer.specs.Pieces.{Piece, NeverCloses, doubled, mark_of, IsRun, 
 -- the text is short enough and is made of pieces, of which these are the tokens
 pub record HasTokens (text : List ℕ) (tokens : List Token) : Type 0 where
   pub pieces : List Piece
-  pub short : length text ≤ 1048576
+  pub short : length text ≤ TEXT_LIMIT
   pub whole : text ≡ text_of pieces
   pub cut : AreCut pieces []
   pub made : tokens ≡ tokens_of 0 pieces
@@ -27,21 +28,21 @@ IsFlaw TooLong place text = ⊥
 IsFlaw (BadByte at) place text = (at ≡ place) × BeginsNothing text
 IsFlaw (OpenNote at) place text = (at ≡ place) × (body : List ℕ) × (text ≡ 47 ∷ 42 ∷ body) × NeverCloses body
 IsFlaw (OpenText at) place text = (at ≡ place) × (body : List ℕ) × (text ≡ 39 ∷ doubled body)
-IsFlaw (LongName at) place text = (at ≡ place) × (bytes rest : List ℕ) × (text ≡ bytes ++ rest) × IsRun bytes rest × (word_of bytes ≡ None) × (64 < length bytes)
+IsFlaw (LongName at) place text = (at ≡ place) × (bytes rest : List ℕ) × (text ≡ bytes ++ rest) × IsRun bytes rest × (word_of bytes ≡ None) × (NAME_LIMIT < length bytes)
 IsFlaw Memory place text = ⊥
 
 -- the text is made of pieces up to a place at which no piece stands
 pub record IsFirstFlaw (text : List ℕ) (fault : LexFault) : Type 0 where
   pub pieces : List Piece
   pub rest : List ℕ
-  pub short : length text ≤ 1048576
+  pub short : length text ≤ TEXT_LIMIT
   pub whole : text ≡ text_of pieces ++ rest
   pub cut : AreCut pieces rest
   pub flaw : IsFlaw fault (length (text_of pieces)) rest
 
 -- the first lexical fault of a text: that it is too long, or else the first flaw
 abbrev pub HasFault : List ℕ → LexFault → Type 0
-HasFault text TooLong = 1048576 < length text
+HasFault text TooLong = TEXT_LIMIT < length text
 HasFault text Memory = ⊥
 HasFault text (BadByte at) = IsFirstFlaw text (BadByte at)
 HasFault text (OpenNote at) = IsFirstFlaw text (OpenNote at)

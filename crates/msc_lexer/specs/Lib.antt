@@ -1,6 +1,8 @@
+-- what is promised
 pub mod Bytes
 pub mod Words
 pub mod Pieces
-pub mod Scanning
 pub mod Lexing
 pub mod Lexemes
+-- what the code keeps
+pub mod Scanning

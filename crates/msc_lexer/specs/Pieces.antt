@@ -2,12 +2,14 @@
 -- Z.120). A text is cut into pieces, each of which fits before what follows it.
 use Rattle.std.specs.Prelude.{◌≡◌, ◌≢◌, ℕ, ◌+◌, ◌≤◌, true, false, ◌==◌, nat_eq, List, [], ◌∷◌, ◌++◌, length, Option, Some, None, option_map, unwrap_or, if◌then◌else◌, slice_index, take_while}
 use Rattle.std.specs.List.{flat_map}
+use Rattle.msc_lexer.specs.declared.TheConstants.{NAME_LIMIT}
 use Rattle.msc_lexer.specs.declared.token.Kind.{Kind}
 use Rattle.msc_lexer.specs.declared.token.Kind.TheVariants as kinds
 use Rattle.msc_lexer.specs.declared.token.Token.{Token}
 use Rattle.msc_lexer.specs.Bytes.{is_white, is_run_byte, begins}
 use Rattle.msc_lexer.specs.Words.{word_of}
 
+-- a piece of a text, which is a token unless it is white space or a note
 pub data Piece : Type 0 where
   Blank : ℕ → Piece  -- one byte of white space
   Note : List ℕ → Piece  -- the bytes between `/*` and `*/`
@@ -50,11 +52,11 @@ pub record IsRun (bytes rest : List ℕ) : Type 0 where
   pub longest : bytes ≡ take_while is_run_byte (bytes ++ rest)
 
 -- this is a piece where the rest follows it: a note ends at the first `*/`, a run is as long as it
--- can be, a name has at most 64 bytes, and the last apostrophe of a text is not doubled
+-- can be, a name is not too long, and the last apostrophe of a text is not doubled
 abbrev pub Fits : Piece → List ℕ → Type 0
 Fits (Blank b) rest = is_white b ≡ true
 Fits (Note body) rest = NeverCloses body
-Fits (Run bytes) rest = IsRun bytes rest × (word_of bytes ≡ None → length bytes ≤ 64)
+Fits (Run bytes) rest = IsRun bytes rest × (word_of bytes ≡ None → length bytes ≤ NAME_LIMIT)
 Fits (Quoted body) rest = begins (nat_eq 39) rest ≡ false
 Fits (Mark b) rest = mark_of b ≢ None
 

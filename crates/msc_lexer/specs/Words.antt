@@ -5,6 +5,7 @@ use Rattle.std.specs.Str.{bytes_eq}
 use Rattle.msc_lexer.specs.declared.word.Word.{Word}
 use Rattle.msc_lexer.specs.declared.word.Word.TheVariants.{Msc, EndMsc, Inst, Instance, EndInstance, Input, From, Output, To, Concurrent, EndConcurrent, Comment, Env, Action, Condition, Set, Reset, Timeout, Create, Stop}
 
+-- a word in small letters
 abbrev pub spelling : Word → List ℕ
 spelling Msc = codes "msc"
 spelling EndMsc = codes "endmsc"
@@ -27,6 +28,7 @@ spelling Timeout = codes "timeout"
 spelling Create = codes "create"
 spelling Stop = codes "stop"
 
+-- each reserved word once
 abbrev pub all_words : List Word
 all_words = Msc ∷ EndMsc ∷ Inst ∷ Instance ∷ EndInstance ∷ Input ∷ From ∷ Output ∷ To ∷ Concurrent ∷ EndConcurrent ∷ Comment ∷ Env ∷ Action ∷ Condition ∷ Set ∷ Reset ∷ Timeout ∷ Create ∷ Stop ∷ []
 

@@ -13,13 +13,8 @@ use crate::fault::LexFault;
 use crate::scanning::{note_end, quote_end, run_length};
 use crate::token::{Kind, Token};
 use crate::word::Word;
+use crate::{NAME_LIMIT, TEXT_LIMIT};
 use std::alloc::Global;
-
-/// The greatest number of bytes of a text.
-pub const TEXT_LIMIT: usize = 1_048_576;
-
-/// The greatest number of bytes of a name.
-pub const NAME_LIMIT: usize = 64;
 
 /// What stands at the front of a text: a piece of `length` bytes, which is a token if it has a kind.
 struct Front {

@@ -13,6 +13,12 @@ mod token;
 mod word;
 
 pub use fault::LexFault;
-pub use lexing::{NAME_LIMIT, TEXT_LIMIT, lex};
+pub use lexing::lex;
 pub use token::{Kind, Token};
 pub use word::Word;
+
+/// The greatest number of bytes of a text.
+pub const TEXT_LIMIT: usize = 1_048_576;
+
+/// The greatest number of bytes of a name.
+pub const NAME_LIMIT: usize = 64;

@@ -10,9 +10,10 @@ use Rattle.msc_parser.specs.declared.tree.Signal.{Signal}
 use Rattle.msc_parser.specs.declared.tree.Item.{Item}
 use Rattle.msc_parser.specs.declared.tree.Item.TheVariants.{Single, Coregion}
 use Rattle.msc_parser.specs.declared.tree.Section.{Section}
-use Rattle.msc_parser.specs.Forms.{IsToken, IsNamed, AreMany, IsBehind, AreListed}
-use Rattle.msc_parser.specs.Grammar.{Tree, IsEnd, Plain, Commented, IsSecond, IsKind, IsDecl, way_word, address_word, IsNumber, AreParameters, Absent, Empty, Listed, IsSignal, IsEvent, IsCoregion, IsItem, IsSection, AreDecls, IsChart}
-use Rattle.msc_parser.specs.Places.{Statement, InInst, InInstance, Place, Start, ChartName, Header, Sections, Items, Events, DeclName, DeclKind, KindFirst, KindSecond, DeclEnd, Message, AfterMessage, Number, AfterNumber, Parameters, Parameter, AfterParameter, AfterParameters, Address, End, CommentText, CommentEnd, Done, behind, next, walk}
+use Rattle.msc_parser.specs.Forms.{IsToken, IsNamed, AreMany, IsLedBy, AreListed}
+use Rattle.msc_parser.specs.Grammar.{Tree, IsEnd, Plain, Commented, IsSecond, IsKind, IsDecl, IsNumber, AreParameters, Absent, Empty, Given, IsSignal, IsEvent, IsCoregion, IsItem, IsSection, AreDecls, IsChart}
+use Rattle.msc_parser.specs.Places.{Statement, InInst, InInstance, Place, Start, ChartName, Header, Sections, Items, Events, DeclName, DeclKind, KindFirst, KindSecond, DeclEnd, Message, AfterMessage, Number, AfterNumber, Parameters, Parameter, AfterParameter, AfterParameters, Address, StatementEnd, CommentText, CommentEnd, Done, behind, next, walk}
+use Rattle.msc_parser.proofs.Leading.{colon_leads, second_leads, comma_leads, open_leads, word_leads, item_leads, event_leads}
 
 -- a token that may stand at a place leads on
 pub walk_token : (p q : Place) (s : Symbol) (before after : List Lexeme) → IsToken s before after → next p s ≡ Some q → walk p before ≡ walk q after
@@ -57,7 +58,7 @@ wide_second InInstance (Named n) h = absurd (h refl)
 wide_second InInstance x h = refl
 
 -- behind a decl may stand the end of the statement, and in `inst` a comma
-wide_decl : (st : Statement) → Wider (DeclEnd st) (End (behind st))
+wide_decl : (st : Statement) → Wider (DeclEnd st) (StatementEnd (behind st))
 wide_decl InInst Comma h = absurd (h refl)
 wide_decl InInst x h = refl
 wide_decl InInstance x h = refl
@@ -90,22 +91,16 @@ by_many IsPart p one [] b a h rest = ap (walk p) h ∙ rest
 by_many IsPart p one (x ∷ xs) b a h rest = one b h.0 x h.1 (by_many IsPart p one xs h.0 a h.2 rest)
 
 -- the end of a statement leads behind it
-by_end : (p : Place) (b a : List Lexeme) → IsEnd b a → Accepts p a → Accepts (End p) b
-by_end p b a (Plain h) rest = by_token (End p) p Semicolon b a h refl rest
+by_end : (p : Place) (b a : List Lexeme) → IsEnd b a → Accepts p a → Accepts (StatementEnd p) b
+by_end p b a (Plain h) rest = by_token (StatementEnd p) p Semicolon b a h refl rest
 by_end p b a (Commented bytes text close h k l) rest =
-    by_token (End p) (CommentText p) (Reserved words.Comment) b text h refl (by_token (CommentText p) (CommentEnd p) (Quoted bytes) text close k refl (by_token (CommentEnd p) p Semicolon close a l refl rest))
+    by_token (StatementEnd p) (CommentText p) (Reserved words.Comment) b text h refl (by_token (CommentText p) (CommentEnd p) (Quoted bytes) text close k refl (by_token (CommentEnd p) p Semicolon close a l refl rest))
 
 -- a second name, or none, leads to the end of a decl
 by_second : (st : Statement) (ks : List (List ℕ)) (b a : List Lexeme) → IsSecond b ks a → Accepts (DeclEnd st) a → Accepts (KindSecond st) b
 by_second st [] b a h rest = by_wider (KindSecond st) (DeclEnd st) (wide_second st) (λ e. cc) b (ap (walk (DeclEnd st)) h ∙ rest)
-by_second InInst (k ∷ []) b a h rest = by_token _ (DeclEnd InInst) (Named k) b a h refl rest
-by_second InInstance (k ∷ []) b a h rest = by_token _ (DeclEnd InInstance) (Named k) b a h refl rest
+by_second st (k ∷ []) b a h rest = by_token _ (DeclEnd st) (Named k) b a h (second_leads st k) rest
 by_second st (k ∷ l ∷ ks) b a h rest = absurd h
-
--- `:` leads to the first name of a kind
-colon_leads : (st : Statement) → next (DeclKind st) Colon ≡ Some (KindFirst st)
-colon_leads InInst = refl
-colon_leads InInstance = refl
 
 -- a kind, or none, leads to the end of a decl
 by_kind : (st : Statement) (ks : List (List ℕ)) (b a : List Lexeme) → IsKind b ks a → Accepts (DeclEnd st) a → Accepts (DeclKind st) b
@@ -118,44 +113,34 @@ by_decl st b a d h rest = by_token _ (DeclKind st) (Named d.name) b h.0 h.1 refl
 
 -- the end of a statement with decls leads behind it
 by_decl_end : (st : Statement) (b a : List Lexeme) → IsEnd b a → Accepts (behind st) a → Accepts (DeclEnd st) b
-by_decl_end st b a h rest = by_wider (DeclEnd st) (End (behind st)) (wide_decl st) (λ e. cc) b (by_end (behind st) b a h rest)
+by_decl_end st b a h rest = by_wider (DeclEnd st) (StatementEnd (behind st)) (wide_decl st) (λ e. cc) b (by_end (behind st) b a h rest)
 
 -- an `inst` statement leads back to the header
-by_inst : (b a : List Lexeme) (ds : List Decl) → IsBehind (Reserved words.Inst) AreDecls b ds a → Accepts Header a → Accepts Header b
+by_inst : (b a : List Lexeme) (ds : List Decl) → IsLedBy (Reserved words.Inst) AreDecls b ds a → Accepts Header a → Accepts Header b
 by_inst b a [] h rest = absurd h.2.1
 by_inst b a (d ∷ ds) h rest =
     by_token Header (DeclName InInst) _ b h.0 h.1 refl (by_decl InInst h.0 h.2.1.0 d h.2.1.1
-    (by_many (IsBehind Comma IsDecl) (DeclEnd InInst) (λ c e x k more. by_token _ (DeclName InInst) Comma c k.0 k.1 refl (by_decl InInst k.0 e x k.2 more)) ds h.2.1.0 h.2.0 h.2.1.2
+    (by_many (IsLedBy Comma IsDecl) (DeclEnd InInst) (λ c e x k more. by_token _ (DeclName InInst) Comma c k.0 k.1 refl (by_decl InInst k.0 e x k.2 more)) ds h.2.1.0 h.2.0 h.2.1.2
     (by_decl_end InInst h.2.0 a h.2.2 rest)))
 
 -- a message instance name, or none, leads to what follows it
 by_number : (w : Way) (p : Place) (o : Option (List ℕ)) (b a : List Lexeme) → IsNumber b o a → Accepts (AfterNumber w p) a → Accepts (AfterMessage w p) b
 by_number w p None b a h rest = by_wider (AfterMessage w p) (AfterNumber w p) (wide_message w p) (λ e. cc) b (ap (walk (AfterNumber w p)) h ∙ rest)
-by_number ways.Output p (Some n) b a h rest = by_token _ (Number ways.Output p) Comma b h.0 h.1 refl (by_token _ _ (Named n) h.0 a h.2 refl rest)
-by_number ways.Input p (Some n) b a h rest = by_token _ (Number ways.Input p) Comma b h.0 h.1 refl (by_token _ _ (Named n) h.0 a h.2 refl rest)
-
--- `(` leads to the parameters
-opens : (w : Way) (p : Place) → next (AfterNumber w p) LeftParen ≡ Some (Parameters w p)
-opens ways.Output p = refl
-opens ways.Input p = refl
+by_number w p (Some n) b a h rest =
+    by_token _ (Number w p) Comma b h.0 h.1 (comma_leads w p) (by_token _ _ (Named n) h.0 a h.2 refl rest)
 
 -- names with commas between them lead behind the last of them
 by_names : (w : Way) (p : Place) (ps : List (List ℕ)) (b a : List Lexeme) → AreListed IsNamed b ps a → Accepts (AfterParameter w p) a → Accepts (Parameters w p) b
 by_names w p [] b a h rest = absurd h
 by_names w p (x ∷ xs) b a h rest =
     by_token _ (AfterParameter w p) (Named x) b h.0 h.1 refl
-    (by_many (IsBehind Comma IsNamed) (AfterParameter w p) (λ c e y k more. by_token _ (Parameter w p) Comma c k.0 k.1 refl (by_token _ _ (Named y) k.0 e k.2 refl more)) xs h.0 a h.2 rest)
+    (by_many (IsLedBy Comma IsNamed) (AfterParameter w p) (λ c e y k more. by_token _ (Parameter w p) Comma c k.0 k.1 refl (by_token _ _ (Named y) k.0 e k.2 refl more)) xs h.0 a h.2 rest)
 
 -- parameters, or none, lead to what follows them
 by_parameters : (w : Way) (p : Place) (ps : List (List ℕ)) (b a : List Lexeme) → AreParameters b ps a → Accepts (AfterParameters w p) a → Accepts (AfterNumber w p) b
 by_parameters w p ps b a (Absent none h) rest = by_wider (AfterNumber w p) (AfterParameters w p) (wide_number w p) (λ e. cc) b (ap (walk (AfterParameters w p)) h ∙ rest)
-by_parameters w p ps b a (Empty close none h k) rest = by_token _ (Parameters w p) LeftParen b close h (opens w p) (by_token _ _ RightParen close a k refl rest)
-by_parameters w p ps b a (Listed names close h k l) rest = by_token _ (Parameters w p) LeftParen b names h (opens w p) (by_names w p ps names close k (by_token _ _ RightParen close a l refl rest))
-
--- the word before an address leads to the address
-word_leads : (w : Way) (p : Place) → next (AfterParameters w p) (Reserved (address_word w)) ≡ Some (Address p)
-word_leads ways.Output p = refl
-word_leads ways.Input p = refl
+by_parameters w p ps b a (Empty close none h k) rest = by_token _ (Parameters w p) LeftParen b close h (open_leads w p) (by_token _ _ RightParen close a k refl rest)
+by_parameters w p ps b a (Given names close h k l) rest = by_token _ (Parameters w p) LeftParen b names h (open_leads w p) (by_names w p ps names close k (by_token _ _ RightParen close a l refl rest))
 
 -- an event behind its first word leads behind the event
 by_signal : (p : Place) (b a : List Lexeme) (e : Signal) → IsSignal b e a → Accepts p a → Accepts (Message e.way p) b
@@ -164,43 +149,33 @@ by_signal p b a e h rest =
     (by_number e.way p e.number h.is_ident.number h.is_ident.parameters h.is_ident.is_number
     (by_parameters e.way p e.parameters h.is_ident.parameters h.word h.is_ident.are_parameters
     (by_token _ (Address p) _ h.word h.address h.is_word (word_leads e.way p)
-    (by_token _ (End p) (Named e.address) h.address h.close h.is_address refl (by_end p h.close a h.is_end rest)))))
-
--- the word of a way leads from a statement of a section to the message
-pub item_leads : (w : Way) → next Items (Reserved (way_word w)) ≡ Some (Message w Items)
-item_leads ways.Output = refl
-item_leads ways.Input = refl
-
--- the word of a way leads from a statement of a coregion to the message
-pub event_leads : (w : Way) → next Events (Reserved (way_word w)) ≡ Some (Message w Events)
-event_leads ways.Output = refl
-event_leads ways.Input = refl
+    (by_token _ (StatementEnd p) (Named e.address) h.address h.close h.is_address refl (by_end p h.close a h.is_end rest)))))
 
 -- a coregion behind its first word leads to the next item
-by_coregion : (b a : List Lexeme) (es : List Signal) → IsCoregion b es a → Accepts Items a → Accepts (End Events) b
+by_coregion : (b a : List Lexeme) (es : List Signal) → IsCoregion b es a → Accepts Items a → Accepts (StatementEnd Events) b
 by_coregion b a es h rest =
     by_end Events b h.events h.is_end
     (by_many IsEvent Events (λ c d x k more. by_token Events (Message x.way Events) _ c k.0 k.1 (event_leads x.way) (by_signal Events k.0 d x k.2 more)) es h.events h.last h.are_events
-    (by_token Events (End Items) _ h.last h.close h.is_endconcurrent refl (by_end Items h.close a h.is_last_end rest)))
+    (by_token Events (StatementEnd Items) _ h.last h.close h.is_endconcurrent refl (by_end Items h.close a h.is_last_end rest)))
 
 -- an item leads to the next item
 by_item : (b a : List Lexeme) (x : Item) → IsItem b x a → Accepts Items a → Accepts Items b
 by_item b a (Single e) h rest = by_token Items (Message e.way Items) _ b h.0 h.1 (item_leads e.way) (by_signal Items h.0 a e h.2 rest)
-by_item b a (Coregion es) h rest = by_token Items (End Events) _ b h.0 h.1 refl (by_coregion h.0 a es h.2 rest)
+by_item b a (Coregion es) h rest = by_token Items (StatementEnd Events) _ b h.0 h.1 refl (by_coregion h.0 a es h.2 rest)
 
 -- a section leads to the next section
 by_section : (b a : List Lexeme) (s : Section) → IsSection b s a → Accepts Sections a → Accepts Sections b
 by_section b a s h rest =
     let k = h.2 in
     by_token Sections (DeclName InInstance) _ b h.0 h.1 refl (by_decl InInstance h.0 k.close s.decl k.is_decl (by_decl_end InInstance k.close k.items k.is_end
-    (by_many IsItem Items by_item s.items k.items k.last k.are_items (by_token Items (End Sections) _ k.last k.last_close k.is_endinstance refl (by_end Sections k.last_close a k.is_last_end rest)))))
+    (by_many IsItem Items by_item s.items k.items k.last k.are_items (by_token Items (StatementEnd Sections) _ k.last k.last_close k.is_endinstance refl (by_end Sections k.last_close a k.is_last_end rest)))))
 
 -- ---- the whole chart
 
 -- a chart leads from the start to the end of the text
 pub chart_walks : (ls : List Lexeme) (t : Tree) → IsChart ls t → walk Start ls ≡ (Done, [])
 chart_walks ls t h =
-    by_token Start ChartName _ ls h.name h.is_msc refl (by_token ChartName (End Header) (Named t.name) h.name h.close h.is_name refl (by_end Header h.close h.header h.is_end
-    (by_many (IsBehind (Reserved words.Inst) AreDecls) Header by_inst h.is_header.0 h.header h.sections h.is_header.2
+    by_token Start ChartName _ ls h.name h.is_msc refl (by_token ChartName (StatementEnd Header) (Named t.name) h.name h.close h.is_name refl (by_end Header h.close h.header h.is_end
+    (by_many (IsLedBy (Reserved words.Inst) AreDecls) Header by_inst h.is_header.0 h.header h.sections h.is_header.2
     (by_wider Header Sections wide_header (λ e. cc) h.sections
-    (by_many IsSection Sections by_section t.sections h.sections h.last h.are_sections (by_token Sections (End Done) _ h.last h.last_close h.is_endmsc refl (by_end Done h.last_close [] h.is_last_end refl)))))))
+    (by_many IsSection Sections by_section t.sections h.sections h.last h.are_sections (by_token Sections (StatementEnd Done) _ h.last h.last_close h.is_endmsc refl (by_end Done h.last_close [] h.is_last_end refl)))))))

@@ -5,8 +5,8 @@ use Rattle.std.specs.Option.{option_map_or}
 use Rattle.msc_lexer.specs.declared.word.Word.TheVariants as words
 use Rattle.msc_lexer.specs.Lexemes.{Symbol, Reserved, Named, Quoted, Semicolon, Comma, Colon, LeftParen, RightParen, Lexeme}
 use Rattle.msc_parser.specs.declared.tree.Way.TheVariants as ways
-use Rattle.msc_parser.specs.Grammar.{Tree, Empty, Listed, IsChart}
-use Rattle.msc_parser.specs.Places.{InInst, InInstance, Place, Start, ChartName, Header, Sections, Items, Events, DeclName, DeclKind, KindFirst, KindSecond, DeclEnd, Message, AfterMessage, Number, AfterNumber, Parameters, Parameter, AfterParameter, AfterParameters, Address, End, CommentText, CommentEnd, Done, next, walk}
+use Rattle.msc_parser.specs.Grammar.{Tree, Empty, Given, IsChart}
+use Rattle.msc_parser.specs.Places.{InInst, InInstance, Place, Start, ChartName, Header, Sections, Items, Events, DeclName, DeclKind, KindFirst, KindSecond, DeclEnd, Message, AfterMessage, Number, AfterNumber, Parameters, Parameter, AfterParameter, AfterParameters, Address, StatementEnd, CommentText, CommentEnd, Done, next, walk}
 use Rattle.msc_parser.proofs.Following.{at_place, HeaderRest, ItemsRest, Rest}
 use Rattle.msc_parser.proofs.Backwards.{plain_end, commented_end, no_decls, comma_decl, no_kind, no_second, no_number, no_parameters, word_back, event_back, item_back, coregion_event, coregion_back, last_back, section_back, no_inst, inst_back, chart_back}
 
@@ -60,7 +60,7 @@ back (AfterNumber ways.Output p) LeftParen at ls = λ r. r at
 back (AfterNumber ways.Input p) LeftParen at ls = λ r. r at
 back (AfterNumber ways.Output p) (Reserved words.To) at ls = λ r. no_parameters ways.Output (Rest p) _ (word_back ways.Output (Rest p) at ls r)
 back (AfterNumber ways.Input p) (Reserved words.From) at ls = λ r. no_parameters ways.Input (Rest p) _ (word_back ways.Input (Rest p) at ls r)
-back (Parameters w p) (Named n) at ls = λ r bt. record { parameters = n ∷ r.names; word = r.word; are = Listed (at_place (Named n) at ∷ ls) r.close (bt, refl) (ls, (at, refl), r.are) r.is_close; rest = r.rest }
+back (Parameters w p) (Named n) at ls = λ r bt. record { parameters = n ∷ r.names; word = r.word; are = Given (at_place (Named n) at ∷ ls) r.close (bt, refl) (ls, (at, refl), r.are) r.is_close; rest = r.rest }
 back (Parameters w p) RightParen at ls = λ r bt. record { parameters = []; word = ls; are = Empty (at_place RightParen at ∷ ls) refl (bt, refl) (at, refl); rest = r }
 back (Parameter w p) (Named n) at ls = λ r bt. record { names = n ∷ r.names; close = r.close; word = r.word; are = (ls, (at_place (Named n) at ∷ ls, (bt, refl), (at, refl)), r.are); is_close = r.is_close; rest = r.rest }
 back (AfterParameter w p) Comma at ls = λ r. r at
@@ -68,8 +68,8 @@ back (AfterParameter w p) RightParen at ls = λ r. record { names = []; close = 
 back (AfterParameters ways.Output p) (Reserved words.To) at ls = λ r. word_back ways.Output (Rest p) at ls r
 back (AfterParameters ways.Input p) (Reserved words.From) at ls = λ r. word_back ways.Input (Rest p) at ls r
 back (Address p) (Named n) at ls = λ r. record { name = n; close = ls; is = (at, refl); rest = r }
-back (End p) (Reserved words.Comment) at ls = λ r. r at
-back (End p) Semicolon at ls = λ r. plain_end (Rest p) at ls r
+back (StatementEnd p) (Reserved words.Comment) at ls = λ r. r at
+back (StatementEnd p) Semicolon at ls = λ r. plain_end (Rest p) at ls r
 back (CommentText p) (Quoted bytes) at ls = λ r bt. r bt at bytes
 back (CommentEnd p) Semicolon at ls = λ r at_1 bt bytes. commented_end (Rest p) at_1 bt at bytes ls r
 back p s at ls = tt

@@ -12,9 +12,9 @@ use Rattle.msc_lexer.specs.Lexemes.{Reserved, Quoted, Semicolon, lexemes, symbol
 use Rattle.msc_parser.specs.declared.fault.What.TheVariants as whats
 use Rattle.msc_parser.specs.declared.fault.ParseFault.{ParseFault}
 use Rattle.msc_parser.specs.Grammar.{Plain, Commented}
-use Rattle.msc_parser.specs.Places.{Place, End, CommentText, CommentEnd, next}
-use Rattle.msc_parser.specs.Reading.{first_kind, Stops, DidTake, Refuses, Takes, Ends}
-use Rattle.msc_parser.proofs.Steps.{others, took, leads_on, IsStuck, OnlyTakes, stops_here, refuses, Stops-back}
+use Rattle.msc_parser.specs.Places.{Place, StatementEnd, CommentText, CommentEnd, next}
+use Rattle.msc_parser.specs.Reading.{first_kind, Stops, DidTake, Refuses, TakesToken, Ends}
+use Rattle.msc_parser.proofs.Steps.{others, took, leads_on, IsStuck, OnlyTakes, stops_here, refuses_kind, Stops-back}
 
 -- the tokens behind the first stand in the text
 pub within_others : (text : List ℕ) (tokens : List Token) → AreWithin text tokens → AreWithin text (others tokens)
@@ -30,10 +30,10 @@ stuck_but_two text p a b (t ∷ ts) only no_a no_b = only t.kind _ (λ e. no_a (
     some_kind k = Some k
 
 -- at the end of a statement only `comment` and `;` may stand
-only-End : (p : Place) (k : Kind) (bytes : List ℕ) → k ≢ kinds.Word words.Comment → k ≢ kinds.Semicolon → next (End p) (symbol_of k bytes) ≡ None
-only-End p (kinds.Word words.Comment) bytes a b = absurd (a refl)
-only-End p kinds.Semicolon bytes a b = absurd (b refl)
-only-End p k bytes a b = refl
+only-StatementEnd : (p : Place) (k : Kind) (bytes : List ℕ) → k ≢ kinds.Word words.Comment → k ≢ kinds.Semicolon → next (StatementEnd p) (symbol_of k bytes) ≡ None
+only-StatementEnd p (kinds.Word words.Comment) bytes a b = absurd (a refl)
+only-StatementEnd p kinds.Semicolon bytes a b = absurd (b refl)
+only-StatementEnd p k bytes a b = refl
 
 -- behind `comment` only a text may stand
 only-CommentText : (p : Place) → OnlyTakes (CommentText p) kinds.Text
@@ -46,11 +46,11 @@ only-CommentEnd p kinds.Semicolon bytes a = absurd (a refl)
 only-CommentEnd p k bytes a = refl
 
 -- no comment stands there, and `;` was taken or refused
-pub ends_plain : (text : List ℕ) (tokens : List Token) (r : Result (Bor (List Token)) ParseFault) → first_kind tokens ≢ Some (kinds.Word words.Comment) → Takes text kinds.Semicolon whats.End tokens r → Ends text tokens r
+pub ends_plain : (text : List ℕ) (tokens : List Token) (r : Result (Bor (List Token)) ParseFault) → first_kind tokens ≢ Some (kinds.Word words.Comment) → TakesToken text kinds.Semicolon whats.End tokens r → Ends text tokens r
 ends_plain text tokens (Ok after) no_comment h =
     let d = h.1 in
-    record { part = Plain d.part; within = d.within; shorter = d.shorter; leads = λ p. leads_on text (End p) p Semicolon tokens after.now d refl }
-ends_plain text tokens (Err e) no_comment h = λ p. stops_here text (End p) whats.End tokens e (λ len ls. refl) (stuck_but_two text (End p) _ _ tokens (only-End p) no_comment h.1) refl h.0
+    record { part = Plain d.part; within = d.within; shorter = d.shorter; leads = λ p. leads_on text (StatementEnd p) p Semicolon tokens after.now d refl }
+ends_plain text tokens (Err e) no_comment h = λ p. stops_here text (StatementEnd p) whats.End tokens e (λ len ls. refl) (stuck_but_two text (StatementEnd p) _ _ tokens (only-StatementEnd p) no_comment h.1) refl h.0
 
 -- behind `comment` a text was refused
 pub ends_without_text : (text : List ℕ) (tokens : List Token) (r : Result (Bor (List Token)) ParseFault) (e : ParseFault) → AreWithin text tokens → first_kind tokens ≡ Some (kinds.Word words.Comment)
@@ -58,12 +58,12 @@ pub ends_without_text : (text : List ℕ) (tokens : List Token) (r : Result (Bor
 ends_without_text text tokens (Ok x) e within comment is h = absurd is
 ends_without_text text tokens (Err y) e within comment is h = λ p.
     let word = took text (kinds.Word words.Comment) tokens within comment in
-    let stop = refuses text (CommentText p) kinds.Text whats.Text (others tokens) e (λ len ls. refl) (only-CommentText p) refl h in
-    subst (λ (f : ParseFault). Stops text (End p) tokens f) (sym is) (Stops-back text (End p) (CommentText p) tokens (others tokens) e (leads_on text (End p) (CommentText p) (Reserved words.Comment) tokens (others tokens) word.1 refl) stop)
+    let stop = refuses_kind text (CommentText p) kinds.Text whats.Text (others tokens) e (λ len ls. refl) (only-CommentText p) refl h in
+    subst (λ (f : ParseFault). Stops text (StatementEnd p) tokens f) (sym is) (Stops-back text (StatementEnd p) (CommentText p) tokens (others tokens) e (leads_on text (StatementEnd p) (CommentText p) (Reserved words.Comment) tokens (others tokens) word.1 refl) stop)
 
 -- behind the text of a comment `;` was taken or refused
 pub ends_commented : (text : List ℕ) (tokens rest : List Token) (bytes : List ℕ) (r : Result (Bor (List Token)) ParseFault) → AreWithin text tokens → first_kind tokens ≡ Some (kinds.Word words.Comment)
-    → DidTake text (Quoted bytes) (others tokens) rest → Takes text kinds.Semicolon whats.End rest r → Ends text tokens r
+    → DidTake text (Quoted bytes) (others tokens) rest → TakesToken text kinds.Semicolon whats.End rest r → Ends text tokens r
 ends_commented text tokens rest bytes (Ok after) within comment quoted h =
     let word = (took text (kinds.Word words.Comment) tokens within comment).1 in
     let d = h.1 in
@@ -71,9 +71,9 @@ ends_commented text tokens rest bytes (Ok after) within comment quoted h =
       part = Commented bytes (lexemes text (others tokens)) (lexemes text rest) word.part quoted.part d.part;
       within = d.within;
       shorter = omega (arith, word.shorter, quoted.shorter, d.shorter);
-      leads = λ p. leads_on text (End p) (CommentText p) _ tokens (others tokens) word refl ∙ leads_on text (CommentText p) (CommentEnd p) _ (others tokens) rest quoted refl ∙ leads_on text (CommentEnd p) p _ rest after.now d refl;
+      leads = λ p. leads_on text (StatementEnd p) (CommentText p) _ tokens (others tokens) word refl ∙ leads_on text (CommentText p) (CommentEnd p) _ (others tokens) rest quoted refl ∙ leads_on text (CommentEnd p) p _ rest after.now d refl;
     }
 ends_commented text tokens rest bytes (Err e) within comment quoted h = λ p.
     let word = (took text (kinds.Word words.Comment) tokens within comment).1 in
-    let front = leads_on text (End p) (CommentText p) _ tokens (others tokens) word refl ∙ leads_on text (CommentText p) (CommentEnd p) _ (others tokens) rest quoted refl in
-    Stops-back text (End p) (CommentEnd p) tokens rest e front (refuses text (CommentEnd p) kinds.Semicolon whats.End rest e (λ len ls. refl) (only-CommentEnd p) refl h)
+    let front = leads_on text (StatementEnd p) (CommentText p) _ tokens (others tokens) word refl ∙ leads_on text (CommentText p) (CommentEnd p) _ (others tokens) rest quoted refl in
+    Stops-back text (StatementEnd p) (CommentEnd p) tokens rest e front (refuses_kind text (CommentEnd p) kinds.Semicolon whats.End rest e (λ len ls. refl) (only-CommentEnd p) refl h)

@@ -7,7 +7,7 @@ use Rattle.msc_lexer.specs.Lexemes.{Symbol, Reserved, Named, Quoted, Semicolon, 
 use Rattle.msc_parser.specs.declared.tree.Way.{Way}
 use Rattle.msc_parser.specs.declared.tree.Way.TheVariants as ways
 use Rattle.msc_parser.specs.Grammar.{address_word}
-use Rattle.msc_parser.specs.Places.{Statement, InInst, InInstance, Place, Start, ChartName, Header, Sections, Items, Events, DeclName, DeclKind, KindFirst, KindSecond, DeclEnd, Message, AfterMessage, Number, AfterNumber, Parameters, Parameter, AfterParameter, AfterParameters, Address, End, CommentText, CommentEnd, Done, next, walk}
+use Rattle.msc_parser.specs.Places.{Statement, InInst, InInstance, Place, Start, ChartName, Header, Sections, Items, Events, DeclName, DeclKind, KindFirst, KindSecond, DeclEnd, Message, AfterMessage, Number, AfterNumber, Parameters, Parameter, AfterParameter, AfterParameters, Address, StatementEnd, CommentText, CommentEnd, Done, next, walk}
 use Rattle.msc_parser.specs.Parsing.{IsContinuable, IsEndOfGood}
 use Rattle.msc_parser.proofs.Accepting.{chart_walks}
 use Rattle.msc_parser.proofs.Continuing.{walks_chart}
@@ -15,11 +15,11 @@ use Rattle.msc_parser.proofs.Continuing.{walks_chart}
 -- ---- where a walk ends
 
 -- a walk is over at the end of the tokens, or before one that may not stand there
-record WalksTo (p : Place) (ls : List Lexeme) (q : Place) (rest : List Lexeme) : Type 0 where
-  front : List Lexeme
-  whole : ls ≡ front ++ rest
-  leads : (more : List Lexeme) → walk p (front ++ more) ≡ walk q more
-  stops : (l : Lexeme) (more : List Lexeme) → rest ≡ l ∷ more → next q l.symbol ≡ None
+pub record WalksTo (p : Place) (ls : List Lexeme) (q : Place) (rest : List Lexeme) : Type 0 where
+  pub front : List Lexeme
+  pub whole : ls ≡ front ++ rest
+  pub leads : (more : List Lexeme) → walk p (front ++ more) ≡ walk q more
+  pub stops : (l : Lexeme) (more : List Lexeme) → rest ≡ l ∷ more → next q l.symbol ≡ None
 
 -- one step of a walk
 walk_step : (p : Place) (l : Lexeme) (ls : List Lexeme) (o : Option Place) → next p l.symbol ≡ o → ((q : Place) → WalksTo q ls (walk q ls).0 (walk q ls).1)
@@ -35,7 +35,7 @@ walk_step p l ls (Some q) step others =
     }
 
 -- where each walk ends
-walks_to : (ls : List Lexeme) (p : Place) → WalksTo p ls (walk p ls).0 (walk p ls).1
+pub walks_to : (ls : List Lexeme) (p : Place) → WalksTo p ls (walk p ls).0 (walk p ls).1
 walks_to [] p = record { front = []; whole = refl; leads = λ more. refl; stops = λ l more e. absurd cc }
 walks_to (l ∷ ls) p = walk_step p l ls (next p l.symbol) refl (λ q. walks_to ls q)
 
@@ -80,7 +80,7 @@ unfolding lexeme
 from_word w more = lexeme (Reserved (address_word w)) ∷ name ∷ from_end more
 
 -- a way to the end from each place
-completion : Place → List Lexeme
+pub completion : Place → List Lexeme
 unfolding lexeme
 completion Start = lexeme (Reserved words.Msc) ∷ name ∷ from_end from_sections
 completion ChartName = name ∷ from_end from_sections
@@ -102,13 +102,13 @@ completion (Parameter w p) = name ∷ lexeme RightParen ∷ from_word w (complet
 completion (AfterParameter w p) = lexeme RightParen ∷ from_word w (completion p)
 completion (AfterParameters w p) = from_word w (completion p)
 completion (Address p) = name ∷ from_end (completion p)
-completion (End p) = from_end (completion p)
+completion (StatementEnd p) = from_end (completion p)
 completion (CommentText p) = lexeme (Quoted []) ∷ from_end (completion p)
 completion (CommentEnd p) = from_end (completion p)
 completion Done = []
 
 -- it leads there
-completed : (p : Place) → walk p (completion p) ≡ (Done, [])
+pub completed : (p : Place) → walk p (completion p) ≡ (Done, [])
 unfolding completion lexeme name from_end from_sections from_items from_decl from_word
 completed Start = refl
 completed ChartName = refl
@@ -143,7 +143,7 @@ completed (AfterParameter ways.Input p) = completed p
 completed (AfterParameters ways.Output p) = completed p
 completed (AfterParameters ways.Input p) = completed p
 completed (Address p) = completed p
-completed (End p) = completed p
+completed (StatementEnd p) = completed p
 completed (CommentText p) = completed p
 completed (CommentEnd p) = completed p
 completed Done = refl

@@ -7,9 +7,9 @@ use Rattle.msc_parser.specs.declared.tree.Decl.{Decl}
 use Rattle.msc_parser.specs.declared.tree.Signal.{Signal}
 use Rattle.msc_parser.specs.declared.tree.Item.{Item}
 use Rattle.msc_parser.specs.declared.tree.Section.{Section}
-use Rattle.msc_parser.specs.Forms.{IsToken, IsNamed, AreMany, IsBehind}
+use Rattle.msc_parser.specs.Forms.{IsToken, IsNamed, AreMany, IsLedBy}
 use Rattle.msc_parser.specs.Grammar.{Tree, IsEnd, IsSecond, IsKind, IsDecl, way_word, address_word, IsNumber, AreParameters, IsEvent, IsItem, IsSection, AreDecls, IsChart}
-use Rattle.msc_parser.specs.Places.{Statement, InInst, InInstance, Place, Start, ChartName, Header, Sections, Items, Events, DeclName, DeclKind, KindFirst, KindSecond, DeclEnd, Message, AfterMessage, Number, AfterNumber, Parameters, Parameter, AfterParameter, AfterParameters, Address, End, CommentText, CommentEnd, Done}
+use Rattle.msc_parser.specs.Places.{Statement, InInst, InInstance, Place, Start, ChartName, Header, Sections, Items, Events, DeclName, DeclKind, KindFirst, KindSecond, DeclEnd, Message, AfterMessage, Number, AfterNumber, Parameters, Parameter, AfterParameter, AfterParameters, Address, StatementEnd, CommentText, CommentEnd, Done}
 
 -- a symbol that stands at a place of the text
 abbrev pub at_place : Symbol → ℕ → Lexeme
@@ -30,7 +30,7 @@ pub record SectionsRest (ls : List Lexeme) : Type 0 where
 pub record HeaderRest (ls : List Lexeme) : Type 0 where
   pub groups : List (List Decl)
   pub after : List Lexeme
-  pub are : AreMany (IsBehind (Reserved words.Inst) AreDecls) ls groups after
+  pub are : AreMany (IsLedBy (Reserved words.Inst) AreDecls) ls groups after
   pub rest : SectionsRest after
 
 -- items, `endinstance` and its end, and what follows a section
@@ -65,7 +65,7 @@ pub record EndRest (More : List Lexeme → Type 0) (ls : List Lexeme) : Type 0 w
 pub record DeclsRest (ls : List Lexeme) : Type 0 where
   pub decls : List Decl
   pub close : List Lexeme
-  pub are : AreMany (IsBehind Comma IsDecl) ls decls close
+  pub are : AreMany (IsLedBy Comma IsDecl) ls decls close
   pub rest : EndRest HeaderRest close
 
 -- what may follow a decl
@@ -119,7 +119,7 @@ pub record NamesRest (w : Way) (More : List Lexeme → Type 0) (ls : List Lexeme
   pub names : List (List ℕ)
   pub close : List Lexeme
   pub word : List Lexeme
-  pub are : AreMany (IsBehind Comma IsNamed) ls names close
+  pub are : AreMany (IsLedBy Comma IsNamed) ls names close
   pub is_close : IsToken RightParen close word
   pub rest : WordRest w More word
 
@@ -160,7 +160,7 @@ Rest (Parameter w p) ls = (at : ℕ) → NamesRest w (Rest p) (at_place Comma at
 Rest (AfterParameter w p) ls = NamesRest w (Rest p) ls
 Rest (AfterParameters w p) ls = WordRest w (Rest p) ls
 Rest (Address p) ls = AddressRest (Rest p) ls
-Rest (End p) ls = EndRest (Rest p) ls
+Rest (StatementEnd p) ls = EndRest (Rest p) ls
 Rest (CommentText p) ls = (at : ℕ) → EndRest (Rest p) (at_place (Reserved words.Comment) at ∷ ls)
 Rest (CommentEnd p) ls = (at bt : ℕ) (bytes : List ℕ) → EndRest (Rest p) (at_place (Reserved words.Comment) at ∷ at_place (Quoted bytes) bt ∷ ls)
 Rest Done ls = ls ≡ []

@@ -11,10 +11,11 @@ use Rattle.msc_lexer.specs.Lexemes.{Reserved, Named, Colon, lexemes, symbol_of, 
 use Rattle.msc_parser.specs.declared.tree.Decl.{Decl}
 use Rattle.msc_parser.specs.declared.fault.What.TheVariants as whats
 use Rattle.msc_parser.specs.declared.fault.ParseFault.{ParseFault}
-use Rattle.msc_parser.specs.Forms.{IsBehind, AreListed}
+use Rattle.msc_parser.specs.Forms.{IsLedBy, AreListed}
 use Rattle.msc_parser.specs.Grammar.{IsKind, IsDecl, AreDecls, IsHeader}
-use Rattle.msc_parser.specs.Places.{Statement, InInst, InInstance, Place, Header, Sections, DeclName, DeclKind, KindFirst, KindSecond, DeclEnd, End, next}
+use Rattle.msc_parser.specs.Places.{Statement, InInst, InInstance, Place, Header, Sections, DeclName, DeclKind, KindFirst, KindSecond, DeclEnd, StatementEnd, next}
 use Rattle.msc_parser.specs.Reading.{first_kind, fault_from, Stops, DidTake, TakesName, DidEnd, DidRead}
+use Rattle.msc_parser.proofs.Leading.{colon_leads, second_leads}
 use Rattle.msc_parser.proofs.Steps.{others, took, leads_on, fault_but, OnlyTakes, refuses_name, Stops-back}
 use Rattle.msc_parser.proofs.Parts.{AreMany-push, behind_read}
 
@@ -44,16 +45,6 @@ alike-KindSecond InInst k bytes a = refl
 alike-KindSecond InInstance kinds.Name bytes a = absurd (a refl)
 alike-KindSecond InInstance k bytes a = refl
 
--- `:` leads to the first name of a kind
-colon_leads : (st : Statement) → next (DeclKind st) Colon ≡ Some (KindFirst st)
-colon_leads InInst = refl
-colon_leads InInstance = refl
-
--- a second name of a kind leads to the end of the decl
-second_leads : (st : Statement) (n : List ℕ) → next (KindSecond st) (Named n) ≡ Some (DeclEnd st)
-second_leads InInst n = refl
-second_leads InInstance n = refl
-
 -- no colon stands behind the name
 pub kind_none : (text : List ℕ) (a : List Token) (ks : List (List ℕ)) → AreWithin text a → first_kind a ≢ Some kinds.Colon → ks ≡ [] → (st : Statement) → DidRead text IsKind (DeclKind st) (DeclEnd st) a a ks
 kind_none text a ks within no_colon none st = rw none (record {
@@ -75,27 +66,33 @@ kind_first_refused text a e within colon refused st =
     (refuses_name text (KindFirst st) whats.Name (others a) e (λ len ls. refl) (only-KindFirst st) refl refused)
 
 -- a kind of one name
-pub kind_one : (text : List ℕ) (a b : List Token) (n : List ℕ) (ks : List (List ℕ)) → AreWithin text a → first_kind a ≡ Some kinds.Colon → DidTake text (Named n) (others a) b → first_kind b ≢ Some kinds.Name → ks ≡ n ∷ [] → (st : Statement) → DidRead text IsKind (DeclKind st) (DeclEnd st) a b ks
-kind_one text a b n ks within colon name no_name one st =
+pub kind_one : (text : List ℕ) (a : List Token) {b : List Token} {n : List ℕ}
+    → AreWithin text a → first_kind a ≡ Some kinds.Colon → DidTake text (Named n) (others a) b
+    → first_kind b ≢ Some kinds.Name
+    → (st : Statement) → DidRead text IsKind (DeclKind st) (DeclEnd st) a b (n ∷ [])
+kind_one text a {b} {n} within colon name no_name st =
     let word = (took text kinds.Colon a within colon).1 in
-    rw one (record {
+    record {
       part = (lexemes text (others a), lexemes text b, word.part, name.part, refl);
       within = name.within;
       shorter = omega (arith, word.shorter, name.shorter);
       leads = first_leads text a b n st within colon name
           ∙ fault_but text (KindSecond st) (DeclEnd st) kinds.Name b (alike-KindSecond st) no_name refl (λ len ls. refl) (λ len ls. refl);
-    })
+    }
 
 -- a kind of two names
-pub kind_two : (text : List ℕ) (a b c : List Token) (n m : List ℕ) (ks : List (List ℕ)) → AreWithin text a → first_kind a ≡ Some kinds.Colon → DidTake text (Named n) (others a) b → DidTake text (Named m) b c → ks ≡ n ∷ m ∷ [] → (st : Statement) → DidRead text IsKind (DeclKind st) (DeclEnd st) a c ks
-kind_two text a b c n m ks within colon name second two st =
+pub kind_two : (text : List ℕ) (a : List Token) {b c : List Token} {n m : List ℕ}
+    → AreWithin text a → first_kind a ≡ Some kinds.Colon → DidTake text (Named n) (others a) b
+    → DidTake text (Named m) b c
+    → (st : Statement) → DidRead text IsKind (DeclKind st) (DeclEnd st) a c (n ∷ m ∷ [])
+kind_two text a {b} {c} {n} {m} within colon name second st =
     let word = (took text kinds.Colon a within colon).1 in
-    rw two (record {
+    record {
       part = (lexemes text (others a), lexemes text b, word.part, name.part, second.part);
       within = second.within;
       shorter = omega (arith, word.shorter, name.shorter, second.shorter);
       leads = first_leads text a b n st within colon name ∙ leads_on text (KindSecond st) (DeclEnd st) (Named m) b c second (second_leads st m);
-    })
+    }
 
 -- ---- decls
 
@@ -119,13 +116,13 @@ decl_kind_refused text a b n e st name stop = Stops-back text (DeclName st) (Dec
 -- ---- `inst` statements
 
 -- but for a comma, behind a decl of `inst` stands what ends the statement
-alike-DeclEnd : (k : Kind) (bytes : List ℕ) → k ≢ kinds.Comma → next (DeclEnd InInst) (symbol_of k bytes) ≡ next (End Header) (symbol_of k bytes)
+alike-DeclEnd : (k : Kind) (bytes : List ℕ) → k ≢ kinds.Comma → next (DeclEnd InInst) (symbol_of k bytes) ≡ next (StatementEnd Header) (symbol_of k bytes)
 alike-DeclEnd kinds.Comma bytes a = absurd (a refl)
 alike-DeclEnd k bytes a = refl
 
 -- behind the decls no comma stands, so the statement ends
-decls_lead : (text : List ℕ) (a b : List Token) (ds : List Decl) → DidRead text (AreListed IsDecl) (DeclName InInst) (DeclEnd InInst) a b ds → first_kind b ≢ Some kinds.Comma → fault_from text (DeclName InInst) a ≡ fault_from text (End Header) b
-decls_lead text a b ds h no_comma = h.leads ∙ fault_but text (DeclEnd InInst) (End Header) kinds.Comma b alike-DeclEnd no_comma refl (λ len ls. refl) (λ len ls. refl)
+decls_lead : (text : List ℕ) (a b : List Token) (ds : List Decl) → DidRead text (AreListed IsDecl) (DeclName InInst) (DeclEnd InInst) a b ds → first_kind b ≢ Some kinds.Comma → fault_from text (DeclName InInst) a ≡ fault_from text (StatementEnd Header) b
+decls_lead text a b ds h no_comma = h.leads ∙ fault_but text (DeclEnd InInst) (StatementEnd Header) kinds.Comma b alike-DeclEnd no_comma refl (λ len ls. refl) (λ len ls. refl)
 
 -- an `inst` statement is its decls and its end
 pub inst_read : (text : List ℕ) (a b c : List Token) (ds : List Decl) → DidRead text (AreListed IsDecl) (DeclName InInst) (DeclEnd InInst) a b ds → first_kind b ≢ Some kinds.Comma → DidEnd text b c → DidRead text AreDecls (DeclName InInst) Header a c ds
@@ -137,18 +134,22 @@ inst_read text a b c ds h no_comma end = record {
 }
 
 -- a fault of the end is a fault of the `inst` statement
-pub inst_end_refused : (text : List ℕ) (a b : List Token) (ds : List Decl) (e : ParseFault) → DidRead text (AreListed IsDecl) (DeclName InInst) (DeclEnd InInst) a b ds → first_kind b ≢ Some kinds.Comma → ((p : Place) → Stops text (End p) b e) → Stops text (DeclName InInst) a e
-inst_end_refused text a b ds e h no_comma stop = Stops-back text (DeclName InInst) (End Header) a b e (decls_lead text a b ds h no_comma) (stop Header)
+pub inst_end_refused : (text : List ℕ) (a b : List Token) (ds : List Decl) (e : ParseFault) → DidRead text (AreListed IsDecl) (DeclName InInst) (DeclEnd InInst) a b ds → first_kind b ≢ Some kinds.Comma → ((p : Place) → Stops text (StatementEnd p) b e) → Stops text (DeclName InInst) a e
+inst_end_refused text a b ds e h no_comma stop = Stops-back text (DeclName InInst) (StatementEnd Header) a b e (decls_lead text a b ds h no_comma) (stop Header)
 
 -- ---- the header
 
 -- one more `inst` statement
-pub header_more : (text : List ℕ) (a b c : List Token) (hs ds more : List Decl) → DidRead text IsHeader Header Header a b hs → first_kind b ≡ Some (kinds.Word words.Inst) → DidRead text AreDecls (DeclName InInst) Header (others b) c ds → more ≡ hs ++ ds → DidRead text IsHeader Header Header a c more
-header_more text a b c hs ds more h inst one pushed =
-    let group = behind_read text AreDecls Header (DeclName InInst) Header (Reserved words.Inst) b (others b) c ds (took text (kinds.Word words.Inst) b h.within inst).1 refl one in
+pub header_more : (text : List ℕ) {a b c : List Token} {hs ds : List Decl}
+    → DidRead text IsHeader Header Header a b hs → first_kind b ≡ Some (kinds.Word words.Inst)
+    → DidRead text AreDecls (DeclName InInst) Header (others b) c ds
+    → DidRead text IsHeader Header Header a c (hs ++ ds)
+header_more text {a} {b} {c} {hs} {ds} h inst one =
+    let word = (took text (kinds.Word words.Inst) b h.within inst).1 in
+    let group = behind_read text AreDecls Header (DeclName InInst) Header word refl one in
     let all : hs ++ ds ≡ flat_map (λ g. g) (h.part.0 ++ ds ∷ []) = rw h.part.1 (ap (λ (x : List Decl). flat_map (λ g. g) h.part.0 ++ x) (sym (append-nil ds)) ∙ sym (flat_map-append (λ (g : List Decl). g) h.part.0 (ds ∷ []))) in
     record {
-      part = (h.part.0 ++ ds ∷ [], pushed ∙ all, AreMany-push (IsBehind (Reserved words.Inst) AreDecls) (lexemes text a) h.part.0 (lexemes text b) ds (lexemes text c) h.part.2 group.part);
+      part = (h.part.0 ++ ds ∷ [], all, AreMany-push (IsLedBy (Reserved words.Inst) AreDecls) (lexemes text a) h.part.0 (lexemes text b) ds (lexemes text c) h.part.2 group.part);
       within = group.within;
       shorter = omega (arith, h.shorter, group.shorter);
       leads = h.leads ∙ group.leads;

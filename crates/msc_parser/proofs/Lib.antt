@@ -2,11 +2,13 @@ pub mod Tokens
 pub mod Decided
 pub mod OnePart
 pub mod OneChart
+pub mod Leading
 pub mod Accepting
 pub mod Following
 pub mod Backwards
 pub mod Continuing
 pub mod FirstFault
+pub mod Fitting
 pub mod Steps
 pub mod Endings
 pub mod Parts

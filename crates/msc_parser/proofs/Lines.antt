@@ -17,10 +17,10 @@ use Rattle.msc_parser.specs.declared.fault.What.TheVariants as whats
 use Rattle.msc_parser.specs.declared.fault.ParseFault.{ParseFault}
 use Rattle.msc_parser.specs.Forms.{AreMany}
 use Rattle.msc_parser.specs.Grammar.{IsDecl, way_word, IsEvent, IsCoregion, IsItem, IsInstance, IsSection}
-use Rattle.msc_parser.specs.Places.{InInstance, Place, Items, Events, Sections, DeclName, DeclEnd, Message, End, next}
+use Rattle.msc_parser.specs.Places.{InInstance, Place, Items, Events, Sections, DeclName, DeclEnd, Message, StatementEnd, next}
 use Rattle.msc_parser.specs.Parsing.{fault_at}
 use Rattle.msc_parser.specs.Reading.{first_kind, fault_from, Stops, DidTake, Refuses, DidEnd, DidRead, Reads, Uses, IsSignalOf, AreUpTo}
-use Rattle.msc_parser.proofs.Accepting.{item_leads, event_leads}
+use Rattle.msc_parser.proofs.Leading.{item_leads, event_leads}
 use Rattle.msc_parser.proofs.Steps.{others, took, leads_on, same_fault, IsStuck, stops_here, Stops-back}
 use Rattle.msc_parser.proofs.Endings.{stuck_but_two}
 use Rattle.msc_parser.proofs.Parts.{behind_read, many_more}
@@ -80,7 +80,7 @@ event_answer text w a (Err e) within first h = (event_stops text w Events a e wi
 -- ---- coregions
 
 -- a coregion is its end, its events, `endconcurrent` and its end
-pub coregion_read : (text : List ℕ) (a b c d : List Token) (es : List Signal) → DidEnd text a b → DidRead text (AreUpTo (Reserved words.EndConcurrent) IsEvent) Events (End Items) b c es → DidEnd text c d → DidRead text IsCoregion (End Events) Items a d es
+pub coregion_read : (text : List ℕ) (a b c d : List Token) (es : List Signal) → DidEnd text a b → DidRead text (AreUpTo (Reserved words.EndConcurrent) IsEvent) Events (StatementEnd Items) b c es → DidEnd text c d → DidRead text IsCoregion (StatementEnd Events) Items a d es
 coregion_read text a b c d es end events last = record {
   part = record {
     events = lexemes text b;
@@ -128,14 +128,14 @@ concurrent : (text : List ℕ) (a : List Token) → AreWithin text a → first_k
 concurrent text a within first = (took text (kinds.Word words.Concurrent) a within first).1
 
 -- a coregion is an item
-pub coregion_item : (text : List ℕ) (a b : List Token) (es : List Signal) → AreWithin text a → first_kind a ≡ Some (kinds.Word words.Concurrent) → DidRead text IsCoregion (End Events) Items (others a) b es → DidRead text IsItem Items Items a b (Coregion es)
+pub coregion_item : (text : List ℕ) (a b : List Token) (es : List Signal) → AreWithin text a → first_kind a ≡ Some (kinds.Word words.Concurrent) → DidRead text IsCoregion (StatementEnd Events) Items (others a) b es → DidRead text IsItem Items Items a b (Coregion es)
 coregion_item text a b es within first h =
-    let r = behind_read text IsCoregion Items (End Events) Items (Reserved words.Concurrent) a (others a) b es (concurrent text a within first) refl h in
+    let r = behind_read text IsCoregion Items (StatementEnd Events) Items (concurrent text a within first) refl h in
     record { part = r.part; within = r.within; shorter = r.shorter; leads = r.leads }
 
 -- a fault of a coregion behind its first word is a fault of the item
-pub coregion_stops : (text : List ℕ) (a : List Token) (e : ParseFault) → AreWithin text a → first_kind a ≡ Some (kinds.Word words.Concurrent) → Stops text (End Events) (others a) e → Stops text Items a e
-coregion_stops text a e within first stop = Stops-back text Items (End Events) a (others a) e (leads_on text Items (End Events) (Reserved words.Concurrent) a (others a) (concurrent text a within first) refl) stop
+pub coregion_stops : (text : List ℕ) (a : List Token) (e : ParseFault) → AreWithin text a → first_kind a ≡ Some (kinds.Word words.Concurrent) → Stops text (StatementEnd Events) (others a) e → Stops text Items a e
+coregion_stops text a e within first stop = Stops-back text Items (StatementEnd Events) a (others a) e (leads_on text Items (StatementEnd Events) (Reserved words.Concurrent) a (others a) (concurrent text a within first) refl) stop
 
 -- what follows a first token that was taken is shorter than the whole
 pub shorter_behind : (text : List ℕ) (kind : Kind) (a b : List Token) → AreWithin text a → first_kind a ≡ Some kind → length b ≤ length (others a) → length b < length a
@@ -144,18 +144,21 @@ shorter_behind text kind a b within first h = let s = (took text kind a within f
 -- ---- sections
 
 -- behind a decl of `instance` stands what ends the statement
-ends_alike : (k : Kind) (bytes : List ℕ) → next (DeclEnd InInstance) (symbol_of k bytes) ≡ next (End Items) (symbol_of k bytes)
+ends_alike : (k : Kind) (bytes : List ℕ) → next (DeclEnd InInstance) (symbol_of k bytes) ≡ next (StatementEnd Items) (symbol_of k bytes)
 ends_alike k bytes = refl
 
 -- behind the decl of a section the statement ends
-pub section_decl_leads : (text : List ℕ) (a b : List Token) (d : Decl) → DidRead text IsDecl (DeclName InInstance) (DeclEnd InInstance) a b d → fault_from text (DeclName InInstance) a ≡ fault_from text (End Items) b
-section_decl_leads text a [] d h = h.leads ∙ same_fault text (DeclEnd InInstance) (End Items) [] tt refl (λ len ls. refl) (λ len ls. refl)
-section_decl_leads text a (t ∷ ts) d h = h.leads ∙ same_fault text (DeclEnd InInstance) (End Items) (t ∷ ts) (ends_alike t.kind _) refl (λ len ls. refl) (λ len ls. refl)
+pub section_decl_leads : (text : List ℕ) (a b : List Token) (d : Decl) → DidRead text IsDecl (DeclName InInstance) (DeclEnd InInstance) a b d → fault_from text (DeclName InInstance) a ≡ fault_from text (StatementEnd Items) b
+section_decl_leads text a [] d h = h.leads ∙ same_fault text (DeclEnd InInstance) (StatementEnd Items) [] tt refl (λ len ls. refl) (λ len ls. refl)
+section_decl_leads text a (t ∷ ts) d h = h.leads ∙ same_fault text (DeclEnd InInstance) (StatementEnd Items) (t ∷ ts) (ends_alike t.kind _) refl (λ len ls. refl) (λ len ls. refl)
 
 -- a section is its decl, its end, its items, `endinstance` and its end
-pub section_read : (text : List ℕ) (a b c d e : List Token) (x : Decl) (xs : List Item) → DidRead text IsDecl (DeclName InInstance) (DeclEnd InInstance) a b x → DidEnd text b c → DidRead text (AreUpTo (Reserved words.EndInstance) IsItem) Items (End Sections) c d xs → DidEnd text d e
+pub section_read : (text : List ℕ) {a b c d e : List Token} {x : Decl} {xs : List Item}
+    → DidRead text IsDecl (DeclName InInstance) (DeclEnd InInstance) a b x → DidEnd text b c
+    → DidRead text (AreUpTo (Reserved words.EndInstance) IsItem) Items (StatementEnd Sections) c d xs
+    → DidEnd text d e
     → DidRead text IsInstance (DeclName InInstance) Sections a e record { decl = x; items = xs }
-section_read text a b c d e x xs decl end items last = record {
+section_read text {a} {b} {c} {d} {e} {x} {xs} decl end items last = record {
   part = record {
     close = lexemes text b;
     items = lexemes text c;
@@ -173,11 +176,15 @@ section_read text a b c d e x xs decl end items last = record {
 }
 
 -- one more section
-pub sections_more : (text : List ℕ) (a b c : List Token) (ss more : List Section) (s : Section) → DidRead text (AreMany IsSection) Sections Sections a b ss → first_kind b ≡ Some (kinds.Word words.Instance) → DidRead text IsInstance (DeclName InInstance) Sections (others b) c s → more ≡ ss ++ s ∷ []
-    → DidRead text (AreMany IsSection) Sections Sections a c more
-sections_more text a b c ss more s h first one pushed =
-    let r = behind_read text IsInstance Sections (DeclName InInstance) Sections (Reserved words.Instance) b (others b) c s (took text (kinds.Word words.Instance) b h.within first).1 refl one in
-    many_more text IsSection Sections a b c ss more s h (record { part = r.part; within = r.within; shorter = r.shorter; leads = r.leads }) pushed
+pub sections_more : (text : List ℕ) {a b c : List Token} {ss : List Section} {s : Section}
+    → DidRead text (AreMany IsSection) Sections Sections a b ss
+    → first_kind b ≡ Some (kinds.Word words.Instance)
+    → DidRead text IsInstance (DeclName InInstance) Sections (others b) c s
+    → DidRead text (AreMany IsSection) Sections Sections a c (ss ++ s ∷ [])
+sections_more text {a} {b} {c} {ss} {s} h first one =
+    let word = (took text (kinds.Word words.Instance) b h.within first).1 in
+    let r = behind_read text IsInstance Sections (DeclName InInstance) Sections word refl one in
+    many_more text IsSection Sections h (record { part = r.part; within = r.within; shorter = r.shorter; leads = r.leads })
 
 -- a fault of a section is a fault of the sections
 pub sections_stop : (text : List ℕ) (a b : List Token) (ss : List Section) (e : ParseFault) → DidRead text (AreMany IsSection) Sections Sections a b ss → first_kind b ≡ Some (kinds.Word words.Instance) → Stops text (DeclName InInstance) (others b) e → Stops text Sections a e

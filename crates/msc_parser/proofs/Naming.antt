@@ -3,11 +3,12 @@
 use Rattle.std.proofs.Common.{ℕ, ◌≤◌, List, [], ◌∷◌, ◌++◌, length, Option, Some, None, sym, subst, arith}
 use Rattle.std.specs.Prelude.{IfSome}
 use Rattle.std.specs.List.{flat_map, AllByRecursion}
+use Rattle.msc_lexer.specs.declared.TheConstants.{TEXT_LIMIT}
 use Rattle.msc_lexer.specs.declared.word.Word.TheVariants as words
 use Rattle.msc_lexer.specs.Lexemes.{Symbol, Reserved, Named, Semicolon, Comma, Colon, LeftParen, RightParen, Lexeme, IsName, HasName, HaveNames}
 use Rattle.msc_parser.specs.declared.tree.Item.TheVariants.{Single, Coregion}
-use Rattle.msc_parser.specs.Forms.{IsToken, IsNamed, AreMany, IsBehind, AreListed}
-use Rattle.msc_parser.specs.Grammar.{Tree, IsEnd, Plain, Commented, IsSecond, IsKind, IsDecl, IsNumber, AreParameters, Absent, Empty, Listed, IsEvent, IsCoregion, IsItem, IsSection, AreDecls, IsChart}
+use Rattle.msc_parser.specs.Forms.{IsToken, IsNamed, AreMany, IsLedBy, AreListed}
+use Rattle.msc_parser.specs.Grammar.{Tree, IsEnd, Plain, Commented, IsSecond, IsKind, IsDecl, IsNumber, AreParameters, Absent, Empty, Given, IsEvent, IsCoregion, IsItem, IsSection, AreDecls, IsChart}
 use Rattle.msc_parser.specs.Drafts.{IsDeclNamed, IsSignalNamed, IsItemNamed, IsSectionNamed, IsDraft}
 use Rattle.msc_parser.proofs.Counting.{chart_takes}
 
@@ -28,7 +29,7 @@ many_names IsPart P one b a (x ∷ xs) h names =
     ((first.0, others.0), others.1)
 
 -- a part behind a token has names
-behind_names : {X : Type 0} (s : Symbol) (IsPart : List Lexeme → X → List Lexeme → Type 0) (P : X → Type 0) → Names IsPart P → Names (IsBehind s IsPart) P
+behind_names : {X : Type 0} (s : Symbol) (IsPart : List Lexeme → X → List Lexeme → Type 0) (P : X → Type 0) → Names IsPart P → Names (IsLedBy s IsPart) P
 behind_names s IsPart P one b a x h names = one h.0 a x h.2 (token_names s b h.0 h.1 names).1
 
 -- parts with commas between them have names
@@ -36,7 +37,7 @@ listed_names : {X : Type 0} (IsPart : List Lexeme → X → List Lexeme → Type
 listed_names IsPart P one b a [] h names = absurd h
 listed_names IsPart P one b a (x ∷ xs) h names =
     let first = one b h.0 x h.1 names in
-    let others = many_names (IsBehind Comma IsPart) P (behind_names Comma IsPart P one) h.0 a xs h.2 first.1 in
+    let others = many_names (IsLedBy Comma IsPart) P (behind_names Comma IsPart P one) h.0 a xs h.2 first.1 in
     ((first.0, others.0), others.1)
 
 -- behind the end of a statement tokens have names
@@ -89,7 +90,7 @@ name_names b a n h names = token_names (Named n) b a h names
 parameters_names : (ps : List (List ℕ)) (b a : List Lexeme) → AreParameters b ps a → HaveNames b → AllByRecursion IsName ps × HaveNames a
 parameters_names ps b a (Absent none h) names = (subst (AllByRecursion IsName) (sym none) tt, subst HaveNames h names)
 parameters_names ps b a (Empty close none h k) names = (subst (AllByRecursion IsName) (sym none) tt, (token_names RightParen close a k (token_names LeftParen b close h names).1).1)
-parameters_names ps b a (Listed inner close h k l) names =
+parameters_names ps b a (Given inner close h k l) names =
     let t = listed_names IsNamed IsName name_names inner close ps k (token_names LeftParen b inner h names).1 in
     (t.0, (token_names RightParen close a l t.1).1)
 
@@ -139,11 +140,11 @@ flat_all P [] h = tt
 flat_all P (g ∷ groups) h = append_all P g (flat_map (λ g. g) groups) h.0 (flat_all P groups h.1)
 
 -- a chart of few tokens with names is a draft
-pub chart_draft : (ls : List Lexeme) (t : Tree) → IsChart ls t → HaveNames ls → length ls ≤ 1048576 → IsDraft t
+pub chart_draft : (ls : List Lexeme) (t : Tree) → IsChart ls t → HaveNames ls → length ls ≤ TEXT_LIMIT → IsDraft t
 chart_draft ls t h names few =
     let t0 = token_names _ ls h.name h.is_msc names in
     let t1 = token_names (Named t.name) h.name h.close h.is_name t0.1 in
-    let t2 = many_names (IsBehind (Reserved words.Inst) AreDecls) (AllByRecursion IsDeclNamed) (behind_names (Reserved words.Inst) AreDecls (AllByRecursion IsDeclNamed) decls_names) h.header h.sections h.is_header.0 h.is_header.2 (end_names h.close h.header h.is_end t1.1) in
+    let t2 = many_names (IsLedBy (Reserved words.Inst) AreDecls) (AllByRecursion IsDeclNamed) (behind_names (Reserved words.Inst) AreDecls (AllByRecursion IsDeclNamed) decls_names) h.header h.sections h.is_header.0 h.is_header.2 (end_names h.close h.header h.is_end t1.1) in
     let t3 = many_names IsSection IsSectionNamed section_names h.sections h.last t.sections h.are_sections t2.1 in
     let takes = chart_takes ls t h in
     record {

@@ -5,9 +5,9 @@ use Rattle.msc_parser.specs.declared.tree.Way.{Way}
 use Rattle.msc_parser.specs.declared.tree.Way.TheVariants as ways
 use Rattle.msc_parser.specs.declared.tree.Decl.{Decl}
 use Rattle.msc_parser.specs.declared.tree.Signal.{Signal}
-use Rattle.msc_parser.specs.Forms.{IsToken, IsNamed, IsBehind, AreListed}
-use Rattle.msc_parser.specs.Grammar.{IsEnd, IsSecond, IsKind, IsDecl, way_word, address_word, IsNumber, AreParameters, Absent, Empty, Listed, IsIdent, IsSignal, IsEvent, AreDecls}
-use Rattle.msc_parser.proofs.Tokens.{token_same, clash, name_same, token_at, end_apart, end_same}
+use Rattle.msc_parser.specs.Forms.{IsToken, IsNamed, IsLedBy, AreListed}
+use Rattle.msc_parser.specs.Grammar.{IsEnd, IsSecond, IsKind, IsDecl, way_word, address_word, IsNumber, AreParameters, Absent, Empty, Given, IsIdent, IsSignal, IsEvent, AreDecls}
+use Rattle.msc_parser.proofs.Tokens.{token_same, symbols_clash, name_same, token_at, end_apart, end_same}
 use Rattle.msc_parser.proofs.Decided.{Decided, IsSequence, behind_same, listed_same}
 
 -- nothing is asked of what follows
@@ -65,11 +65,11 @@ abbrev EndsDecls : List Lexeme → Type 0
 EndsDecls b = (a : List Lexeme) × IsEnd b a
 
 -- decls follow one another up to the end of the statement
-decl_sequence : IsSequence (IsBehind Comma IsDecl) StopsKind EndsDecls
+decl_sequence : IsSequence (IsLedBy Comma IsDecl) StopsKind EndsDecls
 decl_sequence = record {
   one = behind_same Comma IsDecl StopsKind decl_same;
   goes_on = λ b a x h ends. end_apart Comma b ends.0 h.0 ends.1 h.1 (λ e. cc) (λ e. cc);
-  begins = λ b a x h. (λ c g. clash Comma Colon b h.0 c h.1 g (λ e. cc), λ n c g. clash Comma (Named n) b h.0 c h.1 g (λ e. cc));
+  begins = λ b a x h. (λ c g. symbols_clash Comma Colon b h.0 c h.1 g (λ e. cc), λ n c g. symbols_clash Comma (Named n) b h.0 c h.1 g (λ e. cc));
   ends = λ b ends. end_stops b ends.0 ends.1;
 }
 
@@ -90,10 +90,10 @@ abbrev EndsNames : List Lexeme → Type 0
 EndsNames b = (a : List Lexeme) × IsToken RightParen b a
 
 -- parameters follow one another up to `)`
-name_sequence : IsSequence (IsBehind Comma IsNamed) Closed EndsNames
+name_sequence : IsSequence (IsLedBy Comma IsNamed) Closed EndsNames
 name_sequence = record {
   one = behind_same Comma IsNamed Closed named_same;
-  goes_on = λ b a x h ends. clash Comma RightParen b h.0 ends.0 h.1 ends.1 (λ e. cc);
+  goes_on = λ b a x h ends. symbols_clash Comma RightParen b h.0 ends.0 h.1 ends.1 (λ e. cc);
   begins = λ b a x h. tt;
   ends = λ b ends. tt;
 }
@@ -101,7 +101,7 @@ name_sequence = record {
 -- a list of names doesn't begin with `)`
 names_begin : (b a c : List Lexeme) (ps : List (List ℕ)) → AreListed IsNamed b ps a → IsToken RightParen b c → ⊥
 names_begin b a c [] h g = h
-names_begin b a c (p ∷ ps) h g = clash (Named p) RightParen b h.0 c h.1 g (λ e. cc)
+names_begin b a c (p ∷ ps) h g = symbols_clash (Named p) RightParen b h.0 c h.1 g (λ e. cc)
 
 -- no comma stands here
 abbrev StopsNumber : List Lexeme → Type 0
@@ -119,17 +119,17 @@ number_same b a c (Some x) (Some y) h g stop_a stop_c =
 parameters_same : Decided StopsIdent AreParameters
 parameters_same b a c ps qs (Absent p h) (Absent q g) stop_a stop_c = (p ∙ sym q, sym h ∙ g)
 parameters_same b a c ps qs (Absent p h) (Empty close q g k) stop_a stop_c = absurd (stop_a.1 close (token_at LeftParen b a close h g))
-parameters_same b a c ps qs (Absent p h) (Listed names close g k l) stop_a stop_c = absurd (stop_a.1 names (token_at LeftParen b a names h g))
+parameters_same b a c ps qs (Absent p h) (Given names close g k l) stop_a stop_c = absurd (stop_a.1 names (token_at LeftParen b a names h g))
 parameters_same b a c ps qs (Empty close p h k) (Absent q g) stop_a stop_c = absurd (stop_c.1 close (token_at LeftParen b c close g h))
-parameters_same b a c ps qs (Listed names close h k l) (Absent q g) stop_a stop_c = absurd (stop_c.1 names (token_at LeftParen b c names g h))
+parameters_same b a c ps qs (Given names close h k l) (Absent q g) stop_a stop_c = absurd (stop_c.1 names (token_at LeftParen b c names g h))
 parameters_same b a c ps qs (Empty close p h k) (Empty close_2 q g l) stop_a stop_c =
     let e = (token_same LeftParen LeftParen b close close_2 h g).1 in
     (p ∙ sym q, (token_same RightParen RightParen close_2 a c (token_at RightParen close close_2 a e k) l).1)
-parameters_same b a c ps qs (Empty close p h k) (Listed names close_2 g l m) stop_a stop_c =
+parameters_same b a c ps qs (Empty close p h k) (Given names close_2 g l m) stop_a stop_c =
     let e = (token_same LeftParen LeftParen b close names h g).1 in absurd (names_begin names close_2 a qs l (token_at RightParen close names a e k))
-parameters_same b a c ps qs (Listed names close_2 g l m) (Empty close p h k) stop_a stop_c =
+parameters_same b a c ps qs (Given names close_2 g l m) (Empty close p h k) stop_a stop_c =
     let e = (token_same LeftParen LeftParen b close names h g).1 in absurd (names_begin names close_2 c ps l (token_at RightParen close names c e k))
-parameters_same b a c ps qs (Listed names close h k l) (Listed names_2 close_2 g m n) stop_a stop_c =
+parameters_same b a c ps qs (Given names close h k l) (Given names_2 close_2 g m n) stop_a stop_c =
     let e0 = (token_same LeftParen LeftParen b names names_2 h g).1 in
     let e1 = listed_same IsNamed Closed EndsNames named_same name_sequence names_2 close close_2 ps qs (subst (λ (x : List Lexeme). AreListed IsNamed x ps close) e0 k) m (a, l) (c, n) in
     (e1.0, (token_same RightParen RightParen close_2 a c (token_at RightParen close close_2 a e1.1 l) n).1)
@@ -137,8 +137,8 @@ parameters_same b a c ps qs (Listed names close h k l) (Listed names_2 close_2 g
 -- what stops an ident stops a message instance name, whatever the parameters
 parameters_stop : (b a : List Lexeme) (ps : List (List ℕ)) → AreParameters b ps a → StopsIdent a → StopsNumber b
 parameters_stop b a ps (Absent p h) stop c g = stop.0 c (token_at Comma b a c h g)
-parameters_stop b a ps (Empty close p h k) stop c g = clash LeftParen Comma b close c h g (λ e. cc)
-parameters_stop b a ps (Listed names close h k l) stop c g = clash LeftParen Comma b names c h g (λ e. cc)
+parameters_stop b a ps (Empty close p h k) stop c g = symbols_clash LeftParen Comma b close c h g (λ e. cc)
+parameters_stop b a ps (Given names close h k l) stop c g = symbols_clash LeftParen Comma b names c h g (λ e. cc)
 
 -- an ident is determined, as the parts of an event that it fills
 pub ident_same : (b a c : List Lexeme) (x y : Signal) → IsIdent b x a → IsIdent b y c → StopsIdent a → StopsIdent c → (x.name ≡ y.name) × (x.number ≡ y.number) × (x.parameters ≡ y.parameters) × (a ≡ c)
@@ -151,7 +151,7 @@ ident_same b a c x y h g stop_a stop_c =
 
 -- the word before an address stops an ident
 word_stops : (w : Way) (b a : List Lexeme) → IsToken (Reserved (address_word w)) b a → StopsIdent b
-word_stops w b a h = (λ c g. clash (Reserved (address_word w)) Comma b a c h g (λ e. cc), λ c g. clash (Reserved (address_word w)) LeftParen b a c h g (λ e. cc))
+word_stops w b a h = (λ c g. symbols_clash (Reserved (address_word w)) Comma b a c h g (λ e. cc), λ c g. symbols_clash (Reserved (address_word w)) LeftParen b a c h g (λ e. cc))
 
 -- a way is known by its word
 way_word_same : (v w : Way) → Reserved (way_word v) ≡ Reserved (way_word w) → v ≡ w

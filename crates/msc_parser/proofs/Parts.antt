@@ -4,7 +4,7 @@ use Rattle.msc_lexer.specs.declared.token.Kind.TheVariants as kinds
 use Rattle.msc_lexer.specs.declared.token.Token.{Token}
 use Rattle.msc_lexer.specs.Lexemes.{Symbol, Named, Comma, Lexeme, lexemes}
 use Rattle.msc_parser.specs.declared.fault.ParseFault.{ParseFault}
-use Rattle.msc_parser.specs.Forms.{IsNamed, AreMany, IsBehind, AreListed}
+use Rattle.msc_parser.specs.Forms.{IsNamed, AreMany, IsLedBy, AreListed}
 use Rattle.msc_parser.specs.Places.{Place, next}
 use Rattle.msc_parser.specs.Reading.{first_kind, Stops, DidTake, DidRead, AreUpTo}
 use Rattle.msc_parser.proofs.Steps.{others, took, leads_on, Stops-back}
@@ -13,68 +13,89 @@ use Rattle.msc_parser.proofs.Steps.{others, took, leads_on, Stops-back}
 pub named_read : (text : List ℕ) (p q : Place) (a b : List Token) (n : List ℕ) → DidTake text (Named n) a b → next p (Named n) ≡ Some q → DidRead text IsNamed p q a b n
 named_read text p q a b n h step = record { part = h.part; within = h.within; shorter = omega (arith, h.shorter); leads = leads_on text p q (Named n) a b h step }
 
--- a token and then a part
-pub behind_read : {X : Type 0} (text : List ℕ) (IsPart : List Lexeme → X → List Lexeme → Type 0) (p r q : Place) (s : Symbol) (a b c : List Token) (x : X) → DidTake text s a b → next p s ≡ Some r → DidRead text IsPart r q b c x → DidRead text (IsBehind s IsPart) p q a c x
-behind_read text IsPart p r q s a b c x h step rest = record {
-  part = (lexemes text b, h.part, rest.part);
-  within = rest.within;
-  shorter = omega (arith, h.shorter, rest.shorter);
-  leads = leads_on text p r s a b h step ∙ rest.leads;
-}
-
 -- ---- many parts
 
 -- one more part behind many
-pub AreMany-push : {X : Type 0} (IsPart : List Lexeme → X → List Lexeme → Type 0) (before : List Lexeme) (xs : List X) (mid : List Lexeme) (x : X) (after : List Lexeme) → AreMany IsPart before xs mid → IsPart mid x after → AreMany IsPart before (xs ++ x ∷ []) after
-AreMany-push IsPart before [] mid x after h one = (after, subst (λ (b : List Lexeme). IsPart b x after) (sym h) one, refl)
-AreMany-push IsPart before (y ∷ ys) mid x after h one = (h.0, h.1, AreMany-push IsPart h.0 ys mid x after h.2 one)
-
--- one more part at the same place
-pub many_more : {X : Type 0} (text : List ℕ) (IsPart : List Lexeme → X → List Lexeme → Type 0) (p : Place) (a b c : List Token) (xs ys : List X) (x : X) → DidRead text (AreMany IsPart) p p a b xs → DidRead text IsPart p p b c x → ys ≡ xs ++ x ∷ [] → DidRead text (AreMany IsPart) p p a c ys
-many_more text IsPart p a b c xs ys x h one pushed = record {
-  part = rw pushed (AreMany-push IsPart (lexemes text a) xs (lexemes text b) x (lexemes text c) h.part one.part);
-  within = one.within;
-  shorter = omega (arith, h.shorter, one.shorter);
-  leads = h.leads ∙ one.leads;
-}
-
--- many parts, and the token behind them
-pub many_up_to : {X : Type 0} (text : List ℕ) (IsPart : List Lexeme → X → List Lexeme → Type 0) (p q : Place) (s : Symbol) (a b c : List Token) (xs : List X) → DidRead text (AreMany IsPart) p p a b xs → DidTake text s b c → next p s ≡ Some q → DidRead text (AreUpTo s IsPart) p q a c xs
-many_up_to text IsPart p q s a b c xs h last step = record {
-  part = (lexemes text b, h.part, last.part);
-  within = last.within;
-  shorter = omega (arith, h.shorter, last.shorter);
-  leads = h.leads ∙ leads_on text p q s b c last step;
-}
-
--- ---- parts with commas between them
-
--- the first of them
-pub listed_first : {X : Type 0} (text : List ℕ) (IsPart : List Lexeme → X → List Lexeme → Type 0) (p q : Place) (a b : List Token) (x : X) (xs : List X) → DidRead text IsPart p q a b x → xs ≡ [] ++ x ∷ [] → DidRead text (AreListed IsPart) p q a b xs
-listed_first text IsPart p q a b x xs h pushed = rw pushed (record { part = (lexemes text b, h.part, refl); within = h.within; shorter = h.shorter; leads = h.leads })
+pub AreMany-push : {X : Type 0} (IsPart : List Lexeme → X → List Lexeme → Type 0) (before : List Lexeme)
+    (xs : List X) (mid : List Lexeme) (x : X) (after : List Lexeme)
+    → AreMany IsPart before xs mid → IsPart mid x after → AreMany IsPart before (xs ++ x ∷ []) after
+AreMany-push IsPart before [] mid x after h one =
+    (after, subst (λ (b : List Lexeme). IsPart b x after) (sym h) one, refl)
+AreMany-push IsPart before (y ∷ ys) mid x after h one =
+    (h.0, h.1, AreMany-push IsPart h.0 ys mid x after h.2 one)
 
 -- one more part behind a comma
-AreListed-push : {X : Type 0} (IsPart : List Lexeme → X → List Lexeme → Type 0) (before : List Lexeme) (xs : List X) (mid : List Lexeme) (x : X) (after : List Lexeme) → AreListed IsPart before xs mid → IsBehind Comma IsPart mid x after → AreListed IsPart before (xs ++ x ∷ []) after
+AreListed-push : {X : Type 0} (IsPart : List Lexeme → X → List Lexeme → Type 0) (before : List Lexeme)
+    (xs : List X) (mid : List Lexeme) (x : X) (after : List Lexeme)
+    → AreListed IsPart before xs mid → IsLedBy Comma IsPart mid x after
+    → AreListed IsPart before (xs ++ x ∷ []) after
 AreListed-push IsPart before [] mid x after h one = absurd h
-AreListed-push IsPart before (y ∷ ys) mid x after h one = (h.0, h.1, AreMany-push (IsBehind Comma IsPart) h.0 ys mid x after h.2 one)
+AreListed-push IsPart before (y ∷ ys) mid x after h one =
+    (h.0, h.1, AreMany-push (IsLedBy Comma IsPart) h.0 ys mid x after h.2 one)
 
--- one more, behind a comma
-pub listed_more : {X : Type 0} (text : List ℕ) (IsPart : List Lexeme → X → List Lexeme → Type 0) (p q r : Place) (a b c : List Token) (xs ys : List X) (x : X) → DidRead text (AreListed IsPart) p q a b xs → first_kind b ≡ Some kinds.Comma → next q Comma ≡ Some r
-    → DidRead text IsPart r q (others b) c x → ys ≡ xs ++ x ∷ [] → DidRead text (AreListed IsPart) p q a c ys
-listed_more text IsPart p q r a b c xs ys x h comma step one pushed =
-    let more = behind_read text IsPart q r q Comma b (others b) c x (took text kinds.Comma b h.within comma).1 step one in
-    record {
-      part = rw pushed (AreListed-push IsPart (lexemes text a) xs (lexemes text b) x (lexemes text c) h.part more.part);
-      within = more.within;
-      shorter = omega (arith, h.shorter, more.shorter);
-      leads = h.leads ∙ more.leads;
-    }
+module _ {X : Type 0} (text : List ℕ) (IsPart : List Lexeme → X → List Lexeme → Type 0) where
+  -- a token and then a part
+  pub behind_read : (p r q : Place) {s : Symbol} {a b c : List Token} {x : X}
+      → DidTake text s a b → next p s ≡ Some r → DidRead text IsPart r q b c x
+      → DidRead text (IsLedBy s IsPart) p q a c x
+  behind_read p r q {s} {a} {b} h step rest = record {
+    part = (lexemes text b, h.part, rest.part);
+    within = rest.within;
+    shorter = omega (arith, h.shorter, rest.shorter);
+    leads = leads_on text p r s a b h step ∙ rest.leads;
+  }
 
--- a fault behind a comma is a fault of the whole
-pub listed_stops : {X : Type 0} (text : List ℕ) (IsPart : List Lexeme → X → List Lexeme → Type 0) (p q r : Place) (a b : List Token) (xs : List X) (e : ParseFault) → DidRead text (AreListed IsPart) p q a b xs → first_kind b ≡ Some kinds.Comma → next q Comma ≡ Some r
-    → Stops text r (others b) e → Stops text p a e
-listed_stops text IsPart p q r a b xs e h comma step stop =
-    Stops-back text p r a (others b) e (h.leads ∙ leads_on text q r Comma b (others b) (took text kinds.Comma b h.within comma).1 step) stop
+  -- one more part at the same place
+  pub many_more : (p : Place) {a b c : List Token} {xs : List X} {x : X}
+      → DidRead text (AreMany IsPart) p p a b xs → DidRead text IsPart p p b c x
+      → DidRead text (AreMany IsPart) p p a c (xs ++ x ∷ [])
+  many_more p {a} {b} {c} {xs} {x} h one = record {
+    part = AreMany-push IsPart (lexemes text a) xs (lexemes text b) x (lexemes text c) h.part one.part;
+    within = one.within;
+    shorter = omega (arith, h.shorter, one.shorter);
+    leads = h.leads ∙ one.leads;
+  }
+
+  -- many parts, and the token behind them
+  pub many_up_to : (p q : Place) {s : Symbol} {a b c : List Token} {xs : List X}
+      → DidRead text (AreMany IsPart) p p a b xs → DidTake text s b c → next p s ≡ Some q
+      → DidRead text (AreUpTo s IsPart) p q a c xs
+  many_up_to p q {s} {a} {b} {c} h last step = record {
+    part = (lexemes text b, h.part, last.part);
+    within = last.within;
+    shorter = omega (arith, h.shorter, last.shorter);
+    leads = h.leads ∙ leads_on text p q s b c last step;
+  }
+
+  -- ---- parts with commas between them
+
+  -- the first of them
+  pub listed_first : (p q : Place) {a b : List Token} {x : X} {xs : List X}
+      → DidRead text IsPart p q a b x → xs ≡ [] ++ x ∷ [] → DidRead text (AreListed IsPart) p q a b xs
+  listed_first p q {b = b} h pushed =
+      rw pushed (record { part = (lexemes text b, h.part, refl); within = h.within; shorter = h.shorter; leads = h.leads })
+
+  -- one more, behind a comma
+  pub listed_more : (p q r : Place) {a b c : List Token} {xs : List X} {x : X}
+      → DidRead text (AreListed IsPart) p q a b xs → first_kind b ≡ Some kinds.Comma
+      → next q Comma ≡ Some r → DidRead text IsPart r q (others b) c x
+      → DidRead text (AreListed IsPart) p q a c (xs ++ x ∷ [])
+  listed_more p q r {a} {b} {c} {xs} {x} h comma step one =
+      let more = behind_read q r q (took text kinds.Comma b h.within comma).1 step one in
+      record {
+        part = AreListed-push IsPart (lexemes text a) xs (lexemes text b) x (lexemes text c) h.part more.part;
+        within = more.within;
+        shorter = omega (arith, h.shorter, more.shorter);
+        leads = h.leads ∙ more.leads;
+      }
+
+  -- a fault behind a comma is a fault of the whole
+  pub listed_stops : (p q r : Place) {a b : List Token} {xs : List X} (e : ParseFault)
+      → DidRead text (AreListed IsPart) p q a b xs → first_kind b ≡ Some kinds.Comma
+      → next q Comma ≡ Some r → Stops text r (others b) e → Stops text p a e
+  listed_stops p q r {a} {b} e h comma step stop =
+      let took_comma = (took text kinds.Comma b h.within comma).1 in
+      Stops-back text p r a (others b) e (h.leads ∙ leads_on text q r Comma b (others b) took_comma step) stop
 
 -- ---- what was pushed
 

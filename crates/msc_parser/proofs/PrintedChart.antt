@@ -3,6 +3,7 @@ use Rattle.std.proofs.Common.{◌≡◌, ℕ, ◌≤◌, List, [], ◌∷◌, �
 use Rattle.std.specs.Prelude.{IfOk}
 use Rattle.std.specs.List.{flat_map, AllByRecursion}
 use Rattle.std.specs.declared.alloc.AllocError.{AllocError}
+use Rattle.msc_lexer.specs.declared.TheConstants.{TEXT_LIMIT}
 use Rattle.msc_lexer.specs.declared.word.Word.TheVariants as words
 use Rattle.msc_lexer.specs.Pieces.{Piece, Blank, Run, Mark, AreCut, tokens_of}
 use Rattle.msc_lexer.specs.Lexemes.{Reserved, Semicolon, Lexeme, lexemes_of, PrintsPieces}
@@ -10,12 +11,12 @@ use Rattle.msc_parser.specs.declared.tree.Signal.{Signal}
 use Rattle.msc_parser.specs.declared.tree.Item.{Item}
 use Rattle.msc_parser.specs.declared.tree.Item.TheVariants.{Single, Coregion}
 use Rattle.msc_parser.specs.declared.tree.Section.{Section}
-use Rattle.msc_parser.specs.Forms.{IsBehind}
+use Rattle.msc_parser.specs.Forms.{IsLedBy}
 use Rattle.msc_parser.specs.Grammar.{Tree, IsEnd, Plain, IsEvent, IsCoregion, IsItem, IsSection, IsChart}
 use Rattle.msc_parser.specs.Parsing.{HasDraft}
 use Rattle.msc_parser.specs.Canonical.{word, space, line_end, decl_pieces, header_pieces, event_pieces, inner_pieces, coregion_pieces, item_pieces, section_pieces, printed, canonical}
 use Rattle.msc_parser.specs.Drafts.{IsSignalNamed, IsItemNamed, IsSectionNamed, IsDraft}
-use Rattle.msc_parser.proofs.Printing.{Prints, IsOnly, spaced, same_pieces, a_line_end, a_word, a_name, PrintsEach, a_many}
+use Rattle.msc_parser.proofs.Printing.{IsPrintedAs, IsOnly, after_space, same_pieces, a_line_end, a_word, a_name, PrintsEach, a_many}
 use Rattle.msc_parser.proofs.PrintedParts.{Anything, a_decl, a_header, an_event}
 
 -- nothing stands behind the last line
@@ -30,24 +31,24 @@ module _ (laws : PrintsPieces) where
   each_event : PrintsEach IsEvent inner_pieces IsSignalNamed Anything
   each_event = record {
     one = λ e rest named any.
-        spaced IsEvent e (space ∷ space ∷ space ∷ event_pieces e ++ rest) rest (spaced IsEvent e (space ∷ space ∷ event_pieces e ++ rest) rest (spaced IsEvent e (space ∷ event_pieces e ++ rest) rest (spaced IsEvent e (event_pieces e ++ rest) rest (an_event laws e rest named))));
+        after_space IsEvent e (space ∷ space ∷ space ∷ event_pieces e ++ rest) rest (after_space IsEvent e (space ∷ space ∷ event_pieces e ++ rest) rest (after_space IsEvent e (space ∷ event_pieces e ++ rest) rest (after_space IsEvent e (event_pieces e ++ rest) rest (an_event laws e rest named))));
     follows = λ e rest. tt;
   }
 
   -- a coregion is read again
-  a_coregion : (es : List Signal) (rest : List Piece) → AllByRecursion IsSignalNamed es → Prints (IsBehind (Reserved words.Concurrent) IsCoregion) es (coregion_pieces es ++ rest) rest
+  a_coregion : (es : List Signal) (rest : List Piece) → AllByRecursion IsSignalNamed es → IsPrintedAs (IsLedBy (Reserved words.Concurrent) IsCoregion) es (coregion_pieces es ++ rest) rest
   a_coregion es rest named =
       let close = Mark 59 ∷ Blank 10 ∷ rest in
       let last = space ∷ space ∷ word words.EndConcurrent ∷ close in
       let body = flat_map inner_pieces es ++ last in
       let first = Mark 59 ∷ Blank 10 ∷ body in
       let last_end = a_line_end rest in
-      let end_word = spaced _ tt (space ∷ word words.EndConcurrent ∷ close) close (spaced _ tt (word words.EndConcurrent ∷ close) close (a_word laws words.EndConcurrent close refl)) in
+      let end_word = after_space _ tt (space ∷ word words.EndConcurrent ∷ close) close (after_space _ tt (word words.EndConcurrent ∷ close) close (a_word laws words.EndConcurrent close refl)) in
       let many = a_many IsEvent inner_pieces IsSignalNamed Anything each_event es last named tt in
       let end = a_line_end body in
-      let start = spaced _ tt (space ∷ word words.Concurrent ∷ first) first (spaced _ tt (word words.Concurrent ∷ first) first (a_word laws words.Concurrent first refl)) in
+      let start = after_space _ tt (space ∷ word words.Concurrent ∷ first) first (after_space _ tt (word words.Concurrent ∷ first) first (a_word laws words.Concurrent first refl)) in
       let same : (flat_map inner_pieces es ++ (space ∷ space ∷ word words.EndConcurrent ∷ line_end)) ++ rest ≡ body = append_assoc (flat_map inner_pieces es) (space ∷ space ∷ word words.EndConcurrent ∷ line_end) rest in
-      same_pieces (IsBehind (Reserved words.Concurrent) IsCoregion) es (coregion_pieces es ++ rest) (space ∷ space ∷ word words.Concurrent ∷ first) rest (ap (λ (x : List Piece). space ∷ space ∷ word words.Concurrent ∷ Mark 59 ∷ Blank 10 ∷ x) same) (record {
+      same_pieces (IsLedBy (Reserved words.Concurrent) IsCoregion) es (coregion_pieces es ++ rest) (space ∷ space ∷ word words.Concurrent ∷ first) rest (ap (λ (x : List Piece). space ∷ space ∷ word words.Concurrent ∷ Mark 59 ∷ Blank 10 ∷ x) same) (record {
         reads = λ at.
             let t0 = start.reads at in
             let t1 = end.reads t0.0 in
@@ -59,9 +60,9 @@ module _ (laws : PrintsPieces) where
       })
 
   -- an item is read again
-  an_item : (x : Item) (rest : List Piece) → IsItemNamed x → Prints IsItem x (item_pieces x ++ rest) rest
+  an_item : (x : Item) (rest : List Piece) → IsItemNamed x → IsPrintedAs IsItem x (item_pieces x ++ rest) rest
   an_item (Single e) rest named =
-      let p = spaced IsEvent e (space ∷ event_pieces e ++ rest) rest (spaced IsEvent e (event_pieces e ++ rest) rest (an_event laws e rest named)) in
+      let p = after_space IsEvent e (space ∷ event_pieces e ++ rest) rest (after_space IsEvent e (event_pieces e ++ rest) rest (an_event laws e rest named)) in
       record { reads = p.reads; cut = p.cut }
   an_item (Coregion es) rest named = let p = a_coregion es rest named in record { reads = p.reads; cut = p.cut }
 
@@ -72,7 +73,7 @@ module _ (laws : PrintsPieces) where
   -- ---- sections and the chart
 
   -- a section is read again
-  a_section : (s : Section) (rest : List Piece) → IsSectionNamed s → Prints IsSection s (section_pieces s ++ rest) rest
+  a_section : (s : Section) (rest : List Piece) → IsSectionNamed s → IsPrintedAs IsSection s (section_pieces s ++ rest) rest
   a_section s rest named =
       let close = Mark 59 ∷ Blank 10 ∷ rest in
       let last = word words.EndInstance ∷ close in
@@ -82,7 +83,7 @@ module _ (laws : PrintsPieces) where
       let end_word = a_word laws words.EndInstance close refl in
       let many = a_many IsItem item_pieces IsItemNamed Anything each_item s.items last named.items tt in
       let end = a_line_end body in
-      let decl = spaced _ s.decl (decl_pieces s.decl ++ head) head (a_decl laws s.decl head named.decl refl) in
+      let decl = after_space _ s.decl (decl_pieces s.decl ++ head) head (a_decl laws s.decl head named.decl refl) in
       let start = a_word laws words.Instance (space ∷ decl_pieces s.decl ++ head) refl in
       let inside : (flat_map item_pieces s.items ++ (word words.EndInstance ∷ line_end)) ++ rest ≡ body = append_assoc (flat_map item_pieces s.items) (word words.EndInstance ∷ line_end) rest in
       let same : (decl_pieces s.decl ++ (line_end ++ (flat_map item_pieces s.items ++ (word words.EndInstance ∷ line_end)))) ++ rest ≡ decl_pieces s.decl ++ head =
@@ -127,7 +128,7 @@ module _ (laws : PrintsPieces) where
       let header = header_pieces t.header ++ sections in
       let head = Mark 59 ∷ Blank 10 ∷ header in
       let p0 = a_word laws words.Msc (space ∷ Run t.name ∷ head) refl in
-      let p1 = spaced _ t.name (Run t.name ∷ head) head (a_name laws t.name head named.name refl) in
+      let p1 = after_space _ t.name (Run t.name ∷ head) head (a_name laws t.name head named.name refl) in
       let p2 = a_line_end header in
       let p3 = a_header laws t.header sections named.header in
       let p4 = a_many IsSection section_pieces IsSectionNamed Anything each_section t.sections last named.sections tt in
@@ -159,7 +160,7 @@ module _ (laws : PrintsPieces) where
       )
 
   -- what is written is a text of the draft, where it is short enough
-  written_again : (t : Tree) → IsDraft t → length (canonical t) ≤ 1048576 → HasDraft (canonical t) t
+  written_again : (t : Tree) → IsDraft t → length (canonical t) ≤ TEXT_LIMIT → HasDraft (canonical t) t
   written_again t named short =
       let c = a_chart t named in (
         tokens_of 0 (printed t),
@@ -168,6 +169,6 @@ module _ (laws : PrintsPieces) where
       )
 
   -- the text that was written is a text of the draft
-  pub again : (t : Tree) (r : Result (Vec ℕ Global) AllocError) → IsDraft t → IfOk r (λ v. v.items ≡ canonical t) → IfOk r (λ v. length v.items ≤ 1048576 → HasDraft v.items t)
-  again t (Ok v) named text = λ short. subst (λ (x : List ℕ). HasDraft x t) (sym text) (written_again t named (subst (λ (x : List ℕ). length x ≤ 1048576) text short))
+  pub again : (t : Tree) (r : Result (Vec ℕ Global) AllocError) → IsDraft t → IfOk r (λ v. v.items ≡ canonical t) → IfOk r (λ v. length v.items ≤ TEXT_LIMIT → HasDraft v.items t)
+  again t (Ok v) named text = λ short. subst (λ (x : List ℕ). HasDraft x t) (sym text) (written_again t named (subst (λ (x : List ℕ). length x ≤ TEXT_LIMIT) text short))
   again t (Err e) named text = tt

@@ -8,11 +8,11 @@ use Rattle.msc_lexer.specs.Pieces.{Piece, Blank, Run, Mark}
 use Rattle.msc_lexer.specs.Lexemes.{Comma, IsName, lexemes_of, PrintsPieces}
 use Rattle.msc_parser.specs.declared.tree.Decl.{Decl}
 use Rattle.msc_parser.specs.declared.tree.Signal.{Signal}
-use Rattle.msc_parser.specs.Forms.{IsNamed, IsBehind}
-use Rattle.msc_parser.specs.Grammar.{Plain, IsKind, IsDecl, way_word, address_word, IsNumber, AreParameters, Absent, Listed, IsIdent, IsEvent, IsHeader}
+use Rattle.msc_parser.specs.Forms.{IsNamed, IsLedBy}
+use Rattle.msc_parser.specs.Grammar.{Plain, IsKind, IsDecl, way_word, address_word, IsNumber, AreParameters, Absent, Given, IsIdent, IsEvent, IsHeader}
 use Rattle.msc_parser.specs.Canonical.{word, space, line_end, kind_pieces, decl_pieces, next_decl_pieces, header_pieces, next_name_pieces, number_pieces, parameter_pieces, ident_pieces, address_pieces, event_pieces}
 use Rattle.msc_parser.specs.Drafts.{IsDeclNamed, IsSignalNamed}
-use Rattle.msc_parser.proofs.Printing.{StopsRun, Prints, spaced, same_pieces, a_colon, a_comma, a_left_paren, a_right_paren, a_line_end, a_word, a_name, a_behind, PrintsEach, many_follow, a_many}
+use Rattle.msc_parser.proofs.Printing.{StopsRun, IsPrintedAs, after_space, same_pieces, a_colon, a_comma, a_left_paren, a_right_paren, a_line_end, a_word, a_name, a_behind, PrintsEach, many_follow, a_many}
 
 -- behind a name a kind, or what follows, goes on with no letter, digit or underscore
 kind_stops : (ks : List (List ℕ)) (rest : List Piece) → StopsRun rest → StopsRun (kind_pieces ks ++ rest)
@@ -25,9 +25,9 @@ number_stops None rest stop = stop
 number_stops (Some n) rest stop = refl
 
 -- the same of parameters
-parameters_stop : (ps : List (List ℕ)) (rest : List Piece) → StopsRun rest → StopsRun (parameter_pieces ps ++ rest)
-parameters_stop [] rest stop = stop
-parameters_stop (p ∷ ps) rest stop = refl
+printed_parameters_stop : (ps : List (List ℕ)) (rest : List Piece) → StopsRun rest → StopsRun (parameter_pieces ps ++ rest)
+printed_parameters_stop [] rest stop = stop
+printed_parameters_stop (p ∷ ps) rest stop = refl
 
 -- anything may follow
 abbrev pub Anything : List Piece → Type 0
@@ -37,15 +37,15 @@ module _ (laws : PrintsPieces) where
   -- ---- decls
 
   -- a name with a space before it
-  spaced_name : (n : List ℕ) (rest : List Piece) → IsName n → StopsRun rest → Prints IsNamed n (space ∷ Run n ∷ rest) rest
-  spaced_name n rest named stop = spaced IsNamed n (Run n ∷ rest) rest (a_name laws n rest named stop)
+  spaced_name : (n : List ℕ) (rest : List Piece) → IsName n → StopsRun rest → IsPrintedAs IsNamed n (space ∷ Run n ∷ rest) rest
+  spaced_name n rest named stop = after_space IsNamed n (Run n ∷ rest) rest (a_name laws n rest named stop)
 
   -- a kind is read again
-  a_kind : (ks : List (List ℕ)) (rest : List Piece) → AllByRecursion IsName ks → length ks ≤ 2 → StopsRun rest → Prints IsKind ks (kind_pieces ks ++ rest) rest
+  a_kind : (ks : List (List ℕ)) (rest : List Piece) → AllByRecursion IsName ks → length ks ≤ 2 → StopsRun rest → IsPrintedAs IsKind ks (kind_pieces ks ++ rest) rest
   a_kind [] rest named short stop = record { reads = λ at. (at, refl); cut = λ c. c }
   a_kind (n ∷ []) rest named short stop =
       let name = spaced_name n rest named.0 stop in
-      let colon = spaced _ tt (Mark 58 ∷ space ∷ Run n ∷ rest) (space ∷ Run n ∷ rest) (a_colon (space ∷ Run n ∷ rest)) in
+      let colon = after_space _ tt (Mark 58 ∷ space ∷ Run n ∷ rest) (space ∷ Run n ∷ rest) (a_colon (space ∷ Run n ∷ rest)) in
       record {
         reads = λ at. let t = colon.reads at in let u = name.reads t.0 in (u.0, (lexemes_of t.0 (space ∷ Run n ∷ rest), lexemes_of u.0 rest, t.1, u.1, refl));
         cut = λ c. colon.cut (name.cut c);
@@ -53,7 +53,7 @@ module _ (laws : PrintsPieces) where
   a_kind (n ∷ m ∷ []) rest named short stop =
       let second = spaced_name m rest named.1.0 stop in
       let name = spaced_name n (space ∷ Run m ∷ rest) named.0 refl in
-      let colon = spaced _ tt (Mark 58 ∷ space ∷ Run n ∷ space ∷ Run m ∷ rest) (space ∷ Run n ∷ space ∷ Run m ∷ rest) (a_colon (space ∷ Run n ∷ space ∷ Run m ∷ rest)) in
+      let colon = after_space _ tt (Mark 58 ∷ space ∷ Run n ∷ space ∷ Run m ∷ rest) (space ∷ Run n ∷ space ∷ Run m ∷ rest) (a_colon (space ∷ Run n ∷ space ∷ Run m ∷ rest)) in
       record {
         reads = λ at. let t = colon.reads at in let u = name.reads t.0 in let v = second.reads u.0 in (v.0, (lexemes_of t.0 (space ∷ Run n ∷ space ∷ Run m ∷ rest), lexemes_of u.0 (space ∷ Run m ∷ rest), t.1, u.1, v.1));
         cut = λ c. colon.cut (name.cut (second.cut c));
@@ -61,7 +61,7 @@ module _ (laws : PrintsPieces) where
   a_kind (n ∷ m ∷ l ∷ ks) rest named short stop = absurd (omega (arith, short))
 
   -- a decl is read again
-  pub a_decl : (d : Decl) (rest : List Piece) → IsDeclNamed d → StopsRun rest → Prints IsDecl d (decl_pieces d ++ rest) rest
+  pub a_decl : (d : Decl) (rest : List Piece) → IsDeclNamed d → StopsRun rest → IsPrintedAs IsDecl d (decl_pieces d ++ rest) rest
   a_decl d rest named stop =
       let kind = a_kind d.kind rest named.kind named.short stop in
       let name = a_name laws d.name (kind_pieces d.kind ++ rest) named.name (kind_stops d.kind rest stop) in
@@ -71,20 +71,20 @@ module _ (laws : PrintsPieces) where
       }
 
   -- each further decl is printed behind a comma
-  each_decl : PrintsEach (IsBehind Comma IsDecl) next_decl_pieces IsDeclNamed StopsRun
+  each_decl : PrintsEach (IsLedBy Comma IsDecl) next_decl_pieces IsDeclNamed StopsRun
   each_decl = record {
-    one = λ d rest named stop. a_behind Comma IsDecl d (Mark 44 ∷ space ∷ decl_pieces d ++ rest) (space ∷ decl_pieces d ++ rest) rest (a_comma (space ∷ decl_pieces d ++ rest)) (spaced IsDecl d (decl_pieces d ++ rest) rest (a_decl d rest named stop));
+    one = λ d rest named stop. a_behind Comma IsDecl d (Mark 44 ∷ space ∷ decl_pieces d ++ rest) (space ∷ decl_pieces d ++ rest) rest (a_comma (space ∷ decl_pieces d ++ rest)) (after_space IsDecl d (decl_pieces d ++ rest) rest (a_decl d rest named stop));
     follows = λ d rest. refl;
   }
 
   -- one line with all decls, or none
-  pub a_header : (ds : List Decl) (rest : List Piece) → AllByRecursion IsDeclNamed ds → Prints IsHeader ds (header_pieces ds ++ rest) rest
+  pub a_header : (ds : List Decl) (rest : List Piece) → AllByRecursion IsDeclNamed ds → IsPrintedAs IsHeader ds (header_pieces ds ++ rest) rest
   a_header [] rest named = record { reads = λ at. (at, ([], refl, refl)); cut = λ c. c }
   a_header (d ∷ ds) rest named =
       let tail = flat_map next_decl_pieces ds ++ Mark 59 ∷ Blank 10 ∷ rest in
       let end = a_line_end rest in
-      let many = a_many (IsBehind Comma IsDecl) next_decl_pieces IsDeclNamed StopsRun each_decl ds (Mark 59 ∷ Blank 10 ∷ rest) named.1 refl in
-      let first = spaced IsDecl d (decl_pieces d ++ tail) tail (a_decl d tail named.0 (many_follow (IsBehind Comma IsDecl) next_decl_pieces IsDeclNamed StopsRun each_decl ds (Mark 59 ∷ Blank 10 ∷ rest) refl)) in
+      let many = a_many (IsLedBy Comma IsDecl) next_decl_pieces IsDeclNamed StopsRun each_decl ds (Mark 59 ∷ Blank 10 ∷ rest) named.1 refl in
+      let first = after_space IsDecl d (decl_pieces d ++ tail) tail (a_decl d tail named.0 (many_follow (IsLedBy Comma IsDecl) next_decl_pieces IsDeclNamed StopsRun each_decl ds (Mark 59 ∷ Blank 10 ∷ rest) refl)) in
       let inst = a_word laws words.Inst (space ∷ decl_pieces d ++ tail) refl in
       let same : (decl_pieces d ++ (flat_map next_decl_pieces ds ++ line_end)) ++ rest ≡ decl_pieces d ++ tail = append_assoc (decl_pieces d) (flat_map next_decl_pieces ds ++ line_end) rest ∙ ap (λ (x : List Piece). decl_pieces d ++ x) (append_assoc (flat_map next_decl_pieces ds) line_end rest) in
       same_pieces IsHeader (d ∷ ds) (header_pieces (d ∷ ds) ++ rest) (word words.Inst ∷ space ∷ decl_pieces d ++ tail) rest (ap (λ (x : List Piece). word words.Inst ∷ space ∷ x) same) (record {
@@ -100,27 +100,27 @@ module _ (laws : PrintsPieces) where
   -- ---- events
 
   -- a message instance name is read again
-  a_number : (o : Option (List ℕ)) (rest : List Piece) → IfSome o IsName → StopsRun rest → Prints IsNumber o (number_pieces o ++ rest) rest
+  a_number : (o : Option (List ℕ)) (rest : List Piece) → IfSome o IsName → StopsRun rest → IsPrintedAs IsNumber o (number_pieces o ++ rest) rest
   a_number None rest named stop = record { reads = λ at. (at, refl); cut = λ c. c }
   a_number (Some n) rest named stop =
       let b = a_behind Comma IsNamed n (Mark 44 ∷ space ∷ Run n ∷ rest) (space ∷ Run n ∷ rest) rest (a_comma (space ∷ Run n ∷ rest)) (spaced_name n rest named stop) in
       record { reads = b.reads; cut = b.cut }
 
   -- each further parameter is printed behind a comma
-  each_name : PrintsEach (IsBehind Comma IsNamed) next_name_pieces IsName StopsRun
+  each_name : PrintsEach (IsLedBy Comma IsNamed) next_name_pieces IsName StopsRun
   each_name = record {
     one = λ n rest named stop. a_behind Comma IsNamed n (Mark 44 ∷ space ∷ Run n ∷ rest) (space ∷ Run n ∷ rest) rest (a_comma (space ∷ Run n ∷ rest)) (spaced_name n rest named stop);
     follows = λ n rest. refl;
   }
 
   -- parameters are read again
-  some_parameters : (ps : List (List ℕ)) (rest : List Piece) → AllByRecursion IsName ps → Prints AreParameters ps (parameter_pieces ps ++ rest) rest
+  some_parameters : (ps : List (List ℕ)) (rest : List Piece) → AllByRecursion IsName ps → IsPrintedAs AreParameters ps (parameter_pieces ps ++ rest) rest
   some_parameters [] rest named = record { reads = λ at. (at, Absent refl refl); cut = λ c. c }
   some_parameters (p ∷ ps) rest named =
       let tail = flat_map next_name_pieces ps ++ Mark 41 ∷ rest in
       let close = a_right_paren rest in
-      let many = a_many (IsBehind Comma IsNamed) next_name_pieces IsName StopsRun each_name ps (Mark 41 ∷ rest) named.1 refl in
-      let first = a_name laws p tail named.0 (many_follow (IsBehind Comma IsNamed) next_name_pieces IsName StopsRun each_name ps (Mark 41 ∷ rest) refl) in
+      let many = a_many (IsLedBy Comma IsNamed) next_name_pieces IsName StopsRun each_name ps (Mark 41 ∷ rest) named.1 refl in
+      let first = a_name laws p tail named.0 (many_follow (IsLedBy Comma IsNamed) next_name_pieces IsName StopsRun each_name ps (Mark 41 ∷ rest) refl) in
       let paren = a_left_paren (Run p ∷ tail) in
       let same : (flat_map next_name_pieces ps ++ Mark 41 ∷ []) ++ rest ≡ tail = append_assoc (flat_map next_name_pieces ps) (Mark 41 ∷ []) rest in
       same_pieces AreParameters (p ∷ ps) (parameter_pieces (p ∷ ps) ++ rest) (Mark 40 ∷ Run p ∷ tail) rest (ap (λ (x : List Piece). Mark 40 ∷ Run p ∷ x) same) (record {
@@ -129,16 +129,16 @@ module _ (laws : PrintsPieces) where
             let t1 = first.reads t0.0 in
             let t2 = many.reads t1.0 in
             let t3 = close.reads t2.0 in
-            (t3.0, Listed (lexemes_of t0.0 (Run p ∷ tail)) (lexemes_of t2.0 (Mark 41 ∷ rest)) t0.1 (lexemes_of t1.0 tail, t1.1, t2.1) t3.1);
+            (t3.0, Given (lexemes_of t0.0 (Run p ∷ tail)) (lexemes_of t2.0 (Mark 41 ∷ rest)) t0.1 (lexemes_of t1.0 tail, t1.1, t2.1) t3.1);
         cut = λ c. paren.cut (first.cut (many.cut (close.cut c)));
       })
 
   -- an ident is read again
-  an_ident : (e : Signal) (rest : List Piece) → IsSignalNamed e → StopsRun rest → Prints IsIdent e (ident_pieces e ++ rest) rest
+  an_ident : (e : Signal) (rest : List Piece) → IsSignalNamed e → StopsRun rest → IsPrintedAs IsIdent e (ident_pieces e ++ rest) rest
   an_ident e rest named stop =
       let after = parameter_pieces e.parameters ++ rest in
       let parameters = some_parameters e.parameters rest named.parameters in
-      let stops = parameters_stop e.parameters rest stop in
+      let stops = printed_parameters_stop e.parameters rest stop in
       let number = a_number e.number after named.number stops in
       let name = a_name laws e.name (number_pieces e.number ++ after) named.name (number_stops e.number after stops) in
       let same : (number_pieces e.number ++ parameter_pieces e.parameters) ++ rest ≡ number_pieces e.number ++ after = append_assoc (number_pieces e.number) (parameter_pieces e.parameters) rest in
@@ -152,15 +152,15 @@ module _ (laws : PrintsPieces) where
       })
 
   -- an event is read again
-  pub an_event : (e : Signal) (rest : List Piece) → IsSignalNamed e → Prints IsEvent e (event_pieces e ++ rest) rest
+  pub an_event : (e : Signal) (rest : List Piece) → IsSignalNamed e → IsPrintedAs IsEvent e (event_pieces e ++ rest) rest
   an_event e rest named =
       let last = Mark 59 ∷ Blank 10 ∷ rest in
       let target = Run e.address ∷ last in
       let after = space ∷ word (address_word e.way) ∷ space ∷ target in
       let end = a_line_end rest in
       let address = spaced_name e.address last named.address refl in
-      let partner = spaced _ tt (word (address_word e.way) ∷ space ∷ target) (space ∷ target) (a_word laws (address_word e.way) (space ∷ target) refl) in
-      let ident = spaced IsIdent e (ident_pieces e ++ after) after (an_ident e after named refl) in
+      let partner = after_space _ tt (word (address_word e.way) ∷ space ∷ target) (space ∷ target) (a_word laws (address_word e.way) (space ∷ target) refl) in
+      let ident = after_space IsIdent e (ident_pieces e ++ after) after (an_ident e after named refl) in
       let way = a_word laws (way_word e.way) (space ∷ ident_pieces e ++ after) refl in
       let same : (ident_pieces e ++ address_pieces e) ++ rest ≡ ident_pieces e ++ after = append_assoc (ident_pieces e) (address_pieces e) rest in
       same_pieces IsEvent e (event_pieces e ++ rest) (word (way_word e.way) ∷ space ∷ ident_pieces e ++ after) rest (ap (λ (x : List Piece). word (way_word e.way) ∷ space ∷ x) same) (record {

@@ -8,7 +8,7 @@ use Rattle.msc_lexer.specs.Bytes.{is_run_byte, begins}
 use Rattle.msc_lexer.specs.Words.{spelling}
 use Rattle.msc_lexer.specs.Pieces.{Piece, Blank, Run, Mark, text_of, AreCut}
 use Rattle.msc_lexer.specs.Lexemes.{Symbol, Reserved, Semicolon, Comma, Colon, LeftParen, RightParen, Lexeme, IsName, lexeme_at, lexemes_of, PrintsPieces}
-use Rattle.msc_parser.specs.Forms.{IsToken, IsNamed, AreMany, IsBehind}
+use Rattle.msc_parser.specs.Forms.{IsToken, IsNamed, AreMany, IsLedBy}
 use Rattle.msc_parser.specs.Canonical.{word, space}
 
 -- no letter, digit or underscore stands first
@@ -17,7 +17,7 @@ StopsRun rest = begins is_run_byte (text_of rest ++ []) ≡ false
 
 -- The pieces `ps` are the part x and the pieces `rest` behind it: so they are read, wherever they
 -- begin, and they are cut where the rest is.
-pub record Prints {X : Type 0} (IsPart : List Lexeme → X → List Lexeme → Type 0) (x : X) (ps rest : List Piece) : Type 0 where
+pub record IsPrintedAs {X : Type 0} (IsPart : List Lexeme → X → List Lexeme → Type 0) (x : X) (ps rest : List Piece) : Type 0 where
   pub reads : (at : ℕ) → (to : ℕ) × IsPart (lexemes_of at ps) x (lexemes_of to rest)
   pub cut : AreCut rest [] → AreCut ps []
 
@@ -26,13 +26,13 @@ abbrev pub IsOnly : Symbol → List Lexeme → Unit {0} → List Lexeme → Type
 IsOnly s before x after = IsToken s before after
 
 -- a space before a part is not seen
-pub spaced : {X : Type 0} (IsPart : List Lexeme → X → List Lexeme → Type 0) (x : X) (ps rest : List Piece) → Prints IsPart x ps rest → Prints IsPart x (space ∷ ps) rest
+pub after_space : {X : Type 0} (IsPart : List Lexeme → X → List Lexeme → Type 0) (x : X) (ps rest : List Piece) → IsPrintedAs IsPart x ps rest → IsPrintedAs IsPart x (space ∷ ps) rest
 unfolding lexemes_of lexeme_at
-spaced IsPart x ps rest h = record { reads = λ at. h.reads (at + 1); cut = λ c. (refl, h.cut c) }
+after_space IsPart x ps rest h = record { reads = λ at. h.reads (at + 1); cut = λ c. (refl, h.cut c) }
 
 -- the same pieces
-pub same_pieces : {X : Type 0} (IsPart : List Lexeme → X → List Lexeme → Type 0) (x : X) (ps qs rest : List Piece) → ps ≡ qs → Prints IsPart x qs rest → Prints IsPart x ps rest
-same_pieces IsPart x ps qs rest e h = subst (λ (rs : List Piece). Prints IsPart x rs rest) (sym e) h
+pub same_pieces : {X : Type 0} (IsPart : List Lexeme → X → List Lexeme → Type 0) (x : X) (ps qs rest : List Piece) → ps ≡ qs → IsPrintedAs IsPart x qs rest → IsPrintedAs IsPart x ps rest
+same_pieces IsPart x ps qs rest e h = subst (λ (rs : List Piece). IsPrintedAs IsPart x rs rest) (sym e) h
 
 -- ---- marks
 
@@ -41,32 +41,32 @@ mark_fits : (k : Kind) → Some k ≢ None
 mark_fits k e = cc
 
 -- `;`
-pub a_semicolon : (rest : List Piece) → Prints (IsOnly Semicolon) tt (Mark 59 ∷ rest) rest
+pub a_semicolon : (rest : List Piece) → IsPrintedAs (IsOnly Semicolon) tt (Mark 59 ∷ rest) rest
 unfolding lexemes_of lexeme_at
 a_semicolon rest = record { reads = λ at. (at + 1, (at, refl)); cut = λ c. (mark_fits kinds.Semicolon, c) }
 
 -- `,`
-pub a_comma : (rest : List Piece) → Prints (IsOnly Comma) tt (Mark 44 ∷ rest) rest
+pub a_comma : (rest : List Piece) → IsPrintedAs (IsOnly Comma) tt (Mark 44 ∷ rest) rest
 unfolding lexemes_of lexeme_at
 a_comma rest = record { reads = λ at. (at + 1, (at, refl)); cut = λ c. (mark_fits kinds.Comma, c) }
 
 -- `:`
-pub a_colon : (rest : List Piece) → Prints (IsOnly Colon) tt (Mark 58 ∷ rest) rest
+pub a_colon : (rest : List Piece) → IsPrintedAs (IsOnly Colon) tt (Mark 58 ∷ rest) rest
 unfolding lexemes_of lexeme_at
 a_colon rest = record { reads = λ at. (at + 1, (at, refl)); cut = λ c. (mark_fits kinds.Colon, c) }
 
 -- `(`
-pub a_left_paren : (rest : List Piece) → Prints (IsOnly LeftParen) tt (Mark 40 ∷ rest) rest
+pub a_left_paren : (rest : List Piece) → IsPrintedAs (IsOnly LeftParen) tt (Mark 40 ∷ rest) rest
 unfolding lexemes_of lexeme_at
 a_left_paren rest = record { reads = λ at. (at + 1, (at, refl)); cut = λ c. (mark_fits kinds.LeftParen, c) }
 
 -- `)`
-pub a_right_paren : (rest : List Piece) → Prints (IsOnly RightParen) tt (Mark 41 ∷ rest) rest
+pub a_right_paren : (rest : List Piece) → IsPrintedAs (IsOnly RightParen) tt (Mark 41 ∷ rest) rest
 unfolding lexemes_of lexeme_at
 a_right_paren rest = record { reads = λ at. (at + 1, (at, refl)); cut = λ c. (mark_fits kinds.RightParen, c) }
 
 -- `;` and the end of the line
-pub a_line_end : (rest : List Piece) → Prints (IsOnly Semicolon) tt (Mark 59 ∷ Blank 10 ∷ rest) rest
+pub a_line_end : (rest : List Piece) → IsPrintedAs (IsOnly Semicolon) tt (Mark 59 ∷ Blank 10 ∷ rest) rest
 unfolding lexemes_of lexeme_at
 a_line_end rest = record { reads = λ at. (at + 1 + 1, (at, refl)); cut = λ c. (mark_fits kinds.Semicolon, (refl, c)) }
 
@@ -74,17 +74,17 @@ a_line_end rest = record { reads = λ at. (at + 1 + 1, (at, refl)); cut = λ c. 
 
 module _ (laws : PrintsPieces) where
   -- a reserved word, where no letter, digit or underscore follows
-  pub a_word : (w : Word) (rest : List Piece) → StopsRun rest → Prints (IsOnly (Reserved w)) tt (word w ∷ rest) rest
+  pub a_word : (w : Word) (rest : List Piece) → StopsRun rest → IsPrintedAs (IsOnly (Reserved w)) tt (word w ∷ rest) rest
   unfolding lexemes_of lexeme_at
   a_word w rest stop = record { reads = λ at. (at + length (spelling w), (at, rw (laws.words w) refl)); cut = λ c. (laws.word_fits w (text_of rest ++ []) stop, c) }
 
   -- a name, where no letter, digit or underscore follows
-  pub a_name : (n : List ℕ) (rest : List Piece) → IsName n → StopsRun rest → Prints IsNamed n (Run n ∷ rest) rest
+  pub a_name : (n : List ℕ) (rest : List Piece) → IsName n → StopsRun rest → IsPrintedAs IsNamed n (Run n ∷ rest) rest
   unfolding lexemes_of lexeme_at
   a_name n rest named stop = record { reads = λ at. (at + length n, (at, rw named.free refl)); cut = λ c. (laws.name_fits n (text_of rest ++ []) named stop, c) }
 
 -- a token and then a part
-pub a_behind : {X : Type 0} (s : Symbol) (IsPart : List Lexeme → X → List Lexeme → Type 0) (x : X) (ps mid rest : List Piece) → Prints (IsOnly s) tt ps mid → Prints IsPart x mid rest → Prints (IsBehind s IsPart) x ps rest
+pub a_behind : {X : Type 0} (s : Symbol) (IsPart : List Lexeme → X → List Lexeme → Type 0) (x : X) (ps mid rest : List Piece) → IsPrintedAs (IsOnly s) tt ps mid → IsPrintedAs IsPart x mid rest → IsPrintedAs (IsLedBy s IsPart) x ps rest
 a_behind s IsPart x ps mid rest token part = record {
   reads = λ at. let t = token.reads at in let p = part.reads t.0 in (p.0, (lexemes_of t.0 mid, t.1, p.1));
   cut = λ c. token.cut (part.cut c);
@@ -94,7 +94,7 @@ a_behind s IsPart x ps mid rest token part = record {
 
 -- Each part is printed before what may follow it, and begins as what may follow.
 pub record PrintsEach {X : Type 0} (IsPart : List Lexeme → X → List Lexeme → Type 0) (f : X → List Piece) (P : X → Type 0) (Follows : List Piece → Type 0) : Type 0 where
-  pub one : (x : X) (rest : List Piece) → P x → Follows rest → Prints IsPart x (f x ++ rest) rest
+  pub one : (x : X) (rest : List Piece) → P x → Follows rest → IsPrintedAs IsPart x (f x ++ rest) rest
   pub follows : (x : X) (rest : List Piece) → Follows (f x ++ rest)
 
 -- what follows a part of many
@@ -104,7 +104,7 @@ many_follow IsPart f P Follows each (x ∷ xs) rest follows = subst Follows (sym
 
 -- many parts, one after the other
 pub a_many : {X : Type 0} (IsPart : List Lexeme → X → List Lexeme → Type 0) (f : X → List Piece) (P : X → Type 0) (Follows : List Piece → Type 0) → PrintsEach IsPart f P Follows → (xs : List X) (rest : List Piece) → AllByRecursion P xs → Follows rest
-    → Prints (AreMany IsPart) xs (flat_map f xs ++ rest) rest
+    → IsPrintedAs (AreMany IsPart) xs (flat_map f xs ++ rest) rest
 a_many IsPart f P Follows each [] rest named follows = record { reads = λ at. (at, refl); cut = λ c. c }
 a_many IsPart f P Follows each (x ∷ xs) rest named follows =
     let more = flat_map f xs ++ rest in

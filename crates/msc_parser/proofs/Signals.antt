@@ -12,18 +12,14 @@ use Rattle.msc_parser.specs.declared.fault.What.{What}
 use Rattle.msc_parser.specs.declared.fault.What.TheVariants as whats
 use Rattle.msc_parser.specs.declared.fault.ParseFault.{ParseFault}
 use Rattle.msc_parser.specs.Forms.{IsToken, IsNamed, AreListed}
-use Rattle.msc_parser.specs.Grammar.{address_word, IsNumber, AreParameters, Absent, Empty, Listed}
-use Rattle.msc_parser.specs.Places.{Place, Message, AfterMessage, Number, AfterNumber, Parameters, Parameter, AfterParameter, AfterParameters, Address, End, next, address_what}
+use Rattle.msc_parser.specs.Grammar.{address_word, IsNumber, AreParameters, Absent, Empty, Given}
+use Rattle.msc_parser.specs.Places.{Place, Message, AfterMessage, Number, AfterNumber, Parameters, Parameter, AfterParameter, AfterParameters, Address, StatementEnd, next, address_what}
 use Rattle.msc_parser.specs.Reading.{first_kind, fault_from, Stops, DidTake, Refuses, TakesName, DidEnd, DidRead, IsSignalOf}
-use Rattle.msc_parser.proofs.Steps.{others, took, leads_on, fault_but, OnlyTakes, stops_here, refuses, name_stops, refuses_name, Stops-back}
+use Rattle.msc_parser.proofs.Leading.{comma_leads, open_leads, word_leads}
+use Rattle.msc_parser.proofs.Steps.{others, took, leads_on, fault_but, OnlyTakes, stops_here, refuses_kind, name_stops, refuses_name, Stops-back}
 use Rattle.msc_parser.proofs.Endings.{stuck_but_two}
 
 -- ---- message instance names
-
--- a comma leads to the message instance name
-comma_leads : (w : Way) (p : Place) → next (AfterMessage w p) Comma ≡ Some (Number w p)
-comma_leads ways.Output p = refl
-comma_leads ways.Input p = refl
 
 -- but for a comma, behind a message name stands what stands behind a message instance name
 alike-AfterMessage : (w : Way) (p : Place) (k : Kind) (bytes : List ℕ) → k ≢ kinds.Comma → next (AfterMessage w p) (symbol_of k bytes) ≡ next (AfterNumber w p) (symbol_of k bytes)
@@ -91,11 +87,6 @@ first_refused text a e no_close refused w p =
 pub next_refused : (text : List ℕ) (a : List Token) (e : ParseFault) → TakesName text whats.Name a (Err e) → (w : Way) (p : Place) → Stops text (Parameter w p) a e
 next_refused text a e refused w p = refuses_name text (Parameter w p) whats.Name a e (λ len ls. refl) (only-Parameter w p) refl refused
 
--- `(` leads to the parameters
-open_leads : (w : Way) (p : Place) → next (AfterNumber w p) LeftParen ≡ Some (Parameters w p)
-open_leads ways.Output p = refl
-open_leads ways.Input p = refl
-
 -- but for `(`, behind a message instance name stands what stands behind parameters
 alike-AfterNumber : (w : Way) (p : Place) (k : Kind) (bytes : List ℕ) → k ≢ kinds.LeftParen → next (AfterNumber w p) (symbol_of k bytes) ≡ next (AfterParameters w p) (symbol_of k bytes)
 alike-AfterNumber ways.Output p kinds.LeftParen bytes a = absurd (a refl)
@@ -133,19 +124,25 @@ pub names_stop : (text : List ℕ) (a : List Token) (e : ParseFault) → AreWith
 names_stop text a e within paren w p stop = Stops-back text (AfterNumber w p) (Parameters w p) a (others a) e (opened text a within paren w p) stop
 
 -- neither a comma nor `)` stands behind the parameters
-pub close_refused : (text : List ℕ) (a b : List Token) (ps : List (List ℕ)) (e : ParseFault) → AreWithin text a → first_kind a ≡ Some kinds.LeftParen → (w : Way) (p : Place) → DidRead text (AreListed IsNamed) (Parameters w p) (AfterParameter w p) (others a) b ps → first_kind b ≢ Some kinds.Comma
-    → Refuses text kinds.RightParen whats.Parameter b e → Stops text (AfterNumber w p) a e
-close_refused text a b ps e within paren w p names no_comma refused =
+pub close_refused : (text : List ℕ) (a : List Token) {b : List Token} {ps : List (List ℕ)} (e : ParseFault)
+    → AreWithin text a → first_kind a ≡ Some kinds.LeftParen → (w : Way) (p : Place)
+    → DidRead text (AreListed IsNamed) (Parameters w p) (AfterParameter w p) (others a) b ps
+    → first_kind b ≢ Some kinds.Comma → Refuses text kinds.RightParen whats.Parameter b e
+    → Stops text (AfterNumber w p) a e
+close_refused text a {b} e within paren w p names no_comma refused =
     Stops-back text (AfterNumber w p) (AfterParameter w p) a b e (opened text a within paren w p ∙ names.leads)
     (stops_here text (AfterParameter w p) whats.Parameter b e (λ len ls. refl) (stuck_but_two text (AfterParameter w p) kinds.Comma kinds.RightParen b (only-AfterParameter w p) no_comma refused.1) refl refused.0)
 
 -- names in parentheses are parameters
-pub parameters_read : (text : List ℕ) (a b c : List Token) (ps : List (List ℕ)) → AreWithin text a → first_kind a ≡ Some kinds.LeftParen → (w : Way) (p : Place) → DidRead text (AreListed IsNamed) (Parameters w p) (AfterParameter w p) (others a) b ps
-    → DidTake text RightParen b c → DidRead text AreParameters (AfterNumber w p) (AfterParameters w p) a c ps
-parameters_read text a b c ps within paren w p names close =
+pub parameters_read : (text : List ℕ) (a : List Token) {b c : List Token} {ps : List (List ℕ)}
+    → AreWithin text a → first_kind a ≡ Some kinds.LeftParen → (w : Way) (p : Place)
+    → DidRead text (AreListed IsNamed) (Parameters w p) (AfterParameter w p) (others a) b ps
+    → DidTake text RightParen b c
+    → DidRead text AreParameters (AfterNumber w p) (AfterParameters w p) a c ps
+parameters_read text a {b} {c} within paren w p names close =
     let first = (took text kinds.LeftParen a within paren).1 in
     record {
-      part = Listed (lexemes text (others a)) (lexemes text b) first.part names.part close.part;
+      part = Given (lexemes text (others a)) (lexemes text b) first.part names.part close.part;
       within = close.within;
       shorter = omega (arith, first.shorter, names.shorter, close.shorter);
       leads = opened text a within paren w p ∙ names.leads ∙ leads_on text (AfterParameter w p) (AfterParameters w p) RightParen b c close refl;
@@ -170,11 +167,6 @@ only-Address : (p : Place) → OnlyTakes (Address p) kinds.Name
 only-Address p kinds.Name bytes a = absurd (a refl)
 only-Address p k bytes a = refl
 
--- the word before the address leads to the address
-word_leads : (w : Way) (p : Place) → next (AfterParameters w p) (Reserved (address_word w)) ≡ Some (Address p)
-word_leads ways.Output p = refl
-word_leads ways.Input p = refl
-
 -- behind `out` or `in` no name stands
 pub signal_refused : (text : List ℕ) (w : Way) (a : List Token) (e : ParseFault) → TakesName text whats.Name a (Err e) → (p : Place) → Stops text (Message w p) a e
 signal_refused text w a e refused p = refuses_name text (Message w p) whats.Name a e (λ len ls. refl) (only-Message w p) refl refused
@@ -188,22 +180,26 @@ pub address_leads : (text : List ℕ) (w : Way) (p : Place) (a b : List Token) (
 address_leads text w p a b v same word = leads_on text (AfterParameters w p) (Address p) (Reserved v) a b word (rw same (word_leads w p))
 
 -- the address leads to the end of the statement
-pub end_leads : (text : List ℕ) (p : Place) (a b : List Token) (n : List ℕ) → DidTake text (Named n) a b → fault_from text (Address p) a ≡ fault_from text (End p) b
-end_leads text p a b n name = leads_on text (Address p) (End p) (Named n) a b name refl
+pub end_leads : (text : List ℕ) (p : Place) (a b : List Token) (n : List ℕ) → DidTake text (Named n) a b → fault_from text (Address p) a ≡ fault_from text (StatementEnd p) b
+end_leads text p a b n name = leads_on text (Address p) (StatementEnd p) (Named n) a b name refl
 
 -- the word before the address does not stand there
 pub word_refused : (text : List ℕ) (w : Way) (p : Place) (a : List Token) (v : Word) (x : What) (e : ParseFault) → v ≡ address_word w → x ≡ address_what w → Refuses text (kinds.Word v) x a e → Stops text (AfterParameters w p) a e
 word_refused text w p a v x e same expects refused =
-    refuses text (AfterParameters w p) (kinds.Word v) x a e (λ len ls. refl) (subst (λ (u : Word). OnlyTakes (AfterParameters w p) (kinds.Word u)) (sym same) (only-AfterParameters w p)) expects refused
+    refuses_kind text (AfterParameters w p) (kinds.Word v) x a e (λ len ls. refl) (subst (λ (u : Word). OnlyTakes (AfterParameters w p) (kinds.Word u)) (sym same) (only-AfterParameters w p)) expects refused
 
 -- no address stands there
 pub address_refused : (text : List ℕ) (p : Place) (a : List Token) (e : ParseFault) → TakesName text whats.Name a (Err e) → Stops text (Address p) a e
 address_refused text p a e refused = refuses_name text (Address p) whats.Name a e (λ len ls. refl) (only-Address p) refl refused
 
 -- an event behind its first word is its ident, a word, an address and an end
-pub signal_read : (text : List ℕ) (w : Way) (p : Place) (a b c d e f g : List Token) (n m : List ℕ) (o : Option (List ℕ)) (ps : List (List ℕ)) (v : Word) → DidTake text (Named n) a b → DidRead text IsNumber (AfterMessage w p) (AfterNumber w p) b c o → DidRead text AreParameters (AfterNumber w p) (AfterParameters w p) c d ps
-    → v ≡ address_word w → DidTake text (Reserved v) d e → DidTake text (Named m) e f → DidEnd text f g → DidRead text (IsSignalOf w) (Message w p) p a g record { way = w; name = n; number = o; parameters = ps; address = m }
-signal_read text w p a b c d e f g n m o ps v name number parameters same word address end = record {
+pub signal_read : (text : List ℕ) (w : Way) (p : Place)
+    {a b c d e f g : List Token} {n m : List ℕ} {o : Option (List ℕ)} {ps : List (List ℕ)} {v : Word}
+    → DidTake text (Named n) a b → DidRead text IsNumber (AfterMessage w p) (AfterNumber w p) b c o
+    → DidRead text AreParameters (AfterNumber w p) (AfterParameters w p) c d ps
+    → v ≡ address_word w → DidTake text (Reserved v) d e → DidTake text (Named m) e f → DidEnd text f g
+    → DidRead text (IsSignalOf w) (Message w p) p a g record { way = w; name = n; number = o; parameters = ps; address = m }
+signal_read text w p {a} {b} {c} {d} {e} {f} {g} {n} {m} {v = v} name number parameters same word address end = record {
   part = (
     refl,
     record {

@@ -142,8 +142,8 @@ stuck_but text p kind (t ∷ ts) only other = only t.kind _ (λ e. other (ap som
     some_kind k = Some k
 
 -- no token of the one kind that may stand at the place stands there
-pub refuses : (text : List ℕ) (p : Place) (kind : Kind) (w : What) (tokens : List Token) (e : ParseFault) → IsInside p → OnlyTakes p kind → w ≡ what p → Refuses text kind w tokens e → Stops text p tokens e
-refuses text p kind w tokens e inside only same h = stops_here text p w tokens e inside (stuck_but text p kind tokens only h.1) same h.0
+pub refuses_kind : (text : List ℕ) (p : Place) (kind : Kind) (w : What) (tokens : List Token) (e : ParseFault) → IsInside p → OnlyTakes p kind → w ≡ what p → Refuses text kind w tokens e → Stops text p tokens e
+refuses_kind text p kind w tokens e inside only same h = stops_here text p w tokens e inside (stuck_but text p kind tokens only h.1) same h.0
 
 -- no name stands where a name may stand, and nothing else that may
 pub name_stops : (text : List ℕ) (p : Place) (w : What) (tokens : List Token) (e : ParseFault) → IsInside p → (first_kind tokens ≢ Some kinds.Name → IsStuck text p tokens) → w ≡ what p → TakesName text w tokens (Err e) → Stops text p tokens e

@@ -2,6 +2,7 @@
 use Rattle.std.proofs.Common.{◌≡◌, ℕ, ◌<◌, ◌≤◌, List, [], ◌∷◌, length, Option, Some, None, Result, Ok, Err, refl, sym, ap, subst, ◌∙◌, arith}
 use Rattle.std.specs.Prelude.{IsErrAnd}
 use Rattle.std.proofs.lemmas.List.{length-map}
+use Rattle.msc_lexer.specs.declared.TheConstants.{TEXT_LIMIT}
 use Rattle.msc_lexer.specs.declared.word.Word.TheVariants as words
 use Rattle.msc_lexer.specs.declared.token.Kind.TheVariants as kinds
 use Rattle.msc_lexer.specs.declared.token.Token.{Token}
@@ -9,11 +10,11 @@ use Rattle.msc_lexer.specs.Lexemes.{Symbol, Reserved, Named, lexemes, lexeme_of}
 use Rattle.msc_parser.specs.declared.fault.What.TheVariants as whats
 use Rattle.msc_parser.specs.declared.fault.ParseFault.{ParseFault}
 use Rattle.msc_parser.specs.Grammar.{Tree, IsHeader, IsSection, IsChart}
-use Rattle.msc_parser.specs.Places.{Start, ChartName, Header, Sections, End, Done, next}
+use Rattle.msc_parser.specs.Places.{Start, ChartName, Header, Sections, StatementEnd, Done, next}
 use Rattle.msc_parser.specs.Parsing.{fault_at}
 use Rattle.msc_parser.specs.Reading.{fault_from, Stops, DidTake, fault_of, Refuses, TakesName, DidEnd, DidRead, AreUpTo, ReadsChart}
 use Rattle.msc_parser.proofs.FirstFault.{stuck}
-use Rattle.msc_parser.proofs.Steps.{leads_on, OnlyTakes, Stops-from, refuses, refuses_name, Stops-back}
+use Rattle.msc_parser.proofs.Steps.{leads_on, OnlyTakes, Stops-from, refuses_kind, refuses_name, Stops-back}
 
 -- at the start only `msc` may stand
 only-Start : OnlyTakes Start (kinds.Word words.Msc)
@@ -27,7 +28,7 @@ only-ChartName k bytes a = refl
 
 -- no `msc` stands at the start
 pub msc_refused : (text : List ℕ) (a : List Token) (e : ParseFault) → Refuses text (kinds.Word words.Msc) whats.Msc a e → Stops text Start a e
-msc_refused text a e refused = refuses text Start (kinds.Word words.Msc) whats.Msc a e (λ len ls. refl) only-Start refl refused
+msc_refused text a e refused = refuses_kind text Start (kinds.Word words.Msc) whats.Msc a e (λ len ls. refl) only-Start refl refused
 
 -- behind `msc` no name stands
 pub chart_name_refused : (text : List ℕ) (a b : List Token) (e : ParseFault) → DidTake text (Reserved words.Msc) a b → TakesName text whats.Name b (Err e) → Stops text Start a e
@@ -35,8 +36,8 @@ chart_name_refused text a b e msc refused =
     Stops-back text Start ChartName a b e (leads_on text Start ChartName (Reserved words.Msc) a b msc refl) (refuses_name text ChartName whats.Name b e (λ len ls. refl) only-ChartName refl refused)
 
 -- what was read of a chart's head
-pub head_leads : (text : List ℕ) (a b c : List Token) (n : List ℕ) → DidTake text (Reserved words.Msc) a b → DidTake text (Named n) b c → fault_from text Start a ≡ fault_from text (End Header) c
-head_leads text a b c n msc name = leads_on text Start ChartName (Reserved words.Msc) a b msc refl ∙ leads_on text ChartName (End Header) (Named n) b c name refl
+pub head_leads : (text : List ℕ) (a b c : List Token) (n : List ℕ) → DidTake text (Reserved words.Msc) a b → DidTake text (Named n) b c → fault_from text Start a ≡ fault_from text (StatementEnd Header) c
+head_leads text a b c n msc name = leads_on text Start ChartName (Reserved words.Msc) a b msc refl ∙ leads_on text ChartName (StatementEnd Header) (Named n) b c name refl
 
 -- a token behind the whole chart
 pub more_refused : (text : List ℕ) (g : List Token) (e : ParseFault) → 0 < length g → e ≡ fault_at (length text) whats.Nothing (lexemes text g) → Stops text Done g e
@@ -52,10 +53,13 @@ more_refused text (t ∷ ts) e some fault =
     nothing x = refl
 
 -- all parts of a chart, and nothing behind them
-pub chart_read : (text : List ℕ) (a b c d e f g : List Token) (t : Tree) → DidTake text (Reserved words.Msc) a b → DidTake text (Named t.name) b c → DidEnd text c d → DidRead text IsHeader Header Sections d e t.header
-    → DidRead text (AreUpTo (Reserved words.EndMsc) IsSection) Sections (End Done) e f t.sections → DidEnd text f g → length g ≡ 0 → IsChart (lexemes text a) t
-chart_read text a b c d e f (x ∷ g) t msc name end header sections last none = absurd (omega (arith, none))
-chart_read text a b c d e f [] t msc name end header sections last none = record {
+pub chart_read : (text : List ℕ) {a b c d e f : List Token} (g : List Token) (t : Tree)
+    → DidTake text (Reserved words.Msc) a b → DidTake text (Named t.name) b c → DidEnd text c d
+    → DidRead text IsHeader Header Sections d e t.header
+    → DidRead text (AreUpTo (Reserved words.EndMsc) IsSection) Sections (StatementEnd Done) e f t.sections
+    → DidEnd text f g → length g ≡ 0 → IsChart (lexemes text a) t
+chart_read text (x ∷ g) t msc name end header sections last none = absurd (omega (arith, none))
+chart_read text {a} {b} {c} {d} {e} {f} [] t msc name end header sections last none = record {
   name = lexemes text b;
   close = lexemes text c;
   header = lexemes text d;
@@ -77,5 +81,5 @@ chart_exits text tokens (Ok x) e h stop = absurd h
 chart_exits text tokens (Err y) e h stop = subst (λ (f : ParseFault). Stops text Start tokens f) (sym h) stop
 
 -- as many lexemes as tokens
-pub lexemes_few : (text : List ℕ) (tokens : List Token) → length tokens ≤ 1048576 → length (lexemes text tokens) ≤ 1048576
+pub lexemes_few : (text : List ℕ) (tokens : List Token) → length tokens ≤ TEXT_LIMIT → length (lexemes text tokens) ≤ TEXT_LIMIT
 lexemes_few text tokens few = omega (arith, few, length-map tokens (lexeme_of text))

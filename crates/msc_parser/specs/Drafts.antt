@@ -2,6 +2,7 @@
 -- than a text has bytes.
 use Rattle.std.specs.Prelude.{◌≤◌, List, [], ◌∷◌, length, IfSome}
 use Rattle.std.specs.List.{flat_map, AllByRecursion}
+use Rattle.msc_lexer.specs.declared.TheConstants.{TEXT_LIMIT}
 use Rattle.msc_lexer.specs.Lexemes.{IsName}
 use Rattle.msc_parser.specs.declared.tree.Decl.{Decl}
 use Rattle.msc_parser.specs.declared.tree.Signal.{Signal}
@@ -42,10 +43,10 @@ signals_in (Coregion es) = es
 abbrev pub signals_of : List Section → List Signal
 signals_of ss = flat_map (λ s. flat_map signals_in s.items) ss
 
--- what every draft keeps; a text has at most 1048576 bytes, and each name and event takes one at least
+-- what every draft keeps; each name and event takes a byte of the text at least
 pub record IsDraft (t : Tree) : Type 0 where
   pub name : IsName t.name
   pub header : AllByRecursion IsDeclNamed t.header
-  pub few_decls : length t.header ≤ 1048576
+  pub few_decls : length t.header ≤ TEXT_LIMIT
   pub sections : AllByRecursion IsSectionNamed t.sections
-  pub few_signals : length (signals_of t.sections) ≤ 1048576
+  pub few_signals : length (signals_of t.sections) ≤ TEXT_LIMIT

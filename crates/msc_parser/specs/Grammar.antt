@@ -6,7 +6,7 @@ use Rattle.std.specs.List.{flat_map}
 use Rattle.msc_lexer.specs.declared.word.Word.{Word}
 use Rattle.msc_lexer.specs.declared.word.Word.TheVariants.{Msc, EndMsc, Inst, Instance, EndInstance, Input, From, Output, To, Concurrent, EndConcurrent, Comment}
 use Rattle.msc_lexer.specs.Lexemes.{Reserved, Named, Quoted, Semicolon, Comma, Colon, LeftParen, RightParen, Lexeme}
-use Rattle.msc_parser.specs.Forms.{IsToken, IsNamed, AreMany, IsBehind, AreListed}
+use Rattle.msc_parser.specs.Forms.{IsToken, IsNamed, AreMany, IsLedBy, AreListed}
 use Rattle.msc_parser.specs.declared.tree.Way.{Way}
 use Rattle.msc_parser.specs.declared.tree.Way.TheVariants as ways
 use Rattle.msc_parser.specs.declared.tree.Decl.{Decl}
@@ -54,13 +54,13 @@ address_word ways.Input = From
 -- no message instance name, or a comma and one
 abbrev pub IsNumber : List Lexeme → Option (List ℕ) → List Lexeme → Type 0
 IsNumber before None after = before ≡ after
-IsNumber before (Some number) after = IsBehind Comma IsNamed before number after
+IsNumber before (Some number) after = IsLedBy Comma IsNamed before number after
 
 -- no parameters, in no parentheses or in empty ones; or names in parentheses
 pub data AreParameters (before : List Lexeme) (ps : List (List ℕ)) (after : List Lexeme) : Type 0 where
   Absent : ps ≡ [] → before ≡ after → AreParameters before ps after
   Empty : (close : List Lexeme) → ps ≡ [] → IsToken LeftParen before close → IsToken RightParen close after → AreParameters before ps after
-  Listed : (names close : List Lexeme) → IsToken LeftParen before names → AreListed IsNamed names ps close → IsToken RightParen close after → AreParameters before ps after
+  Given : (names close : List Lexeme) → IsToken LeftParen before names → AreListed IsNamed names ps close → IsToken RightParen close after → AreParameters before ps after
 
 -- an ident: the message's name, its message instance name and its parameters
 pub record IsIdent (before : List Lexeme) (e : Signal) (after : List Lexeme) : Type 0 where
@@ -82,7 +82,7 @@ pub record IsSignal (before : List Lexeme) (e : Signal) (after : List Lexeme) : 
 
 -- an event: `out` ident `to` name end, or `in` ident `from` name end
 abbrev pub IsEvent : List Lexeme → Signal → List Lexeme → Type 0
-IsEvent before e after = IsBehind (Reserved (way_word e.way)) IsSignal before e after
+IsEvent before e after = IsLedBy (Reserved (way_word e.way)) IsSignal before e after
 
 -- a coregion behind its first word: end, events, `endconcurrent` end
 pub record IsCoregion (before : List Lexeme) (es : List Signal) (after : List Lexeme) : Type 0 where
@@ -97,7 +97,7 @@ pub record IsCoregion (before : List Lexeme) (es : List Signal) (after : List Le
 -- a statement of a section: an event or a coregion
 abbrev pub IsItem : List Lexeme → Item → List Lexeme → Type 0
 IsItem before (Single e) after = IsEvent before e after
-IsItem before (Coregion es) after = IsBehind (Reserved Concurrent) IsCoregion before es after
+IsItem before (Coregion es) after = IsLedBy (Reserved Concurrent) IsCoregion before es after
 
 -- a section behind its first word: decl, end, items, `endinstance` end
 pub record IsInstance (before : List Lexeme) (s : Section) (after : List Lexeme) : Type 0 where
@@ -113,7 +113,7 @@ pub record IsInstance (before : List Lexeme) (s : Section) (after : List Lexeme)
 
 -- a section: `instance` and what follows
 abbrev pub IsSection : List Lexeme → Section → List Lexeme → Type 0
-IsSection before s after = IsBehind (Reserved Instance) IsInstance before s after
+IsSection before s after = IsLedBy (Reserved Instance) IsInstance before s after
 
 -- an `inst` statement behind its first word: decls and end
 abbrev pub AreDecls : List Lexeme → List Decl → List Lexeme → Type 0
@@ -121,7 +121,7 @@ AreDecls before ds after = (close : List Lexeme) × AreListed IsDecl before ds c
 
 -- the decls of all `inst` statements
 abbrev pub IsHeader : List Lexeme → List Decl → List Lexeme → Type 0
-IsHeader before ds after = (groups : List (List Decl)) × (ds ≡ flat_map (λ g. g) groups) × AreMany (IsBehind (Reserved Inst) AreDecls) before groups after
+IsHeader before ds after = (groups : List (List Decl)) × (ds ≡ flat_map (λ g. g) groups) × AreMany (IsLedBy (Reserved Inst) AreDecls) before groups after
 
 -- a chart: `msc` name end, the header, the sections, `endmsc` end, and then nothing
 pub record IsChart (before : List Lexeme) (t : Tree) : Type 0 where

@@ -1,7 +1,10 @@
+-- what is promised
 pub mod Places
 pub mod Forms
 pub mod Grammar
 pub mod Parsing
-pub mod Reading
+pub mod Table
 pub mod Canonical
 pub mod Drafts
+-- what the code keeps
+pub mod Reading

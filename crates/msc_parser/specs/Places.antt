@@ -37,7 +37,7 @@ pub data Place : Type 0 where
   AfterParameter : Way → Place → Place  -- after a parameter
   AfterParameters : Way → Place → Place  -- after `)`
   Address : Place → Place  -- after `to` or `from`
-  End : Place → Place  -- at the end of a statement
+  StatementEnd : Place → Place  -- at the end of a statement
   CommentText : Place → Place  -- after `comment`
   CommentEnd : Place → Place  -- after the text of a comment
   Done : Place  -- after the whole chart
@@ -50,19 +50,19 @@ behind InInstance = Items
 -- the place behind a token that may stand at a place
 abbrev pub next : Place → Symbol → Option Place
 next Start (Reserved words.Msc) = Some ChartName
-next ChartName (Named n) = Some (End Header)
+next ChartName (Named n) = Some (StatementEnd Header)
 next Header (Reserved words.Inst) = Some (DeclName InInst)
 next Header (Reserved words.Instance) = Some (DeclName InInstance)
-next Header (Reserved words.EndMsc) = Some (End Done)
+next Header (Reserved words.EndMsc) = Some (StatementEnd Done)
 next Sections (Reserved words.Instance) = Some (DeclName InInstance)
-next Sections (Reserved words.EndMsc) = Some (End Done)
+next Sections (Reserved words.EndMsc) = Some (StatementEnd Done)
 next Items (Reserved words.Output) = Some (Message ways.Output Items)
 next Items (Reserved words.Input) = Some (Message ways.Input Items)
-next Items (Reserved words.Concurrent) = Some (End Events)
-next Items (Reserved words.EndInstance) = Some (End Sections)
+next Items (Reserved words.Concurrent) = Some (StatementEnd Events)
+next Items (Reserved words.EndInstance) = Some (StatementEnd Sections)
 next Events (Reserved words.Output) = Some (Message ways.Output Events)
 next Events (Reserved words.Input) = Some (Message ways.Input Events)
-next Events (Reserved words.EndConcurrent) = Some (End Items)
+next Events (Reserved words.EndConcurrent) = Some (StatementEnd Items)
 next (DeclName st) (Named n) = Some (DeclKind st)
 next (DeclKind st) Colon = Some (KindFirst st)
 next (DeclKind InInst) Comma = Some (DeclName InInst)
@@ -92,9 +92,9 @@ next (AfterParameter way p) Comma = Some (Parameter way p)
 next (AfterParameter way p) RightParen = Some (AfterParameters way p)
 next (AfterParameters ways.Output p) (Reserved words.To) = Some (Address p)
 next (AfterParameters ways.Input p) (Reserved words.From) = Some (Address p)
-next (Address p) (Named n) = Some (End p)
-next (End p) (Reserved words.Comment) = Some (CommentText p)
-next (End p) Semicolon = Some p
+next (Address p) (Named n) = Some (StatementEnd p)
+next (StatementEnd p) (Reserved words.Comment) = Some (CommentText p)
+next (StatementEnd p) Semicolon = Some p
 next (CommentText p) (Quoted bytes) = Some (CommentEnd p)
 next (CommentEnd p) Semicolon = Some p
 next place symbol = None
@@ -126,7 +126,7 @@ what (Parameter way p) = whats.Name
 what (AfterParameter way p) = whats.Parameter
 what (AfterParameters way p) = address_what way
 what (Address p) = whats.Name
-what (End p) = whats.End
+what (StatementEnd p) = whats.End
 what (CommentText p) = whats.Text
 what (CommentEnd p) = whats.End
 what Done = whats.Nothing

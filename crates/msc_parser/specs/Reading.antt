@@ -13,7 +13,7 @@ use Rattle.msc_parser.specs.declared.fault.ParseFault.{ParseFault}
 use Rattle.msc_parser.specs.declared.fault.ParseFault.TheVariants.{Memory}
 use Rattle.msc_parser.specs.Forms.{IsToken, AreMany}
 use Rattle.msc_parser.specs.Grammar.{Tree, IsEnd, IsSignal, IsChart}
-use Rattle.msc_parser.specs.Places.{Place, Start, End, Done, what, walk}
+use Rattle.msc_parser.specs.Places.{Place, Start, StatementEnd, Done, what, walk}
 use Rattle.msc_parser.specs.Parsing.{fault_at}
 
 -- the kind of the first token
@@ -46,9 +46,9 @@ abbrev pub Refuses : List ℕ → Kind → What → List Token → ParseFault �
 Refuses text kind w before e = (e ≡ fault_at (length text) w (lexemes text before)) × (first_kind before ≢ Some kind)
 
 -- what taking a token of a kind answers
-abbrev pub Takes : List ℕ → Kind → What → List Token → Result (Bor (List Token)) ParseFault → Type 0
-Takes text kind w before (Ok after) = (bytes : List ℕ) × DidTake text (symbol_of kind bytes) before after.now
-Takes text kind w before (Err e) = Refuses text kind w before e
+abbrev pub TakesToken : List ℕ → Kind → What → List Token → Result (Bor (List Token)) ParseFault → Type 0
+TakesToken text kind w before (Ok after) = (bytes : List ℕ) × DidTake text (symbol_of kind bytes) before after.now
+TakesToken text kind w before (Err e) = Refuses text kind w before e
 
 -- what taking a name answers
 abbrev pub TakesName : List ℕ → What → List Token → Result (List ℕ × Bor (List Token)) ParseFault → Type 0
@@ -61,12 +61,12 @@ pub record DidEnd (text : List ℕ) (before after : List Token) : Type 0 where
   pub part : IsEnd (lexemes text before) (lexemes text after)
   pub within : AreWithin text after
   pub shorter : length after < length before
-  pub leads : (p : Place) → fault_from text (End p) before ≡ fault_from text p after
+  pub leads : (p : Place) → fault_from text (StatementEnd p) before ≡ fault_from text p after
 
 -- what reading the end of a statement answers
 abbrev pub Ends : List ℕ → List Token → Result (Bor (List Token)) ParseFault → Type 0
 Ends text before (Ok after) = DidEnd text before after.now
-Ends text before (Err e) = (p : Place) → Stops text (End p) before e
+Ends text before (Err e) = (p : Place) → Stops text (StatementEnd p) before e
 
 -- The part x was read at the place p, and q is the place behind it: what follows has the fault there
 -- that the whole has at p.

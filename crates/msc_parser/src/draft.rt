@@ -13,6 +13,7 @@ ghost use Rattle.msc_parser.specs.Parsing.{HasDraft};
 use crate::tree::{Decl, Name, Section};
 use crate::writing::canonical_text;
 use listed::Listed;
+use msc_lexer::TEXT_LIMIT;
 use msc_lexer::laws::prints_pieces;
 use std::alloc::{AllocError, Global};
 use std::marker::Model;
@@ -67,7 +68,7 @@ impl Draft {
     pub fn header(&self) -> &[Decl]
         ensures value { result.now ≡ self.now.header }
         ensures named { AllByRecursion IsDeclNamed result.now }
-        ensures few { length result.now ≤ 1048576 }
+        ensures few { length result.now ≤ TEXT_LIMIT }
     {
         self.known();
         self.header.as_slice()
@@ -77,7 +78,7 @@ impl Draft {
     pub fn sections(&self) -> &[Section]
         ensures value { result.now ≡ self.now.sections }
         ensures named { AllByRecursion IsSectionNamed result.now }
-        ensures few { length (signals_of result.now) ≤ 1048576 }
+        ensures few { length (signals_of result.now) ≤ TEXT_LIMIT }
     {
         self.known();
         self.sections.as_slice()
@@ -90,7 +91,7 @@ impl Draft {
         ensures text { IfOk result (λ v. v.items ≡ canonical self.now) }
 
         // Where it is short enough, it is a text of this draft.
-        ensures again { IfOk result (λ v. length v.items ≤ 1048576 → HasDraft v.items self.now) }
+        ensures again { IfOk result (λ v. length v.items ≤ TEXT_LIMIT → HasDraft v.items self.now) }
     {
         prints_pieces();
         self.known();

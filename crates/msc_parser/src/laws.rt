@@ -2,6 +2,7 @@
 //! one to rest its own proof on the law.
 
 ghost use Rattle.msc_parser.specs.Parsing.{OneDraft, OneParsing};
+ghost use Rattle.msc_parser.specs.Table.{TableFitsTheGrammar};
 
 use msc_lexer::laws::one_reading;
 
@@ -16,3 +17,10 @@ pub fn one_parsing()
 {
     one_reading();
 }
+
+/// The table of places says what the grammar says: behind each beginning of a chart it allows exactly
+/// the symbols with which some chart goes on, and the end of the text exactly where the beginning is a
+/// chart.
+pub fn table_fits_the_grammar()
+    ensures { TableFitsTheGrammar }
+{}

@@ -13,14 +13,14 @@ use crate::heading::header;
 use crate::sectioning::sections;
 use crate::taking::{take, take_end, take_name, unexpected};
 use msc_lexer::laws::one_reading;
-use msc_lexer::{Kind, LexFault, Token, Word, lex};
+use msc_lexer::{Kind, LexFault, TEXT_LIMIT, Token, Word, lex};
 use std::alloc::Global;
 
 /// The draft of all tokens of a text.
 fn chart(alloc: Global, text: &[u8], tokens: &[Token]) -> Result<Draft, ParseFault>
     requires within { AreWithin text.now tokens.now }
     requires named { HaveNames (lexemes text.now tokens.now) }
-    requires few { length tokens.now ≤ 1048576 }
+    requires few { length tokens.now ≤ TEXT_LIMIT }
     ensures { ReadsChart text.now tokens.now result }
 {
     let rest = take(Kind::Word(Word::Msc), What::Msc, text, tokens)?;

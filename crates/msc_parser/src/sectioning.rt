@@ -5,7 +5,7 @@
 ghost use Rattle.std.specs.Prelude.{◌≡◌, ◌≢◌, Some};
 ghost use Rattle.msc_lexer.specs.Lexemes.{AreWithin, Reserved};
 ghost use Rattle.msc_parser.specs.Grammar.{IsEvent, IsCoregion, IsItem, IsInstance, IsSection};
-ghost use Rattle.msc_parser.specs.Places.{InInstance, DeclName, Items, Events, Sections, End, Done};
+ghost use Rattle.msc_parser.specs.Places.{InInstance, DeclName, Items, Events, Sections, StatementEnd, Done};
 ghost use Rattle.msc_parser.specs.Reading.{first_kind, Reads, Uses, AreUpTo};
 
 use crate::fault::{ParseFault, What};
@@ -42,7 +42,7 @@ fn events<'a>(
 ) -> Result<(Listed<Signal>, &'a [Token]), ParseFault>
     requires { AreWithin text.now tokens.now }
     ensures { Reads text.now (AreUpTo (Reserved Word.EndConcurrent)
-        IsEvent) Events (End Items) tokens.now result }
+        IsEvent) Events (StatementEnd Items) tokens.now result }
 {
     let mut events = Vec::new(alloc);
     let mut rest = tokens;
@@ -61,7 +61,7 @@ fn coregion<'a>(
     tokens: &'a [Token],
 ) -> Result<(Listed<Signal>, &'a [Token]), ParseFault>
     requires { AreWithin text.now tokens.now }
-    ensures { Reads text.now IsCoregion (End Events) Items tokens.now result }
+    ensures { Reads text.now IsCoregion (StatementEnd Events) Items tokens.now result }
 {
     let rest = take_end(text, tokens)?;
     let (events, rest) = events(alloc, text, rest)?;
@@ -99,7 +99,7 @@ fn items<'a>(
 ) -> Result<(Listed<Item>, &'a [Token]), ParseFault>
     requires { AreWithin text.now tokens.now }
     ensures { Reads text.now (AreUpTo (Reserved Word.EndInstance)
-        IsItem) Items (End Sections) tokens.now result }
+        IsItem) Items (StatementEnd Sections) tokens.now result }
 {
     let mut items = Vec::new(alloc);
     let mut rest = tokens;
@@ -135,7 +135,7 @@ pub fn sections<'a>(
 ) -> Result<(Listed<Section>, &'a [Token]), ParseFault>
     requires { AreWithin text.now tokens.now }
     ensures { Reads text.now (AreUpTo (Reserved Word.EndMsc)
-        IsSection) Sections (End Done) tokens.now result }
+        IsSection) Sections (StatementEnd Done) tokens.now result }
 {
     let mut sections = Vec::new(alloc);
     let mut rest = tokens;

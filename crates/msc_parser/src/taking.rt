@@ -5,7 +5,7 @@
 ghost use Rattle.std.specs.Prelude.{◌≡◌, ◌↔◌, IsTrue, length, Some};
 ghost use Rattle.msc_lexer.specs.Lexemes.{lexemes, AreWithin};
 ghost use Rattle.msc_parser.specs.Parsing.{is_refused, fault_at};
-ghost use Rattle.msc_parser.specs.Reading.{first_kind, Takes, TakesName, Ends};
+ghost use Rattle.msc_parser.specs.Reading.{first_kind, TakesToken, TakesName, Ends};
 
 use crate::fault::{ParseFault, What};
 use crate::tree::Name;
@@ -60,7 +60,7 @@ pub fn take<'a>(
     tokens: &'a [Token],
 ) -> Result<&'a [Token], ParseFault>
     requires { AreWithin text.now tokens.now }
-    ensures { Takes text.now kind what tokens.now result }
+    ensures { TakesToken text.now kind what tokens.now result }
 {
     if stands(kind, tokens) {
         Ok(&tokens[1..])

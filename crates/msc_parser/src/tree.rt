@@ -5,7 +5,8 @@
 
 use listed::Listed;
 
-/// The bytes of a name: 1 to 64 ASCII letters, digits and underscores that are no reserved word.
+/// The bytes of a name: ASCII letters, digits and underscores, from one to `msc_lexer::NAME_LIMIT`,
+/// that are no reserved word.
 pub type Name = Listed<u8>;
 
 /// Whether an event is an output (`out`) or an input (`in`) of its message.

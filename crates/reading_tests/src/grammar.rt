@@ -1,40 +1,76 @@
 //! The whole grammar: drafts of kinds, message instance names, parameters and coregions, and a
 //! refused text for each place.
 
+use crate::drafts::canonical;
 use example_charts::KINDS_AND_COMMENTS;
 use msc_lexer::LexFault;
-use msc_parser::{Draft, Item, ParseFault, What, parse};
+use msc_parser::{Draft, Item, Name, ParseFault, Signal, What, parse};
+use std::alloc::{AllocError, Global};
 use std::test::Fail;
+
+/// Whether these are the names.
+fn are_names(names: &[Name], wanted: &[&[u8]]) -> bool {
+    for (name, want) in names.iter().zip(wanted.iter()) {
+        if name.as_slice() != *want {
+            return false;
+        }
+    }
+    names.len() == wanted.len()
+}
+
+/// Whether an event has the message instance name `1` and the parameters `x` and `y`.
+fn has_number_and_parameters(signal: &Signal) -> bool {
+    match &signal.number {
+        Some(number) => {
+            number.as_slice() == b"1".as_slice()
+                && are_names(signal.parameters.as_slice(), &[b"x", b"y"])
+        }
+        None => false,
+    }
+}
+
+/// Whether a draft is that of `KINDS_AND_COMMENTS`, up to the only event of its first section.
+fn has_kinds_numbers_and_parameters(draft: &Draft) -> bool {
+    let [a, _b] = draft.sections() else {
+        return false;
+    };
+    if draft.header().len() != 2 || !are_names(a.decl.kind.as_slice(), &[b"process", b"p"]) {
+        return false;
+    }
+    match a.items.as_slice() {
+        [Item::Single(signal)] => has_number_and_parameters(signal),
+        _ => false,
+    }
+}
+
+/// Whether the first section of a draft is a coregion of no events and one of two.
+fn has_coregions(draft: &Draft) -> bool {
+    let [section, ..] = draft.sections() else {
+        return false;
+    };
+    match section.items.as_slice() {
+        [Item::Coregion(none), Item::Coregion(two)] => {
+            none.as_slice().is_empty() && two.as_slice().len() == 2
+        }
+        _ => false,
+    }
+}
+
+/// A text of forty thousand empty coregions.
+fn empty_coregions(alloc: Global) -> Result<Vec<u8>, AllocError> {
+    let mut text = Vec::new(alloc);
+    text.extend_from_slice(b"msc t;instance a;")?;
+    for _ in 0..40_000 {
+        text.extend_from_slice(b"concurrent;endconcurrent;")?;
+    }
+    text.extend_from_slice(b"endinstance;endmsc;")?;
+    Ok(text)
+}
 
 #[test]
 fn kinds_numbers_and_parameters(rt: HostRuntime) -> Result<(), Fail> {
     let draft = parse(rt.alloc(), KINDS_AND_COMMENTS)?;
-    let (a, _b) = match draft.sections() {
-        [a, b] => (a, b),
-        _ => return Err("two sections")?,
-    };
-    assert_eq!(rt; draft.header().len(), 2);
-    match a.decl.kind.as_slice() {
-        [first, second] => {
-            assert_eq!(rt; first.as_slice(), b"process".as_slice());
-            assert_eq!(rt; second.as_slice(), b"p".as_slice());
-        }
-        _ => assert!(rt; false, "a kind of two names"),
-    }
-    match a.items.as_slice() {
-        [Item::Single(signal)] => {
-            let number = signal.number.as_ref().ok_or("a message instance name")?;
-            assert_eq!(rt; number.as_slice(), b"1".as_slice());
-            match signal.parameters.as_slice() {
-                [x, y] => {
-                    assert_eq!(rt; x.as_slice(), b"x".as_slice());
-                    assert_eq!(rt; y.as_slice(), b"y".as_slice());
-                }
-                _ => assert!(rt; false, "two parameters"),
-            }
-        }
-        _ => assert!(rt; false, "one event"),
-    }
+    assert!(rt; has_kinds_numbers_and_parameters(&draft));
     Ok(())
 }
 
@@ -43,14 +79,7 @@ fn coregions(rt: HostRuntime) -> Result<(), Fail> {
     let text = b"msc t; instance a; concurrent comment 'c'; endconcurrent; \
 concurrent; in m() from b; out n to b; endconcurrent; endinstance; endmsc;";
     let draft = parse(rt.alloc(), text)?;
-    let section = draft.sections().first().ok_or("a section")?;
-    match section.items.as_slice() {
-        [Item::Coregion(none), Item::Coregion(two)] => {
-            assert_eq!(rt; none.as_slice().len(), 0);
-            assert_eq!(rt; two.as_slice().len(), 2);
-        }
-        _ => assert!(rt; false, "two coregions"),
-    }
+    assert!(rt; has_coregions(&draft));
     Ok(())
 }
 
@@ -164,18 +193,11 @@ fn every_beginning_is_refused_and_none_as_unsupported(rt: HostRuntime) {
 
 #[test]
 fn forty_thousand_empty_coregions(rt: HostRuntime) -> Result<(), Fail> {
-    let alloc = rt.alloc();
-    let mut text = Vec::new(alloc);
-    text.extend_from_slice(b"msc t;instance a;")?;
-    for _ in 0..40_000 {
-        text.extend_from_slice(b"concurrent;endconcurrent;")?;
-    }
-    text.extend_from_slice(b"endinstance;endmsc;")?;
+    let text = empty_coregions(rt.alloc())?;
     assert_eq!(rt; text.len(), 1_000_036);
-    let draft: Draft = parse(alloc, &text)?;
-    let canonical = draft.write(alloc)?;
-    assert_eq!(rt; canonical.len(), 1_240_040);
+    let written = canonical(rt.alloc(), &text)?;
+    assert_eq!(rt; written.len(), 1_240_040);
     let too_long = Some(ParseFault::Lex(LexFault::TooLong));
-    assert_eq!(rt; parse(alloc, &canonical).err(), too_long);
+    assert_eq!(rt; parse(rt.alloc(), &written).err(), too_long);
     Ok(())
 }

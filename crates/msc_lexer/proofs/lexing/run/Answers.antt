@@ -1,6 +1,7 @@
 use Rattle.std.proofs.Common.{◌≡◌, ◌<◌, length, take, drop, Some, None, refl, sym, arith}
 use Rattle.std.proofs.lemmas.List.{take-append-drop}
 use Rattle.std.proofs.lemmas.List.Folds.{length-prefix_len}
+use Rattle.msc_lexer.specs.declared.TheConstants.{NAME_LIMIT}
 use Rattle.msc_lexer.specs.Bytes.{is_run_byte}
 use Rattle.msc_lexer.specs.Words.{word_of}
 use Rattle.msc_lexer.proofs.EndsLemmas.{run_at}
@@ -20,5 +21,5 @@ returns-in-None-clause-piece c =
 pub returns-in-None-2-clause-flaw : goal.returns-in-None-2-clause-flaw
 returns-in-None-2-clause-flaw c =
     let len : c.run_length-length.result ≡ length (take c.run_length-length.result c.args.text.now) = rw c.run_length-length.ensures (sym (length-prefix_len is_run_byte c.args.text.now)) in
-    let long : 64 < length (take c.run_length-length.result c.args.text.now) = omega (arith, len) in
+    let long : NAME_LIMIT < length (take c.run_length-length.result c.args.text.now) = omega (arith, len) in
     (refl, take c.run_length-length.result c.args.text.now, drop c.run_length-length.result c.args.text.now, sym (take-append-drop c.run_length-length.result c.args.text.now), rw c.run_length-length.ensures (run_at c.args.text.now c.requires), sym c.in-None.ensures, long)

@@ -1,4 +1,3 @@
-use Rattle.std.proofs.Common.{◌∙◌, refl}
 use Rattle.msc_parser.specs.Places.{Header, Sections}
 use Rattle.msc_parser.proofs.Steps.{not_both, exits}
 use Rattle.msc_parser.proofs.Headings.{header_more, header_stops, header_read}
@@ -10,8 +9,9 @@ returns-in_err-decls c =
     (header_stops c.args.text.now c.args.tokens.now c.statements.rest.now c.statements.header.items _ c.statements.invariant (c.stands.ensures.0 c.statements-test.true) c.in_err-decls.ensures)
 
 pub statements-preserved : goal.statements-preserved
-statements-preserved c = header_more c.args.text.now c.args.tokens.now c.statements.rest.now c.in_ok-decls.after.now c.statements.header.items c.in_ok-decls.decls _ c.statements.invariant (c.stands.ensures.0 c.statements-test.true) c.in_ok-decls.ensures
-    (c.in_ok-append.ensures.items ∙ rw c.into_vec-decls.ensures refl)
+statements-preserved c =
+    rw (c.in_ok-append.ensures.items, c.into_vec-decls.ensures)
+    (header_more c.args.text.now c.statements.invariant (c.stands.ensures.0 c.statements-test.true) c.in_ok-decls.ensures)
 
 pub returns : goal.returns
 returns c = rw c.from_vec.ensures (header_read c.args.text.now c.args.tokens.now c.statements.rest.now c.statements.header.items c.statements.invariant (λ e. not_both c.stands.ensures c.statements-test.false e))

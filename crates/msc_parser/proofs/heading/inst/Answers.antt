@@ -12,7 +12,7 @@ returns-in_err-first c = exits c.args.text.now _ (DeclName InInst) Header c.args
 
 pub decls-init : goal.decls-init
 decls-init c =
-    listed_first c.args.text.now IsDecl (DeclName InInst) (DeclEnd InInst) c.args.tokens.now c.in_ok-first.rest.now c.in_ok-first.first _ (c.in_ok-first.ensures InInst)
+    listed_first c.args.text.now IsDecl (DeclName InInst) (DeclEnd InInst) (c.in_ok-first.ensures InInst)
     (pushed_one c.new-decls.result.items c.push.new.self.items _ c.new-decls.ensures.items c.in_ok-push.ensures.items)
 
 pub decl-requires-in-decls : goal.decl-requires-in-decls
@@ -21,12 +21,13 @@ decl-requires-in-decls c = within_others c.args.text.now c.decls.rest.now c.decl
 pub returns-in_err-more : goal.returns-in_err-more
 returns-in_err-more c =
     exits c.args.text.now _ (DeclName InInst) Header c.args.tokens.now _ c.in_err-more.field-0.0 c.from_residual-in_err-more.ensures.1
-    (listed_stops c.args.text.now IsDecl (DeclName InInst) (DeclEnd InInst) (DeclName InInst) c.args.tokens.now c.decls.rest.now c.decls.decls.items _ c.decls.invariant (c.stands.ensures.0 c.decls-test.true) refl (c.in_err-more.ensures InInst))
+    (listed_stops c.args.text.now IsDecl (DeclName InInst) (DeclEnd InInst) (DeclName InInst) _ c.decls.invariant (c.stands.ensures.0 c.decls-test.true) refl (c.in_err-more.ensures InInst))
 
 pub decls-preserved : goal.decls-preserved
 decls-preserved c =
-    listed_more c.args.text.now IsDecl (DeclName InInst) (DeclEnd InInst) (DeclName InInst) c.args.tokens.now c.decls.rest.now c.in_ok-more.after.now c.decls.decls.items _ c.in_ok-more.more c.decls.invariant (c.stands.ensures.0 c.decls-test.true) refl
-    (c.in_ok-more.ensures InInst) c.in_ok-push-2.ensures.items
+    rw c.in_ok-push-2.ensures.items
+    (listed_more c.args.text.now IsDecl (DeclName InInst) (DeclEnd InInst) (DeclName InInst)
+    c.decls.invariant (c.stands.ensures.0 c.decls-test.true) refl (c.in_ok-more.ensures InInst))
 
 pub returns-in_err-rest : goal.returns-in_err-rest
 returns-in_err-rest c =

@@ -18,9 +18,15 @@ returns-in_err-first c = λ st.
     (kind_first_refused c.args.text.now c.args.tokens.now _ c.requires (c.stands.ensures.0 c.if-not-stands.false) c.in_err-first.ensures st)
 
 pub returns-then-not-stands-2 : goal.returns-then-not-stands-2
-returns-then-not-stands-2 c = kind_one c.args.text.now c.args.tokens.now c.in_ok-first.rest.now _ _ c.requires (c.stands.ensures.0 c.if-not-stands.false) c.in_ok-first.ensures (λ e. not_both c.stands-2.ensures c.if-not-stands-2.true e)
-    (c.from_vec-then-not-stands-2.ensures ∙ pushed_one c.new-names.result.items c.push.new.self.items _ c.new-names.ensures.items c.in_ok-push.ensures.items)
+returns-then-not-stands-2 c =
+    let one = pushed_one c.new-names.result.items c.push.new.self.items _ c.new-names.ensures.items c.in_ok-push.ensures.items in
+    rw (c.from_vec-then-not-stands-2.ensures, one)
+    (kind_one c.args.text.now c.args.tokens.now c.requires (c.stands.ensures.0 c.if-not-stands.false) c.in_ok-first.ensures
+    (λ e. not_both c.stands-2.ensures c.if-not-stands-2.true e))
 
 pub returns : goal.returns
-returns c = kind_two c.args.text.now c.args.tokens.now c.in_ok-first.rest.now c.in_ok-second.rest.now _ _ _ c.requires (c.stands.ensures.0 c.if-not-stands.false) c.in_ok-first.ensures c.in_ok-second.ensures
-    (c.from_vec-2.ensures ∙ pushed_two c.push.new.self.items c.push-2.new.self.items _ _ (pushed_one c.new-names.result.items c.push.new.self.items _ c.new-names.ensures.items c.in_ok-push.ensures.items) c.in_ok-push-2.ensures.items)
+returns c =
+    let one = pushed_one c.new-names.result.items c.push.new.self.items _ c.new-names.ensures.items c.in_ok-push.ensures.items in
+    let two = pushed_two c.push.new.self.items c.push-2.new.self.items _ _ one c.in_ok-push-2.ensures.items in
+    rw (c.from_vec-2.ensures, two)
+    (kind_two c.args.text.now c.args.tokens.now c.requires (c.stands.ensures.0 c.if-not-stands.false) c.in_ok-first.ensures c.in_ok-second.ensures)

@@ -1,7 +1,7 @@
 use Rattle.std.proofs.Common.{◌≡◌, ◌<◌, length, sym, ◌∙◌, arith}
 use Rattle.std.proofs.lemmas.Bool.{eqb-true, eqb-false}
 use Rattle.msc_lexer.specs.Lexemes.{lexemes}
-use Rattle.msc_parser.specs.Places.{Start, Header, Sections, End, Done}
+use Rattle.msc_parser.specs.Places.{Start, Header, Sections, StatementEnd, Done}
 use Rattle.msc_parser.proofs.Steps.{Stops-back}
 use Rattle.msc_parser.proofs.Naming.{chart_draft}
 use Rattle.msc_parser.proofs.Whole.{msc_refused, chart_name_refused, head_leads, more_refused, chart_read, chart_exits, lexemes_few}
@@ -17,7 +17,7 @@ returns-in_err-name c =
 pub returns-in_err-rest-2 : goal.returns-in_err-rest-2
 returns-in_err-rest-2 c =
     chart_exits c.args.text.now c.args.tokens.now _ c.in_err-rest-2.field-0.0 c.from_residual-in_err-rest-2.ensures.1
-    (Stops-back c.args.text.now Start (End Header) c.args.tokens.now c.in_ok-name.rest.now _ (head_leads c.args.text.now _ _ _ _ c.in_ok-rest.ensures.1 c.in_ok-name.ensures) (c.in_err-rest-2.ensures Header))
+    (Stops-back c.args.text.now Start (StatementEnd Header) c.args.tokens.now c.in_ok-name.rest.now _ (head_leads c.args.text.now _ _ _ _ c.in_ok-rest.ensures.1 c.in_ok-name.ensures) (c.in_err-rest-2.ensures Header))
 
 pub returns-in_err-header : goal.returns-in_err-header
 returns-in_err-header c =
@@ -32,7 +32,7 @@ returns-in_err-sections c =
 pub returns-in_err-rest-3 : goal.returns-in_err-rest-3
 returns-in_err-rest-3 c =
     chart_exits c.args.text.now c.args.tokens.now _ c.in_err-rest-3.field-0.0 c.from_residual-in_err-rest-3.ensures.1
-    (Stops-back c.args.text.now Start (End Done) c.args.tokens.now c.in_ok-sections.rest.now _
+    (Stops-back c.args.text.now Start (StatementEnd Done) c.args.tokens.now c.in_ok-sections.rest.now _
     (head_leads c.args.text.now _ _ _ _ c.in_ok-rest.ensures.1 c.in_ok-name.ensures ∙ c.in_ok-rest-2.ensures.leads Header ∙ c.in_ok-header.ensures.leads ∙ c.in_ok-sections.ensures.leads) (c.in_err-rest-3.ensures Done))
 
 pub returns-then-not-is_empty : goal.returns-then-not-is_empty
@@ -46,11 +46,11 @@ pub new-requires : goal.new-requires
 new-requires c =
     let none : length c.in_ok-rest-3.rest.now ≡ 0 = eqb-true (length c.in_ok-rest-3.rest.now) 0 (sym c.is_empty.ensures ∙ c.if-not-is_empty.false) in
     chart_draft (lexemes c.args.text.now c.args.tokens.now) _
-    (chart_read c.args.text.now _ _ _ _ _ _ c.in_ok-rest-3.rest.now (record { name = c.in_ok-name.name; header = c.in_ok-header.header; sections = c.in_ok-sections.sections }) c.in_ok-rest.ensures.1 c.in_ok-name.ensures c.in_ok-rest-2.ensures c.in_ok-header.ensures c.in_ok-sections.ensures c.in_ok-rest-3.ensures none)
+    (chart_read c.args.text.now c.in_ok-rest-3.rest.now (record { name = c.in_ok-name.name; header = c.in_ok-header.header; sections = c.in_ok-sections.sections }) c.in_ok-rest.ensures.1 c.in_ok-name.ensures c.in_ok-rest-2.ensures c.in_ok-header.ensures c.in_ok-sections.ensures c.in_ok-rest-3.ensures none)
     c.requires.named (lexemes_few c.args.text.now c.args.tokens.now c.requires.few)
 
 pub returns : goal.returns
 returns c =
     let none : length c.in_ok-rest-3.rest.now ≡ 0 = eqb-true (length c.in_ok-rest-3.rest.now) 0 (sym c.is_empty.ensures ∙ c.if-not-is_empty.false) in
     rw c.new.ensures
-    (chart_read c.args.text.now _ _ _ _ _ _ c.in_ok-rest-3.rest.now (record { name = c.in_ok-name.name; header = c.in_ok-header.header; sections = c.in_ok-sections.sections }) c.in_ok-rest.ensures.1 c.in_ok-name.ensures c.in_ok-rest-2.ensures c.in_ok-header.ensures c.in_ok-sections.ensures c.in_ok-rest-3.ensures none)
+    (chart_read c.args.text.now c.in_ok-rest-3.rest.now (record { name = c.in_ok-name.name; header = c.in_ok-header.header; sections = c.in_ok-sections.sections }) c.in_ok-rest.ensures.1 c.in_ok-name.ensures c.in_ok-rest-2.ensures c.in_ok-header.ensures c.in_ok-sections.ensures c.in_ok-rest-3.ensures none)

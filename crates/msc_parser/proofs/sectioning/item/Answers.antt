@@ -1,7 +1,7 @@
 use Rattle.msc_lexer.specs.declared.token.Kind.TheVariants as kinds
 use Rattle.msc_parser.specs.Places.{Items}
 use Rattle.msc_parser.specs.Grammar.{way_word}
-use Rattle.msc_parser.proofs.Accepting.{item_leads}
+use Rattle.msc_parser.proofs.Leading.{item_leads}
 use Rattle.msc_parser.proofs.Steps.{not_both, exits}
 use Rattle.msc_parser.proofs.Endings.{within_others}
 use Rattle.msc_parser.proofs.Lines.{event_stops, item_refused, single_read, coregion_item, coregion_stops, shorter_behind}

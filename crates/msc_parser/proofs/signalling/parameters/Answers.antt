@@ -26,8 +26,8 @@ take-requires c = (c.in_ok-names.ensures.reads Output Start).within
 pub returns-in_err-rest : goal.returns-in_err-rest
 returns-in_err-rest c = λ w p.
     exits c.args.text.now _ (AfterNumber w p) (AfterParameters w p) c.args.tokens.now _ c.in_err-rest.field-0.0 c.from_residual-in_err-rest.ensures.1
-    (close_refused c.args.text.now c.args.tokens.now c.in_ok-names.rest.now _ _ c.requires (c.stands.ensures.0 c.if-not-stands.false) w p (c.in_ok-names.ensures.reads w p) c.in_ok-names.ensures.stopped c.in_err-rest.ensures)
+    (close_refused c.args.text.now c.args.tokens.now _ c.requires (c.stands.ensures.0 c.if-not-stands.false) w p (c.in_ok-names.ensures.reads w p) c.in_ok-names.ensures.stopped c.in_err-rest.ensures)
 
 pub returns : goal.returns
 returns c = λ w p.
-    parameters_read c.args.text.now c.args.tokens.now c.in_ok-names.rest.now c.in_ok-rest.rest.now _ c.requires (c.stands.ensures.0 c.if-not-stands.false) w p (c.in_ok-names.ensures.reads w p) c.in_ok-rest.ensures.1
+    parameters_read c.args.text.now c.args.tokens.now c.requires (c.stands.ensures.0 c.if-not-stands.false) w p (c.in_ok-names.ensures.reads w p) c.in_ok-rest.ensures.1

@@ -1,6 +1,6 @@
 use Rattle.std.proofs.Common.{◌∙◌}
 use Rattle.msc_parser.specs.declared.tree.Way.TheVariants.{Output}
-use Rattle.msc_parser.specs.Places.{Start, Message, AfterMessage, AfterNumber, AfterParameters, Address, End}
+use Rattle.msc_parser.specs.Places.{Start, Message, AfterMessage, AfterNumber, AfterParameters, Address, StatementEnd}
 use Rattle.msc_parser.proofs.Steps.{exits, Stops-back}
 use Rattle.msc_parser.proofs.Signals.{signal_refused, message_leads, address_leads, end_leads, word_refused, address_refused, signal_read}
 use Rattle.msc_parser.proofs.signalling.signal.Goals as goal
@@ -47,11 +47,11 @@ pub returns-in_err-rest-2 : goal.returns-in_err-rest-2
 returns-in_err-rest-2 c = λ p.
     let w = c.args.way in
     exits c.args.text.now _ (Message w p) p c.args.tokens.now _ c.in_err-rest-2.field-0.0 c.from_residual-in_err-rest-2.ensures.1
-    (Stops-back c.args.text.now (Message w p) (End p) c.args.tokens.now c.in_ok-address.rest.now _
+    (Stops-back c.args.text.now (Message w p) (StatementEnd p) c.args.tokens.now c.in_ok-address.rest.now _
     (message_leads c.args.text.now w p _ _ _ c.in_ok-name.ensures ∙ (c.in_ok-number.ensures w p).leads ∙ (c.in_ok-parameters.ensures w p).leads ∙ address_leads c.args.text.now w p _ _ c.address_word.result c.address_word.ensures c.in_ok-rest.ensures.1 ∙ end_leads c.args.text.now p _ _ _ c.in_ok-address.ensures)
     (c.in_err-rest-2.ensures p))
 
 pub returns : goal.returns
 returns c = λ p.
     let w = c.args.way in
-    signal_read c.args.text.now w p _ _ _ _ _ _ _ _ _ _ _ c.address_word.result c.in_ok-name.ensures (c.in_ok-number.ensures w p) (c.in_ok-parameters.ensures w p) c.address_word.ensures c.in_ok-rest.ensures.1 c.in_ok-address.ensures c.in_ok-rest-2.ensures
+    signal_read c.args.text.now w p c.in_ok-name.ensures (c.in_ok-number.ensures w p) (c.in_ok-parameters.ensures w p) c.address_word.ensures c.in_ok-rest.ensures.1 c.in_ok-address.ensures c.in_ok-rest-2.ensures
