@@ -8,7 +8,6 @@ ghost use Rattle.msc_chart.specs.Drawings.{chart_events};
 ghost use Rattle.msc_chart.specs.Views.{end_view, event_view};
 ghost use Rattle.msc_chart.specs.Faults.{IsClearBelow, IsFaultless, IsFirstOrMemory};
 
-use crate::{EVENT_LIMIT, INSTANCE_LIMIT};
 use crate::charting::chart_events;
 use crate::check::{are_too_many, unknown_address, unknown_header, unmatched};
 use crate::end::{DraftEvent, End, events_of};
@@ -16,6 +15,7 @@ use crate::event::{ChartEvent, Event};
 use crate::fault::ChartFault;
 use crate::linear::linear_order;
 use crate::numbering::numbered;
+use crate::{EVENT_LIMIT, INSTANCE_LIMIT};
 use indexmap::IndexSet;
 use msc_parser::Draft;
 use std::alloc::{AllocError, Global};

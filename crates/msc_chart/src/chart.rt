@@ -11,7 +11,6 @@ ghost use Rattle.msc_chart.specs.Drawings.{Drawing, IsAccepted, IsBuilt, IsLine,
 ghost use Rattle.msc_chart.specs.Orders.{queue_of};
 ghost use Rattle.msc_chart.specs.Faults.{IsFaultless, IsFirstFault};
 
-use crate::{INSTANCE_LIMIT, MESSAGE_LIMIT};
 use crate::building::lawful_events;
 use crate::charting::{instance_names, messages, owned};
 use crate::event::{ChartEvent, Event, EventKind};
@@ -19,6 +18,7 @@ use crate::fault::ChartFault;
 use crate::message::Message;
 use crate::queue::Queues;
 use crate::wiring::queue_number;
+use crate::{INSTANCE_LIMIT, MESSAGE_LIMIT};
 use listed::Listed;
 use msc_parser::{Draft, Name};
 use std::alloc::Global;

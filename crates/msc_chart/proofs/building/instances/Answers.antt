@@ -9,8 +9,8 @@ use Rattle.msc_chart.proofs.Places.{repeat_at, numbered_at}
 use Rattle.msc_chart.proofs.Stages.{same_bytes, many_instances_first, few_instances_clear, repeated_instance_first, distinct_instances_clear, unknown_header_first, known_headers_clear, least_within, names_count}
 use Rattle.msc_chart.proofs.building.instances.Goals as goal
 
-pub returns-then-sections-gt32-clause-fault : goal.returns-then-sections-gt32-clause-fault
-returns-then-sections-gt32-clause-fault c = λ _. many_instances_first c.args.draft.now (rw (← c.sections.ensures.value) c.if-sections-gt32.true)
+pub returns-then-sections-clause-fault : goal.returns-then-sections-clause-fault
+returns-then-sections-clause-fault c = λ _. many_instances_first c.args.draft.now (rw (← c.sections.ensures.value) c.if-sections.true)
 
 pub overflow_cast-result : goal.overflow_cast-result
 overflow_cast-result c =
