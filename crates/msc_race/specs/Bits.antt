@@ -7,8 +7,8 @@ unfoldable pub holds : List ℕ → ℕ → Bool
 holds row y = bit_of (get_or row (y / 64) 0) (y % 64)
 
 -- a number of one of two rows that is in the mask too
-unfoldable pub picks : List ℕ → List ℕ → List ℕ → ℕ → Bool
-picks a b mask y = (holds a y || holds b y) && holds mask y
+unfoldable pub is_masked : List ℕ → List ℕ → List ℕ → ℕ → Bool
+is_masked a b mask y = (holds a y || holds b y) && holds mask y
 
 -- a row with a bit for each number below n
 pub record IsRow (n : ℕ) (row : List ℕ) : Type 0 where

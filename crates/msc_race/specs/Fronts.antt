@@ -14,7 +14,7 @@ pub record IsFront (events : List ChartEvent) (left : List ℕ) (i f : ℕ) : Ty
   pub reach : (y : ℕ) → f ≤ y → y < length events → line events y ≡ i → line events f ≡ i
 
 -- an output that is left, while nothing is left that is drawn before it
-pub record IsOpen (events : List ChartEvent) (left : List ℕ) (s : ℕ) : Type 0 where
+pub record IsOpenOutput (events : List ChartEvent) (left : List ℕ) (s : ℕ) : Type 0 where
   pub output : IsTrue (is_output events s)
   pub remains : IsTrue (holds left s)
   pub ready : (x : ℕ) → IsTrue (before events x s) → holds left x ≡ false
@@ -26,7 +26,7 @@ pub record AreLines (instances : ℕ) (events : List ChartEvent) (lefts firsts o
   pub known : (y : ℕ) → IsTrue (holds lefts y) → y < length events
   pub lines : length firsts ≡ instances
   pub fronts : (i : ℕ) → i < instances → IsFront events lefts i (get_or firsts i 0)
-  pub outputs : (y : ℕ) → IsTrue (holds opens y) ↔ IsOpen events lefts y
+  pub outputs : (y : ℕ) → IsTrue (holds opens y) ↔ IsOpenOutput events lefts y
 
 -- f is the first event of line i from start on, or the number of events
 pub record IsLowest (events : List ChartEvent) (start i f : ℕ) : Type 0 where
@@ -50,7 +50,7 @@ pub record AreLinesTo (instances : ℕ) (events : List ChartEvent) (lefts firsts
   pub left : (y : ℕ) → IsTrue (holds lefts y) ↔ (y < length events)
   pub lines : length firsts ≡ instances
   pub fronts : (i : ℕ) → i < instances → IsLowest events 0 i (get_or firsts i 0)
-  pub outputs : (y : ℕ) → IsTrue (holds opens y) ↔ (IsOpen events lefts y × (y < k))
+  pub outputs : (y : ℕ) → IsTrue (holds opens y) ↔ (IsOpenOutput events lefts y × (y < k))
 
 -- an output that is left in the segment of f, from f on and before end
 pub record IsOpened (events : List ChartEvent) (left : List ℕ) (f end s : ℕ) : Type 0 where

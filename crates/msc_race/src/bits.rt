@@ -4,7 +4,7 @@ ghost use Rattle.std.specs.Prelude.{◌≡◌, ℕ, ◌*◌, ◌<◌, ◌≤◌,
 ghost use Rattle.std.specs.Prelude.{replicate, IsTrue, IfOk, IfSome, IfNone};
 ghost use Rattle.msc_chart.specs.Chosen.{IsLeast};
 ghost use Rattle.msc_order.specs.Tables.{stride};
-ghost use Rattle.msc_race.specs.Bits.{holds, picks, IsBlankTo, IsFirstWord, IsRow, IsWith, IsWithout};
+ghost use Rattle.msc_race.specs.Bits.{holds, is_masked, IsBlankTo, IsFirstWord, IsRow, IsWith, IsWithout};
 
 use std::alloc::{AllocError, Global};
 
@@ -86,8 +86,8 @@ pub fn lowest(a: &[u64], b: &[u64], mask: &[u64], from: usize) -> Option<u32>
     requires b { length b.now ≡ length a.now }
     requires mask { length mask.now ≡ length a.now }
     requires blank { IsBlankTo mask.now from }
-    ensures some { IfSome result (λ y. IsLeast (λ z. IsTrue (picks a.now b.now mask.now z)) y) }
-    ensures none { IfNone result ((y : ℕ) → IsTrue (picks a.now b.now mask.now y) → ⊥) }
+    ensures some { IfSome result (λ y. IsLeast (λ z. IsTrue (is_masked a.now b.now mask.now z)) y) }
+    ensures none { IfNone result ((y : ℕ) → IsTrue (is_masked a.now b.now mask.now y) → ⊥) }
 {
     for k in from..a.len() {
         let word = (a[k] | b[k]) & mask[k];

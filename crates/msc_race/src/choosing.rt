@@ -4,7 +4,7 @@ ghost use Rattle.std.specs.Prelude.{◌≡◌, ℕ, ◌<◌, IsTrue, ◌↔◌};
 ghost use Rattle.msc_chart.specs.Charts.{is_output, partner};
 ghost use Rattle.msc_chart.specs.Orders.{queue};
 ghost use Rattle.msc_chart.specs.Chosen.{IsFree, IsHeld, IsPassedOn};
-ghost use Rattle.msc_race.specs.Choices.{chart_of, size, IsSettled};
+ghost use Rattle.msc_race.specs.Choices.{wired_chart, size, IsSettled};
 ghost use Rattle.msc_race.specs.Remainders.{IsPassedOnWith, IsUnheld};
 
 use msc_chart::laws::events_have_queues;
@@ -50,7 +50,7 @@ impl Choice<'_> {
     pub fn queue(&self, x: Event) -> u32
         requires settled { IsSettled self.now }
         requires known { x < size self.now }
-        ensures { result ≡ queue (chart_of self.now) x }
+        ensures { result ≡ queue (wired_chart self.now) x }
     {
         events_have_queues();
         match self.chart.message(x) {
@@ -62,7 +62,7 @@ impl Choice<'_> {
     /// A number past all queue numbers.
     pub fn queue_count(&self) -> u32
         requires { IsSettled self.now }
-        ensures { (x : ℕ) → x < size self.now → queue (chart_of self.now) x < result }
+        ensures { (x : ℕ) → x < size self.now → queue (wired_chart self.now) x < result }
     {
         let instances = self.chart.instances();
         match self.queues {
@@ -75,7 +75,7 @@ impl Choice<'_> {
     pub fn is_free(&self, x: Event) -> bool
         requires settled { IsSettled self.now }
         requires known { x < size self.now }
-        ensures { IsTrue result ↔ IsFree (chart_of self.now) self.now.e x }
+        ensures { IsTrue result ↔ IsFree (wired_chart self.now) self.now.e x }
     {
         if x == self.e {
             return false;
@@ -86,8 +86,8 @@ impl Choice<'_> {
     /// Whether a free event is a held output: one whose input is not free.
     pub fn is_held(&self, x: Event) -> bool
         requires settled { IsSettled self.now }
-        requires free { IsFree (chart_of self.now) self.now.e x }
-        ensures { IsTrue result ↔ IsHeld (chart_of self.now) self.now.e x }
+        requires free { IsFree (wired_chart self.now) self.now.e x }
+        ensures { IsTrue result ↔ IsHeld (wired_chart self.now) self.now.e x }
     {
         let passed = self.is_free(self.partner(x));
         self.is_output(x) && !passed
@@ -97,7 +97,7 @@ impl Choice<'_> {
     pub fn is_passed_on(&self, t: Event) -> bool
         requires settled { IsSettled self.now }
         requires known { t < size self.now }
-        ensures { IsTrue result ↔ IsPassedOn (chart_of self.now) self.now.e t }
+        ensures { IsTrue result ↔ IsPassedOn (wired_chart self.now) self.now.e t }
     {
         let passed = self.is_free(self.partner(t));
         self.is_output(t) && self.is_free(t) && passed
@@ -107,7 +107,7 @@ impl Choice<'_> {
     pub fn is_unheld(&self, x: Event) -> bool
         requires settled { IsSettled self.now }
         requires known { x < size self.now }
-        ensures { IsTrue result ↔ IsUnheld (chart_of self.now) self.now.e x }
+        ensures { IsTrue result ↔ IsUnheld (wired_chart self.now) self.now.e x }
     {
         if !self.is_free(x) {
             return false;
@@ -119,7 +119,7 @@ impl Choice<'_> {
     pub fn is_passed_on_with(&self, x: Event) -> bool
         requires settled { IsSettled self.now }
         requires known { x < size self.now }
-        ensures { IsTrue result ↔ IsPassedOnWith (chart_of self.now) self.now.e x }
+        ensures { IsTrue result ↔ IsPassedOnWith (wired_chart self.now) self.now.e x }
     {
         if !self.is_passed_on(x) {
             return false;

@@ -7,12 +7,12 @@
 //! project's own. Events are numbered from 0, over all lines.
 #![tactic(auto)]
 
+mod beginning;
 mod bits;
-mod channels;
 mod choosing;
-mod frontier;
 pub mod laws;
 mod lines;
+mod queued_run;
 mod racing;
 mod remaining;
 mod reversing;

@@ -7,8 +7,8 @@ ghost use Rattle.msc_chart.specs.Runs.{Run, IsWhole, Reverses};
 ghost use Rattle.msc_chart.specs.Chosen.{IsChosenRun};
 ghost use Rattle.msc_order.specs.Tables.{orders};
 
+use crate::beginning::Beginning;
 use crate::choosing::Choice;
-use crate::frontier::Frontier;
 use crate::laws::the_chosen_run_reverses;
 use msc_chart::{Chart, Event, Queues};
 use msc_order::Order;
@@ -37,11 +37,11 @@ pub fn chosen_run(
         order,
         e,
     };
-    let mut frontier = Frontier::start(alloc, &choice)?;
-    while let Some(x) = frontier.next(&choice) {
-        frontier.occur(&choice, x)?;
+    let mut beginning = Beginning::start(alloc, &choice)?;
+    while let Some(x) = beginning.next(&choice) {
+        beginning.occur(&choice, x)?;
     }
-    Ok(frontier.into_run())
+    Ok(beginning.into_run())
 }
 
 /// A whole run with event `f` before event `e`, where the enforced order does not put `e` before

@@ -1,4 +1,4 @@
-use Rattle.msc_race.proofs.BitLemmas.{holds_clear}
+use Rattle.msc_race.proofs.Making.BitLemmas.{holds_clear}
 use Rattle.msc_race.proofs.bits.clear.Goals as goal
 
 pub returns : goal.returns

@@ -1,7 +1,7 @@
 use Rattle.std.proofs.Common.{get_or, arith}
 use Rattle.std.proofs.Math.Facts.{Fits-lt-pow}
 use Rattle.msc_race.specs.Bits.{holds}
-use Rattle.msc_race.proofs.BitLemmas.{first_number, none_further, holds_word}
+use Rattle.msc_race.proofs.Making.BitLemmas.{first_number, none_further, holds_word}
 use Rattle.msc_race.proofs.bits.first_word.Goals as goal
 
 pub returns-then-row-k-ne0 : goal.returns-then-row-k-ne0

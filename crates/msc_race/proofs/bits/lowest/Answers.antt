@@ -1,9 +1,9 @@
 use Rattle.std.proofs.Common.{◌*◌, length, get_or, inl, inr, bit_and, bit_or, arith}
 use Rattle.std.proofs.Math.Facts.{Fits-lt-pow, Fits-and_r}
 use Rattle.std.proofs.lemmas.Bool.{cases_lt}
-use Rattle.msc_race.specs.Bits.{picks}
+use Rattle.msc_race.specs.Bits.{is_masked}
 use Rattle.msc_race.proofs.Shared.{clash}
-use Rattle.msc_race.proofs.BitLemmas.{first_number, none_further, picks_word, picks_none, holds_past}
+use Rattle.msc_race.proofs.Making.BitLemmas.{first_number, none_further, picks_word, picks_none, holds_past}
 use Rattle.msc_race.proofs.bits.lowest.Goals as goal
 
 pub returns-then-word-ne0-clause-some : goal.returns-then-word-ne0-clause-some
@@ -11,7 +11,7 @@ returns-then-word-ne0-clause-some c =
     let a = c.args.a.now in
     let b = c.args.b.now in
     let mask = c.args.mask.now in
-    first_number (picks a b mask) (λ k. bit_and (bit_or (get_or a k 0) (get_or b k 0)) (get_or mask k 0)) (picks_word a b mask)
+    first_number (is_masked a b mask) (λ k. bit_and (bit_or (get_or a k 0) (get_or b k 0)) (get_or mask k 0)) (picks_word a b mask)
     c.loop-k.k c.loop-k.invariant c.if-word-ne0.true (Fits-lt-pow (Fits-and_r _ (c.type_inv.mask c.loop-k.k)))
 
 pub loop-k-init : goal.loop-k-init
@@ -22,7 +22,7 @@ loop-k-preserved c =
     let a = c.args.a.now in
     let b = c.args.b.now in
     let mask = c.args.mask.now in
-    none_further (picks a b mask) (λ k. bit_and (bit_or (get_or a k 0) (get_or b k 0)) (get_or mask k 0)) (picks_word a b mask)
+    none_further (is_masked a b mask) (λ k. bit_and (bit_or (get_or a k 0) (get_or b k 0)) (get_or mask k 0)) (picks_word a b mask)
     c.loop-k.k c.loop-k.invariant c.if-word-ne0.false
 
 pub returns-clause-none : goal.returns-clause-none

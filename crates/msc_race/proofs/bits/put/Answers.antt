@@ -1,4 +1,4 @@
-use Rattle.msc_race.proofs.BitLemmas.{holds_put}
+use Rattle.msc_race.proofs.Making.BitLemmas.{holds_put}
 use Rattle.msc_race.proofs.bits.put.Goals as goal
 
 pub returns : goal.returns

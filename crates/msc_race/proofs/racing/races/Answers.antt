@@ -1,8 +1,9 @@
 use Rattle.std.proofs.Common.{ℕ, ◌++◌, List, length, sym, ap, ◌∙◌, arith}
 use Rattle.msc_order.proofs.Bits.{stride_enough, stride_few}
-use Rattle.msc_race.specs.Races.{is_gap, is_raced, pairs_to}
-use Rattle.msc_race.proofs.DrawnPairs.{gaps_are_races, line_goes_on, none_past, segment_goes_on}
-use Rattle.msc_race.proofs.Pairs.{below_all, below_more, below_none, pairs_between, pairs_below, pairs_same}
+use Rattle.msc_race.specs.Races.{is_raced, pairs_to}
+use Rattle.msc_race.specs.Gaps.{is_gap}
+use Rattle.msc_race.proofs.Listing.DrawnPairs.{gaps_are_races, line_goes_on, none_past, segment_goes_on}
+use Rattle.msc_race.proofs.Listing.Pairs.{below_all, below_more, below_none, pairs_between, pairs_below, pairs_same}
 use Rattle.msc_race.proofs.racing.races.Goals as goal
 
 pub loop-e-init : goal.loop-e-init

@@ -1,6 +1,6 @@
 use Rattle.std.proofs.Common.{sym, ap, ◌∙◌}
 use Rattle.msc_chart.specs.Charts.{sends}
-use Rattle.msc_race.proofs.ChoiceLemmas.{output_is}
+use Rattle.msc_race.proofs.Making.ChoiceLemmas.{output_is}
 use Rattle.msc_race.proofs.choosing.Choice.is_output.Goals as goal
 
 pub returns-in-Output : goal.returns-in-Output

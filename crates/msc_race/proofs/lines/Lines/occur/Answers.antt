@@ -3,8 +3,8 @@ use Rattle.std.specs.Vec.{with_items}
 use Rattle.std.proofs.lemmas.List.{with_items_is}
 use Rattle.msc_chart.specs.Charts.{line, before}
 use Rattle.msc_race.proofs.Shared.{by_test, clash}
-use Rattle.msc_race.proofs.LinkLemmas.{any_default}
-use Rattle.msc_race.proofs.FrontLemmas.{lines_after, outputs_kept, outputs_opened}
+use Rattle.msc_race.proofs.Making.LinkLemmas.{any_default}
+use Rattle.msc_race.proofs.Making.FrontLemmas.{lines_after, outputs_kept, outputs_opened}
 use Rattle.msc_race.proofs.lines.Lines.occur.Goals as goal
 
 pub returns-then-not-is_on-clause-kept : goal.returns-then-not-is_on-clause-kept

@@ -1,7 +1,7 @@
 use Rattle.std.proofs.Common.{length, get_or, ap, ◌∙◌, arith}
 use Rattle.std.proofs.lemmas.List.{with_items_is}
-use Rattle.msc_race.proofs.LinkLemmas.{any_default}
-use Rattle.msc_race.proofs.StartLemmas.{told_more}
+use Rattle.msc_race.proofs.Making.LinkLemmas.{any_default}
+use Rattle.msc_race.proofs.Making.StartLemmas.{told_more}
 use Rattle.msc_race.proofs.lines.Lines.open_first.Goals as goal
 
 pub returns : goal.returns
