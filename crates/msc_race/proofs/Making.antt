@@ -10,3 +10,4 @@ pub mod SendLemmas
 pub mod TakeLemmas
 pub mod StartLemmas
 pub mod BeginningLemmas
+pub mod NextLemmas

@@ -1,5 +1,5 @@
 -- What the code that looks for the next event of a chosen run needs of lists, charts and runs.
-use Rattle.std.proofs.Common.{◌≡◌, ℕ, ◌<◌, ◌↔◌, Option, Some, None, IfSome, IfNone, List, [], ◌∷◌, ◌++◌, length, refl}
+use Rattle.std.proofs.Common.{◌≡◌, ℕ, ◌<◌, ◌↔◌, List, [], ◌∷◌, ◌++◌, length, refl}
 use Rattle.std.proofs.lemmas.Bool.{lt-ltb}
 use Rattle.msc_chart.specs.declared.event.ChartEvent.{ChartEvent}
 use Rattle.msc_chart.specs.Charts.{kind, sends, is_output}
@@ -20,16 +20,6 @@ output_is events e h = rw (lt-ltb e (length events) h) refl
 -- one equivalence after another
 pub iff_trans : {A B C : Type 0} → A ↔ B → B ↔ C → A ↔ C
 iff_trans f g = (λ a. g.0 (f.0 a), λ c. f.1 (g.1 c))
-
--- what is there has a wider property
-pub some_map : (o : Option ℕ) (P Q : ℕ → Type 0) → ((x : ℕ) → P x → Q x) → IfSome o P → IfSome o Q
-some_map None P Q f h = h
-some_map (Some x) P Q f h = f x h
-
--- where nothing is there, a wider fact holds
-pub none_map : (o : Option ℕ) (P Q : Type 0) → (P → Q) → IfNone o P → IfNone o Q
-none_map None P Q f h = f h
-none_map (Some x) P Q f h = h
 
 module _ (chart : WiredChart) (e : ℕ) (past : List ℕ) where
   module _ (next : List ℕ) (x : ℕ) (chosen : IsChosenNext chart e past x) (same : next ≡ past ++ x ∷ []) where
