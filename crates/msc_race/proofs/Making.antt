@@ -6,6 +6,7 @@ pub mod RemainderLemmas
 pub mod FrontLemmas
 pub mod LinkLemmas
 pub mod ArrivedLemmas
+pub mod ComingLemmas
 pub mod SendLemmas
 pub mod TakeLemmas
 pub mod StartLemmas

@@ -7,11 +7,13 @@ use Rattle.msc_chart.specs.Charts.{partner, is_output}
 use Rattle.msc_chart.specs.Orders.{WiredChart, IsWired, queue}
 use Rattle.msc_chart.specs.Runs.{Run, MayCome, state}
 use Rattle.msc_race.specs.Bits.{holds, IsWith}
+use Rattle.msc_race.specs.declared.queued_run.QueuedRun.{QueuedRun}
 use Rattle.msc_race.specs.QueuedRuns.{IsArrived, AreQueues}
 use Rattle.msc_race.proofs.Making.BitLemmas.{row_same}
 use Rattle.msc_race.proofs.Runs.EventLemmas.{input_below, input_of}
 use Rattle.msc_race.proofs.Making.StateLemmas.{state_sent, state_sent_elsewhere}
 use Rattle.msc_race.proofs.Making.LinkLemmas.{empty_queue, last_in, queue_same, queue_push}
+use Rattle.msc_race.proofs.Making.ComingLemmas.{IsComing}
 use Rattle.msc_race.proofs.Making.ArrivedLemmas.{member, once, still_arrived, had_arrived, linked_elsewhere}
 
 -- the first of a list that is not empty is the first with one more at its end
@@ -20,9 +22,24 @@ unfolding occurs
 first_append [] x y s h = cc
 first_append (a ∷ xs) x y s h = (λ f. f, λ f. f)
 
-module _ (chart : WiredChart) (is_wired : IsWired chart) (past : List ℕ) (x : ℕ) (run : Run chart past) (may : MayCome chart past x)
-    (heads lasts next inputs : List ℕ)
-    (were : AreQueues chart (λ p. state chart p past) heads lasts next inputs) where
+module _ {chart : WiredChart} {c : QueuedRun} {x : ℕ} (here : IsComing chart c x) where
+  open here use {is_wired, run, may, were}
+
+  abbrev past : List ℕ
+  past = c.run.items
+
+  abbrev heads : List ℕ
+  heads = c.heads.items
+
+  abbrev lasts : List ℕ
+  lasts = c.lasts.items
+
+  abbrev next : List ℕ
+  next = c.next.items
+
+  abbrev inputs : List ℕ
+  inputs = c.inputs.items
+
   abbrev n : ℕ
   n = length chart.events
 

@@ -7,12 +7,14 @@ use Rattle.msc_chart.specs.Charts.{partner, is_output, is_input}
 use Rattle.msc_chart.specs.Orders.{WiredChart, IsWired, queue}
 use Rattle.msc_chart.specs.Runs.{Run, MayCome, state}
 use Rattle.msc_race.specs.Bits.{holds, IsWith, IsWithout}
+use Rattle.msc_race.specs.declared.queued_run.QueuedRun.{QueuedRun}
 use Rattle.msc_race.specs.QueuedRuns.{IsQueue, IsArrived, AreQueues}
 use Rattle.msc_race.proofs.Making.BitLemmas.{row_same}
 use Rattle.msc_race.proofs.Making.FrontLemmas.{still_in, was_in}
 use Rattle.msc_race.proofs.Runs.EventLemmas.{input_below, input_of}
 use Rattle.msc_race.proofs.Making.StateLemmas.{IsDistinct, state_taken, state_taken_elsewhere}
 use Rattle.msc_race.proofs.Making.LinkLemmas.{queue_ends, queue_goes_on, first_parts}
+use Rattle.msc_race.proofs.Making.ComingLemmas.{IsComing}
 use Rattle.msc_race.proofs.Making.ArrivedLemmas.{member, once, still_arrived, had_arrived, linked_elsewhere}
 
 -- a list has one first
@@ -26,9 +28,24 @@ unfolding occurs
 first_later s [] t h = absurd h
 first_later s (b ∷ rest) t h = or_right (eqb s t) _ (or_left (eqb b t) _ (eq-eqb b t h))
 
-module _ (chart : WiredChart) (is_wired : IsWired chart) (past : List ℕ) (x : ℕ) (run : Run chart past) (may : MayCome chart past x)
-    (heads lasts next inputs : List ℕ)
-    (were : AreQueues chart (λ p. state chart p past) heads lasts next inputs) where
+module _ {chart : WiredChart} {c : QueuedRun} {x : ℕ} (here : IsComing chart c x) where
+  open here use {is_wired, run, may, were}
+
+  abbrev past : List ℕ
+  past = c.run.items
+
+  abbrev heads : List ℕ
+  heads = c.heads.items
+
+  abbrev lasts : List ℕ
+  lasts = c.lasts.items
+
+  abbrev next : List ℕ
+  next = c.next.items
+
+  abbrev inputs : List ℕ
+  inputs = c.inputs.items
+
   abbrev n : ℕ
   n = length chart.events
 

@@ -1,5 +1,5 @@
 -- The events of a chart: what the tests for outputs, inputs and the drawn order say.
-use Rattle.std.proofs.Common.{◌≡◌, ◌≢◌, ℕ, ◌<◌, true, ◌⊎◌, inl, inr, List, length, refl, sym, ap, ◌∙◌, arith}
+use Rattle.std.proofs.Common.{◌≡◌, ◌≢◌, ℕ, ◌<◌, true, false, ◌⊎◌, inl, inr, List, length, refl, sym, ap, ◌∙◌, arith}
 use Rattle.std.proofs.lemmas.Bool.{ltb-true, lt-ltb, and_parts, and_from}
 use Rattle.msc_chart.specs.declared.event.EventKind.{EventKind}
 use Rattle.msc_chart.specs.declared.event.EventKind.TheVariants.{Output, Input}
@@ -36,6 +36,10 @@ module _ (events : List ChartEvent) where
       by_kind : (k : EventKind) → sends k ≡ true → takes k ≡ true → ⊥
       by_kind Output h k = cc
       by_kind Input h k = cc
+
+  -- an event that is no output is an input
+  pub input_from_not : (e : ℕ) → e < length events → is_output events e ≡ false → is_input events e ≡ true
+  input_from_not e below none = elim (output_or_input e below) [ inl o ↦ absurd cc | inr i ↦ i ]
 
   -- what is drawn before an event is another event of the chart, since its segment is smaller
   pub before_parts : (x y : ℕ) → before events x y ≡ true
