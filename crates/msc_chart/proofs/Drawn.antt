@@ -31,6 +31,11 @@ module _ (events : List ChartEvent) where
   unfolding is_output
   output_parts s h = let p = and_parts _ _ h in (ltb-true _ _ p.0, p.1)
 
+  -- an event of the chart is an output where its kind sends
+  pub output_is : (e : ℕ) → e < length events → sends (kind events e) ≡ is_output events e
+  unfolding is_output
+  output_is e h = rw (lt-ltb e (length events) h) refl
+
   -- an event of the chart whose kind takes is an input
   pub input_from : (r : ℕ) → r < length events → takes (kind events r) ≡ true → is_input events r ≡ true
   unfolding is_input

@@ -1,9 +1,10 @@
 -- The queues of an accepted chart.
-use Rattle.std.proofs.Common.{◌≡◌, ℕ, zero, suc, ◌<◌, ◌≤◌, ◌%◌, Bool, true, false, cond, ◌||◌, List, [], ◌∷◌, length, filter, Some, inl, inr, refl, sym, ap, ◌∙◌, arith}
+use Rattle.std.proofs.Common.{◌≡◌, ℕ, zero, suc, ◌+◌, ◌*◌, ◌<◌, ◌≤◌, ◌%◌, Bool, true, false, cond, ◌||◌, List, [], ◌∷◌, length, filter, Some, inl, inr, refl, sym, ap, ◌∙◌, arith}
 use Rattle.std.specs.Prelude.{nat_eq}
 use Rattle.std.specs.List.{list_any, range_with_len}
-use Rattle.std.proofs.Math.Nat.{mod-eq_of_lt, mul-add-mod_self_right}
+use Rattle.std.proofs.Math.Nat.{mod-eq_of_lt, mul-add-mod_self_right, mul-le-mul_right}
 use Rattle.std.proofs.lemmas.Bool.{eq-eqb}
+use Rattle.std.proofs.lemmas.Nat.{same_from_place}
 use Rattle.std.proofs.lemmas.List.FromFn.{length-range_with_len, get_or-range_with_len}
 use Rattle.std.proofs.lemmas.List.Sums.{length-filter, count_by-le-length}
 use Rattle.std.proofs.lemmas.Option.{slice_get-get_or}
@@ -11,7 +12,7 @@ use Rattle.msc_chart.specs.declared.queue.Queues.{Queues}
 use Rattle.msc_chart.specs.declared.queue.Queues.TheVariants.{Pair, Mailbox}
 use Rattle.msc_chart.specs.Charts.{line, partner, message, is_output, is_input}
 use Rattle.msc_chart.specs.Drawings.{Drawing, input_of, sender_of, receiver_of, IsAccepted}
-use Rattle.msc_chart.specs.Orders.{queue_number, queue_of, sender_at, receiver_at, wired, queue, IsWired}
+use Rattle.msc_chart.specs.Orders.{queue_bound, queue_number, queue_of, sender_at, receiver_at, wired, queue, IsWired}
 use Rattle.msc_chart.specs.Laws.{messages_in, sends_to, senders_in, IsBounded}
 use Rattle.msc_chart.specs.Faults.{StandsAt}
 use Rattle.msc_chart.proofs.ListLemmas.{by_test, clash}
@@ -28,6 +29,11 @@ one_receiver Pair n s r t u r_in u_in same =
     ∙ mul-add-mod_self_right t n u
     ∙ mod-eq_of_lt u_in
 one_receiver Mailbox n s r t u r_in u_in same = same
+
+-- under Pair it has one sender
+one_sender : (n s r t u : ℕ) → r < n → u < n → queue_number Pair n s r ≡ queue_number Pair n t u → s ≡ t
+unfolding queue_number
+one_sender n s r t u r_in u_in same = (same_from_place s r t u n r_in u_in same).0
 
 -- a filter keeps what passes it
 any_kept : (test p : ℕ → Bool) (xs : List ℕ) (j x : ℕ) → StandsAt xs j x → p x ≡ true → test x ≡ true → list_any test (filter p xs) ≡ true
@@ -70,6 +76,43 @@ few_kept p n = omega (arith, length-filter p (range_with_len 0 n), count_by-le-l
 shared : (queues : Queues) (d : Drawing) → IsAccepted d → (k l : ℕ) → k < length d.messages → l < length d.messages → queue_of queues d k ≡ queue_of queues d l → receiver_of d k ≡ receiver_of d l
 unfolding queue_of
 shared queues d accepted k l k_in l_in same = one_receiver queues (length d.instances) _ _ _ _ (receiver_in d accepted k k_in) (receiver_in d accepted l l_in) same
+
+-- under Pair they have one sender too
+pub own_queues : (d : Drawing) (k m : ℕ) → IsAccepted d → k < length d.messages → m < length d.messages
+    → queue_of Pair d k ≡ queue_of Pair d m → (sender_of d k ≡ sender_of d m) × (receiver_of d k ≡ receiver_of d m)
+unfolding queue_of
+own_queues d k m accepted k_in m_in same = (
+  one_sender (length d.instances) _ _ _ _ (receiver_in d accepted k k_in) (receiver_in d accepted m m_in) same,
+  shared Pair d accepted k m k_in m_in same,
+)
+
+-- both ends of the message of an event are on lines of the chart
+pub ends_in : (d : Drawing) → IsAccepted d → (e : ℕ) → e < length d.events → (sender_at d.events e < length d.instances) × (receiver_at d.events e < length d.instances)
+unfolding sender_at receiver_at
+ends_in d accepted e below =
+    let here = accepted.on_lines.on_line e below in
+    let there = accepted.on_lines.on_line (partner d.events e) (accepted.matched.in_range e below) in
+    by_test (is_output d.events e) (λ h. rw h (here, there)) (λ h. rw h (there, here))
+
+-- so its queue number is below the bound
+pub number_bounded : (queues : Queues) (d : Drawing) (e : ℕ) → IsAccepted d → e < length d.events → queue (wired queues d) e < queue_bound queues d
+unfolding queue queue_number queue_bound
+number_bounded Pair d e accepted below =
+    let n : ℕ = length d.instances in
+    let in_lines = ends_in d accepted e below in
+    let p : (sender_at d.events e + 1) * n ≤ n * n = mul-le-mul_right n (omega (arith, in_lines.0)) in
+    let q : (sender_at d.events e + 1) * n ≡ sender_at d.events e * n + n = omega arith in
+    omega (arith, p, q, in_lines.1)
+number_bounded Mailbox d e accepted below = (ends_in d accepted e below).1
+
+-- which is small
+pub bound_small : (queues : Queues) (d : Drawing) → IsAccepted d → queue_bound queues d ≤ 1024
+unfolding queue_bound
+bound_small Pair d accepted =
+    let few = accepted.few_instances in
+    let p : length d.instances * length d.instances ≤ 32 * length d.instances = mul-le-mul_right (length d.instances) few in
+    omega (arith, p, few)
+bound_small Mailbox d accepted = let few = accepted.few_instances in omega (arith, few)
 
 -- a queue with a message has from 1 to 32 senders, one receiver, and at most 1,024 messages
 pub bounded : (queues : Queues) (d : Drawing) (m : ℕ) → IsAccepted d → m < length d.messages → IsBounded queues d (queue_of queues d m)

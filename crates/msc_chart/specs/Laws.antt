@@ -2,9 +2,10 @@
 use Rattle.std.specs.Prelude.{◌≡◌, ℕ, ◌+◌, ◌<◌, ◌≤◌, Bool, List, length, filter, IsTrue, nat_eq}
 use Rattle.std.specs.List.{list_any, range_with_len}
 use Rattle.msc_chart.specs.declared.queue.Queues.{Queues}
+use Rattle.msc_chart.specs.declared.queue.Queues.TheVariants.{Pair}
 use Rattle.msc_chart.specs.Charts.{line, segment, message, is_input, line_start}
 use Rattle.msc_chart.specs.Drawings.{Drawing, sender_of, receiver_of, IsAccepted, IsLine}
-use Rattle.msc_chart.specs.Orders.{queue_of, queue, wired, IsWired}
+use Rattle.msc_chart.specs.Orders.{queue_bound, queue_of, queue, wired, IsWired}
 
 -- the messages of a queue, ascending
 unfoldable pub messages_in : Queues → Drawing → ℕ → List ℕ
@@ -40,6 +41,22 @@ abbrev pub EventsHaveQueues : Type 0
 EventsHaveQueues =
     (queues : Queues) (d : Drawing) (e : ℕ) → IsAccepted d → e < length d.events
     → queue (wired queues d) e ≡ queue_of queues d (message d.events e)
+
+-- under Pair messages of one queue have one sender and one receiver
+abbrev pub PairsHaveQueuesOfTheirOwn : Type 0
+PairsHaveQueuesOfTheirOwn =
+    (d : Drawing) (k m : ℕ) → IsAccepted d → k < length d.messages → m < length d.messages
+    → queue_of Pair d k ≡ queue_of Pair d m → (sender_of d k ≡ sender_of d m) × (receiver_of d k ≡ receiver_of d m)
+
+-- each event's queue has a number below the bound
+abbrev pub QueueNumbersAreBounded : Type 0
+QueueNumbersAreBounded =
+    (queues : Queues) (d : Drawing) (e : ℕ) → IsAccepted d → e < length d.events
+    → queue (wired queues d) e < queue_bound queues d
+
+-- and the bound is at most 1,024
+abbrev pub QueueBoundsAreSmall : Type 0
+QueueBoundsAreSmall = (queues : Queues) (d : Drawing) → IsAccepted d → queue_bound queues d ≤ 1024
 
 -- the inputs of a queue are on one line
 abbrev pub InputsShareLines : Type 0

@@ -1,14 +1,17 @@
+-- what is promised
 pub mod Lists
 pub mod Events
 pub mod Charts
 pub mod Drawings
 pub mod Orders
+pub mod Wirings
 pub mod Runs
 pub mod Chosen
-pub mod Laws
 pub mod Faults
+pub mod Laws
 pub mod Samples
-pub mod Passes
+-- what the code keeps
 pub mod Views
 pub mod Numbering
+pub mod Passes
 pub mod Reach

@@ -12,6 +12,11 @@ unfoldable pub queue_number : Queues → ℕ → ℕ → ℕ → ℕ
 queue_number Pair instances sender receiver = sender * instances + receiver
 queue_number Mailbox instances sender receiver = receiver
 
+-- a number past all queue numbers of a chart
+unfoldable pub queue_bound : Queues → Drawing → ℕ
+queue_bound Pair d = length d.instances * length d.instances
+queue_bound Mailbox d = length d.instances
+
 -- the queue of message m
 unfoldable pub queue_of : Queues → Drawing → ℕ → ℕ
 queue_of queues d m = queue_number queues (length d.instances) (sender_of d m) (receiver_of d m)

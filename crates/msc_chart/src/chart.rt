@@ -6,7 +6,7 @@
 
 ghost use Rattle.std.specs.Prelude.{◌≡◌, ◌≢◌, ◌<◌, ◌≤◌, ◌+◌, ◌↔◌, IsTrue, Some, length, IfOk, IfErr, OnOk, slice_get};
 ghost use Rattle.std.specs.Option.{option_copied};
-ghost use Rattle.msc_chart.specs.Charts.{before, IsLineEnd, IsLinearOrder, IsSegmentEnd, ShareSegment, kind, line, line_start, message, partner, segment};
+ghost use Rattle.msc_chart.specs.Charts.{before, IsLineEnd, IsLinearOrder, IsSegmentEnd, ShareSegment, is_output, kind, line, line_start, message, partner, segment};
 ghost use Rattle.msc_chart.specs.Drawings.{Drawing, IsAccepted, IsBuilt, IsLine, chart_of, drawing, input_of, message_at, output_of, receiver_of, sender_of};
 ghost use Rattle.msc_chart.specs.Orders.{queue_of};
 ghost use Rattle.msc_chart.specs.Faults.{IsFaultless, IsFirstFault};
@@ -17,6 +17,7 @@ use crate::event::{ChartEvent, Event, EventKind};
 use crate::fault::ChartFault;
 use crate::message::Message;
 use crate::queue::Queues;
+use crate::wiring::queue_number;
 use listed::Listed;
 use msc_parser::{Draft, Name};
 use std::alloc::Global;
@@ -87,6 +88,14 @@ impl Chart {
         self.events.len() as u32
     }
 
+    /// What every chart keeps: partners match, no event precedes itself, all is bounded. It does
+    /// nothing; a caller calls it to rest its own proof on that.
+    pub fn accepted(&self)
+        ensures { IsAccepted self.now }
+    {
+        let _events = &self.events;
+    }
+
     /// The number of messages. It takes no memory.
     pub fn messages(&self) -> u32
         ensures number { result ≡ length self.now.messages }
@@ -142,8 +151,8 @@ impl Chart {
         self.events[e as usize].segment
     }
 
-    /// Whether events `e` and `f` are on one line, and in one segment of it.
-    fn share_segment(&self, e: Event, f: Event) -> bool
+    /// Whether events `e` and `f` are on one line, and in one segment of it. It takes no memory.
+    pub fn share_segment(&self, e: Event, f: Event) -> bool
         requires e_known { e < length self.now.events }
         requires f_known { f < length self.now.events }
         ensures { IsTrue result ↔ ShareSegment self.now.events e f }
@@ -187,6 +196,14 @@ impl Chart {
         self.events[e as usize].kind
     }
 
+    /// Whether event `e` is an output. It takes no memory.
+    pub fn is_output(&self, e: Event) -> bool
+        requires { e < length self.now.events }
+        ensures { result ≡ is_output self.now.events e }
+    {
+        self.kind(e).is_output()
+    }
+
     /// The message of event `e`: some for every output and input. It takes no memory.
     pub fn message(&self, e: Event) -> Option<u32>
         requires { e < length self.now.events }
@@ -202,6 +219,25 @@ impl Chart {
         ensures { result ≡ Some (partner self.now.events e) }
     {
         Some(self.events[e as usize].partner)
+    }
+
+    /// The message of event `e`, an output or an input. It takes no memory.
+    pub fn message_of(&self, e: Event) -> u32
+        requires { e < length self.now.events }
+        ensures value { result ≡ message self.now.events e }
+        ensures known { result < length self.now.messages }
+    {
+        self.events[e as usize].message
+    }
+
+    /// The event at the other end of the message of event `e`, an output or an input. It takes no
+    /// memory.
+    pub fn other_end(&self, e: Event) -> Event
+        requires { e < length self.now.events }
+        ensures value { result ≡ partner self.now.events e }
+        ensures known { result < length self.now.events }
+    {
+        self.events[e as usize].partner
     }
 
     /// Whether `e` is drawn before `f`: on one line, in a smaller segment. It takes no memory.
@@ -288,9 +324,6 @@ impl Chart {
         requires { m < length self.now.messages }
         ensures { result ≡ queue_of queues self.now m }
     {
-        match queues {
-            Queues::Pair => self.sender(m) * self.instances() + self.receiver(m),
-            Queues::Mailbox => self.receiver(m),
-        }
+        queue_number(queues, self.instances(), self.sender(m), self.receiver(m))
     }
 }

@@ -5,7 +5,7 @@ ghost use Rattle.std.specs.Prelude.{◌≡◌, ◌∷◌, [], map};
 ghost use Rattle.msc_chart.specs.declared.queue.Queues.TheVariants.{Pair, Mailbox};
 ghost use Rattle.msc_chart.specs.Drawings.{chart_events, chart_of};
 ghost use Rattle.msc_chart.specs.Orders.{wired};
-ghost use Rattle.msc_chart.specs.Laws.{EndsShareQueues, EventsHaveQueues, InputsShareLines, LinesAreRanges, QueuesAreBounded, SegmentsRise};
+ghost use Rattle.msc_chart.specs.Laws.{EndsShareQueues, EventsHaveQueues, InputsShareLines, LinesAreRanges, PairsHaveQueuesOfTheirOwn, QueueBoundsAreSmall, QueueNumbersAreBounded, QueuesAreBounded, SegmentsRise};
 ghost use Rattle.msc_chart.specs.Samples.{AreEnforcedPairs, coregion, drawn_pairs, empty_coregion, queue_numbers, relay, two_mailboxes, two_mailboxes_pairs, two_senders};
 
 /// Under either architecture a queue with a message has from 1 to 32 senders, one receiver, and at
@@ -22,6 +22,17 @@ pub fn ends_share_queues()
 /// The queue of an event is that of its message.
 pub fn events_have_queues()
     ensures { EventsHaveQueues }
+{}
+
+/// Under `Pair` the messages of a queue have one sender and one receiver.
+pub fn pairs_have_queues_of_their_own()
+    ensures { PairsHaveQueuesOfTheirOwn }
+{}
+
+/// The number of each queue with a message is below a bound, which is at most 1,024.
+pub fn queue_numbers_are_bounded()
+    ensures numbers { QueueNumbersAreBounded }
+    ensures few { QueueBoundsAreSmall }
 {}
 
 /// The inputs of a queue are on one line.

@@ -23,8 +23,10 @@ mod linear;
 mod message;
 mod numbering;
 mod queue;
+mod wiring;
 
 pub use chart::Chart;
 pub use event::{Event, EventKind};
 pub use fault::ChartFault;
 pub use queue::Queues;
+pub use wiring::Wiring;

@@ -7,10 +7,10 @@ use Rattle.msc_chart.specs.Charts.Visual.{seen, passed, linked}
 use Rattle.msc_chart.specs.Orders.{WiredChart, queue, IsWired, Enforced, IsEnforcedOrder}
 use Rattle.msc_chart.specs.Orders.Enforced.{drawn, sent, joined, queued}
 use Rattle.msc_chart.proofs.Drawn.{before_parts, output_parts, input_parts, not_both, partner_of_output, partner_of_input}
-use Rattle.msc_order.specs.Tables.{with_row}
+use Rattle.bit_rows.specs.Tables.{with_row}
 use Rattle.msc_order.specs.Causes.{Led, Caused, InQueueOrder, IsTestOf, IsBetween, Keeps, HasQueueOf, HasSeen, IsLeft, IsOutputOf}
 use Rattle.msc_order.specs.Causes.Led.{led, carried, chained}
-use Rattle.msc_order.proofs.Cells.{by_test}
+use Rattle.bit_rows.proofs.Bits.{by_test}
 use Rattle.msc_order.proofs.Leading.{row_cases, row_kept, row_there, row_after}
 use Rattle.msc_order.proofs.Once.{caused_enforced, queue_enforced, once}
 

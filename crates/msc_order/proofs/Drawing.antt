@@ -1,15 +1,10 @@
 -- The segments of lines, and what the order in which they are walked gives.
-use Rattle.std.proofs.Common.{◌≡◌, ℕ, ◌<◌, ◌≤◌, true, false, inl, inr, List, length, refl, sym, ◌∙◌, arith}
-use Rattle.std.proofs.lemmas.Bool.{lt-ltb, cases_lt}
+use Rattle.std.proofs.Common.{◌≡◌, ℕ, ◌<◌, ◌≤◌, true, false, inl, inr, List, length, sym, ◌∙◌, arith}
+use Rattle.std.proofs.lemmas.Bool.{cases_lt}
 use Rattle.msc_chart.specs.declared.event.ChartEvent.{ChartEvent}
-use Rattle.msc_chart.specs.Charts.{line, segment, kind, sends, is_output, before, IsInTextOrder, IsSegmentEnd}
+use Rattle.msc_chart.specs.Charts.{line, segment, before, IsInTextOrder, IsSegmentEnd}
 use Rattle.msc_chart.proofs.Drawn.{before_from, before_parts}
 use Rattle.msc_order.specs.Causes.{IsNextSegment}
-
--- an event sends where its kind does
-pub output_is : (events : List ChartEvent) (e : ℕ) → e < length events → sends (kind events e) ≡ is_output events e
-unfolding is_output
-output_is events e h = rw (lt-ltb e (length events) h) refl
 
 module _ (events : List ChartEvent) (text : IsInTextOrder events) where
   -- what is drawn before has a smaller number

@@ -8,11 +8,11 @@ use Rattle.msc_chart.specs.Charts.{Visual, IsMatched, Follows, IsLinearOrder}
 use Rattle.msc_chart.specs.Charts.Visual.{seen, passed, linked}
 use Rattle.msc_chart.proofs.ListLemmas.{occurs-append, Steps-parts, step_at, until-append, until-within}
 use Rattle.msc_chart.proofs.Drawn.{before_parts, output_parts}
-use Rattle.msc_order.specs.Tables.{with_row}
+use Rattle.bit_rows.specs.Tables.{with_row}
 use Rattle.msc_order.specs.Causes.{Led, IsBehind}
 use Rattle.msc_order.specs.Causes.Led.{led, carried, chained}
 use Rattle.std.proofs.Math.Bool.{or-false}
-use Rattle.msc_order.proofs.Cells.{by_test, clash}
+use Rattle.bit_rows.proofs.Bits.{by_test, clash}
 
 -- what a row takes in: what the other row has, and that row's number where it is wanted
 pub row_cases : (test : ℕ → ℕ → Bool) (e f : ℕ) (wanted : Bool) (x y : ℕ) → with_row test e f wanted x y ≡ true

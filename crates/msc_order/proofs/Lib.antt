@@ -1,8 +1,4 @@
-pub mod Bits
-pub mod Cells
-pub mod Marks
 pub mod Drawing
-pub mod Wires
 pub mod Leading
 pub mod LineRows
 pub mod Once

@@ -5,10 +5,10 @@ use Rattle.std.proofs.Math.Bool.{or-false}
 use Rattle.msc_chart.specs.declared.event.ChartEvent.{ChartEvent}
 use Rattle.msc_chart.specs.Charts.{partner, is_output, before, ShareSegment}
 use Rattle.msc_chart.proofs.Drawn.{before_from, before_parts}
-use Rattle.msc_order.specs.Tables.{with_row}
+use Rattle.bit_rows.specs.Tables.{with_row}
 use Rattle.msc_order.specs.Causes.{Led, LedByLine, IsSound, HasRowOf, KeepsOthers, IsBegun, IsNextSegment}
 use Rattle.msc_order.specs.Causes.Led.{led, carried, chained}
-use Rattle.msc_order.proofs.Cells.{clash}
+use Rattle.bit_rows.proofs.Bits.{clash}
 use Rattle.msc_order.proofs.Leading.{row_cases, row_kept, row_there, row_after, row_others}
 
 module _ (events : List ChartEvent) (inputs : Bool) where

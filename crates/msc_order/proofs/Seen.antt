@@ -1,16 +1,17 @@
 -- What contracts see of a table.
-use Rattle.std.proofs.Common.{Vec, Global, ◌≡◌, ℕ, ◌*◌, ◌/◌, ◌%◌, ◌<◌, ◌≤◌, Bool, true, false, inl, inr, List, [], length, get_or, map, replicate, sym, ap, ◌∙◌, arith}
+use Rattle.std.proofs.Common.{◌≡◌, ℕ, ◌<◌, ◌≤◌, Bool, true, false, inl, inr, List, [], length, get_or, map, sym, ap, ◌∙◌, arith}
 use Rattle.std.specs.List.{range_with_len}
 use Rattle.std.proofs.lemmas.Bool.{cases_lt}
-use Rattle.std.proofs.lemmas.List.{get_or_past, length-replicate}
+use Rattle.std.proofs.lemmas.List.{get_or_past}
 use Rattle.std.proofs.lemmas.List.FromFn.{length-map-range_with_len, get_or-map-range_with_len}
 use Rattle.msc_chart.specs.declared.event.ChartEvent.{ChartEvent}
 use Rattle.msc_chart.specs.Charts.{IsMatched}
 use Rattle.msc_chart.specs.Orders.{WiredChart, IsEnforcedOrder, IsVisualOrder}
-use Rattle.msc_order.specs.Tables.{table_of, orders, cell, stride, bit_of, IsWellKept}
+use Rattle.bit_rows.specs.Rows.{has}
+use Rattle.bit_rows.specs.Tables.{cell}
+use Rattle.msc_order.specs.Tables.{table_of, orders, IsWellKept}
 use Rattle.msc_order.specs.Causes.{Led, IsTestOf}
-use Rattle.msc_order.proofs.Bits.{bit_zero, stride_enough}
-use Rattle.msc_order.proofs.Cells.{by_test}
+use Rattle.bit_rows.proofs.Bits.{by_test}
 use Rattle.msc_order.proofs.Leading.{led_below}
 use Rattle.msc_order.proofs.Between.{enforced_below, led_visual, visual_led}
 
@@ -39,10 +40,6 @@ orders_past n test x y row out =
 pub rows_seen : (n : ℕ) (words : List ℕ) (table : List (List Bool)) → table_of n (cell n words) ≡ table → length table ≡ n
 rows_seen n words table is = sym (ap length is) ∙ length-table_of n (cell n words)
 
--- how many words a blank table has
-pub blank_len : (v : Vec ℕ Global) (ws : List ℕ) (n : ℕ) → ws ≡ v.items → v.items ≡ replicate (n * stride n) 0 → length ws ≡ n * stride n
-blank_len v ws n same items = ap (λ (l : List ℕ). length l) (same ∙ items) ∙ length-replicate (n * stride n) 0
-
 -- rows that hold the enforced order show it
 pub enforced_seen : (chart : WiredChart) → IsMatched chart.events → (words : List ℕ) → IsEnforcedOrder chart (cell (length chart.events) words)
     → IsEnforcedOrder chart (orders (table_of (length chart.events) (cell (length chart.events) words)))
@@ -66,19 +63,14 @@ visual_seen events matched words h =
           orders-table_of n (cell n words) x y below.0 below.1 ∙ h.complete x y there;
     }
 
--- the words of a row show what the table tells
-pub row_seen : (n : ℕ) (words row : List ℕ) (e : ℕ) → e < n → IsWellKept n words → length row ≡ stride n
-    → ((y : ℕ) → y < 64 * stride n → bit_of (get_or row (y / 64) 0) (y % 64) ≡ cell n words e y)
-    → (f : ℕ) → bit_of (get_or row (f / 64) 0) (f % 64) ≡ orders (table_of n (cell n words)) e f
-row_seen n words row e below kept count bits f =
+-- a row shows what the table tells
+pub row_seen : (n : ℕ) (words row : List ℕ) (e : ℕ) → e < n → IsWellKept n words
+    → ((y : ℕ) → has row y ≡ cell n words e y)
+    → (f : ℕ) → has row f ≡ orders (table_of n (cell n words)) e f
+row_seen n words row e below kept bits f =
     elim (cases_lt f n) [
-      | inl inside ↦
-          let enough = stride_enough n in
-          bits f (omega (arith, inside, enough)) ∙ sym (orders-table_of n (cell n words) e f below inside)
+      | inl inside ↦ bits f ∙ sym (orders-table_of n (cell n words) e f below inside)
       | inr out ↦
-          let none : bit_of (get_or row (f / 64) 0) (f % 64) ≡ false = elim (cases_lt f (64 * stride n)) [
-            | inl spare ↦ bits f spare ∙ by_test (cell n words e f) (λ h. let inside = kept.tight e f h in absurd (omega (arith, inside, out))) (λ h. h)
-            | inr past ↦ ap (λ word. bit_of word (f % 64)) (get_or_past row (f / 64) 0 (omega (arith, past, count))) ∙ bit_zero (f % 64)
-          ] in
-          none ∙ sym (orders_past n (cell n words) e f below out)
+          let none : cell n words e f ≡ false = by_test (cell n words e f) (λ h. let inside = kept.tight e f h in absurd (omega (arith, inside, out))) (λ h. h) in
+          bits f ∙ none ∙ sym (orders_past n (cell n words) e f below out)
     ]

@@ -5,7 +5,7 @@ use Rattle.msc_chart.specs.declared.event.ChartEvent.{ChartEvent}
 use Rattle.msc_chart.specs.Lists.{occurs}
 use Rattle.msc_chart.specs.Charts.{partner, is_output, is_input, before}
 use Rattle.msc_chart.specs.Orders.{WiredChart, queue, Enforced}
-use Rattle.msc_order.specs.Tables.{cell}
+use Rattle.bit_rows.specs.Tables.{cell}
 
 -- The least transitive relation that puts each output before its input, and what is drawn before an
 -- event before it: where `inputs` says so before each event, otherwise before each output.
@@ -62,13 +62,9 @@ pub record IsBegun (events : List ChartEvent) (inputs : Bool) (test : ℕ → �
   pub lines : (x : ℕ) → IsTrue (begun x) → HasRowOf (LedByLine events inputs) test x
   pub blank : (x y : ℕ) → begun x ≡ false → test x y ≡ false
 
--- the pairs of events that rows of words hold
-abbrev pub pairs_of : List ChartEvent → List ℕ → ℕ → ℕ → Bool
-pairs_of events words = cell (length events) words
-
--- the same of rows of words and of one row of marks
+-- the same of the pairs of a table, and of one row of marks
 abbrev pub AreBegun : List ChartEvent → Bool → List ℕ → List ℕ → Type 0
-AreBegun events inputs words begun = IsBegun events inputs (pairs_of events words) (pairs_of events begun 0)
+AreBegun events inputs words begun = IsBegun events inputs (cell (length events) words) (cell (length events) begun 0)
 
 -- event x does not stand among the first k of the order
 abbrev pub IsBehind : List ℕ → ℕ → ℕ → Type 0

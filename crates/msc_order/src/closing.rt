@@ -8,12 +8,13 @@
 ghost use Rattle.std.specs.Prelude.{◌≡◌, ℕ, ◌*◌, ◌<◌, ◌||◌, ◌&&◌, ◌↔◌, length, nat_eq};
 ghost use Rattle.std.specs.Prelude.{IsTrue, OnOk, false};
 ghost use Rattle.msc_chart.specs.Charts.{before, is_output, Visual};
-ghost use Rattle.msc_order.specs.Tables.{cell, stride, HasRow};
+ghost use Rattle.bit_rows.specs.Rows.{word_count};
+ghost use Rattle.bit_rows.specs.Tables.{cell, HasRow};
 ghost use Rattle.msc_order.specs.Causes.{Led, LedByLine, IsNextSegment, IsSound, IsTestOf};
-ghost use Rattle.msc_order.specs.Causes.{pairs_of, AreBegun, HasRowOf, Keeps, KeepsOthers};
+ghost use Rattle.msc_order.specs.Causes.{AreBegun, HasRowOf, Keeps, KeepsOthers};
 
-use crate::segments::{is_output, next_segment, partner, share_segment};
-use crate::table::{blank, has, merge, put, take_in};
+use crate::segments::next_segment;
+use bit_rows::table::{blank, has, merge, put, take_in};
 use msc_chart::{Chart, Event};
 use std::alloc::{AllocError, Global};
 
@@ -22,23 +23,23 @@ fn leads(chart: &Chart, inputs: bool, f: Event) -> bool
     requires { f < length chart.now.events }
     ensures { result ≡ (inputs || is_output chart.now.events f) }
 {
-    inputs || is_output(chart, f)
+    inputs || chart.is_output(f)
 }
 
 /// The row of `e`, a blank one, takes in what the line leads to from `e`, where the events from
 /// `start` up to `end` are the next segment, and the rows of all that is drawn after `e` are made.
 fn add_lines(words: &mut [u64], chart: &Chart, inputs: bool, e: Event, start: Event, end: Event)
     requires square { length words.old
-        ≡ length chart.now.events * stride (length chart.now.events) }
+        ≡ length chart.now.events * word_count (length chart.now.events) }
     requires known { e < length chart.now.events }
     requires next { IsNextSegment chart.now.events e start end }
-    requires sound { IsSound (Led chart.now.events inputs) (pairs_of chart.now.events words.old) }
-    requires blank { (y : ℕ) → pairs_of chart.now.events words.old e y ≡ false }
+    requires sound { IsSound (Led chart.now.events inputs) (cell (length chart.now.events) words.old) }
+    requires blank { (y : ℕ) → cell (length chart.now.events) words.old e y ≡ false }
     requires later { (f : ℕ) → IsTrue (before chart.now.events e f)
-        → HasRowOf (Led chart.now.events inputs) (pairs_of chart.now.events words.old) f }
-    ensures others { KeepsOthers e (pairs_of chart.now.events words.old)
-        (pairs_of chart.now.events words.new) }
-    ensures row { (y : ℕ) → IsTrue (pairs_of chart.now.events words.new e y)
+        → HasRowOf (Led chart.now.events inputs) (cell (length chart.now.events) words.old) f }
+    ensures others { KeepsOthers e (cell (length chart.now.events) words.old)
+        (cell (length chart.now.events) words.new) }
+    ensures row { (y : ℕ) → IsTrue (cell (length chart.now.events) words.new e y)
         ↔ LedByLine chart.now.events inputs e y }
 {
     let events = chart.events();
@@ -70,16 +71,16 @@ fn begin_as(words: &mut [u64], begun: &mut [u64], n: u32, e: Event, f: Event, mo
 /// drawn after it are made.
 fn begin_segment(words: &mut [u64], begun: &mut [u64], chart: &Chart, inputs: bool, e: Event)
     requires square { length words.old
-        ≡ length chart.now.events * stride (length chart.now.events) }
+        ≡ length chart.now.events * word_count (length chart.now.events) }
     requires marks { HasRow (length chart.now.events) begun.old 0 }
     requires known { e < length chart.now.events }
     requires begun { AreBegun chart.now.events inputs words.old begun.old }
     requires later { (f : ℕ) → IsTrue (before chart.now.events e f)
-        → HasRowOf (Led chart.now.events inputs) (pairs_of chart.now.events words.old) f }
+        → HasRowOf (Led chart.now.events inputs) (cell (length chart.now.events) words.old) f }
     ensures begun { AreBegun chart.now.events inputs words.new begun.new }
-    ensures kept { Keeps (pairs_of chart.now.events words.old)
-        (pairs_of chart.now.events words.new) }
-    ensures here { IsTrue (pairs_of chart.now.events begun.new 0 e) }
+    ensures kept { Keeps (cell (length chart.now.events) words.old)
+        (cell (length chart.now.events) words.new) }
+    ensures here { IsTrue (cell (length chart.now.events) begun.new 0 e) }
 {
     let events = chart.events();
     if has(begun, events, 0, e) {
@@ -90,7 +91,7 @@ fn begin_segment(words: &mut [u64], begun: &mut [u64], chart: &Chart, inputs: bo
     put(begun, events, 0, e);
     for passed in 0..start {
         let f = start - 1 - passed;
-        if !share_segment(chart, e, f) {
+        if !chart.share_segment(e, f) {
             return;
         }
         begin_as(words, begun, events, e, f, start < end && f != e);
@@ -100,33 +101,33 @@ fn begin_segment(words: &mut [u64], begun: &mut [u64], chart: &Chart, inputs: bo
 /// Makes the row of `e`, where the rows of all that comes after it are made.
 fn add_row(words: &mut [u64], begun: &mut [u64], chart: &Chart, inputs: bool, e: Event)
     requires square { length words.old
-        ≡ length chart.now.events * stride (length chart.now.events) }
+        ≡ length chart.now.events * word_count (length chart.now.events) }
     requires marks { HasRow (length chart.now.events) begun.old 0 }
     requires known { e < length chart.now.events }
     requires begun { AreBegun chart.now.events inputs words.old begun.old }
     requires later { (f : ℕ) → Visual chart.now.events e f
-        → HasRowOf (Led chart.now.events inputs) (pairs_of chart.now.events words.old) f }
+        → HasRowOf (Led chart.now.events inputs) (cell (length chart.now.events) words.old) f }
     ensures begun { AreBegun chart.now.events inputs words.new begun.new }
-    ensures kept { Keeps (pairs_of chart.now.events words.old)
-        (pairs_of chart.now.events words.new) }
-    ensures row { HasRowOf (Led chart.now.events inputs) (pairs_of chart.now.events words.new) e }
+    ensures kept { Keeps (cell (length chart.now.events) words.old)
+        (cell (length chart.now.events) words.new) }
+    ensures row { HasRowOf (Led chart.now.events inputs) (cell (length chart.now.events) words.new) e }
 {
     let events = chart.events();
     begin_segment(words, begun, chart, inputs, e);
-    if is_output(chart, e) {
-        take_in(words, events, e, partner(chart, e), true);
+    if chart.is_output(e) {
+        take_in(words, events, e, chart.other_end(e), true);
     }
 }
 
 /// Makes all rows.
 fn add_rows(words: &mut [u64], begun: &mut [u64], chart: &Chart, inputs: bool)
     requires square { length words.old
-        ≡ length chart.now.events * stride (length chart.now.events) }
+        ≡ length chart.now.events * word_count (length chart.now.events) }
     requires marks { HasRow (length chart.now.events) begun.old 0 }
     requires begun { AreBegun chart.now.events inputs words.old begun.old }
-    ensures { IsTestOf (Led chart.now.events inputs) (pairs_of chart.now.events words.new) }
+    ensures { IsTestOf (Led chart.now.events inputs) (cell (length chart.now.events) words.new) }
 {
-    let _accepted = chart.events();
+    chart.accepted();
     let order = chart.linear_order();
     for done in 0..order.len() {
         add_row(words, begun, chart, inputs, order[order.len() - 1 - done]);
@@ -143,10 +144,10 @@ pub fn close(
     inputs: bool,
 ) -> Result<(), AllocError>
     requires square { length words.old
-        ≡ length chart.now.events * stride (length chart.now.events) }
-    requires blank { (x y : ℕ) → pairs_of chart.now.events words.old x y ≡ false }
+        ≡ length chart.now.events * word_count (length chart.now.events) }
+    requires blank { (x y : ℕ) → cell (length chart.now.events) words.old x y ≡ false }
     ensures { OnOk result
-        (IsTestOf (Led chart.now.events inputs) (pairs_of chart.now.events words.new)) }
+        (IsTestOf (Led chart.now.events inputs) (cell (length chart.now.events) words.new)) }
 {
     let mut begun = blank(alloc, 1, chart.events())?;
     add_rows(words, &mut begun, chart, inputs);

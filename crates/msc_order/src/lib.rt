@@ -9,7 +9,5 @@ mod closing;
 mod order;
 mod queueing;
 mod segments;
-mod table;
-mod wiring;
 
 pub use order::Order;

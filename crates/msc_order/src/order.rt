@@ -2,15 +2,16 @@
 //!
 //! Events are numbered from 0, over all lines. Contracts see a row of truth values for each.
 
-ghost use Rattle.std.specs.Prelude.{◌≡◌, ℕ, ◌/◌, ◌%◌, ◌<◌, length, slice_index, IfOk};
+ghost use Rattle.std.specs.Prelude.{◌≡◌, ℕ, ◌<◌, length, IfOk};
 ghost use Rattle.msc_chart.specs.Orders.{IsEnforcedOrder, IsVisualOrder, wired};
-ghost use Rattle.msc_order.specs.Tables.{Table, table_of, cell, stride, orders, bit_of, IsWellKept};
+ghost use Rattle.bit_rows.specs.Rows.{has, word_count};
+ghost use Rattle.bit_rows.specs.Tables.{cell};
+ghost use Rattle.msc_order.specs.Tables.{Table, table_of, orders, IsWellKept};
 
 use crate::closing::close;
 use crate::queueing::close_under_queues;
-use crate::table::{blank, has, row_of};
-use crate::wiring::Wiring;
-use msc_chart::{Chart, Event, Queues};
+use bit_rows::table::{blank, has, row_of};
+use msc_chart::{Chart, Event, Queues, Wiring};
 use std::alloc::{AllocError, Global};
 use std::marker::Model;
 
@@ -65,12 +66,12 @@ impl Order {
         has(&self.words, self.events, e, f)
     }
 
-    /// The row of `e`: bit `f % 64` of word `f / 64` is 1 exactly where `e` comes before `f`, and 0
-    /// past the last event. It takes no memory.
+    /// The row of `e`: it has the numbers of the events that `e` comes before, and no other
+    /// ([`bit_rows`]). It takes no memory.
     pub fn row(&self, e: Event) -> &[u64]
         requires { e < length self.now }
-        ensures words { length result.now ≡ stride (length self.now) }
-        ensures bits { (f : ℕ) → bit_of (slice_index result.now (f / 64)) (f % 64) ≡ orders self.now e f }
+        ensures words { length result.now ≡ word_count (length self.now) }
+        ensures numbers { (f : ℕ) → has result.now f ≡ orders self.now e f }
     {
         row_of(&self.words, self.events, e)
     }

@@ -1,6 +1,6 @@
 -- How a chosen run is made: what the code keeps, step by step.
 pub mod ChoiceLemmas
-pub mod BitLemmas
+pub mod RowLemmas
 pub mod StateLemmas
 pub mod RemainderLemmas
 pub mod FrontLemmas

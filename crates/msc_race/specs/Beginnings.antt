@@ -4,7 +4,7 @@ use Rattle.msc_chart.specs.Lists.{occurs, Steps}
 use Rattle.msc_chart.specs.Chosen.{IsFree, IsChosenNext}
 use Rattle.msc_race.specs.declared.choosing.Choice.{Choice}
 use Rattle.msc_race.specs.declared.beginning.Beginning.{Beginning}
-use Rattle.msc_race.specs.Bits.{holds}
+use Rattle.bit_rows.specs.Rows.{has}
 use Rattle.msc_race.specs.Choices.{wired_chart, size}
 use Rattle.msc_race.specs.Remainders.{AreRows, HasFirstWords, IsUnheld, IsPassedOnWith}
 use Rattle.msc_race.specs.Fronts.{HoldsLines}
@@ -12,7 +12,7 @@ use Rattle.msc_race.specs.QueuedRuns.{HoldsQueues}
 
 -- the row holds the events with a property that have not occurred
 abbrev pub HoldsLeft : List ℕ → (ℕ → Type 0) → List ℕ → Type 0
-HoldsLeft row P past = (y : ℕ) → IsTrue (holds row y) ↔ (P y × (occurs past y ≡ false))
+HoldsLeft row P past = (y : ℕ) → IsTrue (has row y) ↔ (P y × (occurs past y ≡ false))
 
 -- the events so far
 abbrev pub run_of : Beginning → List ℕ
@@ -21,7 +21,7 @@ run_of f = f.queued.run.items
 -- the beginning of a chosen run, and what is known of the events that it has not got
 pub record IsBeginning (c : Choice) (f : Beginning) : Type 0 where
   pub steps : Steps (IsChosenNext (wired_chart c) c.e) [] (run_of f)
-  pub lines : HoldsLines c.chart.now f.lines
+  pub lines : HoldsLines c.wiring.chart.now f.lines
   pub queues : HoldsQueues (wired_chart c) (run_of f) f.queued
   pub rows : AreRows (size c) f.remaining
   pub first : HasFirstWords f.remaining

@@ -1,15 +1,11 @@
 -- The zeros of a row of words, as the search for races meets them.
-use Rattle.std.specs.Prelude.{ℕ, ◌/◌, ◌%◌, Bool, ◌&&◌, not, List, slice_index, nat_eq, nat_le}
-use Rattle.msc_order.specs.Tables.{bit_of}
-
--- bit f of a row of words
-unfoldable pub bit_in : List ℕ → ℕ → Bool
-bit_in row f = bit_of (slice_index row (f / 64)) (f % 64)
+use Rattle.std.specs.Prelude.{ℕ, ◌/◌, ◌%◌, Bool, ◌&&◌, not, List, nat_eq, nat_le}
+use Rattle.bit_rows.specs.Rows.{bit_of, has}
 
 -- f is a number of word k of a row, and its bit in the word is 1
 unfoldable pub is_in_word : ℕ → ℕ → ℕ → ℕ → Bool
 is_in_word word k e f = nat_eq (f / 64) k && bit_of word (f % 64)
 
--- f is not below start, and its bit is 0
+-- f is not below start, and the row has it not
 unfoldable pub is_gap : List ℕ → ℕ → ℕ → ℕ → Bool
-is_gap row start e f = nat_le start f && not (bit_in row f)
+is_gap row start e f = nat_le start f && not (has row f)

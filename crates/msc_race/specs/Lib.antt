@@ -4,7 +4,7 @@ pub mod Races
 pub mod Samples
 -- what the code keeps
 pub mod Choices
-pub mod Bits
+pub mod Rows
 pub mod Gaps
 pub mod Remainders
 pub mod Fronts

@@ -5,7 +5,8 @@ use Rattle.msc_chart.specs.Charts.{partner, is_input}
 use Rattle.msc_chart.specs.Orders.{WiredChart, queue}
 use Rattle.msc_chart.specs.Runs.{state}
 use Rattle.msc_race.specs.declared.queued_run.QueuedRun.{QueuedRun}
-use Rattle.msc_race.specs.Bits.{holds, IsRow}
+use Rattle.bit_rows.specs.Rows.{has}
+use Rattle.msc_race.specs.Rows.{IsRow}
 
 -- from a the links lead over the list to the last number
 abbrev pub IsLinked : List ℕ → ℕ → ℕ → List ℕ → Type 0
@@ -30,7 +31,7 @@ pub record AreQueues (chart : WiredChart) (queues : ℕ → List ℕ) (firsts en
   pub next : length links ≡ length chart.events
   pub linked : (q : ℕ) → q < length firsts
       → IsQueue (length chart.events) links (get_or firsts q 0) (get_or ends q 0) (queues q)
-  pub inputs : (y : ℕ) → IsTrue (holds opens y) ↔ IsArrived chart queues y
+  pub inputs : (y : ℕ) → IsTrue (has opens y) ↔ IsArrived chart queues y
 
 -- the queues after a run, as the code holds them
 abbrev pub HoldsQueues : WiredChart → List ℕ → QueuedRun → Type 0

@@ -4,12 +4,13 @@ use Rattle.msc_chart.specs.Orders.{WiredChart, queue}
 use Rattle.msc_chart.specs.Chosen.{IsFree, IsHeld, IsPassedOn}
 use Rattle.msc_race.specs.declared.choosing.Choice.{Choice}
 use Rattle.msc_race.specs.declared.remaining.Remaining.{Remaining}
-use Rattle.msc_race.specs.Bits.{holds, IsFirstWord, IsRow, IsWithout}
+use Rattle.bit_rows.specs.Rows.{has, IsFirstWord, IsWithout}
+use Rattle.msc_race.specs.Rows.{IsRow}
 use Rattle.msc_race.specs.Choices.{wired_chart}
 
 -- the row holds the numbers below k with a property
 abbrev pub HoldsBelow : List ℕ → (ℕ → Type 0) → ℕ → Type 0
-HoldsBelow row P k = (y : ℕ) → IsTrue (holds row y) ↔ (P y × (y < k))
+HoldsBelow row P k = (y : ℕ) → IsTrue (has row y) ↔ (P y × (y < k))
 
 -- a free event that is not held
 abbrev pub IsUnheld : WiredChart → ℕ → ℕ → Type 0

@@ -8,12 +8,12 @@ ghost use Rattle.msc_chart.specs.Chosen.{IsChosenNext};
 ghost use Rattle.msc_race.specs.Choices.{wired_chart, size, IsSettled};
 ghost use Rattle.msc_race.specs.Beginnings.{IsBeginning, run_of};
 
-use crate::bits::lowest;
 use crate::choosing::Choice;
 use crate::laws::{a_chosen_run_goes_on, no_run_is_stuck};
 use crate::lines::Lines;
 use crate::queued_run::QueuedRun;
 use crate::remaining::Remaining;
+use crate::rows::lowest;
 use msc_chart::Event;
 use msc_chart::laws::ends_share_queues;
 use std::alloc::{AllocError, Global};

@@ -8,7 +8,6 @@
 #![tactic(auto)]
 
 mod beginning;
-mod bits;
 mod choosing;
 pub mod laws;
 mod lines;
@@ -16,6 +15,7 @@ mod queued_run;
 mod racing;
 mod remaining;
 mod reversing;
+mod rows;
 mod verdict;
 
 pub use racing::{check, check_order, races};

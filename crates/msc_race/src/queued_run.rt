@@ -8,8 +8,9 @@ ghost use Rattle.msc_chart.specs.Runs.{MayCome, Run};
 ghost use Rattle.msc_race.specs.QueuedRuns.{HoldsQueues};
 ghost use Rattle.msc_race.specs.Choices.{wired_chart, size, IsSettled};
 
-use crate::bits::{blank, clear, put_where};
 use crate::choosing::Choice;
+use crate::rows::blank;
+use bit_rows::row::{clear, put_where};
 use msc_chart::Event;
 use msc_chart::laws::ends_share_queues;
 use std::alloc::{AllocError, Global};
@@ -33,8 +34,8 @@ impl QueuedRun {
         ensures queues { IfOk result (λ c. HoldsQueues (wired_chart choice.now) [] c) }
         ensures run { IfOk result (λ c. c.run.items ≡ []) }
     {
-        let events = choice.chart.events();
-        let queues = choice.queue_count() as usize;
+        let events = choice.wiring.chart.events();
+        let queues = choice.wiring.queue_count() as usize;
         Ok(QueuedRun {
             run: Vec::new(alloc),
             heads: vec![in alloc; events; queues]?,
@@ -57,17 +58,17 @@ impl QueuedRun {
         requires queues { HoldsQueues (wired_chart choice.now) self.old.run.items self.old }
         requires run { Run (wired_chart choice.now) self.old.run.items }
         requires may { MayCome (wired_chart choice.now) self.old.run.items x }
-        requires output { IsTrue (is_output choice.now.chart.now.events x) }
+        requires output { IsTrue (is_output choice.now.wiring.chart.now.events x) }
         ensures queues { HoldsQueues (wired_chart choice.now) (self.old.run.items ++ x ∷ []) self.new }
         ensures run { self.new.run ≡ self.old.run }
     {
         ends_share_queues();
-        let q = choice.queue(x) as usize;
+        let q = choice.wiring.queue(x) as usize;
         let last = self.lasts[q];
         self.lasts[q] = x;
-        if self.heads[q] == choice.chart.events() {
+        if self.heads[q] == choice.wiring.chart.events() {
             self.heads[q] = x;
-            put_where(&mut self.inputs, choice.partner(x), true);
+            put_where(&mut self.inputs, choice.wiring.chart.other_end(x), true);
         } else {
             self.next[last as usize] = x;
         }
@@ -79,21 +80,25 @@ impl QueuedRun {
         requires queues { HoldsQueues (wired_chart choice.now) self.old.run.items self.old }
         requires run { Run (wired_chart choice.now) self.old.run.items }
         requires may { MayCome (wired_chart choice.now) self.old.run.items x }
-        requires input { is_output choice.now.chart.now.events x ≡ false }
+        requires input { is_output choice.now.wiring.chart.now.events x ≡ false }
         ensures queues { HoldsQueues (wired_chart choice.now) (self.old.run.items ++ x ∷ []) self.new }
         ensures run { self.new.run ≡ self.old.run }
     {
         ends_share_queues();
-        let events = choice.chart.events();
-        let q = choice.queue(x) as usize;
-        let output = choice.partner(x);
+        let events = choice.wiring.chart.events();
+        let q = choice.wiring.queue(x) as usize;
+        let output = choice.wiring.chart.other_end(x);
         clear(&mut self.inputs, x);
         if self.lasts[q] == output {
             self.heads[q] = events;
         } else {
             let following = self.next[output as usize];
             self.heads[q] = following;
-            put_where(&mut self.inputs, choice.partner(following), true);
+            put_where(
+                &mut self.inputs,
+                choice.wiring.chart.other_end(following),
+                true,
+            );
         }
     }
 
@@ -107,7 +112,7 @@ impl QueuedRun {
             (HoldsQueues (wired_chart choice.now) self.new.run.items self.new) }
         ensures run { OnOk result (self.new.run.items ≡ self.old.run.items ++ x ∷ []) }
     {
-        if choice.is_output(x) {
+        if choice.wiring.chart.is_output(x) {
             self.send(choice, x);
         } else {
             self.take(choice, x);

@@ -8,7 +8,8 @@ ghost use Rattle.std.specs.Prelude.{◌≡◌, ℕ, ◌+◌, ◌*◌, ◌/◌, �
 ghost use Rattle.std.specs.Prelude.{nat_lt, length, IfOk, OnOk};
 ghost use Rattle.msc_chart.specs.Charts.{IsLineEnd, IsSegmentEnd};
 ghost use Rattle.msc_chart.specs.Orders.{wired, IsEnforcedOrder};
-ghost use Rattle.msc_order.specs.Tables.{bit_of, orders};
+ghost use Rattle.bit_rows.specs.Rows.{bit_of};
+ghost use Rattle.msc_order.specs.Tables.{orders};
 ghost use Rattle.msc_race.specs.Gaps.{is_gap, is_in_word};
 ghost use Rattle.msc_race.specs.Races.{all_races, pairs_to, IsVerdict, TellsRuns};
 
@@ -123,7 +124,7 @@ pub fn check_order(
     ensures runs { IfOk result (TellsRuns (wired queues chart.now)) }
 {
     races_are_what_runs_reverse();
-    let _accepted = chart.events();
+    chart.accepted();
     let list = races(alloc, chart, order)?;
     if list.is_empty() {
         return Ok(Verdict::Pass);

@@ -1,16 +1,17 @@
 -- The pairs that an event is drawn before: from the end of its segment up to the end of its line.
-use Rattle.std.proofs.Common.{◌≡◌, ℕ, ◌+◌, ◌/◌, ◌%◌, ◌<◌, ◌≤◌, Bool, false, not, ◌&&◌, inl, inr, List, [], length, refl, sym, ap, ◌∙◌, subst, arith}
-use Rattle.std.specs.Prelude.{nat_le, slice_index}
+use Rattle.std.proofs.Common.{◌≡◌, ℕ, ◌+◌, ◌<◌, ◌≤◌, Bool, false, not, ◌&&◌, inl, inr, List, [], length, refl, sym, ap, ◌∙◌, subst, arith}
+use Rattle.std.specs.Prelude.{nat_le}
 use Rattle.std.proofs.lemmas.Bool.{and_parts, cases_lt, le-leb, lt-leb, not-true}
 use Rattle.msc_chart.specs.declared.event.ChartEvent.{ChartEvent}
 use Rattle.msc_chart.specs.Charts.{before, IsInTextOrder, IsLineEnd, IsSegmentEnd}
 use Rattle.msc_chart.specs.Faults.{Occurs}
 use Rattle.msc_chart.specs.Orders.{WiredChart, IsEnforcedOrder}
 use Rattle.msc_chart.proofs.Drawn.{before_from, before_parts}
-use Rattle.msc_order.specs.Tables.{Table, orders, bit_of}
+use Rattle.bit_rows.specs.Rows.{has}
+use Rattle.msc_order.specs.Tables.{Table, orders}
 use Rattle.msc_order.proofs.Drawing.{before_later}
 use Rattle.msc_race.specs.Races.{all_races, is_raced, AreAscending, IsRaceList}
-use Rattle.msc_race.specs.Gaps.{bit_in, is_gap}
+use Rattle.msc_race.specs.Gaps.{is_gap}
 use Rattle.msc_race.specs.Laws.{HasNoRace}
 use Rattle.msc_race.proofs.Listing.Ascending.{of_ascends}
 use Rattle.msc_race.proofs.Listing.Pairs.{of_from, of_parts}
@@ -61,11 +62,11 @@ module _ (events : List ChartEvent) where
     drawn_past f past = by_test (before events e f) (λ b. let p = before_parts events e f b in absurd (l.past f past p.1 p.2)) (λ none. none)
 
     -- so the gaps of the row are the races of e
-    pub gaps_are_races : (order : Table) (row : List ℕ) → ((f : ℕ) → bit_of (slice_index row (f / 64)) (f % 64) ≡ orders order e f)
+    pub gaps_are_races : (order : Table) (row : List ℕ) → ((f : ℕ) → has row f ≡ orders order e f)
         → (f : ℕ) → f < end → is_gap row start e f ≡ is_raced events order e f
-    unfolding is_gap is_raced bit_in
+    unfolding is_gap is_raced
     gaps_are_races order row bits f inside =
-        ap (λ (b : Bool). b && not (bit_of (slice_index row (f / 64)) (f % 64))) (drawn_from f inside)
+        ap (λ (b : Bool). b && not (has row f)) (drawn_from f inside)
         ∙ ap (λ (b : Bool). before events e f && not b) (bits f)
 
     -- no event past the line is raced

@@ -5,10 +5,10 @@ use Rattle.std.proofs.Math.Bool.{and-false, and-true, and_comm}
 use Rattle.std.proofs.lemmas.Bool.{cases_lt, le-leb, lt-leb, lt-ltb, le-ltb}
 use Rattle.std.proofs.lemmas.Bool.Decides.{nat_tests}
 use Rattle.std.proofs.lemmas.Nat.Bits.{bit_at_ones, bit_at_ones_above, bit_at_mask_inside, bit_at_mask_below, ones_shl, ones_shr}
-use Rattle.msc_order.specs.Tables.{bit_of}
-use Rattle.msc_order.proofs.Bits.{bit_meet, bit_other}
+use Rattle.bit_rows.specs.Rows.{bit_of, has}
+use Rattle.bit_rows.proofs.Bits.{bit_meet, bit_other}
 use Rattle.msc_race.specs.Races.{pairs_to}
-use Rattle.msc_race.specs.Gaps.{bit_in, is_gap, is_in_word}
+use Rattle.msc_race.specs.Gaps.{is_gap, is_in_word}
 use Rattle.msc_race.proofs.Listing.Pairs.{pairs_between, pairs_join, pairs_none}
 use Rattle.msc_race.proofs.Listing.Words.{in_word, out_of_word}
 
@@ -64,7 +64,7 @@ module _ (row : List ℕ) (start end e : ℕ) where
       → ((f : ℕ) → f / 64 ≡ k → bit_of gaps (f % 64) ≡ (not (bit_of (get_or row k 0) (f % 64)) && leb start f && ltb f end))
       → pairs_to (is_gap row start) e (min (64 * (k + 1)) end)
       ≡ pairs_to (is_gap row start) e (min (64 * k) end) ++ pairs_to (is_in_word gaps k) e (64 * k + 64)
-  unfolding is_gap bit_in
+  unfolding is_gap has
   gaps_more k gaps more bits =
       let gap = is_gap row start in
       let inside = is_in_word gaps k in

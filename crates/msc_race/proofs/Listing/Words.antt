@@ -4,8 +4,8 @@ use Rattle.std.specs.Int.{bit_at, trailing_zeros}
 use Rattle.std.proofs.Math.Bool.{and-false, and_self}
 use Rattle.std.proofs.lemmas.Bool.{cases_eq, cases_lt, eq-eqb, ne_eqb}
 use Rattle.std.proofs.lemmas.Nat.Bits.{bit_at_lowest, bit_at-suc, bit_at-trailing_zeros}
-use Rattle.msc_order.specs.Tables.{bit_of}
-use Rattle.msc_order.proofs.Bits.{bit_meet, bit_zero}
+use Rattle.bit_rows.specs.Rows.{bit_of}
+use Rattle.bit_rows.proofs.Bits.{bit_meet, bit_zero}
 use Rattle.msc_race.specs.Races.{pairs_to}
 use Rattle.msc_race.specs.Gaps.{is_in_word}
 use Rattle.msc_race.proofs.Listing.Pairs.{pairs_between, pairs_join, pairs_more, pairs_none}

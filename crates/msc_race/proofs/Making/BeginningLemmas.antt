@@ -7,7 +7,8 @@ use Rattle.msc_chart.specs.Orders.{WiredChart, IsWired, queue, IsEnforcedOrder}
 use Rattle.msc_chart.specs.Runs.{MayCome, is_waiting, state}
 use Rattle.msc_chart.specs.Chosen.{IsFree, MayComeFree, IsLeast}
 use Rattle.msc_chart.proofs.ListLemmas.{occurs_other}
-use Rattle.msc_race.specs.Bits.{holds, is_masked, IsWithout}
+use Rattle.bit_rows.specs.Rows.{has, IsWithout}
+use Rattle.msc_race.specs.Rows.{is_masked}
 use Rattle.msc_race.specs.Remainders.{HoldsBelow, IsUnheld, IsPassedOnWith}
 use Rattle.msc_race.specs.Fronts.{IsOpenOutput}
 use Rattle.msc_race.specs.QueuedRuns.{IsArrived}
@@ -25,7 +26,7 @@ unfolding occurs
 left_at_first row P n held bound y = (λ h. (((held y).0 h).0, refl), λ p. (held y).1 (p.0, bound y p.0))
 
 -- a row of all events holds those that are left then
-pub all_at_first : (row : List ℕ) (P : ℕ → Type 0) → ((y : ℕ) → (holds row y ≡ true) ↔ P y) → HoldsLeft row P []
+pub all_at_first : (row : List ℕ) (P : ℕ → Type 0) → ((y : ℕ) → (has row y ≡ true) ↔ P y) → HoldsLeft row P []
 unfolding occurs
 all_at_first row P all y = (λ h. ((all y).0 h, refl), λ p. (all y).1 p.0)
 
@@ -48,8 +49,8 @@ least_same P Q same x h = record { itself = (same x).0 h.itself; none_below = λ
 
 module _ (chart : WiredChart) (is_wired : IsWired chart) (past left outputs inputs : List ℕ)
     (held : HoldsLeft left (λ y. y < length chart.events) past)
-    (opens : (y : ℕ) → (holds outputs y ≡ true) ↔ IsOpenOutput chart.events left y)
-    (arrived : (y : ℕ) → (holds inputs y ≡ true) ↔ IsArrived chart (λ q. state chart q past) y) where
+    (opens : (y : ℕ) → (has outputs y ≡ true) ↔ IsOpenOutput chart.events left y)
+    (arrived : (y : ℕ) → (has inputs y ≡ true) ↔ IsArrived chart (λ q. state chart q past) y) where
   -- an open output may come next
   output_may : (y : ℕ) → IsOpenOutput chart.events left y → MayCome chart past y
   output_may y o = record {
@@ -75,15 +76,15 @@ module _ (chart : WiredChart) (is_wired : IsWired chart) (past left outputs inpu
       }
 
   -- and nothing else may
-  may_rows : (y : ℕ) → MayCome chart past y → (holds outputs y || holds inputs y) ≡ true
+  may_rows : (y : ℕ) → MayCome chart past y → (has outputs y || has inputs y) ≡ true
   may_rows y may =
       elim (output_or_input chart.events y may.event) [
-        | inl o ↦ or_left (holds outputs y) (holds inputs y) ((opens y).1 (record {
+        | inl o ↦ or_left (has outputs y) (has inputs y) ((opens y).1 (record {
           output = o;
           remains = (held y).1 (may.event, may.new);
-          ready = λ x drawn. by_test (holds left x) (λ there. clash (may.output o x drawn) ((held x).0 there).1) (λ out. out);
+          ready = λ x drawn. by_test (has left x) (λ there. clash (may.output o x drawn) ((held x).0 there).1) (λ out. out);
         }))
-        | inr i ↦ or_right (holds outputs y) (holds inputs y) ((arrived y).1 (record { input = i; first = may.input i }))
+        | inr i ↦ or_right (has outputs y) (has inputs y) ((arrived y).1 (record { input = i; first = may.input i }))
       ]
 
   -- what is picked with a mask may come next, and has the property of the mask

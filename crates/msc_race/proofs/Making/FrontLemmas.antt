@@ -2,26 +2,26 @@
 use Rattle.std.proofs.Common.{◌≡◌, ◌≢◌, ℕ, ◌<◌, ◌≤◌, true, false, ◌↔◌, ◌⊎◌, inl, inr, List, length, get_or, set, refl, sym, ap, ◌∙◌, arith, get_or-set_same, get_or-set_other}
 use Rattle.std.proofs.lemmas.Bool.{eq-eqb, ne_eqb, cases_lt, cases_eq, and_parts, and_from, not-true, not_from_false}
 use Rattle.std.proofs.lemmas.List.{length-set}
-use Rattle.msc_race.proofs.Making.BitLemmas.{row_same}
+use Rattle.msc_race.proofs.Making.RowLemmas.{row_same}
 use Rattle.msc_chart.specs.declared.event.ChartEvent.{ChartEvent}
 use Rattle.msc_chart.specs.Charts.{line, segment, before, IsInTextOrder, IsSegmentEnd}
 use Rattle.msc_chart.proofs.Drawn.{before_from, before_parts}
-use Rattle.msc_race.specs.Bits.{holds, IsWithout}
+use Rattle.bit_rows.specs.Rows.{has, IsWithout}
 use Rattle.msc_race.specs.Fronts.{AreLines, IsFront, IsOpenOutput, IsOpened, IsNextLeft}
 use Rattle.msc_race.proofs.Shared.{by_test, clash}
 use Rattle.msc_race.proofs.Runs.EventLemmas.{output_below}
 
 module _ (old new : List ℕ) (x : ℕ) (without : IsWithout old new x) where
   -- what is not there is not there later
-  pub still_out : (y : ℕ) → holds old y ≡ false → holds new y ≡ false
+  pub still_out : (y : ℕ) → has old y ≡ false → has new y ≡ false
   still_out y h = without y ∙ rw h refl
 
   -- what else is there stays
-  pub still_in : (y : ℕ) → holds old y ≡ true → y ≢ x → holds new y ≡ true
+  pub still_in : (y : ℕ) → has old y ≡ true → y ≢ x → has new y ≡ true
   still_in y h other = without y ∙ and_from _ _ h (not_from_false _ (ne_eqb y x other))
 
   -- and what is there was there, and is another number
-  pub was_in : (y : ℕ) → holds new y ≡ true → (holds old y ≡ true) × (y ≢ x)
+  pub was_in : (y : ℕ) → has new y ≡ true → (has old y ≡ true) × (y ≢ x)
   was_in y h =
       let both = and_parts _ _ (sym (without y) ∙ h) in
       (both.0, λ same. clash (eq-eqb y x same) (not-true _ both.1))
@@ -93,7 +93,7 @@ module _ (events : List ChartEvent) (text : IsInTextOrder events) (old new : Lis
     elsewhere y opens off = record {
       output = opens.output;
       remains = (was_in old new x without y opens.remains).0;
-      ready = λ z drawn. by_test (holds old z)
+      ready = λ z drawn. by_test (has old z)
           (λ there.
           let apart = λ (same : z ≡ x). off (sym (before_parts events z y drawn).2 ∙ ap (λ e. line events e) same) in
           clash (still_in old new x without z there apart) (opens.ready z drawn))
@@ -118,7 +118,7 @@ module _ (events : List ChartEvent) (text : IsInTextOrder events) (old new : Lis
                 remains = (was_in old new x without y opens.remains).0;
                 ready = λ z drawn.
                     let p = before_parts events z y drawn in
-                    by_test (holds old z)
+                    by_test (has old z)
                     (λ there.
                     let later : start ≤ z = elim (cases_lt z start) [
                       | inl less ↦ clash there (was.below z less (p.2 ∙ on))
@@ -182,7 +182,7 @@ pub lines_after : (instances : ℕ) (events : List ChartEvent) (text : IsInTextO
     (x front : ℕ) → AreLines instances events left fronts outputs → line events x < instances
     → IsWithout left new_left x → IsNextLeft events new_left (line events x) (get_or fronts (line events x) 0) front
     → length new_left ≡ length left → length new_outputs ≡ length outputs
-    → ((y : ℕ) → (holds new_outputs y ≡ true) ↔ IsOpenOutput events new_left y)
+    → ((y : ℕ) → (has new_outputs y ≡ true) ↔ IsOpenOutput events new_left y)
     → AreLines instances events new_left (set fronts (line events x) front) new_outputs
 lines_after instances events text left fronts outputs new_left new_outputs x front kept on without next same_left same_outputs told = record {
   left_row = row_same (length events) left new_left same_left kept.left_row;
@@ -201,9 +201,9 @@ lines_after instances events text left fronts outputs new_left new_outputs x fro
 pub outputs_kept : (events : List ChartEvent) (text : IsInTextOrder events) (old new outputs new_outputs : List ℕ) (x start front : ℕ)
     → IsWithout old new x → IsWithout outputs new_outputs x
     → IsFront events old (line events x) start → IsNextLeft events new (line events x) start front
-    → ((y : ℕ) → (holds outputs y ≡ true) ↔ IsOpenOutput events old y)
+    → ((y : ℕ) → (has outputs y ≡ true) ↔ IsOpenOutput events old y)
     → ((y : ℕ) → y < length events → front ≤ y → line events front ≡ line events x → before events start front ≡ false)
-    → (y : ℕ) → (holds new_outputs y ≡ true) ↔ IsOpenOutput events new y
+    → (y : ℕ) → (has new_outputs y ≡ true) ↔ IsOpenOutput events new y
 outputs_kept events text old new outputs new_outputs x start front without cleared was next told level y = (
   λ h. let there = was_in outputs new_outputs x cleared y h in
       stays_open events text old new x without start front was next y ((told y).0 there.0) there.1,
@@ -215,10 +215,10 @@ outputs_kept events text old new outputs new_outputs x start front without clear
 pub outputs_opened : (events : List ChartEvent) (text : IsInTextOrder events) (old new outputs cleared new_outputs : List ℕ) (x start front end : ℕ)
     → IsWithout old new x → IsWithout outputs cleared x
     → IsFront events old (line events x) start → IsNextLeft events new (line events x) start front
-    → ((y : ℕ) → (holds outputs y ≡ true) ↔ IsOpenOutput events old y)
+    → ((y : ℕ) → (has outputs y ≡ true) ↔ IsOpenOutput events old y)
     → IsSegmentEnd events front end → line events front ≡ line events x
-    → ((y : ℕ) → (holds new_outputs y ≡ true) ↔ ((holds cleared y ≡ true) ⊎ IsOpened events new front end y))
-    → (y : ℕ) → (holds new_outputs y ≡ true) ↔ IsOpenOutput events new y
+    → ((y : ℕ) → (has new_outputs y ≡ true) ↔ ((has cleared y ≡ true) ⊎ IsOpened events new front end y))
+    → (y : ℕ) → (has new_outputs y ≡ true) ↔ IsOpenOutput events new y
 outputs_opened events text old new outputs cleared new_outputs x start front end without clears was next told segment_end here added y = (
   λ h. elim ((added y).0 h) [
     | inl kept ↦

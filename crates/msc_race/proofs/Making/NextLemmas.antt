@@ -1,25 +1,24 @@
 -- Which mask the next event of a chosen run is picked with.
 use Rattle.std.proofs.Common.{ℕ, ◌<◌, ◌↔◌, inl, inr, List, Option, None, Some, IfNone}
 use Rattle.std.specs.Prelude.{IsTrue}
-use Rattle.msc_chart.specs.Lists.{occurs}
 use Rattle.msc_chart.specs.Orders.{IsWired}
 use Rattle.msc_chart.specs.Runs.{MayCome, IsWhole}
 use Rattle.msc_chart.specs.Chosen.{IsFree, IsChosenNext, IsLeast, MayComeFree, SomeFreeLeft}
 use Rattle.msc_order.specs.Tables.{orders}
 use Rattle.msc_race.specs.declared.choosing.Choice.{Choice}
 use Rattle.msc_race.specs.declared.beginning.Beginning.{Beginning}
-use Rattle.msc_race.specs.Bits.{holds, is_masked}
+use Rattle.bit_rows.specs.Rows.{has}
+use Rattle.msc_race.specs.Rows.{is_masked}
 use Rattle.msc_race.specs.Choices.{wired_chart, size, IsSettled}
 use Rattle.msc_race.specs.Laws.{ChosenRunsGoOn, ChosenStepsAreARun, NoRunIsStuck}
-use Rattle.msc_race.specs.Remainders.{IsPassedOnWith, IsUnheld}
+use Rattle.msc_race.specs.Remainders.{IsUnheld}
 use Rattle.msc_race.specs.Beginnings.{run_of, HoldsLeft, IsBeginning}
-use Rattle.msc_race.proofs.Shared.{clash}
 use Rattle.msc_race.proofs.Making.ChoiceLemmas.{iff_trans}
 use Rattle.msc_race.proofs.Making.BeginningLemmas.{all_free, least_same, picked, unheld_free}
 
 -- a row has a number
 abbrev pub HasSome : List ℕ → Type 0
-HasSome row = (y : ℕ) × IsTrue (holds row y)
+HasSome row = (y : ℕ) × IsTrue (has row y)
 
 -- where nothing is there, what follows from that
 pub IfNone_then : (r : Option ℕ) {P Q : Type 0} → IfNone r P → (P → Q) → IfNone r Q
@@ -55,13 +54,13 @@ module _ (choice : Choice) (b : Beginning) where
         let chart = wired_chart choice in
         let past = run_of b in
         let same = picks_of b.lines.left.items (λ y. y < size choice) kept.left in
-        let run = steps choice.queues choice.chart.now choice.e past kept.steps in
+        let run = steps choice.wiring.queues choice.wiring.chart.now choice.e past kept.steps in
         record {
           next = λ x least. inr (
             λ some. none (some.0, (kept.free some.0).1 (some.1, some.2)),
             least_same (is_picked b.lines.left.items) (MayCome chart past) (λ y. iff_trans (same y) (λ m. m.0, λ m. (m, m.event))) x least,
           );
-          whole = λ nothing. elim (stuck choice.queues choice.chart.now settled.accepted past run) [
+          whole = λ nothing. elim (stuck choice.wiring.queues choice.wiring.chart.now settled.accepted past run) [
             | inl whole ↦ whole
             | inr next ↦ absurd (nothing next.0 ((same next.0).1 (next.1, next.1.event)))
           ];
@@ -81,7 +80,7 @@ module _ (choice : Choice) (b : Beginning) where
             least_same (is_picked mask) (MayComeFree chart choice.e past) (λ y. iff_trans (same y) (ready y)) x least,
           );
           whole = λ nothing.
-              let next = goes_on choice.queues choice.chart.now settled.accepted choice.e settled.known past kept.steps (free_left some) in
+              let next = goes_on choice.wiring.queues choice.wiring.chart.now settled.accepted choice.e settled.known past kept.steps (free_left some) in
               absurd (nothing next.0 ((same next.0).1 ((ready next.0).1 next.1)));
         }
 

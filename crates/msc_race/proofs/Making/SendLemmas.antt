@@ -4,12 +4,12 @@ use Rattle.std.proofs.lemmas.Bool.{eqb-true, eq-eqb, cases_eq, or_cases, or_left
 use Rattle.std.proofs.lemmas.List.{length-set}
 use Rattle.msc_chart.specs.Lists.{occurs, IsFirst}
 use Rattle.msc_chart.specs.Charts.{partner, is_output}
-use Rattle.msc_chart.specs.Orders.{WiredChart, IsWired, queue}
-use Rattle.msc_chart.specs.Runs.{Run, MayCome, state}
-use Rattle.msc_race.specs.Bits.{holds, IsWith}
+use Rattle.msc_chart.specs.Orders.{WiredChart, queue}
+use Rattle.msc_chart.specs.Runs.{state}
+use Rattle.bit_rows.specs.Rows.{has, IsWith}
 use Rattle.msc_race.specs.declared.queued_run.QueuedRun.{QueuedRun}
 use Rattle.msc_race.specs.QueuedRuns.{IsArrived, AreQueues}
-use Rattle.msc_race.proofs.Making.BitLemmas.{row_same}
+use Rattle.msc_race.proofs.Making.RowLemmas.{row_same}
 use Rattle.msc_race.proofs.Runs.EventLemmas.{input_below, input_of}
 use Rattle.msc_race.proofs.Making.StateLemmas.{state_sent, state_sent_elsewhere}
 use Rattle.msc_race.proofs.Making.LinkLemmas.{empty_queue, last_in, queue_same, queue_push}
@@ -90,7 +90,7 @@ module _ {chart : WiredChart} {c : QueuedRun} {x : ℕ} (here : IsComing chart c
                 (get_or-set_other heads q p x 0 other) (get_or-set_other lasts q p x 0 other)
           ];
           inputs = λ y. (
-            λ h. elim (or_cases (holds inputs y) (true && eqb y (partner chart.events x)) (sym (wider y) ∙ h)) [
+            λ h. elim (or_cases (has inputs y) (true && eqb y (partner chart.events x)) (sym (wider y) ∙ h)) [
               | inl there ↦ let a = (were.inputs y).0 there in elim (cases_eq (queue chart y) q) [
                 | inl here ↦ absurd (subst (λ (l : List ℕ). IsFirst l (partner chart.events y)) (ap (λ p. state chart p past) here ∙ empty) a.first)
                 | inr other ↦ still_arrived chart past x away y other a
@@ -104,9 +104,9 @@ module _ {chart : WiredChart} {c : QueuedRun} {x : ℕ} (here : IsComing chart c
               | inl here ↦
                   let first : x ≡ partner chart.events y = subst (λ (l : List ℕ). IsFirst l (partner chart.events y)) (ap after here ∙ full) a.first in
                   let y_in = input_below chart.events y a.input in
-                  or_right (holds inputs y) (true && eqb y (partner chart.events x))
+                  or_right (has inputs y) (true && eqb y (partner chart.events x))
                   (eq-eqb y (partner chart.events x) (sym (ap (λ e. partner chart.events e) first ∙ is_wired.matched.to_and_fro y y_in)))
-              | inr other ↦ or_left (holds inputs y) (true && eqb y (partner chart.events x)) ((were.inputs y).1 (had_arrived chart past x away y other a))
+              | inr other ↦ or_left (has inputs y) (true && eqb y (partner chart.events x)) ((were.inputs y).1 (had_arrived chart past x away y other a))
             ],
           );
         }

@@ -3,15 +3,15 @@ use Rattle.std.proofs.Common.{◌≡◌, ℕ, ◌+◌, ◌<◌, ◌≤◌, Bool,
 use Rattle.msc_chart.specs.declared.event.ChartEvent.{ChartEvent}
 use Rattle.msc_chart.specs.Charts.{line, is_output, before, IsInTextOrder}
 use Rattle.msc_chart.proofs.Drawn.{before_from, before_parts}
-use Rattle.msc_race.specs.Bits.{holds, IsWith}
+use Rattle.bit_rows.specs.Rows.{has, IsWith}
 use Rattle.msc_race.specs.Fronts.{AreLinesFrom, AreLinesTo, IsLowest, IsOpenOutput}
 use Rattle.msc_race.proofs.Shared.{by_test, clash}
-use Rattle.msc_race.proofs.Making.BitLemmas.{row_same}
+use Rattle.msc_race.proofs.Making.RowLemmas.{row_same}
 use Rattle.msc_race.proofs.Making.RemainderLemmas.{below_with}
 
 -- while all events are left, an output is open where the first event of its line is not drawn before it
 open_told : (events : List ChartEvent) (text : IsInTextOrder events) (left : List ℕ) (front x : ℕ)
-    → ((y : ℕ) → (holds left y ≡ true) ↔ (y < length events)) → IsLowest events 0 (line events x) front → x < length events
+    → ((y : ℕ) → (has left y ≡ true) ↔ (y < length events)) → IsLowest events 0 (line events x) front → x < length events
     → ((is_output events x ≡ true) × (before events front x ≡ false)) ↔ IsOpenOutput events left x
 open_told events text left front x all low known =
     let first : front ≤ x = low.least x (omega arith) known refl in

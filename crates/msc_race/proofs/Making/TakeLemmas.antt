@@ -4,12 +4,12 @@ use Rattle.std.proofs.lemmas.Bool.{eqb-true, eq-eqb, cases_eq, or_cases, or_left
 use Rattle.std.proofs.lemmas.List.{length-set}
 use Rattle.msc_chart.specs.Lists.{occurs, IsFirst}
 use Rattle.msc_chart.specs.Charts.{partner, is_output, is_input}
-use Rattle.msc_chart.specs.Orders.{WiredChart, IsWired, queue}
-use Rattle.msc_chart.specs.Runs.{Run, MayCome, state}
-use Rattle.msc_race.specs.Bits.{holds, IsWith, IsWithout}
+use Rattle.msc_chart.specs.Orders.{WiredChart, queue}
+use Rattle.msc_chart.specs.Runs.{state}
+use Rattle.bit_rows.specs.Rows.{has, IsWith, IsWithout}
 use Rattle.msc_race.specs.declared.queued_run.QueuedRun.{QueuedRun}
 use Rattle.msc_race.specs.QueuedRuns.{IsQueue, IsArrived, AreQueues}
-use Rattle.msc_race.proofs.Making.BitLemmas.{row_same}
+use Rattle.msc_race.proofs.Making.RowLemmas.{row_same}
 use Rattle.msc_race.proofs.Making.FrontLemmas.{still_in, was_in}
 use Rattle.msc_race.proofs.Runs.EventLemmas.{input_below, input_of}
 use Rattle.msc_race.proofs.Making.StateLemmas.{IsDistinct, state_taken, state_taken_elsewhere}
@@ -162,7 +162,7 @@ module _ {chart : WiredChart} {c : QueuedRun} {x : ℕ} (here : IsComing chart c
                 linked_elsewhere chart past x gone heads lasts next (set heads q t) lasts p other (were.linked p (rw (length-set heads q t) at p_below)) (get_or-set_other heads q p t 0 other) refl
           ];
           inputs = λ y. (
-            λ h. elim (or_cases (holds cleared y) (true && eqb y (partner chart.events t)) (sym (wider y) ∙ h)) [
+            λ h. elim (or_cases (has cleared y) (true && eqb y (partner chart.events t)) (sym (wider y) ∙ h)) [
               | inl there ↦
                   let was = was_in inputs cleared x without y there in
                   let a = (were.inputs y).0 was.0 in
@@ -180,9 +180,9 @@ module _ {chart : WiredChart} {c : QueuedRun} {x : ℕ} (here : IsComing chart c
                   let first : IsFirst rest (partner chart.events y) = subst (λ (l : List ℕ). IsFirst l (partner chart.events y)) (ap after here ∙ left) a.first in
                   let same = first_unique rest (partner chart.events y) t first next_first.0 in
                   let y_in = input_below chart.events y a.input in
-                  or_right (holds cleared y) (true && eqb y (partner chart.events t))
+                  or_right (has cleared y) (true && eqb y (partner chart.events t))
                   (eq-eqb y (partner chart.events t) (sym (is_wired.matched.to_and_fro y y_in) ∙ ap (λ e. partner chart.events e) same))
-              | inr other ↦ or_left (holds cleared y) (true && eqb y (partner chart.events t))
+              | inr other ↦ or_left (has cleared y) (true && eqb y (partner chart.events t))
                   (still_in inputs cleared x without y ((were.inputs y).1 (had_arrived chart past x gone y other a)) (λ same. other (ap (λ z. queue chart z) same)))
             ],
           );

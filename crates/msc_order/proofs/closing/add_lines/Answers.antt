@@ -1,6 +1,6 @@
-use Rattle.std.proofs.Common.{◌≢◌, ◌<◌, refl, sym, ◌∙◌, arith}
-use Rattle.msc_order.specs.Causes.{pairs_of}
-use Rattle.msc_order.proofs.Cells.{clash}
+use Rattle.std.proofs.Common.{length, ◌≢◌, ◌<◌, refl, sym, ◌∙◌, arith}
+use Rattle.bit_rows.specs.Tables.{cell}
+use Rattle.bit_rows.proofs.Bits.{clash}
 use Rattle.msc_order.proofs.Drawing.{before_later}
 use Rattle.msc_order.proofs.Leading.{row_others}
 use Rattle.msc_order.proofs.LineRows.{line_row, line_taken, taken_more}
@@ -18,9 +18,9 @@ loop-f-preserved c =
     let events = c.args.chart.now.events in
     let e = c.args.e in
     let f = c.loop-f.f in
-    let test = pairs_of events c.args.words.now in
-    let now = pairs_of events c.loop-f.words in
-    let last = pairs_of events c.take_in.new.words in
+    let test = cell (length events) c.args.words.now in
+    let now = cell (length events) c.loop-f.words in
+    let last = cell (length events) c.take_in.new.words in
     let wanted = c.leads.result in
     let drawn = c.requires.next.drawn f (omega arith) (omega arith) in
     let later : e < f = before_later events c.events-events.ensures.accepted.in_text_order e f drawn in
@@ -37,6 +37,6 @@ pub returns-clause-row : goal.returns-clause-row
 returns-clause-row c y =
     let events = c.args.chart.now.events in (
       c.loop-f.invariant.within y,
-      line_row events c.args.inputs (pairs_of events c.args.words.now) (pairs_of events c.loop-f.words) c.args.e c.args.start c.args.end c.requires.next c.requires.later
+      line_row events c.args.inputs (cell (length events) c.args.words.now) (cell (length events) c.loop-f.words) c.args.e c.args.start c.args.end c.requires.next c.requires.later
           (λ g low high. c.loop-f.invariant.taken g low (omega (arith, high, c.loop-f-test.false))) y,
     )

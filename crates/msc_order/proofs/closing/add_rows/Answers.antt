@@ -1,7 +1,8 @@
 use Rattle.std.proofs.Common.{◌≡◌, ℕ, ◌+◌, ◌-◌, true, inl, inr, length, get_or, sym, subst, arith}
 use Rattle.std.proofs.lemmas.Bool.{cases_eq}
-use Rattle.msc_order.specs.Causes.{pairs_of, Led, IsBehind}
-use Rattle.msc_order.proofs.Cells.{clash}
+use Rattle.msc_order.specs.Causes.{Led, IsBehind}
+use Rattle.bit_rows.specs.Tables.{cell}
+use Rattle.bit_rows.proofs.Bits.{clash}
 use Rattle.msc_order.proofs.Leading.{all_stand, at_place, behind, behind_cases, led_below, nothing_behind, visual_below}
 use Rattle.msc_order.proofs.closing.add_rows.Goals as goal
 
@@ -23,7 +24,7 @@ add_row-requires-clause-later c f v =
     let i : ℕ = length order - 1 - c.loop-done.done in
     let same : i + 1 ≡ length order - c.loop-done.done = omega arith in
     let after = behind events order c.linear_order-order.ensures i (omega arith) f v in
-    c.loop-done.invariant.rows f (visual_below events c.events-accepted.ensures.accepted.matched _ f v).1 (subst (λ (k : ℕ). IsBehind order k f) same after)
+    c.loop-done.invariant.rows f (visual_below events c.accepted.ensures.matched _ f v).1 (subst (λ (k : ℕ). IsBehind order k f) same after)
 
 pub loop-done-preserved : goal.loop-done-preserved
 loop-done-preserved c =
@@ -35,7 +36,7 @@ loop-done-preserved c =
     record {
       begun = c.add_row.ensures.begun;
       rows = λ x within after y h. elim (cases_eq x (get_or order i 0)) [
-        | inl here ↦ subst (λ (z : ℕ). pairs_of events c.add_row.new.words z y ≡ true) (sym here) (c.add_row.ensures.row y (subst (λ (z : ℕ). Led events c.args.inputs z y) here h))
+        | inl here ↦ subst (λ (z : ℕ). cell (length events) c.add_row.new.words z y ≡ true) (sym here) (c.add_row.ensures.row y (subst (λ (z : ℕ). Led events c.args.inputs z y) here h))
         | inr other ↦
             let stood = behind_cases events order c.linear_order-order.ensures i (omega arith) x (subst (λ (k : ℕ). IsBehind order k x) next after) other in
             c.add_row.ensures.kept x y (c.loop-done.invariant.rows x within (subst (λ (k : ℕ). IsBehind order k x) same stood) y h)
@@ -50,6 +51,6 @@ returns c =
     record {
       sound = c.loop-done.invariant.begun.sound;
       complete = λ x y h.
-          c.loop-done.invariant.rows x (led_below events c.args.inputs c.events-accepted.ensures.accepted.matched x y h).0
+          c.loop-done.invariant.rows x (led_below events c.args.inputs c.accepted.ensures.matched x y h).0
           (subst (λ (k : ℕ). IsBehind order k x) (sym none) (nothing_behind order x)) y h;
     }

@@ -1,7 +1,7 @@
 use Rattle.std.proofs.Common.{◌≡◌, ℕ, ◌-◌, ◌<◌, false, inl, inr, length, refl, sym, ◌∙◌, arith}
 use Rattle.std.proofs.lemmas.Bool.{cases_eq, eq-eqb, or_cases, or_left, or_right, and_parts}
-use Rattle.msc_order.specs.Causes.{pairs_of}
-use Rattle.msc_order.proofs.Cells.{clash}
+use Rattle.bit_rows.specs.Tables.{cell}
+use Rattle.bit_rows.proofs.Bits.{clash}
 use Rattle.msc_order.proofs.LineRows.{begun_first, begun_more}
 use Rattle.msc_order.proofs.closing.begin_segment.Goals as goal
 
@@ -9,12 +9,12 @@ pub loop-passed-init : goal.loop-passed-init
 loop-passed-init c =
     let events = c.args.chart.now.events in
     let e = c.args.e in
-    let test = pairs_of events c.args.words.now in
-    let begun = pairs_of events c.args.begun.now 0 in
+    let test = cell (length events) c.args.words.now in
+    let begun = cell (length events) c.args.begun.now 0 in
     let put = rw c.events-events.ensures.number at c.put.ensures in
     let fresh : begun e ≡ false = sym (rw c.events-events.ensures.number at c.has.ensures) ∙ c.if-has.false in
     record {
-      begun = begun_first events c.args.inputs test (pairs_of events c.add_lines.new.words) begun (pairs_of events c.put.new.words 0) e c.requires.begun
+      begun = begun_first events c.args.inputs test (cell (length events) c.add_lines.new.words) begun (cell (length events) c.put.new.words 0) e c.requires.begun
           c.add_lines.ensures.others c.add_lines.ensures.row (put 0);
       kept = λ x y h. elim (cases_eq x e) [
         | inl same ↦ clash h (rw same (c.requires.begun.blank e y fresh))
@@ -29,9 +29,9 @@ loop-passed-preserved c =
     let events = c.args.chart.now.events in
     let e = c.args.e in
     let f : ℕ = c.next_segment-start.result.0 - 1 - c.loop-passed.passed in
-    let test = pairs_of events c.loop-passed.words in
-    let now = pairs_of events c.begin_as.new.words in
-    let begun = pairs_of events c.loop-passed.begun 0 in
+    let test = cell (length events) c.loop-passed.words in
+    let now = cell (length events) c.begin_as.new.words in
+    let begun = cell (length events) c.loop-passed.begun 0 in
     let rising = c.next_segment-start.ensures.rising in
     let within = c.next_segment-start.ensures.within in
     let more = c.loop-passed-test.true in
@@ -39,7 +39,7 @@ loop-passed-preserved c =
     let rows = rw c.events-events.ensures.number at c.begin_as.ensures.rows in
     let marks = rw c.events-events.ensures.number at c.begin_as.ensures.begun in
     record {
-      begun = begun_more events c.args.inputs test now begun (pairs_of events c.begin_as.new.begun 0) e f c.loop-passed.invariant.begun c.loop-passed.invariant.here
+      begun = begun_more events c.args.inputs test now begun (cell (length events) c.begin_as.new.begun 0) e f c.loop-passed.invariant.begun c.loop-passed.invariant.here
           c.loop-passed.invariant.within (c.share_segment.ensures.0 c.if-not-share_segment.false) c.requires.known known rows (marks 0);
       kept = λ x y h. rows x y ∙ or_left (test x y) _ (c.loop-passed.invariant.kept x y h);
       here = marks 0 e ∙ or_left (begun e) _ c.loop-passed.invariant.here;

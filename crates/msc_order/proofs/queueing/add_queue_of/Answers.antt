@@ -1,8 +1,10 @@
 use Rattle.std.proofs.Common.{ℕ, refl}
 use Rattle.msc_chart.specs.Orders.{queue}
 use Rattle.msc_chart.proofs.Drawn.{output_parts}
-use Rattle.msc_order.specs.Wirings.{chart_of, pairs, picks, size}
-use Rattle.msc_order.proofs.Cells.{row_fits}
+use Rattle.msc_chart.specs.Wirings.{size, wired_by}
+use Rattle.bit_rows.specs.Tables.{cell}
+use Rattle.bit_rows.specs.Rows.{has}
+use Rattle.bit_rows.proofs.Cells.{row_fits}
 use Rattle.msc_order.proofs.Between.{left_first, seen_next}
 use Rattle.msc_order.proofs.queueing.add_queue_of.Goals as goal
 
@@ -17,7 +19,7 @@ common-requires-clause-row c =
 pub take_left-requires-clause-left : goal.take_left-requires-clause-left
 take_left-requires-clause-left c =
     let w = c.args.wiring.now in
-    left_first (chart_of w) (pairs w c.args.words.now) (pairs w c.args.masks.now) c.args.s (picks w c.common.new.left) c.requires.output c.requires.between c.requires.seen c.requires.later
+    left_first (wired_by w) (cell (size w) c.args.words.now) (cell (size w) c.args.masks.now) c.args.s (has c.common.new.left) c.requires.output c.requires.between c.requires.seen c.requires.later
     (rw (c.events-events.ensures.number, c.queue-q.ensures) at c.common.ensures)
 
 pub put-requires-clause-column : goal.put-requires-clause-column
@@ -26,6 +28,6 @@ put-requires-clause-column c = rw c.events-events.ensures.number (output_parts c
 pub returns-clause-seen : goal.returns-clause-seen
 returns-clause-seen c =
     let w = c.args.wiring.now in
-    seen_next (chart_of w) (pairs w c.args.words.now) (pairs w c.take_left.new.words) (pairs w c.args.masks.now) (pairs w c.put.new.words)
-    (queue (chart_of w) c.args.s) c.args.s (record { output = c.requires.output; one_queue = refl }) c.take_left.ensures.kept c.take_left.ensures.queue c.requires.seen
+    seen_next (wired_by w) (cell (size w) c.args.words.now) (cell (size w) c.take_left.new.words) (cell (size w) c.args.masks.now) (cell (size w) c.put.new.words)
+    (queue (wired_by w) c.args.s) c.args.s (record { output = c.requires.output; one_queue = refl }) c.take_left.ensures.kept c.take_left.ensures.queue c.requires.seen
     (rw (c.events-events.ensures.number, c.queue-q.ensures) at c.put.ensures)

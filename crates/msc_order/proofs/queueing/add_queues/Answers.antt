@@ -3,9 +3,10 @@ use Rattle.std.proofs.lemmas.Bool.{cases_eq}
 use Rattle.msc_chart.specs.Charts.{is_output}
 use Rattle.msc_chart.specs.Orders.{queue}
 use Rattle.msc_chart.proofs.Drawn.{output_parts}
-use Rattle.msc_order.specs.Wirings.{chart_of, pairs}
+use Rattle.msc_chart.specs.Wirings.{size, wired_by}
+use Rattle.bit_rows.specs.Tables.{cell}
 use Rattle.msc_order.specs.Causes.{IsBehind}
-use Rattle.msc_order.proofs.Cells.{clash}
+use Rattle.bit_rows.proofs.Bits.{clash}
 use Rattle.msc_order.proofs.Leading.{all_stand, at_place, behind, behind_cases, nothing_behind}
 use Rattle.msc_order.proofs.Between.{between_start, enforced_all, enforced_below, led_visual}
 use Rattle.msc_order.proofs.queueing.add_queues.Goals as goal
@@ -15,7 +16,7 @@ pub loop-done-init : goal.loop-done-init
 loop-done-init c =
     let w = c.args.wiring.now in
     record {
-      between = between_start (chart_of w) _ c.requires.caused;
+      between = between_start (wired_by w) _ c.requires.caused;
       shown = λ q d h. clash h (c.requires.blank q d);
       behind = λ d o none. clash (c.linear_order-order.ensures.whole d (output_parts w.chart.now.events d o).0) (all_stand c.linear_order-order.result.now d none);
     }
@@ -41,7 +42,7 @@ add_queue_of-requires-clause-later c d own after =
     let i : ℕ = length order - 1 - c.loop-done.done in
     let same : i + 1 ≡ length order - c.loop-done.done = omega arith in
     let stands = behind events order c.linear_order-order.ensures i (omega arith) d (led_visual events false _ d after) in
-    subst (λ (q : ℕ). pairs w c.loop-done.masks q d ≡ true) own.one_queue
+    subst (λ (q : ℕ). cell (size w) c.loop-done.masks q d ≡ true) own.one_queue
     (c.loop-done.invariant.behind d own.output (subst (λ (k : ℕ). IsBehind order k d) same stands))
 
 pub loop-done-preserved : goal.loop-done-preserved
@@ -59,7 +60,7 @@ loop-done-preserved c =
         between = t.add_queue_of.ensures.between;
         shown = t.add_queue_of.ensures.seen;
         behind = λ d o after. elim (cases_eq d (get_or order i 0)) [
-          | inl here ↦ subst (λ (z : ℕ). pairs w t.add_queue_of.new.masks (queue (chart_of w) z) z ≡ true) (sym here) t.add_queue_of.ensures.own
+          | inl here ↦ subst (λ (z : ℕ). cell (size w) t.add_queue_of.new.masks (queue (wired_by w) z) z ≡ true) (sym here) t.add_queue_of.ensures.own
           | inr other ↦ t.add_queue_of.ensures.kept _ _ (c.loop-done.invariant.behind d o (stood d after other))
         ];
       })
@@ -78,9 +79,9 @@ returns-clause-enforced c =
     let w = c.args.wiring.now in
     let order = c.linear_order-order.result.now in
     let none : length order - c.loop-done.done ≡ 0 = omega arith in
-    enforced_all (chart_of w) (c.ends_share_queues.ensures w.queues w.chart.now c.events-accepted.ensures.accepted) (pairs w c.loop-done.words) c.loop-done.invariant.between
-    (λ s o. (c.loop-done.invariant.shown (queue (chart_of w) s) s (c.loop-done.invariant.behind s o (subst (λ (k : ℕ). IsBehind order k s) (sym none) (nothing_behind order s)))).1)
+    enforced_all (wired_by w) (c.ends_share_queues.ensures w.queues w.chart.now c.accepted.ensures) (cell (size w) c.loop-done.words) c.loop-done.invariant.between
+    (λ s o. (c.loop-done.invariant.shown (queue (wired_by w) s) s (c.loop-done.invariant.behind s o (subst (λ (k : ℕ). IsBehind order k s) (sym none) (nothing_behind order s)))).1)
 
 pub returns-clause-tight : goal.returns-clause-tight
 returns-clause-tight c x y h =
-    (enforced_below (chart_of c.args.wiring.now) c.events-accepted.ensures.accepted.matched x y (c.loop-done.invariant.between.enforced x y h)).1
+    (enforced_below (wired_by c.args.wiring.now) c.accepted.ensures.matched x y (c.loop-done.invariant.between.enforced x y h)).1

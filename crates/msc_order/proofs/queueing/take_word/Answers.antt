@@ -1,80 +1,98 @@
-use Rattle.std.proofs.Common.{ℕ, ◌+◌, ◌*◌, ◌≤◌, inl, inr, ◌∙◌, arith}
+use Rattle.std.proofs.Common.{◌≡◌, ℕ, ◌+◌, ◌*◌, ◌/◌, ◌<◌, ◌≤◌, inl, inr, ◌∙◌, arith}
+use Rattle.std.proofs.Math.Facts.{Fits-of_lt}
 use Rattle.std.proofs.lemmas.Bool.{cases_lt}
 use Rattle.msc_chart.specs.Charts.{partner}
+use Rattle.msc_chart.specs.Wirings.{size, wired_by}
 use Rattle.msc_chart.proofs.Numbers.{count-less}
 use Rattle.msc_chart.proofs.Drawn.{output_parts}
-use Rattle.msc_order.specs.Wirings.{chart_of, pairs, picks, size}
-use Rattle.msc_order.proofs.Cells.{clash, row_fits}
-use Rattle.msc_order.proofs.Marks.{none_there}
+use Rattle.bit_rows.specs.Rows.{has}
+use Rattle.bit_rows.specs.Tables.{cell}
+use Rattle.bit_rows.proofs.Bits.{clash, words_few}
+use Rattle.bit_rows.proofs.Cells.{row_fits}
+use Rattle.bit_rows.proofs.Rows.{has_at, has_none}
 use Rattle.msc_order.proofs.Between.{in_order, keeps_trans, left_gone, left_less, left_next, taken_between, taken_kept}
 use Rattle.msc_order.proofs.queueing.take_word.Goals as goal
 
-pub partner-input-requires : goal.partner-input-requires
-partner-input-requires c = (output_parts c.args.wiring.now.chart.now.events c.args.s c.requires.output).0
+pub take_input-requires-clause-s_known : goal.take_input-requires-clause-s_known
+take_input-requires-clause-s_known c = (output_parts c.args.wiring.now.chart.now.events c.args.s c.requires.output).0
 
-pub lowest-c-requires-clause-tight : goal.lowest-c-requires-clause-tight
-lowest-c-requires-clause-tight c y h =
-    let known = c.loop-left.invariant.left.sound y (rw c.events-events.ensures.number at h) in
-    rw c.events-events.ensures.number (output_parts c.args.wiring.now.chart.now.events y known.0.output).0
+pub lowest_in-c-requires-clause-few : goal.lowest_in-c-requires-clause-few
+lowest_in-c-requires-clause-few c =
+    let row = c.requires.row in
+    let same = c.loop-left.auto.left in
+    let inside = c.requires.word in
+    let bits = words_few (size c.args.wiring.now) in
+    let few = c.events-events.ensures.accepted.few_events in
+    omega (arith, row, same, inside, bits, few)
 
-pub take_in-requires-clause-row : goal.take_in-requires-clause-row
-take_in-requires-clause-row c =
+pub overflow_cast-k : goal.overflow_cast-k
+overflow_cast-k c =
+    let row = c.requires.row in
+    let same = c.loop-left.auto.left in
+    let inside = c.requires.word in
+    let bits = words_few (size c.args.wiring.now) in
+    let few = c.events-events.ensures.accepted.few_events in
+    let small : c.args.k < 4294967296 = omega (arith, row, same, inside, bits, few) in
+    Fits-of_lt small
+
+pub drop_row-requires-clause-column : goal.drop_row-requires-clause-column
+drop_row-requires-clause-column c =
+    let there = has_at c.loop-left.left c.lowest_in-c.result c.args.k c.lowest_in-c.ensures.place ∙ c.lowest_in-c.ensures.itself in
+    rw c.events-events.ensures.number (output_parts c.args.wiring.now.chart.now.events c.lowest_in-c.result (c.loop-left.invariant.left.sound c.lowest_in-c.result there).0.output).0
+
+pub drop_row-requires-clause-row : goal.drop_row-requires-clause-row
+drop_row-requires-clause-row c =
     let n : ℕ = size c.args.wiring.now in
-    let events = c.args.wiring.now.chart.now.events in
-    rw (c.events-events.ensures.number, c.partner-input.ensures)
-    (row_fits n c.loop-left.words n (partner events c.args.s) (c.loop-left.auto.words ∙ c.requires.square)
-    (c.events-events.ensures.accepted.matched.in_range c.args.s (output_parts events c.args.s c.requires.output).0))
+    let there = has_at c.loop-left.left c.lowest_in-c.result c.args.k c.lowest_in-c.ensures.place ∙ c.lowest_in-c.ensures.itself in
+    rw c.events-events.ensures.number (row_fits n c.loop-left.words n c.lowest_in-c.result (c.loop-left.auto.words ∙ c.requires.square)
+    (output_parts c.args.wiring.now.chart.now.events c.lowest_in-c.result (c.loop-left.invariant.left.sound c.lowest_in-c.result there).0.output).0)
 
-pub take_in-requires-clause-other : goal.take_in-requires-clause-other
-take_in-requires-clause-other c =
-    let n : ℕ = size c.args.wiring.now in
-    let events = c.args.wiring.now.chart.now.events in
-    rw (c.events-events.ensures.number, c.partner.ensures)
-    (row_fits n c.loop-left.words n (partner events c.lowest-c.result) (c.loop-left.auto.words ∙ c.requires.square)
-    (c.events-events.ensures.accepted.matched.in_range c.lowest-c.result (rw c.events-events.ensures.number at c.lowest-c.ensures.known)))
-
-pub take_in-requires-clause-column : goal.take_in-requires-clause-column
-take_in-requires-clause-column c =
-    rw (c.events-events.ensures.number, c.partner.ensures)
-    (c.events-events.ensures.accepted.matched.in_range c.lowest-c.result (rw c.events-events.ensures.number at c.lowest-c.ensures.known))
+pub take_input-requires-clause-c_known : goal.take_input-requires-clause-c_known
+take_input-requires-clause-c_known c =
+    let there = has_at c.loop-left.left c.lowest_in-c.result c.args.k c.lowest_in-c.ensures.place ∙ c.lowest_in-c.ensures.itself in
+    (output_parts c.args.wiring.now.chart.now.events c.lowest_in-c.result (c.loop-left.invariant.left.sound c.lowest_in-c.result there).0.output).0
 
 pub loop-left-smaller : goal.loop-left-smaller
 loop-left-smaller c =
     let w = c.args.wiring.now in
+    let events = w.chart.now.events in
+    let d : ℕ = c.lowest_in-c.result in
     let drop = rw c.events-events.ensures.number at c.drop_row.ensures in
-    let take = rw (c.events-events.ensures.number, c.partner-input.ensures, c.partner.ensures) at c.take_in.ensures in
-    let there = rw c.events-events.ensures.number at c.lowest-c.ensures.marked in
-    let test = pairs w c.loop-left.words in
-    let now = pairs w c.take_in.new.words in
-    let left = picks w c.loop-left.left in
-    let less = picks w c.drop_row.new.left in
-    count-less left less (size w) c.lowest-c.result
-    (λ k below h. left_less (chart_of w) test now c.args.s c.lowest-c.result left less c.loop-left.invariant.between c.loop-left.invariant.left there take drop k h)
-    (rw c.events-events.ensures.number at c.lowest-c.ensures.known) there
-    (left_gone (chart_of w) test now c.args.s c.lowest-c.result left less c.loop-left.invariant.between c.loop-left.invariant.left there take drop)
+    let take = c.take_input.ensures in
+    let there = has_at c.loop-left.left d c.args.k c.lowest_in-c.ensures.place ∙ c.lowest_in-c.ensures.itself in
+    let test = cell (size w) c.loop-left.words in
+    let now = cell (size w) c.take_input.new.words in
+    let left = has c.loop-left.left in
+    let less = has c.drop_row.new.left in
+    let was = c.loop-left.invariant in
+    count-less left less (size w) d
+    (λ k below h. left_less (wired_by w) test now c.args.s d left less was.between was.left there take drop k h)
+    (output_parts events d (was.left.sound d there).0.output).0 there
+    (left_gone (wired_by w) test now c.args.s d left less was.between was.left there take drop)
 
 pub loop-left-preserved : goal.loop-left-preserved
 loop-left-preserved c =
     let w = c.args.wiring.now in
+    let d : ℕ = c.lowest_in-c.result in
     let drop = rw c.events-events.ensures.number at c.drop_row.ensures in
-    let take = rw (c.events-events.ensures.number, c.partner-input.ensures, c.partner.ensures) at c.take_in.ensures in
-    let there = rw c.events-events.ensures.number at c.lowest-c.ensures.marked in
-    let test = pairs w c.loop-left.words in
-    let now = pairs w c.take_in.new.words in
-    let left = picks w c.loop-left.left in
-    let less = picks w c.drop_row.new.left in
+    let take = c.take_input.ensures in
+    let there = has_at c.loop-left.left d c.args.k c.lowest_in-c.ensures.place ∙ c.lowest_in-c.ensures.itself in
+    let test = cell (size w) c.loop-left.words in
+    let now = cell (size w) c.take_input.new.words in
+    let left = has c.loop-left.left in
+    let less = has c.drop_row.new.left in
     let wires = c.ends_share_queues.ensures w.queues w.chart.now c.events-events.ensures.accepted in
-    let known = c.loop-left.invariant.left.sound c.lowest-c.result there in
+    let was = c.loop-left.invariant in
+    let known = was.left.sound d there in
     let r : ℕ = partner w.chart.now.events c.args.s in
-    let u : ℕ = partner w.chart.now.events c.lowest-c.result in
-    let pair = in_order (chart_of w) wires c.args.s c.lowest-c.result c.requires.output known.0 known.1 in
+    let u : ℕ = partner w.chart.now.events d in
+    let pair = in_order (wired_by w) wires c.args.s d c.requires.output known.0 known.1 in
     record {
-      between = taken_between (chart_of w) wires test now r u c.loop-left.invariant.between pair take;
-      kept = keeps_trans (chart_of w) (pairs w c.args.words.now) test now c.loop-left.invariant.kept
-          (taken_kept (chart_of w) wires test now r u c.loop-left.invariant.between pair take);
-      left = left_next (chart_of w) test now c.args.s c.lowest-c.result left less c.loop-left.invariant.between c.loop-left.invariant.left there take drop;
-      above = λ d h. c.loop-left.invariant.above d
-          (left_less (chart_of w) test now c.args.s c.lowest-c.result left less c.loop-left.invariant.between c.loop-left.invariant.left there take drop d h);
+      between = taken_between (wired_by w) wires test now r u was.between pair take;
+      kept = keeps_trans (wired_by w) (cell (size w) c.args.words.now) test now was.kept
+          (taken_kept (wired_by w) wires test now r u was.between pair take);
+      left = left_next (wired_by w) test now c.args.s d left less was.between was.left there take drop;
+      above = λ x h. was.above x (left_less (wired_by w) test now c.args.s d left less was.between was.left there take drop x h);
     }
 
 pub returns-clause-above : goal.returns-clause-above
@@ -82,5 +100,7 @@ returns-clause-above c d h =
     let low : 64 * c.args.k ≤ d = c.loop-left.invariant.above d h in
     elim (cases_lt d (64 * (c.args.k + 1))) [
       | inr ge ↦ ge
-      | inl lt ↦ clash h (none_there (size c.args.wiring.now) c.loop-left.left c.args.k d c.loop-left-test.false (omega (arith, low, lt)))
+      | inl lt ↦
+          let here : d / 64 ≡ c.args.k = omega (arith, low, lt) in
+          clash h (has_none c.loop-left.left d (rw here c.loop-left-test.false))
     ]

@@ -1,6 +1,6 @@
 use Rattle.std.proofs.Common.{arith}
 use Rattle.msc_chart.specs.Charts.{before}
-use Rattle.msc_order.proofs.Cells.{by_test, clash}
+use Rattle.bit_rows.proofs.Bits.{by_test, clash}
 use Rattle.msc_order.proofs.Drawing.{none_next, is_next}
 use Rattle.msc_order.proofs.segments.next_segment.Goals as goal
 use Rattle.msc_order.proofs.segments.next_segment.Goals.{then-start-events-via-then-start-events, then-start-events-via-else-start-events+then-not-before}

@@ -24,7 +24,7 @@ returns-then-is_empty-clause-verdict c =
 pub returns-then-is_empty-clause-runs : goal.returns-then-is_empty-clause-runs
 returns-then-is_empty-clause-runs c =
     let list = c.in_ok-list.list in
-    (c.races_are_what_runs_reverse.ensures.none c.args.queues c.args.chart.now c.events-accepted.ensures.accepted).0
+    (c.races_are_what_runs_reverse.ensures.none c.args.queues c.args.chart.now c.accepted.ensures).0
     (no_races (wired c.args.queues c.args.chart.now) list.items
     (list_of_races (wired c.args.queues c.args.chart.now) _ c.requires.enforced list.items c.in_ok-list.ensures)
     (none_in list.items (vec_len list) _ list.ok.0 c.is_empty.ensures c.if-is_empty.true))
@@ -41,7 +41,7 @@ pub returns-clause-runs : goal.returns-clause-runs
 returns-clause-runs c =
     let list = c.in_ok-list.list in
     let races = list_of_races (wired c.args.queues c.args.chart.now) _ c.requires.enforced list.items c.in_ok-list.ensures in
-    let runs = c.races_are_what_runs_reverse.ensures.race c.args.queues c.args.chart.now c.events-accepted.ensures.accepted in
+    let runs = c.races_are_what_runs_reverse.ensures.race c.args.queues c.args.chart.now c.accepted.ensures in
     rw c.from_vec.ensures (record {
       reversed = λ e f. (λ reversed. (races.races e f).0 ((runs e f).1 reversed), λ there. (runs e f).0 ((races.races e f).1 there));
       some = some_in list.items (vec_len list) _ list.ok.0 c.is_empty.ensures c.if-is_empty.false;

@@ -1,18 +1,8 @@
-use Rattle.std.proofs.Common.{rules, arith}
-use Rattle.msc_chart.specs.Orders.{queue_of, queue_number}
-use Rattle.msc_chart.proofs.Readers.{small_queue}
+use Rattle.std.proofs.Common.{◌∙◌, refl}
+use Rattle.msc_chart.specs.Orders.{queue_of}
 use Rattle.msc_chart.proofs.chart.Chart.queue.Goals as goal
 
-pub overflow_mul-result : goal.overflow_mul-result
-overflow_mul-result c = omega (arith, small_queue c.sender.result c.instances.result 0 (omega arith) (omega arith) (omega arith))
-
-pub overflow_add-result : goal.overflow_add-result
-overflow_add-result c = omega (arith, small_queue c.sender.result c.instances.result c.receiver.result (omega arith) (omega arith) (omega arith))
-
-pub returns-in-Pair : goal.returns-in-Pair
-unfolding queue_of queue_number
-returns-in-Pair c = search rules
-
-pub returns-in-Mailbox : goal.returns-in-Mailbox
-unfolding queue_of queue_number
-returns-in-Mailbox c = search rules
+pub returns : goal.returns
+unfolding queue_of
+returns c = c.queue_number.ensures
+    ∙ rw (c.instances.ensures.number, c.sender.ensures.value, c.receiver.ensures.value) refl

@@ -1,4 +1,4 @@
-use Rattle.std.proofs.Common.{◌≡◌, ℕ, ◌<◌, ◌≤◌}
+use Rattle.std.proofs.Common.{ℕ, ◌<◌, ◌≤◌}
 use Rattle.msc_chart.specs.Charts.{ShareSegment}
 use Rattle.msc_chart.proofs.chart.Chart.segment_end.Given as goal
 

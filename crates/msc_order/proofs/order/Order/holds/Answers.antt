@@ -1,6 +1,7 @@
 use Rattle.std.proofs.Common.{◌<◌, ℕ, sym, ◌∙◌, ap, subst}
-use Rattle.msc_order.specs.Tables.{orders, cell}
-use Rattle.msc_order.proofs.Cells.{row_fits}
+use Rattle.bit_rows.specs.Tables.{cell}
+use Rattle.msc_order.specs.Tables.{orders}
+use Rattle.bit_rows.proofs.Cells.{row_fits}
 use Rattle.msc_order.proofs.Seen.{rows_seen, orders-table_of}
 use Rattle.msc_order.proofs.order.Order.holds.Goals as goal
 

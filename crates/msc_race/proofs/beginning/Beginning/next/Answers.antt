@@ -6,7 +6,7 @@ use Rattle.msc_race.proofs.beginning.Beginning.next.Goals as goal
 pub returns-then-not-has_free-clause-some : goal.returns-then-not-has_free-clause-some
 returns-then-not-has_free-clause-some c =
     let choice = c.args.choice.now in
-    let is_wired = c.ends_share_queues.ensures choice.queues choice.chart.now c.requires.settled.accepted in
+    let is_wired = c.ends_share_queues.ensures choice.wiring.queues choice.wiring.chart.now c.requires.settled.accepted in
     let mask =
     mask_of_all choice c.args.self.now c.requires.settled c.requires.kept is_wired c.a_chosen_run_goes_on.ensures.run c.no_run_is_stuck.ensures.longer
     (λ some. clash (c.has_free.ensures.1 some) c.if-not-has_free.true) in
@@ -15,7 +15,7 @@ returns-then-not-has_free-clause-some c =
 pub returns-then-not-has_free-clause-none : goal.returns-then-not-has_free-clause-none
 returns-then-not-has_free-clause-none c =
     let choice = c.args.choice.now in
-    let is_wired = c.ends_share_queues.ensures choice.queues choice.chart.now c.requires.settled.accepted in
+    let is_wired = c.ends_share_queues.ensures choice.wiring.queues choice.wiring.chart.now c.requires.settled.accepted in
     let mask =
     mask_of_all choice c.args.self.now c.requires.settled c.requires.kept is_wired c.a_chosen_run_goes_on.ensures.run c.no_run_is_stuck.ensures.longer
     (λ some. clash (c.has_free.ensures.1 some) c.if-not-has_free.true) in
@@ -24,7 +24,7 @@ returns-then-not-has_free-clause-none c =
 pub returns-then-has_passed-clause-some : goal.returns-then-has_passed-clause-some
 returns-then-has_passed-clause-some c =
     let choice = c.args.choice.now in
-    let is_wired = c.ends_share_queues.ensures choice.queues choice.chart.now c.requires.settled.accepted in
+    let is_wired = c.ends_share_queues.ensures choice.wiring.queues choice.wiring.chart.now c.requires.settled.accepted in
     let mask =
     mask_of_unheld choice c.args.self.now c.requires.settled c.requires.kept is_wired c.a_chosen_run_goes_on.ensures.next
     (c.has_free.ensures.0 c.if-not-has_free.false) (c.has_passed.ensures.0 c.if-has_passed.true) in
@@ -33,7 +33,7 @@ returns-then-has_passed-clause-some c =
 pub returns-then-has_passed-clause-none : goal.returns-then-has_passed-clause-none
 returns-then-has_passed-clause-none c =
     let choice = c.args.choice.now in
-    let is_wired = c.ends_share_queues.ensures choice.queues choice.chart.now c.requires.settled.accepted in
+    let is_wired = c.ends_share_queues.ensures choice.wiring.queues choice.wiring.chart.now c.requires.settled.accepted in
     let mask =
     mask_of_unheld choice c.args.self.now c.requires.settled c.requires.kept is_wired c.a_chosen_run_goes_on.ensures.next
     (c.has_free.ensures.0 c.if-not-has_free.false) (c.has_passed.ensures.0 c.if-has_passed.true) in
@@ -42,7 +42,7 @@ returns-then-has_passed-clause-none c =
 pub returns-clause-some : goal.returns-clause-some
 returns-clause-some c =
     let choice = c.args.choice.now in
-    let is_wired = c.ends_share_queues.ensures choice.queues choice.chart.now c.requires.settled.accepted in
+    let is_wired = c.ends_share_queues.ensures choice.wiring.queues choice.wiring.chart.now c.requires.settled.accepted in
     let mask =
     mask_of_rest choice c.args.self.now c.requires.settled c.requires.kept is_wired c.a_chosen_run_goes_on.ensures.next
     (c.has_free.ensures.0 c.if-not-has_free.false) (λ passed. clash (c.has_passed.ensures.1 passed) c.if-has_passed.false) in
@@ -51,7 +51,7 @@ returns-clause-some c =
 pub returns-clause-none : goal.returns-clause-none
 returns-clause-none c =
     let choice = c.args.choice.now in
-    let is_wired = c.ends_share_queues.ensures choice.queues choice.chart.now c.requires.settled.accepted in
+    let is_wired = c.ends_share_queues.ensures choice.wiring.queues choice.wiring.chart.now c.requires.settled.accepted in
     let mask =
     mask_of_rest choice c.args.self.now c.requires.settled c.requires.kept is_wired c.a_chosen_run_goes_on.ensures.next
     (c.has_free.ensures.0 c.if-not-has_free.false) (λ passed. clash (c.has_passed.ensures.1 passed) c.if-has_passed.false) in

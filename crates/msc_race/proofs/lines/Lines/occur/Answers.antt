@@ -9,7 +9,7 @@ use Rattle.msc_race.proofs.lines.Lines.occur.Goals as goal
 
 pub returns-then-not-is_on-clause-kept : goal.returns-then-not-is_on-clause-kept
 returns-then-not-is_on-clause-kept c =
-    let d = c.args.choice.now.chart.now in
+    let d = c.args.choice.now.wiring.chart.now in
     let self = c.args.self.now in
     let kept = c.requires.kept in
     let text = c.requires.settled.accepted.in_text_order in
@@ -31,7 +31,7 @@ returns-then-not-is_on-clause-kept c =
 
 pub returns-then-before-clause-kept : goal.returns-then-before-clause-kept
 returns-then-before-clause-kept c =
-    let d = c.args.choice.now.chart.now in
+    let d = c.args.choice.now.wiring.chart.now in
     let self = c.args.self.now in
     let kept = c.requires.kept in
     let text = c.requires.settled.accepted.in_text_order in
@@ -57,7 +57,7 @@ returns-then-before-clause-kept c =
 
 pub returns-else-before-clause-kept : goal.returns-else-before-clause-kept
 returns-else-before-clause-kept c =
-    let d = c.args.choice.now.chart.now in
+    let d = c.args.choice.now.wiring.chart.now in
     let self = c.args.self.now in
     let kept = c.requires.kept in
     let text = c.requires.settled.accepted.in_text_order in

@@ -6,7 +6,7 @@ use Rattle.msc_race.proofs.lines.Lines.open_first.Goals as goal
 
 pub returns : goal.returns
 returns c =
-    let d = c.args.choice.now.chart.now in
+    let d = c.args.choice.now.wiring.chart.now in
     let self = c.args.self.now in
     let were = c.requires.lines in
     let accepted = c.requires.settled.accepted in

@@ -1,0 +1,4 @@
+pub mod Bits
+pub mod Rows
+pub mod Cells
+pub mod Writes

@@ -1,0 +1,98 @@
+-- What the reads and writes of one row of bits do to its numbers.
+use Rattle.std.proofs.Common.{◌≡◌, ◌≢◌, ℕ, ◌+◌, ◌*◌, ◌/◌, ◌%◌, ◌^◌, ◌<◌, ◌≤◌, true, false, not, ◌&&◌, ◌||◌, inl, inr, eqb, List, length, get_or, set, replicate, refl, sym, ap, ◌∙◌, arith, get_or-set_same, get_or-set_other, bit_or, bit_and, w64}
+use Rattle.std.specs.Int.{bit_not, trailing_zeros}
+use Rattle.std.proofs.lemmas.Bool.{eq-eqb, ne_eqb, cases_eq, cases_lt}
+use Rattle.std.proofs.lemmas.List.{get_or_past, get_or-replicate, length-replicate}
+use Rattle.std.proofs.lemmas.Nat.Bits.{bit_at-trailing_zeros}
+use Rattle.std.proofs.Math.Bool.{or-false, and-true}
+use Rattle.bit_rows.specs.Rows.{bit_of, has}
+use Rattle.bit_rows.proofs.Bits.{bit_put, bit_meet, bit_other, bit_alone, bit_zero}
+
+-- numbers of one word differ as their bits do
+pub same_bit : (y z : ℕ) → z / 64 ≡ y / 64 → eqb (z % 64) (y % 64) ≡ eqb z y
+same_bit y z h =
+    elim (cases_eq z y) [
+      | inl same ↦ rw (same, eq-eqb (y % 64) (y % 64) refl, eq-eqb y y refl) refl
+      | inr other ↦ rw (ne_eqb z y other, ne_eqb (z % 64) (y % 64) (λ e. other (omega (arith, e, h)))) refl
+    ]
+
+-- a row of empty words has no number
+pub has_blank : (size y : ℕ) → has (replicate size 0) y ≡ false
+unfolding has
+has_blank size y = ap (λ word. bit_of word (y % 64)) (zero_at (y / 64)) ∙ bit_zero (y % 64)
+  where
+    zero_at : (i : ℕ) → get_or {A = ℕ} (replicate size 0) i 0 ≡ 0
+    zero_at i = elim (cases_lt i size) [
+      | inl lt ↦ get_or-replicate size i 0 0 lt
+      | inr ge ↦ get_or_past (replicate size 0) i 0 (let l = length-replicate {A = ℕ} size 0 in omega (arith, l, ge))
+    ]
+
+-- a row with one bit more
+pub has_put : (row : List ℕ) (y z : ℕ) → y < 64 * length row
+    → has (set row (y / 64) (bit_or (get_or row (y / 64) 0) (1 * 2 ^ (y % 64) % 2 ^ 64))) z ≡ (has row z || eqb z y)
+unfolding has
+has_put row y z inside =
+    let word : ℕ = bit_or (get_or row (y / 64) 0) (1 * 2 ^ (y % 64) % 2 ^ 64) in
+    elim (cases_eq (z / 64) (y / 64)) [
+      | inl same ↦
+          rw (same, get_or-set_same row (y / 64) word 0 (omega (arith, inside)))
+          (bit_put (get_or row (y / 64) 0) (y % 64) (z % 64) (omega arith)
+          ∙ ap (λ b. bit_of (get_or row (y / 64) 0) (z % 64) || b) (same_bit y z same))
+      | inr other ↦
+          rw (get_or-set_other row (y / 64) (z / 64) word 0 other, ne_eqb z y (λ same. other (rw same refl)))
+          (sym (or-false (bit_of (get_or row (z / 64) 0) (z % 64))))
+    ]
+
+-- a row with one bit less
+pub has_clear : (row : List ℕ) (y z : ℕ) → y < 64 * length row
+    → has (set row (y / 64) (bit_and (get_or row (y / 64) 0) (bit_not w64 (1 * 2 ^ (y % 64) % 2 ^ 64)))) z ≡ (has row z && not (eqb z y))
+unfolding has
+has_clear row y z inside =
+    let one : ℕ = 1 * 2 ^ (y % 64) % 2 ^ 64 in
+    let word : ℕ = bit_and (get_or row (y / 64) 0) (bit_not w64 one) in
+    elim (cases_eq (z / 64) (y / 64)) [
+      | inl same ↦
+          rw (same, get_or-set_same row (y / 64) word 0 (omega (arith, inside)))
+          (bit_meet (get_or row (y / 64) 0) (bit_not w64 one) (z % 64)
+          ∙ ap (λ b. bit_of (get_or row (y / 64) 0) (z % 64) && b)
+          (bit_other one (z % 64) (omega arith) (omega arith) ∙ ap not (bit_alone (y % 64) (z % 64) (omega arith) ∙ same_bit y z same)))
+      | inr other ↦
+          rw (get_or-set_other row (y / 64) (z / 64) word 0 other, ne_eqb z y (λ same. other (rw same refl)))
+          (sym (and-true (bit_of (get_or row (z / 64) 0) (z % 64))))
+    ]
+
+-- an empty word has no number
+pub has_none : (row : List ℕ) (y : ℕ) → get_or row (y / 64) 0 ≡ 0 → has row y ≡ false
+unfolding has
+has_none row y none = rw none (bit_zero (y % 64))
+
+-- nor is there a number past the last word
+pub has_past : (row : List ℕ) (y : ℕ) → 64 * length row ≤ y → has row y ≡ false
+has_past row y past = has_none row y (get_or_past row (y / 64) 0 (omega (arith, past)))
+
+-- where word k is empty too, a row that has no number in the words below has none up to its end
+pub none_further : (row : List ℕ) (k : ℕ) → ((y : ℕ) → y < 64 * k → has row y ≡ false)
+    → get_or row k 0 ≡ 0 → (y : ℕ) → y < 64 * (k + 1) → has row y ≡ false
+none_further row k none empty y below =
+    elim (cases_lt y (64 * k)) [
+      | inl before ↦ none y before
+      | inr after ↦
+          let same : y / 64 ≡ k = omega (arith, after, below) in
+          has_none row y (rw same empty)
+    ]
+
+-- a number of a row, by its word and its bit
+pub has_at : (row : List ℕ) (y k : ℕ) → y / 64 ≡ k → has row y ≡ bit_of (get_or row k 0) (y % 64)
+unfolding has
+has_at row y k here = rw here refl
+
+-- a word that is not 0 has a number
+pub some_number : (row : List ℕ) (k : ℕ) → get_or row k 0 ≢ 0 → get_or row k 0 < 2 ^ 64 → (y : ℕ) × (has row y ≡ true)
+unfolding bit_of
+some_number row k some fits =
+    let low = bit_at-trailing_zeros w64 (get_or row k 0) (omega (arith, some)) fits in
+    let t : ℕ = trailing_zeros w64 (get_or row k 0) in
+    let t_below : t < 64 = low.0 in
+    let here : (64 * k + t) / 64 ≡ k = omega (arith, t_below) in
+    let rest : (64 * k + t) % 64 ≡ t = omega (arith, t_below) in
+    (64 * k + t, has_at row (64 * k + t) k here ∙ rw (rest, low.1) refl)

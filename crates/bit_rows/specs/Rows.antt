@@ -1,0 +1,32 @@
+-- Rows of bits: sets of numbers, with a word for each 64.
+use Rattle.std.specs.Prelude.{◌≡◌, ℕ, ◌*◌, ◌/◌, ◌%◌, ◌<◌, Bool, false, not, ◌&&◌, ◌||◌, List, length, get_or, nat_eq, IsTrue}
+use Rattle.std.specs.Int.{bit_at, div_ceil}
+
+-- bit i of a word
+unfoldable pub bit_of : ℕ → ℕ → Bool
+bit_of word i = nat_eq (bit_at word i) 1
+
+-- how many words have a bit for each number below n
+unfoldable pub word_count : ℕ → ℕ
+word_count n = div_ceil n 64
+
+-- the row has number y: bit y % 64 of word y / 64
+unfoldable pub has : List ℕ → ℕ → Bool
+has row y = bit_of (get_or row (y / 64) 0) (y % 64)
+
+-- the row has lost x, and nothing else
+abbrev pub IsWithout : List ℕ → List ℕ → ℕ → Type 0
+IsWithout old new x = (y : ℕ) → has new y ≡ (has old y && not (nat_eq y x))
+
+-- the row has x where that is wanted, and what it had
+abbrev pub IsWith : List ℕ → List ℕ → Bool → ℕ → Type 0
+IsWith old new wanted x = (y : ℕ) → has new y ≡ (has old y || (wanted && nat_eq y x))
+
+-- the row has no number in its words below k
+abbrev pub IsBlankTo : List ℕ → ℕ → Type 0
+IsBlankTo row k = (y : ℕ) → y < 64 * k → has row y ≡ false
+
+-- no word of the row below k has a number, and the row has one where it has a word k
+pub record IsFirstWord (row : List ℕ) (k : ℕ) : Type 0 where
+  pub blank : IsBlankTo row k
+  pub some : k < length row → (y : ℕ) × IsTrue (has row y)

@@ -1,0 +1,92 @@
+//! One row of bits.
+
+ghost use Rattle.std.specs.Prelude.{◌≡◌, ◌≢◌, ℕ, ◌+◌, ◌*◌, ◌/◌, ◌%◌, ◌<◌, ◌≤◌, ◌||◌, false, length};
+ghost use Rattle.std.specs.Prelude.{nat_eq, replicate, IsTrue, IfOk};
+ghost use Rattle.bit_rows.specs.Rows.{bit_of, has, word_count, IsBlankTo, IsFirstWord, IsWith, IsWithout};
+
+use std::alloc::{AllocError, Global};
+
+/// How many words have a bit for each number below `n`.
+pub fn word_count(n: u32) -> usize
+    ensures count { result ≡ word_count n }
+    ensures small { result ≤ n }
+    ensures enough { n ≤ 64 * result }
+{
+    (n as usize).div_ceil(64)
+}
+
+/// So many words that are 0.
+pub(crate) fn zeros(alloc: Global, count: usize) -> Result<Vec<u64>, AllocError>
+    ensures { IfOk result (λ words. words.items ≡ replicate count 0) }
+{
+    vec![in alloc; 0u64; count]
+}
+
+/// A row without numbers, with room for those below `n`. An error is a growth of memory that was
+/// refused.
+pub fn blank(alloc: Global, n: u32) -> Result<Vec<u64>, AllocError>
+    ensures words { IfOk result (λ row. length row.items ≡ word_count n) }
+    ensures none { IfOk result (λ row. (y : ℕ) → has row.items y ≡ false) }
+{
+    zeros(alloc, word_count(n))
+}
+
+/// Whether the row has number `y`.
+pub fn has(row: &[u64], y: u32) -> bool
+    requires { y < 64 * length row.now }
+    ensures { result ≡ has row.now y }
+{
+    let word = row[y as usize / 64];
+    (word >> (y % 64)) & 1 == 1
+}
+
+/// Puts number `y` into the row.
+pub fn put(row: &mut [u64], y: u32)
+    requires { y < 64 * length row.old }
+    ensures { (z : ℕ) → has row.new z ≡ (has row.old z || nat_eq z y) }
+{
+    row[y as usize / 64] |= 1 << (y % 64);
+}
+
+/// Puts number `y` into the row, where it is wanted.
+pub fn put_where(row: &mut [u64], y: u32, wanted: bool)
+    requires { y < 64 * length row.old }
+    ensures { IsWith row.old row.new wanted y }
+{
+    if wanted {
+        put(row, y);
+    }
+}
+
+/// Takes number `y` out of the row.
+pub fn clear(row: &mut [u64], y: u32)
+    requires { y < 64 * length row.old }
+    ensures { IsWithout row.old row.new y }
+{
+    row[y as usize / 64] &= !(1 << (y % 64));
+}
+
+/// The lowest number that `word` has as word `k` of a row.
+pub fn lowest_in(word: u64, k: u32) -> u32
+    requires few { 64 * k < 4294967232 }
+    requires some { word ≢ 0 }
+    ensures place { result / 64 ≡ k }
+    ensures itself { IsTrue (bit_of word (result % 64)) }
+    ensures lowest { (i : ℕ) → i < result % 64 → bit_of word i ≡ false }
+{
+    64 * k + word.trailing_zeros()
+}
+
+/// The first word of the row that has a number, where the words below `from` have none; or how many
+/// words there are.
+pub fn first_word(row: &[u64], from: usize) -> usize
+    requires { IsBlankTo row.now from }
+    ensures { IsFirstWord row.now result }
+{
+    for k in from..row.len() {
+        if row[k] != 0 {
+            return k;
+        }
+    }
+    row.len()
+}

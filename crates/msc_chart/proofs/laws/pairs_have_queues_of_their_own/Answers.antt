@@ -1,0 +1,5 @@
+use Rattle.msc_chart.proofs.QueueLemmas.{own_queues}
+use Rattle.msc_chart.proofs.laws.pairs_have_queues_of_their_own.Goals as goal
+
+pub returns : goal.returns
+returns c = own_queues

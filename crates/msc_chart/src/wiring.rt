@@ -1,0 +1,82 @@
+//! A chart under an architecture.
+
+ghost use Rattle.std.specs.Prelude.{◌≡◌, ℕ, ◌<◌, ◌≤◌, length};
+ghost use Rattle.msc_chart.specs.Orders.{queue, queue_bound, queue_number, receiver_at, sender_at};
+ghost use Rattle.msc_chart.specs.Wirings.{size, wired_by};
+
+use crate::chart::Chart;
+use crate::event::Event;
+use crate::queue::Queues;
+
+/// The number of the queue from a sender to a receiver, of so many instances.
+pub(crate) fn queue_number(queues: Queues, instances: u32, sender: u32, receiver: u32) -> u32
+    requires few { instances ≤ 32 }
+    requires sender { sender < instances }
+    requires receiver { receiver < instances }
+    ensures { result ≡ queue_number queues instances sender receiver }
+{
+    match queues {
+        Queues::Pair => sender * instances + receiver,
+        Queues::Mailbox => receiver,
+    }
+}
+
+/// A chart under an architecture. Its calls take no memory.
+#[derive(Clone, Copy)]
+pub struct Wiring<'a> {
+    pub chart: &'a Chart,
+    pub queues: Queues,
+}
+
+impl Wiring<'_> {
+    /// The instance that sends the message of event `e`.
+    pub fn sender(&self, e: Event) -> u32
+        requires { e < size self.now }
+        ensures value { result ≡ sender_at self.now.chart.now.events e }
+        ensures known { result < length self.now.chart.now.instances }
+    {
+        self.chart.accepted();
+        if self.chart.is_output(e) {
+            self.chart.instance_of(e)
+        } else {
+            self.chart.instance_of(self.chart.other_end(e))
+        }
+    }
+
+    /// The instance that takes the message of event `e`.
+    pub fn receiver(&self, e: Event) -> u32
+        requires { e < size self.now }
+        ensures value { result ≡ receiver_at self.now.chart.now.events e }
+        ensures known { result < length self.now.chart.now.instances }
+    {
+        self.chart.accepted();
+        if self.chart.is_output(e) {
+            self.chart.instance_of(self.chart.other_end(e))
+        } else {
+            self.chart.instance_of(e)
+        }
+    }
+
+    /// The queue of the message of event `e`.
+    pub fn queue(&self, e: Event) -> u32
+        requires { e < size self.now }
+        ensures { result ≡ queue (wired_by self.now) e }
+    {
+        let instances = self.chart.instances();
+        queue_number(self.queues, instances, self.sender(e), self.receiver(e))
+    }
+
+    /// A number past all queue numbers.
+    pub fn queue_count(&self) -> u32
+        ensures value { result ≡ queue_bound self.now.queues self.now.chart.now }
+        ensures past { (e : ℕ) → e < size self.now → queue (wired_by self.now) e < result }
+        ensures few { result ≤ 1024 }
+    {
+        self.chart.accepted();
+        let instances = self.chart.instances();
+        match self.queues {
+            Queues::Pair => instances * instances,
+            Queues::Mailbox => instances,
+        }
+    }
+}

@@ -1,5 +1,0 @@
-use Rattle.msc_order.proofs.Cells.{cell_put}
-use Rattle.msc_order.proofs.table.put.Goals as goal
-
-pub returns : goal.returns
-returns c x y = rw c.word_count.ensures.count (cell_put c.args.n c.args.words.now c.args.e c.args.f x y c.requires.row c.requires.column)
