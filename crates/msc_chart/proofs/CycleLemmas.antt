@@ -5,7 +5,7 @@ use Rattle.std.proofs.lemmas.Bool.{cases_eq}
 use Rattle.msc_chart.specs.declared.event.ChartEvent.{ChartEvent}
 use Rattle.msc_chart.specs.Charts.{at, line, segment, kind, partner, is_output, is_input, Visual, IsMatched, AreOnLines}
 use Rattle.msc_chart.specs.Charts.Visual.{seen, passed, linked}
-use Rattle.msc_chart.specs.Reach.{IsBelow, IsPassed, IsSound, AreClosedBelow}
+use Rattle.msc_chart.specs.Reach.{IsBelow, IsPassed, AreReached, AreClosedBelow}
 use Rattle.msc_chart.proofs.Drawn.{before_from, before_parts, output_from, output_parts, partner_of_output, not_both}
 
 module _ (lines : ℕ) (events : List ChartEvent) (e : ℕ) (low : List ℕ) (matched : IsMatched events) (on_lines : AreOnLines lines events) where
@@ -15,7 +15,7 @@ module _ (lines : ℕ) (events : List ChartEvent) (e : ℕ) (low : List ℕ) (ma
   is_sent s within pass = output_from events s within pass.output
 
   -- the input of an output that is passed is reached
-  pub input_reached : IsSound events e low → (s : ℕ) → s < length events → IsPassed events e low s → Visual events e (partner events s)
+  pub input_reached : AreReached events e low → (s : ℕ) → s < length events → IsPassed events e low s → Visual events e (partner events s)
   input_reached sound s within pass =
       let carried : Visual events s (partner events s) = passed (is_sent s within pass) refl in
       elim pass.reached [
@@ -57,7 +57,7 @@ module _ (lines : ℕ) (events : List ChartEvent) (e : ℕ) (low : List ℕ) (ma
 
   -- where the search is closed and e precedes itself, the search sees it: on the line of e, or by
   -- its message
-  pub found : IsSound events e low → e < length events → Visual events e e → AreClosedBelow events e low (length events)
+  pub found : AreReached events e low → e < length events → Visual events e e → AreClosedBelow events e low (length events)
       → IsBelow events low e ⊎ ((is_input events e ≡ true) × IsPassed events e low (partner events e))
   found sound within cycle closed =
       elim (complete sound.begun closed cycle (inl refl)) [
@@ -68,7 +68,7 @@ module _ (lines : ℕ) (events : List ChartEvent) (e : ℕ) (low : List ℕ) (ma
       ]
 
   -- where the search sees e below what is reached, or its partner passed, e precedes itself
-  pub cycle_from : IsSound events e low → e < length events → IsBelow events low e ⊎ IsPassed events e low (partner events e) → Visual events e e
+  pub cycle_from : AreReached events e low → e < length events → IsBelow events low e ⊎ IsPassed events e low (partner events e) → Visual events e e
   cycle_from sound within h =
       elim h [
         | inl below ↦ sound.reached e within below
@@ -76,9 +76,9 @@ module _ (lines : ℕ) (events : List ChartEvent) (e : ℕ) (low : List ℕ) (ma
       ]
 
   -- one more input is reached
-  pub lowered_sound : IsSound events e low → (s : ℕ) → s < length events → IsPassed events e low s → length low ≡ lines
+  pub lowered_sound : AreReached events e low → (s : ℕ) → s < length events → IsPassed events e low s → length low ≡ lines
       → (at events (at events s).partner).segment < get_or low (at events (at events s).partner).line 0
-      → IsSound events e (set low (at events (at events s).partner).line (at events (at events s).partner).segment)
+      → AreReached events e (set low (at events (at events s).partner).line (at events (at events s).partner).segment)
   unfolding line segment partner
   lowered_sound sound s within pass len higher =
       let r : ℕ = (at events s).partner in
@@ -102,7 +102,7 @@ module _ (lines : ℕ) (events : List ChartEvent) (e : ℕ) (low : List ℕ) (ma
 
   -- at first e alone is reached
   pub begun_sound : e < length events → length events ≤ 2048 → length low ≡ lines → ((k : ℕ) → k < length low → get_or low k 0 ≡ 4294967295)
-      → IsSound events e (set low (at events e).line (at events e).segment)
+      → AreReached events e (set low (at events e).line (at events e).segment)
   unfolding line segment
   begun_sound within few len none =
       let line_in : (at events e).line < length low = let l = on_lines.on_line e within in omega arith in

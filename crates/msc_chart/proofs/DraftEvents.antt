@@ -10,7 +10,7 @@ use Rattle.msc_parser.specs.declared.tree.Section.{Section}
 use Rattle.msc_parser.specs.Grammar.{Tree}
 use Rattle.msc_parser.specs.Drafts.{signals_in, signals_of}
 use Rattle.msc_chart.specs.Events.{DraftEvent, drawn, events_of, events_of_item, events_of_items, events_of_sections, next_segment}
-use Rattle.msc_chart.specs.Faults.{StandsAt, Occurs}
+use Rattle.msc_chart.specs.Lists.{StandsAt, Occurs}
 use Rattle.msc_chart.proofs.Places.{map-place}
 use Rattle.msc_chart.proofs.EndLemmas.{next-room}
 

@@ -5,9 +5,11 @@ use Rattle.std.specs.List.{list_any}
 use Rattle.std.proofs.lemmas.Bool.{ltb-true, eqb-true, eq-eqb, and_parts, and_from, or_parts, not_from_false}
 use Rattle.msc_chart.specs.declared.queue.Queues.TheVariants.{Mailbox}
 use Rattle.msc_chart.specs.Charts.{line, segment, kind, partner, is_output, before}
+use Rattle.msc_chart.specs.Events.{events_of, ends_of, instances_of}
+use Rattle.msc_chart.specs.Drawings.{chart_events, chart_of}
 use Rattle.msc_chart.specs.Orders.{WiredChart, wired, queue, queue_number, sender_at, receiver_at, Enforced}
 use Rattle.msc_chart.specs.Orders.Enforced.{drawn, sent, joined, queued}
-use Rattle.msc_chart.specs.Faults.{Occurs}
+use Rattle.msc_chart.specs.Lists.{Occurs}
 use Rattle.msc_chart.specs.Samples.{two_mailboxes, two_mailboxes_pairs, AreEnforcedPairs}
 use Rattle.msc_chart.proofs.ListLemmas.{by_test, clash}
 use Rattle.msc_chart.proofs.Places.{any-place}
@@ -91,11 +93,11 @@ occurs_from pairs n e f h =
     (r.0, r.2 ∙ ap Some same)
 
 -- the enforced order of two_mailboxes under Mailbox
-pub two_mailboxes_enforced : AreEnforcedPairs (wired Mailbox two_mailboxes) two_mailboxes_pairs
-unfolding is_output before line segment kind partner queue queue_number sender_at receiver_at
+pub two_mailboxes_enforced : AreEnforcedPairs (wired Mailbox (chart_of two_mailboxes)) two_mailboxes_pairs
+unfolding chart_events events_of ends_of instances_of is_output before line segment kind partner queue queue_number sender_at receiver_at
 two_mailboxes_enforced e f = (
-  λ h. occurs_from two_mailboxes_pairs 8 e f (enforced_in (wired Mailbox two_mailboxes) two_mailboxes_pairs 8 refl refl refl h),
-  enforced_from (wired Mailbox two_mailboxes) two_mailboxes_pairs
+  λ h. occurs_from two_mailboxes_pairs 8 e f (enforced_in (wired Mailbox (chart_of two_mailboxes)) two_mailboxes_pairs 8 refl refl refl h),
+  enforced_from (wired Mailbox (chart_of two_mailboxes)) two_mailboxes_pairs
       (drawn refl refl, (sent refl refl, (joined {y = 1} (drawn refl refl) (sent refl refl), (sent refl refl, (drawn refl refl, (joined {y = 3} (drawn refl refl) (sent refl refl), (sent refl refl, (sent refl refl, tt))))))))
       e f,
 )

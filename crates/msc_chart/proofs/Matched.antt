@@ -13,7 +13,8 @@ use Rattle.msc_chart.specs.Events.{End, DraftEvent, ends_of, events_of, other_en
 use Rattle.msc_chart.specs.Charts.{at, no_event, line, segment, kind, partner, sends, takes, is_output, is_input, IsMatched, IsInTextOrder, AreOnLines}
 use Rattle.msc_chart.specs.Drawings.{place_of, event_of, chart_events}
 use Rattle.msc_chart.specs.Passes.{AreReady}
-use Rattle.msc_chart.specs.Faults.{Stands, StandsAt, Occurs, IsClearBelow}
+use Rattle.msc_chart.specs.Lists.{StandsAt, Occurs}
+use Rattle.msc_chart.specs.Faults.{Stands, IsClearBelow}
 use Rattle.msc_chart.proofs.ListLemmas.{by_test, clash}
 use Rattle.msc_chart.proofs.Places.{one_at, any-place, place-any, place-map}
 use Rattle.msc_chart.proofs.MatchingLemmas.{same_end-true, same_end-refl}

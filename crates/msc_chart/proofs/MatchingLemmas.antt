@@ -7,7 +7,8 @@ use Rattle.std.proofs.lemmas.Bool.{and_parts, and_from, not-true, not_from_false
 use Rattle.std.proofs.Common.{Bor}
 use Rattle.std.specs.List.{list_any}
 use Rattle.std.specs.Map.Iter.{deref}
-use Rattle.msc_chart.specs.Faults.{Occurs, IsUnknown}
+use Rattle.msc_chart.specs.Lists.{Occurs}
+use Rattle.msc_chart.specs.Faults.{IsUnknown}
 use Rattle.msc_chart.proofs.ListLemmas.{by_test, clash}
 use Rattle.msc_chart.proofs.Places.{any_from, occurs_from}
 use Rattle.std.specs.Prelude.{nat_eq}

@@ -10,7 +10,8 @@ use Rattle.msc_chart.specs.declared.message.Message.{Message}
 use Rattle.msc_chart.specs.Events.{End, DraftEvent, ends_of}
 use Rattle.msc_chart.specs.Charts.{at, kind, partner, message, sends, is_output}
 use Rattle.msc_chart.specs.Drawings.{place_of, output_end, outputs_before, event_of, chart_events, messages_from, Drawing, no_message, output_of, HasMessages, chart_of}
-use Rattle.msc_chart.specs.Faults.{StandsAt, IsClearBelow}
+use Rattle.msc_chart.specs.Lists.{StandsAt}
+use Rattle.msc_chart.specs.Faults.{IsClearBelow}
 use Rattle.msc_chart.proofs.ListLemmas.{by_test}
 use Rattle.msc_chart.proofs.Places.{one_at}
 use Rattle.msc_chart.proofs.Matched.{drawn_at, partner_at, place-own, chart_count, ends_count, chart_matched}

@@ -10,13 +10,13 @@ use Rattle.msc_chart.specs.declared.event.ChartEvent.{ChartEvent}
 use Rattle.msc_chart.specs.Lists.{occurs, Steps}
 use Rattle.msc_chart.specs.Charts.{line, segment, partner, is_output, is_input, before, Visual, Follows, IsLinearOrder}
 use Rattle.msc_chart.specs.Charts.Visual.{seen, passed, linked}
-use Rattle.msc_chart.specs.Passes.{IsDirectly, is_put, NoneLeftBelow, IsLeft, IsOpen, IsBarred, AreReady, IsKept}
+use Rattle.msc_chart.specs.Passes.{IsDirectly, is_put, NoneLeftBelow, IsLeftOn, IsUnbarred, IsBarred, AreReady, IsPassOf}
 use Rattle.msc_chart.proofs.ListLemmas.{by_test, clash, occurs-push, occurs_other, occurs_at, until-within, Steps-push, step_at}
 use Rattle.msc_chart.proofs.Drawn.{before_from, before_parts, output_parts, not_both, partner_of_input}
 
 module _ (events : List ChartEvent) (marks : List Bool) where
   -- one event more of a line that was put, or of another line
-  pub none-next : (i k : ℕ) → NoneLeftBelow events marks i k → (IsLeft events marks i k → ⊥) → NoneLeftBelow events marks i (k + 1)
+  pub none-next : (i k : ℕ) → NoneLeftBelow events marks i k → (IsLeftOn events marks i k → ⊥) → NoneLeftBelow events marks i (k + 1)
   none-next i k none out x within below on =
       elim (cases_lt x k) [
         | inl lt ↦ none x within lt on
@@ -38,7 +38,7 @@ module _ (events : List ChartEvent) (marks : List Bool) where
   -- below the first event of a line that is left, none is: so what is drawn before another event of
   -- no lesser segment was put
   module _ (lines : ℕ) (ready : AreReady lines events) (e first : ℕ) (within : e < length events) (known : first < length events)
-      (is_left : IsLeft events marks (line events e) first) (below : NoneLeftBelow events marks (line events e) first) where
+      (is_left : IsLeftOn events marks (line events e) first) (below : NoneLeftBelow events marks (line events e) first) where
     -- an event in no later segment than that first one has all put that is drawn before it
     pub drawn_put : segment events e ≤ segment events first → (x : ℕ) → before events x e ≡ true → is_put marks x ≡ true
     drawn_put low x h =
@@ -53,14 +53,14 @@ module _ (events : List ChartEvent) (marks : List Bool) where
     barred_by_first low = (first, inl (before_from events first e known within is_left.on_line low), is_left.left)
 
     -- an output in no later segment is open: only what is drawn before it comes directly before it
-    pub output_open : segment events e ≤ segment events first → is_output events e ≡ true → IsOpen events marks e
+    pub output_open : segment events e ≤ segment events first → is_output events e ≡ true → IsUnbarred events marks e
     output_open low o x (inl h) = drawn_put low x h
     output_open low o x (inr h) =
         let i = (ready.matched.other_kind x (output_parts events x h.0).0) in
         absurd (not_both events x h.0 (sym i ∙ ap (is_output events) h.1 ∙ o))
 
     -- so is an input, where its output was put too
-    pub input_open : segment events e ≤ segment events first → is_put marks (partner events e) ≡ true → IsOpen events marks e
+    pub input_open : segment events e ≤ segment events first → is_put marks (partner events e) ≡ true → IsUnbarred events marks e
     input_open low there x (inl h) = drawn_put low x h
     input_open low there x (inr h) =
         let back : partner events e ≡ x = ap (partner events) (sym h.1) ∙ ready.matched.to_and_fro x (output_parts events x h.0).0 in
@@ -104,7 +104,7 @@ all_put (true ∷ bs) none zero within = refl
 all_put (true ∷ bs) none (suc e) within = all_put bs none e (omega arith)
 all_put (false ∷ bs) none e within = let s = sum_by-cons (λ (b : Bool). cond (not b) 1 0) false bs in absurd (omega arith)
 
-module _ (events : List ChartEvent) (order : List ℕ) (marks : List Bool) (first : List ℕ) (left : ℕ) (kept : IsKept events order marks first left) where
+module _ (events : List ChartEvent) (order : List ℕ) (marks : List Bool) (first : List ℕ) (left : ℕ) (kept : IsPassOf events order marks first left) where
   -- where an event was not put, some are left
   pub some_left : (e : ℕ) → e < length events → is_put marks e ≡ false → 0 < left
   some_left e within out =
@@ -113,8 +113,8 @@ module _ (events : List ChartEvent) (order : List ℕ) (marks : List Bool) (firs
       omega arith
 
   -- an event more is put
-  pub pushed : (e : ℕ) → e < length events → is_put marks e ≡ false → IsOpen events marks e
-      → IsKept events (order ++ e ∷ []) (set marks e true) first (left - 1)
+  pub pushed : (e : ℕ) → e < length events → is_put marks e ≡ false → IsUnbarred events marks e
+      → IsPassOf events (order ++ e ∷ []) (set marks e true) first (left - 1)
   pushed e within out opens =
       let known : e < length marks = let n = kept.marks_len in omega arith in
       let count = count_less marks e left known out kept.left_count in
@@ -165,7 +165,7 @@ zeros_at n i z =
 -- nothing was put yet
 pub nothing_put : (lines : ℕ) (events : List ChartEvent) → AreReady lines events → (order : List ℕ) → order ≡ []
     → (marks : List Bool) → marks ≡ replicate (length events) false → (first : List ℕ) → first ≡ replicate lines 0
-    → IsKept events order marks first (length events)
+    → IsPassOf events order marks first (length events)
 unfolding occurs
 nothing_put lines events ready order none marks ms first fs = record {
   ready = subst (λ (n : ℕ). AreReady n events) (sym (ap length fs ∙ length-replicate lines 0)) ready;

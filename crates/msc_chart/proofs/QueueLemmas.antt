@@ -14,7 +14,7 @@ use Rattle.msc_chart.specs.Charts.{line, partner, message, is_output, is_input}
 use Rattle.msc_chart.specs.Drawings.{Drawing, input_of, sender_of, receiver_of, IsAccepted}
 use Rattle.msc_chart.specs.Orders.{queue_bound, queue_number, queue_of, sender_at, receiver_at, wired, queue, IsWired}
 use Rattle.msc_chart.specs.Laws.{messages_in, sends_to, senders_in, IsBounded}
-use Rattle.msc_chart.specs.Faults.{StandsAt}
+use Rattle.msc_chart.specs.Lists.{StandsAt}
 use Rattle.msc_chart.proofs.ListLemmas.{by_test, clash}
 use Rattle.msc_chart.proofs.Places.{place-any}
 use Rattle.msc_chart.proofs.Drawn.{input_parts, output_or_input, not_both, partner_of_output, partner_of_input}

@@ -6,7 +6,8 @@ use Rattle.msc_chart.specs.Events.{events_of, ends_of, instances_of}
 use Rattle.msc_chart.specs.Charts.{line, segment, partner, before}
 use Rattle.msc_chart.specs.Drawings.{chart_events, chart_of, output_of, input_of, sender_of, receiver_of}
 use Rattle.msc_chart.specs.Orders.{queue_number, queue_of}
-use Rattle.msc_chart.specs.Samples.{two_senders, coregion, relay, empty_coregion, event, drawn_pairs, queue_numbers}
+use Rattle.msc_chart.specs.Lists.{pairs_of, pairs_to}
+use Rattle.msc_chart.specs.Samples.{below_coregion, two_senders, coregion, relay, empty_coregion, event, drawn_pairs, queue_numbers}
 
 -- of two senders: two lines with one event, and one with two
 pub two_senders_events : chart_events two_senders ≡ event 0 0 kinds.Output 1 0 ∷ event 1 0 kinds.Input 0 0 ∷ event 1 1 kinds.Input 3 1 ∷ event 2 0 kinds.Output 2 1 ∷ []
@@ -25,17 +26,22 @@ empty_coregion_events = refl
 
 -- the two inputs are drawn one after the other
 pub two_senders_drawn : drawn_pairs (chart_of two_senders) ≡ (1, 2) ∷ []
-unfolding chart_events events_of ends_of before line segment
+unfolding chart_events events_of ends_of before line segment pairs_of pairs_to
 two_senders_drawn = refl
 
 -- in a coregion they are not
 pub coregion_drawn : drawn_pairs (chart_of coregion) ≡ []
-unfolding chart_events events_of ends_of before line segment
+unfolding chart_events events_of ends_of before line segment pairs_of pairs_to
 coregion_drawn = refl
+
+-- what stands above a coregion is drawn before its events, and these before what stands below
+pub below_coregion_drawn : drawn_pairs (chart_of below_coregion) ≡ (0, 1) ∷ (0, 2) ∷ (0, 3) ∷ (1, 2) ∷ (1, 3) ∷ (2, 3) ∷ (4, 5) ∷ (4, 6) ∷ (4, 7) ∷ (5, 7) ∷ (6, 7) ∷ []
+unfolding chart_events events_of ends_of before line segment pairs_of pairs_to
+below_coregion_drawn = refl
 
 -- three lines with two events each
 pub relay_drawn : drawn_pairs (chart_of relay) ≡ (0, 1) ∷ (2, 3) ∷ (4, 5) ∷ []
-unfolding chart_events events_of ends_of before line segment
+unfolding chart_events events_of ends_of before line segment pairs_of pairs_to
 relay_drawn = refl
 
 -- under Pair, from instances 0 and 2 to instance 1 of 3: 0 * 3 + 1, and 2 * 3 + 1

@@ -1,5 +1,6 @@
 -- The faults in their order: what each stage of the building has found.
-use Rattle.std.proofs.Common.{◌≡◌, ℕ, ◌<◌, ◌≤◌, Bool, true, false, List, [], ◌∷◌, length, map, Bor, refl, sym, ap, ◌∙◌, subst, arith}
+use Rattle.std.proofs.lemmas.Bool.{cases_lt}
+use Rattle.std.proofs.Common.{inl, inr, ◌≡◌, ℕ, ◌<◌, ◌≤◌, Bool, true, false, List, [], ◌∷◌, length, map, Bor, refl, sym, ap, ◌∙◌, subst, arith}
 use Rattle.std.specs.Map.Iter.{deref}
 use Rattle.std.specs.Cmp.Lexicographic.{pointwise, bytes_decides}
 use Rattle.std.specs.Prelude.{nat_eq}
@@ -12,7 +13,8 @@ use Rattle.msc_chart.specs.declared.end.DraftEvent as coded
 use Rattle.msc_chart.specs.Events.{End, instances_of, header_of, ends_of, events_of, address_of}
 use Rattle.msc_chart.specs.Views.{end_view, event_view}
 use Rattle.msc_chart.specs.Numbering.{AreNewBelow, IsFirstRepeat, AreNumbered}
-use Rattle.msc_chart.specs.Faults.{Stands, HoldsAt, IsRepeat, IsUnknown, IsUnmatched, AreTooMany, IsLeastPlace, IsFirstFault, IsClearBelow}
+use Rattle.msc_chart.specs.Lists.{IsLeast}
+use Rattle.msc_chart.specs.Faults.{Stands, HoldsAt, IsRepeat, IsUnknown, IsUnmatched, AreTooMany, IsFirstFault, IsClearBelow}
 use Rattle.msc_chart.proofs.FaultLemmas.{first_of, clear_next, clear_first}
 use Rattle.msc_chart.proofs.Places.{repeat_from, no_repeat}
 use Rattle.msc_chart.proofs.MatchingLemmas.{code_same, code_same-true, code_same-from}
@@ -33,8 +35,12 @@ bytes-from a b h = (bytes_decides a.now b.now).1 h
 pub holds_within : {X : Type 0} {P : X → Type 0} (xs : List X) (i : ℕ) → HoldsAt P xs i → i < length xs
 holds_within xs i h = slice_get_within xs i h.0 h.1
 
+-- no number with a property is below the least one
+least_le : {P : ℕ → Type 0} {i : ℕ} → IsLeast P i → (k : ℕ) → P k → i ≤ k
+least_le {i} h k it = elim (cases_lt k i) [ inl lt ↦ absurd (h.none_below k lt it) | inr ge ↦ ge ]
+
 -- and so is the least place that holds
-pub least_within : {X : Type 0} {P : X → Type 0} (xs : List X) (i : ℕ) → IsLeastPlace (HoldsAt P xs) i → i < length xs
+pub least_within : {X : Type 0} {P : X → Type 0} (xs : List X) (i : ℕ) → IsLeast (HoldsAt P xs) i → i < length xs
 least_within xs i h = holds_within xs i h.itself
 
 -- items that have their numbers, seen through a view
@@ -48,10 +54,10 @@ module _ {T X : Type 0} (view : T → X) (eq : T → T → Bool) (items : List T
       omega (arith, length-map items view)
 
   -- the first item that is equal to an earlier one is the least repeat
-  pub least_repeat : ((a b : T) → eq a b ≡ true → view a ≡ view b) → ((a b : T) → view a ≡ view b → eq a b ≡ true) → (xs : List X) → map view items ≡ xs → (i : ℕ) → IsFirstRepeat eq items i → IsLeastPlace (IsRepeat xs) i
+  pub least_repeat : ((a b : T) → eq a b ≡ true → view a ≡ view b) → ((a b : T) → view a ≡ view b → eq a b ≡ true) → (xs : List X) → map view items ≡ xs → (i : ℕ) → IsFirstRepeat eq items i → IsLeast (IsRepeat xs) i
   least_repeat true_same back xs same i h = record {
     itself = subst (λ l. IsRepeat l i) same (repeat_from view eq items true_same i h);
-    least = λ k r. no_repeat view eq items back i k h.earlier (subst (λ l. IsRepeat l k) (sym same) r);
+    none_below = λ k less r. let le = no_repeat view eq items back i k h.earlier (subst (λ l. IsRepeat l k) (sym same) r) in omega (arith, less, le);
   }
 
 module _ (d : Tree) where
@@ -82,7 +88,7 @@ module _ (d : Tree) where
     unfolding Stands
     repeated_instance_first clear i h =
         let l = least_repeat deref same_bytes names bytes-true bytes-from (instances_of d) seen i h in
-        first_of d 2 i clear (TwiceInstance i) refl refl l.itself l.least
+        first_of d 2 i clear (TwiceInstance i) refl refl l.itself (least_le l)
 
     -- where all names differ, no section repeats one
     pub distinct_instances_clear : IsClearBelow d 2 → AreNewBelow same_bytes names (length names) → IsClearBelow d 3
@@ -90,10 +96,10 @@ module _ (d : Tree) where
     distinct_instances_clear clear new = clear_next d 2 clear (none_repeats deref same_bytes names bytes-from (instances_of d) seen new)
 
     -- the first header name without a section is the first fault, where no lower one stands
-    pub unknown_header_first : IsClearBelow d 3 → (k : ℕ) → IsLeastPlace (HoldsAt (IsUnknown (map deref names)) (map (λ x. x.name) d.header)) k → IsFirstFault d (HeaderWithoutBody k)
+    pub unknown_header_first : IsClearBelow d 3 → (k : ℕ) → IsLeast (HoldsAt (IsUnknown (map deref names)) (map (λ x. x.name) d.header)) k → IsFirstFault d (HeaderWithoutBody k)
     unfolding Stands header_of
     unknown_header_first clear k h =
-        first_of d 3 k clear (HeaderWithoutBody k) refl refl (subst (λ ns. HoldsAt (IsUnknown ns) (header_of d) k) seen h.itself) (λ p s. h.least p (subst (λ ns. HoldsAt (IsUnknown ns) (header_of d) p) (sym seen) s))
+        first_of d 3 k clear (HeaderWithoutBody k) refl refl (subst (λ ns. HoldsAt (IsUnknown ns) (header_of d) k) seen h.itself) (λ p s. least_le h p (subst (λ ns. HoldsAt (IsUnknown ns) (header_of d) p) (sym seen) s))
 
     -- where each header name has its section, no fault of that rank stands
     pub known_headers_clear : IsClearBelow d 3 → ((k : ℕ) → HoldsAt (IsUnknown (map deref names)) (map (λ x. x.name) d.header) k → ⊥) → IsClearBelow d 4
@@ -114,10 +120,10 @@ module _ (d : Tree) where
       back k h = subst (λ ns. Away ns (map end_view ends) k) (sym seen) (subst (λ es. Away (instances_of d) es k) (sym drawn) h)
 
       -- the first end with such an address is the first fault, where no lower one stands
-      pub unknown_address_first : IsClearBelow d 4 → (e : ℕ) → IsLeastPlace (HoldsAt (λ x. IsUnknown (map deref names) (address_of x)) (map end_view ends)) e → IsFirstFault d (UnknownAddress e)
+      pub unknown_address_first : IsClearBelow d 4 → (e : ℕ) → IsLeast (HoldsAt (λ x. IsUnknown (map deref names) (address_of x)) (map end_view ends)) e → IsFirstFault d (UnknownAddress e)
       unfolding Stands
       unknown_address_first clear e h =
-          first_of d 4 e clear (UnknownAddress e) refl refl (there e h.itself) (λ p s. h.least p (back p s))
+          first_of d 4 e clear (UnknownAddress e) refl refl (there e h.itself) (λ p s. least_le h p (back p s))
 
       -- where each address has its section, no fault of that rank stands
       pub known_addresses_clear : IsClearBelow d 4 → ((k : ℕ) → HoldsAt (λ x. IsUnknown (map deref names) (address_of x)) (map end_view ends) k → ⊥) → IsClearBelow d 5
@@ -141,7 +147,7 @@ module _ (d : Tree) where
     unfolding Stands
     repeated_end_first clear e h =
         let l = least_repeat end_view code_same ends code_same-true code_same-from (ends_of d) drawn e h in
-        first_of d 6 e clear (TwiceEvent e) refl refl l.itself l.least
+        first_of d 6 e clear (TwiceEvent e) refl refl l.itself (least_le l)
 
     -- where all ends differ, no event repeats one
     pub distinct_ends_clear : IsClearBelow d 6 → AreNewBelow code_same ends (length ends) → IsClearBelow d 7
@@ -153,10 +159,10 @@ module _ (d : Tree) where
     Alone sends es k = HoldsAt (IsUnmatched sends es) es k
 
     -- the first output without an input is the first fault, where no lower one stands
-    pub unmatched_output_first : IsClearBelow d 7 → (e : ℕ) → IsLeastPlace (HoldsAt (IsUnmatched true (map end_view ends)) (map end_view ends)) e → IsFirstFault d (UnmatchedOut e)
+    pub unmatched_output_first : IsClearBelow d 7 → (e : ℕ) → IsLeast (HoldsAt (IsUnmatched true (map end_view ends)) (map end_view ends)) e → IsFirstFault d (UnmatchedOut e)
     unfolding Stands Alone
     unmatched_output_first clear e h =
-        first_of d 7 e clear (UnmatchedOut e) refl refl (subst (λ es. Alone true es e) drawn h.itself) (λ p s. h.least p (subst (λ es. Alone true es p) (sym drawn) s))
+        first_of d 7 e clear (UnmatchedOut e) refl refl (subst (λ es. Alone true es e) drawn h.itself) (λ p s. least_le h p (subst (λ es. Alone true es p) (sym drawn) s))
 
     -- where each output has its input, no fault of that rank stands
     pub matched_outputs_clear : IsClearBelow d 7 → ((k : ℕ) → HoldsAt (IsUnmatched true (map end_view ends)) (map end_view ends) k → ⊥) → IsClearBelow d 8
@@ -164,10 +170,10 @@ module _ (d : Tree) where
     matched_outputs_clear clear none = clear_next d 7 clear (λ p s. none p (subst (λ es. Alone true es p) (sym drawn) s))
 
     -- the first input without an output is the first fault, where no lower one stands
-    pub unmatched_input_first : IsClearBelow d 8 → (e : ℕ) → IsLeastPlace (HoldsAt (IsUnmatched false (map end_view ends)) (map end_view ends)) e → IsFirstFault d (UnmatchedIn e)
+    pub unmatched_input_first : IsClearBelow d 8 → (e : ℕ) → IsLeast (HoldsAt (IsUnmatched false (map end_view ends)) (map end_view ends)) e → IsFirstFault d (UnmatchedIn e)
     unfolding Stands Alone
     unmatched_input_first clear e h =
-        first_of d 8 e clear (UnmatchedIn e) refl refl (subst (λ es. Alone false es e) drawn h.itself) (λ p s. h.least p (subst (λ es. Alone false es p) (sym drawn) s))
+        first_of d 8 e clear (UnmatchedIn e) refl refl (subst (λ es. Alone false es e) drawn h.itself) (λ p s. least_le h p (subst (λ es. Alone false es p) (sym drawn) s))
 
     -- where each input has its output, no fault of that rank stands
     pub matched_inputs_clear : IsClearBelow d 8 → ((k : ℕ) → HoldsAt (IsUnmatched false (map end_view ends)) (map end_view ends) k → ⊥) → IsClearBelow d 9
@@ -187,8 +193,8 @@ module _ (d : Tree) (names : List (Bor (List ℕ))) (seen : map deref names ≡ 
     clear_with_distinct_ends = distinct_ends_clear d ends drawn clear_with_few_messages n.new
 
     -- an output that is not found among the numbered ends is the first fault
-    pub lone_output_first : (e : ℕ) → IsLeastPlace (HoldsAt (IsUnmatched true (map end_view keys)) (map end_view ends)) e → IsFirstFault d (UnmatchedOut e)
-    lone_output_first e h = unmatched_output_first d ends drawn clear_with_distinct_ends e (subst (λ ks. IsLeastPlace (HoldsAt (IsUnmatched true (map end_view ks)) (map end_view ends)) e) n.same h)
+    pub lone_output_first : (e : ℕ) → IsLeast (HoldsAt (IsUnmatched true (map end_view keys)) (map end_view ends)) e → IsFirstFault d (UnmatchedOut e)
+    lone_output_first e h = unmatched_output_first d ends drawn clear_with_distinct_ends e (subst (λ ks. IsLeast (HoldsAt (IsUnmatched true (map end_view ks)) (map end_view ends)) e) n.same h)
 
     module _ (paired : (k : ℕ) → HoldsAt (IsUnmatched true (map end_view keys)) (map end_view ends) k → ⊥) where
       -- where each output is found so
@@ -196,8 +202,8 @@ module _ (d : Tree) (names : List (Bor (List ℕ))) (seen : map deref names ≡ 
       clear_with_matched_outputs = matched_outputs_clear d ends drawn clear_with_distinct_ends (subst (λ ks. (k : ℕ) → HoldsAt (IsUnmatched true (map end_view ks)) (map end_view ends) k → ⊥) n.same paired)
 
       -- an input that is not found among the numbered ends is the first fault
-      pub lone_input_first : (e : ℕ) → IsLeastPlace (HoldsAt (IsUnmatched false (map end_view keys)) (map end_view ends)) e → IsFirstFault d (UnmatchedIn e)
-      lone_input_first e h = unmatched_input_first d ends drawn clear_with_matched_outputs e (subst (λ ks. IsLeastPlace (HoldsAt (IsUnmatched false (map end_view ks)) (map end_view ends)) e) n.same h)
+      pub lone_input_first : (e : ℕ) → IsLeast (HoldsAt (IsUnmatched false (map end_view keys)) (map end_view ends)) e → IsFirstFault d (UnmatchedIn e)
+      lone_input_first e h = unmatched_input_first d ends drawn clear_with_matched_outputs e (subst (λ ks. IsLeast (HoldsAt (IsUnmatched false (map end_view ks)) (map end_view ends)) e) n.same h)
 
       -- where each input is found too, no fault is left but a cycle
       pub clear_with_matched_inputs : ((k : ℕ) → HoldsAt (IsUnmatched false (map end_view keys)) (map end_view ends) k → ⊥) → IsClearBelow d 9

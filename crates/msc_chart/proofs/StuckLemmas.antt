@@ -5,7 +5,7 @@ use Rattle.std.proofs.lemmas.Bool.{cases_lt, eqb-true, eq-eqb, not-true, not_fro
 use Rattle.msc_chart.specs.declared.event.ChartEvent.{ChartEvent}
 use Rattle.msc_chart.specs.Charts.{partner, is_output, before, Visual, Follows, IsAcyclic, IsLinearOrder}
 use Rattle.msc_chart.specs.Charts.Visual.{seen, passed, linked}
-use Rattle.msc_chart.specs.Passes.{is_put, IsStuckAt, IsStuckBelow, IsKept}
+use Rattle.msc_chart.specs.Passes.{is_put, IsStuckAt, IsStuckBelow, IsPassOf}
 use Rattle.msc_chart.proofs.ListLemmas.{clash, step_at}
 use Rattle.msc_chart.proofs.Numbers.{count_below, descend}
 use Rattle.msc_chart.proofs.Drawn.{before_parts, output_parts}
@@ -31,7 +31,7 @@ directly events x y = before events x y || (is_output events x && eqb (partner e
 -- A stuck pass has a cycle: from an event that is left go back to one that is left, and before which
 -- none that is left comes directly. It could be put.
 pub stuck_cyclic : (events : List ChartEvent) (order : List ℕ) (marks : List Bool) (first : List ℕ) (left : ℕ)
-    → IsKept events order marks first left → IsStuckBelow events marks (length events) → 0 < left → IsAcyclic events → ⊥
+    → IsPassOf events order marks first left → IsStuckBelow events marks (length events) → 0 < left → IsAcyclic events → ⊥
 unfolding directly
 stuck_cyclic events order marks first left kept stuck some acyclic =
     let out = some_out marks (let n = kept.left_count in omega arith) in

@@ -2,7 +2,7 @@
 use Rattle.std.specs.Prelude.{◌≡◌, ◌≢◌, ℕ, ◌<◌, false, List, [], length, ◌⊎◌, IsTrue}
 use Rattle.msc_chart.specs.Charts.{partner, is_output}
 use Rattle.msc_chart.specs.Orders.{WiredChart, queue, Enforced}
-use Rattle.msc_chart.specs.Lists.{occurs, Steps}
+use Rattle.msc_chart.specs.Lists.{occurs, IsLeast, Steps}
 use Rattle.msc_chart.specs.Runs.{MayCome, IsWhole}
 
 -- an event other than e that is not enforced after e
@@ -27,10 +27,6 @@ pub record MayComeFree (chart : WiredChart) (e : ℕ) (past : List ℕ) (x : ℕ
   pub may : MayCome chart past x
   pub free : IsFree chart e x
   pub ready : Waits chart e past x → ⊥
-
-pub record IsLeast (P : ℕ → Type 0) (x : ℕ) : Type 0 where
-  pub itself : P x
-  pub none_below : (y : ℕ) → y < x → P y → ⊥
 
 -- a free event has not occurred yet
 abbrev pub SomeFreeLeft : WiredChart → ℕ → List ℕ → Type 0

@@ -1,20 +1,13 @@
 -- What makes a draft no chart, and which of several faults is answered.
-use Rattle.std.specs.Prelude.{◌≡◌, ℕ, ◌<◌, ◌≤◌, ◌⊎◌, Bool, true, false, List, length, slice_get, Some, Option, count_by, MatchOption}
+use Rattle.std.specs.Prelude.{◌≡◌, ℕ, ◌<◌, ◌≤◌, ◌⊎◌, Bool, true, false, List, length, Option, count_by, MatchOption}
 use mathlib.Core.Bool.{beq}
 use Rattle.msc_parser.specs.Grammar.{Tree}
+use Rattle.msc_chart.specs.Lists.{StandsAt, Occurs, IsLeast}
 use Rattle.msc_chart.specs.declared.fault.ChartFault.{ChartFault}
 use Rattle.msc_chart.specs.declared.fault.ChartFault.TheVariants.{TooManyInstances, TwiceInstance, HeaderWithoutBody, UnknownAddress, TooManyMessages, TwiceEvent, UnmatchedOut, UnmatchedIn, Cyclic, Memory}
 use Rattle.msc_chart.specs.Events.{End, instances_of, header_of, ends_of, address_of, other_end}
 use Rattle.msc_chart.specs.Charts.{Visual}
 use Rattle.msc_chart.specs.Drawings.{chart_events}
-
--- x stands at place i
-abbrev pub StandsAt : {T : Type 0} → List T → ℕ → T → Type 0
-StandsAt xs i x = slice_get xs i ≡ Some x
-
--- x stands somewhere
-abbrev pub Occurs : {T : Type 0} → List T → T → Type 0
-Occurs xs x = (j : ℕ) × StandsAt xs j x
 
 -- the element at place i is equal to an earlier one
 abbrev pub IsRepeat : {T : Type 0} → List T → ℕ → Type 0
@@ -25,12 +18,8 @@ abbrev pub HoldsAt : {T : Type 0} → (T → Type 0) → List T → ℕ → Type
 HoldsAt {T} P xs i = (x : T) × StandsAt xs i x × P x
 
 -- the least place of such, where there is one
-pub record IsLeastPlace (P : ℕ → Type 0) (i : ℕ) : Type 0 where
-  pub itself : P i
-  pub least : (k : ℕ) → P k → i ≤ k
-
 abbrev pub AnswersLeast : (ℕ → Type 0) → Option ℕ → Type 0
-AnswersLeast P r = MatchOption r ((k : ℕ) → P k → ⊥) (IsLeastPlace P)
+AnswersLeast P r = MatchOption r ((k : ℕ) → P k → ⊥) (IsLeast P)
 
 -- the name is that of no section
 abbrev pub IsUnknown : List (List ℕ) → List ℕ → Type 0

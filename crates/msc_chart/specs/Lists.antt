@@ -1,5 +1,27 @@
--- Words for lists of numbers, of charts and runs alike.
-use Rattle.std.specs.Prelude.{◌≡◌, ℕ, Bool, false, ◌||◌, cond, List, [], ◌∷◌, ◌++◌, nat_eq}
+-- Words for lists and numbers, of charts and runs alike.
+use Rattle.std.specs.Prelude.{◌≡◌, ℕ, ◌<◌, Bool, false, ◌||◌, cond, List, [], ◌∷◌, ◌++◌, Some, filter, map, nat_eq, slice_get}
+use Rattle.std.specs.List.{range_with_len, flat_map}
+
+-- x stands at place i
+abbrev pub StandsAt : {T : Type 0} → List T → ℕ → T → Type 0
+StandsAt xs i x = slice_get xs i ≡ Some x
+
+-- x stands somewhere
+abbrev pub Occurs : {T : Type 0} → List T → T → Type 0
+Occurs xs x = (j : ℕ) × StandsAt xs j x
+
+-- the least number with a property
+pub record IsLeast (P : ℕ → Type 0) (x : ℕ) : Type 0 where
+  pub itself : P x
+  pub none_below : (y : ℕ) → y < x → P y → ⊥
+
+-- the pairs of e with the numbers below k that pass a test, ascending
+unfoldable pub pairs_to : (ℕ → ℕ → Bool) → ℕ → ℕ → List (ℕ × ℕ)
+pairs_to test e k = filter (λ p. test p.0 p.1) (map (λ f. (e, f)) (range_with_len 0 k))
+
+-- the pairs of the numbers below n that pass a test, ascending
+unfoldable pub pairs_of : (ℕ → ℕ → Bool) → ℕ → List (ℕ × ℕ)
+pairs_of test n = flat_map (λ e. pairs_to test e n) (range_with_len 0 n)
 
 -- e is in the list
 unfoldable pub occurs : List ℕ → ℕ → Bool

@@ -20,13 +20,13 @@ abbrev pub NoneLeftBelow : List ChartEvent → List Bool → ℕ → ℕ → Typ
 NoneLeftBelow events marks i k = (x : ℕ) → x < length events → x < k → line events x ≡ i → IsTrue (is_put marks x)
 
 -- k is an event of the line that is left
-pub record IsLeft (events : List ChartEvent) (marks : List Bool) (i k : ℕ) : Type 0 where
+pub record IsLeftOn (events : List ChartEvent) (marks : List Bool) (i k : ℕ) : Type 0 where
   pub on_line : line events k ≡ i
   pub left : is_put marks k ≡ false
 
 -- all that comes directly before e was put
-abbrev pub IsOpen : List ChartEvent → List Bool → ℕ → Type 0
-IsOpen events marks e = (x : ℕ) → IsDirectly events x e → IsTrue (is_put marks x)
+abbrev pub IsUnbarred : List ChartEvent → List Bool → ℕ → Type 0
+IsUnbarred events marks e = (x : ℕ) → IsDirectly events x e → IsTrue (is_put marks x)
 
 -- something that comes directly before e was not put
 abbrev pub IsBarred : List ChartEvent → List Bool → ℕ → Type 0
@@ -47,7 +47,7 @@ pub record AreReady (lines : ℕ) (events : List ChartEvent) : Type 0 where
   pub on_lines : AreOnLines lines events
 
 -- The marks tell what is in the order, in which whatever precedes an event visibly stands before it.
-pub record IsKept (events : List ChartEvent) (order : List ℕ) (marks : List Bool) (first : List ℕ) (left : ℕ) : Type 0 where
+pub record IsPassOf (events : List ChartEvent) (order : List ℕ) (marks : List Bool) (first : List ℕ) (left : ℕ) : Type 0 where
   pub ready : AreReady (length first) events
   pub marks_len : length marks ≡ length events
   pub marked : (e : ℕ) → e < length events → is_put marks e ≡ occurs order e
@@ -57,7 +57,7 @@ pub record IsKept (events : List ChartEvent) (order : List ℕ) (marks : List Bo
   pub steps : Steps (Follows events) [] order
 
 abbrev pub IsPass : List ChartEvent → Pass → Type 0
-IsPass events p = IsKept events p.order.items p.is_put.items p.first.items p.left × (vec_len p.unopened ≡ vec_len p.first)
+IsPass events p = IsPassOf events p.order.items p.is_put.items p.first.items p.left × (vec_len p.unopened ≡ vec_len p.first)
 
 -- the least event that precedes itself, or want of memory
 abbrev pub IsCycleOrMemory : List ChartEvent → ChartFault → Type 0

@@ -14,7 +14,7 @@ pub record IsPassed (events : List ChartEvent) (e : ℕ) (low : List ℕ) (s : �
   pub reached : (s ≡ e) ⊎ IsBelow events low s
 
 -- what is taken as reached is reached
-pub record IsSound (events : List ChartEvent) (e : ℕ) (low : List ℕ) : Type 0 where
+pub record AreReached (events : List ChartEvent) (e : ℕ) (low : List ℕ) : Type 0 where
   pub begun : get_or low (at events e).line 0 ≤ (at events e).segment
   pub reached : (y : ℕ) → y < length events → IsBelow events low y → Visual events e y
 

@@ -1,6 +1,6 @@
 -- Small charts, and what the definitions say of them.
-use Rattle.std.specs.Prelude.{ℕ, Bool, List, [], ◌∷◌, length, map, filter, None, ◌↔◌}
-use Rattle.std.specs.List.{flat_map, range_with_len}
+use Rattle.std.specs.Prelude.{ℕ, List, [], ◌∷◌, length, map, None, ◌↔◌}
+use Rattle.std.specs.List.{range_with_len}
 use Rattle.msc_parser.specs.declared.tree.Way.TheVariants.{Output, Input}
 use Rattle.msc_parser.specs.declared.tree.Signal.{Signal}
 use Rattle.msc_parser.specs.declared.tree.Item.{Item}
@@ -8,13 +8,12 @@ use Rattle.msc_parser.specs.declared.tree.Item.TheVariants.{Single, Coregion}
 use Rattle.msc_parser.specs.declared.tree.Section.{Section}
 use Rattle.msc_parser.specs.Grammar.{Tree}
 use Rattle.msc_chart.specs.declared.event.EventKind.{EventKind}
-use Rattle.msc_chart.specs.declared.event.EventKind.TheVariants as kinds
 use Rattle.msc_chart.specs.declared.event.ChartEvent.{ChartEvent}
 use Rattle.msc_chart.specs.declared.queue.Queues.{Queues}
 use Rattle.msc_chart.specs.Charts.{before}
 use Rattle.msc_chart.specs.Drawings.{Drawing}
 use Rattle.msc_chart.specs.Orders.{queue_of, WiredChart, Enforced}
-use Rattle.msc_chart.specs.Faults.{Occurs}
+use Rattle.msc_chart.specs.Lists.{Occurs, pairs_of}
 
 -- the names of the charts' instances and messages, by their last letter
 abbrev pub a : List ℕ
@@ -34,6 +33,18 @@ m1 = 109 ∷ 49 ∷ []
 
 abbrev pub m2 : List ℕ
 m2 = 109 ∷ 50 ∷ []
+
+abbrev pub m3 : List ℕ
+m3 = 109 ∷ 51 ∷ []
+
+abbrev pub m4 : List ℕ
+m4 = 109 ∷ 52 ∷ []
+
+abbrev pub q : List ℕ
+q = 113 ∷ []
+
+abbrev pub z : List ℕ
+z = 122 ∷ []
 
 -- `out NAME to ADDRESS;`
 abbrev pub out_to : List ℕ → List ℕ → Signal
@@ -80,20 +91,19 @@ event line segment kind partner message =
     record { line = line; segment = segment; kind = kind; partner = partner; message = message }
 
 -- a: out m1, out m3; b: out m4, out m2; q: in m1, in m2; z: in m4, in m3
-abbrev pub two_mailboxes : Drawing
-two_mailboxes = record {
-  name = [];
-  instances = [] ∷ [] ∷ [] ∷ [] ∷ [];
-  events =
-      event 0 0 kinds.Output 4 0 ∷ event 0 1 kinds.Output 7 1 ∷ event 1 0 kinds.Output 6 2 ∷ event 1 1 kinds.Output 5 3
-      ∷ event 2 0 kinds.Input 0 0 ∷ event 2 1 kinds.Input 3 3 ∷ event 3 0 kinds.Input 2 2 ∷ event 3 1 kinds.Input 1 1 ∷ [];
-  messages = [];
-}
+abbrev pub two_mailboxes : Tree
+two_mailboxes =
+    draft_of (instance_of a (Single (out_to m1 q) ∷ Single (out_to m3 z) ∷ [])
+    ∷ instance_of b (Single (out_to m4 z) ∷ Single (out_to m2 q) ∷ [])
+    ∷ instance_of q (Single (in_from m1 a) ∷ Single (in_from m2 b) ∷ [])
+    ∷ instance_of z (Single (in_from m4 b) ∷ Single (in_from m3 a) ∷ []) ∷ [])
 
--- all pairs of numbers below a bound that pass a test, ascending
-abbrev pub pairs_of : (ℕ → ℕ → Bool) → ℕ → List (ℕ × ℕ)
-pairs_of test n =
-    flat_map (λ i. map (λ j. (i, j)) (filter (test i) (range_with_len 0 n))) (range_with_len 0 n)
+-- a coregion of two inputs between an input and an output
+-- a: out m1, out m2, out m3, in m4; b: in m1, concurrent in m2, in m3, out m4
+abbrev pub below_coregion : Tree
+below_coregion =
+    draft_of (instance_of a (Single (out_to m1 b) ∷ Single (out_to m2 b) ∷ Single (out_to m3 b) ∷ Single (in_from m4 b) ∷ [])
+    ∷ instance_of b (Single (in_from m1 a) ∷ Coregion (in_from m2 a ∷ in_from m3 a ∷ []) ∷ Single (out_to m4 a) ∷ []) ∷ [])
 
 -- the pairs of which the first is drawn before the second
 abbrev pub drawn_pairs : Drawing → List (ℕ × ℕ)

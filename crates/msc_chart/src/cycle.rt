@@ -8,7 +8,7 @@
 ghost use Rattle.std.specs.Prelude.{◌≡◌, ◌<◌, ◌≤◌, ◌↔◌, IsTrue, length, sum, IfOk, MatchOption};
 ghost use Rattle.std.specs.Bool.{OnTrue, OnFalse};
 ghost use Rattle.msc_chart.specs.Charts.{AreOnLines, IsMatched, IsAcyclic, IsLeastCyclic, Visual, at};
-ghost use Rattle.msc_chart.specs.Reach.{IsPassed, IsSound, IsClosedAt, AreClosedBelow};
+ghost use Rattle.msc_chart.specs.Reach.{IsPassed, AreReached, IsClosedAt, AreClosedBelow};
 
 use crate::event::ChartEvent;
 use std::alloc::{AllocError, Global};
@@ -29,8 +29,8 @@ fn lower(events: &[ChartEvent], e: usize, low: &mut [u32], s: usize) -> bool
     requires lines { AreOnLines (length low.old) events.now }
     requires from { e < length events.now }
     requires event { s < length events.now }
-    requires sound { IsSound events.now e low.old }
-    ensures sound { IsSound events.now e low.new }
+    requires sound { AreReached events.now e low.old }
+    ensures sound { AreReached events.now e low.new }
     ensures lowered { OnTrue result (sum low.new < sum low.old) }
     ensures same { OnFalse result (low.new ≡ low.old) }
     ensures closed { OnFalse result (IsClosedAt events.now e low.old s) }
@@ -51,8 +51,8 @@ fn round(events: &[ChartEvent], e: usize, low: &mut [u32]) -> bool
     requires matched { IsMatched events.now }
     requires lines { AreOnLines (length low.old) events.now }
     requires from { e < length events.now }
-    requires sound { IsSound events.now e low.old }
-    ensures sound { IsSound events.now e low.new }
+    requires sound { AreReached events.now e low.old }
+    ensures sound { AreReached events.now e low.new }
     ensures lowered { OnTrue result (sum low.new < sum low.old) }
     ensures same { OnFalse result (low.new ≡ low.old) }
     ensures closed { OnFalse result (AreClosedBelow events.now e low.new (length events.now)) }
@@ -72,7 +72,7 @@ fn reach(events: &[ChartEvent], e: usize, low: &mut [u32])
     requires lines { AreOnLines (length low.old) events.now }
     requires few { length events.now ≤ 2048 }
     requires from { e < length events.now }
-    ensures sound { IsSound events.now e low.new }
+    ensures sound { AreReached events.now e low.new }
     ensures closed { AreClosedBelow events.now e low.new (length events.now) }
 {
     for segment in low.iter_mut() {
@@ -87,8 +87,8 @@ fn search(events: &[ChartEvent], e: usize, low: &mut [u32])
     requires matched { IsMatched events.now }
     requires lines { AreOnLines (length low.old) events.now }
     requires from { e < length events.now }
-    requires sound { IsSound events.now e low.old }
-    ensures sound { IsSound events.now e low.new }
+    requires sound { AreReached events.now e low.old }
+    ensures sound { AreReached events.now e low.new }
     ensures closed { AreClosedBelow events.now e low.new (length events.now) }
 {
     let mut changed = true;

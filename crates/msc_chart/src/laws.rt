@@ -6,7 +6,7 @@ ghost use Rattle.msc_chart.specs.declared.queue.Queues.TheVariants.{Pair, Mailbo
 ghost use Rattle.msc_chart.specs.Drawings.{chart_events, chart_of};
 ghost use Rattle.msc_chart.specs.Orders.{wired};
 ghost use Rattle.msc_chart.specs.Laws.{EndsShareQueues, EventsHaveQueues, InputsShareLines, LinesAreRanges, PairsHaveQueuesOfTheirOwn, QueueBoundsAreSmall, QueueNumbersAreBounded, QueuesAreBounded, SegmentsRise};
-ghost use Rattle.msc_chart.specs.Samples.{AreEnforcedPairs, coregion, drawn_pairs, empty_coregion, queue_numbers, relay, two_mailboxes, two_mailboxes_pairs, two_senders};
+ghost use Rattle.msc_chart.specs.Samples.{AreEnforcedPairs, below_coregion, coregion, drawn_pairs, empty_coregion, queue_numbers, relay, two_mailboxes, two_mailboxes_pairs, two_senders};
 
 /// Under either architecture a queue with a message has from 1 to 32 senders, one receiver, and at
 /// most 1,024 messages.
@@ -52,10 +52,12 @@ pub fn worked_charts()
     ensures drawn { drawn_pairs (chart_of two_senders) ≡ (1, 2) ∷ [] }
     ensures coregion { drawn_pairs (chart_of coregion) ≡ [] }
     ensures relay { drawn_pairs (chart_of relay) ≡ (0, 1) ∷ (2, 3) ∷ (4, 5) ∷ [] }
+    ensures below { drawn_pairs (chart_of below_coregion) ≡ (0, 1) ∷ (0, 2) ∷ (0, 3) ∷ (1, 2)
+        ∷ (1, 3) ∷ (2, 3) ∷ (4, 5) ∷ (4, 6) ∷ (4, 7) ∷ (5, 7) ∷ (6, 7) ∷ [] }
     ensures segments { map (λ e. e.segment) (chart_events empty_coregion) ≡ 0 ∷ 1 ∷ [] }
     ensures pair { queue_numbers Pair (chart_of relay) ≡ 1 ∷ 2 ∷ 7 ∷ [] }
     ensures mailbox { queue_numbers Mailbox (chart_of relay) ≡ 1 ∷ 2 ∷ 1 ∷ [] }
     ensures senders { queue_numbers Pair (chart_of two_senders) ≡ 1 ∷ 7 ∷ [] }
     ensures one { queue_numbers Mailbox (chart_of coregion) ≡ 1 ∷ 1 ∷ [] }
-    ensures enforced { AreEnforcedPairs (wired Mailbox two_mailboxes) two_mailboxes_pairs }
+    ensures enforced { AreEnforcedPairs (wired Mailbox (chart_of two_mailboxes)) two_mailboxes_pairs }
 {}

@@ -9,7 +9,7 @@
 ghost use Rattle.std.specs.Prelude.{◌≡◌, ℕ, ◌+◌, ◌<◌, ◌≤◌, ◌↔◌, IsTrue, false, length, vec_len, IfOk, OnOk, IfErr};
 ghost use Rattle.std.specs.Bool.{OnTrue, OnFalse};
 ghost use Rattle.msc_chart.specs.Charts.{line, IsLinearOrder};
-ghost use Rattle.msc_chart.specs.Passes.{is_put, AreReady, IsBarred, IsCycleOrMemory, IsLeft, IsOpen, IsPass, IsStuckAt, IsStuckBelow, NoneLeftBelow};
+ghost use Rattle.msc_chart.specs.Passes.{is_put, AreReady, IsBarred, IsCycleOrMemory, IsLeftOn, IsUnbarred, IsPass, IsStuckAt, IsStuckBelow, NoneLeftBelow};
 
 use crate::cycle::least_cyclic;
 use crate::event::{ChartEvent, Event};
@@ -35,7 +35,7 @@ pub(crate) struct Pass {
 fn is_left(events: &[ChartEvent], marks: &[bool], i: u32, x: usize) -> bool
     requires marks { length marks.now ≡ length events.now }
     requires event { x < length events.now }
-    ensures { IsTrue result ↔ IsLeft events.now marks.now i x }
+    ensures { IsTrue result ↔ IsLeftOn events.now marks.now i x }
 {
     events[x].line == i && !marks[x]
 }
@@ -45,7 +45,7 @@ fn first_left(events: &[ChartEvent], marks: &[bool], i: u32, from: usize) -> usi
     requires marks { length marks.now ≡ length events.now }
     requires below { NoneLeftBelow events.now marks.now i from }
     ensures below { NoneLeftBelow events.now marks.now i result }
-    ensures left { result < length events.now → IsLeft events.now marks.now i result }
+    ensures left { result < length events.now → IsLeftOn events.now marks.now i result }
     ensures within { result ≤ length events.now }
 {
     for x in from..events.len() {
@@ -63,9 +63,9 @@ fn is_open(events: &[ChartEvent], marks: &[bool], first: usize, e: usize) -> boo
     requires marks { length marks.now ≡ length events.now }
     requires event { e < length events.now }
     requires first { first < length events.now }
-    requires left { IsLeft events.now marks.now (line events.now e) first }
+    requires left { IsLeftOn events.now marks.now (line events.now e) first }
     requires below { NoneLeftBelow events.now marks.now (line events.now e) first }
-    ensures open { OnTrue result (IsOpen events.now marks.now e) }
+    ensures open { OnTrue result (IsUnbarred events.now marks.now e) }
     ensures barred { OnFalse result (IsBarred events.now marks.now e) }
 {
     if events[first].segment < events[e].segment {
@@ -86,7 +86,7 @@ fn move_first(events: &[ChartEvent], pass: &mut Pass, i: u32) -> usize
     ensures marks { pass.new.is_put ≡ pass.old.is_put }
     ensures same { pass.new.left ≡ pass.old.left }
     ensures below { NoneLeftBelow events.now pass.new.is_put.items i result }
-    ensures left { result < length events.now → IsLeft events.now pass.new.is_put.items i result }
+    ensures left { result < length events.now → IsLeftOn events.now pass.new.is_put.items i result }
     ensures within { result ≤ length events.now }
 {
     let from = pass.first[i as usize] as usize;
@@ -100,7 +100,7 @@ fn push(events: &[ChartEvent], pass: &mut Pass, e: usize) -> Result<(), AllocErr
     requires pass { IsPass events.now pass.old }
     requires event { e < length events.now }
     requires left { is_put pass.old.is_put.items e ≡ false }
-    requires open { IsOpen events.now pass.old.is_put.items e }
+    requires open { IsUnbarred events.now pass.old.is_put.items e }
     ensures pass { OnOk result (IsPass events.now pass.new) }
     ensures left { OnOk result (pass.new.left + 1 ≡ pass.old.left) }
 {

@@ -30,13 +30,9 @@ fn take_input(words: &mut [u64], wiring: &Wiring, s: Event, c: Event)
 {
     wiring.chart.accepted();
     let events = wiring.chart.events();
-    take_in(
-        words,
-        events,
-        wiring.chart.other_end(s),
-        wiring.chart.other_end(c),
-        true,
-    );
+    let input = wiring.chart.other_end(s);
+    let later = wiring.chart.other_end(c);
+    take_in(words, events, input, later, true);
 }
 
 /// The input of output `s` takes in the inputs of those outputs that are left in word `k`. Whatever

@@ -3,7 +3,8 @@ use Rattle.std.specs.Map.Iter.{deref}
 use Rattle.std.proofs.lemmas.List.{length-map}
 use Rattle.msc_chart.specs.Events.{instances_of}
 use Rattle.msc_chart.specs.Numbering.{IsFirstRepeat, AreNumbered}
-use Rattle.msc_chart.specs.Faults.{IsLeastPlace, HoldsAt, IsUnknown}
+use Rattle.msc_chart.specs.Lists.{IsLeast}
+use Rattle.msc_chart.specs.Faults.{HoldsAt, IsUnknown}
 use Rattle.msc_chart.proofs.Places.{repeat_at, numbered_at}
 use Rattle.msc_chart.proofs.Stages.{same_bytes, many_instances_first, few_instances_clear, repeated_instance_first, distinct_instances_clear, unknown_header_first, known_headers_clear, least_within, names_count}
 use Rattle.msc_chart.proofs.building.instances.Goals as goal
@@ -36,7 +37,7 @@ returns-in-Some-unknown_header-clause-fault c =
     let keys_seen : map deref c.in_ok-numbers.numbers.keys ≡ instances_of c.args.draft.now = ap (map deref) n.same ∙ seen in
     let clear = distinct_instances_clear c.args.draft.now c.as_slice.result.now seen (few_instances_clear c.args.draft.now (rw (← c.sections.ensures.value) (omega arith))) n.new in
     λ _. unknown_header_first c.args.draft.now c.in_ok-numbers.numbers.keys keys_seen clear c.in-Some-unknown_header.k
-    (subst (λ h. IsLeastPlace (HoldsAt (IsUnknown (map deref c.in_ok-numbers.numbers.keys)) (map (λ x. x.name) h)) c.in-Some-unknown_header.k) c.header.ensures.value c.in-Some-unknown_header.ensures)
+    (subst (λ h. IsLeast (HoldsAt (IsUnknown (map deref c.in_ok-numbers.numbers.keys)) (map (λ x. x.name) h)) c.in-Some-unknown_header.k) c.header.ensures.value c.in-Some-unknown_header.ensures)
 
 pub returns-clause-clear : goal.returns-clause-clear
 returns-clause-clear c =

@@ -1,11 +1,11 @@
 use Rattle.std.proofs.Common.{◌+◌, sum, length, cond}
 use Rattle.std.specs.Bool.{OnFalse}
-use Rattle.msc_chart.specs.Reach.{IsSound, AreClosedBelow}
+use Rattle.msc_chart.specs.Reach.{AreReached, AreClosedBelow}
 use Rattle.msc_chart.proofs.cycle.search.Given as goal
 
 abbrev pub invariant-loop-changed : goal.invariant-loop-changed
 invariant-loop-changed l = record {
-  sound : IsSound l.events l.e l.low;
+  sound : AreReached l.events l.e l.low;
   closed : OnFalse l.changed (AreClosedBelow l.events l.e l.low (length l.events));
 }
 

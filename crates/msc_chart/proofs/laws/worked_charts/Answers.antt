@@ -1,5 +1,5 @@
 use Rattle.std.proofs.Common.{map, ap}
-use Rattle.msc_chart.proofs.Rows.{two_senders_drawn, coregion_drawn, relay_drawn, empty_coregion_events, relay_pair, relay_mailbox, two_senders_pair, coregion_mailbox}
+use Rattle.msc_chart.proofs.Rows.{below_coregion_drawn, two_senders_drawn, coregion_drawn, relay_drawn, empty_coregion_events, relay_pair, relay_mailbox, two_senders_pair, coregion_mailbox}
 use Rattle.msc_chart.proofs.EnforcedRows.{two_mailboxes_enforced}
 use Rattle.msc_chart.proofs.laws.worked_charts.Goals as goal
 
@@ -8,6 +8,7 @@ returns c = record {
   drawn = two_senders_drawn;
   coregion = coregion_drawn;
   relay = relay_drawn;
+  below = below_coregion_drawn;
   segments = ap (map (λ e. e.segment)) empty_coregion_events;
   pair = relay_pair;
   mailbox = relay_mailbox;

@@ -1,6 +1,6 @@
 use Rattle.std.proofs.Common.{◌≡◌, ◌∙◌, false, ap, arith, subst, sym}
 use Rattle.msc_chart.specs.Charts.{line}
-use Rattle.msc_chart.specs.Passes.{is_put, IsLeft}
+use Rattle.msc_chart.specs.Passes.{is_put, IsLeftOn}
 use Rattle.msc_chart.proofs.PassLemmas.{first_within, read_mark}
 use Rattle.msc_chart.proofs.linear.put.Goals as goal
 
@@ -21,7 +21,7 @@ is_open-requires-clause-left c =
     let marks = c.move_first-first.new.pass.is_put.items in
     let out : is_put marks c.args.e ≡ false = ap (λ v. is_put v.items c.args.e) c.move_first-first.ensures.marks ∙ read_mark c.args.pass.now.is_put.items c.args.e c.index.result.now c.if-index.false c.index.ensures in
     let within = first_within c.args.events.now marks c.args.e c.move_first-first.result c.requires.event out c.move_first-first.ensures.below in
-    subst (λ l. IsLeft c.args.events.now l (line c.args.events.now c.args.e) c.move_first-first.result) (sym c.as_slice.ensures.value) (c.move_first-first.ensures.left within)
+    subst (λ l. IsLeftOn c.args.events.now l (line c.args.events.now c.args.e) c.move_first-first.result) (sym c.as_slice.ensures.value) (c.move_first-first.ensures.left within)
 
 pub is_open-requires-clause-below : goal.is_open-requires-clause-below
 unfolding line

@@ -6,9 +6,9 @@ use Rattle.msc_order.proofs.queueing.take_input.Goals as goal
 pub take_in-requires-clause-row : goal.take_in-requires-clause-row
 take_in-requires-clause-row c =
     let n : ℕ = size c.args.wiring.now in
-    rw c.events-events.ensures.number (row_fits n c.args.words.now n c.other_end.result c.requires.square c.other_end.ensures.known)
+    rw c.events-events.ensures.number (row_fits n c.args.words.now n c.other_end-input.result c.requires.square c.other_end-input.ensures.known)
 
 pub take_in-requires-clause-other : goal.take_in-requires-clause-other
 take_in-requires-clause-other c =
     let n : ℕ = size c.args.wiring.now in
-    rw c.events-events.ensures.number (row_fits n c.args.words.now n c.other_end-2.result c.requires.square c.other_end-2.ensures.known)
+    rw c.events-events.ensures.number (row_fits n c.args.words.now n c.other_end-later.result c.requires.square c.other_end-later.ensures.known)
