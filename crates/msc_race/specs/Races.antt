@@ -1,23 +1,14 @@
 -- Races as lists of pairs of events, and verdicts.
-use Rattle.std.specs.Prelude.{◌≡◌, ◌≢◌, ℕ, ◌<◌, ◌↔◌, ◌⊎◌, Bool, ◌&&◌, not, List, [], filter, map, length, IsTrue}
-use Rattle.std.specs.List.{range_with_len, flat_map}
+use Rattle.std.specs.Prelude.{◌≡◌, ◌≢◌, ℕ, ◌<◌, ◌↔◌, ◌⊎◌, Bool, ◌&&◌, not, List, [], length, IsTrue}
 use Rattle.msc_chart.specs.declared.event.ChartEvent.{ChartEvent}
 use Rattle.msc_chart.specs.Charts.{before}
-use Rattle.msc_chart.specs.Faults.{Occurs, StandsAt}
+use Rattle.msc_chart.specs.Lists.{pairs_of, Occurs, StandsAt}
 use Rattle.msc_chart.specs.Orders.{WiredChart, IsEnforcedOrder, IsRace}
 use Rattle.msc_chart.specs.Runs.{Run, KeepsDrawnOrder, Reverses}
 use Rattle.msc_order.specs.Tables.{Table, orders}
 use Rattle.msc_race.specs.Laws.{HasNoRace}
 use Rattle.msc_race.specs.declared.verdict.Verdict.{Verdict}
 use Rattle.msc_race.specs.declared.verdict.Verdict.TheVariants.{Pass, Races}
-
--- the pairs of e with the numbers below k that pass a test, ascending
-unfoldable pub pairs_to : (ℕ → ℕ → Bool) → ℕ → ℕ → List (ℕ × ℕ)
-pairs_to test e k = filter (λ p. test p.0 p.1) (map (λ f. (e, f)) (range_with_len 0 k))
-
--- the pairs of the numbers below n that pass a test, ascending
-unfoldable pub pairs_of : (ℕ → ℕ → Bool) → ℕ → List (ℕ × ℕ)
-pairs_of test n = flat_map (λ e. pairs_to test e n) (range_with_len 0 n)
 
 -- the pair is drawn in an order that the table does not hold
 unfoldable pub is_raced : List ChartEvent → Table → ℕ → ℕ → Bool

@@ -7,7 +7,7 @@ use Rattle.msc_parser.specs.Grammar.{Tree}
 use Rattle.msc_chart.specs.Drawings.{chart_of}
 use Rattle.msc_chart.specs.Orders.{WiredChart, wired}
 use Rattle.msc_chart.specs.Runs.{Run, IsWhole, Reverses}
-use Rattle.msc_chart.specs.Samples.{a, b, m1, m2, out_to, in_from, instance_of, draft_of, two_senders, coregion, relay, two_mailboxes}
+use Rattle.msc_chart.specs.Samples.{a, b, q, m1, m2, out_to, in_from, instance_of, draft_of, two_senders, coregion, relay, two_mailboxes}
 
 -- a: out m1, out m2; b: in m2, in m1
 abbrev pub overtaking : Tree
@@ -15,12 +15,9 @@ overtaking =
     draft_of (instance_of a (Single (out_to m1 b) ∷ Single (out_to m2 b) ∷ [])
     ∷ instance_of b (Single (in_from m2 a) ∷ Single (in_from m1 a) ∷ []) ∷ [])
 
--- the names of two messages, by their letter
+-- the name of a message, by its letter
 abbrev pub p : List ℕ
 p = 112 ∷ []
-
-abbrev pub q : List ℕ
-q = 113 ∷ []
 
 -- a: out p, in q; b: out q, in p
 abbrev pub crossing : Tree
@@ -45,7 +42,7 @@ abbrev pub crossed : Queues → WiredChart
 crossed queues = wired queues (chart_of crossing)
 
 abbrev pub mailboxes : WiredChart
-mailboxes = wired Mailbox two_mailboxes
+mailboxes = wired Mailbox (chart_of two_mailboxes)
 
 -- a whole run that reverses (e, f)
 pub record IsReversal (chart : WiredChart) (events : List ℕ) (e f : ℕ) : Type 0 where

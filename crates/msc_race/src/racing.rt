@@ -6,12 +6,13 @@
 
 ghost use Rattle.std.specs.Prelude.{◌≡◌, ℕ, ◌+◌, ◌*◌, ◌/◌, ◌%◌, ◌<◌, ◌≤◌, ◌++◌, ◌&&◌, not, nat_le};
 ghost use Rattle.std.specs.Prelude.{nat_lt, length, IfOk, OnOk};
+ghost use Rattle.msc_chart.specs.Lists.{pairs_to};
 ghost use Rattle.msc_chart.specs.Charts.{IsLineEnd, IsSegmentEnd};
 ghost use Rattle.msc_chart.specs.Orders.{wired, IsEnforcedOrder};
 ghost use Rattle.bit_rows.specs.Rows.{bit_of};
 ghost use Rattle.msc_order.specs.Tables.{orders};
 ghost use Rattle.msc_race.specs.Gaps.{is_gap, is_in_word};
-ghost use Rattle.msc_race.specs.Races.{all_races, pairs_to, IsVerdict, TellsRuns};
+ghost use Rattle.msc_race.specs.Races.{all_races, IsVerdict, TellsRuns};
 
 use crate::laws::races_are_what_runs_reverse;
 use crate::verdict::Verdict;

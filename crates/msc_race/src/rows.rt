@@ -2,7 +2,7 @@
 
 ghost use Rattle.std.specs.Prelude.{◌≡◌, ℕ, ◌≤◌, false, length, IsTrue, IfOk, IfSome, IfNone};
 ghost use Rattle.bit_rows.specs.Rows.{has, IsBlankTo};
-ghost use Rattle.msc_chart.specs.Chosen.{IsLeast};
+ghost use Rattle.msc_chart.specs.Lists.{IsLeast};
 ghost use Rattle.msc_race.specs.Rows.{is_masked, IsRow};
 
 use bit_rows::row;

@@ -1,7 +1,7 @@
 -- The pairs that pass a test are listed ascending.
 use Rattle.std.proofs.Common.{zero, suc, ◌≡◌, ℕ, ◌+◌, Bool, true, false, cond, inl, inr, List, [], ◌∷◌, ◌++◌, refl, sym, ap, ◌∙◌, subst, arith}
-use Rattle.msc_chart.specs.Faults.{Occurs}
-use Rattle.msc_race.specs.Races.{pairs_of, pairs_to, AreAscending, IsBelow}
+use Rattle.msc_chart.specs.Lists.{Occurs, pairs_of, pairs_to}
+use Rattle.msc_race.specs.Races.{AreAscending, IsBelow}
 use Rattle.msc_race.proofs.Listing.Pairs.{below_all, below_more, below_none, below_parts, in_either, last_of, pairs_below, pairs_next, pairs_none, to_parts}
 
 -- no pair stands in the empty list

@@ -4,7 +4,7 @@ use Rattle.std.specs.Prelude.{nat_le}
 use Rattle.std.proofs.lemmas.Bool.{and_parts, cases_lt, le-leb, lt-leb, not-true}
 use Rattle.msc_chart.specs.declared.event.ChartEvent.{ChartEvent}
 use Rattle.msc_chart.specs.Charts.{before, IsInTextOrder, IsLineEnd, IsSegmentEnd}
-use Rattle.msc_chart.specs.Faults.{Occurs}
+use Rattle.msc_chart.specs.Lists.{Occurs}
 use Rattle.msc_chart.specs.Orders.{WiredChart, IsEnforcedOrder}
 use Rattle.msc_chart.proofs.Drawn.{before_from, before_parts}
 use Rattle.bit_rows.specs.Rows.{has}

@@ -4,8 +4,7 @@ use Rattle.std.specs.List.{range_with_len, flat_map}
 use Rattle.std.proofs.lemmas.Bool.{cases_eq}
 use Rattle.std.proofs.lemmas.List.{append-nil, append_assoc, flat_map_more, map-id}
 use Rattle.std.proofs.lemmas.List.FromFn.{filter_of_map_range_with_len_more, map-range_with_len_more}
-use Rattle.msc_chart.specs.Faults.{Occurs}
-use Rattle.msc_race.specs.Races.{pairs_to, pairs_of}
+use Rattle.msc_chart.specs.Lists.{Occurs, pairs_to, pairs_of}
 use Rattle.msc_race.proofs.Shared.{by_test}
 
 module _ (test : ℕ → ℕ → Bool) where

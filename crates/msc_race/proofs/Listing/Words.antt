@@ -6,7 +6,7 @@ use Rattle.std.proofs.lemmas.Bool.{cases_eq, cases_lt, eq-eqb, ne_eqb}
 use Rattle.std.proofs.lemmas.Nat.Bits.{bit_at_lowest, bit_at-suc, bit_at-trailing_zeros}
 use Rattle.bit_rows.specs.Rows.{bit_of}
 use Rattle.bit_rows.proofs.Bits.{bit_meet, bit_zero}
-use Rattle.msc_race.specs.Races.{pairs_to}
+use Rattle.msc_chart.specs.Lists.{pairs_to}
 use Rattle.msc_race.specs.Gaps.{is_in_word}
 use Rattle.msc_race.proofs.Listing.Pairs.{pairs_between, pairs_join, pairs_more, pairs_none}
 

@@ -1,9 +1,10 @@
 -- Which mask the next event of a chosen run is picked with.
 use Rattle.std.proofs.Common.{ℕ, ◌<◌, ◌↔◌, inl, inr, List, Option, None, Some, IfNone}
 use Rattle.std.specs.Prelude.{IsTrue}
+use Rattle.msc_chart.specs.Lists.{IsLeast}
 use Rattle.msc_chart.specs.Orders.{IsWired}
 use Rattle.msc_chart.specs.Runs.{MayCome, IsWhole}
-use Rattle.msc_chart.specs.Chosen.{IsFree, IsChosenNext, IsLeast, MayComeFree, SomeFreeLeft}
+use Rattle.msc_chart.specs.Chosen.{IsFree, IsChosenNext, MayComeFree, SomeFreeLeft}
 use Rattle.msc_order.specs.Tables.{orders}
 use Rattle.msc_race.specs.declared.choosing.Choice.{Choice}
 use Rattle.msc_race.specs.declared.beginning.Beginning.{Beginning}

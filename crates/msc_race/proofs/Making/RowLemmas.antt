@@ -6,7 +6,7 @@ use Rattle.std.specs.Prelude.{IsTrue}
 use Rattle.bit_rows.specs.Rows.{bit_of, has, word_count, IsFirstWord}
 use Rattle.bit_rows.proofs.Bits.{bit_join, bit_meet, bit_zero, words_enough, words_few}
 use Rattle.bit_rows.proofs.Rows.{has_past}
-use Rattle.msc_chart.specs.Chosen.{IsLeast}
+use Rattle.msc_chart.specs.Lists.{IsLeast}
 use Rattle.msc_race.specs.Rows.{is_masked, IsRow}
 use Rattle.msc_race.proofs.Shared.{clash}
 

@@ -2,10 +2,10 @@
 use Rattle.std.proofs.Common.{◌≡◌, ℕ, true, inl, inr, List, [], ◌∷◌, ◌++◌, refl, sym, ap, ◌∙◌, subst, append_assoc}
 use Rattle.std.proofs.lemmas.Bool.{cases_order, false_from_ne_true}
 use Rattle.std.proofs.lemmas.List.{append-nil}
-use Rattle.msc_chart.specs.Lists.{occurs, until, Steps}
+use Rattle.msc_chart.specs.Lists.{occurs, until, IsLeast, Steps}
 use Rattle.msc_chart.specs.Orders.{WiredChart, IsRace}
 use Rattle.msc_chart.specs.Runs.{Run, MayCome, IsWhole, Reverses}
-use Rattle.msc_chart.specs.Chosen.{IsFree, MayComeFree, IsLeast, IsChosenNext, IsChosenRun}
+use Rattle.msc_chart.specs.Chosen.{IsFree, MayComeFree, IsChosenNext, IsChosenRun}
 use Rattle.msc_race.proofs.Shared.{clash, step_at, until-within, Steps-map}
 use Rattle.msc_race.proofs.Runs.Standing.{until_other, until_swapped}
 use Rattle.msc_race.proofs.Runs.EventLemmas.{before_parts}

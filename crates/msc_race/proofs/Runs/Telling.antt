@@ -2,11 +2,10 @@
 use Rattle.std.proofs.Common.{◌≡◌, ℕ, zero, suc, ◌<◌, Bool, true, false, ◌&&◌, not, ◌⊎◌, inl, inr, List, [], ◌∷◌, length, subst, arith}
 use Rattle.std.proofs.lemmas.Bool.{cases_lt, cases_eq, and_parts, and_from, not-true, not_from_false}
 use Rattle.std.proofs.Math.Nat.{le_refl}
-use Rattle.msc_chart.specs.Lists.{occurs, IsFirst}
+use Rattle.msc_chart.specs.Lists.{occurs, IsFirst, IsLeast}
 use Rattle.msc_chart.specs.Charts.{partner, is_output, is_input, before}
 use Rattle.msc_chart.specs.Orders.{WiredChart, queue}
 use Rattle.msc_chart.specs.Runs.{MayCome, state}
-use Rattle.msc_chart.specs.Chosen.{IsLeast}
 use Rattle.msc_race.proofs.Shared.{by_test, clash, find_below}
 use Rattle.msc_race.proofs.Runs.EventLemmas.{output_or_input, not_both, before_parts}
 use Rattle.msc_race.proofs.Runs.Inside.{is_held, MayComeInside, passed_on_told}

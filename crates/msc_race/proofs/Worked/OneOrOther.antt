@@ -68,7 +68,7 @@ crossing_one queues events run first second =
 
 -- the messages of two mailboxes do not both come in the other order
 pub mailboxes_one : NoRunReversesBoth mailboxes (4, 5) (6, 7)
-unfolding is_output is_input before line segment kind partner queue queue_number sender_at receiver_at
+unfolding is_output is_input before line segment kind partner queue queue_number sender_at receiver_at chart_events events_of ends_of instances_of
 mailboxes_one events run first second =
     let is_wired : IsWired mailboxes = wired_from _ refl in
     let sent_q = outputs_reversed mailboxes is_wired events run 0 3 refl refl refl first in

@@ -2,7 +2,7 @@
 use Rattle.std.proofs.Common.{◌≡◌, ℕ, zero, suc, Bool, true, false, ◌&&◌, ◌||◌, not, inl, inr, List, [], ◌∷◌, eqb, length, Some, ap, subst}
 use Rattle.std.proofs.lemmas.Bool.{eqb-true, and_parts, and_cases, or_cases, not-false}
 use Rattle.msc_chart.specs.Charts.{before}
-use Rattle.msc_chart.specs.Faults.{Occurs}
+use Rattle.msc_chart.specs.Lists.{Occurs}
 use Rattle.msc_chart.specs.Orders.{WiredChart, IsWired, Enforced}
 use Rattle.msc_race.specs.Samples.{IsReversal}
 use Rattle.msc_race.specs.Races.{AreRaces}

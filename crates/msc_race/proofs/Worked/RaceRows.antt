@@ -120,17 +120,17 @@ crossing_races Mailbox =
 
 -- the messages of one mailbox may come in the other order
 pub mailboxes_q : IsReversal mailboxes (2 ∷ 3 ∷ 0 ∷ 1 ∷ 5 ∷ 6 ∷ 7 ∷ 4 ∷ []) 4 5
-unfolding occurs until is_waiting is_output is_input before line segment kind partner queue queue_number sender_at receiver_at
+unfolding occurs until is_waiting is_output is_input before line segment kind partner queue queue_number sender_at receiver_at chart_events events_of ends_of instances_of
 mailboxes_q = reversal_from _ _ 4 5 refl refl refl refl
 
 -- and so may those of the other
 pub mailboxes_z : IsReversal mailboxes (0 ∷ 1 ∷ 2 ∷ 3 ∷ 4 ∷ 5 ∷ 7 ∷ 6 ∷ []) 6 7
-unfolding occurs until is_waiting is_output is_input before line segment kind partner queue queue_number sender_at receiver_at
+unfolding occurs until is_waiting is_output is_input before line segment kind partner queue queue_number sender_at receiver_at chart_events events_of ends_of instances_of
 mailboxes_z = reversal_from _ _ 6 7 refl refl refl refl
 
 -- there is no third race
 pub mailboxes_races : AreRaces mailboxes ((4, 5) ∷ (6, 7) ∷ [])
-unfolding occurs until is_waiting is_output is_input before line segment kind partner queue queue_number sender_at receiver_at
+unfolding occurs until is_waiting is_output is_input before line segment kind partner queue queue_number sender_at receiver_at chart_events events_of ends_of instances_of
 mailboxes_races =
     races_from _ (wired_from _ refl) ((4, 5) ∷ (6, 7) ∷ []) ((0, 1) ∷ (2, 3) ∷ [])
     ((refl, (_, mailboxes_q)), ((refl, (_, mailboxes_z)), tt)) (drawn refl refl, (drawn refl refl, tt)) refl

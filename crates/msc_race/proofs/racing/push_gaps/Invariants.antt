@@ -1,5 +1,5 @@
 use Rattle.std.proofs.Common.{◌≡◌, ◌*◌, ◌++◌, min}
-use Rattle.msc_race.specs.Races.{pairs_to}
+use Rattle.msc_chart.specs.Lists.{pairs_to}
 use Rattle.msc_race.specs.Gaps.{is_gap}
 use Rattle.msc_race.proofs.racing.push_gaps.Given as goal
 

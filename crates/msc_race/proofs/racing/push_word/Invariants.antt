@@ -1,5 +1,5 @@
 use Rattle.std.proofs.Common.{◌≡◌, ◌+◌, ◌*◌, ◌++◌}
-use Rattle.msc_race.specs.Races.{pairs_to}
+use Rattle.msc_chart.specs.Lists.{pairs_to}
 use Rattle.msc_race.specs.Gaps.{is_in_word}
 use Rattle.msc_race.proofs.racing.push_word.Given as goal
 

@@ -1,6 +1,7 @@
 use Rattle.std.proofs.Common.{ℕ, ◌++◌, List, length, sym, ap, ◌∙◌, arith}
 use Rattle.bit_rows.proofs.Bits.{words_enough, words_few}
-use Rattle.msc_race.specs.Races.{is_raced, pairs_to}
+use Rattle.msc_chart.specs.Lists.{pairs_to}
+use Rattle.msc_race.specs.Races.{is_raced}
 use Rattle.msc_race.specs.Gaps.{is_gap}
 use Rattle.msc_race.proofs.Listing.DrawnPairs.{gaps_are_races, line_goes_on, none_past, segment_goes_on}
 use Rattle.msc_race.proofs.Listing.Pairs.{below_all, below_more, below_none, pairs_between, pairs_below, pairs_same}
