@@ -4,29 +4,30 @@ use Rattle.msc_chart.specs.declared.event.ChartEvent.{ChartEvent}
 use Rattle.msc_chart.specs.Drawings.{Drawing}
 use Rattle.msc_chart.specs.Charts.{line, is_output, before}
 use Rattle.msc_race.specs.declared.lines.Lines.{Lines}
-use Rattle.msc_race.specs.Bits.{holds, IsRow}
+use Rattle.bit_rows.specs.Rows.{has}
+use Rattle.msc_race.specs.Rows.{IsRow}
 
 -- f is the first event of line i that is left, or a number past the line
 pub record IsFront (events : List ChartEvent) (left : List ℕ) (i f : ℕ) : Type 0 where
   pub within : f ≤ length events
-  pub below : (y : ℕ) → y < f → line events y ≡ i → holds left y ≡ false
-  pub itself : f < length events → line events f ≡ i → IsTrue (holds left f)
+  pub below : (y : ℕ) → y < f → line events y ≡ i → has left y ≡ false
+  pub itself : f < length events → line events f ≡ i → IsTrue (has left f)
   pub reach : (y : ℕ) → f ≤ y → y < length events → line events y ≡ i → line events f ≡ i
 
 -- an output that is left, while nothing is left that is drawn before it
-pub record IsOpen (events : List ChartEvent) (left : List ℕ) (s : ℕ) : Type 0 where
+pub record IsOpenOutput (events : List ChartEvent) (left : List ℕ) (s : ℕ) : Type 0 where
   pub output : IsTrue (is_output events s)
-  pub remains : IsTrue (holds left s)
-  pub ready : (x : ℕ) → IsTrue (before events x s) → holds left x ≡ false
+  pub remains : IsTrue (has left s)
+  pub ready : (x : ℕ) → IsTrue (before events x s) → has left x ≡ false
 
 -- the events that are left, the front of each line, and the outputs that are open
 pub record AreLines (instances : ℕ) (events : List ChartEvent) (lefts firsts opens : List ℕ) : Type 0 where
   pub left_row : IsRow (length events) lefts
   pub outputs_row : IsRow (length events) opens
-  pub known : (y : ℕ) → IsTrue (holds lefts y) → y < length events
+  pub known : (y : ℕ) → IsTrue (has lefts y) → y < length events
   pub lines : length firsts ≡ instances
   pub fronts : (i : ℕ) → i < instances → IsFront events lefts i (get_or firsts i 0)
-  pub outputs : (y : ℕ) → IsTrue (holds opens y) ↔ IsOpen events lefts y
+  pub outputs : (y : ℕ) → IsTrue (has opens y) ↔ IsOpenOutput events lefts y
 
 -- f is the first event of line i from start on, or the number of events
 pub record IsLowest (events : List ChartEvent) (start i f : ℕ) : Type 0 where
@@ -38,33 +39,33 @@ pub record IsLowest (events : List ChartEvent) (start i f : ℕ) : Type 0 where
 pub record AreLinesFrom (instances : ℕ) (events : List ChartEvent) (lefts firsts opens : List ℕ) (start : ℕ) : Type 0 where
   pub left_row : IsRow (length events) lefts
   pub outputs_row : IsRow (length events) opens
-  pub left : (y : ℕ) → IsTrue (holds lefts y) ↔ ((start ≤ y) × (y < length events))
+  pub left : (y : ℕ) → IsTrue (has lefts y) ↔ ((start ≤ y) × (y < length events))
   pub lines : length firsts ≡ instances
   pub fronts : (i : ℕ) → i < instances → IsLowest events start i (get_or firsts i 0)
-  pub outputs : (y : ℕ) → holds opens y ≡ false
+  pub outputs : (y : ℕ) → has opens y ≡ false
 
 -- all events are left, and what is open below k is told
 pub record AreLinesTo (instances : ℕ) (events : List ChartEvent) (lefts firsts opens : List ℕ) (k : ℕ) : Type 0 where
   pub left_row : IsRow (length events) lefts
   pub outputs_row : IsRow (length events) opens
-  pub left : (y : ℕ) → IsTrue (holds lefts y) ↔ (y < length events)
+  pub left : (y : ℕ) → IsTrue (has lefts y) ↔ (y < length events)
   pub lines : length firsts ≡ instances
   pub fronts : (i : ℕ) → i < instances → IsLowest events 0 i (get_or firsts i 0)
-  pub outputs : (y : ℕ) → IsTrue (holds opens y) ↔ (IsOpen events lefts y × (y < k))
+  pub outputs : (y : ℕ) → IsTrue (has opens y) ↔ (IsOpenOutput events lefts y × (y < k))
 
 -- an output that is left in the segment of f, from f on and before end
 pub record IsOpened (events : List ChartEvent) (left : List ℕ) (f end s : ℕ) : Type 0 where
   pub later : f ≤ s
   pub within : s < end
   pub output : IsTrue (is_output events s)
-  pub remains : IsTrue (holds left s)
+  pub remains : IsTrue (has left s)
 
 -- f is the first number from start on that is left or not on line i
 pub record IsNextLeft (events : List ChartEvent) (left : List ℕ) (i start f : ℕ) : Type 0 where
   pub later : start ≤ f
   pub within : f ≤ length events
-  pub between : (y : ℕ) → start ≤ y → y < f → (line events y ≡ i) × (holds left y ≡ false)
-  pub itself : f < length events → line events f ≡ i → IsTrue (holds left f)
+  pub between : (y : ℕ) → start ≤ y → y < f → (line events y ≡ i) × (has left y ≡ false)
+  pub itself : f < length events → line events f ≡ i → IsTrue (has left f)
 
 -- the lines of a chart, as the code holds them
 abbrev pub HoldsLines : Drawing → Lines → Type 0

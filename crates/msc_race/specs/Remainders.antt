@@ -4,12 +4,13 @@ use Rattle.msc_chart.specs.Orders.{WiredChart, queue}
 use Rattle.msc_chart.specs.Chosen.{IsFree, IsHeld, IsPassedOn}
 use Rattle.msc_race.specs.declared.choosing.Choice.{Choice}
 use Rattle.msc_race.specs.declared.remaining.Remaining.{Remaining}
-use Rattle.msc_race.specs.Bits.{holds, IsFirstWord, IsRow, IsWithout}
-use Rattle.msc_race.specs.Choices.{chart_of}
+use Rattle.bit_rows.specs.Rows.{has, IsFirstWord, IsWithout}
+use Rattle.msc_race.specs.Rows.{IsRow}
+use Rattle.msc_race.specs.Choices.{wired_chart}
 
 -- the row holds the numbers below k with a property
 abbrev pub HoldsBelow : List ℕ → (ℕ → Type 0) → ℕ → Type 0
-HoldsBelow row P k = (y : ℕ) → IsTrue (holds row y) ↔ (P y × (y < k))
+HoldsBelow row P k = (y : ℕ) → IsTrue (has row y) ↔ (P y × (y < k))
 
 -- a free event that is not held
 abbrev pub IsUnheld : WiredChart → ℕ → ℕ → Type 0
@@ -22,9 +23,9 @@ IsPassedOnWith chart e x = IsPassedOn chart e x × (queue chart x ≡ queue char
 -- The rows hold, of the events below k, those that are free, those that are not held, and those that
 -- are passed on with e.
 pub record AreBelow (c : Choice) (r : Remaining) (k : ℕ) : Type 0 where
-  pub free : HoldsBelow r.free.items (IsFree (chart_of c) c.e) k
-  pub unheld : HoldsBelow r.unheld.items (IsUnheld (chart_of c) c.e) k
-  pub passed : HoldsBelow r.passed.items (IsPassedOnWith (chart_of c) c.e) k
+  pub free : HoldsBelow r.free.items (IsFree (wired_chart c) c.e) k
+  pub unheld : HoldsBelow r.unheld.items (IsUnheld (wired_chart c) c.e) k
+  pub passed : HoldsBelow r.passed.items (IsPassedOnWith (wired_chart c) c.e) k
 
 -- rows for the numbers below n
 pub record AreRows (n : ℕ) (r : Remaining) : Type 0 where

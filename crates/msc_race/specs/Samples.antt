@@ -2,33 +2,28 @@
 use Rattle.std.specs.Prelude.{ℕ, List, [], ◌∷◌}
 use Rattle.msc_chart.specs.declared.queue.Queues.{Queues}
 use Rattle.msc_chart.specs.declared.queue.Queues.TheVariants.{Mailbox}
-use Rattle.msc_chart.specs.declared.event.EventKind.TheVariants.{Output, Input}
-use Rattle.msc_chart.specs.Drawings.{Drawing, chart_of}
+use Rattle.msc_parser.specs.declared.tree.Item.TheVariants.{Single}
+use Rattle.msc_parser.specs.Grammar.{Tree}
+use Rattle.msc_chart.specs.Drawings.{chart_of}
 use Rattle.msc_chart.specs.Orders.{WiredChart, wired}
 use Rattle.msc_chart.specs.Runs.{Run, IsWhole, Reverses}
-use Rattle.msc_chart.specs.Samples.{event, two_senders, coregion, relay, two_mailboxes}
+use Rattle.msc_chart.specs.Samples.{a, b, q, m1, m2, out_to, in_from, instance_of, draft_of, two_senders, coregion, relay, two_mailboxes}
 
 -- a: out m1, out m2; b: in m2, in m1
-abbrev pub overtaking : Drawing
-overtaking = record {
-  name = [];
-  instances = [] ∷ [] ∷ [];
-  events =
-      event 0 0 Output 3 0 ∷ event 0 1 Output 2 1
-      ∷ event 1 0 Input 1 1 ∷ event 1 1 Input 0 0 ∷ [];
-  messages = [];
-}
+abbrev pub overtaking : Tree
+overtaking =
+    draft_of (instance_of a (Single (out_to m1 b) ∷ Single (out_to m2 b) ∷ [])
+    ∷ instance_of b (Single (in_from m2 a) ∷ Single (in_from m1 a) ∷ []) ∷ [])
+
+-- the name of a message, by its letter
+abbrev pub p : List ℕ
+p = 112 ∷ []
 
 -- a: out p, in q; b: out q, in p
-abbrev pub crossing : Drawing
-crossing = record {
-  name = [];
-  instances = [] ∷ [] ∷ [];
-  events =
-      event 0 0 Output 3 0 ∷ event 0 1 Input 2 1
-      ∷ event 1 0 Output 1 1 ∷ event 1 1 Input 0 0 ∷ [];
-  messages = [];
-}
+abbrev pub crossing : Tree
+crossing =
+    draft_of (instance_of a (Single (out_to p b) ∷ Single (in_from q b) ∷ [])
+    ∷ instance_of b (Single (out_to q a) ∷ Single (in_from p a) ∷ []) ∷ [])
 
 -- the charts under an architecture
 abbrev pub senders : Queues → WiredChart
@@ -41,13 +36,13 @@ abbrev pub relayed : Queues → WiredChart
 relayed queues = wired queues (chart_of relay)
 
 abbrev pub overtaken : Queues → WiredChart
-overtaken queues = wired queues overtaking
+overtaken queues = wired queues (chart_of overtaking)
 
 abbrev pub crossed : Queues → WiredChart
-crossed queues = wired queues crossing
+crossed queues = wired queues (chart_of crossing)
 
 abbrev pub mailboxes : WiredChart
-mailboxes = wired Mailbox two_mailboxes
+mailboxes = wired Mailbox (chart_of two_mailboxes)
 
 -- a whole run that reverses (e, f)
 pub record IsReversal (chart : WiredChart) (events : List ℕ) (e f : ℕ) : Type 0 where
@@ -57,5 +52,5 @@ pub record IsReversal (chart : WiredChart) (events : List ℕ) (e f : ℕ) : Typ
 
 -- no run reverses both pairs
 abbrev pub NoRunReversesBoth : WiredChart → (ℕ × ℕ) → (ℕ × ℕ) → Type 0
-NoRunReversesBoth chart p q =
-    (events : List ℕ) → Run chart events → Reverses events p.0 p.1 → Reverses events q.0 q.1 → ⊥
+NoRunReversesBoth chart pair other =
+    (events : List ℕ) → Run chart events → Reverses events pair.0 pair.1 → Reverses events other.0 other.1 → ⊥

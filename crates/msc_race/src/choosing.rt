@@ -1,81 +1,28 @@
 //! What a chosen run is made from, and what each event is in it.
 
-ghost use Rattle.std.specs.Prelude.{◌≡◌, ℕ, ◌<◌, IsTrue, ◌↔◌};
-ghost use Rattle.msc_chart.specs.Charts.{is_output, partner};
-ghost use Rattle.msc_chart.specs.Orders.{queue};
+ghost use Rattle.std.specs.Prelude.{◌<◌, IsTrue, ◌↔◌};
 ghost use Rattle.msc_chart.specs.Chosen.{IsFree, IsHeld, IsPassedOn};
-ghost use Rattle.msc_race.specs.Choices.{chart_of, size, IsSettled};
+ghost use Rattle.msc_race.specs.Choices.{wired_chart, size, IsSettled};
 ghost use Rattle.msc_race.specs.Remainders.{IsPassedOnWith, IsUnheld};
 
-use msc_chart::laws::events_have_queues;
-use msc_chart::{Chart, Event, EventKind, Queues};
+use msc_chart::{Event, Wiring};
 use msc_order::Order;
 
 /// What the chosen run of an event is made from: a chart under an architecture, its enforced order,
 /// and the event.
 #[derive(Clone, Copy)]
 pub struct Choice<'a> {
-    pub chart: &'a Chart,
-    pub queues: Queues,
+    pub wiring: Wiring<'a>,
     pub order: &'a Order,
     pub e: Event,
 }
 
 impl Choice<'_> {
-    /// Whether `x` is an output.
-    pub fn is_output(&self, x: Event) -> bool
-        requires { x < size self.now }
-        ensures { result ≡ is_output self.now.chart.now.events x }
-    {
-        match self.chart.kind(x) {
-            EventKind::Output => true,
-            EventKind::Input => false,
-        }
-    }
-
-    /// The event at the other end of the message of `x`.
-    pub fn partner(&self, x: Event) -> Event
-        requires settled { IsSettled self.now }
-        requires known { x < size self.now }
-        ensures value { result ≡ partner self.now.chart.now.events x }
-        ensures known { result < size self.now }
-    {
-        match self.chart.partner(x) {
-            Some(other) => other,
-            None => x,
-        }
-    }
-
-    /// The queue of the message of `x`.
-    pub fn queue(&self, x: Event) -> u32
-        requires settled { IsSettled self.now }
-        requires known { x < size self.now }
-        ensures { result ≡ queue (chart_of self.now) x }
-    {
-        events_have_queues();
-        match self.chart.message(x) {
-            Some(message) => self.chart.queue(message, self.queues),
-            None => 0,
-        }
-    }
-
-    /// A number past all queue numbers.
-    pub fn queue_count(&self) -> u32
-        requires { IsSettled self.now }
-        ensures { (x : ℕ) → x < size self.now → queue (chart_of self.now) x < result }
-    {
-        let instances = self.chart.instances();
-        match self.queues {
-            Queues::Pair => instances * instances,
-            Queues::Mailbox => instances,
-        }
-    }
-
     /// Whether `x` is free of `e`: another event, and not enforced after it.
     pub fn is_free(&self, x: Event) -> bool
         requires settled { IsSettled self.now }
         requires known { x < size self.now }
-        ensures { IsTrue result ↔ IsFree (chart_of self.now) self.now.e x }
+        ensures { IsTrue result ↔ IsFree (wired_chart self.now) self.now.e x }
     {
         if x == self.e {
             return false;
@@ -86,28 +33,28 @@ impl Choice<'_> {
     /// Whether a free event is a held output: one whose input is not free.
     pub fn is_held(&self, x: Event) -> bool
         requires settled { IsSettled self.now }
-        requires free { IsFree (chart_of self.now) self.now.e x }
-        ensures { IsTrue result ↔ IsHeld (chart_of self.now) self.now.e x }
+        requires free { IsFree (wired_chart self.now) self.now.e x }
+        ensures { IsTrue result ↔ IsHeld (wired_chart self.now) self.now.e x }
     {
-        let passed = self.is_free(self.partner(x));
-        self.is_output(x) && !passed
+        let passed = self.is_free(self.wiring.chart.other_end(x));
+        self.wiring.chart.is_output(x) && !passed
     }
 
     /// Whether `t` is an output that is passed on: a free one whose input is free.
     pub fn is_passed_on(&self, t: Event) -> bool
         requires settled { IsSettled self.now }
         requires known { t < size self.now }
-        ensures { IsTrue result ↔ IsPassedOn (chart_of self.now) self.now.e t }
+        ensures { IsTrue result ↔ IsPassedOn (wired_chart self.now) self.now.e t }
     {
-        let passed = self.is_free(self.partner(t));
-        self.is_output(t) && self.is_free(t) && passed
+        let passed = self.is_free(self.wiring.chart.other_end(t));
+        self.wiring.chart.is_output(t) && self.is_free(t) && passed
     }
 
     /// Whether `x` is free, and not a held output.
     pub fn is_unheld(&self, x: Event) -> bool
         requires settled { IsSettled self.now }
         requires known { x < size self.now }
-        ensures { IsTrue result ↔ IsUnheld (chart_of self.now) self.now.e x }
+        ensures { IsTrue result ↔ IsUnheld (wired_chart self.now) self.now.e x }
     {
         if !self.is_free(x) {
             return false;
@@ -119,11 +66,11 @@ impl Choice<'_> {
     pub fn is_passed_on_with(&self, x: Event) -> bool
         requires settled { IsSettled self.now }
         requires known { x < size self.now }
-        ensures { IsTrue result ↔ IsPassedOnWith (chart_of self.now) self.now.e x }
+        ensures { IsTrue result ↔ IsPassedOnWith (wired_chart self.now) self.now.e x }
     {
         if !self.is_passed_on(x) {
             return false;
         }
-        self.queue(x) == self.queue(self.e)
+        self.wiring.queue(x) == self.wiring.queue(self.e)
     }
 }

@@ -7,15 +7,15 @@
 //! project's own. Events are numbered from 0, over all lines.
 #![tactic(auto)]
 
-mod bits;
-mod channels;
+mod beginning;
 mod choosing;
-mod frontier;
 pub mod laws;
 mod lines;
+mod queued_run;
 mod racing;
 mod remaining;
 mod reversing;
+mod rows;
 mod verdict;
 
 pub use racing::{check, check_order, races};

@@ -2,13 +2,15 @@
 
 ghost use Rattle.std.specs.Prelude.{◌≡◌, ℕ, ◌+◌, ◌<◌, ◌≤◌, ◌↔◌, ◌⊎◌, false, length, IfOk, IsTrue};
 ghost use Rattle.msc_chart.specs.Charts.{before, is_output, line};
-ghost use Rattle.msc_race.specs.Bits.{holds, IsRow, IsWithout};
+ghost use Rattle.bit_rows.specs.Rows.{has, IsWithout};
+ghost use Rattle.msc_race.specs.Rows.{IsRow};
 ghost use Rattle.msc_race.specs.Choices.{size, IsSettled};
 ghost use Rattle.msc_race.specs.Fronts.{HoldsLines, HoldsLinesFrom, HoldsLinesTo, IsNextLeft};
 ghost use Rattle.msc_race.specs.Fronts.{IsOpened};
 
-use crate::bits::{blank, clear, has, put_where};
 use crate::choosing::Choice;
+use crate::rows::blank;
+use bit_rows::row::{clear, has, put_where};
 use msc_chart::Event;
 use std::alloc::{AllocError, Global};
 
@@ -23,23 +25,23 @@ pub struct Lines {
 
 /// Whether event `f` is there, and on line `i`.
 fn is_on(choice: &Choice, f: Event, i: u32) -> bool
-    ensures { IsTrue result ↔ ((f < size choice.now) × (line choice.now.chart.now.events f ≡ i)) }
+    ensures { IsTrue result ↔ ((f < size choice.now) × (line choice.now.wiring.chart.now.events f ≡ i)) }
 {
-    if f >= choice.chart.events() {
+    if f >= choice.wiring.chart.events() {
         return false;
     }
-    choice.chart.instance_of(f) == i
+    choice.wiring.chart.instance_of(f) == i
 }
 
 /// The first number from `start` on that is left or not on line `i`.
 fn next_left(choice: &Choice, left: &[u64], i: u32, start: Event) -> Event
     requires row { IsRow (size choice.now) left.now }
     requires within { start ≤ size choice.now }
-    ensures { IsNextLeft choice.now.chart.now.events left.now i start result }
+    ensures { IsNextLeft choice.now.wiring.chart.now.events left.now i start result }
 {
-    let events = choice.chart.events();
+    let events = choice.wiring.chart.events();
     for f in start..events {
-        if choice.chart.instance_of(f) != i {
+        if choice.wiring.chart.instance_of(f) != i {
             return f;
         }
         if has(left, f) {
@@ -55,11 +57,11 @@ fn open_outputs(row: &mut [u64], choice: &Choice, left: &[u64], f: Event, end: E
     requires left_row { IsRow (size choice.now) left.now }
     requires within { end ≤ size choice.now }
     requires later { f ≤ end }
-    ensures { (y : ℕ) → IsTrue (holds row.new y)
-        ↔ (IsTrue (holds row.old y) ⊎ IsOpened choice.now.chart.now.events left.now f end y) }
+    ensures { (y : ℕ) → IsTrue (has row.new y)
+        ↔ (IsTrue (has row.old y) ⊎ IsOpened choice.now.wiring.chart.now.events left.now f end y) }
 {
     for y in f..end {
-        put_where(row, y, choice.is_output(y) && has(left, y));
+        put_where(row, y, choice.wiring.chart.is_output(y) && has(left, y));
     }
 }
 
@@ -68,25 +70,25 @@ fn is_first(choice: &Choice, front: Event, x: Event) -> bool
     requires front { front < size choice.now }
     requires known { x < size choice.now }
     ensures { IsTrue result
-        ↔ (IsTrue (is_output choice.now.chart.now.events x)
-        × (before choice.now.chart.now.events front x ≡ false)) }
+        ↔ (IsTrue (is_output choice.now.wiring.chart.now.events x)
+        × (before choice.now.wiring.chart.now.events front x ≡ false)) }
 {
-    if !choice.is_output(x) {
+    if !choice.wiring.chart.is_output(x) {
         return false;
     }
-    !choice.chart.before(front, x)
+    !choice.wiring.chart.before(front, x)
 }
 
 impl Lines {
     /// Lines of which nothing is told yet.
     fn blank(alloc: Global, choice: &Choice) -> Result<Lines, AllocError>
         requires { IsSettled choice.now }
-        ensures { IfOk result (λ l. HoldsLinesFrom choice.now.chart.now l (size choice.now)) }
+        ensures { IfOk result (λ l. HoldsLinesFrom choice.now.wiring.chart.now l (size choice.now)) }
     {
-        let events = choice.chart.events();
+        let events = choice.wiring.chart.events();
         Ok(Lines {
             left: blank(alloc, events)?,
-            fronts: vec![in alloc; events; choice.chart.instances() as usize]?,
+            fronts: vec![in alloc; events; choice.wiring.chart.instances() as usize]?,
             outputs: blank(alloc, events)?,
         })
     }
@@ -95,32 +97,32 @@ impl Lines {
     fn add(&mut self, choice: &Choice, x: Event)
         requires settled { IsSettled choice.now }
         requires known { x < size choice.now }
-        requires later { HoldsLinesFrom choice.now.chart.now self.old (x + 1) }
-        ensures { HoldsLinesFrom choice.now.chart.now self.new x }
+        requires later { HoldsLinesFrom choice.now.wiring.chart.now self.old (x + 1) }
+        ensures { HoldsLinesFrom choice.now.wiring.chart.now self.new x }
     {
         put_where(&mut self.left, x, true);
-        self.fronts[choice.chart.instance_of(x) as usize] = x;
+        self.fronts[choice.wiring.chart.instance_of(x) as usize] = x;
     }
 
     /// Opens `x`, where it is an output and nothing is drawn before it.
     fn open_first(&mut self, choice: &Choice, x: Event)
         requires settled { IsSettled choice.now }
         requires known { x < size choice.now }
-        requires lines { HoldsLinesTo choice.now.chart.now self.old x }
-        ensures { HoldsLinesTo choice.now.chart.now self.new (x + 1) }
+        requires lines { HoldsLinesTo choice.now.wiring.chart.now self.old x }
+        ensures { HoldsLinesTo choice.now.wiring.chart.now self.new (x + 1) }
     {
-        let front = self.fronts[choice.chart.instance_of(x) as usize];
+        let front = self.fronts[choice.wiring.chart.instance_of(x) as usize];
         put_where(&mut self.outputs, x, is_first(choice, front, x));
     }
 
     /// The lines before any event has occurred.
     pub fn start(alloc: Global, choice: &Choice) -> Result<Lines, AllocError>
         requires { IsSettled choice.now }
-        ensures kept { IfOk result (λ l. HoldsLines choice.now.chart.now l) }
+        ensures kept { IfOk result (λ l. HoldsLines choice.now.wiring.chart.now l) }
         ensures left { IfOk result
-            (λ l. (y : ℕ) → IsTrue (holds l.left.items y) ↔ (y < size choice.now)) }
+            (λ l. (y : ℕ) → IsTrue (has l.left.items y) ↔ (y < size choice.now)) }
     {
-        let events = choice.chart.events();
+        let events = choice.wiring.chart.events();
         let mut lines = Lines::blank(alloc, choice)?;
         for k in 0..events {
             lines.add(choice, events - 1 - k);
@@ -135,11 +137,11 @@ impl Lines {
     pub fn occur(&mut self, choice: &Choice, x: Event)
         requires settled { IsSettled choice.now }
         requires known { x < size choice.now }
-        requires kept { HoldsLines choice.now.chart.now self.old }
-        ensures kept { HoldsLines choice.now.chart.now self.new }
+        requires kept { HoldsLines choice.now.wiring.chart.now self.old }
+        ensures kept { HoldsLines choice.now.wiring.chart.now self.new }
         ensures without { IsWithout self.old.left.items self.new.left.items x }
     {
-        let i = choice.chart.instance_of(x);
+        let i = choice.wiring.chart.instance_of(x);
         let start = self.fronts[i as usize];
         clear(&mut self.left, x);
         clear(&mut self.outputs, x);
@@ -148,8 +150,8 @@ impl Lines {
         if !is_on(choice, front, i) {
             return;
         }
-        if choice.chart.before(start, front) {
-            let end = choice.chart.segment_end(front);
+        if choice.wiring.chart.before(start, front) {
+            let end = choice.wiring.chart.segment_end(front);
             open_outputs(&mut self.outputs, choice, &self.left, front, end);
         }
     }

@@ -6,12 +6,13 @@
 
 ghost use Rattle.std.specs.Prelude.{◌≡◌, ℕ, ◌+◌, ◌*◌, ◌/◌, ◌%◌, ◌<◌, ◌≤◌, ◌++◌, ◌&&◌, not, nat_le};
 ghost use Rattle.std.specs.Prelude.{nat_lt, length, IfOk, OnOk};
+ghost use Rattle.msc_chart.specs.Lists.{pairs_to};
 ghost use Rattle.msc_chart.specs.Charts.{IsLineEnd, IsSegmentEnd};
-ghost use Rattle.msc_chart.specs.declared.queue.Queues.{Queues};
 ghost use Rattle.msc_chart.specs.Orders.{wired, IsEnforcedOrder};
-ghost use Rattle.msc_order.specs.Tables.{bit_of, orders};
-ghost use Rattle.msc_race.specs.Races.{all_races, is_gap, is_in_word, pairs_to, IsVerdict};
-ghost use Rattle.msc_race.specs.Races.{TellsRuns};
+ghost use Rattle.bit_rows.specs.Rows.{bit_of};
+ghost use Rattle.msc_order.specs.Tables.{orders};
+ghost use Rattle.msc_race.specs.Gaps.{is_gap, is_in_word};
+ghost use Rattle.msc_race.specs.Races.{all_races, IsVerdict, TellsRuns};
 
 use crate::laws::races_are_what_runs_reverse;
 use crate::verdict::Verdict;
@@ -110,19 +111,21 @@ pub fn races(alloc: Global, chart: &Chart, order: &Order) -> Result<Vec<(Event, 
     Ok(list)
 }
 
-/// The verdict on a chart under each architecture of which `order` is the enforced order: as
-/// [`check`], for a caller that has made the order. An error is a growth of memory that was refused.
-pub fn check_order(alloc: Global, chart: &Chart, order: &Order) -> Result<Verdict, AllocError>
-    requires events { length order.now ≡ length chart.now.events }
-    ensures verdict { IfOk result (λ v. (queues : Queues)
-        → IsEnforcedOrder (wired queues chart.now) (orders order.now)
-        → IsVerdict (wired queues chart.now) v) }
-    ensures runs { IfOk result (λ v. (queues : Queues)
-        → IsEnforcedOrder (wired queues chart.now) (orders order.now)
-        → TellsRuns (wired queues chart.now) v) }
+/// As [`check`], for a caller that has made the enforced order. An error is a growth of memory that
+/// was refused.
+pub fn check_order(
+    alloc: Global,
+    chart: &Chart,
+    queues: Queues,
+    order: &Order,
+) -> Result<Verdict, AllocError>
+    requires enforced { IsEnforcedOrder (wired queues chart.now) (orders order.now) }
+    requires square { length order.now ≡ length chart.now.events }
+    ensures verdict { IfOk result (IsVerdict (wired queues chart.now)) }
+    ensures runs { IfOk result (TellsRuns (wired queues chart.now)) }
 {
     races_are_what_runs_reverse();
-    let _accepted = chart.events();
+    chart.accepted();
     let list = races(alloc, chart, order)?;
     if list.is_empty() {
         return Ok(Verdict::Pass);
@@ -137,5 +140,6 @@ pub fn check(alloc: Global, chart: &Chart, queues: Queues) -> Result<Verdict, Al
     ensures verdict { IfOk result (IsVerdict (wired queues chart.now)) }
     ensures runs { IfOk result (TellsRuns (wired queues chart.now)) }
 {
-    check_order(alloc, chart, &Order::enforced(alloc, chart, queues)?)
+    let order = Order::enforced(alloc, chart, queues)?;
+    check_order(alloc, chart, queues, &order)
 }

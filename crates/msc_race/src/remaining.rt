@@ -2,11 +2,12 @@
 
 ghost use Rattle.std.specs.Prelude.{◌≡◌, ℕ, ◌+◌, ◌<◌, ◌≤◌, ◌↔◌, IfOk, IsTrue};
 ghost use Rattle.msc_race.specs.Choices.{size, IsSettled};
-ghost use Rattle.msc_race.specs.Bits.{holds};
+ghost use Rattle.bit_rows.specs.Rows.{has};
 ghost use Rattle.msc_race.specs.Remainders.{AreBelow, AreRows, AreWithout, HasFirstWords};
 
-use crate::bits::{blank, clear, first_word, put_where};
 use crate::choosing::Choice;
+use crate::rows::blank;
+use bit_rows::row::{clear, first_word, put_where};
 use msc_chart::Event;
 use std::alloc::{AllocError, Global};
 
@@ -29,7 +30,7 @@ impl Remaining {
         ensures rows { IfOk result (λ r. AreRows (size choice.now) r) }
         ensures below { IfOk result (λ r. AreBelow choice.now r 0) }
     {
-        let events = choice.chart.events();
+        let events = choice.wiring.chart.events();
         Ok(Remaining {
             free: blank(alloc, events)?,
             unheld: blank(alloc, events)?,
@@ -61,7 +62,7 @@ impl Remaining {
         ensures first { IfOk result HasFirstWords }
     {
         let mut rows = Remaining::blank(alloc, choice)?;
-        for x in 0..choice.chart.events() {
+        for x in 0..choice.wiring.chart.events() {
             rows.add(choice, x);
         }
         rows.free_from = first_word(&rows.free, 0);
@@ -78,7 +79,7 @@ impl Remaining {
         ensures without { AreWithout self.old self.new x }
         ensures first { HasFirstWords self.new }
     {
-        let _events = choice.chart.events();
+        choice.wiring.chart.accepted();
         clear(&mut self.free, x);
         clear(&mut self.unheld, x);
         clear(&mut self.passed, x);
@@ -89,7 +90,7 @@ impl Remaining {
     /// Whether a free event is left.
     pub fn has_free(&self) -> bool
         requires { HasFirstWords self.now }
-        ensures { IsTrue result ↔ ((y : ℕ) × IsTrue (holds self.now.free.items y)) }
+        ensures { IsTrue result ↔ ((y : ℕ) × IsTrue (has self.now.free.items y)) }
     {
         self.free_from < self.free.len()
     }
@@ -97,7 +98,7 @@ impl Remaining {
     /// Whether an output to the queue of `e` that is passed on is left.
     pub fn has_passed(&self) -> bool
         requires { HasFirstWords self.now }
-        ensures { IsTrue result ↔ ((y : ℕ) × IsTrue (holds self.now.passed.items y)) }
+        ensures { IsTrue result ↔ ((y : ℕ) × IsTrue (has self.now.passed.items y)) }
     {
         self.passed_from < self.passed.len()
     }

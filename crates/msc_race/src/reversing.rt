@@ -7,10 +7,10 @@ ghost use Rattle.msc_chart.specs.Runs.{Run, IsWhole, Reverses};
 ghost use Rattle.msc_chart.specs.Chosen.{IsChosenRun};
 ghost use Rattle.msc_order.specs.Tables.{orders};
 
+use crate::beginning::Beginning;
 use crate::choosing::Choice;
-use crate::frontier::Frontier;
 use crate::laws::the_chosen_run_reverses;
-use msc_chart::{Chart, Event, Queues};
+use msc_chart::{Chart, Event, Queues, Wiring};
 use msc_order::Order;
 use std::alloc::{AllocError, Global};
 
@@ -30,18 +30,14 @@ pub fn chosen_run(
     requires known { e < length chart.now.events }
     ensures { IfOk result (λ events. IsChosenRun (wired queues chart.now) e events.items) }
 {
-    let _accepted = chart.events();
-    let choice = Choice {
-        chart,
-        queues,
-        order,
-        e,
-    };
-    let mut frontier = Frontier::start(alloc, &choice)?;
-    while let Some(x) = frontier.next(&choice) {
-        frontier.occur(&choice, x)?;
+    chart.accepted();
+    let wiring = Wiring { chart, queues };
+    let choice = Choice { wiring, order, e };
+    let mut beginning = Beginning::start(alloc, &choice)?;
+    while let Some(x) = beginning.next(&choice) {
+        beginning.occur(&choice, x)?;
     }
-    Ok(frontier.into_run())
+    Ok(beginning.into_run())
 }
 
 /// A whole run with event `f` before event `e`, where the enforced order does not put `e` before

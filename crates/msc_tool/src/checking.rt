@@ -91,7 +91,7 @@ pub fn check_text<W: Write>(
     let draft = parse(alloc, text)?;
     let chart = Chart::build(alloc, &draft)?;
     let order = Order::enforced(alloc, &chart, queues)?;
-    let verdict = check_order(alloc, &chart, &order)?;
+    let verdict = check_order(alloc, &chart, queues, &order)?;
     write_checked(alloc, writer, &chart, queues, &order, &verdict, show)
 }
 

@@ -1,6 +1,6 @@
 use Rattle.msc_chart.specs.Orders.{wired}
-use Rattle.msc_race.proofs.ChosenRuns.{chosen_run}
-use Rattle.msc_race.proofs.ChosenExists.{chosen_goes_on}
+use Rattle.msc_race.proofs.Runs.ChosenRuns.{chosen_run}
+use Rattle.msc_race.proofs.Runs.ChosenExists.{chosen_goes_on}
 use Rattle.msc_race.proofs.laws.a_chosen_run_goes_on.Goals as goal
 
 pub returns : goal.returns

@@ -1,5 +1,5 @@
 use Rattle.msc_chart.specs.Orders.{wired}
-use Rattle.msc_race.proofs.Respects.{kept}
+use Rattle.msc_race.proofs.Runs.Respects.{kept}
 use Rattle.msc_race.proofs.laws.every_run_keeps_the_enforced_order.Goals as goal
 
 pub returns : goal.returns

@@ -1,7 +1,7 @@
 use Rattle.msc_chart.specs.Orders.{wired}
 use Rattle.msc_chart.specs.Runs.{MayCome}
 use Rattle.msc_race.proofs.Shared.{Steps-push}
-use Rattle.msc_race.proofs.WholeRuns.{never_stuck, whole_after}
+use Rattle.msc_race.proofs.Runs.WholeRuns.{never_stuck, whole_after}
 use Rattle.msc_race.proofs.laws.no_run_is_stuck.Goals as goal
 
 pub returns : goal.returns

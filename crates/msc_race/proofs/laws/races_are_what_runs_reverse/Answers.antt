@@ -1,5 +1,5 @@
 use Rattle.msc_chart.specs.Orders.{wired}
-use Rattle.msc_race.proofs.RaceLaws.{race_exactly, no_race_exactly}
+use Rattle.msc_race.proofs.Runs.RaceLaws.{race_exactly, no_race_exactly}
 use Rattle.msc_race.proofs.laws.races_are_what_runs_reverse.Goals as goal
 
 pub returns : goal.returns

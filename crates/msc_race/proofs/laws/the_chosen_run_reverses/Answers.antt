@@ -1,6 +1,6 @@
 use Rattle.msc_chart.specs.Orders.{wired}
-use Rattle.msc_race.proofs.ChosenRuns.{chosen_unique, chosen_whole, chosen_reverses, chosen_before, chosen_reverses_race}
-use Rattle.msc_race.proofs.ChosenExists.{chosen_exists}
+use Rattle.msc_race.proofs.Runs.ChosenRuns.{chosen_unique, chosen_whole, chosen_reverses, chosen_before, chosen_reverses_race}
+use Rattle.msc_race.proofs.Runs.ChosenExists.{chosen_exists}
 use Rattle.msc_race.proofs.laws.the_chosen_run_reverses.Goals as goal
 
 pub returns : goal.returns

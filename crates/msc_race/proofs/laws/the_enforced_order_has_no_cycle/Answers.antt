@@ -1,5 +1,5 @@
 use Rattle.msc_chart.specs.Orders.{wired}
-use Rattle.msc_race.proofs.WholeRuns.{enforced_acyclic}
+use Rattle.msc_race.proofs.Runs.WholeRuns.{enforced_acyclic}
 use Rattle.msc_race.proofs.laws.the_enforced_order_has_no_cycle.Goals as goal
 
 pub returns : goal.returns

@@ -1,5 +1,5 @@
 use Rattle.msc_chart.specs.Orders.{wired}
-use Rattle.msc_race.proofs.Reversal.{order_exactly}
+use Rattle.msc_race.proofs.Runs.Reversal.{order_exactly}
 use Rattle.msc_race.proofs.laws.the_enforced_order_is_exact.Goals as goal
 
 pub returns : goal.returns

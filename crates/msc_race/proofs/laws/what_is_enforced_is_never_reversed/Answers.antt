@@ -1,5 +1,5 @@
 use Rattle.msc_chart.specs.Orders.{wired}
-use Rattle.msc_race.proofs.Respects.{never_reversed}
+use Rattle.msc_race.proofs.Runs.Respects.{never_reversed}
 use Rattle.msc_race.proofs.laws.what_is_enforced_is_never_reversed.Goals as goal
 
 pub returns : goal.returns

@@ -1,5 +1,5 @@
 use Rattle.msc_chart.specs.Orders.{wired}
-use Rattle.msc_race.proofs.Reversal.{reversed}
+use Rattle.msc_race.proofs.Runs.Reversal.{reversed}
 use Rattle.msc_race.proofs.laws.what_is_not_enforced_is_reversed.Goals as goal
 
 pub returns : goal.returns

@@ -1,4 +1,4 @@
-use Rattle.msc_race.proofs.RaceRows as rows
+use Rattle.msc_race.proofs.Worked.RaceRows as rows
 use Rattle.msc_race.proofs.laws.worked_races.Goals as goal
 
 pub returns : goal.returns

@@ -1,5 +1,5 @@
-use Rattle.msc_race.proofs.OneOrOther.{crossing_one, mailboxes_one}
-use Rattle.msc_race.proofs.RaceRows as rows
+use Rattle.msc_race.proofs.Worked.OneOrOther.{crossing_one, mailboxes_one}
+use Rattle.msc_race.proofs.Worked.RaceRows as rows
 use Rattle.msc_race.proofs.laws.worked_runs.Goals as goal
 
 pub returns : goal.returns

@@ -1,32 +1,48 @@
-use Rattle.std.proofs.Common.{vec_len, ℕ, List, length, sym, ap, ◌∙◌}
+use Rattle.std.proofs.Common.{◌≡◌, ◌≢◌, vec_len, ℕ, Bool, true, false, eqb, List, [], length, sym, ap, ◌∙◌}
 use Rattle.std.proofs.lemmas.Bool.{eq-eqb, eqb-true}
 use Rattle.std.proofs.lemmas.List.{nil_from_length}
 use Rattle.msc_chart.specs.Orders.{wired}
-use Rattle.msc_race.proofs.DrawnPairs.{list_of_races, no_races}
+use Rattle.msc_race.proofs.Listing.DrawnPairs.{list_of_races, no_races}
 use Rattle.msc_race.proofs.Shared.{clash}
 use Rattle.msc_race.proofs.racing.check_order.Goals as goal
 
+-- a list that is empty by its length
+none_in : (pairs : List (ℕ × ℕ)) (n : ℕ) (empty : Bool) → n ≡ length pairs → empty ≡ eqb n 0 → empty ≡ true → pairs ≡ []
+none_in pairs n empty size told is = nil_from_length pairs (sym size ∙ eqb-true n 0 (sym told ∙ is))
+
+-- and one that is not
+some_in : (pairs : List (ℕ × ℕ)) (n : ℕ) (empty : Bool) → n ≡ length pairs → empty ≡ eqb n 0 → empty ≡ false → pairs ≢ []
+some_in pairs n empty size told is none = clash (told ∙ eq-eqb n 0 (size ∙ ap (λ (l : List (ℕ × ℕ)). length l) none)) is
+
 pub returns-then-is_empty-clause-verdict : goal.returns-then-is_empty-clause-verdict
-returns-then-is_empty-clause-verdict c queues enforced =
-    no_races (wired queues c.args.chart.now) _
-    (list_of_races (wired queues c.args.chart.now) _ enforced c.in_ok-list.list.items c.in_ok-list.ensures)
-    (nil_from_length c.in_ok-list.list.items (sym c.in_ok-list.list.ok.0 ∙ eqb-true (vec_len c.in_ok-list.list) 0 (sym c.is_empty.ensures ∙ c.if-is_empty.true)))
+returns-then-is_empty-clause-verdict c =
+    let list = c.in_ok-list.list in
+    no_races (wired c.args.queues c.args.chart.now) list.items
+    (list_of_races (wired c.args.queues c.args.chart.now) _ c.requires.enforced list.items c.in_ok-list.ensures)
+    (none_in list.items (vec_len list) _ list.ok.0 c.is_empty.ensures c.if-is_empty.true)
 
 pub returns-then-is_empty-clause-runs : goal.returns-then-is_empty-clause-runs
-returns-then-is_empty-clause-runs c queues enforced =
-    (c.races_are_what_runs_reverse.ensures.none queues c.args.chart.now c.events-accepted.ensures.accepted).0
-    (no_races (wired queues c.args.chart.now) _
-    (list_of_races (wired queues c.args.chart.now) _ enforced c.in_ok-list.list.items c.in_ok-list.ensures)
-    (nil_from_length c.in_ok-list.list.items (sym c.in_ok-list.list.ok.0 ∙ eqb-true (vec_len c.in_ok-list.list) 0 (sym c.is_empty.ensures ∙ c.if-is_empty.true))))
+returns-then-is_empty-clause-runs c =
+    let list = c.in_ok-list.list in
+    (c.races_are_what_runs_reverse.ensures.none c.args.queues c.args.chart.now c.accepted.ensures).0
+    (no_races (wired c.args.queues c.args.chart.now) list.items
+    (list_of_races (wired c.args.queues c.args.chart.now) _ c.requires.enforced list.items c.in_ok-list.ensures)
+    (none_in list.items (vec_len list) _ list.ok.0 c.is_empty.ensures c.if-is_empty.true))
 
 pub returns-clause-verdict : goal.returns-clause-verdict
-returns-clause-verdict c queues enforced = rw c.from_vec.ensures (
-  list_of_races (wired queues c.args.chart.now) _ enforced c.in_ok-list.list.items c.in_ok-list.ensures,
-  λ none. clash (c.is_empty.ensures ∙ eq-eqb (vec_len c.in_ok-list.list) 0 (c.in_ok-list.list.ok.0 ∙ ap (λ (l : List (ℕ × ℕ)). length l) none)) c.if-is_empty.false,
-)
+returns-clause-verdict c =
+    let list = c.in_ok-list.list in
+    rw c.from_vec.ensures (
+      list_of_races (wired c.args.queues c.args.chart.now) _ c.requires.enforced list.items c.in_ok-list.ensures,
+      some_in list.items (vec_len list) _ list.ok.0 c.is_empty.ensures c.if-is_empty.false,
+    )
 
 pub returns-clause-runs : goal.returns-clause-runs
-returns-clause-runs c queues enforced e f =
-    let races = (list_of_races (wired queues c.args.chart.now) _ enforced c.in_ok-list.list.items c.in_ok-list.ensures).races e f in
-    let runs = c.races_are_what_runs_reverse.ensures.race queues c.args.chart.now c.events-accepted.ensures.accepted e f in
-    rw c.from_vec.ensures (λ reversed. races.0 (runs.1 reversed), λ there. runs.0 (races.1 there))
+returns-clause-runs c =
+    let list = c.in_ok-list.list in
+    let races = list_of_races (wired c.args.queues c.args.chart.now) _ c.requires.enforced list.items c.in_ok-list.ensures in
+    let runs = c.races_are_what_runs_reverse.ensures.race c.args.queues c.args.chart.now c.accepted.ensures in
+    rw c.from_vec.ensures (record {
+      reversed = λ e f. (λ reversed. (races.races e f).0 ((runs e f).1 reversed), λ there. (runs e f).0 ((races.races e f).1 there));
+      some = some_in list.items (vec_len list) _ list.ok.0 c.is_empty.ensures c.if-is_empty.false;
+    })

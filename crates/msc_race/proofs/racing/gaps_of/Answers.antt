@@ -1,4 +1,4 @@
-use Rattle.msc_race.proofs.Gaps.{gap_bits}
+use Rattle.msc_race.proofs.Listing.Gaps.{gap_bits}
 use Rattle.msc_race.proofs.racing.gaps_of.Goals as goal
 
 pub returns : goal.returns

@@ -1,5 +1,6 @@
 use Rattle.std.proofs.Common.{◌≡◌, ◌*◌, ◌++◌, min}
-use Rattle.msc_race.specs.Races.{is_gap, pairs_to}
+use Rattle.msc_chart.specs.Lists.{pairs_to}
+use Rattle.msc_race.specs.Gaps.{is_gap}
 use Rattle.msc_race.proofs.racing.push_gaps.Given as goal
 
 abbrev pub invariant-loop-k : goal.invariant-loop-k

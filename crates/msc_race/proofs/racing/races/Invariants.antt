@@ -1,7 +1,7 @@
 use Rattle.std.proofs.Common.{◌≡◌, ◌<◌, length}
 use Rattle.msc_chart.specs.Charts.{IsLineEnd, IsSegmentEnd}
 use Rattle.msc_race.specs.Races.{is_raced}
-use Rattle.msc_race.proofs.Pairs.{pairs_below}
+use Rattle.msc_race.proofs.Listing.Pairs.{pairs_below}
 use Rattle.msc_race.proofs.racing.races.Given as goal
 
 abbrev pub invariant-loop-e : goal.invariant-loop-e

@@ -22,9 +22,6 @@ returns-in_err-chart-clause-no_chart g c =
     rw (exit.1, exit.2)
     (no_chart c.args.text.now c.in_ok-draft.draft _ (said.accepted, said.only_accepted) c.in_err-chart.ensures.fault)
 
-pub write_checked-requires-clause-verdict : goal.write_checked-requires-clause-verdict
-write_checked-requires-clause-verdict g c = c.in_ok-verdict.ensures.verdict c.args.queues c.in_ok-order.ensures.enforced
-
 pub returns-clause-refused : goal.returns-clause-refused
 returns-clause-refused g c =
     text_stands c.args.text.now _ c.in_ok-draft.ensures.only_fault (writes_no_parse c.write_checked.result _ _ _ c.write_checked.ensures.written.2)
@@ -37,21 +34,19 @@ returns-clause-no_chart g c =
 
 pub returns-clause-begun : goal.returns-clause-begun
 returns-clause-begun g c =
-    let enforced = c.in_ok-order.ensures.enforced in
     let verdict = c.in_ok-verdict.ensures in
     let wrote = c.write_checked.ensures.written in
     begins_verdict _ c.write_checked.result c.args.text.now c.args.queues c.args.show c.in_ok-verdict.verdict _ _ _ wrote.2
     (prints c.args.text.now c.args.queues c.args.show c.in_ok-draft.draft c.in_ok-chart.chart c.in_ok-verdict.verdict _ c.in_ok-draft.ensures.accepted
-    c.in_ok-chart.ensures.faultless c.in_ok-chart.ensures.chart (verdict.verdict c.args.queues enforced) (verdict.runs c.args.queues enforced) wrote.1)
+    c.in_ok-chart.ensures.faultless c.in_ok-chart.ensures.chart verdict.verdict verdict.runs wrote.1)
 
 pub returns-clause-untouched : goal.returns-clause-untouched
 returns-clause-untouched g c = writes_or_fails _ c.write_checked.result _ _ _ c.write_checked.ensures.written.2
 
 pub returns-clause-written : goal.returns-clause-written
 returns-clause-written g c =
-    let enforced = c.in_ok-order.ensures.enforced in
     let verdict = c.in_ok-verdict.ensures in
     let wrote = c.write_checked.ensures.written in
     writes_verdict c.write_checked.result c.args.text.now c.args.queues c.args.show c.in_ok-verdict.verdict _ _ _ wrote.2 c.write_checked.ensures.answered
     (prints c.args.text.now c.args.queues c.args.show c.in_ok-draft.draft c.in_ok-chart.chart c.in_ok-verdict.verdict _ c.in_ok-draft.ensures.accepted
-    c.in_ok-chart.ensures.faultless c.in_ok-chart.ensures.chart (verdict.verdict c.args.queues enforced) (verdict.runs c.args.queues enforced) wrote.1)
+    c.in_ok-chart.ensures.faultless c.in_ok-chart.ensures.chart verdict.verdict verdict.runs wrote.1)

@@ -3,13 +3,13 @@ use Rattle.std.specs.Vec.{with_items}
 use Rattle.std.proofs.lemmas.List.{with_items_is}
 use Rattle.msc_chart.specs.Charts.{line, before}
 use Rattle.msc_race.proofs.Shared.{by_test, clash}
-use Rattle.msc_race.proofs.LinkLemmas.{any_default}
-use Rattle.msc_race.proofs.FrontLemmas.{lines_after, outputs_kept, outputs_opened}
+use Rattle.msc_race.proofs.Making.LinkLemmas.{any_default}
+use Rattle.msc_race.proofs.Making.FrontLemmas.{lines_after, outputs_kept, outputs_opened}
 use Rattle.msc_race.proofs.lines.Lines.occur.Goals as goal
 
 pub returns-then-not-is_on-clause-kept : goal.returns-then-not-is_on-clause-kept
 returns-then-not-is_on-clause-kept c =
-    let d = c.args.choice.now.chart.now in
+    let d = c.args.choice.now.wiring.chart.now in
     let self = c.args.self.now in
     let kept = c.requires.kept in
     let text = c.requires.settled.accepted.in_text_order in
@@ -31,7 +31,7 @@ returns-then-not-is_on-clause-kept c =
 
 pub returns-then-before-clause-kept : goal.returns-then-before-clause-kept
 returns-then-before-clause-kept c =
-    let d = c.args.choice.now.chart.now in
+    let d = c.args.choice.now.wiring.chart.now in
     let self = c.args.self.now in
     let kept = c.requires.kept in
     let text = c.requires.settled.accepted.in_text_order in
@@ -57,7 +57,7 @@ returns-then-before-clause-kept c =
 
 pub returns-else-before-clause-kept : goal.returns-else-before-clause-kept
 returns-else-before-clause-kept c =
-    let d = c.args.choice.now.chart.now in
+    let d = c.args.choice.now.wiring.chart.now in
     let self = c.args.self.now in
     let kept = c.requires.kept in
     let text = c.requires.settled.accepted.in_text_order in

@@ -1,12 +1,12 @@
 use Rattle.std.proofs.Common.{length, get_or, ap, ◌∙◌, arith}
 use Rattle.std.proofs.lemmas.List.{with_items_is}
-use Rattle.msc_race.proofs.LinkLemmas.{any_default}
-use Rattle.msc_race.proofs.StartLemmas.{told_more}
+use Rattle.msc_race.proofs.Making.LinkLemmas.{any_default}
+use Rattle.msc_race.proofs.Making.StartLemmas.{told_more}
 use Rattle.msc_race.proofs.lines.Lines.open_first.Goals as goal
 
 pub returns : goal.returns
 returns c =
-    let d = c.args.choice.now.chart.now in
+    let d = c.args.choice.now.wiring.chart.now in
     let self = c.args.self.now in
     let were = c.requires.lines in
     let accepted = c.requires.settled.accepted in

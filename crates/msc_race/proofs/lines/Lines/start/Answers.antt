@@ -1,6 +1,6 @@
 use Rattle.std.proofs.Common.{◌≡◌, ◌+◌, arith}
 use Rattle.msc_race.specs.Choices.{size}
-use Rattle.msc_race.proofs.StartLemmas.{told_none}
+use Rattle.msc_race.proofs.Making.StartLemmas.{told_none}
 use Rattle.msc_race.proofs.lines.Lines.start.Goals as goal
 
 pub loop-x-init : goal.loop-x-init

@@ -1,6 +1,6 @@
 use Rattle.std.proofs.Common.{◌∙◌}
 use Rattle.std.proofs.lemmas.List.{with_items_is}
-use Rattle.msc_race.proofs.RemainderLemmas.{below_with}
+use Rattle.msc_race.proofs.Making.RemainderLemmas.{below_with}
 use Rattle.msc_race.proofs.remaining.Remaining.add.Goals as goal
 
 pub returns-clause-below : goal.returns-clause-below

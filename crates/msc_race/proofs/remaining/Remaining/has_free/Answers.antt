@@ -1,5 +1,5 @@
 use Rattle.std.proofs.Common.{◌∙◌}
-use Rattle.msc_race.proofs.BitLemmas.{has_number}
+use Rattle.msc_race.proofs.Making.RowLemmas.{has_number}
 use Rattle.msc_race.proofs.remaining.Remaining.has_free.Goals as goal
 
 pub returns : goal.returns

@@ -1,6 +1,6 @@
 use Rattle.std.proofs.Common.{◌≤◌, arith}
 use Rattle.msc_race.specs.Choices.{size}
-use Rattle.msc_race.proofs.RemainderLemmas.{below_all}
+use Rattle.msc_race.proofs.Making.RemainderLemmas.{below_all}
 use Rattle.msc_race.proofs.remaining.Remaining.start.Goals as goal
 
 pub returns-clause-below : goal.returns-clause-below

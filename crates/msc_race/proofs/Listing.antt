@@ -1,0 +1,6 @@
+-- The list of races: pairs, rows of words, and the drawn pairs of a line.
+pub mod Pairs
+pub mod Ascending
+pub mod Words
+pub mod Gaps
+pub mod DrawnPairs

@@ -1,0 +1,14 @@
+-- How a chosen run is made: what the code keeps, step by step.
+pub mod ChoiceLemmas
+pub mod RowLemmas
+pub mod StateLemmas
+pub mod RemainderLemmas
+pub mod FrontLemmas
+pub mod LinkLemmas
+pub mod ArrivedLemmas
+pub mod ComingLemmas
+pub mod SendLemmas
+pub mod TakeLemmas
+pub mod StartLemmas
+pub mod BeginningLemmas
+pub mod NextLemmas

@@ -1,0 +1,31 @@
+-- What the code that looks for the next event of a chosen run needs of lists, charts and runs.
+use Rattle.std.proofs.Common.{◌≡◌, ℕ, ◌<◌, ◌↔◌, List, [], ◌∷◌, ◌++◌, length, refl}
+use Rattle.std.proofs.lemmas.Bool.{lt-ltb}
+use Rattle.msc_chart.specs.declared.event.ChartEvent.{ChartEvent}
+use Rattle.msc_chart.specs.Charts.{kind, sends, is_output}
+use Rattle.msc_chart.specs.Orders.{WiredChart}
+use Rattle.msc_chart.specs.Chosen.{IsChosenNext}
+use Rattle.msc_race.proofs.Shared.{count_below}
+use Rattle.msc_race.proofs.Runs.Inside.{is_left}
+use Rattle.msc_race.proofs.Runs.Growing.{left_less}
+use Rattle.msc_race.proofs.Runs.WholeRuns.{everything}
+use Rattle.msc_race.proofs.Runs.ChosenRuns.{may_of_next}
+
+-- an event of the chart is an output where its kind is
+pub output_is : (events : List ChartEvent) (e : ℕ) → e < length events
+    → sends (kind events e) ≡ is_output events e
+unfolding is_output
+output_is events e h = rw (lt-ltb e (length events) h) refl
+
+-- one equivalence after another
+pub iff_trans : {A B C : Type 0} → A ↔ B → B ↔ C → A ↔ C
+iff_trans f g = (λ a. g.0 (f.0 a), λ c. f.1 (g.1 c))
+
+module _ (chart : WiredChart) (e : ℕ) (past : List ℕ) where
+  module _ (next : List ℕ) (x : ℕ) (chosen : IsChosenNext chart e past x) (same : next ≡ past ++ x ∷ []) where
+    -- a chosen event leaves fewer events
+    pub chosen_less : count_below (is_left everything next) (length chart.events)
+        < count_below (is_left everything past) (length chart.events)
+    chosen_less =
+        let may = may_of_next chart e past x chosen in
+        rw same (left_less everything past (length chart.events) x may.event refl may.new)

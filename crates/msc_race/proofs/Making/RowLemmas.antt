@@ -1,0 +1,77 @@
+-- What the rows of a chosen run hold, word by word.
+use Rattle.std.proofs.Common.{◌≡◌, ℕ, ◌+◌, ◌*◌, ◌/◌, ◌%◌, ◌<◌, ◌≤◌, ◌↔◌, Bool, true, false, ◌&&◌, ◌||◌, inl, inr, ltb, List, length, get_or, sym, ap, ◌∙◌, arith, bit_or, bit_and}
+use Rattle.std.proofs.lemmas.Bool.{lt-ltb, ltb-true, cases_lt}
+use Rattle.std.proofs.Math.Bool.{and-false}
+use Rattle.std.specs.Prelude.{IsTrue}
+use Rattle.bit_rows.specs.Rows.{bit_of, has, word_count, IsFirstWord}
+use Rattle.bit_rows.proofs.Bits.{bit_join, bit_meet, bit_zero, words_enough, words_few}
+use Rattle.bit_rows.proofs.Rows.{has_past}
+use Rattle.msc_chart.specs.Lists.{IsLeast}
+use Rattle.msc_race.specs.Rows.{is_masked, IsRow}
+use Rattle.msc_race.proofs.Shared.{clash}
+
+-- a test of numbers that reads the bits of words
+module _ (p : ℕ → Bool) (word : ℕ → ℕ) (reads : (y : ℕ) → p y ≡ bit_of (word (y / 64)) (y % 64)) (k : ℕ)
+    (none : (y : ℕ) → y < 64 * k → p y ≡ false) where
+  -- where no word below k has a bit, the lowest bit of word k is the least number
+  pub first_number : (y : ℕ) → y / 64 ≡ k → bit_of (word k) (y % 64) ≡ true → ((i : ℕ) → i < y % 64 → bit_of (word k) i ≡ false)
+      → IsLeast (λ z. IsTrue (p z)) y
+  first_number y here there lower = record {
+    itself = reads y ∙ rw here there;
+    none_below = λ z less passes.
+        elim (cases_lt z (64 * k)) [
+          | inl before ↦ clash passes (none z before)
+          | inr after ↦
+              let same : z / 64 ≡ k = omega (arith, after, less, here) in
+              let low : z % 64 < y % 64 = omega (arith, after, less, here) in
+              clash passes (reads z ∙ rw same (lower (z % 64) low))
+        ];
+  }
+
+  -- and where word k is empty too, no number below its end passes
+  pub none_further : word k ≡ 0 → (y : ℕ) → y < 64 * (k + 1) → p y ≡ false
+  none_further empty y below =
+      elim (cases_lt y (64 * k)) [
+        | inl before ↦ none y before
+        | inr after ↦
+            let same : y / 64 ≡ k = omega (arith, after, below) in
+            reads y ∙ rw (same, empty) (bit_zero (y % 64))
+      ]
+
+-- a row has a number where it has a first word
+pub has_number : (row : List ℕ) (k : ℕ) → IsFirstWord row k → IsTrue (ltb k (length row)) ↔ ((y : ℕ) × IsTrue (has row y))
+has_number row k first = (
+  λ within. first.some (ltb-true k (length row) within),
+  λ some. lt-ltb k (length row) (elim (cases_lt k (length row)) [
+    | inl within ↦ within
+    | inr past ↦ clash some.1 (elim (cases_lt some.0 (64 * k)) [
+      | inl below ↦ first.blank some.0 below
+      | inr above ↦ has_past row some.0 (omega (arith, past, above))
+    ])
+  ]),
+)
+
+-- the word of what is picked from three rows
+pub picks_word : (a b mask : List ℕ) (y : ℕ)
+    → is_masked a b mask y ≡ bit_of (bit_and (bit_or (get_or a (y / 64) 0) (get_or b (y / 64) 0)) (get_or mask (y / 64) 0)) (y % 64)
+unfolding is_masked has
+picks_word a b mask y =
+    let joined = bit_join (get_or a (y / 64) 0) (get_or b (y / 64) 0) (y % 64) in
+    sym (bit_meet (bit_or (get_or a (y / 64) 0) (get_or b (y / 64) 0)) (get_or mask (y / 64) 0) (y % 64)
+    ∙ ap (λ c. c && bit_of (get_or mask (y / 64) 0) (y % 64)) joined)
+
+-- nothing is picked that is not in the mask
+pub picks_none : (a b mask : List ℕ) (y : ℕ) → has mask y ≡ false → is_masked a b mask y ≡ false
+unfolding is_masked
+picks_none a b mask y out = rw out (and-false (has a y || has b y))
+
+-- so many words are a row of few numbers
+pub row_from : (n : ℕ) (row : List ℕ) → length row ≡ word_count n → n ≤ 2048 → IsRow n row
+row_from n row size small =
+    let enough = words_enough n in
+    let few = words_few n in
+    record { words = size; room = omega (arith, size, enough); few = omega (arith, size, few, small) }
+
+-- a row of the same length is a row
+pub row_same : (n : ℕ) (old new : List ℕ) → length new ≡ length old → IsRow n old → IsRow n new
+row_same n old new same row = record { words = same ∙ row.words; room = rw same row.room; few = rw same row.few }

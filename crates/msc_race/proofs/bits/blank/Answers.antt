@@ -1,9 +1,0 @@
-use Rattle.msc_race.proofs.BitLemmas.{holds_blank, row_blank}
-use Rattle.msc_race.proofs.ChoiceLemmas.{ok_map}
-use Rattle.msc_race.proofs.bits.blank.Goals as goal
-
-pub returns : goal.returns
-returns c = record {
-  row = ok_map c.zeros.result _ _ (λ row zeros. rw zeros (row_blank c.args.n c.requires)) c.zeros.ensures;
-  blank = ok_map c.zeros.result _ _ (λ row zeros y. rw zeros (holds_blank _ y)) c.zeros.ensures;
-}

@@ -1,6 +1,0 @@
-use Rattle.std.proofs.Common.{◌≡◌, ℕ, ◌*◌, ◌<◌, false}
-use Rattle.msc_race.specs.Bits.{picks}
-use Rattle.msc_race.proofs.bits.lowest.Given as goal
-
-abbrev pub invariant-loop-k : goal.invariant-loop-k
-invariant-loop-k l = (y : ℕ) → y < 64 * l.k → picks l.a l.b l.mask y ≡ false

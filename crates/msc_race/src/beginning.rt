@@ -1,0 +1,85 @@
+//! The beginning of a chosen run, and the event that comes next in it.
+//!
+//! Sets of events are rows of bits, so that the least event of a set is found word by word.
+
+ghost use Rattle.std.specs.Prelude.{◌≡◌, ◌<◌, [], ◌∷◌, ◌++◌, IfOk, IfSome, IfNone, OnOk};
+ghost use Rattle.msc_chart.specs.Runs.{IsWhole};
+ghost use Rattle.msc_chart.specs.Chosen.{IsChosenNext};
+ghost use Rattle.msc_race.specs.Choices.{wired_chart, size, IsSettled};
+ghost use Rattle.msc_race.specs.Beginnings.{IsBeginning, run_of};
+
+use crate::choosing::Choice;
+use crate::laws::{a_chosen_run_goes_on, no_run_is_stuck};
+use crate::lines::Lines;
+use crate::queued_run::QueuedRun;
+use crate::remaining::Remaining;
+use crate::rows::lowest;
+use msc_chart::Event;
+use msc_chart::laws::ends_share_queues;
+use std::alloc::{AllocError, Global};
+
+/// The beginning of a chosen run, and what is known of the events that it has not got.
+#[derive(Drop)]
+pub struct Beginning {
+    pub remaining: Remaining,
+    pub lines: Lines,
+    pub queued: QueuedRun,
+}
+
+impl Beginning {
+    /// The empty beginning.
+    pub fn start(alloc: Global, choice: &Choice) -> Result<Beginning, AllocError>
+        requires { IsSettled choice.now }
+        ensures { IfOk result (λ f. IsBeginning choice.now f) }
+    {
+        Ok(Beginning {
+            remaining: Remaining::start(alloc, choice)?,
+            lines: Lines::start(alloc, choice)?,
+            queued: QueuedRun::start(alloc, choice)?,
+        })
+    }
+
+    /// The events so far.
+    pub fn into_run(self) -> Vec<Event>
+        ensures { result.items ≡ run_of self }
+    {
+        self.queued.into_run()
+    }
+
+    /// The next event of the chosen run, or none where it is whole.
+    pub fn next(&self, choice: &Choice) -> Option<Event>
+        requires settled { IsSettled choice.now }
+        requires kept { IsBeginning choice.now self.now }
+        ensures some { IfSome result
+            (λ x. IsChosenNext (wired_chart choice.now) choice.now.e (run_of self.now) x) }
+        ensures none { IfNone result (IsWhole (wired_chart choice.now) (run_of self.now)) }
+    {
+        a_chosen_run_goes_on();
+        no_run_is_stuck();
+        ends_share_queues();
+        let outputs = &self.lines.outputs;
+        let inputs = &self.queued.inputs;
+        if !self.remaining.has_free() {
+            return lowest(outputs, inputs, &self.lines.left, 0);
+        }
+        let from = self.remaining.free_from;
+        if self.remaining.has_passed() {
+            return lowest(outputs, inputs, &self.remaining.unheld, from);
+        }
+        lowest(outputs, inputs, &self.remaining.free, from)
+    }
+
+    /// `x` comes next.
+    pub fn occur(&mut self, choice: &Choice, x: Event) -> Result<(), AllocError>
+        requires settled { IsSettled choice.now }
+        requires kept { IsBeginning choice.now self.old }
+        requires next { IsChosenNext (wired_chart choice.now) choice.now.e (run_of self.old) x }
+        ensures kept { OnOk result (IsBeginning choice.now self.new) }
+        ensures run { OnOk result (run_of self.new ≡ run_of self.old ++ x ∷ []) }
+    {
+        a_chosen_run_goes_on();
+        self.remaining.occur(choice, x);
+        self.lines.occur(choice, x);
+        self.queued.occur(choice, x)
+    }
+}

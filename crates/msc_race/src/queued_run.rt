@@ -1,0 +1,123 @@
+//! A run, and what is in its queues, so that it is known which inputs may come next.
+
+ghost use Rattle.std.specs.Prelude.{◌≡◌, ℕ, ◌<◌, ◌≤◌, false, [], ◌∷◌, ◌++◌, length, IfOk, OnOk};
+ghost use Rattle.std.specs.Prelude.{IsTrue};
+ghost use Rattle.msc_chart.specs.Charts.{is_output};
+ghost use Rattle.msc_chart.specs.Orders.{queue};
+ghost use Rattle.msc_chart.specs.Runs.{MayCome, Run};
+ghost use Rattle.msc_race.specs.QueuedRuns.{HoldsQueues};
+ghost use Rattle.msc_race.specs.Choices.{wired_chart, size, IsSettled};
+
+use crate::choosing::Choice;
+use crate::rows::blank;
+use bit_rows::row::{clear, put_where};
+use msc_chart::Event;
+use msc_chart::laws::ends_share_queues;
+use std::alloc::{AllocError, Global};
+
+/// A run, and its queues as linked lists: the first and the last output of each queue, and for an
+/// output the next one of its queue. Where a queue is empty, its head is the number of events. Then
+/// the inputs whose messages are the first of their queues.
+#[derive(Drop)]
+pub struct QueuedRun {
+    pub run: Vec<Event>,
+    pub heads: Vec<Event>,
+    pub lasts: Vec<Event>,
+    pub next: Vec<Event>,
+    pub inputs: Vec<u64>,
+}
+
+impl QueuedRun {
+    /// The empty run.
+    pub fn start(alloc: Global, choice: &Choice) -> Result<QueuedRun, AllocError>
+        requires { IsSettled choice.now }
+        ensures queues { IfOk result (λ c. HoldsQueues (wired_chart choice.now) [] c) }
+        ensures run { IfOk result (λ c. c.run.items ≡ []) }
+    {
+        let events = choice.wiring.chart.events();
+        let queues = choice.wiring.queue_count() as usize;
+        Ok(QueuedRun {
+            run: Vec::new(alloc),
+            heads: vec![in alloc; events; queues]?,
+            lasts: vec![in alloc; 0; queues]?,
+            next: vec![in alloc; 0; events as usize]?,
+            inputs: blank(alloc, events)?,
+        })
+    }
+
+    /// The events so far.
+    pub fn into_run(self) -> Vec<Event>
+        ensures { result ≡ self.run }
+    {
+        self.run
+    }
+
+    /// Puts output `x` at the end of its queue.
+    fn send(&mut self, choice: &Choice, x: Event)
+        requires settled { IsSettled choice.now }
+        requires queues { HoldsQueues (wired_chart choice.now) self.old.run.items self.old }
+        requires run { Run (wired_chart choice.now) self.old.run.items }
+        requires may { MayCome (wired_chart choice.now) self.old.run.items x }
+        requires output { IsTrue (is_output choice.now.wiring.chart.now.events x) }
+        ensures queues { HoldsQueues (wired_chart choice.now) (self.old.run.items ++ x ∷ []) self.new }
+        ensures run { self.new.run ≡ self.old.run }
+    {
+        ends_share_queues();
+        let q = choice.wiring.queue(x) as usize;
+        let last = self.lasts[q];
+        self.lasts[q] = x;
+        if self.heads[q] == choice.wiring.chart.events() {
+            self.heads[q] = x;
+            put_where(&mut self.inputs, choice.wiring.chart.other_end(x), true);
+        } else {
+            self.next[last as usize] = x;
+        }
+    }
+
+    /// Takes the message of input `x` out of its queue.
+    fn take(&mut self, choice: &Choice, x: Event)
+        requires settled { IsSettled choice.now }
+        requires queues { HoldsQueues (wired_chart choice.now) self.old.run.items self.old }
+        requires run { Run (wired_chart choice.now) self.old.run.items }
+        requires may { MayCome (wired_chart choice.now) self.old.run.items x }
+        requires input { is_output choice.now.wiring.chart.now.events x ≡ false }
+        ensures queues { HoldsQueues (wired_chart choice.now) (self.old.run.items ++ x ∷ []) self.new }
+        ensures run { self.new.run ≡ self.old.run }
+    {
+        ends_share_queues();
+        let events = choice.wiring.chart.events();
+        let q = choice.wiring.queue(x) as usize;
+        let output = choice.wiring.chart.other_end(x);
+        clear(&mut self.inputs, x);
+        if self.lasts[q] == output {
+            self.heads[q] = events;
+        } else {
+            let following = self.next[output as usize];
+            self.heads[q] = following;
+            put_where(
+                &mut self.inputs,
+                choice.wiring.chart.other_end(following),
+                true,
+            );
+        }
+    }
+
+    /// `x` occurs.
+    pub fn occur(&mut self, choice: &Choice, x: Event) -> Result<(), AllocError>
+        requires settled { IsSettled choice.now }
+        requires queues { HoldsQueues (wired_chart choice.now) self.old.run.items self.old }
+        requires run { Run (wired_chart choice.now) self.old.run.items }
+        requires may { MayCome (wired_chart choice.now) self.old.run.items x }
+        ensures queues { OnOk result
+            (HoldsQueues (wired_chart choice.now) self.new.run.items self.new) }
+        ensures run { OnOk result (self.new.run.items ≡ self.old.run.items ++ x ∷ []) }
+    {
+        if choice.wiring.chart.is_output(x) {
+            self.send(choice, x);
+        } else {
+            self.take(choice, x);
+        }
+        self.run.push(x)?;
+        Ok(())
+    }
+}
