@@ -2,6 +2,7 @@ pub mod Lists
 pub mod Events
 pub mod Charts
 pub mod Drawings
+pub mod Architectures
 pub mod Orders
 pub mod Runs
 pub mod Chosen

@@ -3,3 +3,4 @@ pub mod Refusals
 pub mod Races
 pub mod Shown
 pub mod Answered
+pub mod Inputs

@@ -1,5 +1,5 @@
 -- What checking a text answers.
-use Rattle.std.specs.Prelude.{◌≡◌, ℕ, ◌<◌, Bool, true, false, List, [], ◌++◌, length, take, drop, Option, None, Some, Result, Ok, Err}
+use Rattle.std.specs.Prelude.{◌≡◌, ◌⊎◌, ℕ, IfSome, ◌<◌, Bool, true, false, List, [], ◌++◌, length, take, drop, Option, None, Some, Result, Ok, Err}
 use Rattle.std.specs.List.{flat_map, All}
 use Rattle.std.specs.Io.KnownBytes.{Appends}
 use Rattle.msc_parser.specs.Grammar.{Tree}
@@ -109,3 +109,10 @@ pub record RefusesDraft {A : Type 0} (text : List ℕ) (answer : Result A Fault)
   pub stands : (f : ChartFault) → answer ≡ Err (Chart f) → (draft : Tree) × HasDraft text draft × IsFirstFault draft f
   pub comes : (draft : Tree) → HasDraft text draft → (f : ChartFault) → Stands draft f
       → (fault : Fault) × (answer ≡ Err fault) × IsRefusalOf draft fault
+
+-- a draft of an input whose bytes are told is refused where it is no chart, with its first fault unless
+-- memory runs out or a device fails, and no other is
+pub record RefusesInputDraft {A : Type 0} (input : Option (List ℕ)) (answer : Result A Fault) : Type 0 where
+  pub stands : (f : ChartFault) → answer ≡ Err (Chart f) → IfSome input (λ bytes. (draft : Tree) × HasDraft bytes draft × IsFirstFault draft f)
+  pub comes : (draft : Tree) (f : ChartFault) → IfSome input (λ bytes. HasDraft bytes draft → Stands draft f
+      → ((fault : Fault) × (answer ≡ Err fault) × IsRefusalOf draft fault) ⊎ (answer ≡ Err Device))

@@ -1,6 +1,7 @@
-use Rattle.std.proofs.Common.{inl, inr}
+use Rattle.std.proofs.Common.{inl, inr, sym}
 use Rattle.std.proofs.lemmas.Result.{IfErr-weaker, IfOk-weaker}
 use Rattle.msc_tool.proofs.Answered.{of_input}
+use Rattle.msc_tool.proofs.Inputs.{refuses_input, refuses_input_draft}
 use Rattle.msc_tool.proofs.checking.check_input.Goals as goal
 
 pub returns-clause-written : goal.returns-clause-written
@@ -17,3 +18,11 @@ returns-clause-begun g c =
       | inr wrote ↦ inr (of_input _ (g.R.Read.remaining c.args.reader.now) _ (rw c.as_slice.ensures.value c.in_ok-text.ensures.bytes) wrote.2.draft wrote.2.has wrote)
     ])
     c.check_text.ensures.begun
+
+pub returns-clause-refused : goal.returns-clause-refused
+returns-clause-refused g c =
+    refuses_input c.in_ok-text.text.items (g.R.Read.remaining c.args.reader.now) c.check_text.result c.in_ok-text.ensures.bytes (rw (sym c.as_slice.ensures.value) c.check_text.ensures.refused)
+
+pub returns-clause-no_chart : goal.returns-clause-no_chart
+returns-clause-no_chart g c =
+    refuses_input_draft c.in_ok-text.text.items (g.R.Read.remaining c.args.reader.now) c.check_text.result c.in_ok-text.ensures.bytes (rw (sym c.as_slice.ensures.value) c.check_text.ensures.no_chart)
