@@ -4,8 +4,8 @@ ghost use Rattle.std.specs.Prelude.{◌≡◌, ◌≢◌, ◌⊎◌, ℕ, List, 
 ghost use Rattle.msc_chart.specs.Orders.{wired, IsEnforcedOrder};
 ghost use Rattle.msc_order.specs.Tables.{orders};
 ghost use Rattle.msc_race.specs.Races.{IsVerdict};
-ghost use Rattle.msc_tool.specs.Answers.{RefusesText, RefusesInput};
-ghost use Rattle.msc_tool.specs.Checking.{passes, races_of, BeginsVerdict, PrintsVerdict, RefusesDraft, RefusesInputDraft, Writes, WritesVerdict};
+ghost use Rattle.msc_tool.specs.Answers.{OnRead, RefusesInput, RefusesText};
+ghost use Rattle.msc_tool.specs.Checking.{passes, races_of, BeginsVerdict, ChecksText, PrintsVerdict, RefusesDraft, RefusesInputDraft, Writes, WritesVerdict};
 
 use crate::reading::read_all;
 use crate::showing::write_races;
@@ -110,6 +110,8 @@ pub fn check_input<R: Read, W: Write>(
         WritesVerdict bytes queues show passed (W.contents writer.old) (W.contents writer.new))) }
     ensures refused { RefusesInput (R.remaining reader.old) result }
     ensures no_chart { RefusesInputDraft (R.remaining reader.old) result }
+    ensures read { OnRead (R.remaining reader.old) (R.remaining reader.new) result (λ bytes.
+        ChecksText bytes queues show result (W.contents writer.old) (W.contents writer.new)) }
     ensures begun { IfErr result (λ e. e ≡ Fault.Memory → (writer.new ≡ writer.old)
         ⊎ IfSome (R.remaining reader.old) (λ bytes.
         BeginsVerdict bytes queues show (W.contents writer.old) (W.contents writer.new))) }

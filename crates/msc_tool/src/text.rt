@@ -2,7 +2,7 @@
 
 ghost use Rattle.std.specs.Prelude.{◌≡◌, ◌≢◌, IfSome, IfErr, OnOk};
 ghost use Rattle.std.specs.Io.KnownBytes.{Appends};
-ghost use Rattle.msc_tool.specs.Answers.{WritesDraft, RefusesText, RefusesInput, BuildsNoChart};
+ghost use Rattle.msc_tool.specs.Answers.{BuildsNoChart, OnRead, ReadsText, RefusesInput, RefusesText, WritesDraft};
 
 use crate::reading::read_all;
 use msc_parser::parse;
@@ -39,6 +39,8 @@ pub fn read_input<R: Read, W: Write>(
         (λ bytes. WritesDraft bytes (W.contents writer.old) (W.contents writer.new))) }
     ensures refused { RefusesInput (R.remaining reader.old) result }
     ensures no_chart { BuildsNoChart result }
+    ensures read { OnRead (R.remaining reader.old) (R.remaining reader.new) result (λ bytes.
+        ReadsText bytes result (W.contents writer.old) (W.contents writer.new)) }
     ensures untouched { IfErr result (λ e. e ≢ Fault.Device → writer.new ≡ writer.old) }
 {
     let text = read_all(alloc, reader)?;
