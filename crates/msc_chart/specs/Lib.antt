@@ -4,6 +4,7 @@ pub mod Events
 pub mod Charts
 pub mod Drawings
 pub mod Items
+pub mod Architectures
 pub mod Orders
 pub mod Wirings
 pub mod Runs

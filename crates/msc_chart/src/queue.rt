@@ -1,4 +1,7 @@
-//! Architectures: which messages share a queue.
+//! Architectures: which messages share a queue, and the words for them.
+
+ghost use Rattle.std.specs.Prelude.{◌≡◌};
+ghost use Rattle.msc_chart.specs.Architectures.{queues_of_word, queues_word};
 
 /// The architecture of the queues between the instances.
 #[derive(Clone, Copy, Debug, PartialEq, Eq)]
@@ -7,4 +10,31 @@ pub enum Queues {
     Pair,
     /// A queue for each receiver.
     Mailbox,
+}
+
+impl Queues {
+    /// Each architecture once.
+    pub const ALL: [Queues; 2] = [Queues::Pair, Queues::Mailbox];
+
+    /// The word for the architecture.
+    pub fn word(self) -> &'static str
+        ensures { result.now ≡ queues_word self }
+    {
+        match self {
+            Queues::Pair => "pair",
+            Queues::Mailbox => "mailbox",
+        }
+    }
+
+    /// The architecture that this word stands for, in small letters.
+    pub fn of(word: &str) -> Option<Queues>
+        ensures { result ≡ queues_of_word word.now }
+    {
+        for queues in Queues::ALL {
+            if word == queues.word() {
+                return Some(queues);
+            }
+        }
+        None
+    }
 }

@@ -1,5 +1,5 @@
 -- The lines that faults are printed as. This project's own formats.
-use Rattle.std.specs.Prelude.{ℕ, List, [], ◌∷◌, ◌++◌, codes}
+use Rattle.std.specs.Prelude.{ℕ, List, [], ◌∷◌, ◌++◌, Option, None, Some, codes}
 use Rattle.std.specs.Fmt.{decimal}
 use Rattle.msc_lexer.specs.declared.fault.LexFault.{LexFault}
 use Rattle.msc_lexer.specs.declared.fault.LexFault.TheVariants as lexical
@@ -35,6 +35,7 @@ line words = words ++ 10 ∷ []
 abbrev pub placed : List ℕ → ℕ → List ℕ → List ℕ
 placed before at after = before ++ (decimal at ++ line after)
 
+-- the line of a lexical fault
 abbrev pub lexical_line : LexFault → List ℕ
 lexical_line lexical.TooLong = line (codes "lexical fault 1: text longer than 1048576 bytes")
 lexical_line (lexical.BadByte at) = placed (codes "lexical fault 2 at ") at (codes ": byte that begins no token")
@@ -43,27 +44,35 @@ lexical_line (lexical.OpenText at) = placed (codes "lexical fault 4 at ") at (co
 lexical_line (lexical.LongName at) = placed (codes "lexical fault 5 at ") at (codes ": name longer than 64 bytes")
 lexical_line lexical.Memory = line (codes "memory fault")
 
+-- the line of a fault of the grammar
 abbrev pub grammar_line : ParseFault → List ℕ
 grammar_line (grammar.Lex f) = lexical_line f
 grammar_line (grammar.Unsupported at word) = codes "grammar fault 2 at " ++ (decimal at ++ (codes ": " ++ (spelling word ++ line (codes " is not supported"))))
 grammar_line (grammar.Expected at w) = codes "grammar fault 3 at " ++ (decimal at ++ (codes ": expected " ++ line (what_text w)))
 grammar_line grammar.Memory = line (codes "memory fault")
 
-abbrev pub chart_line : ChartFault → List ℕ
-chart_line charts.TooManyInstances = line (codes "chart fault 1: more than 32 instances")
-chart_line (charts.TwiceInstance i) = placed (codes "chart fault 2: section ") i (codes " repeats an instance name")
-chart_line (charts.HeaderWithoutBody k) = placed (codes "chart fault 3: header name ") k (codes " has no section")
-chart_line (charts.UnknownAddress e) = placed (codes "chart fault 4: event ") e (codes " has an unknown address")
-chart_line charts.TooManyMessages = line (codes "chart fault 5: more than 1024 messages")
-chart_line (charts.TwiceEvent e) = placed (codes "chart fault 6: event ") e (codes " repeats a message")
-chart_line (charts.UnmatchedOut e) = placed (codes "chart fault 7: output ") e (codes " has no input")
-chart_line (charts.UnmatchedIn e) = placed (codes "chart fault 8: input ") e (codes " has no output")
-chart_line (charts.Cyclic e) = placed (codes "chart fault 9: event ") e (codes " precedes itself")
-chart_line charts.Memory = line (codes "memory fault")
+-- the line of a chart's fault by its number, what stands before its place, its place where it has
+-- one, and what stands behind it
+abbrev pub numbered : ℕ → List ℕ → Option ℕ → List ℕ → List ℕ
+numbered number before None after = codes "chart fault " ++ (decimal number ++ (codes ": " ++ (before ++ line after)))
+numbered number before (Some at) after = codes "chart fault " ++ (decimal number ++ (codes ": " ++ placed before at after))
+
+-- the line of a chart's fault
+abbrev pub chart_fault_line : ChartFault → List ℕ
+chart_fault_line charts.TooManyInstances = numbered 1 (codes "more than 32 instances") None []
+chart_fault_line (charts.TwiceInstance i) = numbered 2 (codes "section ") (Some i) (codes " repeats an instance name")
+chart_fault_line (charts.HeaderWithoutBody k) = numbered 3 (codes "header name ") (Some k) (codes " has no section")
+chart_fault_line (charts.UnknownAddress e) = numbered 4 (codes "event ") (Some e) (codes " has an unknown address")
+chart_fault_line charts.TooManyMessages = numbered 5 (codes "more than 1024 messages") None []
+chart_fault_line (charts.TwiceEvent e) = numbered 6 (codes "event ") (Some e) (codes " repeats a message")
+chart_fault_line (charts.UnmatchedOut e) = numbered 7 (codes "output ") (Some e) (codes " has no input")
+chart_fault_line (charts.UnmatchedIn e) = numbered 8 (codes "input ") (Some e) (codes " has no output")
+chart_fault_line (charts.Cyclic e) = numbered 9 (codes "event ") (Some e) (codes " precedes itself")
+chart_fault_line charts.Memory = line (codes "memory fault")
 
 -- a fault's line
 abbrev pub fault_line : Fault → List ℕ
 fault_line (Parse f) = grammar_line f
-fault_line (Chart f) = chart_line f
+fault_line (Chart f) = chart_fault_line f
 fault_line Memory = line (codes "memory fault")
 fault_line Device = line (codes "device fault")

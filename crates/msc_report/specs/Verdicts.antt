@@ -6,33 +6,29 @@ use Rattle.msc_chart.specs.declared.event.EventKind.{EventKind}
 use Rattle.msc_chart.specs.declared.event.EventKind.TheVariants.{Output, Input}
 use Rattle.msc_chart.specs.declared.message.Message.{Message}
 use Rattle.msc_chart.specs.declared.queue.Queues.{Queues}
-use Rattle.msc_chart.specs.declared.queue.Queues.TheVariants.{Pair, Mailbox}
+use Rattle.msc_chart.specs.Architectures.{queues_word}
 use Rattle.msc_chart.specs.Charts as charts
 use Rattle.msc_chart.specs.Drawings.{Drawing, message_at}
 use Rattle.msc_race.specs.declared.verdict.Verdict.{Verdict}
 use Rattle.msc_race.specs.declared.verdict.Verdict.TheVariants.{Pass, Races}
 use Rattle.msc_report.specs.Texts.{line}
 
--- the word for an architecture
-abbrev pub queues_text : Queues → List ℕ
-queues_text Pair = codes "pair"
-queues_text Mailbox = codes "mailbox"
+-- the line of a chart's name
+abbrev pub name_line : Drawing → List ℕ
+name_line d = codes "chart " ++ line d.name
 
--- the lines of a verdict's head: the chart's name, the architecture, and whether the chart passes or
--- how many races it has
-abbrev pub chart_line : Drawing → List ℕ
-chart_line d = codes "chart " ++ line d.name
-
+-- the line of an architecture
 abbrev pub queues_line : Queues → List ℕ
-queues_line queues = codes "queues " ++ line (queues_text queues)
+queues_line queues = codes "queues " ++ line (queues_word queues)
 
+-- whether a chart passes, or how many races it has
 abbrev pub outcome_line : Verdict → List ℕ
 outcome_line Pass = line (codes "pass")
 outcome_line (Races pairs) = codes "races " ++ line (decimal (length pairs))
 
 -- the head of a verdict
 abbrev pub verdict_text : Drawing → Queues → Verdict → List ℕ
-verdict_text d queues v = chart_line d ++ (queues_line queues ++ outcome_line v)
+verdict_text d queues v = name_line d ++ (queues_line queues ++ outcome_line v)
 
 -- the name of instance i
 abbrev pub instance_text : Drawing → ℕ → List ℕ

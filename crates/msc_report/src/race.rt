@@ -109,8 +109,10 @@ fn write_numbers<W: Write>(writer: &mut W, numbers: &[u32]) -> io::Result<()>
     ensures { OnOk result (Appends (W.contents writer.old) (W.contents writer.new)
         (flat_map spaced numbers.now)) }
 {
+    let mut digits = Buffer::new();
     for number in numbers {
-        write!(writer, " {number}")?;
+        writer.write_all(b" ")?;
+        writer.write_all(digits.format(*number).as_bytes())?;
     }
     Ok(())
 }
@@ -135,14 +137,11 @@ fn write_run<W: Write>(writer: &mut W, run: Option<&[Event]>) -> io::Result<()>
 pub fn run_line(alloc: Global, run: &[Event]) -> Result<Vec<u8>, AllocError>
     ensures { IfOk result (λ line. line.items ≡ run_line (Some run.now)) }
 {
-    let mut line = Vec::from_slice(alloc, b"run")?;
-    let mut digits = Buffer::new();
-    for e in run {
-        line.push(b' ')?;
-        line.extend_from_slice(digits.format(*e).as_bytes())?;
+    let mut line = Vec::new(alloc);
+    match write_run(&mut line, Some(run)) {
+        Ok(()) => Ok(line),
+        Err(_) => Err(AllocError),
     }
-    line.push(b'\n')?;
-    Ok(line)
 }
 
 /// Writes which events race, and on which line.

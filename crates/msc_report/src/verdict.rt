@@ -1,8 +1,8 @@
 //! The text of a verdict's head.
 
-ghost use Rattle.std.specs.Prelude.{◌≡◌, OnOk};
+ghost use Rattle.std.specs.Prelude.{OnOk};
 ghost use Rattle.std.specs.Io.KnownBytes.{Appends};
-ghost use Rattle.msc_report.specs.Verdicts.{chart_line, outcome_line, queues_line, queues_text, verdict_text};
+ghost use Rattle.msc_report.specs.Verdicts.{name_line, outcome_line, queues_line, verdict_text};
 
 use msc_chart::{Chart, Queues};
 use msc_race::Verdict;
@@ -10,23 +10,13 @@ use std::io;
 use std::io::Write;
 
 /// Writes the line of a chart's name.
-fn write_chart_line<W: Write>(writer: &mut W, chart: &Chart) -> io::Result<()>
+fn write_name_line<W: Write>(writer: &mut W, chart: &Chart) -> io::Result<()>
     ensures { OnOk result (Appends (W.contents writer.old) (W.contents writer.new)
-        (chart_line chart.now)) }
+        (name_line chart.now)) }
 {
     writer.write_all(b"chart ")?;
     writer.write_all(chart.name())?;
     writer.write_all(b"\n")
-}
-
-/// The word for an architecture.
-fn queues_text(queues: Queues) -> &'static str
-    ensures { result.now ≡ queues_text queues }
-{
-    match queues {
-        Queues::Pair => "pair",
-        Queues::Mailbox => "mailbox",
-    }
 }
 
 /// Writes the line of an architecture.
@@ -34,7 +24,7 @@ fn write_queues_line<W: Write>(writer: &mut W, queues: Queues) -> io::Result<()>
     ensures { OnOk result (Appends (W.contents writer.old) (W.contents writer.new)
         (queues_line queues)) }
 {
-    let word = queues_text(queues);
+    let word = queues.word();
     writeln!(writer, "queues {word}")
 }
 
@@ -63,7 +53,7 @@ pub fn write_verdict<W: Write>(
     ensures { OnOk result (Appends (W.contents writer.old) (W.contents writer.new)
         (verdict_text chart.now queues verdict.now)) }
 {
-    write_chart_line(writer, chart)?;
+    write_name_line(writer, chart)?;
     write_queues_line(writer, queues)?;
     write_outcome(writer, verdict)
 }

@@ -3,9 +3,9 @@
 //! Each call writes exactly its bytes or answers an `io::Error`. How much went out before an error
 //! is not said.
 
-ghost use Rattle.std.specs.Prelude.{◌≡◌, OnOk};
+ghost use Rattle.std.specs.Prelude.{◌≡◌, IfNone, IfSome, OnOk};
 ghost use Rattle.std.specs.Io.KnownBytes.{Appends};
-ghost use Rattle.msc_report.specs.Texts.{chart_line, fault_line, grammar_line, lexical_line, line, placed, what_text};
+ghost use Rattle.msc_report.specs.Texts.{chart_fault_line, fault_line, grammar_line, lexical_line, line, numbered, placed, what_text};
 
 use crate::fault::Fault;
 use msc_chart::ChartFault;
@@ -110,75 +110,54 @@ fn write_expected<W: Write>(writer: &mut W, at: usize, what: What) -> io::Result
     writeln!(writer, "grammar fault 3 at {at}: expected {expected}")
 }
 
+/// A chart's fault in words: its number, what stands before its place, its place where it has one,
+/// and what stands behind it. Want of memory has no number.
+fn chart_words(fault: ChartFault) -> Option<(u32, &'static str, Option<u32>, &'static str)>
+    ensures words { IfSome result
+        (λ w. chart_fault_line fault ≡ numbered w.0 w.1.now w.2 w.3.now) }
+    ensures memory { IfNone result (fault ≡ ChartFault.Memory) }
+{
+    match fault {
+        ChartFault::TooManyInstances => Some((1, "more than 32 instances", None, "")),
+        ChartFault::TwiceInstance(i) => {
+            Some((2, "section ", Some(i), " repeats an instance name"))
+        }
+        ChartFault::HeaderWithoutBody(k) => Some((3, "header name ", Some(k), " has no section")),
+        ChartFault::UnknownAddress(e) => Some((4, "event ", Some(e), " has an unknown address")),
+        ChartFault::TooManyMessages => Some((5, "more than 1024 messages", None, "")),
+        ChartFault::TwiceEvent(e) => Some((6, "event ", Some(e), " repeats a message")),
+        ChartFault::UnmatchedOut(e) => Some((7, "output ", Some(e), " has no input")),
+        ChartFault::UnmatchedIn(e) => Some((8, "input ", Some(e), " has no output")),
+        ChartFault::Cyclic(e) => Some((9, "event ", Some(e), " precedes itself")),
+        ChartFault::Memory => None,
+    }
+}
+
+/// Writes the line of a chart's fault by its number and its words.
+fn write_numbered<W: Write>(
+    writer: &mut W,
+    number: u32,
+    before: &str,
+    at: Option<u32>,
+    after: &str,
+) -> io::Result<()>
+    ensures { OnOk result (Appends (W.contents writer.old) (W.contents writer.new)
+        (numbered number before.now at after.now)) }
+{
+    match at {
+        Some(at) => writeln!(writer, "chart fault {number}: {before}{at}{after}"),
+        None => writeln!(writer, "chart fault {number}: {before}{after}"),
+    }
+}
+
 /// Writes the line of a chart's fault.
 fn write_chart_fault<W: Write>(writer: &mut W, fault: ChartFault) -> io::Result<()>
     ensures { OnOk result (Appends (W.contents writer.old) (W.contents writer.new)
-        (chart_line fault)) }
+        (chart_fault_line fault)) }
 {
-    match fault {
-        ChartFault::TooManyInstances => {
-            write_line(writer, "chart fault 1: more than 32 instances")
-        }
-        ChartFault::TwiceInstance(i) => {
-            write_placed(
-                writer,
-                "chart fault 2: section ",
-                i as usize,
-                " repeats an instance name",
-            )
-        }
-        ChartFault::HeaderWithoutBody(k) => {
-            write_placed(
-                writer,
-                "chart fault 3: header name ",
-                k as usize,
-                " has no section",
-            )
-        }
-        ChartFault::UnknownAddress(e) => {
-            write_placed(
-                writer,
-                "chart fault 4: event ",
-                e as usize,
-                " has an unknown address",
-            )
-        }
-        ChartFault::TooManyMessages => {
-            write_line(writer, "chart fault 5: more than 1024 messages")
-        }
-        ChartFault::TwiceEvent(e) => {
-            write_placed(
-                writer,
-                "chart fault 6: event ",
-                e as usize,
-                " repeats a message",
-            )
-        }
-        ChartFault::UnmatchedOut(e) => {
-            write_placed(
-                writer,
-                "chart fault 7: output ",
-                e as usize,
-                " has no input",
-            )
-        }
-        ChartFault::UnmatchedIn(e) => {
-            write_placed(
-                writer,
-                "chart fault 8: input ",
-                e as usize,
-                " has no output",
-            )
-        }
-        ChartFault::Cyclic(e) => {
-            write_placed(
-                writer,
-                "chart fault 9: event ",
-                e as usize,
-                " precedes itself",
-            )
-        }
-        ChartFault::Memory => write_line(writer, "memory fault"),
+    match chart_words(fault) {
+        Some((number, before, at, after)) => write_numbered(writer, number, before, at, after),
+        None => write_line(writer, "memory fault"),
     }
 }
 

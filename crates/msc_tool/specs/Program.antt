@@ -1,10 +1,16 @@
--- Exit statuses of the program.
-use Rattle.std.specs.Prelude.{ℕ}
+-- What the program answers, and its exit statuses.
+use Rattle.std.specs.Prelude.{ℕ, List, Option, true, false}
+use Rattle.msc_chart.specs.declared.queue.Queues.{Queues}
 use Rattle.msc_report.specs.declared.fault.Fault.{Fault}
 use Rattle.msc_report.specs.declared.fault.Fault.TheVariants.{Parse, Chart, Memory, Device}
 use Rattle.msc_tool.specs.declared.program.Status.{Status}
 use Rattle.msc_tool.specs.declared.program.Status.TheVariants.{Done, Races, Refused, Failed}
+use Rattle.msc_tool.specs.declared.program.Task.{Task}
+use Rattle.msc_tool.specs.declared.program.Task.TheVariants.{Read, Check}
+use Rattle.msc_tool.specs.Answers.{WritesDraft}
+use Rattle.msc_tool.specs.Checking.{WritesVerdict}
 
+-- the exit status for how a run ended
 abbrev pub status_code : Status → ℕ
 status_code Done = 0
 status_code Races = 1
@@ -17,3 +23,15 @@ status_of (Parse f) = Refused
 status_of (Chart f) = Refused
 status_of Memory = Failed
 status_of Device = Failed
+
+-- the whole answer of a task to a text went behind the known bytes of a writer, the answer that is told
+abbrev pub WritesAnswer : Task → List ℕ → Status → Option (List ℕ) → Option (List ℕ) → Type 0
+WritesAnswer Read text Done before after = WritesDraft text before after
+WritesAnswer (Check queues show) text Done before after = WritesVerdict text queues show true before after
+WritesAnswer (Check queues show) text Races before after = WritesVerdict text queues show false before after
+WritesAnswer task text status before after = ⊥
+
+-- a whole verdict with races went behind the known bytes of a writer
+abbrev pub PrintsRaces : Option (List ℕ) → Option (List ℕ) → Type 0
+PrintsRaces before after =
+    (text : List ℕ) × (queues : Queues) × (show : ℕ) × WritesVerdict text queues show false before after

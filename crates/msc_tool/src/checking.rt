@@ -4,18 +4,19 @@ ghost use Rattle.std.specs.Prelude.{◌≡◌, ◌≢◌, ◌⊎◌, ℕ, List, 
 ghost use Rattle.msc_chart.specs.Orders.{wired, IsEnforcedOrder};
 ghost use Rattle.msc_order.specs.Tables.{orders};
 ghost use Rattle.msc_race.specs.Races.{IsVerdict};
-ghost use Rattle.msc_tool.specs.Answers.{RefusesText};
-ghost use Rattle.msc_tool.specs.Checking.{passes, races_of, BeginsVerdict, PrintsVerdict, RefusesDraft, Writes, WritesVerdict};
+ghost use Rattle.msc_report.specs.Verdicts.{verdict_text};
+ghost use Rattle.msc_tool.specs.Answers.{OnRead, RefusesInput, RefusesText};
+ghost use Rattle.msc_tool.specs.Checking.{passes, races_of, BeginsVerdict, ChecksText, PrintsVerdict, RefusesDraft, RefusesInputDraft, Writes, WritesVerdict};
 
 use crate::reading::read_all;
-use crate::showing::write_races;
+use crate::showing::put_races;
 use msc_chart::{Chart, Event, Queues};
 use msc_order::Order;
 use msc_parser::parse;
 use msc_race::laws::the_chosen_run_reverses;
 use msc_race::{Verdict, check_order};
 use msc_report::{Fault, write_verdict};
-use std::alloc::Global;
+use std::alloc::{AllocError, Global};
 use std::io::{Read, Write};
 
 /// Whether a verdict is `pass`.
@@ -35,6 +36,22 @@ fn races_of<'v>(verdict: &'v Verdict) -> &'v [(Event, Event)]
     match verdict {
         Verdict::Pass => &[],
         Verdict::Races(races) => races.as_slice(),
+    }
+}
+
+/// The head of a verdict, a page for what follows it.
+fn head_of(
+    alloc: Global,
+    chart: &Chart,
+    queues: Queues,
+    verdict: &Verdict,
+) -> Result<Vec<u8>, AllocError>
+    ensures { IfOk result (λ page. page.items ≡ verdict_text chart.now queues verdict.now) }
+{
+    let mut page = Vec::new(alloc);
+    match write_verdict(&mut page, chart, queues, verdict) {
+        Ok(()) => Ok(page),
+        Err(_) => Err(AllocError),
     }
 }
 
@@ -59,8 +76,18 @@ fn write_checked<W: Write>(
 {
     the_chosen_run_reverses();
     let _accepted = chart.events();
-    write_verdict(writer, chart, queues, verdict)?;
-    write_races(alloc, writer, chart, queues, order, races_of(verdict), show)?;
+    let mut page = head_of(alloc, chart, queues, verdict)?;
+    put_races(
+        alloc,
+        writer,
+        &mut page,
+        chart,
+        queues,
+        order,
+        races_of(verdict),
+        show,
+    )?;
+    writer.write_all(page.as_slice())?;
     Ok(passes(verdict))
 }
 
@@ -108,6 +135,10 @@ pub fn check_input<R: Read, W: Write>(
 ) -> Result<bool, Fault>
     ensures written { IfOk result (λ passed. IfSome (R.remaining reader.old) (λ bytes.
         WritesVerdict bytes queues show passed (W.contents writer.old) (W.contents writer.new))) }
+    ensures refused { RefusesInput (R.remaining reader.old) result }
+    ensures no_chart { RefusesInputDraft (R.remaining reader.old) result }
+    ensures read { OnRead (R.remaining reader.old) (R.remaining reader.new) result (λ bytes.
+        ChecksText bytes queues show result (W.contents writer.old) (W.contents writer.new)) }
     ensures begun { IfErr result (λ e. e ≡ Fault.Memory → (writer.new ≡ writer.old)
         ⊎ IfSome (R.remaining reader.old) (λ bytes.
         BeginsVerdict bytes queues show (W.contents writer.old) (W.contents writer.new))) }

@@ -1,9 +1,10 @@
 //! The command line.
 
-ghost use Rattle.std.specs.Prelude.{◌≡◌, ◌≢◌, ◌⊎◌};
+ghost use Rattle.std.specs.Prelude.{◌≡◌, ◌≢◌, ◌⊎◌, codes, IfOk, List, ℕ};
 ghost use Rattle.std.specs.IoError.{error_kind};
 ghost use Rattle.std.specs.declared.io.ErrorKind.TheVariants.{OutOfMemory};
-ghost use Rattle.msc_tool.specs.Program.{status_code, status_of};
+ghost use Rattle.msc_tool.specs.Program.{status_code, status_of, PrintsRaces, WritesAnswer};
+ghost use Rattle.msc_tool.specs.Reading.{IsReadFrom};
 
 use crate::checking::check_input;
 use crate::text::read_input;
@@ -11,7 +12,7 @@ use clap::{Arg, ArgMatches, Command, Error, value_parser};
 use msc_chart::Queues;
 use msc_report::{Fault, write_fault};
 use std::alloc::{AllocError, Global};
-use std::io::{BufWriter, ErrorKind, Read, Write};
+use std::io::{ErrorKind, Read, Write};
 use std::rt::Files;
 use std::{fs, io};
 
@@ -52,10 +53,49 @@ enum Task {
 }
 
 /// The words for the architectures.
-const ARCHITECTURES: &[&str] = &["pair", "mailbox"];
+fn architectures(alloc: Global) -> Result<Vec<&'static str>, AllocError> {
+    let mut words = Vec::new(alloc);
+    for queues in Queues::ALL {
+        words.push(queues.word())?;
+    }
+    Ok(words)
+}
 
-/// How many bytes of an answer go out at once: some lines of runs, which have up to 10,000 bytes.
-const BUFFER_SIZE: usize = 65_536;
+/// Words with a `|` between them.
+fn joined(alloc: Global, words: &[&str]) -> Result<String, AllocError> {
+    let mut text = String::new(alloc);
+    for word in words {
+        if !text.is_empty() {
+            text.push('|')?;
+        }
+        text.push_str(word)?;
+    }
+    Ok(text)
+}
+
+/// What `msc --version` prints behind the program's name.
+const VERSION: &str = "0.1.0";
+
+/// What stands below the help of `msc read`.
+const READ_NOTES: &str = "\
+Exit status:
+  0  the canonical text was written
+  2  the text was refused, or the words are no command
+  4  memory ran out, or a file or the output failed
+
+Example:
+  msc read relay.msc";
+
+/// What stands below the help of `msc check`.
+const CHECK_NOTES: &str = "\
+Exit status:
+  0  the chart has no races
+  1  the chart has races, which were written
+  2  the text was refused, or the words are no command
+  4  memory ran out, or a file or the output failed
+
+Example:
+  msc check --queues pair --show 1 relay.msc";
 
 /// The chart that a command reads.
 fn file<'a>(alloc: Global) -> Arg<'a> {
@@ -64,15 +104,21 @@ fn file<'a>(alloc: Global) -> Arg<'a> {
         .required(true)
 }
 
-/// The words that the program takes.
-fn grammar<'a>(alloc: Global) -> Result<Command<'a>, AllocError> {
+/// The words that the program takes. The architectures are those of `words`, shown as `shown`.
+fn grammar<'a>(
+    alloc: Global,
+    words: &'a [&'a str],
+    shown: &'a str,
+) -> Result<Command<'a>, AllocError> {
     let read = Command::new(alloc, "read")
         .about("Print the chart's canonical text")
+        .after_help(READ_NOTES)
         .arg(file(alloc))?;
     let queues = Arg::new(alloc, "queues")
         .long("queues")
+        .value_name(shown)
         .help("A queue for each sender and receiver, or one for each receiver")
-        .value_parser(ARCHITECTURES)
+        .value_parser(words)
         .required(true);
     let show = Arg::new(alloc, "show")
         .long("show")
@@ -81,26 +127,26 @@ fn grammar<'a>(alloc: Global) -> Result<Command<'a>, AllocError> {
         .value_parser(value_parser!(u32));
     let check = Command::new(alloc, "check")
         .about("Print whether the chart has races, and for each a run that shows it")
+        .after_help(CHECK_NOTES)
         .arg(queues)?
         .arg(show)?
         .arg(file(alloc))?;
     Command::new(alloc, "msc")
+        .bin_name("msc")?
+        .version(VERSION)
         .about("Check message sequence charts for races")
         .subcommand_required(true)
         .subcommand(read)?
         .subcommand(check)
 }
 
-/// The task that a command's words name.
-fn task_of(command: &str, words: &ArgMatches) -> Task {
-    if command != "check" {
-        return Task::Read;
+/// The task that a command's words name, if they name one.
+fn task_of(command: &str, words: &ArgMatches) -> Option<Task> {
+    if command == "read" {
+        return Some(Task::Read);
     }
-    let queues = match words.get_str("queues") {
-        Some("mailbox") => Queues::Mailbox,
-        _ => Queues::Pair,
-    };
-    Task::Check(queues, words.get_one("show").unwrap_or(u32::MAX))
+    let queues = Queues::of(words.get_str("queues")?)?;
+    Some(Task::Check(queues, words.get_one("show").unwrap_or(u32::MAX)))
 }
 
 /// Writes a fault's line, where that succeeds, and tells how the run ended.
@@ -114,40 +160,43 @@ fn end_with<E: Write>(faults: &mut E, fault: Fault) -> Status
     }
 }
 
-/// Checks an input's chart, and writes its verdict and races through a buffer.
-fn check_buffered<I: Read, O: Write>(
-    alloc: Global,
-    queues: Queues,
-    show: u32,
-    input: &mut I,
-    output: &mut O,
-) -> Result<Status, Fault> {
-    let mut buffered = match BufWriter::with_capacity(alloc, BUFFER_SIZE, output) {
-        Ok(buffered) => buffered,
-        Err(_) => return Err(Fault::Memory),
-    };
-    let passed = check_input(alloc, input, queues, show, &mut buffered)?;
-    match buffered.flush() {
-        Ok(()) if passed => Ok(Status::Done),
-        Ok(()) => Ok(Status::Races),
-        Err(_) => Err(Fault::Device),
-    }
-}
-
-/// Does a task over an input.
-fn perform<I: Read, O: Write>(
+/// Writes the answer of a task to an input.
+fn answer<I: Read, O: Write>(
     alloc: Global,
     task: Task,
     input: &mut I,
     output: &mut O,
-) -> Result<Status, Fault> {
+) -> Result<Status, Fault>
+    ensures { IfOk result (λ status. (text : List ℕ)
+        × IsReadFrom (I.remaining input.old) (I.remaining input.new) text
+        × WritesAnswer task text status (O.contents output.old) (O.contents output.new)) }
+{
     match task {
         Task::Read => {
             read_input(alloc, input, output)?;
             Ok(Status::Done)
         }
-        Task::Check(queues, show) => check_buffered(alloc, queues, show, input, output),
+        Task::Check(queues, show) => match check_input(alloc, input, queues, show, output)? {
+            true => Ok(Status::Done),
+            false => Ok(Status::Races),
+        },
     }
+}
+
+/// Does a task over an input. The whole answer goes out before it is told.
+fn perform<I: Read, O: Write>(
+    alloc: Global,
+    task: Task,
+    input: &mut I,
+    output: &mut O,
+) -> Result<Status, Fault>
+    ensures { IfOk result (λ status. (text : List ℕ)
+        × IsReadFrom (I.remaining input.old) (I.remaining input.new) text
+        × WritesAnswer task text status (O.contents output.old) (O.contents output.new)) }
+{
+    let status = answer(alloc, task, input, output)?;
+    output.flush()?;
+    Ok(status)
 }
 
 /// Does a task over a file, or over `input` where it is `-`.
@@ -158,7 +207,11 @@ fn perform_on<R: Files, I: Read, O: Write>(
     file: &str,
     input: &mut I,
     output: &mut O,
-) -> Result<Status, Fault> {
+) -> Result<Status, Fault>
+    ensures { IfOk result (λ status. (text : List ℕ)
+        × (file.now ≡ codes "-" → IsReadFrom (I.remaining input.old) (I.remaining input.new) text)
+        × WritesAnswer task text status (O.contents output.old) (O.contents output.new)) }
+{
     if file == "-" {
         return perform(alloc, task, input, output);
     }
@@ -169,7 +222,9 @@ fn perform_on<R: Files, I: Read, O: Write>(
 }
 
 /// Writes what `clap` says of words that are no command, or the help that they ask for.
-fn explain<O: Write, E: Write>(output: &mut O, faults: &mut E, error: &Error) -> Status {
+fn explain<O: Write, E: Write>(output: &mut O, faults: &mut E, error: &Error) -> Status
+    ensures { result ≢ Status.Races }
+{
     if error.kind() == clap::error::ErrorKind::OutOfMemory {
         return end_with(faults, Fault::Memory);
     }
@@ -183,7 +238,32 @@ fn explain<O: Write, E: Write>(output: &mut O, faults: &mut E, error: &Error) ->
     }
 }
 
-/// Does what the words ask for, and tells how the run ended.
+/// Does what the words of a command ask for, and tells how the run ended.
+fn obey<R: Files, I: Read, O: Write, E: Write>(
+    rt: &R,
+    alloc: Global,
+    matches: &ArgMatches,
+    input: &mut I,
+    output: &mut O,
+    faults: &mut E,
+) -> Status
+    ensures { result ≡ Status.Races → PrintsRaces (O.contents output.old) (O.contents output.new) }
+{
+    let Some((command, words)) = matches.subcommand() else {
+        return Status::Refused;
+    };
+    let Some(task) = task_of(command, words) else {
+        return Status::Refused;
+    };
+    let file = words.get_str("FILE").unwrap_or("-");
+    match perform_on(rt, alloc, task, file, input, output) {
+        Ok(status) => status,
+        Err(fault) => end_with(faults, fault),
+    }
+}
+
+/// Does what the words ask for, and tells how the run ended. An error is a growth of memory that was
+/// refused before the words were known.
 fn run<R: Files, I: Read, O: Write, E: Write>(
     rt: &R,
     alloc: Global,
@@ -191,22 +271,16 @@ fn run<R: Files, I: Read, O: Write, E: Write>(
     input: &mut I,
     output: &mut O,
     faults: &mut E,
-) -> Status {
-    let parsed = match grammar(alloc) {
-        Ok(command) => command.try_get_matches_from(words),
-        Err(_) => return end_with(faults, Fault::Memory),
-    };
-    let matches = match parsed {
-        Ok(matches) => matches,
-        Err(error) => return explain(output, faults, &error),
-    };
-    let (task, file) = match matches.subcommand() {
-        Some((command, words)) => (task_of(command, words), words.get_str("FILE")),
-        None => (Task::Read, None),
-    };
-    match perform_on(rt, alloc, task, file.unwrap_or("-"), input, output) {
-        Ok(status) => status,
-        Err(fault) => end_with(faults, fault),
+) -> Result<Status, AllocError>
+    ensures { IfOk result (λ status. status ≡ Status.Races
+        → PrintsRaces (O.contents output.old) (O.contents output.new)) }
+{
+    let architectures = architectures(alloc)?;
+    let shown = joined(alloc, architectures.as_slice())?;
+    let command = grammar(alloc, architectures.as_slice(), shown.as_str())?;
+    match command.try_get_matches_from(words) {
+        Ok(matches) => Ok(obey(rt, alloc, &matches, input, output, faults)),
+        Err(error) => Ok(explain(output, faults, &error)),
     }
 }
 
@@ -241,7 +315,11 @@ pub fn command<R: Files, I: Read, O: Write, E: Write>(
     output: &mut O,
     faults: &mut E,
 ) -> u8
-    ensures { (result ≡ 0) ⊎ (result ≡ 1) ⊎ (result ≡ 2) ⊎ (result ≡ 4) }
+    ensures status { (result ≡ 0) ⊎ (result ≡ 1) ⊎ (result ≡ 2) ⊎ (result ≡ 4) }
+    ensures races { result ≡ 1 → PrintsRaces (O.contents output.old) (O.contents output.new) }
 {
-    run(rt, alloc, words.as_slice(), input, output, faults).code()
+    match run(rt, alloc, words.as_slice(), input, output, faults) {
+        Ok(status) => status.code(),
+        Err(_) => end_with(faults, Fault::Memory).code(),
+    }
 }

@@ -1,11 +1,11 @@
 //! Races, and the runs that show them.
 
-ghost use Rattle.std.specs.Prelude.{◌≡◌, ℕ, ◌<◌, List, Some, IfOk, OnOk, length};
-ghost use Rattle.std.specs.Io.KnownBytes.{Appends};
+ghost use Rattle.std.specs.Prelude.{◌≡◌, ℕ, ◌<◌, ◌++◌, List, [], None, Some, IfOk, length};
 ghost use Rattle.msc_chart.specs.Orders.{wired, IsEnforcedOrder};
 ghost use Rattle.msc_order.specs.Tables.{orders};
-ghost use Rattle.msc_report.specs.Verdicts.{run_line};
-ghost use Rattle.msc_tool.specs.Checking.{races_text, shown_text, unshown_text, AreChosen, AreEvents, Writes};
+ghost use Rattle.msc_report.specs.Verdicts.{race_text, run_line};
+ghost use Rattle.msc_tool.specs.Checking.{races_text, shown_text, unshown_text, AreChosen, AreEvents};
+ghost use Rattle.msc_tool.specs.Pages.{Puts};
 
 use msc_chart::{Chart, Event, Queues};
 use msc_order::Order;
@@ -13,7 +13,6 @@ use msc_race::chosen_run;
 use msc_race::laws::the_chosen_run_reverses;
 use msc_report::{Fault, run_line, write_race};
 use std::alloc::{AllocError, Global};
-use std::io;
 use std::io::Write;
 
 /// The line of the chosen run of event `e`.
@@ -35,11 +34,51 @@ fn line_of(
     run_line(alloc, run.as_slice())
 }
 
-/// Writes each of these races with the chosen run of its first event. One run serves all races of an
-/// event that stand in a row.
-fn write_shown<W: Write>(
+/// How many bytes of an answer go out at once: some lines of runs, which have up to 10,000 bytes.
+const PAGE_SIZE: usize = 65_536;
+
+/// Lets a page go out where it is full.
+fn turn<W: Write>(writer: &mut W, page: &mut Vec<u8>) -> Result<(), Fault>
+    ensures { Puts result (W.contents writer.old) (W.contents writer.new)
+        page.old.items page.new.items [] }
+{
+    if page.len() < PAGE_SIZE {
+        return Ok(());
+    }
+    writer.write_all(page.as_slice())?;
+    page.clear();
+    Ok(())
+}
+
+/// Puts a race, and behind it a line, behind a page.
+fn put_race<W: Write>(
+    writer: &mut W,
+    page: &mut Vec<u8>,
+    chart: &Chart,
+    race: (Event, Event),
+    line: &[u8],
+) -> Result<(), Fault>
+    requires first { race.0 < length chart.now.events }
+    requires second { race.1 < length chart.now.events }
+    ensures { Puts result (W.contents writer.old) (W.contents writer.new)
+        page.old.items page.new.items (race_text chart.now race.0 race.1 None ++ line.now) }
+{
+    turn(writer, page)?;
+    match write_race(page, chart, race.0, race.1, None) {
+        Ok(()) => {
+            page.extend_from_slice(line)?;
+            Ok(())
+        }
+        Err(_) => Err(Fault::Memory),
+    }
+}
+
+/// Puts each of these races with the chosen run of its first event behind a page. One run serves all
+/// races of an event that stand in a row.
+fn put_shown<W: Write>(
     alloc: Global,
     writer: &mut W,
+    page: &mut Vec<u8>,
     chart: &Chart,
     queues: Queues,
     order: &Order,
@@ -49,43 +88,44 @@ fn write_shown<W: Write>(
     requires square { length order.now ≡ length chart.now.events }
     requires known { AreEvents chart.now races.now }
     ensures { (runs : ℕ → List ℕ) → AreChosen (wired queues chart.now) runs
-        → Writes result (W.contents writer.old) (W.contents writer.new)
-        (shown_text chart.now runs races.now) }
+        → Puts result (W.contents writer.old) (W.contents writer.new)
+        page.old.items page.new.items (shown_text chart.now runs races.now) }
 {
     let mut of = chart.events();
     let mut line = Vec::new(alloc);
     for race in races {
-        let (e, f) = *race;
-        if e != of {
-            line = line_of(alloc, chart, queues, order, e)?;
-            of = e;
+        if race.0 != of {
+            line = line_of(alloc, chart, queues, order, race.0)?;
+            of = race.0;
         }
-        write_race(writer, chart, e, f, None)?;
-        writer.write_all(line.as_slice())?;
+        put_race(writer, page, chart, *race, line.as_slice())?;
     }
     Ok(())
 }
 
-/// Writes each of these races without a run.
-fn write_unshown<W: Write>(
+/// Puts each of these races behind a page, without a run.
+fn put_unshown<W: Write>(
     writer: &mut W,
+    page: &mut Vec<u8>,
     chart: &Chart,
     races: &[(Event, Event)],
-) -> io::Result<()>
+) -> Result<(), Fault>
     requires { AreEvents chart.now races.now }
-    ensures { OnOk result (Appends (W.contents writer.old) (W.contents writer.new)
-        (unshown_text chart.now races.now)) }
+    ensures { Puts result (W.contents writer.old) (W.contents writer.new)
+        page.old.items page.new.items (unshown_text chart.now races.now) }
 {
     for race in races {
-        write_race(writer, chart, race.0, race.1, None)?;
+        put_race(writer, page, chart, *race, b"")?;
     }
     Ok(())
 }
 
-/// Writes each of these races, the first `show` with the chosen run of their first event.
-pub fn write_races<W: Write>(
+/// Puts each of these races behind a page, the first `show` with the chosen run of their first event.
+/// Full pages go out.
+pub fn put_races<W: Write>(
     alloc: Global,
     writer: &mut W,
+    page: &mut Vec<u8>,
     chart: &Chart,
     queues: Queues,
     order: &Order,
@@ -96,11 +136,10 @@ pub fn write_races<W: Write>(
     requires square { length order.now ≡ length chart.now.events }
     requires known { AreEvents chart.now races.now }
     ensures { (runs : ℕ → List ℕ) → AreChosen (wired queues chart.now) runs
-        → Writes result (W.contents writer.old) (W.contents writer.new)
-        (races_text chart.now runs show races.now) }
+        → Puts result (W.contents writer.old) (W.contents writer.new)
+        page.old.items page.new.items (races_text chart.now runs show races.now) }
 {
     let (shown, others) = races.split_at((show as usize).min(races.len()));
-    write_shown(alloc, writer, chart, queues, order, shown)?;
-    write_unshown(writer, chart, others)?;
-    Ok(())
+    put_shown(alloc, writer, page, chart, queues, order, shown)?;
+    put_unshown(writer, page, chart, others)
 }

@@ -2,7 +2,7 @@
 
 ghost use Rattle.std.specs.Prelude.{◌≡◌, ◌≢◌, IfSome, IfErr, OnOk};
 ghost use Rattle.std.specs.Io.KnownBytes.{Appends};
-ghost use Rattle.msc_tool.specs.Answers.{WritesDraft, RefusesText};
+ghost use Rattle.msc_tool.specs.Answers.{BuildsNoChart, OnRead, ReadsText, RefusesInput, RefusesText, WritesDraft};
 
 use crate::reading::read_all;
 use msc_parser::parse;
@@ -18,6 +18,7 @@ pub fn read_text<W: Write>(alloc: Global, text: &[u8], writer: &mut W) -> Result
     ensures written { OnOk result
         (WritesDraft text.now (W.contents writer.old) (W.contents writer.new)) }
     ensures refused { RefusesText text.now result }
+    ensures no_chart { BuildsNoChart result }
     ensures untouched { IfErr result (λ e. e ≢ Fault.Device → writer.new ≡ writer.old) }
 {
     let draft = parse(alloc, text)?;
@@ -36,6 +37,10 @@ pub fn read_input<R: Read, W: Write>(
 ) -> Result<(), Fault>
     ensures written { OnOk result (IfSome (R.remaining reader.old)
         (λ bytes. WritesDraft bytes (W.contents writer.old) (W.contents writer.new))) }
+    ensures refused { RefusesInput (R.remaining reader.old) result }
+    ensures no_chart { BuildsNoChart result }
+    ensures read { OnRead (R.remaining reader.old) (R.remaining reader.new) result (λ bytes.
+        ReadsText bytes result (W.contents writer.old) (W.contents writer.new)) }
     ensures untouched { IfErr result (λ e. e ≢ Fault.Device → writer.new ≡ writer.old) }
 {
     let text = read_all(alloc, reader)?;

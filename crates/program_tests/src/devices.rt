@@ -69,3 +69,20 @@ impl Write for Narrow {
         Ok(())
     }
 }
+
+/// A writer that keeps what it takes back until it is flushed, and then fails.
+#[derive(Drop)]
+pub struct Unflushed {
+    pub flushes: u32,
+}
+
+impl Write for Unflushed {
+    fn write(&mut self, buf: &[u8]) -> io::Result<usize> {
+        Ok(buf.len())
+    }
+
+    fn flush(&mut self) -> io::Result<()> {
+        self.flushes = self.flushes.wrapping_add(1);
+        Err(io::Error::from(ErrorKind::BrokenPipe))
+    }
+}

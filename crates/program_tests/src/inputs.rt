@@ -2,7 +2,8 @@
 
 use crate::devices::{Narrow, Unsteady};
 use example_charts::EMPTY;
-use msc_tool::{CALL_LIMIT, Fault, read_all, read_text};
+use msc_chart::{ChartFault, Queues};
+use msc_tool::{CALL_LIMIT, Fault, check_text, read_all, read_input, read_text};
 use std::test::Fail;
 
 #[test]
@@ -22,7 +23,8 @@ fn interrupted_reads_are_tried_again(rt: HostRuntime) -> Result<(), Fail> {
     let mut always = Unsteady::new(EMPTY);
     always.interruptions = u32::MAX;
     assert_eq!(rt; read_all(alloc, &mut always).err(), Some(Fault::Device));
-    assert_eq!(rt; always.calls, CALL_LIMIT);
+    assert_eq!(rt; always.calls, 2_097_152);
+    assert_eq!(rt; CALL_LIMIT, 2_097_152);
     Ok(())
 }
 
@@ -84,4 +86,20 @@ fn a_refused_text_leaves_the_writer_with_no_call(rt: HostRuntime) {
     };
     assert!(rt; read_text(rt.alloc(), b"msc t;", &mut writer).is_err());
     assert_eq!(rt; writer.calls, 0);
+}
+
+#[test]
+fn a_text_whose_chart_is_refused_is_read(rt: HostRuntime) -> Result<(), Fail> {
+    let alloc = rt.alloc();
+    let text = b"msc t; instance a; in m from a; out m to a; endinstance; endmsc;";
+    let wanted = b"msc t;\ninstance a;\n  in m from a;\n  out m to a;\nendinstance;\nendmsc;\n";
+    let mut of_text = Vec::new(alloc);
+    read_text(alloc, text, &mut of_text)?;
+    assert_eq!(rt; of_text.as_slice(), wanted.as_slice());
+    let mut of_input = Vec::new(alloc);
+    read_input(alloc, &mut Unsteady::new(text), &mut of_input)?;
+    assert_eq!(rt; of_input.as_slice(), wanted.as_slice());
+    let refused = check_text(alloc, text, Queues::Pair, 0, &mut of_text).err();
+    assert_eq!(rt; refused, Some(Fault::Chart(ChartFault::Cyclic(0))));
+    Ok(())
 }

@@ -1,8 +1,10 @@
 //! Runs of the program: words, standard input, what it prints, and its exit status.
 
+use crate::devices::{Narrow, Unflushed};
 use example_charts::{EMPTY, KINDS_AND_COMMENTS, ONE_MESSAGE};
 use msc_tool::command;
 use std::alloc::{AllocError, Global};
+use std::io::Write;
 use std::test::Fail;
 
 /// What a run of the program printed, and its exit status.
@@ -13,10 +15,10 @@ pub struct Outcome {
     pub status: u8,
 }
 
-/// The words of a command line, the program's name first.
+/// The words of a command line, a file's name for the program first.
 fn words_of(alloc: Global, words: &[&str]) -> Result<Vec<String>, AllocError> {
     let mut all = Vec::new(alloc);
-    all.push(String::from_str(alloc, "msc")?)?;
+    all.push(String::from_str(alloc, "./out/program")?)?;
     for word in words {
         all.push(String::from_str(alloc, word)?)?;
     }
@@ -25,17 +27,29 @@ fn words_of(alloc: Global, words: &[&str]) -> Result<Vec<String>, AllocError> {
 
 /// Runs the program over these words and this standard input.
 pub fn run(rt: &HostRuntime, words: &[&str], stdin: &[u8]) -> Result<Outcome, AllocError> {
-    let alloc = rt.alloc();
-    let words = words_of(alloc, words)?;
-    let mut input = stdin;
-    let mut output = Vec::new(alloc);
-    let mut faults = Vec::new(alloc);
-    let status = command(rt, alloc, words, &mut input, &mut output, &mut faults);
+    let mut output = Vec::new(rt.alloc());
+    let (status, faults) = run_into(rt, words, stdin, &mut output)?;
     Ok(Outcome {
         output,
         faults,
         status,
     })
+}
+
+/// Runs the program over these words and this standard input, into this output; gives its exit
+/// status and what went to standard error.
+fn run_into<O: Write>(
+    rt: &HostRuntime,
+    words: &[&str],
+    stdin: &[u8],
+    output: &mut O,
+) -> Result<(u8, Vec<u8>), AllocError> {
+    let alloc = rt.alloc();
+    let words = words_of(alloc, words)?;
+    let mut input = stdin;
+    let mut faults = Vec::new(alloc);
+    let status = command(rt, alloc, words, &mut input, output, &mut faults);
+    Ok((status, faults))
 }
 
 #[test]
@@ -175,5 +189,95 @@ fn help(rt: HostRuntime) -> Result<(), Fail> {
         assert_eq!(rt; run.faults.len(), 0);
         assert_eq!(rt; run.status, 0);
     }
+    Ok(())
+}
+
+/// The words of one run of each command.
+const RUNS: [&[&str]; 3] = [
+    &["read", "-"],
+    &["check", "--queues", "pair", "-"],
+    &["check", "--queues", "mailbox", "-"],
+];
+
+#[test]
+fn an_output_that_fails_at_its_first_call(rt: HostRuntime) -> Result<(), Fail> {
+    for words in RUNS {
+        let mut output = Narrow {
+            written: Vec::new(rt.alloc()),
+            step: usize::MAX,
+            calls: 0,
+            fails_at: 1,
+        };
+        let (status, faults) = run_into(&rt, words, ONE_MESSAGE, &mut output)?;
+        assert_eq!(rt; faults.as_slice(), b"device fault\n".as_slice());
+        assert_eq!(rt; status, 4);
+    }
+    Ok(())
+}
+
+#[test]
+fn an_output_that_fails_when_it_is_flushed(rt: HostRuntime) -> Result<(), Fail> {
+    for words in RUNS {
+        let mut output = Unflushed { flushes: 0 };
+        let (status, faults) = run_into(&rt, words, ONE_MESSAGE, &mut output)?;
+        assert_eq!(rt; faults.as_slice(), b"device fault\n".as_slice());
+        assert_eq!(rt; status, 4);
+        assert_eq!(rt; output.flushes, 1);
+    }
+    Ok(())
+}
+
+#[test]
+fn version(rt: HostRuntime) -> Result<(), Fail> {
+    let run = run(&rt, &["--version"], b"")?;
+    assert_eq!(rt; run.output.as_slice(), b"msc 0.1.0\n".as_slice());
+    assert_eq!(rt; run.faults.len(), 0);
+    assert_eq!(rt; run.status, 0);
+    Ok(())
+}
+
+/// Whether a text has this part.
+fn has(text: &[u8], part: &str) -> bool {
+    text.windows(part.len())
+        .any(|window| window == part.as_bytes())
+}
+
+#[test]
+fn help_of_each_command(rt: HostRuntime) -> Result<(), Fail> {
+    for (command, parts) in [
+        (
+            "read",
+            [
+                "Usage: msc read <FILE>\n",
+                "  0  the canonical text was written\n",
+                "  4  memory ran out",
+                "Example:\n  msc read relay.msc\n",
+            ],
+        ),
+        (
+            "check",
+            [
+                "Usage: msc check [OPTIONS] --queues <pair|mailbox> <FILE>\n",
+                "  1  the chart has races",
+                "  2  the text was refused",
+                "Example:\n  msc check --queues pair --show 1 relay.msc\n",
+            ],
+        ),
+    ] {
+        let run = run(&rt, &[command, "--help"], b"")?;
+        for part in parts {
+            assert!(rt; has(run.output.as_slice(), part), "{command}: {part}");
+        }
+        assert_eq!(rt; run.status, 0);
+    }
+    Ok(())
+}
+
+#[test]
+fn wrong_words_are_told_under_the_name_of_the_program(rt: HostRuntime) -> Result<(), Fail> {
+    let run = run(&rt, &["check", "-"], b"")?;
+    let usage = "Usage: msc check --queues <pair|mailbox> <FILE>\n";
+    assert!(rt; has(run.faults.as_slice(), usage));
+    assert_eq!(rt; run.status, 2);
     Ok(())
 }

@@ -1,0 +1,18 @@
+-- What the code keeps while an answer goes out in pages. A page is what has not gone out yet.
+use Rattle.std.specs.Prelude.{◌≡◌, ℕ, List, ◌++◌, Option, Result, Ok, Err}
+use Rattle.std.specs.Io.KnownBytes.{Appends}
+use Rattle.msc_report.specs.declared.fault.Fault.{Fault}
+use Rattle.msc_report.specs.declared.fault.Fault.TheVariants.{Memory, Device}
+use Rattle.msc_tool.specs.Checking.{Begins}
+
+-- A text was put behind a page: of both a beginning went behind the known bytes of a writer, and the
+-- rest is the page now.
+abbrev pub Pages : Option (List ℕ) → Option (List ℕ) → List ℕ → List ℕ → List ℕ → Type 0
+Pages before after old new text = (front : List ℕ) × (old ++ text ≡ front ++ new) × Appends before after front
+
+-- it was, or a beginning of both went out before memory ran out, or the writer failed
+abbrev pub Puts : {A : Type 0} → Result A Fault → Option (List ℕ) → Option (List ℕ) → List ℕ → List ℕ → List ℕ → Type 0
+Puts (Ok a) before after old new text = Pages before after old new text
+Puts (Err Memory) before after old new text = Begins before after (old ++ text)
+Puts (Err Device) before after old new text = Unit {0}
+Puts (Err fault) before after old new text = ⊥
