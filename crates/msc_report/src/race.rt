@@ -47,30 +47,14 @@ fn write_instance<W: Write>(writer: &mut W, chart: &Chart, i: u32) -> io::Result
     writer.write_all(chart.instance_name(i))
 }
 
-/// The message of event `e`.
-fn message_of(chart: &Chart, e: Event) -> u32
-    requires { e < length chart.now.events }
-    ensures message { result ≡ message chart.now.events e }
-    ensures known { result < length chart.now.messages }
-{
-    let _accepted = chart.events();
-    match chart.message(e) {
-        Some(m) => m,
-        None => 0,
-    }
-}
-
 /// The instance at the other end of the message of event `e`.
 fn address_of(chart: &Chart, e: Event) -> u32
     requires { e < length chart.now.events }
-    ensures address { result ≡ line chart.now.events (partner chart.now.events e) }
+    ensures value { result ≡ line chart.now.events (partner chart.now.events e) }
     ensures known { result < length chart.now.instances }
 {
-    let _accepted = chart.events();
-    match chart.partner(e) {
-        Some(other) => chart.instance_of(other),
-        None => 0,
-    }
+    chart.accepted();
+    chart.instance_of(chart.other_end(e))
 }
 
 /// Writes an event by its words, its message and the instance at the other end.
@@ -87,7 +71,7 @@ fn write_signal<W: Write>(
         ++ instance_text chart.now (line chart.now.events (partner chart.now.events e)))))) }
 {
     writer.write_all(way)?;
-    write_message(writer, chart, message_of(chart, e))?;
+    write_message(writer, chart, chart.message_of(e))?;
     writer.write_all(preposition)?;
     write_instance(writer, chart, address_of(chart, e))
 }
@@ -150,7 +134,7 @@ fn write_place<W: Write>(writer: &mut W, chart: &Chart, e: Event, f: Event) -> i
     ensures { OnOk result (Appends (W.contents writer.old) (W.contents writer.new)
         (race_place chart.now e f)) }
 {
-    let _accepted = chart.events();
+    chart.accepted();
     write!(writer, "race {e} {f} on ")?;
     write_instance(writer, chart, chart.instance_of(e))
 }

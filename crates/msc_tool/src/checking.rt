@@ -75,7 +75,7 @@ fn write_checked<W: Write>(
         × Writes result (W.contents writer.old) (W.contents writer.new) printed }
 {
     the_chosen_run_reverses();
-    let _accepted = chart.events();
+    chart.accepted();
     let mut page = head_of(alloc, chart, queues, verdict)?;
     put_races(
         alloc,

@@ -16,14 +16,14 @@ pub returns-in_err-page-clause-written : goal.returns-in_err-page-clause-written
 returns-in_err-page-clause-written g c =
     let law = c.the_chosen_run_reverses.ensures in
     let exit = err_from_is_err_and c.from_residual.result c.from_residual.ensures.1 in
-    prints_verdict _ _ _ c.args.queues c.args.chart.now c.args.show c.args.verdict.now c.events-accepted.ensures.accepted c.requires.verdict law.exists law.whole law.races
+    prints_verdict _ _ _ c.args.queues c.args.chart.now c.args.show c.args.verdict.now c.accepted.ensures c.requires.verdict law.exists law.whole law.races
     (λ runs chosen. rw (exit.1, exit.2) (begins_none _ (checked_text c.args.chart.now c.args.queues runs c.args.show c.args.verdict.now)))
 
 pub returns-in_err-put_races-clause-written : goal.returns-in_err-put_races-clause-written
 returns-in_err-put_races-clause-written g c =
     let law = c.the_chosen_run_reverses.ensures in
     let exit = err_from_is_err_and c.from_residual-in_err-put_races.result c.from_residual-in_err-put_races.ensures.1 in
-    prints_verdict _ _ _ c.args.queues c.args.chart.now c.args.show c.args.verdict.now c.events-accepted.ensures.accepted c.requires.verdict law.exists law.whole law.races
+    prints_verdict _ _ _ c.args.queues c.args.chart.now c.args.show c.args.verdict.now c.accepted.ensures c.requires.verdict law.exists law.whole law.races
     (λ runs chosen.
     let races = races_text c.args.chart.now runs c.args.show c.races_of.result.now in
     let same = ap (λ (t : List ℕ). t ++ races) c.in_ok-page.ensures
@@ -34,13 +34,13 @@ pub returns-in_err-write_all-clause-written : goal.returns-in_err-write_all-clau
 returns-in_err-write_all-clause-written g c =
     let law = c.the_chosen_run_reverses.ensures in
     let exit = err_from_is_err_and c.from_residual-in_err-write_all.result c.from_residual-in_err-write_all.ensures.1 in
-    prints_verdict _ _ _ c.args.queues c.args.chart.now c.args.show c.args.verdict.now c.events-accepted.ensures.accepted c.requires.verdict law.exists law.whole law.races
+    prints_verdict _ _ _ c.args.queues c.args.chart.now c.args.show c.args.verdict.now c.accepted.ensures c.requires.verdict law.exists law.whole law.races
     (λ runs chosen. rw (exit.1, exit.2) tt)
 
 pub returns-clause-written : goal.returns-clause-written
 returns-clause-written g c =
     let law = c.the_chosen_run_reverses.ensures in
-    prints_verdict (Ok c.passes.result) (g.W.Write.contents c.args.writer.now) (g.W.Write.contents c.write_all.new.self) c.args.queues c.args.chart.now c.args.show c.args.verdict.now c.events-accepted.ensures.accepted c.requires.verdict law.exists law.whole law.races
+    prints_verdict (Ok c.passes.result) (g.W.Write.contents c.args.writer.now) (g.W.Write.contents c.write_all.new.self) c.args.queues c.args.chart.now c.args.show c.args.verdict.now c.accepted.ensures c.requires.verdict law.exists law.whole law.races
     (λ runs chosen.
     let races = races_text c.args.chart.now runs c.args.show c.races_of.result.now in
     let same = ap (λ (t : List ℕ). t ++ races) c.in_ok-page.ensures
