@@ -103,7 +103,9 @@ reads_gap text at tokens kind len so_far next none =
     subst (IsReadTo text (at + len)) (ap (λ (k : Option Kind). tokens ++ token_of k at len) none ∙ append-nil tokens) (reads_one text at tokens kind len so_far next)
 
 -- a piece that is a token adds it
-pub reads_token : (text : List ℕ) (at : ℕ) (tokens more : List Token) (kind : Option Kind) (k : Kind) (len : ℕ) → IsReadTo text at tokens → StartsWith (drop at text) kind len → kind ≡ Some k
-    → more ≡ tokens ++ record { kind = k; start = at; «end» = at + len } ∷ [] → IsReadTo text (at + len) more
-reads_token text at tokens more kind k len so_far next some pushed =
-    subst (IsReadTo text (at + len)) (ap (λ (o : Option Kind). tokens ++ token_of o at len) some ∙ sym pushed) (reads_one text at tokens kind len so_far next)
+pub reads_token : (text : List ℕ) (at : ℕ) (tokens : List Token) (kind : Option Kind) (k : Kind) (len : ℕ)
+    → IsReadTo text at tokens → StartsWith (drop at text) kind len → kind ≡ Some k
+    → IsReadTo text (at + len) (tokens ++ record { kind = k; start = at; «end» = at + len } ∷ [])
+reads_token text at tokens kind k len so_far next some =
+    subst (IsReadTo text (at + len)) (ap (λ (o : Option Kind). tokens ++ token_of o at len) some)
+    (reads_one text at tokens kind len so_far next)
