@@ -23,9 +23,12 @@ IsFirst s b = (a : List Lexeme) × IsToken s b a
 -- ---- coregions and items
 
 -- an event begins with no other symbol than `out` and `in`
-event_apart : (w : Way) (s : Symbol) (b a c : List Lexeme) → IsToken (Reserved (way_word w)) b a → IsToken s b c → s ≢ Reserved words.Output → s ≢ Reserved words.Input → ⊥
-event_apart ways.Output s b a c h g no_out no_in = symbols_clash s (Reserved words.Output) b c a g h no_out
-event_apart ways.Input s b a c h g no_out no_in = symbols_clash s (Reserved words.Input) b c a g h no_in
+event_apart : (w : Way) (s : Symbol) (b a c : List Lexeme) → IsToken (Reserved (way_word w)) b a
+    → IsToken s b c → s ≢ Reserved words.Output → s ≢ Reserved words.Input → ⊥
+event_apart ways.Output s b a c h g no_out no_in =
+    symbols_clash s (Reserved words.Output) b c a g h no_out
+event_apart ways.Input s b a c h g no_out no_in =
+    symbols_clash s (Reserved words.Input) b c a g h no_in
 
 -- events of a coregion follow one another up to `endconcurrent`
 event_sequence : IsSequence IsEvent Closed (IsFirst (Reserved words.EndConcurrent))
@@ -46,20 +49,25 @@ coregion_same b a c xs ys h g stop_a stop_c =
 
 -- an item is determined: an event, or a coregion
 item_same : Decided Closed IsItem
-item_same b a c (Single x) (Single y) h g stop_a stop_c = let e = event_same b a c x y h g tt tt in let i = e.0 in ((cc), e.1)
-item_same b a c (Single x) (Coregion ys) h g stop_a stop_c = absurd (event_apart x.way _ b h.0 g.0 h.1 g.1 (λ e. cc) (λ e. cc))
-item_same b a c (Coregion xs) (Single y) h g stop_a stop_c = absurd (event_apart y.way _ b g.0 h.0 g.1 h.1 (λ e. cc) (λ e. cc))
+item_same b a c (Single x) (Single y) h g stop_a stop_c =
+    let e = event_same b a c x y h g tt tt in let i = e.0 in ((cc), e.1)
+item_same b a c (Single x) (Coregion ys) h g stop_a stop_c =
+    absurd (event_apart x.way _ b h.0 g.0 h.1 g.1 (λ e. cc) (λ e. cc))
+item_same b a c (Coregion xs) (Single y) h g stop_a stop_c =
+    absurd (event_apart y.way _ b g.0 h.0 g.1 h.1 (λ e. cc) (λ e. cc))
 item_same b a c (Coregion xs) (Coregion ys) h g stop_a stop_c =
     let e = behind_same (Reserved words.Concurrent) IsCoregion Closed coregion_same b a c xs ys h g tt tt in let i = e.0 in ((cc), e.1)
 
 -- an item does not begin with `endinstance`
-item_goes_on : (b a : List Lexeme) (x : Item) → IsItem b x a → IsFirst (Reserved words.EndInstance) b → ⊥
+item_goes_on : (b a : List Lexeme) (x : Item) → IsItem b x a
+    → IsFirst (Reserved words.EndInstance) b → ⊥
 item_goes_on b a (Single x) h ends = event_apart x.way _ b h.0 ends.0 h.1 ends.1 (λ e. cc) (λ e. cc)
 item_goes_on b a (Coregion xs) h ends = symbols_clash _ _ b h.0 ends.0 h.1 ends.1 (λ e. cc)
 
 -- items follow one another up to `endinstance`
 item_sequence : IsSequence IsItem Closed (IsFirst (Reserved words.EndInstance))
-item_sequence = record { one = item_same; goes_on = item_goes_on; begins = λ b a x h. tt; ends = λ b ends. tt }
+item_sequence =
+    record { one = item_same; goes_on = item_goes_on; begins = λ b a x h. tt; ends = λ b ends. tt }
 
 -- ---- sections and `inst` statements
 
@@ -72,7 +80,8 @@ instance_same b a c x y h g stop_a stop_c =
     let e3 = (token_same _ _ g.last h.last_close g.last_close (token_at _ h.last g.last h.last_close e2.1 h.is_endinstance) g.is_endinstance).1 in
     (section e0.0 e2.0, end_same g.last_close a c (subst (λ (m : List Lexeme). IsEnd m a) e3 h.is_last_end) g.is_last_end)
   where
-    section : {d e : Decl} {k l : List Item} → d ≡ e → k ≡ l → (let s : Section = record { decl = d; items = k } in s) ≡ record { decl = e; items = l }
+    section : {d e : Decl} {k l : List Item} → d ≡ e → k ≡ l
+        → (let s : Section = record { decl = d; items = k } in s) ≡ record { decl = e; items = l }
     section p q = cc
 
 -- sections follow one another up to `endmsc`
@@ -98,9 +107,12 @@ inst_sequence = record {
 }
 
 -- the sections and `endmsc` end the header
-sections_end : (b a d : List Lexeme) (ss : List Section) → AreMany IsSection b ss a → IsToken (Reserved words.EndMsc) a d → EndsHeader b
-sections_end b a d [] h g c k = symbols_clash (Reserved words.EndMsc) _ a d c g (token_at _ b a c h k) (λ e. cc)
-sections_end b a d (s ∷ ss) h g c k = symbols_clash (Reserved words.Instance) _ b h.1.0 c h.1.1 k (λ e. cc)
+sections_end : (b a d : List Lexeme) (ss : List Section) → AreMany IsSection b ss a
+    → IsToken (Reserved words.EndMsc) a d → EndsHeader b
+sections_end b a d [] h g c k =
+    symbols_clash (Reserved words.EndMsc) _ a d c g (token_at _ b a c h k) (λ e. cc)
+sections_end b a d (s ∷ ss) h g c k =
+    symbols_clash (Reserved words.Instance) _ b h.1.0 c h.1.1 k (λ e. cc)
 
 -- ---- the whole chart
 
@@ -117,5 +129,6 @@ one_chart b t u h g =
     (subst (λ (m : List Lexeme). AreMany IsSection m t.sections h.last) e3.1 h.are_sections) g.are_sections (h.last_close, h.is_endmsc) (g.last_close, g.is_endmsc) in
     tree e1.0 (h.is_header.1 ∙ ap (flat_map (λ g. g)) e3.0 ∙ sym g.is_header.1) e4.0
   where
-    tree : {m n : List ℕ} {k l : List Decl} {f g : List Section} → m ≡ n → k ≡ l → f ≡ g → (let t : Tree = record { name = m; header = k; sections = f } in t) ≡ record { name = n; header = l; sections = g }
+    tree : {m n : List ℕ} {k l : List Decl} {f g : List Section} → m ≡ n → k ≡ l → f ≡ g
+        → (let t : Tree = record { name = m; header = k; sections = f } in t) ≡ record { name = n; header = l; sections = g }
     tree p q r = cc
