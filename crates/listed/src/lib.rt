@@ -1,8 +1,8 @@
 //! Lists that contracts see as lists.
 //!
 //! A [`Listed`] is made from a `Vec` and gives it back, and neither takes memory. Other crates keep
-//! it where a contract compares a value with a definition's: a `Vec` shows its capacity and where it
-//! lies, a `Listed` its items alone.
+//! it where a contract compares a value with a definition's: a `Vec` shows its capacity and where
+//! it lies, a `Listed` its items alone.
 #![tactic(auto)]
 
 ghost use Rattle.std.specs.Prelude.{◌≡◌, List};

@@ -16,16 +16,21 @@ text_of-append : (ps qs : List Piece) → text_of (ps ++ qs) ≡ text_of ps ++ t
 text_of-append ps qs = flat_map-append spelled ps qs
 
 -- the same before a rest
-pub text_of-append-rest : (ps qs : List Piece) (rest : List ℕ) → text_of (ps ++ qs) ++ rest ≡ text_of ps ++ (text_of qs ++ rest)
-text_of-append-rest ps qs rest = ap (λ (t : List ℕ). t ++ rest) (text_of-append ps qs) ∙ append_assoc (text_of ps) (text_of qs) rest
+pub text_of-append-rest : (ps qs : List Piece) (rest : List ℕ)
+    → text_of (ps ++ qs) ++ rest ≡ text_of ps ++ (text_of qs ++ rest)
+text_of-append-rest ps qs rest =
+    ap (λ (t : List ℕ). t ++ rest) (text_of-append ps qs) ∙ append_assoc (text_of ps) (text_of qs) rest
 
 -- pieces that fit before pieces that fit may be joined
-pub AreCut-append : (ps qs : List Piece) (rest : List ℕ) → AreCut ps (text_of qs ++ rest) → AreCut qs rest → AreCut (ps ++ qs) rest
+pub AreCut-append : (ps qs : List Piece) (rest : List ℕ) → AreCut ps (text_of qs ++ rest)
+    → AreCut qs rest → AreCut (ps ++ qs) rest
 AreCut-append [] qs rest a b = b
-AreCut-append (p ∷ ps) qs rest a b = (subst (λ (t : List ℕ). Fits p t) (sym (text_of-append-rest ps qs rest)) a.0, AreCut-append ps qs rest a.1 b)
+AreCut-append (p ∷ ps) qs rest a b =
+    (subst (λ (t : List ℕ). Fits p t) (sym (text_of-append-rest ps qs rest)) a.0, AreCut-append ps qs rest a.1 b)
 
 -- the tokens of pieces joined: the later ones begin where the text of the first ends
-pub tokens_of-append : (at : ℕ) (ps qs : List Piece) → tokens_of at (ps ++ qs) ≡ tokens_of at ps ++ tokens_of (at + length (text_of ps)) qs
+pub tokens_of-append : (at : ℕ) (ps qs : List Piece)
+    → tokens_of at (ps ++ qs) ≡ tokens_of at ps ++ tokens_of (at + length (text_of ps)) qs
 tokens_of-append at [] qs = ap (λ (n : ℕ). tokens_of n qs) (let e : at ≡ at + 0 = omega arith in e)
 tokens_of-append at (p ∷ ps) qs =
     let n : at + length (spelled p) + length (text_of ps) ≡ at + length (text_of (p ∷ ps)) = omega (arith, length-append (spelled p) (text_of ps)) in
@@ -43,10 +48,13 @@ pub record IsReadTo (text : List ℕ) (at : ℕ) (tokens : List Token) : Type 0 
 
 -- at the start nothing has been read
 pub reads_none : (text : List ℕ) → IsReadTo text 0 []
-reads_none text = record { pieces = []; inside = omega arith; whole = refl; cut = tt; place = refl; made = refl }
+reads_none text =
+    record { pieces = []; inside = omega arith; whole = refl; cut = tt; place = refl; made = refl }
 
 -- one piece more at the place
-pub reads_one : (text : List ℕ) (at : ℕ) (tokens : List Token) (kind : Option Kind) (len : ℕ) → IsReadTo text at tokens → StartsWith (drop at text) kind len → IsReadTo text (at + len) (tokens ++ token_of kind at len)
+pub reads_one : (text : List ℕ) (at : ℕ) (tokens : List Token) (kind : Option Kind) (len : ℕ)
+    → IsReadTo text at tokens → StartsWith (drop at text) kind len
+    → IsReadTo text (at + len) (tokens ++ token_of kind at len)
 reads_one text at tokens kind len so_far next =
     let ps = so_far.pieces in
     let p = next.piece in
@@ -65,7 +73,8 @@ reads_one text at tokens kind len so_far next =
     }
 
 -- at the end of a short text its tokens have been read
-pub reads_all : (text : List ℕ) (at : ℕ) (tokens : List Token) → length text ≤ TEXT_LIMIT → length text ≤ at → IsReadTo text at tokens → HasTokens text tokens
+pub reads_all : (text : List ℕ) (at : ℕ) (tokens : List Token) → length text ≤ TEXT_LIMIT
+    → length text ≤ at → IsReadTo text at tokens → HasTokens text tokens
 reads_all text at tokens short all so_far =
     let nothing : drop at text ≡ [] = drop_all at text all in
     record {
@@ -77,7 +86,9 @@ reads_all text at tokens short all so_far =
     }
 
 -- a flaw where reading stands is the first one
-first_flaw : (text : List ℕ) (at : ℕ) (tokens : List Token) (fault : LexFault) → length text ≤ TEXT_LIMIT → IsReadTo text at tokens → IsFlaw fault at (drop at text) → IsFirstFlaw text fault
+first_flaw : (text : List ℕ) (at : ℕ) (tokens : List Token) (fault : LexFault)
+    → length text ≤ TEXT_LIMIT → IsReadTo text at tokens → IsFlaw fault at (drop at text)
+    → IsFirstFlaw text fault
 first_flaw text at tokens fault short so_far flaw =
     record {
       pieces = so_far.pieces;
@@ -89,21 +100,31 @@ first_flaw text at tokens fault short so_far flaw =
     }
 
 -- so it is the fault of the text
-pub flaw_found : (text : List ℕ) (at : ℕ) (tokens : List Token) (fault : LexFault) → length text ≤ TEXT_LIMIT → IsReadTo text at tokens → IsFlaw fault at (drop at text) → HasFault text fault
+pub flaw_found : (text : List ℕ) (at : ℕ) (tokens : List Token) (fault : LexFault)
+    → length text ≤ TEXT_LIMIT → IsReadTo text at tokens → IsFlaw fault at (drop at text)
+    → HasFault text fault
 flaw_found text at tokens TooLong short so_far flaw = absurd flaw
 flaw_found text at tokens Memory short so_far flaw = absurd flaw
-flaw_found text at tokens (BadByte a) short so_far flaw = first_flaw text at tokens (BadByte a) short so_far flaw
-flaw_found text at tokens (OpenNote a) short so_far flaw = first_flaw text at tokens (OpenNote a) short so_far flaw
-flaw_found text at tokens (OpenText a) short so_far flaw = first_flaw text at tokens (OpenText a) short so_far flaw
-flaw_found text at tokens (LongName a) short so_far flaw = first_flaw text at tokens (LongName a) short so_far flaw
+flaw_found text at tokens (BadByte a) short so_far flaw =
+    first_flaw text at tokens (BadByte a) short so_far flaw
+flaw_found text at tokens (OpenNote a) short so_far flaw =
+    first_flaw text at tokens (OpenNote a) short so_far flaw
+flaw_found text at tokens (OpenText a) short so_far flaw =
+    first_flaw text at tokens (OpenText a) short so_far flaw
+flaw_found text at tokens (LongName a) short so_far flaw =
+    first_flaw text at tokens (LongName a) short so_far flaw
 
 -- a piece that is no token adds none
-pub reads_gap : (text : List ℕ) (at : ℕ) (tokens : List Token) (kind : Option Kind) (len : ℕ) → IsReadTo text at tokens → StartsWith (drop at text) kind len → kind ≡ None → IsReadTo text (at + len) tokens
+pub reads_gap : (text : List ℕ) (at : ℕ) (tokens : List Token) (kind : Option Kind) (len : ℕ)
+    → IsReadTo text at tokens → StartsWith (drop at text) kind len → kind ≡ None
+    → IsReadTo text (at + len) tokens
 reads_gap text at tokens kind len so_far next none =
     subst (IsReadTo text (at + len)) (ap (λ (k : Option Kind). tokens ++ token_of k at len) none ∙ append-nil tokens) (reads_one text at tokens kind len so_far next)
 
 -- a piece that is a token adds it
-pub reads_token : (text : List ℕ) (at : ℕ) (tokens more : List Token) (kind : Option Kind) (k : Kind) (len : ℕ) → IsReadTo text at tokens → StartsWith (drop at text) kind len → kind ≡ Some k
-    → more ≡ tokens ++ record { kind = k; start = at; «end» = at + len } ∷ [] → IsReadTo text (at + len) more
-reads_token text at tokens more kind k len so_far next some pushed =
-    subst (IsReadTo text (at + len)) (ap (λ (o : Option Kind). tokens ++ token_of o at len) some ∙ sym pushed) (reads_one text at tokens kind len so_far next)
+pub reads_token : (text : List ℕ) (at : ℕ) (tokens : List Token) (kind : Option Kind) (k : Kind) (len : ℕ)
+    → IsReadTo text at tokens → StartsWith (drop at text) kind len → kind ≡ Some k
+    → IsReadTo text (at + len) (tokens ++ record { kind = k; start = at; «end» = at + len } ∷ [])
+reads_token text at tokens kind k len so_far next some =
+    subst (IsReadTo text (at + len)) (ap (λ (o : Option Kind). tokens ++ token_of o at len) some)
+    (reads_one text at tokens kind len so_far next)

@@ -10,7 +10,8 @@ use Rattle.msc_lexer.specs.Scanning.{ClosesAt, IsDoubled}
 -- ---- notes
 
 -- a byte other than 0 in the front of a list is in the list
-read_take : (n : ℕ) (body : List ℕ) (i v : ℕ) → get_or (take n body) i 0 ≡ v → 0 < v → (i < n) × (get_or body i 0 ≡ v)
+read_take : (n : ℕ) (body : List ℕ) (i v : ℕ) → get_or (take n body) i 0 ≡ v → 0 < v
+    → (i < n) × (get_or body i 0 ≡ v)
 read_take n body i v e pos =
     elim (cases_lt i n) [
       | inl lt ↦ (lt, sym (get_or-take n body i 0 lt) ∙ e)
@@ -18,7 +19,8 @@ read_take n body i v e pos =
     ]
 
 -- the first `*/` after a search that found none before it
-pub closes_at : (body : List ℕ) (at : ℕ) → 1 ≤ at → at < length body → ((k : ℕ) → k + 1 < at → get_or body k 0 ≡ 42 → get_or body (k + 1) 0 ≡ 47 → ⊥)
+pub closes_at : (body : List ℕ) (at : ℕ) → 1 ≤ at → at < length body
+    → ((k : ℕ) → k + 1 < at → get_or body k 0 ≡ 42 → get_or body (k + 1) 0 ≡ 47 → ⊥)
     → get_or body (at - 1) 0 ≡ 42 → get_or body at 0 ≡ 47 → ClosesAt body (at - 1)
 closes_at body at low high none star slash =
     let back : at - 1 + 1 ≡ at = omega arith in
@@ -33,7 +35,9 @@ closes_at body at low high none star slash =
     }
 
 -- a search to the end that found none
-pub never_closes : (body : List ℕ) (at : ℕ) → length body ≤ at → ((k : ℕ) → k + 1 < at → get_or body k 0 ≡ 42 → get_or body (k + 1) 0 ≡ 47 → ⊥) → NeverCloses body
+pub never_closes : (body : List ℕ) (at : ℕ) → length body ≤ at
+    → ((k : ℕ) → k + 1 < at → get_or body k 0 ≡ 42 → get_or body (k + 1) 0 ≡ 47 → ⊥)
+    → NeverCloses body
 never_closes body at high none k a b =
     elim (cases_lt (k + 1) (length body)) [
       | inl lt ↦ none k (omega arith) a b
@@ -52,21 +56,24 @@ doubled-append (x ∷ xs) ys =
     ]
 
 -- a byte that is no apostrophe goes on what is doubled
-pub doubled-plain : (bytes : List ℕ) (at : ℕ) → at < length bytes → (get_or bytes at 0 ≡ 39 → ⊥) → IsDoubled (take at bytes) → IsDoubled (take (at + 1) bytes)
+pub doubled-plain : (bytes : List ℕ) (at : ℕ) → at < length bytes → (get_or bytes at 0 ≡ 39 → ⊥)
+    → IsDoubled (take at bytes) → IsDoubled (take (at + 1) bytes)
 doubled-plain bytes at lt other d =
     let b : ℕ = get_or bytes at 0 in
     let one : doubled (b ∷ []) ≡ b ∷ [] = rw (ne_eqb (get_or bytes at 0) 39 other) refl in
     (d.0 ++ b ∷ [], take_more bytes at 0 lt ∙ ap (λ (l : List ℕ). l ++ b ∷ []) d.1 ∙ ap (λ (l : List ℕ). doubled d.0 ++ l) (sym one) ∙ sym (doubled-append d.0 (b ∷ [])))
 
 -- two apostrophes go on what is doubled
-pub doubled-twice : (bytes : List ℕ) (at : ℕ) → at + 1 < length bytes → get_or bytes at 0 ≡ 39 → get_or bytes (at + 1) 0 ≡ 39 → IsDoubled (take at bytes) → IsDoubled (take (at + 2) bytes)
+pub doubled-twice : (bytes : List ℕ) (at : ℕ) → at + 1 < length bytes → get_or bytes at 0 ≡ 39
+    → get_or bytes (at + 1) 0 ≡ 39 → IsDoubled (take at bytes) → IsDoubled (take (at + 2) bytes)
 doubled-twice bytes at lt first second d =
     let two : at + 1 + 1 ≡ at + 2 = omega arith in
     let e : take (at + 2) bytes ≡ (doubled d.0 ++ 39 ∷ []) ++ 39 ∷ [] = rw (← two) (take_more bytes (at + 1) 0 lt ∙ rw (take_more bytes at 0 (omega arith), first, second, d.1) refl) in
     (d.0 ++ 39 ∷ [], e ∙ append_assoc (doubled d.0) (39 ∷ []) (39 ∷ []) ∙ sym (doubled-append d.0 (39 ∷ [])))
 
 -- a byte that is no apostrophe, or the end, is no second apostrophe
-pub lone_at : (bytes : List ℕ) (at : ℕ) → (get_or bytes at 0 ≡ 39 → ⊥) → begins (nat_eq 39) (drop at bytes) ≡ false
+pub lone_at : (bytes : List ℕ) (at : ℕ) → (get_or bytes at 0 ≡ 39 → ⊥)
+    → begins (nat_eq 39) (drop at bytes) ≡ false
 lone_at bytes at other =
     elim (cases_lt at (length bytes)) [
       | inl lt ↦ rw (drop_more bytes at 0 lt) (ne_eqb 39 (get_or bytes at 0) (λ e. other (sym e)))
@@ -80,7 +87,8 @@ nonempty : (b : ℕ) (bs : List ℕ) → b ∷ bs ≢ []
 nonempty b bs e = cc
 
 -- the run that the prefix of run bytes is
-pub run_at : (text : List ℕ) → begins is_run_byte text ≡ true → IsRun (take (prefix_len is_run_byte text) text) (drop (prefix_len is_run_byte text) text)
+pub run_at : (text : List ℕ) → begins is_run_byte text ≡ true
+    → IsRun (take (prefix_len is_run_byte text) text) (drop (prefix_len is_run_byte text) text)
 run_at [] h = absurd cc
 run_at (b ∷ bs) h = record {
   some = rw (h, one-add) (nonempty b (take (prefix_len is_run_byte bs) bs));

@@ -22,7 +22,8 @@ NoPieceStands text = (p : Piece) (rest : List ℕ) → Fits p rest → text ≡ 
 pub nil_stops : NoPieceStands []
 unfolding NoPieceStands class_at shape_of
 nil_stops (Blank b) rest f e = cc
-nil_stops (Run bytes) rest f e = let r = run_begins bytes rest f.0 in let t : [] ≡ (r.0 ∷ r.1) ++ rest = e ∙ ap (λ (t : List ℕ). t ++ rest) r.2 in cc
+nil_stops (Run bytes) rest f e =
+    let r = run_begins bytes rest f.0 in let t : [] ≡ (r.0 ∷ r.1) ++ rest = e ∙ ap (λ (t : List ℕ). t ++ rest) r.2 in cc
 nil_stops (Quoted body) rest f e = cc
 nil_stops (Note body) rest f e = cc
 nil_stops (Mark b) rest f e = cc
@@ -63,13 +64,18 @@ open_note_stops body never (Note inner) rest f e =
     let t : body ≡ (inner ++ 42 ∷ 47 ∷ []) ++ rest = cc in
     let ends = note_at_end inner rest in
     never (length inner) (rw t ends.0) (rw t ends.1)
-open_note_stops body never (Blank b) rest f e = let h = ap class_at e ∙ class_of_piece (Blank b) rest f in absurd (omega (arith, h))
-open_note_stops body never (Run b) rest f e = let h = ap class_at e ∙ class_of_piece (Run b) rest f in absurd (omega (arith, h))
-open_note_stops body never (Quoted b) rest f e = let h = ap class_at e ∙ class_of_piece (Quoted b) rest f in absurd (omega (arith, h))
-open_note_stops body never (Mark b) rest f e = let h = ap class_at e ∙ class_of_piece (Mark b) rest f in absurd (omega (arith, h))
+open_note_stops body never (Blank b) rest f e =
+    let h = ap class_at e ∙ class_of_piece (Blank b) rest f in absurd (omega (arith, h))
+open_note_stops body never (Run b) rest f e =
+    let h = ap class_at e ∙ class_of_piece (Run b) rest f in absurd (omega (arith, h))
+open_note_stops body never (Quoted b) rest f e =
+    let h = ap class_at e ∙ class_of_piece (Quoted b) rest f in absurd (omega (arith, h))
+open_note_stops body never (Mark b) rest f e =
+    let h = ap class_at e ∙ class_of_piece (Mark b) rest f in absurd (omega (arith, h))
 
 -- bytes that are all doubled hold no lone apostrophe
-pub no_open_quote : (a b r : List ℕ) → begins (nat_eq 39) r ≡ false → doubled a ≡ (doubled b ++ 39 ∷ []) ++ r → ⊥
+pub no_open_quote : (a b r : List ℕ) → begins (nat_eq 39) r ≡ false
+    → doubled a ≡ (doubled b ++ 39 ∷ []) ++ r → ⊥
 no_open_quote [] [] r f e = absurd cc
 no_open_quote [] (y ∷ ys) r f e =
     elim (doubled_first y ys) [
@@ -99,10 +105,14 @@ unfolding NoPieceStands class_at class_of shape_of
 open_text_stops body (Quoted inner) rest f e =
     let t : doubled body ≡ (doubled inner ++ 39 ∷ []) ++ rest = cc in
     no_open_quote body inner rest f t
-open_text_stops body (Blank b) rest f e = let h = ap class_at e ∙ class_of_piece (Blank b) rest f in absurd (omega (arith, h))
-open_text_stops body (Run b) rest f e = let h = ap class_at e ∙ class_of_piece (Run b) rest f in absurd (omega (arith, h))
-open_text_stops body (Note b) rest f e = let h = ap class_at e ∙ class_of_piece (Note b) rest f in absurd (omega (arith, h))
-open_text_stops body (Mark b) rest f e = let h = ap class_at e ∙ class_of_piece (Mark b) rest f in absurd (omega (arith, h))
+open_text_stops body (Blank b) rest f e =
+    let h = ap class_at e ∙ class_of_piece (Blank b) rest f in absurd (omega (arith, h))
+open_text_stops body (Run b) rest f e =
+    let h = ap class_at e ∙ class_of_piece (Run b) rest f in absurd (omega (arith, h))
+open_text_stops body (Note b) rest f e =
+    let h = ap class_at e ∙ class_of_piece (Note b) rest f in absurd (omega (arith, h))
+open_text_stops body (Mark b) rest f e =
+    let h = ap class_at e ∙ class_of_piece (Mark b) rest f in absurd (omega (arith, h))
 
 -- the longest run at the front is one
 pub same_run : (a b r s : List ℕ) → IsRun a r → IsRun b s → a ++ r ≡ b ++ s → a ≡ b
@@ -116,21 +126,29 @@ run_class_at bytes rest run =
     ap (λ (t : List ℕ). class_at (t ++ rest)) r.2 ∙ run_class r.0 r.3
 
 -- none stands at a long name: the run there is the name, which does not fit
-pub long_name_stops : (bytes rest : List ℕ) → IsRun bytes rest → word_of bytes ≡ None → NAME_LIMIT < length bytes → NoPieceStands (bytes ++ rest)
+pub long_name_stops : (bytes rest : List ℕ) → IsRun bytes rest → word_of bytes ≡ None
+    → NAME_LIMIT < length bytes → NoPieceStands (bytes ++ rest)
 unfolding NoPieceStands shape_of
 long_name_stops bytes rest run none long (Run other) more f e =
     let same = same_run bytes other rest more run f.0 e in
     omega (arith, long, ap length same, f.1 (rw (← same) none))
-long_name_stops bytes rest run none long (Blank b) more f e = let h = sym (run_class_at bytes rest run) ∙ ap class_at e ∙ class_of_piece (Blank b) more f in absurd (omega (arith, h))
-long_name_stops bytes rest run none long (Quoted b) more f e = let h = sym (run_class_at bytes rest run) ∙ ap class_at e ∙ class_of_piece (Quoted b) more f in absurd (omega (arith, h))
-long_name_stops bytes rest run none long (Note b) more f e = let h = sym (run_class_at bytes rest run) ∙ ap class_at e ∙ class_of_piece (Note b) more f in absurd (omega (arith, h))
-long_name_stops bytes rest run none long (Mark b) more f e = let h = sym (run_class_at bytes rest run) ∙ ap class_at e ∙ class_of_piece (Mark b) more f in absurd (omega (arith, h))
+long_name_stops bytes rest run none long (Blank b) more f e =
+    let h = sym (run_class_at bytes rest run) ∙ ap class_at e ∙ class_of_piece (Blank b) more f in absurd (omega (arith, h))
+long_name_stops bytes rest run none long (Quoted b) more f e =
+    let h = sym (run_class_at bytes rest run) ∙ ap class_at e ∙ class_of_piece (Quoted b) more f in absurd (omega (arith, h))
+long_name_stops bytes rest run none long (Note b) more f e =
+    let h = sym (run_class_at bytes rest run) ∙ ap class_at e ∙ class_of_piece (Note b) more f in absurd (omega (arith, h))
+long_name_stops bytes rest run none long (Mark b) more f e =
+    let h = sym (run_class_at bytes rest run) ∙ ap class_at e ∙ class_of_piece (Mark b) more f in absurd (omega (arith, h))
 
 -- none stands at a flaw
-pub flaw_stops : (fault : LexFault) (at : ℕ) (text : List ℕ) → IsFlaw fault at text → NoPieceStands text
+pub flaw_stops : (fault : LexFault) (at : ℕ) (text : List ℕ) → IsFlaw fault at text
+    → NoPieceStands text
 flaw_stops TooLong at text flaw = absurd flaw
 flaw_stops Memory at text flaw = absurd flaw
 flaw_stops (BadByte a) at text flaw = bad_stops text flaw.1
-flaw_stops (OpenNote a) at text flaw = subst NoPieceStands (sym flaw.2) (open_note_stops flaw.1 flaw.3)
+flaw_stops (OpenNote a) at text flaw =
+    subst NoPieceStands (sym flaw.2) (open_note_stops flaw.1 flaw.3)
 flaw_stops (OpenText a) at text flaw = subst NoPieceStands (sym flaw.2) (open_text_stops flaw.1)
-flaw_stops (LongName a) at text flaw = subst NoPieceStands (sym flaw.3) (long_name_stops flaw.1 flaw.2 flaw.4 flaw.5 flaw.6)
+flaw_stops (LongName a) at text flaw =
+    subst NoPieceStands (sym flaw.3) (long_name_stops flaw.1 flaw.2 flaw.4 flaw.5 flaw.6)

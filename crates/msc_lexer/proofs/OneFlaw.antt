@@ -28,7 +28,8 @@ bad_is_no_run bytes rest run h =
     true≢false (sym r.3 ∙ w)
 
 -- two flaws at one place are one
-pub one_flaw : (f g : LexFault) (at : ℕ) (text : List ℕ) → IsFlaw f at text → IsFlaw g at text → f ≡ g
+pub one_flaw : (f g : LexFault) (at : ℕ) (text : List ℕ) → IsFlaw f at text → IsFlaw g at text
+    → f ≡ g
 unfolding class_at class_of
 one_flaw TooLong g at text a b = absurd a
 one_flaw Memory g at text a b = absurd a
@@ -38,15 +39,27 @@ one_flaw (BadByte x) (BadByte y) at text a b = let h : x ≡ y = a.0 ∙ sym b.0
 one_flaw (OpenNote x) (OpenNote y) at text a b = let h : x ≡ y = a.0 ∙ sym b.0 in cc
 one_flaw (OpenText x) (OpenText y) at text a b = let h : x ≡ y = a.0 ∙ sym b.0 in cc
 one_flaw (LongName x) (LongName y) at text a b = let h : x ≡ y = a.0 ∙ sym b.0 in cc
-one_flaw (BadByte x) (OpenNote y) at text a b = absurd (bad_is_no_note b.1 (subst BeginsNothing b.2 a.1))
-one_flaw (BadByte x) (OpenText y) at text a b = absurd (bad_is_no_text (doubled b.1) (subst BeginsNothing b.2 a.1))
-one_flaw (BadByte x) (LongName y) at text a b = absurd (bad_is_no_run b.1 b.2 b.4 (subst BeginsNothing b.3 a.1))
-one_flaw (OpenNote x) (BadByte y) at text a b = absurd (bad_is_no_note a.1 (subst BeginsNothing a.2 b.1))
-one_flaw (OpenText x) (BadByte y) at text a b = absurd (bad_is_no_text (doubled a.1) (subst BeginsNothing a.2 b.1))
-one_flaw (LongName x) (BadByte y) at text a b = absurd (bad_is_no_run a.1 a.2 a.4 (subst BeginsNothing a.3 b.1))
-one_flaw (OpenNote x) (OpenText y) at text a b = let h = ap class_at (sym a.2 ∙ b.2) in absurd (omega (arith, h))
-one_flaw (OpenText x) (OpenNote y) at text a b = let h = ap class_at (sym a.2 ∙ b.2) in absurd (omega (arith, h))
-one_flaw (OpenNote x) (LongName y) at text a b = let h = ap class_at (sym a.2 ∙ b.3) ∙ run_class_at b.1 b.2 b.4 in absurd (omega (arith, h))
-one_flaw (OpenText x) (LongName y) at text a b = let h = ap class_at (sym a.2 ∙ b.3) ∙ run_class_at b.1 b.2 b.4 in absurd (omega (arith, h))
-one_flaw (LongName x) (OpenNote y) at text a b = let h = ap class_at (sym b.2 ∙ a.3) ∙ run_class_at a.1 a.2 a.4 in absurd (omega (arith, h))
-one_flaw (LongName x) (OpenText y) at text a b = let h = ap class_at (sym b.2 ∙ a.3) ∙ run_class_at a.1 a.2 a.4 in absurd (omega (arith, h))
+one_flaw (BadByte x) (OpenNote y) at text a b =
+    absurd (bad_is_no_note b.1 (subst BeginsNothing b.2 a.1))
+one_flaw (BadByte x) (OpenText y) at text a b =
+    absurd (bad_is_no_text (doubled b.1) (subst BeginsNothing b.2 a.1))
+one_flaw (BadByte x) (LongName y) at text a b =
+    absurd (bad_is_no_run b.1 b.2 b.4 (subst BeginsNothing b.3 a.1))
+one_flaw (OpenNote x) (BadByte y) at text a b =
+    absurd (bad_is_no_note a.1 (subst BeginsNothing a.2 b.1))
+one_flaw (OpenText x) (BadByte y) at text a b =
+    absurd (bad_is_no_text (doubled a.1) (subst BeginsNothing a.2 b.1))
+one_flaw (LongName x) (BadByte y) at text a b =
+    absurd (bad_is_no_run a.1 a.2 a.4 (subst BeginsNothing a.3 b.1))
+one_flaw (OpenNote x) (OpenText y) at text a b =
+    let h = ap class_at (sym a.2 ∙ b.2) in absurd (omega (arith, h))
+one_flaw (OpenText x) (OpenNote y) at text a b =
+    let h = ap class_at (sym a.2 ∙ b.2) in absurd (omega (arith, h))
+one_flaw (OpenNote x) (LongName y) at text a b =
+    let h = ap class_at (sym a.2 ∙ b.3) ∙ run_class_at b.1 b.2 b.4 in absurd (omega (arith, h))
+one_flaw (OpenText x) (LongName y) at text a b =
+    let h = ap class_at (sym a.2 ∙ b.3) ∙ run_class_at b.1 b.2 b.4 in absurd (omega (arith, h))
+one_flaw (LongName x) (OpenNote y) at text a b =
+    let h = ap class_at (sym b.2 ∙ a.3) ∙ run_class_at a.1 a.2 a.4 in absurd (omega (arith, h))
+one_flaw (LongName x) (OpenText y) at text a b =
+    let h = ap class_at (sym b.2 ∙ a.3) ∙ run_class_at a.1 a.2 a.4 in absurd (omega (arith, h))

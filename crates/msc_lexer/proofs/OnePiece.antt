@@ -8,20 +8,26 @@ use Rattle.msc_lexer.specs.Pieces.{Piece, Blank, Note, Run, Quoted, Mark, NeverC
 use Rattle.msc_lexer.proofs.Shapes.{class_at, shape_of, class_of_piece}
 
 -- in a note the first `*/` ends it
-pub note_at_end : (body rest : List ℕ) → (get_or ((body ++ 42 ∷ 47 ∷ []) ++ rest) (length body) 0 ≡ 42) × (get_or ((body ++ 42 ∷ 47 ∷ []) ++ rest) (length body + 1) 0 ≡ 47)
-note_at_end body rest = rw append_assoc (get_or_at body 42 (47 ∷ rest) 0 (length body) refl, get_or-append-add body (42 ∷ 47 ∷ rest) 1 0)
+pub note_at_end : (body rest : List ℕ)
+    → (get_or ((body ++ 42 ∷ 47 ∷ []) ++ rest) (length body) 0 ≡ 42) × (get_or ((body ++ 42 ∷ 47 ∷ []) ++ rest) (length body + 1) 0 ≡ 47)
+note_at_end body rest =
+    rw append_assoc (get_or_at body 42 (47 ∷ rest) 0 (length body) refl, get_or-append-add body (42 ∷ 47 ∷ rest) 1 0)
 
 -- what holds of a body holds behind its first byte
 pub NeverCloses-rest : (x : ℕ) (xs : List ℕ) → NeverCloses (x ∷ xs) → NeverCloses xs
-NeverCloses-rest x xs h k a b = h (suc k) a (let e : suc k + 1 ≡ suc (k + 1) = omega arith in rw e b)
+NeverCloses-rest x xs h k a b =
+    h (suc k) a (let e : suc k + 1 ≡ suc (k + 1) = omega arith in rw e b)
 
 -- two bodies up to the first `*/` are one
-pub same_note : (a b r s : List ℕ) → NeverCloses a → NeverCloses b → (a ++ 42 ∷ 47 ∷ []) ++ r ≡ (b ++ 42 ∷ 47 ∷ []) ++ s → a ≡ b
+pub same_note : (a b r s : List ℕ) → NeverCloses a → NeverCloses b
+    → (a ++ 42 ∷ 47 ∷ []) ++ r ≡ (b ++ 42 ∷ 47 ∷ []) ++ s → a ≡ b
 same_note [] [] r s f g e = refl
 same_note [] (x ∷ []) r s f g e = let h : ◌≡◌ {A = ℕ} 47 42 = cc in absurd (omega (arith, h))
-same_note [] (x ∷ (y ∷ ys)) r s f g e = let h : 42 ≡ x = cc in let i : 47 ≡ y = cc in absurd (g 0 (sym h) (sym i))
+same_note [] (x ∷ (y ∷ ys)) r s f g e =
+    let h : 42 ≡ x = cc in let i : 47 ≡ y = cc in absurd (g 0 (sym h) (sym i))
 same_note (x ∷ []) [] r s f g e = let h : ◌≡◌ {A = ℕ} 42 47 = cc in absurd (omega (arith, h))
-same_note (x ∷ (y ∷ ys)) [] r s f g e = let h : x ≡ 42 = cc in let i : y ≡ 47 = cc in absurd (f 0 h i)
+same_note (x ∷ (y ∷ ys)) [] r s f g e =
+    let h : x ≡ 42 = cc in let i : y ≡ 47 = cc in absurd (f 0 h i)
 same_note (x ∷ xs) (y ∷ ys) r s f g e =
     let h : x ≡ y = cc in
     let t : (xs ++ 42 ∷ 47 ∷ []) ++ r ≡ (ys ++ 42 ∷ 47 ∷ []) ++ s = cc in
@@ -29,7 +35,8 @@ same_note (x ∷ xs) (y ∷ ys) r s f g e =
     cc
 
 -- the first element of bytes of which each apostrophe is doubled
-pub doubled_first : (x : ℕ) (xs : List ℕ) → ((x ≡ 39) × (doubled (x ∷ xs) ≡ 39 ∷ 39 ∷ doubled xs)) ⊎ ((x ≢ 39) × (doubled (x ∷ xs) ≡ x ∷ doubled xs))
+pub doubled_first : (x : ℕ) (xs : List ℕ)
+    → ((x ≡ 39) × (doubled (x ∷ xs) ≡ 39 ∷ 39 ∷ doubled xs)) ⊎ ((x ≢ 39) × (doubled (x ∷ xs) ≡ x ∷ doubled xs))
 doubled_first x xs =
     elim (cases_Bool (eqb x 39)) [
       | inl e ↦ inl (eqb-true x 39 e, rw e refl)
@@ -37,7 +44,8 @@ doubled_first x xs =
     ]
 
 -- two bodies up to the lone apostrophe are one
-pub same_quote : (a b r s : List ℕ) → begins (nat_eq 39) r ≡ false → begins (nat_eq 39) s ≡ false → (doubled a ++ 39 ∷ []) ++ r ≡ (doubled b ++ 39 ∷ []) ++ s → a ≡ b
+pub same_quote : (a b r s : List ℕ) → begins (nat_eq 39) r ≡ false → begins (nat_eq 39) s ≡ false
+    → (doubled a ++ 39 ∷ []) ++ r ≡ (doubled b ++ 39 ∷ []) ++ s → a ≡ b
 same_quote [] [] r s f g e = refl
 same_quote [] (y ∷ ys) r s f g e =
     elim (doubled_first y ys) [
@@ -70,7 +78,8 @@ same_quote (x ∷ xs) (y ∷ ys) r s f g e =
     ]
 
 -- two pieces of one shape at the front are one
-pub one_piece : (p q : Piece) (r s : List ℕ) → Fits p r → Fits q s → spelled p ++ r ≡ spelled q ++ s → shape_of p ≡ shape_of q → p ≡ q
+pub one_piece : (p q : Piece) (r s : List ℕ) → Fits p r → Fits q s → spelled p ++ r ≡ spelled q ++ s
+    → shape_of p ≡ shape_of q → p ≡ q
 unfolding shape_of
 one_piece (Blank a) (Blank b) r s f g e h = let i : a ≡ b = cc in cc
 one_piece (Run a) (Run b) r s f g e h =
@@ -89,11 +98,13 @@ one_piece (Note a) q r s f g e h = absurd (omega (arith, h))
 one_piece (Mark a) q r s f g e h = absurd (omega (arith, h))
 
 -- two pieces at the front are of one shape
-pub same_shape : (p q : Piece) (r s : List ℕ) → Fits p r → Fits q s → spelled p ++ r ≡ spelled q ++ s → shape_of p ≡ shape_of q
+pub same_shape : (p q : Piece) (r s : List ℕ) → Fits p r → Fits q s
+    → spelled p ++ r ≡ spelled q ++ s → shape_of p ≡ shape_of q
 same_shape p q r s f g e = sym (class_of_piece p r f) ∙ ap class_at e ∙ class_of_piece q s g
 
 -- two pieces at the front are one, and so is what follows them
-pub same_front : (p q : Piece) (r s : List ℕ) → Fits p r → Fits q s → spelled p ++ r ≡ spelled q ++ s → (p ≡ q) × (r ≡ s)
+pub same_front : (p q : Piece) (r s : List ℕ) → Fits p r → Fits q s
+    → spelled p ++ r ≡ spelled q ++ s → (p ≡ q) × (r ≡ s)
 same_front p q r s f g e =
     let same = one_piece p q r s f g e (same_shape p q r s f g e) in
     let t : spelled q ++ r ≡ spelled q ++ s = sym (rw same refl) ∙ e in

@@ -22,20 +22,25 @@ use Rattle.msc_lexer.proofs.Printed.{lexemes_seen}
 -- ---- tokens stand in their text
 
 -- a token within the text goes before tokens within it
-token_within : (text : List ℕ) (o : Option Kind) (at len : ℕ) (ts : List Token) → at + len ≤ length text → AreWithin text ts → AreWithin text (token_of o at len ++ ts)
+token_within : (text : List ℕ) (o : Option Kind) (at len : ℕ) (ts : List Token)
+    → at + len ≤ length text → AreWithin text ts → AreWithin text (token_of o at len ++ ts)
 token_within text None at len ts fits others = others
-token_within text (Some k) at len ts fits others = All-cons (IsWithin text) (record { kind = k; start = at; «end» = at + len }) ts (record { ordered = omega arith; inside = fits }) others
+token_within text (Some k) at len ts fits others =
+    All-cons (IsWithin text) (record { kind = k; start = at; «end» = at + len }) ts (record { ordered = omega arith; inside = fits }) others
 
 -- the tokens of pieces stand within the text of the pieces
-tokens_within : (text : List ℕ) (ps : List Piece) (at : ℕ) → at + length (text_of ps) ≤ length text → AreWithin text (tokens_of at ps)
+tokens_within : (text : List ℕ) (ps : List Piece) (at : ℕ) → at + length (text_of ps) ≤ length text
+    → AreWithin text (tokens_of at ps)
 tokens_within text [] at fits = All-nil (IsWithin text)
 tokens_within text (p ∷ ps) at fits =
     token_within text (kind_of p) at (length (spelled p)) (tokens_of (at + length (spelled p)) ps) (omega (arith, fits, length-append (spelled p) (text_of ps)))
     (tokens_within text ps (at + length (spelled p)) (omega (arith, fits, length-append (spelled p) (text_of ps))))
 
 -- so the tokens of a text stand in it
-pub are_within : (text : List ℕ) (tokens : List Token) → HasTokens text tokens → AreWithin text tokens
-are_within text tokens h = All-same (IsWithin text) tokens (tokens_of 0 h.pieces) h.made (tokens_within text h.pieces 0 (let e = ap length h.whole in omega (arith, e)))
+pub are_within : (text : List ℕ) (tokens : List Token) → HasTokens text tokens
+    → AreWithin text tokens
+are_within text tokens h =
+    All-same (IsWithin text) tokens (tokens_of 0 h.pieces) h.made (tokens_within text h.pieces 0 (let e = ap length h.whole in omega (arith, e)))
 
 -- ---- names are names
 
@@ -49,24 +54,30 @@ while_all p (x ∷ xs) =
     ]
 
 -- a run that is no word is a name
-run_name : (bytes rest : List ℕ) → IsRun bytes rest → (word_of bytes ≡ None → length bytes ≤ NAME_LIMIT) → word_of bytes ≡ None → IsName bytes
-run_name bytes rest h short none = record { some = h.some; run = rw h.longest (while_all is_run_byte (bytes ++ rest)); free = none; short = short none }
+run_name : (bytes rest : List ℕ) → IsRun bytes rest
+    → (word_of bytes ≡ None → length bytes ≤ NAME_LIMIT) → word_of bytes ≡ None → IsName bytes
+run_name bytes rest h short none =
+    record { some = h.some; run = rw h.longest (while_all is_run_byte (bytes ++ rest)); free = none; short = short none }
 
 -- a run is a word, or named by a name
-run_named : (bytes rest : List ℕ) (at : ℕ) (ls : List Lexeme) (o : Option Word) → word_of bytes ≡ o → IsRun bytes rest → (word_of bytes ≡ None → length bytes ≤ NAME_LIMIT) → HaveNames ls → HaveNames (lexeme_at (Some (unwrap_or (option_map kinds.Word o) kinds.Name)) bytes at ++ ls)
+run_named : (bytes rest : List ℕ) (at : ℕ) (ls : List Lexeme) (o : Option Word) → word_of bytes ≡ o
+    → IsRun bytes rest → (word_of bytes ≡ None → length bytes ≤ NAME_LIMIT) → HaveNames ls
+    → HaveNames (lexeme_at (Some (unwrap_or (option_map kinds.Word o) kinds.Name)) bytes at ++ ls)
 unfolding lexeme_at
 run_named bytes rest at ls None e h short others = (run_name bytes rest h short e, others)
 run_named bytes rest at ls (Some w) e h short others = (tt, others)
 
 -- a mark names nothing
-mark_named : (o : Option Kind) (b at : ℕ) (ls : List Lexeme) → o ≢ Some kinds.Name → HaveNames ls → HaveNames (lexeme_at o (b ∷ []) at ++ ls)
+mark_named : (o : Option Kind) (b at : ℕ) (ls : List Lexeme) → o ≢ Some kinds.Name → HaveNames ls
+    → HaveNames (lexeme_at o (b ∷ []) at ++ ls)
 unfolding lexeme_at
 mark_named None b at ls h others = others
 mark_named (Some kinds.Name) b at ls h others = absurd (h refl)
 mark_named (Some k) b at ls h others = (tt, others)
 
 -- a choice between what is no name is none
-if_no_name : (t : Bool) (k : Kind) (o : Option Kind) → k ≢ kinds.Name → o ≢ Some kinds.Name → cond t (Some k) o ≢ Some kinds.Name
+if_no_name : (t : Bool) (k : Kind) (o : Option Kind) → k ≢ kinds.Name → o ≢ Some kinds.Name
+    → cond t (Some k) o ≢ Some kinds.Name
 if_no_name true k o h g e = h (inside e)
   where
     inside : {a b : Kind} → Some a ≡ Some b → a ≡ b
@@ -75,29 +86,36 @@ if_no_name false k o h g e = g e
 
 -- no mark is a name
 mark_no_name : (b : ℕ) → mark_of b ≢ Some kinds.Name
-mark_no_name b = if_no_name _ kinds.Semicolon _ (λ e. cc) (if_no_name _ kinds.Comma _ (λ e. cc) (if_no_name _ kinds.Colon _ (λ e. cc) (if_no_name _ kinds.LeftParen _ (λ e. cc) (if_no_name _ kinds.RightParen _ (λ e. cc) (λ e. none_name e)))))
+mark_no_name b =
+    if_no_name _ kinds.Semicolon _ (λ e. cc) (if_no_name _ kinds.Comma _ (λ e. cc) (if_no_name _ kinds.Colon _ (λ e. cc) (if_no_name _ kinds.LeftParen _ (λ e. cc) (if_no_name _ kinds.RightParen _ (λ e. cc) (λ e. none_name e)))))
   where
     none_name : None ≡ Some kinds.Name → ⊥
     none_name e = cc
 
 -- the names among pieces are names
-pieces_named : (at : ℕ) (ps : List Piece) (rest : List ℕ) → AreCut ps rest → HaveNames (lexemes_of at ps)
+pieces_named : (at : ℕ) (ps : List Piece) (rest : List ℕ) → AreCut ps rest
+    → HaveNames (lexemes_of at ps)
 unfolding lexemes_of lexeme_at
 pieces_named at [] rest h = tt
 pieces_named at (Blank b ∷ ps) rest h = pieces_named (at + 1) ps rest h.1
 pieces_named at (Note body ∷ ps) rest h = pieces_named _ ps rest h.1
-pieces_named at (Run bytes ∷ ps) rest h = run_named bytes _ at _ (word_of bytes) refl h.0.0 h.0.1 (pieces_named (at + length bytes) ps rest h.1)
+pieces_named at (Run bytes ∷ ps) rest h =
+    run_named bytes _ at _ (word_of bytes) refl h.0.0 h.0.1 (pieces_named (at + length bytes) ps rest h.1)
 pieces_named at (pieces.Quoted body ∷ ps) rest h = (tt, pieces_named _ ps rest h.1)
-pieces_named at (Mark b ∷ ps) rest h = mark_named (mark_of b) b at _ (mark_no_name b) (pieces_named (at + 1) ps rest h.1)
+pieces_named at (Mark b ∷ ps) rest h =
+    mark_named (mark_of b) b at _ (mark_no_name b) (pieces_named (at + 1) ps rest h.1)
 
 -- so the names of a text are names
-pub are_named : (text : List ℕ) (tokens : List Token) → HasTokens text tokens → HaveNames (lexemes text tokens)
-are_named text tokens h = rw (h.made, lexemes_seen text [] h.pieces h.whole) (pieces_named 0 h.pieces [] h.cut)
+pub are_named : (text : List ℕ) (tokens : List Token) → HasTokens text tokens
+    → HaveNames (lexemes text tokens)
+are_named text tokens h =
+    rw (h.made, lexemes_seen text [] h.pieces h.whole) (pieces_named 0 h.pieces [] h.cut)
 
 -- ---- each token has a byte
 
 -- a piece makes at most one token, and only of some bytes
-token_some : (p : Piece) (rest : List ℕ) (at len : ℕ) → pieces.Fits p rest → length (token_of (kind_of p) at len) ≤ length (spelled p)
+token_some : (p : Piece) (rest : List ℕ) (at len : ℕ) → pieces.Fits p rest
+    → length (token_of (kind_of p) at len) ≤ length (spelled p)
 token_some (Blank b) rest at len h = omega arith
 token_some (Note body) rest at len h = omega arith
 token_some (Run []) rest at len h = absurd (h.0.some refl)
@@ -110,7 +128,8 @@ token_some (Mark b) rest at len h = one (mark_of b)
     one (Some k) = omega arith
 
 -- so pieces make no more tokens than bytes
-tokens_few : (at : ℕ) (ps : List Piece) (rest : List ℕ) → AreCut ps rest → length (tokens_of at ps) ≤ length (text_of ps)
+tokens_few : (at : ℕ) (ps : List Piece) (rest : List ℕ) → AreCut ps rest
+    → length (tokens_of at ps) ≤ length (text_of ps)
 tokens_few at [] rest h = omega arith
 tokens_few at (p ∷ ps) rest h =
     let first = token_some p (text_of ps ++ rest) at (length (spelled p)) h.0 in
@@ -118,5 +137,7 @@ tokens_few at (p ∷ ps) rest h =
     omega (arith, first, others, length-append (token_of (kind_of p) at (length (spelled p))) (tokens_of (at + length (spelled p)) ps), length-append (spelled p) (text_of ps))
 
 -- and a text has no more tokens than bytes
-pub are_few : (text : List ℕ) (tokens : List Token) → HasTokens text tokens → length tokens ≤ length text
-are_few text tokens h = let n = tokens_few 0 h.pieces [] h.cut in omega (arith, n, ap length h.made, ap length h.whole)
+pub are_few : (text : List ℕ) (tokens : List Token) → HasTokens text tokens
+    → length tokens ≤ length text
+are_few text tokens h =
+    let n = tokens_few 0 h.pieces [] h.cut in omega (arith, n, ap length h.made, ap length h.whole)

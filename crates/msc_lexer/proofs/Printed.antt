@@ -19,24 +19,31 @@ use Rattle.msc_lexer.proofs.Cuts.{AreCut-append}
 -- ---- what a grammar sees of pieces
 
 -- a token is seen as its bytes in the text
-one_token : (text : List ℕ) (o : Option Kind) (bytes : List ℕ) (at : ℕ) → slice_range text at (at + length bytes) ≡ bytes → lexemes text (token_of o at (length bytes)) ≡ lexeme_at o bytes at
+one_token : (text : List ℕ) (o : Option Kind) (bytes : List ℕ) (at : ℕ)
+    → slice_range text at (at + length bytes) ≡ bytes
+    → lexemes text (token_of o at (length bytes)) ≡ lexeme_at o bytes at
 unfolding lexeme_at
 one_token text None bytes at e = refl
-one_token text (Some k) bytes at e = ap (λ (b : List ℕ). record { symbol = symbol_of k b; place = at } ∷ []) e
+one_token text (Some k) bytes at e =
+    ap (λ (b : List ℕ). record { symbol = symbol_of k b; place = at } ∷ []) e
 
 -- tokens joined are seen one after the other
-lexemes-append : (text : List ℕ) (ts us : List Token) → lexemes text (ts ++ us) ≡ lexemes text ts ++ lexemes text us
+lexemes-append : (text : List ℕ) (ts us : List Token)
+    → lexemes text (ts ++ us) ≡ lexemes text ts ++ lexemes text us
 lexemes-append text [] us = refl
-lexemes-append text (t ∷ ts) us = ap (λ (x : List Lexeme). lexeme_of text t ∷ x) (lexemes-append text ts us)
+lexemes-append text (t ∷ ts) us =
+    ap (λ (x : List Lexeme). lexeme_of text t ∷ x) (lexemes-append text ts us)
 
 -- the bytes between a front and a rest
-cut_out : (front bytes rest : List ℕ) → slice_range (front ++ (bytes ++ rest)) (length front) (length front + length bytes) ≡ bytes
+cut_out : (front bytes rest : List ℕ)
+    → slice_range (front ++ (bytes ++ rest)) (length front) (length front + length bytes) ≡ bytes
 cut_out front bytes rest =
     let n : length front + length bytes - length front ≡ length bytes = omega arith in
     rw (drop_at front (bytes ++ rest) (length front) refl, n) (take_at bytes rest (length bytes) refl)
 
 -- the tokens of the text of pieces are seen as the pieces are
-pub lexemes_seen : (text front : List ℕ) (ps : List Piece) → text ≡ front ++ text_of ps → lexemes text (tokens_of (length front) ps) ≡ lexemes_of (length front) ps
+pub lexemes_seen : (text front : List ℕ) (ps : List Piece) → text ≡ front ++ text_of ps
+    → lexemes text (tokens_of (length front) ps) ≡ lexemes_of (length front) ps
 unfolding lexemes_of
 lexemes_seen text front [] e = refl
 lexemes_seen text front (p ∷ ps) e =
@@ -50,7 +57,8 @@ lexemes_seen text front (p ∷ ps) e =
 -- ---- words and names are pieces
 
 -- bytes of a run before another byte are all that is taken
-run_all : (w rest : List ℕ) → list_all is_run_byte w ≡ true → begins is_run_byte rest ≡ false → take_while is_run_byte (w ++ rest) ≡ w
+run_all : (w rest : List ℕ) → list_all is_run_byte w ≡ true → begins is_run_byte rest ≡ false
+    → take_while is_run_byte (w ++ rest) ≡ w
 run_all [] [] h g = refl
 run_all [] (b ∷ bs) h g = take_while-cons is_run_byte b bs ∙ rw g refl
 run_all (b ∷ w) rest h g =
@@ -58,7 +66,8 @@ run_all (b ∷ w) rest h g =
     take_while-cons is_run_byte b (w ++ rest) ∙ rw parts.0 (ap (λ (x : List ℕ). b ∷ x) (run_all w rest parts.1 g))
 
 -- they are the longest run
-a_run : (w rest : List ℕ) → w ≢ [] → list_all is_run_byte w ≡ true → begins is_run_byte rest ≡ false → IsRun w rest
+a_run : (w rest : List ℕ) → w ≢ [] → list_all is_run_byte w ≡ true → begins is_run_byte rest ≡ false
+    → IsRun w rest
 a_run w rest some all stop = record { some = some; longest = sym (run_all w rest all stop) }
 
 -- a spelled word is made of run bytes
@@ -85,8 +94,10 @@ spelling_run words.Create = (λ e. cc, refl)
 spelling_run words.Stop = (λ e. cc, refl)
 
 -- a spelled word stands where no run byte follows
-word_fits : (w : Word) (rest : List ℕ) → begins is_run_byte rest ≡ false → Fits (Run (spelling w)) rest
-word_fits w rest stop = (a_run (spelling w) rest (spelling_run w).0 (spelling_run w).1 stop, λ none. let e : Some w ≡ None = sym (word_of-spelling w) ∙ none in absurd cc)
+word_fits : (w : Word) (rest : List ℕ) → begins is_run_byte rest ≡ false
+    → Fits (Run (spelling w)) rest
+word_fits w rest stop =
+    (a_run (spelling w) rest (spelling_run w).0 (spelling_run w).1 stop, λ none. let e : Some w ≡ None = sym (word_of-spelling w) ∙ none in absurd cc)
 
 -- a name stands where no run byte follows
 name_fits : (n rest : List ℕ) → IsName n → begins is_run_byte rest ≡ false → Fits (Run n) rest

@@ -58,7 +58,8 @@ pub IsMark : ℕ → Type 0
 IsMark b = (b ≡ 59) ⊎ ((b ≡ 44) ⊎ ((b ≡ 58) ⊎ ((b ≡ 40) ⊎ (b ≡ 41))))
 
 -- a chain of tests for marks, one test at a time
-pub if_mark : (b n : ℕ) (k : Kind) (other : Option Kind) (P : Type 0) → ((b ≡ n) → P) → (other ≢ None → P) → cond (eqb b n) (Some k) other ≢ None → P
+pub if_mark : (b n : ℕ) (k : Kind) (other : Option Kind) (P : Type 0) → ((b ≡ n) → P)
+    → (other ≢ None → P) → cond (eqb b n) (Some k) other ≢ None → P
 if_mark b n k other P same differs h =
     elim (cases_Bool (eqb b n)) [
       | inl e ↦ same (eqb-true b n e)
@@ -90,7 +91,8 @@ unfolding class_of
 run_class b h = rw (run_is_no_white b h, h) refl
 
 -- a run begins with a byte of runs
-pub run_begins : (bytes rest : List ℕ) → IsRun bytes rest → (b : ℕ) × (bs : List ℕ) × (bytes ≡ b ∷ bs) × (is_run_byte b ≡ true)
+pub run_begins : (bytes rest : List ℕ) → IsRun bytes rest
+    → (b : ℕ) × (bs : List ℕ) × (bytes ≡ b ∷ bs) × (is_run_byte b ≡ true)
 run_begins [] rest r = absurd (r.some refl)
 run_begins (b ∷ bs) rest r =
     elim (cases_Bool (is_run_byte b)) [
@@ -99,7 +101,8 @@ run_begins (b ∷ bs) rest r =
     ]
 
 -- the first byte of a piece tells its shape
-pub class_of_piece : (p : Piece) (rest : List ℕ) → Fits p rest → class_at (spelled p ++ rest) ≡ shape_of p
+pub class_of_piece : (p : Piece) (rest : List ℕ) → Fits p rest
+    → class_at (spelled p ++ rest) ≡ shape_of p
 unfolding class_at class_of shape_of
 class_of_piece (Blank b) rest h = rw h refl
 class_of_piece (Run bytes) rest h =

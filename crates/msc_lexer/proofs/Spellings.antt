@@ -56,15 +56,19 @@ word_of-spelling Create = refl
 word_of-spelling Stop = refl
 
 -- what the comparison of the code answered is the test of the definition
-pub compared : (r : Bool) (bytes other : List ℕ) (w : Word) → other ≡ spelling w → ((r ≡ true) ↔ (map to_ascii_lowercase bytes ≡ map to_ascii_lowercase other)) → r ≡ is_spelled bytes w
+pub compared : (r : Bool) (bytes other : List ℕ) (w : Word) → other ≡ spelling w
+    → ((r ≡ true) ↔ (map to_ascii_lowercase bytes ≡ map to_ascii_lowercase other))
+    → r ≡ is_spelled bytes w
 compared r bytes other w same both =
     let e : map to_ascii_lowercase other ≡ spelling w = ap (map to_ascii_lowercase) same ∙ lowercase-spelling w in
     same_from_decides r (is_spelled bytes w) (rw e at both) (bytes_eq-Decides (map to_ascii_lowercase bytes) (spelling w))
 
 -- a search that passes at a place finds what stands there
-pub found : (p : Word → Bool) (ws : List Word) (i : ℕ) (d : Word) → i < length ws → p (get_or ws i d) ≡ true → find p (drop i ws) ≡ Some (get_or ws i d)
+pub found : (p : Word → Bool) (ws : List Word) (i : ℕ) (d : Word) → i < length ws
+    → p (get_or ws i d) ≡ true → find p (drop i ws) ≡ Some (get_or ws i d)
 found p ws i d lt pass = at_drop_more (find p) ws i d lt ∙ rw pass refl
 
 -- a search that fails at a place goes on behind it
-pub missed : (p : Word → Bool) (ws : List Word) (i : ℕ) (d : Word) → i < length ws → p (get_or ws i d) ≡ false → find p (drop i ws) ≡ find p (drop (i + 1) ws)
+pub missed : (p : Word → Bool) (ws : List Word) (i : ℕ) (d : Word) → i < length ws
+    → p (get_or ws i d) ≡ false → find p (drop i ws) ≡ find p (drop (i + 1) ws)
 missed p ws i d lt fail = at_drop_more (find p) ws i d lt ∙ rw fail refl

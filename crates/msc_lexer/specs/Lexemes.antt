@@ -39,7 +39,8 @@ symbol_of kinds.RightParen bytes = RightParen
 
 -- a token of a text, with its bytes
 abbrev pub lexeme_of : List ℕ → Token → Lexeme
-lexeme_of text t = record { symbol = symbol_of t.kind (slice_range text t.start t.«end»); place = t.start }
+lexeme_of text t =
+    record { symbol = symbol_of t.kind (slice_range text t.start t.«end»); place = t.start }
 
 -- the tokens of a text, with their bytes
 abbrev pub lexemes : List ℕ → List Token → List Lexeme
@@ -80,16 +81,20 @@ lexeme_at (Some kind) bytes at = record { symbol = symbol_of kind bytes; place =
 -- what a grammar sees of pieces of which the first begins at a place
 unfoldable pub lexemes_of : ℕ → List Piece → List Lexeme
 lexemes_of at [] = []
-lexemes_of at (p ∷ ps) = lexeme_at (kind_of p) (spelled p) at ++ lexemes_of (at + length (spelled p)) ps
+lexemes_of at (p ∷ ps) =
+    lexeme_at (kind_of p) (spelled p) at ++ lexemes_of (at + length (spelled p)) ps
 
 -- What is printed as pieces is read as those pieces: the laws that a printer needs.
 pub record PrintsPieces : Type 0 where
   -- a spelled word is that word
   pub words : (w : Word) → word_of (spelling w) ≡ Some w
   -- words and names stand where no letter, digit or underscore follows
-  pub word_fits : (w : Word) (rest : List ℕ) → begins is_run_byte rest ≡ false → Fits (Run (spelling w)) rest
-  pub name_fits : (name rest : List ℕ) → IsName name → begins is_run_byte rest ≡ false → Fits (Run name) rest
+  pub word_fits : (w : Word) (rest : List ℕ) → begins is_run_byte rest ≡ false
+      → Fits (Run (spelling w)) rest
+  pub name_fits : (name rest : List ℕ) → IsName name → begins is_run_byte rest ≡ false
+      → Fits (Run name) rest
   -- pieces that fit may be joined
-  pub joined : (ps qs : List Piece) (rest : List ℕ) → AreCut ps (text_of qs ++ rest) → AreCut qs rest → AreCut (ps ++ qs) rest
+  pub joined : (ps qs : List Piece) (rest : List ℕ) → AreCut ps (text_of qs ++ rest)
+      → AreCut qs rest → AreCut (ps ++ qs) rest
   -- the tokens of the printed text are the printed tokens
   pub seen : (ps : List Piece) → lexemes (text_of ps) (tokens_of 0 ps) ≡ lexemes_of 0 ps

@@ -20,15 +20,18 @@ pub record HasTokens (text : List ℕ) (tokens : List Token) : Type 0 where
 -- the first byte begins no piece
 abbrev pub BeginsNothing : List ℕ → Type 0
 BeginsNothing [] = ⊥
-BeginsNothing (b ∷ bs) = ((is_white b || is_run_byte b || is_some (mark_of b) || b == 39) ≡ false) × ((b == 47 && begins (nat_eq 42) bs) ≡ false)
+BeginsNothing (b ∷ bs) =
+    ((is_white b || is_run_byte b || is_some (mark_of b) || b == 39) ≡ false) × ((b == 47 && begins (nat_eq 42) bs) ≡ false)
 
 -- no piece stands at the front of the text, for the reason and at the place that the fault tells
 abbrev pub IsFlaw : LexFault → ℕ → List ℕ → Type 0
 IsFlaw TooLong place text = ⊥
 IsFlaw (BadByte at) place text = (at ≡ place) × BeginsNothing text
-IsFlaw (OpenNote at) place text = (at ≡ place) × (body : List ℕ) × (text ≡ 47 ∷ 42 ∷ body) × NeverCloses body
+IsFlaw (OpenNote at) place text =
+    (at ≡ place) × (body : List ℕ) × (text ≡ 47 ∷ 42 ∷ body) × NeverCloses body
 IsFlaw (OpenText at) place text = (at ≡ place) × (body : List ℕ) × (text ≡ 39 ∷ doubled body)
-IsFlaw (LongName at) place text = (at ≡ place) × (bytes rest : List ℕ) × (text ≡ bytes ++ rest) × IsRun bytes rest × (word_of bytes ≡ None) × (NAME_LIMIT < length bytes)
+IsFlaw (LongName at) place text =
+    (at ≡ place) × (bytes rest : List ℕ) × (text ≡ bytes ++ rest) × IsRun bytes rest × (word_of bytes ≡ None) × (NAME_LIMIT < length bytes)
 IsFlaw Memory place text = ⊥
 
 -- the text is made of pieces up to a place at which no piece stands
@@ -61,6 +64,8 @@ IsErrOrMemory f (Err e) = (e ≡ f) ⊎ (e ≡ Memory)
 
 -- A text has at most one list of tokens, at most one first fault, and never both.
 pub record OneReading : Type 0 where
-  pub tokens : (text : List ℕ) (ts us : List Token) → HasTokens text ts → HasTokens text us → ts ≡ us
+  pub tokens : (text : List ℕ) (ts us : List Token) → HasTokens text ts → HasTokens text us
+      → ts ≡ us
   pub fault : (text : List ℕ) (f g : LexFault) → HasFault text f → HasFault text g → f ≡ g
-  pub apart : (text : List ℕ) (ts : List Token) (f : LexFault) → HasTokens text ts → HasFault text f → ⊥
+  pub apart : (text : List ℕ) (ts : List Token) (f : LexFault) → HasTokens text ts → HasFault text f
+      → ⊥

@@ -28,7 +28,8 @@ doubled (b ∷ bs) = if b == 39 then 39 ∷ 39 ∷ doubled bs else b ∷ doubled
 
 -- the mark that a byte is: `;` `,` `:` `(` or `)`
 abbrev pub mark_of : ℕ → Option Kind
-mark_of b = if b == 59 then Some kinds.Semicolon else (if b == 44 then Some kinds.Comma else (if b == 58 then Some kinds.Colon else (if b == 40 then Some kinds.LeftParen else (if b == 41 then Some kinds.RightParen else None))))
+mark_of b =
+    if b == 59 then Some kinds.Semicolon else (if b == 44 then Some kinds.Comma else (if b == 58 then Some kinds.Colon else (if b == 40 then Some kinds.LeftParen else (if b == 41 then Some kinds.RightParen else None))))
 
 -- the bytes of a piece
 abbrev pub spelled : Piece → List ℕ
@@ -77,4 +78,5 @@ token_of (Some kind) at len = record { kind = kind; start = at; «end» = at + l
 -- the tokens among pieces of which the first begins at this place
 abbrev pub tokens_of : ℕ → List Piece → List Token
 tokens_of at [] = []
-tokens_of at (p ∷ ps) = token_of (kind_of p) at (length (spelled p)) ++ tokens_of (at + length (spelled p)) ps
+tokens_of at (p ∷ ps) =
+    token_of (kind_of p) at (length (spelled p)) ++ tokens_of (at + length (spelled p)) ps

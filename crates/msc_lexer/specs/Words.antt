@@ -30,7 +30,8 @@ spelling Stop = codes "stop"
 
 -- each reserved word once
 abbrev pub all_words : List Word
-all_words = Msc ∷ EndMsc ∷ Inst ∷ Instance ∷ EndInstance ∷ Input ∷ From ∷ Output ∷ To ∷ Concurrent ∷ EndConcurrent ∷ Comment ∷ Env ∷ Action ∷ Condition ∷ Set ∷ Reset ∷ Timeout ∷ Create ∷ Stop ∷ []
+all_words =
+    Msc ∷ EndMsc ∷ Inst ∷ Instance ∷ EndInstance ∷ Input ∷ From ∷ Output ∷ To ∷ Concurrent ∷ EndConcurrent ∷ Comment ∷ Env ∷ Action ∷ Condition ∷ Set ∷ Reset ∷ Timeout ∷ Create ∷ Stop ∷ []
 
 -- the bytes are the word, where capital and small letters count as the same
 abbrev pub is_spelled : List ℕ → Word → Bool

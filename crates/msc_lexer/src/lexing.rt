@@ -16,7 +16,8 @@ use crate::word::Word;
 use crate::{NAME_LIMIT, TEXT_LIMIT};
 use std::alloc::Global;
 
-/// What stands at the front of a text: a piece of `length` bytes, which is a token if it has a kind.
+/// What stands at the front of a text: a piece of `length` bytes, which is a token if it has a
+/// kind.
 struct Front {
     kind: Option<Kind>,
     length: usize,

@@ -16,15 +16,18 @@ use Rattle.msc_parser.specs.Places.{Statement, InInst, InInstance, Place, Start,
 use Rattle.msc_parser.proofs.Leading.{colon_leads, second_leads, comma_leads, open_leads, word_leads, item_leads, event_leads}
 
 -- a token that may stand at a place leads on
-pub walk_token : (p q : Place) (s : Symbol) (before after : List Lexeme) → IsToken s before after → next p s ≡ Some q → walk p before ≡ walk q after
-walk_token p q s before after h step = ap (walk p) h.1 ∙ ap (λ (o : Option Place). option_map_or (λ n. walk n after) o (p, record { symbol = s; place = h.0 } ∷ after)) step
+pub walk_token : (p q : Place) (s : Symbol) (before after : List Lexeme) → IsToken s before after
+    → next p s ≡ Some q → walk p before ≡ walk q after
+walk_token p q s before after h step =
+    ap (walk p) h.1 ∙ ap (λ (o : Option Place). option_map_or (λ n. walk n after) o (p, record { symbol = s; place = h.0 } ∷ after)) step
 
 -- the tokens lead from the place to the end
 abbrev pub Accepts : Place → List Lexeme → Type 0
 Accepts p ls = walk p ls ≡ (Done, [])
 
 -- a token leads from its place to the place behind it
-by_token : (p q : Place) (s : Symbol) (b a : List Lexeme) → IsToken s b a → next p s ≡ Some q → Accepts q a → Accepts p b
+by_token : (p q : Place) (s : Symbol) (b a : List Lexeme) → IsToken s b a → next p s ≡ Some q
+    → Accepts q a → Accepts p b
 by_token p q s b a h step rest = walk_token p q s b a h step ∙ rest
 
 -- ---- a place that takes all that another takes
@@ -34,9 +37,13 @@ abbrev Wider : Place → Place → Type 0
 Wider p q = (x : Symbol) → next q x ≢ None → next p x ≡ next q x
 
 -- one step of a wider place
-wider_step : (p q : Place) (l : Lexeme) (ls : List Lexeme) (o : Option Place) → next q l.symbol ≡ o → (o ≢ None → next p l.symbol ≡ o) → option_map_or (λ a. walk a ls) o (q, l ∷ ls) ≡ (Done, []) → Accepts p (l ∷ ls)
-wider_step p q l ls None step wide h = let e : l ∷ ls ≡ [] = ap (λ (x : Place × List Lexeme). x.1) h in absurd cc
-wider_step p q l ls (Some r) step wide h = ap (λ (o : Option Place). option_map_or (λ a. walk a ls) o (p, l ∷ ls)) (wide (λ e. cc)) ∙ h
+wider_step : (p q : Place) (l : Lexeme) (ls : List Lexeme) (o : Option Place) → next q l.symbol ≡ o
+    → (o ≢ None → next p l.symbol ≡ o) → option_map_or (λ a. walk a ls) o (q, l ∷ ls) ≡ (Done, [])
+    → Accepts p (l ∷ ls)
+wider_step p q l ls None step wide h =
+    let e : l ∷ ls ≡ [] = ap (λ (x : Place × List Lexeme). x.1) h in absurd cc
+wider_step p q l ls (Some r) step wide h =
+    ap (λ (o : Option Place). option_map_or (λ a. walk a ls) o (p, l ∷ ls)) (wide (λ e. cc)) ∙ h
 
 -- what leads to the end from a place leads there from a wider one
 by_wider : (p q : Place) → Wider p q → q ≢ Done → (ls : List Lexeme) → Accepts q ls → Accepts p ls
@@ -85,7 +92,8 @@ wide_header x h = refl
 -- ---- parts
 
 -- many parts lead back to their place
-by_many : {X : Type 0} (IsPart : List Lexeme → X → List Lexeme → Type 0) (p : Place) → ((b a : List Lexeme) (x : X) → IsPart b x a → Accepts p a → Accepts p b)
+by_many : {X : Type 0} (IsPart : List Lexeme → X → List Lexeme → Type 0) (p : Place)
+    → ((b a : List Lexeme) (x : X) → IsPart b x a → Accepts p a → Accepts p b)
     → (xs : List X) (b a : List Lexeme) → AreMany IsPart b xs a → Accepts p a → Accepts p b
 by_many IsPart p one [] b a h rest = ap (walk p) h ∙ rest
 by_many IsPart p one (x ∷ xs) b a h rest = one b h.0 x h.1 (by_many IsPart p one xs h.0 a h.2 rest)
@@ -97,26 +105,36 @@ by_end p b a (Commented bytes text close h k l) rest =
     by_token (StatementEnd p) (CommentText p) (Reserved words.Comment) b text h refl (by_token (CommentText p) (CommentEnd p) (Quoted bytes) text close k refl (by_token (CommentEnd p) p Semicolon close a l refl rest))
 
 -- a second name, or none, leads to the end of a decl
-by_second : (st : Statement) (ks : List (List ℕ)) (b a : List Lexeme) → IsSecond b ks a → Accepts (DeclEnd st) a → Accepts (KindSecond st) b
-by_second st [] b a h rest = by_wider (KindSecond st) (DeclEnd st) (wide_second st) (λ e. cc) b (ap (walk (DeclEnd st)) h ∙ rest)
+by_second : (st : Statement) (ks : List (List ℕ)) (b a : List Lexeme) → IsSecond b ks a
+    → Accepts (DeclEnd st) a → Accepts (KindSecond st) b
+by_second st [] b a h rest =
+    by_wider (KindSecond st) (DeclEnd st) (wide_second st) (λ e. cc) b (ap (walk (DeclEnd st)) h ∙ rest)
 by_second st (k ∷ []) b a h rest = by_token _ (DeclEnd st) (Named k) b a h (second_leads st k) rest
 by_second st (k ∷ l ∷ ks) b a h rest = absurd h
 
 -- a kind, or none, leads to the end of a decl
-by_kind : (st : Statement) (ks : List (List ℕ)) (b a : List Lexeme) → IsKind b ks a → Accepts (DeclEnd st) a → Accepts (DeclKind st) b
-by_kind st [] b a h rest = by_wider (DeclKind st) (DeclEnd st) (wide_kind st) (λ e. cc) b (ap (walk (DeclEnd st)) h ∙ rest)
-by_kind st (k ∷ ks) b a h rest = by_token _ (KindFirst st) Colon b h.0 h.2 (colon_leads st) (by_token _ (KindSecond st) (Named k) h.0 h.1 h.3 refl (by_second st ks h.1 a h.4 rest))
+by_kind : (st : Statement) (ks : List (List ℕ)) (b a : List Lexeme) → IsKind b ks a
+    → Accepts (DeclEnd st) a → Accepts (DeclKind st) b
+by_kind st [] b a h rest =
+    by_wider (DeclKind st) (DeclEnd st) (wide_kind st) (λ e. cc) b (ap (walk (DeclEnd st)) h ∙ rest)
+by_kind st (k ∷ ks) b a h rest =
+    by_token _ (KindFirst st) Colon b h.0 h.2 (colon_leads st) (by_token _ (KindSecond st) (Named k) h.0 h.1 h.3 refl (by_second st ks h.1 a h.4 rest))
 
 -- a decl leads to its end
-by_decl : (st : Statement) (b a : List Lexeme) (d : Decl) → IsDecl b d a → Accepts (DeclEnd st) a → Accepts (DeclName st) b
-by_decl st b a d h rest = by_token _ (DeclKind st) (Named d.name) b h.0 h.1 refl (by_kind st d.kind h.0 a h.2 rest)
+by_decl : (st : Statement) (b a : List Lexeme) (d : Decl) → IsDecl b d a → Accepts (DeclEnd st) a
+    → Accepts (DeclName st) b
+by_decl st b a d h rest =
+    by_token _ (DeclKind st) (Named d.name) b h.0 h.1 refl (by_kind st d.kind h.0 a h.2 rest)
 
 -- the end of a statement with decls leads behind it
-by_decl_end : (st : Statement) (b a : List Lexeme) → IsEnd b a → Accepts (behind st) a → Accepts (DeclEnd st) b
-by_decl_end st b a h rest = by_wider (DeclEnd st) (StatementEnd (behind st)) (wide_decl st) (λ e. cc) b (by_end (behind st) b a h rest)
+by_decl_end : (st : Statement) (b a : List Lexeme) → IsEnd b a → Accepts (behind st) a
+    → Accepts (DeclEnd st) b
+by_decl_end st b a h rest =
+    by_wider (DeclEnd st) (StatementEnd (behind st)) (wide_decl st) (λ e. cc) b (by_end (behind st) b a h rest)
 
 -- an `inst` statement leads back to the header
-by_inst : (b a : List Lexeme) (ds : List Decl) → IsLedBy (Reserved words.Inst) AreDecls b ds a → Accepts Header a → Accepts Header b
+by_inst : (b a : List Lexeme) (ds : List Decl) → IsLedBy (Reserved words.Inst) AreDecls b ds a
+    → Accepts Header a → Accepts Header b
 by_inst b a [] h rest = absurd h.2.1
 by_inst b a (d ∷ ds) h rest =
     by_token Header (DeclName InInst) _ b h.0 h.1 refl (by_decl InInst h.0 h.2.1.0 d h.2.1.1
@@ -124,26 +142,34 @@ by_inst b a (d ∷ ds) h rest =
     (by_decl_end InInst h.2.0 a h.2.2 rest)))
 
 -- a message instance name, or none, leads to what follows it
-by_number : (w : Way) (p : Place) (o : Option (List ℕ)) (b a : List Lexeme) → IsNumber b o a → Accepts (AfterNumber w p) a → Accepts (AfterMessage w p) b
-by_number w p None b a h rest = by_wider (AfterMessage w p) (AfterNumber w p) (wide_message w p) (λ e. cc) b (ap (walk (AfterNumber w p)) h ∙ rest)
+by_number : (w : Way) (p : Place) (o : Option (List ℕ)) (b a : List Lexeme) → IsNumber b o a
+    → Accepts (AfterNumber w p) a → Accepts (AfterMessage w p) b
+by_number w p None b a h rest =
+    by_wider (AfterMessage w p) (AfterNumber w p) (wide_message w p) (λ e. cc) b (ap (walk (AfterNumber w p)) h ∙ rest)
 by_number w p (Some n) b a h rest =
     by_token _ (Number w p) Comma b h.0 h.1 (comma_leads w p) (by_token _ _ (Named n) h.0 a h.2 refl rest)
 
 -- names with commas between them lead behind the last of them
-by_names : (w : Way) (p : Place) (ps : List (List ℕ)) (b a : List Lexeme) → AreListed IsNamed b ps a → Accepts (AfterParameter w p) a → Accepts (Parameters w p) b
+by_names : (w : Way) (p : Place) (ps : List (List ℕ)) (b a : List Lexeme) → AreListed IsNamed b ps a
+    → Accepts (AfterParameter w p) a → Accepts (Parameters w p) b
 by_names w p [] b a h rest = absurd h
 by_names w p (x ∷ xs) b a h rest =
     by_token _ (AfterParameter w p) (Named x) b h.0 h.1 refl
     (by_many (IsLedBy Comma IsNamed) (AfterParameter w p) (λ c e y k more. by_token _ (Parameter w p) Comma c k.0 k.1 refl (by_token _ _ (Named y) k.0 e k.2 refl more)) xs h.0 a h.2 rest)
 
 -- parameters, or none, lead to what follows them
-by_parameters : (w : Way) (p : Place) (ps : List (List ℕ)) (b a : List Lexeme) → AreParameters b ps a → Accepts (AfterParameters w p) a → Accepts (AfterNumber w p) b
-by_parameters w p ps b a (Absent none h) rest = by_wider (AfterNumber w p) (AfterParameters w p) (wide_number w p) (λ e. cc) b (ap (walk (AfterParameters w p)) h ∙ rest)
-by_parameters w p ps b a (Empty close none h k) rest = by_token _ (Parameters w p) LeftParen b close h (open_leads w p) (by_token _ _ RightParen close a k refl rest)
-by_parameters w p ps b a (Given names close h k l) rest = by_token _ (Parameters w p) LeftParen b names h (open_leads w p) (by_names w p ps names close k (by_token _ _ RightParen close a l refl rest))
+by_parameters : (w : Way) (p : Place) (ps : List (List ℕ)) (b a : List Lexeme)
+    → AreParameters b ps a → Accepts (AfterParameters w p) a → Accepts (AfterNumber w p) b
+by_parameters w p ps b a (Absent none h) rest =
+    by_wider (AfterNumber w p) (AfterParameters w p) (wide_number w p) (λ e. cc) b (ap (walk (AfterParameters w p)) h ∙ rest)
+by_parameters w p ps b a (Empty close none h k) rest =
+    by_token _ (Parameters w p) LeftParen b close h (open_leads w p) (by_token _ _ RightParen close a k refl rest)
+by_parameters w p ps b a (Given names close h k l) rest =
+    by_token _ (Parameters w p) LeftParen b names h (open_leads w p) (by_names w p ps names close k (by_token _ _ RightParen close a l refl rest))
 
 -- an event behind its first word leads behind the event
-by_signal : (p : Place) (b a : List Lexeme) (e : Signal) → IsSignal b e a → Accepts p a → Accepts (Message e.way p) b
+by_signal : (p : Place) (b a : List Lexeme) (e : Signal) → IsSignal b e a → Accepts p a
+    → Accepts (Message e.way p) b
 by_signal p b a e h rest =
     by_token _ (AfterMessage e.way p) (Named e.name) b h.is_ident.number h.is_ident.is_name refl
     (by_number e.way p e.number h.is_ident.number h.is_ident.parameters h.is_ident.is_number
@@ -152,7 +178,8 @@ by_signal p b a e h rest =
     (by_token _ (StatementEnd p) (Named e.address) h.address h.close h.is_address refl (by_end p h.close a h.is_end rest)))))
 
 -- a coregion behind its first word leads to the next item
-by_coregion : (b a : List Lexeme) (es : List Signal) → IsCoregion b es a → Accepts Items a → Accepts (StatementEnd Events) b
+by_coregion : (b a : List Lexeme) (es : List Signal) → IsCoregion b es a → Accepts Items a
+    → Accepts (StatementEnd Events) b
 by_coregion b a es h rest =
     by_end Events b h.events h.is_end
     (by_many IsEvent Events (λ c d x k more. by_token Events (Message x.way Events) _ c k.0 k.1 (event_leads x.way) (by_signal Events k.0 d x k.2 more)) es h.events h.last h.are_events
@@ -160,11 +187,14 @@ by_coregion b a es h rest =
 
 -- an item leads to the next item
 by_item : (b a : List Lexeme) (x : Item) → IsItem b x a → Accepts Items a → Accepts Items b
-by_item b a (Single e) h rest = by_token Items (Message e.way Items) _ b h.0 h.1 (item_leads e.way) (by_signal Items h.0 a e h.2 rest)
-by_item b a (Coregion es) h rest = by_token Items (StatementEnd Events) _ b h.0 h.1 refl (by_coregion h.0 a es h.2 rest)
+by_item b a (Single e) h rest =
+    by_token Items (Message e.way Items) _ b h.0 h.1 (item_leads e.way) (by_signal Items h.0 a e h.2 rest)
+by_item b a (Coregion es) h rest =
+    by_token Items (StatementEnd Events) _ b h.0 h.1 refl (by_coregion h.0 a es h.2 rest)
 
 -- a section leads to the next section
-by_section : (b a : List Lexeme) (s : Section) → IsSection b s a → Accepts Sections a → Accepts Sections b
+by_section : (b a : List Lexeme) (s : Section) → IsSection b s a → Accepts Sections a
+    → Accepts Sections b
 by_section b a s h rest =
     let k = h.2 in
     by_token Sections (DeclName InInstance) _ b h.0 h.1 refl (by_decl InInstance h.0 k.close s.decl k.is_decl (by_decl_end InInstance k.close k.items k.is_end

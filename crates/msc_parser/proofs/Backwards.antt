@@ -11,11 +11,14 @@ use Rattle.msc_parser.specs.Places.{Statement, InInst, InInstance}
 use Rattle.msc_parser.proofs.Following.{at_place, SectionsRest, HeaderRest, ItemsRest, EventsRest, EndRest, DeclsRest, DeclRest, SecondRest, KindRest, NameRest, AddressRest, WordRest, ParametersRest, NumberRest, EventRest}
 
 -- `;` in front of what may follow
-pub plain_end : (More : List Lexeme → Type 0) (at : ℕ) (ls : List Lexeme) → More ls → EndRest More (at_place Semicolon at ∷ ls)
+pub plain_end : (More : List Lexeme → Type 0) (at : ℕ) (ls : List Lexeme) → More ls
+    → EndRest More (at_place Semicolon at ∷ ls)
 plain_end More at ls r = record { after = ls; is_end = Plain (at, refl); rest = r }
 
 -- a comment and `;` in front of what may follow
-pub commented_end : (More : List Lexeme → Type 0) (at bt ct : ℕ) (bytes : List ℕ) (ls : List Lexeme) → More ls → EndRest More (at_place (Reserved words.Comment) at ∷ at_place (Quoted bytes) bt ∷ at_place Semicolon ct ∷ ls)
+pub commented_end : (More : List Lexeme → Type 0) (at bt ct : ℕ) (bytes : List ℕ) (ls : List Lexeme)
+    → More ls
+    → EndRest More (at_place (Reserved words.Comment) at ∷ at_place (Quoted bytes) bt ∷ at_place Semicolon ct ∷ ls)
 commented_end More at bt ct bytes ls r =
     record { after = ls; is_end = Commented bytes (at_place (Quoted bytes) bt ∷ at_place Semicolon ct ∷ ls) (at_place Semicolon ct ∷ ls) (at, refl) (bt, refl) (ct, refl); rest = r }
 
@@ -24,8 +27,10 @@ pub no_decls : (ls : List Lexeme) → EndRest HeaderRest ls → DeclsRest ls
 no_decls ls r = record { decls = []; close = ls; are = refl; rest = r }
 
 -- a comma in front of a decl
-pub comma_decl : (at : ℕ) (ls : List Lexeme) → NameRest InInst ls → DeclsRest (at_place Comma at ∷ ls)
-comma_decl at ls r = record { decls = r.decl ∷ r.rest.decls; close = r.rest.close; are = (r.after, (ls, (at, refl), r.is), r.rest.are); rest = r.rest.rest }
+pub comma_decl : (at : ℕ) (ls : List Lexeme) → NameRest InInst ls
+    → DeclsRest (at_place Comma at ∷ ls)
+comma_decl at ls r =
+    record { decls = r.decl ∷ r.rest.decls; close = r.rest.close; are = (r.after, (ls, (at, refl), r.is), r.rest.are); rest = r.rest.rest }
 
 -- there may be no kind here
 pub no_kind : (st : Statement) (ls : List Lexeme) → DeclRest st ls → KindRest st ls
@@ -36,19 +41,24 @@ pub no_second : (st : Statement) (ls : List Lexeme) → DeclRest st ls → Secon
 no_second st ls r = record { second = []; after = ls; is = refl; rest = r }
 
 -- there may be no message instance name here
-pub no_number : (w : Way) (More : List Lexeme → Type 0) (ls : List Lexeme) → ParametersRest w More ls → NumberRest w More ls
+pub no_number : (w : Way) (More : List Lexeme → Type 0) (ls : List Lexeme)
+    → ParametersRest w More ls → NumberRest w More ls
 no_number w More ls r = record { number = None; parameters = ls; is = refl; rest = r }
 
 -- there may be no parameters here
-pub no_parameters : (w : Way) (More : List Lexeme → Type 0) (ls : List Lexeme) → WordRest w More ls → ParametersRest w More ls
+pub no_parameters : (w : Way) (More : List Lexeme → Type 0) (ls : List Lexeme) → WordRest w More ls
+    → ParametersRest w More ls
 no_parameters w More ls r = record { parameters = []; word = ls; are = Absent refl refl; rest = r }
 
 -- the word before an address in front of the address
-pub word_back : (w : Way) (More : List Lexeme → Type 0) (at : ℕ) (ls : List Lexeme) → AddressRest More ls → WordRest w More (at_place (Reserved (address_word w)) at ∷ ls)
+pub word_back : (w : Way) (More : List Lexeme → Type 0) (at : ℕ) (ls : List Lexeme)
+    → AddressRest More ls → WordRest w More (at_place (Reserved (address_word w)) at ∷ ls)
 word_back w More at ls r = record { address = ls; is = (at, refl); rest = r }
 
 -- a way and a message name in front of the rest of the event
-pub event_back : (w : Way) (More : List Lexeme → Type 0) (n : List ℕ) (at bt : ℕ) (ls : List Lexeme) → NumberRest w More ls → EventRest More (at_place (Reserved (way_word w)) at ∷ at_place (Named n) bt ∷ ls)
+pub event_back : (w : Way) (More : List Lexeme → Type 0) (n : List ℕ) (at bt : ℕ) (ls : List Lexeme)
+    → NumberRest w More ls
+    → EventRest More (at_place (Reserved (way_word w)) at ∷ at_place (Named n) bt ∷ ls)
 event_back w More n at bt ls r =
     let p = r.rest in
     let q = p.rest in
@@ -83,7 +93,8 @@ coregion_event ls r = let i = r.rest in
     record { events = r.event ∷ i.events; last = i.last; close = i.close; after = i.after; are = (r.after, r.is, i.are); is_endconcurrent = i.is_endconcurrent; is_end = i.is_end; rest = i.rest }
 
 -- `concurrent` in front of a coregion and the items behind it
-pub coregion_back : (at : ℕ) (ls : List Lexeme) → EndRest EventsRest ls → ItemsRest (at_place (Reserved words.Concurrent) at ∷ ls)
+pub coregion_back : (at : ℕ) (ls : List Lexeme) → EndRest EventsRest ls
+    → ItemsRest (at_place (Reserved words.Concurrent) at ∷ ls)
 coregion_back at ls r =
     let e = r.rest in
     let i = e.rest in
@@ -99,11 +110,14 @@ coregion_back at ls r =
     }
 
 -- `endmsc` in front of the last end
-pub last_back : (at : ℕ) (ls : List Lexeme) → EndRest (λ after. after ≡ []) ls → SectionsRest (at_place (Reserved words.EndMsc) at ∷ ls)
-last_back at ls r = record { sections = []; last = at_place (Reserved words.EndMsc) at ∷ ls; close = ls; are = refl; is_endmsc = (at, refl); is_end = subst (λ (a : List Lexeme). IsEnd ls a) r.rest r.is_end }
+pub last_back : (at : ℕ) (ls : List Lexeme) → EndRest (λ after. after ≡ []) ls
+    → SectionsRest (at_place (Reserved words.EndMsc) at ∷ ls)
+last_back at ls r =
+    record { sections = []; last = at_place (Reserved words.EndMsc) at ∷ ls; close = ls; are = refl; is_endmsc = (at, refl); is_end = subst (λ (a : List Lexeme). IsEnd ls a) r.rest r.is_end }
 
 -- `instance` in front of a section and the sections behind it
-pub section_back : (at : ℕ) (ls : List Lexeme) → NameRest InInstance ls → SectionsRest (at_place (Reserved words.Instance) at ∷ ls)
+pub section_back : (at : ℕ) (ls : List Lexeme) → NameRest InInstance ls
+    → SectionsRest (at_place (Reserved words.Instance) at ∷ ls)
 section_back at ls r =
     let i = r.rest.rest in
     let s = i.rest in
@@ -122,14 +136,17 @@ pub no_inst : (ls : List Lexeme) → SectionsRest ls → HeaderRest ls
 no_inst ls r = record { groups = []; after = ls; are = refl; rest = r }
 
 -- `inst` in front of its decls and the header behind them
-pub inst_back : (at : ℕ) (ls : List Lexeme) → NameRest InInst ls → HeaderRest (at_place (Reserved words.Inst) at ∷ ls)
+pub inst_back : (at : ℕ) (ls : List Lexeme) → NameRest InInst ls
+    → HeaderRest (at_place (Reserved words.Inst) at ∷ ls)
 inst_back at ls r =
     let d = r.rest in
     let h = d.rest.rest in
     record { groups = (r.decl ∷ d.decls) ∷ h.groups; after = h.after; are = (d.rest.after, (ls, (at, refl), (d.close, (r.after, r.is, d.are), d.rest.is_end)), h.are); rest = h.rest }
 
 -- `msc` in front of the rest of a chart
-pub chart_back : (at : ℕ) (ls : List Lexeme) → ((name : List ℕ) × (close : List Lexeme) × IsToken (Named name) ls close × EndRest HeaderRest close) → (t : Tree) × IsChart (at_place (Reserved words.Msc) at ∷ ls) t
+pub chart_back : (at : ℕ) (ls : List Lexeme)
+    → ((name : List ℕ) × (close : List Lexeme) × IsToken (Named name) ls close × EndRest HeaderRest close)
+    → (t : Tree) × IsChart (at_place (Reserved words.Msc) at ∷ ls) t
 chart_back at ls r =
     let h = r.3.rest in
     let s = h.rest in (

@@ -11,30 +11,39 @@ use Rattle.msc_parser.specs.Drafts.{signals_in, signals_of}
 
 -- a part of this size takes as many tokens, or more
 abbrev TakesAsMany : {X : Type 0} → (List Lexeme → X → List Lexeme → Type 0) → (X → ℕ) → Type 0
-TakesAsMany {X} IsPart size = (b a : List Lexeme) (x : X) → IsPart b x a → size x + length a ≤ length b
+TakesAsMany {X} IsPart size =
+    (b a : List Lexeme) (x : X) → IsPart b x a → size x + length a ≤ length b
 
 -- one token
 takes_token : (s : Symbol) (b a : List Lexeme) → IsToken s b a → length b ≡ 1 + length a
 takes_token s b a h = let e = ap length h.1 in omega (arith, e)
 
 -- many parts take as many tokens as they have elements, where each gives a list of its elements
-takes_many : {X Y : Type 0} (IsPart : List Lexeme → X → List Lexeme → Type 0) (f : X → List Y) → TakesAsMany IsPart (λ x. length (f x)) → TakesAsMany (AreMany IsPart) (λ xs. length (flat_map f xs))
+takes_many : {X Y : Type 0} (IsPart : List Lexeme → X → List Lexeme → Type 0) (f : X → List Y)
+    → TakesAsMany IsPart (λ x. length (f x))
+    → TakesAsMany (AreMany IsPart) (λ xs. length (flat_map f xs))
 takes_many IsPart f one b a [] h = let e = ap length h in omega (arith, e)
-takes_many IsPart f one b a (x ∷ xs) h = let first = one b h.0 x h.1 in let others = takes_many IsPart f one h.0 a xs h.2 in omega (arith, first, others, length-append (f x) (flat_map f xs))
+takes_many IsPart f one b a (x ∷ xs) h =
+    let first = one b h.0 x h.1 in let others = takes_many IsPart f one h.0 a xs h.2 in omega (arith, first, others, length-append (f x) (flat_map f xs))
 
 -- many parts take as many tokens as they are
-takes_each : {X : Type 0} (IsPart : List Lexeme → X → List Lexeme → Type 0) → TakesAsMany IsPart (λ x. 1) → TakesAsMany (AreMany IsPart) (λ xs. length xs)
+takes_each : {X : Type 0} (IsPart : List Lexeme → X → List Lexeme → Type 0)
+    → TakesAsMany IsPart (λ x. 1) → TakesAsMany (AreMany IsPart) (λ xs. length xs)
 takes_each IsPart one b a [] h = let e = ap length h in omega (arith, e)
-takes_each IsPart one b a (x ∷ xs) h = let first = one b h.0 x h.1 in let others = takes_each IsPart one h.0 a xs h.2 in omega (arith, first, others)
+takes_each IsPart one b a (x ∷ xs) h =
+    let first = one b h.0 x h.1 in let others = takes_each IsPart one h.0 a xs h.2 in omega (arith, first, others)
 
 -- a part behind a token takes no fewer than the part
-takes_behind : {X : Type 0} (s : Symbol) (IsPart : List Lexeme → X → List Lexeme → Type 0) (size : X → ℕ) → TakesAsMany IsPart size → TakesAsMany (IsLedBy s IsPart) size
-takes_behind s IsPart size one b a x h = let t = takes_token s b h.0 h.1 in let r = one h.0 a x h.2 in omega (arith, t, r)
+takes_behind : {X : Type 0} (s : Symbol) (IsPart : List Lexeme → X → List Lexeme → Type 0)
+    (size : X → ℕ) → TakesAsMany IsPart size → TakesAsMany (IsLedBy s IsPart) size
+takes_behind s IsPart size one b a x h =
+    let t = takes_token s b h.0 h.1 in let r = one h.0 a x h.2 in omega (arith, t, r)
 
 -- the end of a statement takes no less than nothing
 takes_end : (b a : List Lexeme) → IsEnd b a → length a ≤ length b
 takes_end b a (Plain h) = let t = takes_token _ b a h in omega (arith, t)
-takes_end b a (Commented bytes text close h k l) = let t = takes_token _ b text h in let u = takes_token _ text close k in let v = takes_token _ close a l in omega (arith, t, u, v)
+takes_end b a (Commented bytes text close h k l) =
+    let t = takes_token _ b text h in let u = takes_token _ text close k in let v = takes_token _ close a l in omega (arith, t, u, v)
 
 -- ---- decls
 
@@ -47,11 +56,13 @@ takes_second (k ∷ l ∷ ks) b a h = absurd h
 -- a kind takes no less than nothing
 takes_kind : (ks : List (List ℕ)) (b a : List Lexeme) → IsKind b ks a → length a ≤ length b
 takes_kind [] b a h = let e = ap length h in omega (arith, e)
-takes_kind (k ∷ ks) b a h = let t = takes_token _ b h.0 h.2 in let u = takes_token _ h.0 h.1 h.3 in let v = takes_second ks h.1 a h.4 in omega (arith, t, u, v)
+takes_kind (k ∷ ks) b a h =
+    let t = takes_token _ b h.0 h.2 in let u = takes_token _ h.0 h.1 h.3 in let v = takes_second ks h.1 a h.4 in omega (arith, t, u, v)
 
 -- a decl takes a token, or more
 takes_decl : TakesAsMany IsDecl (λ d. 1)
-takes_decl b a d h = let t = takes_token _ b h.0 h.1 in let k = takes_kind d.kind h.0 a h.2 in omega (arith, t, k)
+takes_decl b a d h =
+    let t = takes_token _ b h.0 h.1 in let k = takes_kind d.kind h.0 a h.2 in omega (arith, t, k)
 
 -- the decls of an `inst` statement take as many tokens, or more
 takes_decls : TakesAsMany AreDecls (λ ds. length ds)
@@ -67,16 +78,19 @@ takes_decls b a (d ∷ ds) h =
 -- a message instance name takes no less than nothing
 takes_number : (o : Option (List ℕ)) (b a : List Lexeme) → IsNumber b o a → length a ≤ length b
 takes_number None b a h = let e = ap length h in omega (arith, e)
-takes_number (Some n) b a h = let t = takes_token _ b h.0 h.1 in let u = takes_token _ h.0 a h.2 in omega (arith, t, u)
+takes_number (Some n) b a h =
+    let t = takes_token _ b h.0 h.1 in let u = takes_token _ h.0 a h.2 in omega (arith, t, u)
 
 -- a name takes a token
 takes_name : TakesAsMany IsNamed (λ n. 1)
 takes_name b a n h = let t = takes_token _ b a h in omega (arith, t)
 
 -- parameters take no less than nothing
-takes_parameters : (ps : List (List ℕ)) (b a : List Lexeme) → AreParameters b ps a → length a ≤ length b
+takes_parameters : (ps : List (List ℕ)) (b a : List Lexeme) → AreParameters b ps a
+    → length a ≤ length b
 takes_parameters ps b a (Absent none h) = let e = ap length h in omega (arith, e)
-takes_parameters ps b a (Empty close none h k) = let t = takes_token _ b close h in let u = takes_token _ close a k in omega (arith, t, u)
+takes_parameters ps b a (Empty close none h k) =
+    let t = takes_token _ b close h in let u = takes_token _ close a k in omega (arith, t, u)
 takes_parameters [] b a (Given names close h k l) = absurd k
 takes_parameters (p ∷ ps) b a (Given names close h k l) =
     let t = takes_token _ b names h in
@@ -111,7 +125,8 @@ takes_coregion b a es h =
 -- an item takes as many tokens as it has events, or more
 takes_item : TakesAsMany IsItem (λ x. length (signals_in x))
 takes_item b a (Single e) h = takes_event b a e h
-takes_item b a (Coregion es) h = takes_behind (Reserved words.Concurrent) IsCoregion (λ es. length es) takes_coregion b a es h
+takes_item b a (Coregion es) h =
+    takes_behind (Reserved words.Concurrent) IsCoregion (λ es. length es) takes_coregion b a es h
 
 -- a section takes as many tokens as it has events, or more
 takes_section : TakesAsMany IsSection (λ s. length (flat_map signals_in s.items))
@@ -128,7 +143,8 @@ takes_section b a s h =
 -- ---- the whole chart
 
 -- a chart takes as many tokens as it has decls in the header and events, or more
-pub chart_takes : (ls : List Lexeme) (t : Tree) → IsChart ls t → length t.header + length (signals_of t.sections) ≤ length ls
+pub chart_takes : (ls : List Lexeme) (t : Tree) → IsChart ls t
+    → length t.header + length (signals_of t.sections) ≤ length ls
 chart_takes ls t h =
     let t0 = takes_token _ ls h.name h.is_msc in
     let t1 = takes_token _ h.name h.close h.is_name in

@@ -5,8 +5,10 @@ use Rattle.msc_parser.specs.Forms.{AreMany, IsLedBy, AreListed}
 use Rattle.msc_parser.proofs.Tokens.{token_same}
 
 -- where what follows stops the part, its value and what follows are determined
-abbrev pub Decided : {X : Type 0} → (List Lexeme → Type 0) → (List Lexeme → X → List Lexeme → Type 0) → Type 0
-Decided {X} Stop IsPart = (b a c : List Lexeme) (x y : X) → IsPart b x a → IsPart b y c → Stop a → Stop c → (x ≡ y) × (a ≡ c)
+abbrev pub Decided : {X : Type 0} → (List Lexeme → Type 0)
+    → (List Lexeme → X → List Lexeme → Type 0) → Type 0
+Decided {X} Stop IsPart =
+    (b a c : List Lexeme) (x y : X) → IsPart b x a → IsPart b y c → Stop a → Stop c → (x ≡ y) × (a ≡ c)
 
 -- parts that may follow one another: each begins with what stops the one before, and not with what
 -- ends them all
@@ -28,11 +30,14 @@ module _ {X : Type 0} (IsPart : List Lexeme → X → List Lexeme → Type 0) (S
   stopped (x ∷ xs) b a h ends = seq.begins b h.0 x h.1
 
   -- many parts up to what ends them are determined
-  pub many_same : (xs ys : List X) (b a c : List Lexeme) → AreMany IsPart b xs a → AreMany IsPart b ys c
+  pub many_same : (xs ys : List X) (b a c : List Lexeme) → AreMany IsPart b xs a
+      → AreMany IsPart b ys c
       → Ends a → Ends c → (xs ≡ ys) × (a ≡ c)
   many_same [] [] b a c h g ends_a ends_c = (refl, sym h ∙ g)
-  many_same [] (y ∷ ys) b a c h g ends_a ends_c = absurd (seq.goes_on b g.0 y g.1 (subst Ends (sym h) ends_a))
-  many_same (x ∷ xs) [] b a c h g ends_a ends_c = absurd (seq.goes_on b h.0 x h.1 (subst Ends (sym g) ends_c))
+  many_same [] (y ∷ ys) b a c h g ends_a ends_c =
+      absurd (seq.goes_on b g.0 y g.1 (subst Ends (sym h) ends_a))
+  many_same (x ∷ xs) [] b a c h g ends_a ends_c =
+      absurd (seq.goes_on b h.0 x h.1 (subst Ends (sym g) ends_c))
   many_same (x ∷ xs) (y ∷ ys) b a c h g ends_a ends_c =
       let stop_a = stopped xs h.0 a h.2 ends_a in
       let first = seq.one b h.0 g.0 x y h.1 g.1 stop_a (stopped ys g.0 c g.2 ends_c) in
@@ -41,13 +46,16 @@ module _ {X : Type 0} (IsPart : List Lexeme → X → List Lexeme → Type 0) (S
       (pair_same first.0 others.0, others.1)
 
 -- a part behind a token is determined where the part is
-pub behind_same : {X : Type 0} (s : Symbol) (IsPart : List Lexeme → X → List Lexeme → Type 0) (Stop : List Lexeme → Type 0) → Decided Stop IsPart → Decided Stop (IsLedBy s IsPart)
+pub behind_same : {X : Type 0} (s : Symbol) (IsPart : List Lexeme → X → List Lexeme → Type 0)
+    (Stop : List Lexeme → Type 0) → Decided Stop IsPart → Decided Stop (IsLedBy s IsPart)
 behind_same s IsPart Stop one b a c x y h g stop_a stop_c =
     let e = (token_same s s b h.0 g.0 h.1 g.1).1 in
     one g.0 a c x y (subst (λ (m : List Lexeme). IsPart m x a) e h.2) g.2 stop_a stop_c
 
 -- parts with commas between them are determined
-pub listed_same : {X : Type 0} (IsPart : List Lexeme → X → List Lexeme → Type 0) (Stop Ends : List Lexeme → Type 0) → Decided Stop IsPart → IsSequence (IsLedBy Comma IsPart) Stop Ends → Decided Ends (AreListed IsPart)
+pub listed_same : {X : Type 0} (IsPart : List Lexeme → X → List Lexeme → Type 0)
+    (Stop Ends : List Lexeme → Type 0) → Decided Stop IsPart
+    → IsSequence (IsLedBy Comma IsPart) Stop Ends → Decided Ends (AreListed IsPart)
 listed_same IsPart Stop Ends one seq b a c [] ys h g ends_a ends_c = absurd h
 listed_same IsPart Stop Ends one seq b a c xs [] h g ends_a ends_c = absurd g
 listed_same IsPart Stop Ends one seq b a c (x ∷ xs) (y ∷ ys) h g ends_a ends_c =

@@ -22,9 +22,11 @@ pub record WalksTo (p : Place) (ls : List Lexeme) (q : Place) (rest : List Lexem
   pub stops : (l : Lexeme) (more : List Lexeme) → rest ≡ l ∷ more → next q l.symbol ≡ None
 
 -- one step of a walk
-walk_step : (p : Place) (l : Lexeme) (ls : List Lexeme) (o : Option Place) → next p l.symbol ≡ o → ((q : Place) → WalksTo q ls (walk q ls).0 (walk q ls).1)
+walk_step : (p : Place) (l : Lexeme) (ls : List Lexeme) (o : Option Place) → next p l.symbol ≡ o
+    → ((q : Place) → WalksTo q ls (walk q ls).0 (walk q ls).1)
     → WalksTo p (l ∷ ls) (option_map_or (λ q. walk q ls) o (p, l ∷ ls)).0 (option_map_or (λ q. walk q ls) o (p, l ∷ ls)).1
-walk_step p l ls None step others = record { front = []; whole = refl; leads = λ more. refl; stops = λ k more e. let s : l ≡ k = cc in subst (λ (x : Lexeme). next p x.symbol ≡ None) s step }
+walk_step p l ls None step others =
+    record { front = []; whole = refl; leads = λ more. refl; stops = λ k more e. let s : l ≡ k = cc in subst (λ (x : Lexeme). next p x.symbol ≡ None) s step }
 walk_step p l ls (Some q) step others =
     let w = others q in
     record {
@@ -36,11 +38,13 @@ walk_step p l ls (Some q) step others =
 
 -- where each walk ends
 pub walks_to : (ls : List Lexeme) (p : Place) → WalksTo p ls (walk p ls).0 (walk p ls).1
-walks_to [] p = record { front = []; whole = refl; leads = λ more. refl; stops = λ l more e. absurd cc }
+walks_to [] p =
+    record { front = []; whole = refl; leads = λ more. refl; stops = λ l more e. absurd cc }
 walks_to (l ∷ ls) p = walk_step p l ls (next p l.symbol) refl (λ q. walks_to ls q)
 
 -- a token that may not stand there ends the walk
-pub stuck : (p : Place) (l : Lexeme) (ls : List Lexeme) → next p l.symbol ≡ None → walk p (l ∷ ls) ≡ (p, l ∷ ls)
+pub stuck : (p : Place) (l : Lexeme) (ls : List Lexeme) → next p l.symbol ≡ None
+    → walk p (l ∷ ls) ≡ (p, l ∷ ls)
 stuck p l ls none = ap (λ (o : Option Place). option_map_or (λ n. walk n ls) o (p, l ∷ ls)) none
 
 -- ---- each place has a way to the end
@@ -151,14 +155,17 @@ completed Done = refl
 -- ---- the first fault
 
 -- the tokens that were walked over can go on to a chart
-can_go_on : (ls : List Lexeme) (q : Place) (rest : List Lexeme) (w : WalksTo Start ls q rest) → IsContinuable w.front
+can_go_on : (ls : List Lexeme) (q : Place) (rest : List Lexeme) (w : WalksTo Start ls q rest)
+    → IsContinuable w.front
 can_go_on ls q rest w =
     let c = walks_chart (w.front ++ completion q) (w.leads (completion q) ∙ completed q) in
     (completion q, c.0, c.1)
 
 -- and they cannot go on with the next token
-cannot_go_on : (ls : List Lexeme) (q : Place) (rest : List Lexeme) (w : WalksTo Start ls q rest) → ((q ≡ Done) → rest ≡ [] → ⊥) → IsEndOfGood w.front rest
-cannot_go_on ls q [] w failed = λ t c. let e : walk Start w.front ≡ (Done, []) = chart_walks w.front t c in
+cannot_go_on : (ls : List Lexeme) (q : Place) (rest : List Lexeme) (w : WalksTo Start ls q rest)
+    → ((q ≡ Done) → rest ≡ [] → ⊥) → IsEndOfGood w.front rest
+cannot_go_on ls q [] w failed =
+    λ t c. let e : walk Start w.front ≡ (Done, []) = chart_walks w.front t c in
     let f : walk Start w.front ≡ (q, []) = ap (walk Start) (sym (append-nil w.front)) ∙ w.leads [] in
     failed (ap (λ (x : Place × List Lexeme). x.0) (sym f ∙ e)) refl
 cannot_go_on ls q (l ∷ rest) w failed = λ c.
@@ -177,7 +184,8 @@ pub record FaultAt (ls : List Lexeme) : Type 0 where
   pub rest_is : rest ≡ (walk Start ls).1
 
 -- a walk that doesn't reach the end of a chart ends at the first fault
-pub fault_at_walk : (ls : List Lexeme) → (((walk Start ls).0 ≡ Done) → (walk Start ls).1 ≡ [] → ⊥) → FaultAt ls
+pub fault_at_walk : (ls : List Lexeme) → (((walk Start ls).0 ≡ Done) → (walk Start ls).1 ≡ [] → ⊥)
+    → FaultAt ls
 fault_at_walk ls failed =
     let w = walks_to ls Start in
     record {

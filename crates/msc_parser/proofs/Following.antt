@@ -141,7 +141,8 @@ pub record EventRest (More : List Lexeme → Type 0) (ls : List Lexeme) : Type 0
 -- before it, which may stand anywhere, are told too
 unfoldable pub Rest : Place → List Lexeme → Type 0
 Rest Start ls = (t : Tree) × IsChart ls t
-Rest ChartName ls = (name : List ℕ) × (close : List Lexeme) × IsToken (Named name) ls close × EndRest HeaderRest close
+Rest ChartName ls =
+    (name : List ℕ) × (close : List Lexeme) × IsToken (Named name) ls close × EndRest HeaderRest close
 Rest Header ls = HeaderRest ls
 Rest Sections ls = SectionsRest ls
 Rest Items ls = ItemsRest ls
@@ -162,5 +163,6 @@ Rest (AfterParameters w p) ls = WordRest w (Rest p) ls
 Rest (Address p) ls = AddressRest (Rest p) ls
 Rest (StatementEnd p) ls = EndRest (Rest p) ls
 Rest (CommentText p) ls = (at : ℕ) → EndRest (Rest p) (at_place (Reserved words.Comment) at ∷ ls)
-Rest (CommentEnd p) ls = (at bt : ℕ) (bytes : List ℕ) → EndRest (Rest p) (at_place (Reserved words.Comment) at ∷ at_place (Quoted bytes) bt ∷ ls)
+Rest (CommentEnd p) ls =
+    (at bt : ℕ) (bytes : List ℕ) → EndRest (Rest p) (at_place (Reserved words.Comment) at ∷ at_place (Quoted bytes) bt ∷ ls)
 Rest Done ls = ls ≡ []

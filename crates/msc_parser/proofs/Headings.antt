@@ -32,21 +32,25 @@ only-KindFirst st kinds.Name bytes a = absurd (a refl)
 only-KindFirst st k bytes a = refl
 
 -- but for `:`, behind a name stands what stands behind a decl
-alike-DeclKind : (st : Statement) (k : Kind) (bytes : List ℕ) → k ≢ kinds.Colon → next (DeclKind st) (symbol_of k bytes) ≡ next (DeclEnd st) (symbol_of k bytes)
+alike-DeclKind : (st : Statement) (k : Kind) (bytes : List ℕ) → k ≢ kinds.Colon
+    → next (DeclKind st) (symbol_of k bytes) ≡ next (DeclEnd st) (symbol_of k bytes)
 alike-DeclKind InInst kinds.Colon bytes a = absurd (a refl)
 alike-DeclKind InInst k bytes a = refl
 alike-DeclKind InInstance kinds.Colon bytes a = absurd (a refl)
 alike-DeclKind InInstance k bytes a = refl
 
 -- but for a name, behind the first name of a kind stands what stands behind a decl
-alike-KindSecond : (st : Statement) (k : Kind) (bytes : List ℕ) → k ≢ kinds.Name → next (KindSecond st) (symbol_of k bytes) ≡ next (DeclEnd st) (symbol_of k bytes)
+alike-KindSecond : (st : Statement) (k : Kind) (bytes : List ℕ) → k ≢ kinds.Name
+    → next (KindSecond st) (symbol_of k bytes) ≡ next (DeclEnd st) (symbol_of k bytes)
 alike-KindSecond InInst kinds.Name bytes a = absurd (a refl)
 alike-KindSecond InInst k bytes a = refl
 alike-KindSecond InInstance kinds.Name bytes a = absurd (a refl)
 alike-KindSecond InInstance k bytes a = refl
 
 -- no colon stands behind the name
-pub kind_none : (text : List ℕ) (a : List Token) (ks : List (List ℕ)) → AreWithin text a → first_kind a ≢ Some kinds.Colon → ks ≡ [] → (st : Statement) → DidRead text IsKind (DeclKind st) (DeclEnd st) a a ks
+pub kind_none : (text : List ℕ) (a : List Token) (ks : List (List ℕ)) → AreWithin text a
+    → first_kind a ≢ Some kinds.Colon → ks ≡ [] → (st : Statement)
+    → DidRead text IsKind (DeclKind st) (DeclEnd st) a a ks
 kind_none text a ks within no_colon none st = rw none (record {
   part = refl;
   within = within;
@@ -55,12 +59,16 @@ kind_none text a ks within no_colon none st = rw none (record {
 })
 
 -- a colon and a first name stand there
-first_leads : (text : List ℕ) (a b : List Token) (n : List ℕ) (st : Statement) → AreWithin text a → first_kind a ≡ Some kinds.Colon → DidTake text (Named n) (others a) b → fault_from text (DeclKind st) a ≡ fault_from text (KindSecond st) b
+first_leads : (text : List ℕ) (a b : List Token) (n : List ℕ) (st : Statement) → AreWithin text a
+    → first_kind a ≡ Some kinds.Colon → DidTake text (Named n) (others a) b
+    → fault_from text (DeclKind st) a ≡ fault_from text (KindSecond st) b
 first_leads text a b n st within colon name =
     leads_on text (DeclKind st) (KindFirst st) Colon a (others a) (took text kinds.Colon a within colon).1 (colon_leads st) ∙ leads_on text (KindFirst st) (KindSecond st) (Named n) (others a) b name refl
 
 -- behind `:` no name stands
-pub kind_first_refused : (text : List ℕ) (a : List Token) (e : ParseFault) → AreWithin text a → first_kind a ≡ Some kinds.Colon → TakesName text whats.Name (others a) (Err e) → (st : Statement) → Stops text (DeclKind st) a e
+pub kind_first_refused : (text : List ℕ) (a : List Token) (e : ParseFault) → AreWithin text a
+    → first_kind a ≡ Some kinds.Colon → TakesName text whats.Name (others a) (Err e)
+    → (st : Statement) → Stops text (DeclKind st) a e
 kind_first_refused text a e within colon refused st =
     Stops-back text (DeclKind st) (KindFirst st) a (others a) e (leads_on text (DeclKind st) (KindFirst st) Colon a (others a) (took text kinds.Colon a within colon).1 (colon_leads st))
     (refuses_name text (KindFirst st) whats.Name (others a) e (λ len ls. refl) (only-KindFirst st) refl refused)
@@ -97,7 +105,10 @@ kind_two text a {b} {c} {n} {m} within colon name second st =
 -- ---- decls
 
 -- a decl is a name and its kind
-pub decl_read : (text : List ℕ) (a b c : List Token) (n : List ℕ) (k : List (List ℕ)) (st : Statement) → DidTake text (Named n) a b → DidRead text IsKind (DeclKind st) (DeclEnd st) b c k → DidRead text IsDecl (DeclName st) (DeclEnd st) a c record { name = n; kind = k }
+pub decl_read : (text : List ℕ) (a b c : List Token) (n : List ℕ) (k : List (List ℕ))
+    (st : Statement) → DidTake text (Named n) a b
+    → DidRead text IsKind (DeclKind st) (DeclEnd st) b c k
+    → DidRead text IsDecl (DeclName st) (DeclEnd st) a c record { name = n; kind = k }
 decl_read text a b c n k st name kind = record {
   part = (lexemes text b, name.part, kind.part);
   within = kind.within;
@@ -106,26 +117,39 @@ decl_read text a b c n k st name kind = record {
 }
 
 -- no name stands where a decl begins
-pub decl_refused : (text : List ℕ) (a : List Token) (e : ParseFault) → TakesName text whats.Name a (Err e) → (st : Statement) → Stops text (DeclName st) a e
-decl_refused text a e refused st = refuses_name text (DeclName st) whats.Name a e (λ len ls. refl) (only-DeclName st) refl refused
+pub decl_refused : (text : List ℕ) (a : List Token) (e : ParseFault)
+    → TakesName text whats.Name a (Err e) → (st : Statement) → Stops text (DeclName st) a e
+decl_refused text a e refused st =
+    refuses_name text (DeclName st) whats.Name a e (λ len ls. refl) (only-DeclName st) refl refused
 
 -- a fault of the kind is a fault of the decl
-pub decl_kind_refused : (text : List ℕ) (a b : List Token) (n : List ℕ) (e : ParseFault) (st : Statement) → DidTake text (Named n) a b → Stops text (DeclKind st) b e → Stops text (DeclName st) a e
-decl_kind_refused text a b n e st name stop = Stops-back text (DeclName st) (DeclKind st) a b e (leads_on text (DeclName st) (DeclKind st) (Named n) a b name refl) stop
+pub decl_kind_refused : (text : List ℕ) (a b : List Token) (n : List ℕ) (e : ParseFault)
+    (st : Statement) → DidTake text (Named n) a b → Stops text (DeclKind st) b e
+    → Stops text (DeclName st) a e
+decl_kind_refused text a b n e st name stop =
+    Stops-back text (DeclName st) (DeclKind st) a b e (leads_on text (DeclName st) (DeclKind st) (Named n) a b name refl) stop
 
 -- ---- `inst` statements
 
 -- but for a comma, behind a decl of `inst` stands what ends the statement
-alike-DeclEnd : (k : Kind) (bytes : List ℕ) → k ≢ kinds.Comma → next (DeclEnd InInst) (symbol_of k bytes) ≡ next (StatementEnd Header) (symbol_of k bytes)
+alike-DeclEnd : (k : Kind) (bytes : List ℕ) → k ≢ kinds.Comma
+    → next (DeclEnd InInst) (symbol_of k bytes) ≡ next (StatementEnd Header) (symbol_of k bytes)
 alike-DeclEnd kinds.Comma bytes a = absurd (a refl)
 alike-DeclEnd k bytes a = refl
 
 -- behind the decls no comma stands, so the statement ends
-decls_lead : (text : List ℕ) (a b : List Token) (ds : List Decl) → DidRead text (AreListed IsDecl) (DeclName InInst) (DeclEnd InInst) a b ds → first_kind b ≢ Some kinds.Comma → fault_from text (DeclName InInst) a ≡ fault_from text (StatementEnd Header) b
-decls_lead text a b ds h no_comma = h.leads ∙ fault_but text (DeclEnd InInst) (StatementEnd Header) kinds.Comma b alike-DeclEnd no_comma refl (λ len ls. refl) (λ len ls. refl)
+decls_lead : (text : List ℕ) (a b : List Token) (ds : List Decl)
+    → DidRead text (AreListed IsDecl) (DeclName InInst) (DeclEnd InInst) a b ds
+    → first_kind b ≢ Some kinds.Comma
+    → fault_from text (DeclName InInst) a ≡ fault_from text (StatementEnd Header) b
+decls_lead text a b ds h no_comma =
+    h.leads ∙ fault_but text (DeclEnd InInst) (StatementEnd Header) kinds.Comma b alike-DeclEnd no_comma refl (λ len ls. refl) (λ len ls. refl)
 
 -- an `inst` statement is its decls and its end
-pub inst_read : (text : List ℕ) (a b c : List Token) (ds : List Decl) → DidRead text (AreListed IsDecl) (DeclName InInst) (DeclEnd InInst) a b ds → first_kind b ≢ Some kinds.Comma → DidEnd text b c → DidRead text AreDecls (DeclName InInst) Header a c ds
+pub inst_read : (text : List ℕ) (a b c : List Token) (ds : List Decl)
+    → DidRead text (AreListed IsDecl) (DeclName InInst) (DeclEnd InInst) a b ds
+    → first_kind b ≢ Some kinds.Comma → DidEnd text b c
+    → DidRead text AreDecls (DeclName InInst) Header a c ds
 inst_read text a b c ds h no_comma end = record {
   part = (lexemes text b, h.part, end.part);
   within = end.within;
@@ -134,8 +158,12 @@ inst_read text a b c ds h no_comma end = record {
 }
 
 -- a fault of the end is a fault of the `inst` statement
-pub inst_end_refused : (text : List ℕ) (a b : List Token) (ds : List Decl) (e : ParseFault) → DidRead text (AreListed IsDecl) (DeclName InInst) (DeclEnd InInst) a b ds → first_kind b ≢ Some kinds.Comma → ((p : Place) → Stops text (StatementEnd p) b e) → Stops text (DeclName InInst) a e
-inst_end_refused text a b ds e h no_comma stop = Stops-back text (DeclName InInst) (StatementEnd Header) a b e (decls_lead text a b ds h no_comma) (stop Header)
+pub inst_end_refused : (text : List ℕ) (a b : List Token) (ds : List Decl) (e : ParseFault)
+    → DidRead text (AreListed IsDecl) (DeclName InInst) (DeclEnd InInst) a b ds
+    → first_kind b ≢ Some kinds.Comma → ((p : Place) → Stops text (StatementEnd p) b e)
+    → Stops text (DeclName InInst) a e
+inst_end_refused text a b ds e h no_comma stop =
+    Stops-back text (DeclName InInst) (StatementEnd Header) a b e (decls_lead text a b ds h no_comma) (stop Header)
 
 -- ---- the header
 
@@ -156,17 +184,22 @@ header_more text {a} {b} {c} {hs} {ds} h inst one =
     }
 
 -- a fault of an `inst` statement is a fault of the header
-pub header_stops : (text : List ℕ) (a b : List Token) (hs : List Decl) (e : ParseFault) → DidRead text IsHeader Header Header a b hs → first_kind b ≡ Some (kinds.Word words.Inst) → Stops text (DeclName InInst) (others b) e → Stops text Header a e
+pub header_stops : (text : List ℕ) (a b : List Token) (hs : List Decl) (e : ParseFault)
+    → DidRead text IsHeader Header Header a b hs → first_kind b ≡ Some (kinds.Word words.Inst)
+    → Stops text (DeclName InInst) (others b) e → Stops text Header a e
 header_stops text a b hs e h inst stop =
     Stops-back text Header (DeclName InInst) a (others b) e (h.leads ∙ leads_on text Header (DeclName InInst) (Reserved words.Inst) b (others b) (took text (kinds.Word words.Inst) b h.within inst).1 refl) stop
 
 -- but for `inst`, before the sections stands what stands between them
-alike-Header : (k : Kind) (bytes : List ℕ) → k ≢ kinds.Word words.Inst → next Header (symbol_of k bytes) ≡ next Sections (symbol_of k bytes)
+alike-Header : (k : Kind) (bytes : List ℕ) → k ≢ kinds.Word words.Inst
+    → next Header (symbol_of k bytes) ≡ next Sections (symbol_of k bytes)
 alike-Header (kinds.Word words.Inst) bytes a = absurd (a refl)
 alike-Header k bytes a = refl
 
 -- behind the last `inst` statement the sections begin
-pub header_read : (text : List ℕ) (a b : List Token) (hs : List Decl) → DidRead text IsHeader Header Header a b hs → first_kind b ≢ Some (kinds.Word words.Inst) → DidRead text IsHeader Header Sections a b hs
+pub header_read : (text : List ℕ) (a b : List Token) (hs : List Decl)
+    → DidRead text IsHeader Header Header a b hs → first_kind b ≢ Some (kinds.Word words.Inst)
+    → DidRead text IsHeader Header Sections a b hs
 header_read text a b hs h no_inst = record {
   part = h.part;
   within = h.within;

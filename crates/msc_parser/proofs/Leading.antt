@@ -12,7 +12,8 @@ colon_leads InInst = refl
 colon_leads InInstance = refl
 
 -- a second name of a kind leads to the end of the decl
-pub second_leads : (st : Statement) (n : List ℕ) → next (KindSecond st) (Named n) ≡ Some (DeclEnd st)
+pub second_leads : (st : Statement) (n : List ℕ)
+    → next (KindSecond st) (Named n) ≡ Some (DeclEnd st)
 second_leads InInst n = refl
 second_leads InInstance n = refl
 

@@ -36,28 +36,38 @@ NoEvent tokens = (way : Way) → first_kind tokens ≢ Some (kinds.Word (way_wor
 -- ---- events
 
 -- in a coregion only `out`, `in` and `endconcurrent` may stand
-only-Events : (k : Kind) (bytes : List ℕ) → k ≢ kinds.Word words.Output → k ≢ kinds.Word words.Input → k ≢ kinds.Word words.EndConcurrent → next Events (symbol_of k bytes) ≡ None
+only-Events : (k : Kind) (bytes : List ℕ) → k ≢ kinds.Word words.Output → k ≢ kinds.Word words.Input
+    → k ≢ kinds.Word words.EndConcurrent → next Events (symbol_of k bytes) ≡ None
 only-Events (kinds.Word words.Output) bytes a b c = absurd (a refl)
 only-Events (kinds.Word words.Input) bytes a b c = absurd (b refl)
 only-Events (kinds.Word words.EndConcurrent) bytes a b c = absurd (c refl)
 only-Events k bytes a b c = refl
 
 -- none of these stands here
-stuck_in_coregion : (text : List ℕ) (a : List Token) → NoEvent a → first_kind a ≢ Some (kinds.Word words.EndConcurrent) → IsStuck text Events a
+stuck_in_coregion : (text : List ℕ) (a : List Token) → NoEvent a
+    → first_kind a ≢ Some (kinds.Word words.EndConcurrent) → IsStuck text Events a
 unfolding some_kind
 stuck_in_coregion text [] no_event no_end = tt
-stuck_in_coregion text (t ∷ ts) no_event no_end = only-Events t.kind _ (λ e. no_event ways.Output (ap some_kind e)) (λ e. no_event ways.Input (ap some_kind e)) (λ e. no_end (ap some_kind e))
+stuck_in_coregion text (t ∷ ts) no_event no_end =
+    only-Events t.kind _ (λ e. no_event ways.Output (ap some_kind e)) (λ e. no_event ways.Input (ap some_kind e)) (λ e. no_end (ap some_kind e))
 
 -- neither an event nor `endconcurrent` stands here
-pub event_refused : (text : List ℕ) (a : List Token) (e : ParseFault) → NoEvent a → first_kind a ≢ Some (kinds.Word words.EndConcurrent) → e ≡ fault_at (length text) whats.Event (lexemes text a) → Stops text Events a e
-event_refused text a e no_event no_end fault = stops_here text Events whats.Event a e (λ len ls. refl) (stuck_in_coregion text a no_event no_end) refl fault
+pub event_refused : (text : List ℕ) (a : List Token) (e : ParseFault) → NoEvent a
+    → first_kind a ≢ Some (kinds.Word words.EndConcurrent)
+    → e ≡ fault_at (length text) whats.Event (lexemes text a) → Stops text Events a e
+event_refused text a e no_event no_end fault =
+    stops_here text Events whats.Event a e (λ len ls. refl) (stuck_in_coregion text a no_event no_end) refl fault
 
 -- the word of a way leads to the event's message
-word_of_way : (text : List ℕ) (w : Way) (a : List Token) → AreWithin text a → first_kind a ≡ Some (kinds.Word (way_word w)) → DidTake text (Reserved (way_word w)) a (others a)
+word_of_way : (text : List ℕ) (w : Way) (a : List Token) → AreWithin text a
+    → first_kind a ≡ Some (kinds.Word (way_word w))
+    → DidTake text (Reserved (way_word w)) a (others a)
 word_of_way text w a within first = (took text (kinds.Word (way_word w)) a within first).1
 
 -- an event is its first word and what follows
-pub event_read : (text : List ℕ) (w : Way) (p : Place) (a b : List Token) (e : Signal) → AreWithin text a → first_kind a ≡ Some (kinds.Word (way_word w)) → next p (Reserved (way_word w)) ≡ Some (Message w p)
+pub event_read : (text : List ℕ) (w : Way) (p : Place) (a b : List Token) (e : Signal)
+    → AreWithin text a → first_kind a ≡ Some (kinds.Word (way_word w))
+    → next p (Reserved (way_word w)) ≡ Some (Message w p)
     → DidRead text (IsSignalOf w) (Message w p) p (others a) b e → DidRead text IsEvent p p a b e
 event_read text w p a b e within first step h =
     let word = word_of_way text w a within first in
@@ -69,18 +79,30 @@ event_read text w p a b e within first step h =
     }
 
 -- a fault of an event behind its first word is a fault of the event
-pub event_stops : (text : List ℕ) (w : Way) (p : Place) (a : List Token) (e : ParseFault) → AreWithin text a → first_kind a ≡ Some (kinds.Word (way_word w)) → next p (Reserved (way_word w)) ≡ Some (Message w p) → Stops text (Message w p) (others a) e → Stops text p a e
-event_stops text w p a e within first step stop = Stops-back text p (Message w p) a (others a) e (leads_on text p (Message w p) (Reserved (way_word w)) a (others a) (word_of_way text w a within first) step) stop
+pub event_stops : (text : List ℕ) (w : Way) (p : Place) (a : List Token) (e : ParseFault)
+    → AreWithin text a → first_kind a ≡ Some (kinds.Word (way_word w))
+    → next p (Reserved (way_word w)) ≡ Some (Message w p) → Stops text (Message w p) (others a) e
+    → Stops text p a e
+event_stops text w p a e within first step stop =
+    Stops-back text p (Message w p) a (others a) e (leads_on text p (Message w p) (Reserved (way_word w)) a (others a) (word_of_way text w a within first) step) stop
 
 -- what is answered of an event behind its first word is answered of the event in a coregion
-pub event_answer : (text : List ℕ) (w : Way) (a : List Token) (r : Result (Signal × Bor (List Token)) ParseFault) → AreWithin text a → first_kind a ≡ Some (kinds.Word (way_word w)) → ((p : Place) → Reads text (IsSignalOf w) (Message w p) p (others a) r) → Reads text IsEvent Events Events a r × Uses a r
-event_answer text w a (Ok x) within first h = let word = word_of_way text w a within first in (event_read text w Events a x.1.now x.0 within first (event_leads w) (h Events), let s = (h Events).shorter in omega (arith, word.shorter, s))
-event_answer text w a (Err e) within first h = (event_stops text w Events a e within first (event_leads w) (h Events), tt)
+pub event_answer : (text : List ℕ) (w : Way) (a : List Token)
+    (r : Result (Signal × Bor (List Token)) ParseFault) → AreWithin text a
+    → first_kind a ≡ Some (kinds.Word (way_word w))
+    → ((p : Place) → Reads text (IsSignalOf w) (Message w p) p (others a) r)
+    → Reads text IsEvent Events Events a r × Uses a r
+event_answer text w a (Ok x) within first h =
+    let word = word_of_way text w a within first in (event_read text w Events a x.1.now x.0 within first (event_leads w) (h Events), let s = (h Events).shorter in omega (arith, word.shorter, s))
+event_answer text w a (Err e) within first h =
+    (event_stops text w Events a e within first (event_leads w) (h Events), tt)
 
 -- ---- coregions
 
 -- a coregion is its end, its events, `endconcurrent` and its end
-pub coregion_read : (text : List ℕ) (a b c d : List Token) (es : List Signal) → DidEnd text a b → DidRead text (AreUpTo (Reserved words.EndConcurrent) IsEvent) Events (StatementEnd Items) b c es → DidEnd text c d → DidRead text IsCoregion (StatementEnd Events) Items a d es
+pub coregion_read : (text : List ℕ) (a b c d : List Token) (es : List Signal) → DidEnd text a b
+    → DidRead text (AreUpTo (Reserved words.EndConcurrent) IsEvent) Events (StatementEnd Items) b c es
+    → DidEnd text c d → DidRead text IsCoregion (StatementEnd Events) Items a d es
 coregion_read text a b c d es end events last = record {
   part = record {
     events = lexemes text b;
@@ -99,7 +121,9 @@ coregion_read text a b c d es end events last = record {
 -- ---- items
 
 -- in a section only `out`, `in`, `concurrent` and `endinstance` may stand
-only-Items : (k : Kind) (bytes : List ℕ) → k ≢ kinds.Word words.Output → k ≢ kinds.Word words.Input → k ≢ kinds.Word words.Concurrent → k ≢ kinds.Word words.EndInstance → next Items (symbol_of k bytes) ≡ None
+only-Items : (k : Kind) (bytes : List ℕ) → k ≢ kinds.Word words.Output → k ≢ kinds.Word words.Input
+    → k ≢ kinds.Word words.Concurrent → k ≢ kinds.Word words.EndInstance
+    → next Items (symbol_of k bytes) ≡ None
 only-Items (kinds.Word words.Output) bytes a b c d = absurd (a refl)
 only-Items (kinds.Word words.Input) bytes a b c d = absurd (b refl)
 only-Items (kinds.Word words.Concurrent) bytes a b c d = absurd (c refl)
@@ -107,50 +131,74 @@ only-Items (kinds.Word words.EndInstance) bytes a b c d = absurd (d refl)
 only-Items k bytes a b c d = refl
 
 -- none of these stands here
-stuck_in_section : (text : List ℕ) (a : List Token) → NoEvent a → first_kind a ≢ Some (kinds.Word words.Concurrent) → first_kind a ≢ Some (kinds.Word words.EndInstance) → IsStuck text Items a
+stuck_in_section : (text : List ℕ) (a : List Token) → NoEvent a
+    → first_kind a ≢ Some (kinds.Word words.Concurrent)
+    → first_kind a ≢ Some (kinds.Word words.EndInstance) → IsStuck text Items a
 unfolding some_kind
 stuck_in_section text [] no_event no_coregion no_end = tt
 stuck_in_section text (t ∷ ts) no_event no_coregion no_end =
     only-Items t.kind _ (λ e. no_event ways.Output (ap some_kind e)) (λ e. no_event ways.Input (ap some_kind e)) (λ e. no_coregion (ap some_kind e)) (λ e. no_end (ap some_kind e))
 
 -- neither an item nor `endinstance` stands here
-pub item_refused : (text : List ℕ) (a : List Token) (e : ParseFault) → NoEvent a → first_kind a ≢ Some (kinds.Word words.Concurrent) → first_kind a ≢ Some (kinds.Word words.EndInstance) → e ≡ fault_at (length text) whats.Item (lexemes text a) → Stops text Items a e
-item_refused text a e no_event no_coregion no_end fault = stops_here text Items whats.Item a e (λ len ls. refl) (stuck_in_section text a no_event no_coregion no_end) refl fault
+pub item_refused : (text : List ℕ) (a : List Token) (e : ParseFault) → NoEvent a
+    → first_kind a ≢ Some (kinds.Word words.Concurrent)
+    → first_kind a ≢ Some (kinds.Word words.EndInstance)
+    → e ≡ fault_at (length text) whats.Item (lexemes text a) → Stops text Items a e
+item_refused text a e no_event no_coregion no_end fault =
+    stops_here text Items whats.Item a e (λ len ls. refl) (stuck_in_section text a no_event no_coregion no_end) refl fault
 
 -- an event is an item
-pub single_read : (text : List ℕ) (w : Way) (a b : List Token) (e : Signal) → AreWithin text a → first_kind a ≡ Some (kinds.Word (way_word w)) → DidRead text (IsSignalOf w) (Message w Items) Items (others a) b e → DidRead text IsItem Items Items a b (Single e)
+pub single_read : (text : List ℕ) (w : Way) (a b : List Token) (e : Signal) → AreWithin text a
+    → first_kind a ≡ Some (kinds.Word (way_word w))
+    → DidRead text (IsSignalOf w) (Message w Items) Items (others a) b e
+    → DidRead text IsItem Items Items a b (Single e)
 single_read text w a b e within first h =
     let r = event_read text w Items a b e within first (item_leads w) h in
     record { part = r.part; within = r.within; shorter = r.shorter; leads = r.leads }
 
 -- `concurrent` leads to a coregion
-concurrent : (text : List ℕ) (a : List Token) → AreWithin text a → first_kind a ≡ Some (kinds.Word words.Concurrent) → DidTake text (Reserved words.Concurrent) a (others a)
+concurrent : (text : List ℕ) (a : List Token) → AreWithin text a
+    → first_kind a ≡ Some (kinds.Word words.Concurrent)
+    → DidTake text (Reserved words.Concurrent) a (others a)
 concurrent text a within first = (took text (kinds.Word words.Concurrent) a within first).1
 
 -- a coregion is an item
-pub coregion_item : (text : List ℕ) (a b : List Token) (es : List Signal) → AreWithin text a → first_kind a ≡ Some (kinds.Word words.Concurrent) → DidRead text IsCoregion (StatementEnd Events) Items (others a) b es → DidRead text IsItem Items Items a b (Coregion es)
+pub coregion_item : (text : List ℕ) (a b : List Token) (es : List Signal) → AreWithin text a
+    → first_kind a ≡ Some (kinds.Word words.Concurrent)
+    → DidRead text IsCoregion (StatementEnd Events) Items (others a) b es
+    → DidRead text IsItem Items Items a b (Coregion es)
 coregion_item text a b es within first h =
     let r = behind_read text IsCoregion Items (StatementEnd Events) Items (concurrent text a within first) refl h in
     record { part = r.part; within = r.within; shorter = r.shorter; leads = r.leads }
 
 -- a fault of a coregion behind its first word is a fault of the item
-pub coregion_stops : (text : List ℕ) (a : List Token) (e : ParseFault) → AreWithin text a → first_kind a ≡ Some (kinds.Word words.Concurrent) → Stops text (StatementEnd Events) (others a) e → Stops text Items a e
-coregion_stops text a e within first stop = Stops-back text Items (StatementEnd Events) a (others a) e (leads_on text Items (StatementEnd Events) (Reserved words.Concurrent) a (others a) (concurrent text a within first) refl) stop
+pub coregion_stops : (text : List ℕ) (a : List Token) (e : ParseFault) → AreWithin text a
+    → first_kind a ≡ Some (kinds.Word words.Concurrent)
+    → Stops text (StatementEnd Events) (others a) e → Stops text Items a e
+coregion_stops text a e within first stop =
+    Stops-back text Items (StatementEnd Events) a (others a) e (leads_on text Items (StatementEnd Events) (Reserved words.Concurrent) a (others a) (concurrent text a within first) refl) stop
 
 -- what follows a first token that was taken is shorter than the whole
-pub shorter_behind : (text : List ℕ) (kind : Kind) (a b : List Token) → AreWithin text a → first_kind a ≡ Some kind → length b ≤ length (others a) → length b < length a
-shorter_behind text kind a b within first h = let s = (took text kind a within first).1.shorter in omega (arith, s, h)
+pub shorter_behind : (text : List ℕ) (kind : Kind) (a b : List Token) → AreWithin text a
+    → first_kind a ≡ Some kind → length b ≤ length (others a) → length b < length a
+shorter_behind text kind a b within first h =
+    let s = (took text kind a within first).1.shorter in omega (arith, s, h)
 
 -- ---- sections
 
 -- behind a decl of `instance` stands what ends the statement
-ends_alike : (k : Kind) (bytes : List ℕ) → next (DeclEnd InInstance) (symbol_of k bytes) ≡ next (StatementEnd Items) (symbol_of k bytes)
+ends_alike : (k : Kind) (bytes : List ℕ)
+    → next (DeclEnd InInstance) (symbol_of k bytes) ≡ next (StatementEnd Items) (symbol_of k bytes)
 ends_alike k bytes = refl
 
 -- behind the decl of a section the statement ends
-pub section_decl_leads : (text : List ℕ) (a b : List Token) (d : Decl) → DidRead text IsDecl (DeclName InInstance) (DeclEnd InInstance) a b d → fault_from text (DeclName InInstance) a ≡ fault_from text (StatementEnd Items) b
-section_decl_leads text a [] d h = h.leads ∙ same_fault text (DeclEnd InInstance) (StatementEnd Items) [] tt refl (λ len ls. refl) (λ len ls. refl)
-section_decl_leads text a (t ∷ ts) d h = h.leads ∙ same_fault text (DeclEnd InInstance) (StatementEnd Items) (t ∷ ts) (ends_alike t.kind _) refl (λ len ls. refl) (λ len ls. refl)
+pub section_decl_leads : (text : List ℕ) (a b : List Token) (d : Decl)
+    → DidRead text IsDecl (DeclName InInstance) (DeclEnd InInstance) a b d
+    → fault_from text (DeclName InInstance) a ≡ fault_from text (StatementEnd Items) b
+section_decl_leads text a [] d h =
+    h.leads ∙ same_fault text (DeclEnd InInstance) (StatementEnd Items) [] tt refl (λ len ls. refl) (λ len ls. refl)
+section_decl_leads text a (t ∷ ts) d h =
+    h.leads ∙ same_fault text (DeclEnd InInstance) (StatementEnd Items) (t ∷ ts) (ends_alike t.kind _) refl (λ len ls. refl) (λ len ls. refl)
 
 -- a section is its decl, its end, its items, `endinstance` and its end
 pub section_read : (text : List ℕ) {a b c d e : List Token} {x : Decl} {xs : List Item}
@@ -187,17 +235,24 @@ sections_more text {a} {b} {c} {ss} {s} h first one =
     many_more text IsSection Sections h (record { part = r.part; within = r.within; shorter = r.shorter; leads = r.leads })
 
 -- a fault of a section is a fault of the sections
-pub sections_stop : (text : List ℕ) (a b : List Token) (ss : List Section) (e : ParseFault) → DidRead text (AreMany IsSection) Sections Sections a b ss → first_kind b ≡ Some (kinds.Word words.Instance) → Stops text (DeclName InInstance) (others b) e → Stops text Sections a e
+pub sections_stop : (text : List ℕ) (a b : List Token) (ss : List Section) (e : ParseFault)
+    → DidRead text (AreMany IsSection) Sections Sections a b ss
+    → first_kind b ≡ Some (kinds.Word words.Instance)
+    → Stops text (DeclName InInstance) (others b) e → Stops text Sections a e
 sections_stop text a b ss e h first stop =
     Stops-back text Sections (DeclName InInstance) a (others b) e (h.leads ∙ leads_on text Sections (DeclName InInstance) (Reserved words.Instance) b (others b) (took text (kinds.Word words.Instance) b h.within first).1 refl) stop
 
 -- between sections only `instance` and `endmsc` may stand
-only-Sections : (k : Kind) (bytes : List ℕ) → k ≢ kinds.Word words.Instance → k ≢ kinds.Word words.EndMsc → next Sections (symbol_of k bytes) ≡ None
+only-Sections : (k : Kind) (bytes : List ℕ) → k ≢ kinds.Word words.Instance
+    → k ≢ kinds.Word words.EndMsc → next Sections (symbol_of k bytes) ≡ None
 only-Sections (kinds.Word words.Instance) bytes a b = absurd (a refl)
 only-Sections (kinds.Word words.EndMsc) bytes a b = absurd (b refl)
 only-Sections k bytes a b = refl
 
 -- neither a section nor `endmsc` stands behind the sections
-pub sections_refused : (text : List ℕ) (a b : List Token) (ss : List Section) (e : ParseFault) → DidRead text (AreMany IsSection) Sections Sections a b ss → first_kind b ≢ Some (kinds.Word words.Instance) → Refuses text (kinds.Word words.EndMsc) whats.Section b e → Stops text Sections a e
+pub sections_refused : (text : List ℕ) (a b : List Token) (ss : List Section) (e : ParseFault)
+    → DidRead text (AreMany IsSection) Sections Sections a b ss
+    → first_kind b ≢ Some (kinds.Word words.Instance)
+    → Refuses text (kinds.Word words.EndMsc) whats.Section b e → Stops text Sections a e
 sections_refused text a b ss e h no_section refused =
     Stops-back text Sections Sections a b e h.leads (stops_here text Sections whats.Section b e (λ len ls. refl) (stuck_but_two text Sections (kinds.Word words.Instance) (kinds.Word words.EndMsc) b only-Sections no_section refused.1) refl refused.0)

@@ -17,11 +17,13 @@ abbrev Names : {X : Type 0} → (List Lexeme → X → List Lexeme → Type 0) �
 Names {X} IsPart P = (b a : List Lexeme) (x : X) → IsPart b x a → HaveNames b → P x × HaveNames a
 
 -- a token takes its own name alone
-token_names : (s : Symbol) (b a : List Lexeme) → IsToken s b a → HaveNames b → HasName s × HaveNames a
+token_names : (s : Symbol) (b a : List Lexeme) → IsToken s b a → HaveNames b
+    → HasName s × HaveNames a
 token_names s b a h names = subst HaveNames h.1 names
 
 -- the parts of many have names
-many_names : {X : Type 0} (IsPart : List Lexeme → X → List Lexeme → Type 0) (P : X → Type 0) → Names IsPart P → Names (AreMany IsPart) (AllByRecursion P)
+many_names : {X : Type 0} (IsPart : List Lexeme → X → List Lexeme → Type 0) (P : X → Type 0)
+    → Names IsPart P → Names (AreMany IsPart) (AllByRecursion P)
 many_names IsPart P one b a [] h names = (tt, subst HaveNames h names)
 many_names IsPart P one b a (x ∷ xs) h names =
     let first = one b h.0 x h.1 names in
@@ -29,11 +31,13 @@ many_names IsPart P one b a (x ∷ xs) h names =
     ((first.0, others.0), others.1)
 
 -- a part behind a token has names
-behind_names : {X : Type 0} (s : Symbol) (IsPart : List Lexeme → X → List Lexeme → Type 0) (P : X → Type 0) → Names IsPart P → Names (IsLedBy s IsPart) P
+behind_names : {X : Type 0} (s : Symbol) (IsPart : List Lexeme → X → List Lexeme → Type 0)
+    (P : X → Type 0) → Names IsPart P → Names (IsLedBy s IsPart) P
 behind_names s IsPart P one b a x h names = one h.0 a x h.2 (token_names s b h.0 h.1 names).1
 
 -- parts with commas between them have names
-listed_names : {X : Type 0} (IsPart : List Lexeme → X → List Lexeme → Type 0) (P : X → Type 0) → Names IsPart P → Names (AreListed IsPart) (AllByRecursion P)
+listed_names : {X : Type 0} (IsPart : List Lexeme → X → List Lexeme → Type 0) (P : X → Type 0)
+    → Names IsPart P → Names (AreListed IsPart) (AllByRecursion P)
 listed_names IsPart P one b a [] h names = absurd h
 listed_names IsPart P one b a (x ∷ xs) h names =
     let first = one b h.0 x h.1 names in
@@ -43,18 +47,22 @@ listed_names IsPart P one b a (x ∷ xs) h names =
 -- behind the end of a statement tokens have names
 end_names : (b a : List Lexeme) → IsEnd b a → HaveNames b → HaveNames a
 end_names b a (Plain h) names = (token_names Semicolon b a h names).1
-end_names b a (Commented bytes text close h k l) names = (token_names _ close a l (token_names _ text close k (token_names _ b text h names).1).1).1
+end_names b a (Commented bytes text close h k l) names =
+    (token_names _ close a l (token_names _ text close k (token_names _ b text h names).1).1).1
 
 -- ---- decls
 
 -- a second name is a name, and there is at most one
-second_names : (ks : List (List ℕ)) (b a : List Lexeme) → IsSecond b ks a → HaveNames b → AllByRecursion IsName ks × (length ks ≤ 1) × HaveNames a
+second_names : (ks : List (List ℕ)) (b a : List Lexeme) → IsSecond b ks a → HaveNames b
+    → AllByRecursion IsName ks × (length ks ≤ 1) × HaveNames a
 second_names [] b a h names = (tt, omega arith, subst HaveNames h names)
-second_names (k ∷ []) b a h names = let t = token_names (Named k) b a h names in ((t.0, tt), omega arith, t.1)
+second_names (k ∷ []) b a h names =
+    let t = token_names (Named k) b a h names in ((t.0, tt), omega arith, t.1)
 second_names (k ∷ l ∷ ks) b a h names = absurd h
 
 -- a kind is of at most two names
-kind_names : (ks : List (List ℕ)) (b a : List Lexeme) → IsKind b ks a → HaveNames b → AllByRecursion IsName ks × (length ks ≤ 2) × HaveNames a
+kind_names : (ks : List (List ℕ)) (b a : List Lexeme) → IsKind b ks a → HaveNames b
+    → AllByRecursion IsName ks × (length ks ≤ 2) × HaveNames a
 kind_names [] b a h names = (tt, omega arith, subst HaveNames h names)
 kind_names (k ∷ ks) b a h names =
     let t = token_names (Named k) h.0 h.1 h.3 (token_names Colon b h.0 h.2 names).1 in
@@ -78,18 +86,23 @@ decls_names b a ds h names =
 -- ---- events
 
 -- a message instance name is a name
-number_names : (o : Option (List ℕ)) (b a : List Lexeme) → IsNumber b o a → HaveNames b → IfSome o IsName × HaveNames a
+number_names : (o : Option (List ℕ)) (b a : List Lexeme) → IsNumber b o a → HaveNames b
+    → IfSome o IsName × HaveNames a
 number_names None b a h names = (tt, subst HaveNames h names)
-number_names (Some n) b a h names = token_names (Named n) h.0 a h.2 (token_names Comma b h.0 h.1 names).1
+number_names (Some n) b a h names =
+    token_names (Named n) h.0 a h.2 (token_names Comma b h.0 h.1 names).1
 
 -- a name is a name
 name_names : Names IsNamed IsName
 name_names b a n h names = token_names (Named n) b a h names
 
 -- parameters are names
-parameters_names : (ps : List (List ℕ)) (b a : List Lexeme) → AreParameters b ps a → HaveNames b → AllByRecursion IsName ps × HaveNames a
-parameters_names ps b a (Absent none h) names = (subst (AllByRecursion IsName) (sym none) tt, subst HaveNames h names)
-parameters_names ps b a (Empty close none h k) names = (subst (AllByRecursion IsName) (sym none) tt, (token_names RightParen close a k (token_names LeftParen b close h names).1).1)
+parameters_names : (ps : List (List ℕ)) (b a : List Lexeme) → AreParameters b ps a → HaveNames b
+    → AllByRecursion IsName ps × HaveNames a
+parameters_names ps b a (Absent none h) names =
+    (subst (AllByRecursion IsName) (sym none) tt, subst HaveNames h names)
+parameters_names ps b a (Empty close none h k) names =
+    (subst (AllByRecursion IsName) (sym none) tt, (token_names RightParen close a k (token_names LeftParen b close h names).1).1)
 parameters_names ps b a (Given inner close h k l) names =
     let t = listed_names IsNamed IsName name_names inner close ps k (token_names LeftParen b inner h names).1 in
     (t.0, (token_names RightParen close a l t.1).1)
@@ -116,7 +129,8 @@ coregion_names b a es h names =
 -- an item is of names
 item_names : Names IsItem IsItemNamed
 item_names b a (Single e) h names = event_names b a e h names
-item_names b a (Coregion es) h names = behind_names (Reserved words.Concurrent) IsCoregion (AllByRecursion IsSignalNamed) coregion_names b a es h names
+item_names b a (Coregion es) h names =
+    behind_names (Reserved words.Concurrent) IsCoregion (AllByRecursion IsSignalNamed) coregion_names b a es h names
 
 -- a section is of names
 section_names : Names IsSection IsSectionNamed
@@ -130,17 +144,20 @@ section_names b a s h names =
 -- ---- the whole chart
 
 -- what holds of the elements of two lists holds of both together
-append_all : {X : Type 0} (P : X → Type 0) (xs ys : List X) → AllByRecursion P xs → AllByRecursion P ys → AllByRecursion P (xs ++ ys)
+append_all : {X : Type 0} (P : X → Type 0) (xs ys : List X) → AllByRecursion P xs
+    → AllByRecursion P ys → AllByRecursion P (xs ++ ys)
 append_all P [] ys h g = g
 append_all P (x ∷ xs) ys h g = (h.0, append_all P xs ys h.1 g)
 
 -- what holds of the elements of each group holds of all
-flat_all : {X : Type 0} (P : X → Type 0) (groups : List (List X)) → AllByRecursion (AllByRecursion P) groups → AllByRecursion P (flat_map (λ g. g) groups)
+flat_all : {X : Type 0} (P : X → Type 0) (groups : List (List X))
+    → AllByRecursion (AllByRecursion P) groups → AllByRecursion P (flat_map (λ g. g) groups)
 flat_all P [] h = tt
 flat_all P (g ∷ groups) h = append_all P g (flat_map (λ g. g) groups) h.0 (flat_all P groups h.1)
 
 -- a chart of few tokens with names is a draft
-pub chart_draft : (ls : List Lexeme) (t : Tree) → IsChart ls t → HaveNames ls → length ls ≤ TEXT_LIMIT → IsDraft t
+pub chart_draft : (ls : List Lexeme) (t : Tree) → IsChart ls t → HaveNames ls
+    → length ls ≤ TEXT_LIMIT → IsDraft t
 chart_draft ls t h names few =
     let t0 = token_names _ ls h.name h.is_msc names in
     let t1 = token_names (Named t.name) h.name h.close h.is_name t0.1 in

@@ -17,18 +17,21 @@ use Rattle.msc_parser.proofs.Decided.{Decided, IsSequence, many_same, behind_sam
 use Rattle.msc_parser.proofs.OnePart.{Closed, end_stops, decl_same, decls_same, event_same}
 
 -- this symbol stands first
-abbrev IsFirst : Symbol → List Lexeme → Type 0
-IsFirst s b = (a : List Lexeme) × IsToken s b a
+abbrev StandsFirst : Symbol → List Lexeme → Type 0
+StandsFirst s b = (a : List Lexeme) × IsToken s b a
 
 -- ---- coregions and items
 
 -- an event begins with no other symbol than `out` and `in`
-event_apart : (w : Way) (s : Symbol) (b a c : List Lexeme) → IsToken (Reserved (way_word w)) b a → IsToken s b c → s ≢ Reserved words.Output → s ≢ Reserved words.Input → ⊥
-event_apart ways.Output s b a c h g no_out no_in = symbols_clash s (Reserved words.Output) b c a g h no_out
-event_apart ways.Input s b a c h g no_out no_in = symbols_clash s (Reserved words.Input) b c a g h no_in
+event_apart : (w : Way) (s : Symbol) (b a c : List Lexeme) → IsToken (Reserved (way_word w)) b a
+    → IsToken s b c → s ≢ Reserved words.Output → s ≢ Reserved words.Input → ⊥
+event_apart ways.Output s b a c h g no_out no_in =
+    symbols_clash s (Reserved words.Output) b c a g h no_out
+event_apart ways.Input s b a c h g no_out no_in =
+    symbols_clash s (Reserved words.Input) b c a g h no_in
 
 -- events of a coregion follow one another up to `endconcurrent`
-event_sequence : IsSequence IsEvent Closed (IsFirst (Reserved words.EndConcurrent))
+event_sequence : IsSequence IsEvent Closed (StandsFirst (Reserved words.EndConcurrent))
 event_sequence = record {
   one = event_same;
   goes_on = λ b a x h ends. event_apart x.way _ b h.0 ends.0 h.1 ends.1 (λ e. cc) (λ e. cc);
@@ -40,26 +43,31 @@ event_sequence = record {
 coregion_same : Decided Closed IsCoregion
 coregion_same b a c xs ys h g stop_a stop_c =
     let e0 = end_same b h.events g.events h.is_end g.is_end in
-    let e1 = many_same IsEvent Closed (IsFirst (Reserved words.EndConcurrent)) event_sequence xs ys g.events h.last g.last (subst (λ (m : List Lexeme). AreMany IsEvent m xs h.last) e0 h.are_events) g.are_events (h.close, h.is_endconcurrent) (g.close, g.is_endconcurrent) in
+    let e1 = many_same IsEvent Closed (StandsFirst (Reserved words.EndConcurrent)) event_sequence xs ys g.events h.last g.last (subst (λ (m : List Lexeme). AreMany IsEvent m xs h.last) e0 h.are_events) g.are_events (h.close, h.is_endconcurrent) (g.close, g.is_endconcurrent) in
     let e2 = (token_same _ _ g.last h.close g.close (token_at _ h.last g.last h.close e1.1 h.is_endconcurrent) g.is_endconcurrent).1 in
     (e1.0, end_same g.close a c (subst (λ (m : List Lexeme). IsEnd m a) e2 h.is_last_end) g.is_last_end)
 
 -- an item is determined: an event, or a coregion
 item_same : Decided Closed IsItem
-item_same b a c (Single x) (Single y) h g stop_a stop_c = let e = event_same b a c x y h g tt tt in let i = e.0 in ((cc), e.1)
-item_same b a c (Single x) (Coregion ys) h g stop_a stop_c = absurd (event_apart x.way _ b h.0 g.0 h.1 g.1 (λ e. cc) (λ e. cc))
-item_same b a c (Coregion xs) (Single y) h g stop_a stop_c = absurd (event_apart y.way _ b g.0 h.0 g.1 h.1 (λ e. cc) (λ e. cc))
+item_same b a c (Single x) (Single y) h g stop_a stop_c =
+    let e = event_same b a c x y h g tt tt in let i = e.0 in ((cc), e.1)
+item_same b a c (Single x) (Coregion ys) h g stop_a stop_c =
+    absurd (event_apart x.way _ b h.0 g.0 h.1 g.1 (λ e. cc) (λ e. cc))
+item_same b a c (Coregion xs) (Single y) h g stop_a stop_c =
+    absurd (event_apart y.way _ b g.0 h.0 g.1 h.1 (λ e. cc) (λ e. cc))
 item_same b a c (Coregion xs) (Coregion ys) h g stop_a stop_c =
     let e = behind_same (Reserved words.Concurrent) IsCoregion Closed coregion_same b a c xs ys h g tt tt in let i = e.0 in ((cc), e.1)
 
 -- an item does not begin with `endinstance`
-item_goes_on : (b a : List Lexeme) (x : Item) → IsItem b x a → IsFirst (Reserved words.EndInstance) b → ⊥
+item_goes_on : (b a : List Lexeme) (x : Item) → IsItem b x a
+    → StandsFirst (Reserved words.EndInstance) b → ⊥
 item_goes_on b a (Single x) h ends = event_apart x.way _ b h.0 ends.0 h.1 ends.1 (λ e. cc) (λ e. cc)
 item_goes_on b a (Coregion xs) h ends = symbols_clash _ _ b h.0 ends.0 h.1 ends.1 (λ e. cc)
 
 -- items follow one another up to `endinstance`
-item_sequence : IsSequence IsItem Closed (IsFirst (Reserved words.EndInstance))
-item_sequence = record { one = item_same; goes_on = item_goes_on; begins = λ b a x h. tt; ends = λ b ends. tt }
+item_sequence : IsSequence IsItem Closed (StandsFirst (Reserved words.EndInstance))
+item_sequence =
+    record { one = item_same; goes_on = item_goes_on; begins = λ b a x h. tt; ends = λ b ends. tt }
 
 -- ---- sections and `inst` statements
 
@@ -68,15 +76,16 @@ instance_same : Decided Closed IsInstance
 instance_same b a c x y h g stop_a stop_c =
     let e0 = decl_same b h.close g.close x.decl y.decl h.is_decl g.is_decl (end_stops h.close h.items h.is_end) (end_stops g.close g.items g.is_end) in
     let e1 = end_same g.close h.items g.items (subst (λ (m : List Lexeme). IsEnd m h.items) e0.1 h.is_end) g.is_end in
-    let e2 = many_same IsItem Closed (IsFirst (Reserved words.EndInstance)) item_sequence x.items y.items g.items h.last g.last (subst (λ (m : List Lexeme). AreMany IsItem m x.items h.last) e1 h.are_items) g.are_items (h.last_close, h.is_endinstance) (g.last_close, g.is_endinstance) in
+    let e2 = many_same IsItem Closed (StandsFirst (Reserved words.EndInstance)) item_sequence x.items y.items g.items h.last g.last (subst (λ (m : List Lexeme). AreMany IsItem m x.items h.last) e1 h.are_items) g.are_items (h.last_close, h.is_endinstance) (g.last_close, g.is_endinstance) in
     let e3 = (token_same _ _ g.last h.last_close g.last_close (token_at _ h.last g.last h.last_close e2.1 h.is_endinstance) g.is_endinstance).1 in
     (section e0.0 e2.0, end_same g.last_close a c (subst (λ (m : List Lexeme). IsEnd m a) e3 h.is_last_end) g.is_last_end)
   where
-    section : {d e : Decl} {k l : List Item} → d ≡ e → k ≡ l → (let s : Section = record { decl = d; items = k } in s) ≡ record { decl = e; items = l }
+    section : {d e : Decl} {k l : List Item} → d ≡ e → k ≡ l
+        → (let s : Section = record { decl = d; items = k } in s) ≡ record { decl = e; items = l }
     section p q = cc
 
 -- sections follow one another up to `endmsc`
-section_sequence : IsSequence IsSection Closed (IsFirst (Reserved words.EndMsc))
+section_sequence : IsSequence IsSection Closed (StandsFirst (Reserved words.EndMsc))
 section_sequence = record {
   one = behind_same (Reserved words.Instance) IsInstance Closed instance_same;
   goes_on = λ b a x h ends. symbols_clash _ _ b h.0 ends.0 h.1 ends.1 (λ e. cc);
@@ -98,9 +107,12 @@ inst_sequence = record {
 }
 
 -- the sections and `endmsc` end the header
-sections_end : (b a d : List Lexeme) (ss : List Section) → AreMany IsSection b ss a → IsToken (Reserved words.EndMsc) a d → EndsHeader b
-sections_end b a d [] h g c k = symbols_clash (Reserved words.EndMsc) _ a d c g (token_at _ b a c h k) (λ e. cc)
-sections_end b a d (s ∷ ss) h g c k = symbols_clash (Reserved words.Instance) _ b h.1.0 c h.1.1 k (λ e. cc)
+sections_end : (b a d : List Lexeme) (ss : List Section) → AreMany IsSection b ss a
+    → IsToken (Reserved words.EndMsc) a d → EndsHeader b
+sections_end b a d [] h g c k =
+    symbols_clash (Reserved words.EndMsc) _ a d c g (token_at _ b a c h k) (λ e. cc)
+sections_end b a d (s ∷ ss) h g c k =
+    symbols_clash (Reserved words.Instance) _ b h.1.0 c h.1.1 k (λ e. cc)
 
 -- ---- the whole chart
 
@@ -113,9 +125,10 @@ one_chart b t u h g =
     let e3 = many_same (IsLedBy (Reserved words.Inst) AreDecls) Closed EndsHeader inst_sequence h.is_header.0 g.is_header.0 g.header h.sections g.sections
     (subst (λ (m : List Lexeme). AreMany (IsLedBy (Reserved words.Inst) AreDecls) m h.is_header.0 h.sections) e2 h.is_header.2) g.is_header.2
     (sections_end h.sections h.last h.last_close t.sections h.are_sections h.is_endmsc) (sections_end g.sections g.last g.last_close u.sections g.are_sections g.is_endmsc) in
-    let e4 = many_same IsSection Closed (IsFirst (Reserved words.EndMsc)) section_sequence t.sections u.sections g.sections h.last g.last
+    let e4 = many_same IsSection Closed (StandsFirst (Reserved words.EndMsc)) section_sequence t.sections u.sections g.sections h.last g.last
     (subst (λ (m : List Lexeme). AreMany IsSection m t.sections h.last) e3.1 h.are_sections) g.are_sections (h.last_close, h.is_endmsc) (g.last_close, g.is_endmsc) in
     tree e1.0 (h.is_header.1 ∙ ap (flat_map (λ g. g)) e3.0 ∙ sym g.is_header.1) e4.0
   where
-    tree : {m n : List ℕ} {k l : List Decl} {f g : List Section} → m ≡ n → k ≡ l → f ≡ g → (let t : Tree = record { name = m; header = k; sections = f } in t) ≡ record { name = n; header = l; sections = g }
+    tree : {m n : List ℕ} {k l : List Decl} {f g : List Section} → m ≡ n → k ≡ l → f ≡ g
+        → (let t : Tree = record { name = m; header = k; sections = f } in t) ≡ record { name = n; header = l; sections = g }
     tree p q r = cc

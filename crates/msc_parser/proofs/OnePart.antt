@@ -16,24 +16,30 @@ Closed ls = Unit {0}
 
 -- no symbol stands here that goes on with a kind
 abbrev pub StopsKind : List Lexeme → Type 0
-StopsKind ls = ((a : List Lexeme) → IsToken Colon ls a → ⊥) × ((n : List ℕ) (a : List Lexeme) → IsToken (Named n) ls a → ⊥)
+StopsKind ls =
+    ((a : List Lexeme) → IsToken Colon ls a → ⊥) × ((n : List ℕ) (a : List Lexeme) → IsToken (Named n) ls a → ⊥)
 
 -- no symbol stands here that goes on with an ident
 abbrev pub StopsIdent : List Lexeme → Type 0
-StopsIdent ls = ((a : List Lexeme) → IsToken Comma ls a → ⊥) × ((a : List Lexeme) → IsToken LeftParen ls a → ⊥)
+StopsIdent ls =
+    ((a : List Lexeme) → IsToken Comma ls a → ⊥) × ((a : List Lexeme) → IsToken LeftParen ls a → ⊥)
 
 -- ---- names of instances
 
 -- the end of a statement stops a kind
 pub end_stops : (b a : List Lexeme) → IsEnd b a → StopsKind b
-end_stops b a h = (λ c g. end_apart Colon b a c h g (λ e. cc) (λ e. cc), λ n c g. end_apart (Named n) b a c h g (λ e. cc) (λ e. cc))
+end_stops b a h =
+    (λ c g. end_apart Colon b a c h g (λ e. cc) (λ e. cc), λ n c g. end_apart (Named n) b a c h g (λ e. cc) (λ e. cc))
 
 -- a second name, or none, is determined
 second_same : Decided StopsKind IsSecond
 second_same b a c [] [] h g stop_a stop_c = (refl, sym h ∙ g)
-second_same b a c [] (y ∷ []) h g stop_a stop_c = absurd (stop_a.1 y c (subst (λ (m : List Lexeme). IsToken (Named y) m c) h g))
-second_same b a c (x ∷ []) [] h g stop_a stop_c = absurd (stop_c.1 x a (subst (λ (m : List Lexeme). IsToken (Named x) m a) g h))
-second_same b a c (x ∷ []) (y ∷ []) h g stop_a stop_c = let e = name_same x y b a c h g in let i = e.0 in ((cc), e.1)
+second_same b a c [] (y ∷ []) h g stop_a stop_c =
+    absurd (stop_a.1 y c (subst (λ (m : List Lexeme). IsToken (Named y) m c) h g))
+second_same b a c (x ∷ []) [] h g stop_a stop_c =
+    absurd (stop_c.1 x a (subst (λ (m : List Lexeme). IsToken (Named x) m a) g h))
+second_same b a c (x ∷ []) (y ∷ []) h g stop_a stop_c =
+    let e = name_same x y b a c h g in let i = e.0 in ((cc), e.1)
 second_same b a c (x ∷ z ∷ zs) ys h g stop_a stop_c = absurd h
 second_same b a c xs (y ∷ z ∷ zs) h g stop_a stop_c = absurd g
 
@@ -57,7 +63,8 @@ decl_same b a c x y h g stop_a stop_c =
     let e1 = kind_same g.0 a c x.kind y.kind (subst (λ (m : List Lexeme). IsKind m x.kind a) e0.1 h.2) g.2 stop_a stop_c in
     (decl e0.0 e1.0, e1.1)
   where
-    decl : {m n : List ℕ} {k l : List (List ℕ)} → m ≡ n → k ≡ l → (let d : Decl = record { name = m; kind = k } in d) ≡ record { name = n; kind = l }
+    decl : {m n : List ℕ} {k l : List (List ℕ)} → m ≡ n → k ≡ l
+        → (let d : Decl = record { name = m; kind = k } in d) ≡ record { name = n; kind = l }
     decl p q = cc
 
 -- the statement ends here
@@ -99,7 +106,8 @@ name_sequence = record {
 }
 
 -- a list of names doesn't begin with `)`
-names_begin : (b a c : List Lexeme) (ps : List (List ℕ)) → AreListed IsNamed b ps a → IsToken RightParen b c → ⊥
+names_begin : (b a c : List Lexeme) (ps : List (List ℕ)) → AreListed IsNamed b ps a
+    → IsToken RightParen b c → ⊥
 names_begin b a c [] h g = h
 names_begin b a c (p ∷ ps) h g = symbols_clash (Named p) RightParen b h.0 c h.1 g (λ e. cc)
 
@@ -110,18 +118,24 @@ StopsNumber ls = (a : List Lexeme) → IsToken Comma ls a → ⊥
 -- a message instance name, or none, is determined
 number_same : Decided StopsNumber IsNumber
 number_same b a c None None h g stop_a stop_c = (refl, sym h ∙ g)
-number_same b a c None (Some y) h g stop_a stop_c = absurd (stop_a g.0 (token_at Comma b a g.0 h g.1))
-number_same b a c (Some x) None h g stop_a stop_c = absurd (stop_c h.0 (token_at Comma b c h.0 g h.1))
+number_same b a c None (Some y) h g stop_a stop_c =
+    absurd (stop_a g.0 (token_at Comma b a g.0 h g.1))
+number_same b a c (Some x) None h g stop_a stop_c =
+    absurd (stop_c h.0 (token_at Comma b c h.0 g h.1))
 number_same b a c (Some x) (Some y) h g stop_a stop_c =
     let e = behind_same Comma IsNamed Closed named_same b a c x y h g tt tt in let i = e.0 in ((cc), e.1)
 
 -- parameters are determined
 parameters_same : Decided StopsIdent AreParameters
 parameters_same b a c ps qs (Absent p h) (Absent q g) stop_a stop_c = (p ∙ sym q, sym h ∙ g)
-parameters_same b a c ps qs (Absent p h) (Empty close q g k) stop_a stop_c = absurd (stop_a.1 close (token_at LeftParen b a close h g))
-parameters_same b a c ps qs (Absent p h) (Given names close g k l) stop_a stop_c = absurd (stop_a.1 names (token_at LeftParen b a names h g))
-parameters_same b a c ps qs (Empty close p h k) (Absent q g) stop_a stop_c = absurd (stop_c.1 close (token_at LeftParen b c close g h))
-parameters_same b a c ps qs (Given names close h k l) (Absent q g) stop_a stop_c = absurd (stop_c.1 names (token_at LeftParen b c names g h))
+parameters_same b a c ps qs (Absent p h) (Empty close q g k) stop_a stop_c =
+    absurd (stop_a.1 close (token_at LeftParen b a close h g))
+parameters_same b a c ps qs (Absent p h) (Given names close g k l) stop_a stop_c =
+    absurd (stop_a.1 names (token_at LeftParen b a names h g))
+parameters_same b a c ps qs (Empty close p h k) (Absent q g) stop_a stop_c =
+    absurd (stop_c.1 close (token_at LeftParen b c close g h))
+parameters_same b a c ps qs (Given names close h k l) (Absent q g) stop_a stop_c =
+    absurd (stop_c.1 names (token_at LeftParen b c names g h))
 parameters_same b a c ps qs (Empty close p h k) (Empty close_2 q g l) stop_a stop_c =
     let e = (token_same LeftParen LeftParen b close close_2 h g).1 in
     (p ∙ sym q, (token_same RightParen RightParen close_2 a c (token_at RightParen close close_2 a e k) l).1)
@@ -135,13 +149,18 @@ parameters_same b a c ps qs (Given names close h k l) (Given names_2 close_2 g m
     (e1.0, (token_same RightParen RightParen close_2 a c (token_at RightParen close close_2 a e1.1 l) n).1)
 
 -- what stops an ident stops a message instance name, whatever the parameters
-parameters_stop : (b a : List Lexeme) (ps : List (List ℕ)) → AreParameters b ps a → StopsIdent a → StopsNumber b
+parameters_stop : (b a : List Lexeme) (ps : List (List ℕ)) → AreParameters b ps a → StopsIdent a
+    → StopsNumber b
 parameters_stop b a ps (Absent p h) stop c g = stop.0 c (token_at Comma b a c h g)
-parameters_stop b a ps (Empty close p h k) stop c g = symbols_clash LeftParen Comma b close c h g (λ e. cc)
-parameters_stop b a ps (Given names close h k l) stop c g = symbols_clash LeftParen Comma b names c h g (λ e. cc)
+parameters_stop b a ps (Empty close p h k) stop c g =
+    symbols_clash LeftParen Comma b close c h g (λ e. cc)
+parameters_stop b a ps (Given names close h k l) stop c g =
+    symbols_clash LeftParen Comma b names c h g (λ e. cc)
 
 -- an ident is determined, as the parts of an event that it fills
-pub ident_same : (b a c : List Lexeme) (x y : Signal) → IsIdent b x a → IsIdent b y c → StopsIdent a → StopsIdent c → (x.name ≡ y.name) × (x.number ≡ y.number) × (x.parameters ≡ y.parameters) × (a ≡ c)
+pub ident_same : (b a c : List Lexeme) (x y : Signal) → IsIdent b x a → IsIdent b y c → StopsIdent a
+    → StopsIdent c
+    → (x.name ≡ y.name) × (x.number ≡ y.number) × (x.parameters ≡ y.parameters) × (a ≡ c)
 ident_same b a c x y h g stop_a stop_c =
     let e0 = name_same x.name y.name b h.number g.number h.is_name g.is_name in
     let e1 = number_same g.number h.parameters g.parameters x.number y.number (subst (λ (m : List Lexeme). IsNumber m x.number h.parameters) e0.1 h.is_number) g.is_number
@@ -151,7 +170,8 @@ ident_same b a c x y h g stop_a stop_c =
 
 -- the word before an address stops an ident
 word_stops : (w : Way) (b a : List Lexeme) → IsToken (Reserved (address_word w)) b a → StopsIdent b
-word_stops w b a h = (λ c g. symbols_clash (Reserved (address_word w)) Comma b a c h g (λ e. cc), λ c g. symbols_clash (Reserved (address_word w)) LeftParen b a c h g (λ e. cc))
+word_stops w b a h =
+    (λ c g. symbols_clash (Reserved (address_word w)) Comma b a c h g (λ e. cc), λ c g. symbols_clash (Reserved (address_word w)) LeftParen b a c h g (λ e. cc))
 
 -- a way is known by its word
 way_word_same : (v w : Way) → Reserved (way_word v) ≡ Reserved (way_word w) → v ≡ w
@@ -172,6 +192,7 @@ event_same b a c x y h g stop_a stop_c =
     let e3 = name_same x.address y.address l.address k.close l.close (token_at _ k.address l.address k.close e2.1 k.is_address) l.is_address in
     (signal way e1.0 e1.1 e1.2 e3.0, end_same l.close a c (subst (λ (m : List Lexeme). IsEnd m a) e3.1 k.is_end) l.is_end)
   where
-    signal : {v w : Way} {m n p q : List ℕ} {k l : Option (List ℕ)} {f g : List (List ℕ)} → v ≡ w → m ≡ n → k ≡ l → f ≡ g → p ≡ q
+    signal : {v w : Way} {m n p q : List ℕ} {k l : Option (List ℕ)} {f g : List (List ℕ)} → v ≡ w
+        → m ≡ n → k ≡ l → f ≡ g → p ≡ q
         → (let e : Signal = record { way = v; name = m; number = k; parameters = f; address = p } in e) ≡ record { way = w; name = n; number = l; parameters = g; address = q }
     signal p1 p2 p3 p4 p5 = cc

@@ -10,13 +10,16 @@ use Rattle.msc_parser.specs.Reading.{first_kind, Stops, DidTake, DidRead, AreUpT
 use Rattle.msc_parser.proofs.Steps.{others, took, leads_on, Stops-back}
 
 -- a name is a part
-pub named_read : (text : List ℕ) (p q : Place) (a b : List Token) (n : List ℕ) → DidTake text (Named n) a b → next p (Named n) ≡ Some q → DidRead text IsNamed p q a b n
-named_read text p q a b n h step = record { part = h.part; within = h.within; shorter = omega (arith, h.shorter); leads = leads_on text p q (Named n) a b h step }
+pub named_read : (text : List ℕ) (p q : Place) (a b : List Token) (n : List ℕ)
+    → DidTake text (Named n) a b → next p (Named n) ≡ Some q → DidRead text IsNamed p q a b n
+named_read text p q a b n h step =
+    record { part = h.part; within = h.within; shorter = omega (arith, h.shorter); leads = leads_on text p q (Named n) a b h step }
 
 -- ---- many parts
 
 -- one more part behind many
-pub AreMany-push : {X : Type 0} (IsPart : List Lexeme → X → List Lexeme → Type 0) (before : List Lexeme)
+pub AreMany-push : {X : Type 0} (IsPart : List Lexeme → X → List Lexeme → Type 0)
+    (before : List Lexeme)
     (xs : List X) (mid : List Lexeme) (x : X) (after : List Lexeme)
     → AreMany IsPart before xs mid → IsPart mid x after → AreMany IsPart before (xs ++ x ∷ []) after
 AreMany-push IsPart before [] mid x after h one =
@@ -25,7 +28,8 @@ AreMany-push IsPart before (y ∷ ys) mid x after h one =
     (h.0, h.1, AreMany-push IsPart h.0 ys mid x after h.2 one)
 
 -- one more part behind a comma
-AreListed-push : {X : Type 0} (IsPart : List Lexeme → X → List Lexeme → Type 0) (before : List Lexeme)
+AreListed-push : {X : Type 0} (IsPart : List Lexeme → X → List Lexeme → Type 0)
+    (before : List Lexeme)
     (xs : List X) (mid : List Lexeme) (x : X) (after : List Lexeme)
     → AreListed IsPart before xs mid → IsLedBy Comma IsPart mid x after
     → AreListed IsPart before (xs ++ x ∷ []) after
@@ -71,7 +75,8 @@ module _ {X : Type 0} (text : List ℕ) (IsPart : List Lexeme → X → List Lex
 
   -- the first of them
   pub listed_first : (p q : Place) {a b : List Token} {x : X} {xs : List X}
-      → DidRead text IsPart p q a b x → xs ≡ [] ++ x ∷ [] → DidRead text (AreListed IsPart) p q a b xs
+      → DidRead text IsPart p q a b x → xs ≡ [] ++ x ∷ []
+      → DidRead text (AreListed IsPart) p q a b xs
   listed_first p q {b = b} h pushed =
       rw pushed (record { part = (lexemes text b, h.part, refl); within = h.within; shorter = h.shorter; leads = h.leads })
 
@@ -104,5 +109,6 @@ pub pushed_one : {X : Type 0} (a b : List X) (x : X) → a ≡ [] → b ≡ a ++
 pushed_one a b x none push = push ∙ rw none refl
 
 -- a second element was pushed
-pub pushed_two : {X : Type 0} (a b : List X) (x y : X) → a ≡ x ∷ [] → b ≡ a ++ y ∷ [] → b ≡ x ∷ y ∷ []
+pub pushed_two : {X : Type 0} (a b : List X) (x y : X) → a ≡ x ∷ [] → b ≡ a ++ y ∷ []
+    → b ≡ x ∷ y ∷ []
 pushed_two a b x y one push = push ∙ rw one refl

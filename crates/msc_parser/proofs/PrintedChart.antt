@@ -36,7 +36,8 @@ module _ (laws : PrintsPieces) where
   }
 
   -- a coregion is read again
-  a_coregion : (es : List Signal) (rest : List Piece) → AllByRecursion IsSignalNamed es → IsPrintedAs (IsLedBy (Reserved words.Concurrent) IsCoregion) es (coregion_pieces es ++ rest) rest
+  a_coregion : (es : List Signal) (rest : List Piece) → AllByRecursion IsSignalNamed es
+      → IsPrintedAs (IsLedBy (Reserved words.Concurrent) IsCoregion) es (coregion_pieces es ++ rest) rest
   a_coregion es rest named =
       let close = Mark 59 ∷ Blank 10 ∷ rest in
       let last = space ∷ space ∷ word words.EndConcurrent ∷ close in
@@ -60,11 +61,13 @@ module _ (laws : PrintsPieces) where
       })
 
   -- an item is read again
-  an_item : (x : Item) (rest : List Piece) → IsItemNamed x → IsPrintedAs IsItem x (item_pieces x ++ rest) rest
+  an_item : (x : Item) (rest : List Piece) → IsItemNamed x
+      → IsPrintedAs IsItem x (item_pieces x ++ rest) rest
   an_item (Single e) rest named =
       let p = after_space IsEvent e (space ∷ event_pieces e ++ rest) rest (after_space IsEvent e (event_pieces e ++ rest) rest (an_event laws e rest named)) in
       record { reads = p.reads; cut = p.cut }
-  an_item (Coregion es) rest named = let p = a_coregion es rest named in record { reads = p.reads; cut = p.cut }
+  an_item (Coregion es) rest named =
+      let p = a_coregion es rest named in record { reads = p.reads; cut = p.cut }
 
   -- each item is printed in its own lines
   each_item : PrintsEach IsItem item_pieces IsItemNamed Anything
@@ -73,7 +76,8 @@ module _ (laws : PrintsPieces) where
   -- ---- sections and the chart
 
   -- a section is read again
-  a_section : (s : Section) (rest : List Piece) → IsSectionNamed s → IsPrintedAs IsSection s (section_pieces s ++ rest) rest
+  a_section : (s : Section) (rest : List Piece) → IsSectionNamed s
+      → IsPrintedAs IsSection s (section_pieces s ++ rest) rest
   a_section s rest named =
       let close = Mark 59 ∷ Blank 10 ∷ rest in
       let last = word words.EndInstance ∷ close in
@@ -160,7 +164,8 @@ module _ (laws : PrintsPieces) where
       )
 
   -- what is written is a text of the draft, where it is short enough
-  written_again : (t : Tree) → IsDraft t → length (canonical t) ≤ TEXT_LIMIT → HasDraft (canonical t) t
+  written_again : (t : Tree) → IsDraft t → length (canonical t) ≤ TEXT_LIMIT
+      → HasDraft (canonical t) t
   written_again t named short =
       let c = a_chart t named in (
         tokens_of 0 (printed t),
@@ -169,6 +174,9 @@ module _ (laws : PrintsPieces) where
       )
 
   -- the text that was written is a text of the draft
-  pub again : (t : Tree) (r : Result (Vec ℕ Global) AllocError) → IsDraft t → IfOk r (λ v. v.items ≡ canonical t) → IfOk r (λ v. length v.items ≤ TEXT_LIMIT → HasDraft v.items t)
-  again t (Ok v) named text = λ short. subst (λ (x : List ℕ). HasDraft x t) (sym text) (written_again t named (subst (λ (x : List ℕ). length x ≤ TEXT_LIMIT) text short))
+  pub again : (t : Tree) (r : Result (Vec ℕ Global) AllocError) → IsDraft t
+      → IfOk r (λ v. v.items ≡ canonical t)
+      → IfOk r (λ v. length v.items ≤ TEXT_LIMIT → HasDraft v.items t)
+  again t (Ok v) named text =
+      λ short. subst (λ (x : List ℕ). HasDraft x t) (sym text) (written_again t named (subst (λ (x : List ℕ). length x ≤ TEXT_LIMIT) text short))
   again t (Err e) named text = tt

@@ -15,17 +15,20 @@ use Rattle.msc_parser.specs.Drafts.{IsDeclNamed, IsSignalNamed}
 use Rattle.msc_parser.proofs.Printing.{StopsRun, IsPrintedAs, after_space, same_pieces, a_colon, a_comma, a_left_paren, a_right_paren, a_line_end, a_word, a_name, a_behind, PrintsEach, many_follow, a_many}
 
 -- behind a name a kind, or what follows, goes on with no letter, digit or underscore
-kind_stops : (ks : List (List ℕ)) (rest : List Piece) → StopsRun rest → StopsRun (kind_pieces ks ++ rest)
+kind_stops : (ks : List (List ℕ)) (rest : List Piece) → StopsRun rest
+    → StopsRun (kind_pieces ks ++ rest)
 kind_stops [] rest stop = stop
 kind_stops (k ∷ ks) rest stop = refl
 
 -- the same of a message instance name
-number_stops : (o : Option (List ℕ)) (rest : List Piece) → StopsRun rest → StopsRun (number_pieces o ++ rest)
+number_stops : (o : Option (List ℕ)) (rest : List Piece) → StopsRun rest
+    → StopsRun (number_pieces o ++ rest)
 number_stops None rest stop = stop
 number_stops (Some n) rest stop = refl
 
 -- the same of parameters
-printed_parameters_stop : (ps : List (List ℕ)) (rest : List Piece) → StopsRun rest → StopsRun (parameter_pieces ps ++ rest)
+printed_parameters_stop : (ps : List (List ℕ)) (rest : List Piece) → StopsRun rest
+    → StopsRun (parameter_pieces ps ++ rest)
 printed_parameters_stop [] rest stop = stop
 printed_parameters_stop (p ∷ ps) rest stop = refl
 
@@ -37,11 +40,14 @@ module _ (laws : PrintsPieces) where
   -- ---- decls
 
   -- a name with a space before it
-  spaced_name : (n : List ℕ) (rest : List Piece) → IsName n → StopsRun rest → IsPrintedAs IsNamed n (space ∷ Run n ∷ rest) rest
-  spaced_name n rest named stop = after_space IsNamed n (Run n ∷ rest) rest (a_name laws n rest named stop)
+  spaced_name : (n : List ℕ) (rest : List Piece) → IsName n → StopsRun rest
+      → IsPrintedAs IsNamed n (space ∷ Run n ∷ rest) rest
+  spaced_name n rest named stop =
+      after_space IsNamed n (Run n ∷ rest) rest (a_name laws n rest named stop)
 
   -- a kind is read again
-  a_kind : (ks : List (List ℕ)) (rest : List Piece) → AllByRecursion IsName ks → length ks ≤ 2 → StopsRun rest → IsPrintedAs IsKind ks (kind_pieces ks ++ rest) rest
+  a_kind : (ks : List (List ℕ)) (rest : List Piece) → AllByRecursion IsName ks → length ks ≤ 2
+      → StopsRun rest → IsPrintedAs IsKind ks (kind_pieces ks ++ rest) rest
   a_kind [] rest named short stop = record { reads = λ at. (at, refl); cut = λ c. c }
   a_kind (n ∷ []) rest named short stop =
       let name = spaced_name n rest named.0 stop in
@@ -61,7 +67,8 @@ module _ (laws : PrintsPieces) where
   a_kind (n ∷ m ∷ l ∷ ks) rest named short stop = absurd (omega (arith, short))
 
   -- a decl is read again
-  pub a_decl : (d : Decl) (rest : List Piece) → IsDeclNamed d → StopsRun rest → IsPrintedAs IsDecl d (decl_pieces d ++ rest) rest
+  pub a_decl : (d : Decl) (rest : List Piece) → IsDeclNamed d → StopsRun rest
+      → IsPrintedAs IsDecl d (decl_pieces d ++ rest) rest
   a_decl d rest named stop =
       let kind = a_kind d.kind rest named.kind named.short stop in
       let name = a_name laws d.name (kind_pieces d.kind ++ rest) named.name (kind_stops d.kind rest stop) in
@@ -78,7 +85,8 @@ module _ (laws : PrintsPieces) where
   }
 
   -- one line with all decls, or none
-  pub a_header : (ds : List Decl) (rest : List Piece) → AllByRecursion IsDeclNamed ds → IsPrintedAs IsHeader ds (header_pieces ds ++ rest) rest
+  pub a_header : (ds : List Decl) (rest : List Piece) → AllByRecursion IsDeclNamed ds
+      → IsPrintedAs IsHeader ds (header_pieces ds ++ rest) rest
   a_header [] rest named = record { reads = λ at. (at, ([], refl, refl)); cut = λ c. c }
   a_header (d ∷ ds) rest named =
       let tail = flat_map next_decl_pieces ds ++ Mark 59 ∷ Blank 10 ∷ rest in
@@ -100,7 +108,8 @@ module _ (laws : PrintsPieces) where
   -- ---- events
 
   -- a message instance name is read again
-  a_number : (o : Option (List ℕ)) (rest : List Piece) → IfSome o IsName → StopsRun rest → IsPrintedAs IsNumber o (number_pieces o ++ rest) rest
+  a_number : (o : Option (List ℕ)) (rest : List Piece) → IfSome o IsName → StopsRun rest
+      → IsPrintedAs IsNumber o (number_pieces o ++ rest) rest
   a_number None rest named stop = record { reads = λ at. (at, refl); cut = λ c. c }
   a_number (Some n) rest named stop =
       let b = a_behind Comma IsNamed n (Mark 44 ∷ space ∷ Run n ∷ rest) (space ∷ Run n ∷ rest) rest (a_comma (space ∷ Run n ∷ rest)) (spaced_name n rest named stop) in
@@ -114,7 +123,8 @@ module _ (laws : PrintsPieces) where
   }
 
   -- parameters are read again
-  some_parameters : (ps : List (List ℕ)) (rest : List Piece) → AllByRecursion IsName ps → IsPrintedAs AreParameters ps (parameter_pieces ps ++ rest) rest
+  some_parameters : (ps : List (List ℕ)) (rest : List Piece) → AllByRecursion IsName ps
+      → IsPrintedAs AreParameters ps (parameter_pieces ps ++ rest) rest
   some_parameters [] rest named = record { reads = λ at. (at, Absent refl refl); cut = λ c. c }
   some_parameters (p ∷ ps) rest named =
       let tail = flat_map next_name_pieces ps ++ Mark 41 ∷ rest in
@@ -134,7 +144,8 @@ module _ (laws : PrintsPieces) where
       })
 
   -- an ident is read again
-  an_ident : (e : Signal) (rest : List Piece) → IsSignalNamed e → StopsRun rest → IsPrintedAs IsIdent e (ident_pieces e ++ rest) rest
+  an_ident : (e : Signal) (rest : List Piece) → IsSignalNamed e → StopsRun rest
+      → IsPrintedAs IsIdent e (ident_pieces e ++ rest) rest
   an_ident e rest named stop =
       let after = parameter_pieces e.parameters ++ rest in
       let parameters = some_parameters e.parameters rest named.parameters in
@@ -152,7 +163,8 @@ module _ (laws : PrintsPieces) where
       })
 
   -- an event is read again
-  pub an_event : (e : Signal) (rest : List Piece) → IsSignalNamed e → IsPrintedAs IsEvent e (event_pieces e ++ rest) rest
+  pub an_event : (e : Signal) (rest : List Piece) → IsSignalNamed e
+      → IsPrintedAs IsEvent e (event_pieces e ++ rest) rest
   an_event e rest named =
       let last = Mark 59 ∷ Blank 10 ∷ rest in
       let target = Run e.address ∷ last in

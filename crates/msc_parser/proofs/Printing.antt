@@ -26,13 +26,18 @@ abbrev pub IsOnly : Symbol → List Lexeme → Unit {0} → List Lexeme → Type
 IsOnly s before x after = IsToken s before after
 
 -- a space before a part is not seen
-pub after_space : {X : Type 0} (IsPart : List Lexeme → X → List Lexeme → Type 0) (x : X) (ps rest : List Piece) → IsPrintedAs IsPart x ps rest → IsPrintedAs IsPart x (space ∷ ps) rest
+pub after_space : {X : Type 0} (IsPart : List Lexeme → X → List Lexeme → Type 0) (x : X)
+    (ps rest : List Piece) → IsPrintedAs IsPart x ps rest → IsPrintedAs IsPart x (space ∷ ps) rest
 unfolding lexemes_of lexeme_at
-after_space IsPart x ps rest h = record { reads = λ at. h.reads (at + 1); cut = λ c. (refl, h.cut c) }
+after_space IsPart x ps rest h =
+    record { reads = λ at. h.reads (at + 1); cut = λ c. (refl, h.cut c) }
 
 -- the same pieces
-pub same_pieces : {X : Type 0} (IsPart : List Lexeme → X → List Lexeme → Type 0) (x : X) (ps qs rest : List Piece) → ps ≡ qs → IsPrintedAs IsPart x qs rest → IsPrintedAs IsPart x ps rest
-same_pieces IsPart x ps qs rest e h = subst (λ (rs : List Piece). IsPrintedAs IsPart x rs rest) (sym e) h
+pub same_pieces : {X : Type 0} (IsPart : List Lexeme → X → List Lexeme → Type 0) (x : X)
+    (ps qs rest : List Piece) → ps ≡ qs → IsPrintedAs IsPart x qs rest
+    → IsPrintedAs IsPart x ps rest
+same_pieces IsPart x ps qs rest e h =
+    subst (λ (rs : List Piece). IsPrintedAs IsPart x rs rest) (sym e) h
 
 -- ---- marks
 
@@ -43,7 +48,8 @@ mark_fits k e = cc
 -- `;`
 pub a_semicolon : (rest : List Piece) → IsPrintedAs (IsOnly Semicolon) tt (Mark 59 ∷ rest) rest
 unfolding lexemes_of lexeme_at
-a_semicolon rest = record { reads = λ at. (at + 1, (at, refl)); cut = λ c. (mark_fits kinds.Semicolon, c) }
+a_semicolon rest =
+    record { reads = λ at. (at + 1, (at, refl)); cut = λ c. (mark_fits kinds.Semicolon, c) }
 
 -- `,`
 pub a_comma : (rest : List Piece) → IsPrintedAs (IsOnly Comma) tt (Mark 44 ∷ rest) rest
@@ -58,33 +64,43 @@ a_colon rest = record { reads = λ at. (at + 1, (at, refl)); cut = λ c. (mark_f
 -- `(`
 pub a_left_paren : (rest : List Piece) → IsPrintedAs (IsOnly LeftParen) tt (Mark 40 ∷ rest) rest
 unfolding lexemes_of lexeme_at
-a_left_paren rest = record { reads = λ at. (at + 1, (at, refl)); cut = λ c. (mark_fits kinds.LeftParen, c) }
+a_left_paren rest =
+    record { reads = λ at. (at + 1, (at, refl)); cut = λ c. (mark_fits kinds.LeftParen, c) }
 
 -- `)`
 pub a_right_paren : (rest : List Piece) → IsPrintedAs (IsOnly RightParen) tt (Mark 41 ∷ rest) rest
 unfolding lexemes_of lexeme_at
-a_right_paren rest = record { reads = λ at. (at + 1, (at, refl)); cut = λ c. (mark_fits kinds.RightParen, c) }
+a_right_paren rest =
+    record { reads = λ at. (at + 1, (at, refl)); cut = λ c. (mark_fits kinds.RightParen, c) }
 
 -- `;` and the end of the line
-pub a_line_end : (rest : List Piece) → IsPrintedAs (IsOnly Semicolon) tt (Mark 59 ∷ Blank 10 ∷ rest) rest
+pub a_line_end : (rest : List Piece)
+    → IsPrintedAs (IsOnly Semicolon) tt (Mark 59 ∷ Blank 10 ∷ rest) rest
 unfolding lexemes_of lexeme_at
-a_line_end rest = record { reads = λ at. (at + 1 + 1, (at, refl)); cut = λ c. (mark_fits kinds.Semicolon, (refl, c)) }
+a_line_end rest =
+    record { reads = λ at. (at + 1 + 1, (at, refl)); cut = λ c. (mark_fits kinds.Semicolon, (refl, c)) }
 
 -- ---- words, names and what is behind a token
 
 module _ (laws : PrintsPieces) where
   -- a reserved word, where no letter, digit or underscore follows
-  pub a_word : (w : Word) (rest : List Piece) → StopsRun rest → IsPrintedAs (IsOnly (Reserved w)) tt (word w ∷ rest) rest
+  pub a_word : (w : Word) (rest : List Piece) → StopsRun rest
+      → IsPrintedAs (IsOnly (Reserved w)) tt (word w ∷ rest) rest
   unfolding lexemes_of lexeme_at
-  a_word w rest stop = record { reads = λ at. (at + length (spelling w), (at, rw (laws.words w) refl)); cut = λ c. (laws.word_fits w (text_of rest ++ []) stop, c) }
+  a_word w rest stop =
+      record { reads = λ at. (at + length (spelling w), (at, rw (laws.words w) refl)); cut = λ c. (laws.word_fits w (text_of rest ++ []) stop, c) }
 
   -- a name, where no letter, digit or underscore follows
-  pub a_name : (n : List ℕ) (rest : List Piece) → IsName n → StopsRun rest → IsPrintedAs IsNamed n (Run n ∷ rest) rest
+  pub a_name : (n : List ℕ) (rest : List Piece) → IsName n → StopsRun rest
+      → IsPrintedAs IsNamed n (Run n ∷ rest) rest
   unfolding lexemes_of lexeme_at
-  a_name n rest named stop = record { reads = λ at. (at + length n, (at, rw named.free refl)); cut = λ c. (laws.name_fits n (text_of rest ++ []) named stop, c) }
+  a_name n rest named stop =
+      record { reads = λ at. (at + length n, (at, rw named.free refl)); cut = λ c. (laws.name_fits n (text_of rest ++ []) named stop, c) }
 
 -- a token and then a part
-pub a_behind : {X : Type 0} (s : Symbol) (IsPart : List Lexeme → X → List Lexeme → Type 0) (x : X) (ps mid rest : List Piece) → IsPrintedAs (IsOnly s) tt ps mid → IsPrintedAs IsPart x mid rest → IsPrintedAs (IsLedBy s IsPart) x ps rest
+pub a_behind : {X : Type 0} (s : Symbol) (IsPart : List Lexeme → X → List Lexeme → Type 0) (x : X)
+    (ps mid rest : List Piece) → IsPrintedAs (IsOnly s) tt ps mid → IsPrintedAs IsPart x mid rest
+    → IsPrintedAs (IsLedBy s IsPart) x ps rest
 a_behind s IsPart x ps mid rest token part = record {
   reads = λ at. let t = token.reads at in let p = part.reads t.0 in (p.0, (lexemes_of t.0 mid, t.1, p.1));
   cut = λ c. token.cut (part.cut c);
@@ -94,18 +110,26 @@ a_behind s IsPart x ps mid rest token part = record {
 
 -- Each part is printed before what may follow it, and begins as what may follow.
 pub record PrintsEach {X : Type 0} (IsPart : List Lexeme → X → List Lexeme → Type 0) (f : X → List Piece) (P : X → Type 0) (Follows : List Piece → Type 0) : Type 0 where
-  pub one : (x : X) (rest : List Piece) → P x → Follows rest → IsPrintedAs IsPart x (f x ++ rest) rest
+  pub one : (x : X) (rest : List Piece) → P x → Follows rest
+      → IsPrintedAs IsPart x (f x ++ rest) rest
   pub follows : (x : X) (rest : List Piece) → Follows (f x ++ rest)
 
 -- what follows a part of many
-pub many_follow : {X : Type 0} (IsPart : List Lexeme → X → List Lexeme → Type 0) (f : X → List Piece) (P : X → Type 0) (Follows : List Piece → Type 0) → PrintsEach IsPart f P Follows → (xs : List X) (rest : List Piece) → Follows rest → Follows (flat_map f xs ++ rest)
+pub many_follow : {X : Type 0} (IsPart : List Lexeme → X → List Lexeme → Type 0)
+    (f : X → List Piece) (P : X → Type 0) (Follows : List Piece → Type 0)
+    → PrintsEach IsPart f P Follows → (xs : List X) (rest : List Piece) → Follows rest
+    → Follows (flat_map f xs ++ rest)
 many_follow IsPart f P Follows each [] rest follows = follows
-many_follow IsPart f P Follows each (x ∷ xs) rest follows = subst Follows (sym (append_assoc (f x) (flat_map f xs) rest)) (each.follows x (flat_map f xs ++ rest))
+many_follow IsPart f P Follows each (x ∷ xs) rest follows =
+    subst Follows (sym (append_assoc (f x) (flat_map f xs) rest)) (each.follows x (flat_map f xs ++ rest))
 
 -- many parts, one after the other
-pub a_many : {X : Type 0} (IsPart : List Lexeme → X → List Lexeme → Type 0) (f : X → List Piece) (P : X → Type 0) (Follows : List Piece → Type 0) → PrintsEach IsPart f P Follows → (xs : List X) (rest : List Piece) → AllByRecursion P xs → Follows rest
+pub a_many : {X : Type 0} (IsPart : List Lexeme → X → List Lexeme → Type 0) (f : X → List Piece)
+    (P : X → Type 0) (Follows : List Piece → Type 0) → PrintsEach IsPart f P Follows
+    → (xs : List X) (rest : List Piece) → AllByRecursion P xs → Follows rest
     → IsPrintedAs (AreMany IsPart) xs (flat_map f xs ++ rest) rest
-a_many IsPart f P Follows each [] rest named follows = record { reads = λ at. (at, refl); cut = λ c. c }
+a_many IsPart f P Follows each [] rest named follows =
+    record { reads = λ at. (at, refl); cut = λ c. c }
 a_many IsPart f P Follows each (x ∷ xs) rest named follows =
     let more = flat_map f xs ++ rest in
     let one = each.one x more named.0 (many_follow IsPart f P Follows each xs rest follows) in

@@ -22,7 +22,8 @@ use Rattle.msc_parser.proofs.Endings.{stuck_but_two}
 -- ---- message instance names
 
 -- but for a comma, behind a message name stands what stands behind a message instance name
-alike-AfterMessage : (w : Way) (p : Place) (k : Kind) (bytes : List ℕ) → k ≢ kinds.Comma → next (AfterMessage w p) (symbol_of k bytes) ≡ next (AfterNumber w p) (symbol_of k bytes)
+alike-AfterMessage : (w : Way) (p : Place) (k : Kind) (bytes : List ℕ) → k ≢ kinds.Comma
+    → next (AfterMessage w p) (symbol_of k bytes) ≡ next (AfterNumber w p) (symbol_of k bytes)
 alike-AfterMessage ways.Output p kinds.Comma bytes a = absurd (a refl)
 alike-AfterMessage ways.Output p k bytes a = refl
 alike-AfterMessage ways.Input p kinds.Comma bytes a = absurd (a refl)
@@ -34,7 +35,9 @@ only-Number w p kinds.Name bytes a = absurd (a refl)
 only-Number w p k bytes a = refl
 
 -- no comma stands behind the message's name
-pub number_none : (text : List ℕ) (a : List Token) → AreWithin text a → first_kind a ≢ Some kinds.Comma → (w : Way) (p : Place) → DidRead text IsNumber (AfterMessage w p) (AfterNumber w p) a a None
+pub number_none : (text : List ℕ) (a : List Token) → AreWithin text a
+    → first_kind a ≢ Some kinds.Comma → (w : Way) (p : Place)
+    → DidRead text IsNumber (AfterMessage w p) (AfterNumber w p) a a None
 number_none text a within no_comma w p = record {
   part = refl;
   within = within;
@@ -43,13 +46,17 @@ number_none text a within no_comma w p = record {
 }
 
 -- behind the comma no name stands
-pub number_refused : (text : List ℕ) (a : List Token) (e : ParseFault) → AreWithin text a → first_kind a ≡ Some kinds.Comma → TakesName text whats.Name (others a) (Err e) → (w : Way) (p : Place) → Stops text (AfterMessage w p) a e
+pub number_refused : (text : List ℕ) (a : List Token) (e : ParseFault) → AreWithin text a
+    → first_kind a ≡ Some kinds.Comma → TakesName text whats.Name (others a) (Err e)
+    → (w : Way) (p : Place) → Stops text (AfterMessage w p) a e
 number_refused text a e within comma refused w p =
     Stops-back text (AfterMessage w p) (Number w p) a (others a) e (leads_on text (AfterMessage w p) (Number w p) Comma a (others a) (took text kinds.Comma a within comma).1 (comma_leads w p))
     (refuses_name text (Number w p) whats.Name (others a) e (λ len ls. refl) (only-Number w p) refl refused)
 
 -- a comma and a message instance name
-pub number_some : (text : List ℕ) (a b : List Token) (n : List ℕ) → AreWithin text a → first_kind a ≡ Some kinds.Comma → DidTake text (Named n) (others a) b → (w : Way) (p : Place) → DidRead text IsNumber (AfterMessage w p) (AfterNumber w p) a b (Some n)
+pub number_some : (text : List ℕ) (a b : List Token) (n : List ℕ) → AreWithin text a
+    → first_kind a ≡ Some kinds.Comma → DidTake text (Named n) (others a) b → (w : Way) (p : Place)
+    → DidRead text IsNumber (AfterMessage w p) (AfterNumber w p) a b (Some n)
 number_some text a b n within comma name w p =
     let word = (took text kinds.Comma a within comma).1 in
     record {
@@ -67,35 +74,44 @@ only-Parameter w p kinds.Name bytes a = absurd (a refl)
 only-Parameter w p k bytes a = refl
 
 -- behind `(` only a name and `)` may stand
-only-Parameters : (w : Way) (p : Place) (k : Kind) (bytes : List ℕ) → k ≢ kinds.RightParen → k ≢ kinds.Name → next (Parameters w p) (symbol_of k bytes) ≡ None
+only-Parameters : (w : Way) (p : Place) (k : Kind) (bytes : List ℕ) → k ≢ kinds.RightParen
+    → k ≢ kinds.Name → next (Parameters w p) (symbol_of k bytes) ≡ None
 only-Parameters w p kinds.RightParen bytes a b = absurd (a refl)
 only-Parameters w p kinds.Name bytes a b = absurd (b refl)
 only-Parameters w p k bytes a b = refl
 
 -- behind a parameter only a comma and `)` may stand
-only-AfterParameter : (w : Way) (p : Place) (k : Kind) (bytes : List ℕ) → k ≢ kinds.Comma → k ≢ kinds.RightParen → next (AfterParameter w p) (symbol_of k bytes) ≡ None
+only-AfterParameter : (w : Way) (p : Place) (k : Kind) (bytes : List ℕ) → k ≢ kinds.Comma
+    → k ≢ kinds.RightParen → next (AfterParameter w p) (symbol_of k bytes) ≡ None
 only-AfterParameter w p kinds.Comma bytes a b = absurd (a refl)
 only-AfterParameter w p kinds.RightParen bytes a b = absurd (b refl)
 only-AfterParameter w p k bytes a b = refl
 
 -- neither a parameter nor `)` stands behind `(`
-pub first_refused : (text : List ℕ) (a : List Token) (e : ParseFault) → first_kind a ≢ Some kinds.RightParen → TakesName text whats.Parameter a (Err e) → (w : Way) (p : Place) → Stops text (Parameters w p) a e
+pub first_refused : (text : List ℕ) (a : List Token) (e : ParseFault)
+    → first_kind a ≢ Some kinds.RightParen → TakesName text whats.Parameter a (Err e)
+    → (w : Way) (p : Place) → Stops text (Parameters w p) a e
 first_refused text a e no_close refused w p =
     name_stops text (Parameters w p) whats.Parameter a e (λ len ls. refl) (λ no_name. stuck_but_two text (Parameters w p) kinds.RightParen kinds.Name a (only-Parameters w p) no_close no_name) refl refused
 
 -- behind a comma between parameters no name stands
-pub next_refused : (text : List ℕ) (a : List Token) (e : ParseFault) → TakesName text whats.Name a (Err e) → (w : Way) (p : Place) → Stops text (Parameter w p) a e
-next_refused text a e refused w p = refuses_name text (Parameter w p) whats.Name a e (λ len ls. refl) (only-Parameter w p) refl refused
+pub next_refused : (text : List ℕ) (a : List Token) (e : ParseFault)
+    → TakesName text whats.Name a (Err e) → (w : Way) (p : Place) → Stops text (Parameter w p) a e
+next_refused text a e refused w p =
+    refuses_name text (Parameter w p) whats.Name a e (λ len ls. refl) (only-Parameter w p) refl refused
 
 -- but for `(`, behind a message instance name stands what stands behind parameters
-alike-AfterNumber : (w : Way) (p : Place) (k : Kind) (bytes : List ℕ) → k ≢ kinds.LeftParen → next (AfterNumber w p) (symbol_of k bytes) ≡ next (AfterParameters w p) (symbol_of k bytes)
+alike-AfterNumber : (w : Way) (p : Place) (k : Kind) (bytes : List ℕ) → k ≢ kinds.LeftParen
+    → next (AfterNumber w p) (symbol_of k bytes) ≡ next (AfterParameters w p) (symbol_of k bytes)
 alike-AfterNumber ways.Output p kinds.LeftParen bytes a = absurd (a refl)
 alike-AfterNumber ways.Output p k bytes a = refl
 alike-AfterNumber ways.Input p kinds.LeftParen bytes a = absurd (a refl)
 alike-AfterNumber ways.Input p k bytes a = refl
 
 -- no parentheses stand there
-pub parameters_none : (text : List ℕ) (a : List Token) (ps : List (List ℕ)) → AreWithin text a → first_kind a ≢ Some kinds.LeftParen → ps ≡ [] → (w : Way) (p : Place) → DidRead text AreParameters (AfterNumber w p) (AfterParameters w p) a a ps
+pub parameters_none : (text : List ℕ) (a : List Token) (ps : List (List ℕ)) → AreWithin text a
+    → first_kind a ≢ Some kinds.LeftParen → ps ≡ [] → (w : Way) (p : Place)
+    → DidRead text AreParameters (AfterNumber w p) (AfterParameters w p) a a ps
 parameters_none text a ps within no_open none w p = record {
   part = Absent none refl;
   within = within;
@@ -104,11 +120,17 @@ parameters_none text a ps within no_open none w p = record {
 }
 
 -- `(` leads to the parameters
-opened : (text : List ℕ) (a : List Token) → AreWithin text a → first_kind a ≡ Some kinds.LeftParen → (w : Way) (p : Place) → fault_from text (AfterNumber w p) a ≡ fault_from text (Parameters w p) (others a)
-opened text a within paren w p = leads_on text (AfterNumber w p) (Parameters w p) LeftParen a (others a) (took text kinds.LeftParen a within paren).1 (open_leads w p)
+opened : (text : List ℕ) (a : List Token) → AreWithin text a → first_kind a ≡ Some kinds.LeftParen
+    → (w : Way) (p : Place)
+    → fault_from text (AfterNumber w p) a ≡ fault_from text (Parameters w p) (others a)
+opened text a within paren w p =
+    leads_on text (AfterNumber w p) (Parameters w p) LeftParen a (others a) (took text kinds.LeftParen a within paren).1 (open_leads w p)
 
 -- `()` is no parameter
-pub parameters_empty : (text : List ℕ) (a : List Token) (ps : List (List ℕ)) → AreWithin text a → first_kind a ≡ Some kinds.LeftParen → first_kind (others a) ≡ Some kinds.RightParen → ps ≡ [] → (w : Way) (p : Place) → DidRead text AreParameters (AfterNumber w p) (AfterParameters w p) a (others (others a)) ps
+pub parameters_empty : (text : List ℕ) (a : List Token) (ps : List (List ℕ)) → AreWithin text a
+    → first_kind a ≡ Some kinds.LeftParen → first_kind (others a) ≡ Some kinds.RightParen → ps ≡ []
+    → (w : Way) (p : Place)
+    → DidRead text AreParameters (AfterNumber w p) (AfterParameters w p) a (others (others a)) ps
 parameters_empty text a ps within paren close none w p =
     let first = (took text kinds.LeftParen a within paren).1 in
     let second = (took text kinds.RightParen (others a) first.within close).1 in
@@ -120,8 +142,11 @@ parameters_empty text a ps within paren close none w p =
     }
 
 -- a fault of the names is a fault of the parameters
-pub names_stop : (text : List ℕ) (a : List Token) (e : ParseFault) → AreWithin text a → first_kind a ≡ Some kinds.LeftParen → (w : Way) (p : Place) → Stops text (Parameters w p) (others a) e → Stops text (AfterNumber w p) a e
-names_stop text a e within paren w p stop = Stops-back text (AfterNumber w p) (Parameters w p) a (others a) e (opened text a within paren w p) stop
+pub names_stop : (text : List ℕ) (a : List Token) (e : ParseFault) → AreWithin text a
+    → first_kind a ≡ Some kinds.LeftParen → (w : Way) (p : Place)
+    → Stops text (Parameters w p) (others a) e → Stops text (AfterNumber w p) a e
+names_stop text a e within paren w p stop =
+    Stops-back text (AfterNumber w p) (Parameters w p) a (others a) e (opened text a within paren w p) stop
 
 -- neither a comma nor `)` stands behind the parameters
 pub close_refused : (text : List ℕ) (a : List Token) {b : List Token} {ps : List (List ℕ)} (e : ParseFault)
@@ -156,7 +181,8 @@ only-Message w p kinds.Name bytes a = absurd (a refl)
 only-Message w p k bytes a = refl
 
 -- behind parameters only the word before the address may stand
-only-AfterParameters : (w : Way) (p : Place) → OnlyTakes (AfterParameters w p) (kinds.Word (address_word w))
+only-AfterParameters : (w : Way) (p : Place)
+    → OnlyTakes (AfterParameters w p) (kinds.Word (address_word w))
 only-AfterParameters ways.Output p (kinds.Word words.To) bytes a = absurd (a refl)
 only-AfterParameters ways.Output p k bytes a = refl
 only-AfterParameters ways.Input p (kinds.Word words.From) bytes a = absurd (a refl)
@@ -168,36 +194,51 @@ only-Address p kinds.Name bytes a = absurd (a refl)
 only-Address p k bytes a = refl
 
 -- behind `out` or `in` no name stands
-pub signal_refused : (text : List ℕ) (w : Way) (a : List Token) (e : ParseFault) → TakesName text whats.Name a (Err e) → (p : Place) → Stops text (Message w p) a e
-signal_refused text w a e refused p = refuses_name text (Message w p) whats.Name a e (λ len ls. refl) (only-Message w p) refl refused
+pub signal_refused : (text : List ℕ) (w : Way) (a : List Token) (e : ParseFault)
+    → TakesName text whats.Name a (Err e) → (p : Place) → Stops text (Message w p) a e
+signal_refused text w a e refused p =
+    refuses_name text (Message w p) whats.Name a e (λ len ls. refl) (only-Message w p) refl refused
 
 -- the message's name leads to what follows it
-pub message_leads : (text : List ℕ) (w : Way) (p : Place) (a b : List Token) (n : List ℕ) → DidTake text (Named n) a b → fault_from text (Message w p) a ≡ fault_from text (AfterMessage w p) b
-message_leads text w p a b n name = leads_on text (Message w p) (AfterMessage w p) (Named n) a b name refl
+pub message_leads : (text : List ℕ) (w : Way) (p : Place) (a b : List Token) (n : List ℕ)
+    → DidTake text (Named n) a b
+    → fault_from text (Message w p) a ≡ fault_from text (AfterMessage w p) b
+message_leads text w p a b n name =
+    leads_on text (Message w p) (AfterMessage w p) (Named n) a b name refl
 
 -- the word before the address leads to the address
-pub address_leads : (text : List ℕ) (w : Way) (p : Place) (a b : List Token) (v : Word) → v ≡ address_word w → DidTake text (Reserved v) a b → fault_from text (AfterParameters w p) a ≡ fault_from text (Address p) b
-address_leads text w p a b v same word = leads_on text (AfterParameters w p) (Address p) (Reserved v) a b word (rw same (word_leads w p))
+pub address_leads : (text : List ℕ) (w : Way) (p : Place) (a b : List Token) (v : Word)
+    → v ≡ address_word w → DidTake text (Reserved v) a b
+    → fault_from text (AfterParameters w p) a ≡ fault_from text (Address p) b
+address_leads text w p a b v same word =
+    leads_on text (AfterParameters w p) (Address p) (Reserved v) a b word (rw same (word_leads w p))
 
 -- the address leads to the end of the statement
-pub end_leads : (text : List ℕ) (p : Place) (a b : List Token) (n : List ℕ) → DidTake text (Named n) a b → fault_from text (Address p) a ≡ fault_from text (StatementEnd p) b
+pub end_leads : (text : List ℕ) (p : Place) (a b : List Token) (n : List ℕ)
+    → DidTake text (Named n) a b
+    → fault_from text (Address p) a ≡ fault_from text (StatementEnd p) b
 end_leads text p a b n name = leads_on text (Address p) (StatementEnd p) (Named n) a b name refl
 
 -- the word before the address does not stand there
-pub word_refused : (text : List ℕ) (w : Way) (p : Place) (a : List Token) (v : Word) (x : What) (e : ParseFault) → v ≡ address_word w → x ≡ address_what w → Refuses text (kinds.Word v) x a e → Stops text (AfterParameters w p) a e
+pub word_refused : (text : List ℕ) (w : Way) (p : Place) (a : List Token) (v : Word) (x : What)
+    (e : ParseFault) → v ≡ address_word w → x ≡ address_what w → Refuses text (kinds.Word v) x a e
+    → Stops text (AfterParameters w p) a e
 word_refused text w p a v x e same expects refused =
     refuses_kind text (AfterParameters w p) (kinds.Word v) x a e (λ len ls. refl) (subst (λ (u : Word). OnlyTakes (AfterParameters w p) (kinds.Word u)) (sym same) (only-AfterParameters w p)) expects refused
 
 -- no address stands there
-pub address_refused : (text : List ℕ) (p : Place) (a : List Token) (e : ParseFault) → TakesName text whats.Name a (Err e) → Stops text (Address p) a e
-address_refused text p a e refused = refuses_name text (Address p) whats.Name a e (λ len ls. refl) (only-Address p) refl refused
+pub address_refused : (text : List ℕ) (p : Place) (a : List Token) (e : ParseFault)
+    → TakesName text whats.Name a (Err e) → Stops text (Address p) a e
+address_refused text p a e refused =
+    refuses_name text (Address p) whats.Name a e (λ len ls. refl) (only-Address p) refl refused
 
 -- an event behind its first word is its ident, a word, an address and an end
 pub signal_read : (text : List ℕ) (w : Way) (p : Place)
     {a b c d e f g : List Token} {n m : List ℕ} {o : Option (List ℕ)} {ps : List (List ℕ)} {v : Word}
     → DidTake text (Named n) a b → DidRead text IsNumber (AfterMessage w p) (AfterNumber w p) b c o
     → DidRead text AreParameters (AfterNumber w p) (AfterParameters w p) c d ps
-    → v ≡ address_word w → DidTake text (Reserved v) d e → DidTake text (Named m) e f → DidEnd text f g
+    → v ≡ address_word w → DidTake text (Reserved v) d e → DidTake text (Named m) e f
+    → DidEnd text f g
     → DidRead text (IsSignalOf w) (Message w p) p a g record { way = w; name = n; number = o; parameters = ps; address = m }
 signal_read text w p {a} {b} {c} {d} {e} {f} {g} {n} {m} {v = v} name number parameters same word address end = record {
   part = (

@@ -27,20 +27,28 @@ only-ChartName kinds.Name bytes a = absurd (a refl)
 only-ChartName k bytes a = refl
 
 -- no `msc` stands at the start
-pub msc_refused : (text : List ℕ) (a : List Token) (e : ParseFault) → Refuses text (kinds.Word words.Msc) whats.Msc a e → Stops text Start a e
-msc_refused text a e refused = refuses_kind text Start (kinds.Word words.Msc) whats.Msc a e (λ len ls. refl) only-Start refl refused
+pub msc_refused : (text : List ℕ) (a : List Token) (e : ParseFault)
+    → Refuses text (kinds.Word words.Msc) whats.Msc a e → Stops text Start a e
+msc_refused text a e refused =
+    refuses_kind text Start (kinds.Word words.Msc) whats.Msc a e (λ len ls. refl) only-Start refl refused
 
 -- behind `msc` no name stands
-pub chart_name_refused : (text : List ℕ) (a b : List Token) (e : ParseFault) → DidTake text (Reserved words.Msc) a b → TakesName text whats.Name b (Err e) → Stops text Start a e
+pub chart_name_refused : (text : List ℕ) (a b : List Token) (e : ParseFault)
+    → DidTake text (Reserved words.Msc) a b → TakesName text whats.Name b (Err e)
+    → Stops text Start a e
 chart_name_refused text a b e msc refused =
     Stops-back text Start ChartName a b e (leads_on text Start ChartName (Reserved words.Msc) a b msc refl) (refuses_name text ChartName whats.Name b e (λ len ls. refl) only-ChartName refl refused)
 
 -- what was read of a chart's head
-pub head_leads : (text : List ℕ) (a b c : List Token) (n : List ℕ) → DidTake text (Reserved words.Msc) a b → DidTake text (Named n) b c → fault_from text Start a ≡ fault_from text (StatementEnd Header) c
-head_leads text a b c n msc name = leads_on text Start ChartName (Reserved words.Msc) a b msc refl ∙ leads_on text ChartName (StatementEnd Header) (Named n) b c name refl
+pub head_leads : (text : List ℕ) (a b c : List Token) (n : List ℕ)
+    → DidTake text (Reserved words.Msc) a b → DidTake text (Named n) b c
+    → fault_from text Start a ≡ fault_from text (StatementEnd Header) c
+head_leads text a b c n msc name =
+    leads_on text Start ChartName (Reserved words.Msc) a b msc refl ∙ leads_on text ChartName (StatementEnd Header) (Named n) b c name refl
 
 -- a token behind the whole chart
-pub more_refused : (text : List ℕ) (g : List Token) (e : ParseFault) → 0 < length g → e ≡ fault_at (length text) whats.Nothing (lexemes text g) → Stops text Done g e
+pub more_refused : (text : List ℕ) (g : List Token) (e : ParseFault) → 0 < length g
+    → e ≡ fault_at (length text) whats.Nothing (lexemes text g) → Stops text Done g e
 unfolding fault_from
 more_refused text [] e some fault = absurd (omega arith)
 more_refused text (t ∷ ts) e some fault =
@@ -76,10 +84,14 @@ chart_read text {a} {b} {c} {d} {e} {f} [] t msc name end header sections last n
 }
 
 -- the exit of a `?`
-pub chart_exits : (text : List ℕ) (tokens : List Token) (r : Result Tree ParseFault) (e : ParseFault) → IsErrAnd r (λ y. y ≡ e) → Stops text Start tokens e → ReadsChart text tokens r
+pub chart_exits : (text : List ℕ) (tokens : List Token) (r : Result Tree ParseFault)
+    (e : ParseFault) → IsErrAnd r (λ y. y ≡ e) → Stops text Start tokens e
+    → ReadsChart text tokens r
 chart_exits text tokens (Ok x) e h stop = absurd h
-chart_exits text tokens (Err y) e h stop = subst (λ (f : ParseFault). Stops text Start tokens f) (sym h) stop
+chart_exits text tokens (Err y) e h stop =
+    subst (λ (f : ParseFault). Stops text Start tokens f) (sym h) stop
 
 -- as many lexemes as tokens
-pub lexemes_few : (text : List ℕ) (tokens : List Token) → length tokens ≤ TEXT_LIMIT → length (lexemes text tokens) ≤ TEXT_LIMIT
+pub lexemes_few : (text : List ℕ) (tokens : List Token) → length tokens ≤ TEXT_LIMIT
+    → length (lexemes text tokens) ≤ TEXT_LIMIT
 lexemes_few text tokens few = omega (arith, few, length-map tokens (lexeme_of text))

@@ -46,7 +46,8 @@ next_decl_pieces d = Mark 44 ∷ space ∷ decl_pieces d
 -- all decls of the header in one line `inst DECL, DECL, ..;`, and no line where there is none
 abbrev pub header_pieces : List Decl → List Piece
 header_pieces [] = []
-header_pieces (d ∷ ds) = word Inst ∷ space ∷ decl_pieces d ++ (flat_map next_decl_pieces ds ++ line_end)
+header_pieces (d ∷ ds) =
+    word Inst ∷ space ∷ decl_pieces d ++ (flat_map next_decl_pieces ds ++ line_end)
 
 -- a name behind a comma
 abbrev pub next_name_pieces : List ℕ → List Piece
@@ -60,7 +61,8 @@ number_pieces (Some name) = next_name_pieces name
 -- `(P1, P2, ..)` where there are parameters
 abbrev pub parameter_pieces : List (List ℕ) → List Piece
 parameter_pieces [] = []
-parameter_pieces (name ∷ others) = Mark 40 ∷ Run name ∷ flat_map next_name_pieces others ++ Mark 41 ∷ []
+parameter_pieces (name ∷ others) =
+    Mark 40 ∷ Run name ∷ flat_map next_name_pieces others ++ Mark 41 ∷ []
 
 -- an ident: the message's name, its message instance name and its parameters
 abbrev pub ident_pieces : Signal → List Piece
@@ -80,7 +82,8 @@ inner_pieces e = space ∷ space ∷ space ∷ space ∷ event_pieces e
 
 -- two spaces before `concurrent;` and before `endconcurrent;`
 abbrev pub coregion_pieces : List Signal → List Piece
-coregion_pieces es = space ∷ space ∷ word Concurrent ∷ line_end ++ (flat_map inner_pieces es ++ (space ∷ space ∷ word EndConcurrent ∷ line_end))
+coregion_pieces es =
+    space ∷ space ∷ word Concurrent ∷ line_end ++ (flat_map inner_pieces es ++ (space ∷ space ∷ word EndConcurrent ∷ line_end))
 
 -- two spaces before a single event
 abbrev pub item_pieces : Item → List Piece
@@ -89,11 +92,13 @@ item_pieces (Coregion es) = coregion_pieces es
 
 -- `instance DECL;`, the items, and `endinstance;`
 abbrev pub section_pieces : Section → List Piece
-section_pieces s = word Instance ∷ space ∷ decl_pieces s.decl ++ (line_end ++ (flat_map item_pieces s.items ++ (word EndInstance ∷ line_end)))
+section_pieces s =
+    word Instance ∷ space ∷ decl_pieces s.decl ++ (line_end ++ (flat_map item_pieces s.items ++ (word EndInstance ∷ line_end)))
 
 -- `msc NAME;`, the header, the sections, and `endmsc;`
 abbrev pub printed : Tree → List Piece
-printed t = word Msc ∷ space ∷ Run t.name ∷ line_end ++ (header_pieces t.header ++ (flat_map section_pieces t.sections ++ (word EndMsc ∷ line_end)))
+printed t =
+    word Msc ∷ space ∷ Run t.name ∷ line_end ++ (header_pieces t.header ++ (flat_map section_pieces t.sections ++ (word EndMsc ∷ line_end)))
 
 -- the canonical text of a draft
 abbrev pub canonical : Tree → List ℕ

@@ -24,7 +24,8 @@ pub record Tree : Type 0 where
 -- the end of a statement: `;`, or `comment`, a text and `;`
 pub data IsEnd (before after : List Lexeme) : Type 0 where
   Plain : IsToken Semicolon before after → IsEnd before after
-  Commented : (bytes : List ℕ) (text close : List Lexeme) → IsToken (Reserved Comment) before text → IsToken (Quoted bytes) text close → IsToken Semicolon close after → IsEnd before after
+  Commented : (bytes : List ℕ) (text close : List Lexeme) → IsToken (Reserved Comment) before text
+      → IsToken (Quoted bytes) text close → IsToken Semicolon close after → IsEnd before after
 
 -- no second name of a kind, or one
 abbrev pub IsSecond : List Lexeme → List (List ℕ) → List Lexeme → Type 0
@@ -35,11 +36,13 @@ IsSecond before (second ∷ third ∷ others) after = ⊥
 -- no kind, or `:` and one name or two
 abbrev pub IsKind : List Lexeme → List (List ℕ) → List Lexeme → Type 0
 IsKind before [] after = before ≡ after
-IsKind before (first ∷ others) after = (name second : List Lexeme) × IsToken Colon before name × IsToken (Named first) name second × IsSecond second others after
+IsKind before (first ∷ others) after =
+    (name second : List Lexeme) × IsToken Colon before name × IsToken (Named first) name second × IsSecond second others after
 
 -- a decl: a name, and a kind if there is one
 abbrev pub IsDecl : List Lexeme → Decl → List Lexeme → Type 0
-IsDecl before d after = (kind : List Lexeme) × IsToken (Named d.name) before kind × IsKind kind d.kind after
+IsDecl before d after =
+    (kind : List Lexeme) × IsToken (Named d.name) before kind × IsKind kind d.kind after
 
 -- the first word of an event
 abbrev pub way_word : Way → Word
@@ -59,8 +62,11 @@ IsNumber before (Some number) after = IsLedBy Comma IsNamed before number after
 -- no parameters, in no parentheses or in empty ones; or names in parentheses
 pub data AreParameters (before : List Lexeme) (ps : List (List ℕ)) (after : List Lexeme) : Type 0 where
   Absent : ps ≡ [] → before ≡ after → AreParameters before ps after
-  Empty : (close : List Lexeme) → ps ≡ [] → IsToken LeftParen before close → IsToken RightParen close after → AreParameters before ps after
-  Given : (names close : List Lexeme) → IsToken LeftParen before names → AreListed IsNamed names ps close → IsToken RightParen close after → AreParameters before ps after
+  Empty : (close : List Lexeme) → ps ≡ [] → IsToken LeftParen before close
+      → IsToken RightParen close after → AreParameters before ps after
+  Given : (names close : List Lexeme) → IsToken LeftParen before names
+      → AreListed IsNamed names ps close → IsToken RightParen close after
+      → AreParameters before ps after
 
 -- an ident: the message's name, its message instance name and its parameters
 pub record IsIdent (before : List Lexeme) (e : Signal) (after : List Lexeme) : Type 0 where
@@ -117,11 +123,13 @@ IsSection before s after = IsLedBy (Reserved Instance) IsInstance before s after
 
 -- an `inst` statement behind its first word: decls and end
 abbrev pub AreDecls : List Lexeme → List Decl → List Lexeme → Type 0
-AreDecls before ds after = (close : List Lexeme) × AreListed IsDecl before ds close × IsEnd close after
+AreDecls before ds after =
+    (close : List Lexeme) × AreListed IsDecl before ds close × IsEnd close after
 
 -- the decls of all `inst` statements
 abbrev pub IsHeader : List Lexeme → List Decl → List Lexeme → Type 0
-IsHeader before ds after = (groups : List (List Decl)) × (ds ≡ flat_map (λ g. g) groups) × AreMany (IsLedBy (Reserved Inst) AreDecls) before groups after
+IsHeader before ds after =
+    (groups : List (List Decl)) × (ds ≡ flat_map (λ g. g) groups) × AreMany (IsLedBy (Reserved Inst) AreDecls) before groups after
 
 -- a chart: `msc` name end, the header, the sections, `endmsc` end, and then nothing
 pub record IsChart (before : List Lexeme) (t : Tree) : Type 0 where

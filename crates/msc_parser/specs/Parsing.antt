@@ -83,5 +83,7 @@ OneDraft = (ls : List Lexeme) (t u : Tree) → IsChart ls t → IsChart ls u →
 -- A text has at most one draft, at most one first fault, and never both.
 pub record OneParsing : Type 0 where
   pub draft : (text : List ℕ) (t u : Tree) → HasDraft text t → HasDraft text u → t ≡ u
-  pub fault : (text : List ℕ) (e f : ParseFault) → HasParseFault text e → HasParseFault text f → e ≡ f
-  pub apart : (text : List ℕ) (t : Tree) (e : ParseFault) → HasDraft text t → HasParseFault text e → ⊥
+  pub fault : (text : List ℕ) (e f : ParseFault) → HasParseFault text e → HasParseFault text f
+      → e ≡ f
+  pub apart : (text : List ℕ) (t : Tree) (e : ParseFault) → HasDraft text t → HasParseFault text e
+      → ⊥

@@ -43,15 +43,19 @@ pub record DidTake (text : List ℕ) (s : Symbol) (before after : List Token) : 
 
 -- something else was expected, since no token of this kind stands first
 abbrev pub Refuses : List ℕ → Kind → What → List Token → ParseFault → Type 0
-Refuses text kind w before e = (e ≡ fault_at (length text) w (lexemes text before)) × (first_kind before ≢ Some kind)
+Refuses text kind w before e =
+    (e ≡ fault_at (length text) w (lexemes text before)) × (first_kind before ≢ Some kind)
 
 -- what taking a token of a kind answers
-abbrev pub TakesToken : List ℕ → Kind → What → List Token → Result (Bor (List Token)) ParseFault → Type 0
-TakesToken text kind w before (Ok after) = (bytes : List ℕ) × DidTake text (symbol_of kind bytes) before after.now
+abbrev pub TakesToken : List ℕ → Kind → What → List Token → Result (Bor (List Token)) ParseFault
+    → Type 0
+TakesToken text kind w before (Ok after) =
+    (bytes : List ℕ) × DidTake text (symbol_of kind bytes) before after.now
 TakesToken text kind w before (Err e) = Refuses text kind w before e
 
 -- what taking a name answers
-abbrev pub TakesName : List ℕ → What → List Token → Result (List ℕ × Bor (List Token)) ParseFault → Type 0
+abbrev pub TakesName : List ℕ → What → List Token → Result (List ℕ × Bor (List Token)) ParseFault
+    → Type 0
 TakesName text w before (Ok x) = DidTake text (Named x.0) before x.1.now
 TakesName text w before (Err Memory) = Unit {0}
 TakesName text w before (Err e) = Refuses text kinds.Name w before e
@@ -77,7 +81,8 @@ pub record DidRead {X : Type 0} (text : List ℕ) (IsPart : List Lexeme → X �
   pub leads : fault_from text p before ≡ fault_from text q after
 
 -- what reading a part between two places answers
-abbrev pub Reads : {X : Type 0} → List ℕ → (List Lexeme → X → List Lexeme → Type 0) → Place → Place → List Token → Result (X × Bor (List Token)) ParseFault → Type 0
+abbrev pub Reads : {X : Type 0} → List ℕ → (List Lexeme → X → List Lexeme → Type 0) → Place → Place
+    → List Token → Result (X × Bor (List Token)) ParseFault → Type 0
 Reads text IsPart p q before (Ok x) = DidRead text IsPart p q before x.1.now x.0
 Reads text IsPart p q before (Err e) = Stops text p before e
 
@@ -96,8 +101,10 @@ abbrev pub IsSignalOf : Way → List Lexeme → Signal → List Lexeme → Type 
 IsSignalOf way before e after = (e.way ≡ way) × IsSignal before e after
 
 -- parts, and a token behind them
-abbrev pub AreUpTo : {X : Type 0} → Symbol → (List Lexeme → X → List Lexeme → Type 0) → List Lexeme → List X → List Lexeme → Type 0
-AreUpTo s IsPart before xs after = (last : List Lexeme) × AreMany IsPart before xs last × IsToken s last after
+abbrev pub AreUpTo : {X : Type 0} → Symbol → (List Lexeme → X → List Lexeme → Type 0) → List Lexeme
+    → List X → List Lexeme → Type 0
+AreUpTo s IsPart before xs after =
+    (last : List Lexeme) × AreMany IsPart before xs last × IsToken s last after
 
 -- what reading a whole chart answers
 abbrev pub ReadsChart : List ℕ → List Token → Result Tree ParseFault → Type 0

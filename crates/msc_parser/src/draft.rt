@@ -1,6 +1,7 @@
 //! Drafts: the tree of names of a chart's text, made by `parse` alone.
 //!
-//! Contracts see a draft as its `Tree`: the chart's name, the header and the sections, as plain lists.
+//! Contracts see a draft as its `Tree`: the chart's name, the header and the sections, as plain
+//! lists.
 
 ghost use Rattle.std.specs.Prelude.{◌≡◌, ◌≤◌, length, IfOk};
 ghost use Rattle.std.specs.List.{AllByRecursion};
@@ -32,7 +33,8 @@ impl Model for Draft {
     ghost view = { λ d. record { name = d.name; header = d.header; sections = d.sections } };
 
     // Each name is one that a text can have, and there are no more parts than a text has bytes.
-    ghost invariant = { λ d. IsDraft (record { name = d.name; header = d.header; sections = d.sections }) };
+    ghost invariant = { λ d.
+        IsDraft (record { name = d.name; header = d.header; sections = d.sections }) };
 }
 
 impl Draft {

@@ -34,8 +34,8 @@ pub enum What {
     Nothing,
 }
 
-/// The first fault of a text. Each place is a byte place from 0, that of the first byte of the token
-/// that cannot stand there, or the length of the text where it ends too early.
+/// The first fault of a text. Each place is a byte place from 0, that of the first byte of the
+/// token that cannot stand there, or the length of the text where it ends too early.
 #[derive(Clone, Copy, Debug, PartialEq, Eq, Error)]
 pub enum ParseFault {
     /// The text has no tokens. Comes before all faults of the grammar.

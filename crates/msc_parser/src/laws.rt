@@ -1,5 +1,5 @@
-//! Laws of drafts and texts, over their definitions alone. The functions have no code: a caller calls
-//! one to rest its own proof on the law.
+//! Laws of drafts and texts, over their definitions alone. The functions have no code: a caller
+//! calls one to rest its own proof on the law.
 
 ghost use Rattle.msc_parser.specs.Parsing.{OneDraft, OneParsing};
 ghost use Rattle.msc_parser.specs.Table.{TableFitsTheGrammar};
@@ -18,9 +18,9 @@ pub fn one_parsing()
     one_reading();
 }
 
-/// The table of places says what the grammar says: behind each beginning of a chart it allows exactly
-/// the symbols with which some chart goes on, and the end of the text exactly where the beginning is a
-/// chart.
+/// The table of places says what the grammar says: behind each beginning of a chart it allows
+/// exactly the symbols with which some chart goes on, and the end of the text exactly where the
+/// beginning is a chart.
 pub fn table_fits_the_grammar()
     ensures { TableFitsTheGrammar }
 {}

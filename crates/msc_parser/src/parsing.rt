@@ -4,7 +4,8 @@ ghost use Rattle.std.specs.Prelude.{◌≡◌, ◌≢◌, ◌≤◌, length, IfO
 ghost use Rattle.msc_lexer.specs.Lexemes.{AreWithin, HaveNames, lexemes};
 ghost use Rattle.msc_parser.specs.declared.fault.ParseFault.{ParseFault};
 ghost use Rattle.msc_parser.specs.Grammar.{Tree};
-ghost use Rattle.msc_parser.specs.Parsing.{HasDraft, HasParseFault, IsDraftOrMemory, IsFaultOrMemory};
+ghost use Rattle.msc_parser.specs.Parsing.{HasDraft, HasParseFault, IsDraftOrMemory};
+ghost use Rattle.msc_parser.specs.Parsing.{IsFaultOrMemory};
 ghost use Rattle.msc_parser.specs.Reading.{ReadsChart};
 
 use crate::draft::Draft;

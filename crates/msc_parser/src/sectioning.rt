@@ -5,7 +5,8 @@
 ghost use Rattle.std.specs.Prelude.{◌≡◌, ◌≢◌, Some};
 ghost use Rattle.msc_lexer.specs.Lexemes.{AreWithin, Reserved};
 ghost use Rattle.msc_parser.specs.Grammar.{IsEvent, IsCoregion, IsItem, IsInstance, IsSection};
-ghost use Rattle.msc_parser.specs.Places.{InInstance, DeclName, Items, Events, Sections, StatementEnd, Done};
+ghost use Rattle.msc_parser.specs.Places.{InInstance, DeclName, Items, Events, Sections};
+ghost use Rattle.msc_parser.specs.Places.{StatementEnd, Done};
 ghost use Rattle.msc_parser.specs.Reading.{first_kind, Reads, Uses, AreUpTo};
 
 use crate::fault::{ParseFault, What};

@@ -7,7 +7,8 @@ ghost use Rattle.msc_lexer.specs.Lexemes.{AreWithin};
 ghost use Rattle.msc_parser.specs.declared.tree.Way.{Way};
 ghost use Rattle.msc_parser.specs.Forms.{IsNamed, AreListed};
 ghost use Rattle.msc_parser.specs.Grammar.{way_word, address_word, IsNumber, AreParameters};
-ghost use Rattle.msc_parser.specs.Places.{Place, Message, AfterMessage, AfterNumber, Parameters, AfterParameter, AfterParameters, address_what};
+ghost use Rattle.msc_parser.specs.Places.{Place, Message, AfterMessage, AfterNumber, Parameters};
+ghost use Rattle.msc_parser.specs.Places.{AfterParameter, AfterParameters, address_what};
 ghost use Rattle.msc_parser.specs.Reading.{first_kind, Reads, Leaves, IsSignalOf};
 
 use crate::fault::{ParseFault, What};

@@ -1,7 +1,8 @@
 //! The parts of a draft: names, and what a chart's text says of them.
 //!
-//! A name is the list of its bytes as they stand in the text, since capital and small letters count.
-//! Contracts see each part as the record or the variant that it is, with lists for its lists.
+//! A name is the list of its bytes as they stand in the text, since capital and small letters
+//! count. Contracts see each part as the record or the variant that it is, with lists for its
+//! lists.
 
 use listed::Listed;
 

@@ -4,7 +4,12 @@ ghost use Rattle.std.specs.Prelude.{◌≡◌, ◌++◌, OnOk, IfOk};
 ghost use Rattle.std.specs.List.{flat_map};
 ghost use Rattle.msc_lexer.specs.Pieces.{text_of};
 ghost use Rattle.msc_parser.specs.Grammar.{way_word};
-ghost use Rattle.msc_parser.specs.Canonical.{second_pieces, kind_pieces, decl_pieces, next_decl_pieces, header_pieces, next_name_pieces, number_pieces, parameter_pieces, ident_pieces, address_pieces, event_pieces, inner_pieces, coregion_pieces, item_pieces, section_pieces, canonical};
+ghost use Rattle.msc_parser.specs.Canonical.{second_pieces, kind_pieces, decl_pieces};
+ghost use Rattle.msc_parser.specs.Canonical.{next_decl_pieces, header_pieces, next_name_pieces};
+ghost use Rattle.msc_parser.specs.Canonical.{number_pieces, parameter_pieces, ident_pieces};
+ghost use Rattle.msc_parser.specs.Canonical.{address_pieces, event_pieces, inner_pieces};
+ghost use Rattle.msc_parser.specs.Canonical.{coregion_pieces, item_pieces, section_pieces};
+ghost use Rattle.msc_parser.specs.Canonical.{canonical};
 
 use crate::draft::Draft;
 use crate::signalling::address_word;

@@ -14,7 +14,8 @@ fn is_plain(signal: &Signal, way: Way, address: &[u8]) -> bool {
         && signal.address.as_slice() == address
 }
 
-/// Whether a section is that of this instance, which has no kind, and has one event, of message `m`.
+/// Whether a section is that of this instance, which has no kind, and has one event, of message
+/// `m`.
 fn is_of(section: &Section, name: &[u8], way: Way, address: &[u8]) -> bool {
     if section.decl.name.as_slice() != name || !section.decl.kind.as_slice().is_empty() {
         return false;

@@ -13,4 +13,5 @@ returns-in_err-kind c = λ st.
     (decl_kind_refused c.args.text.now c.args.tokens.now c.in_ok-name.rest.now _ _ st c.in_ok-name.ensures (c.in_err-kind.ensures st))
 
 pub returns : goal.returns
-returns c = λ st. decl_read c.args.text.now c.args.tokens.now c.in_ok-name.rest.now c.in_ok-kind.rest.now _ _ st c.in_ok-name.ensures (c.in_ok-kind.ensures st)
+returns c =
+    λ st. decl_read c.args.text.now c.args.tokens.now c.in_ok-name.rest.now c.in_ok-kind.rest.now _ _ st c.in_ok-name.ensures (c.in_ok-kind.ensures st)

@@ -14,4 +14,5 @@ statements-preserved c =
     (header_more c.args.text.now c.statements.invariant (c.stands.ensures.0 c.statements-test.true) c.in_ok-decls.ensures)
 
 pub returns : goal.returns
-returns c = rw c.from_vec.ensures (header_read c.args.text.now c.args.tokens.now c.statements.rest.now c.statements.header.items c.statements.invariant (λ e. not_both c.stands.ensures c.statements-test.false e))
+returns c =
+    rw c.from_vec.ensures (header_read c.args.text.now c.args.tokens.now c.statements.rest.now c.statements.header.items c.statements.invariant (λ e. not_both c.stands.ensures c.statements-test.false e))

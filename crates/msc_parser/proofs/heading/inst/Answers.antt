@@ -8,7 +8,8 @@ use Rattle.msc_parser.proofs.Headings.{inst_read, inst_end_refused}
 use Rattle.msc_parser.proofs.heading.inst.Goals as goal
 
 pub returns-in_err-first : goal.returns-in_err-first
-returns-in_err-first c = exits c.args.text.now _ (DeclName InInst) Header c.args.tokens.now _ c.in_err-first.field-0.0 c.from_residual.ensures.1 (c.in_err-first.ensures InInst)
+returns-in_err-first c =
+    exits c.args.text.now _ (DeclName InInst) Header c.args.tokens.now _ c.in_err-first.field-0.0 c.from_residual.ensures.1 (c.in_err-first.ensures InInst)
 
 pub decls-init : goal.decls-init
 decls-init c =
@@ -35,4 +36,5 @@ returns-in_err-rest c =
     (inst_end_refused c.args.text.now c.args.tokens.now c.decls.rest.now c.decls.decls.items _ c.decls.invariant (λ e. not_both c.stands.ensures c.decls-test.false e) c.in_err-rest.ensures)
 
 pub returns : goal.returns
-returns c = inst_read c.args.text.now c.args.tokens.now c.decls.rest.now c.in_ok-rest.rest.now c.from_vec.result (rw c.from_vec.ensures c.decls.invariant) (λ e. not_both c.stands.ensures c.decls-test.false e) c.in_ok-rest.ensures
+returns c =
+    inst_read c.args.text.now c.args.tokens.now c.decls.rest.now c.in_ok-rest.rest.now c.from_vec.result (rw c.from_vec.ensures c.decls.invariant) (λ e. not_both c.stands.ensures c.decls-test.false e) c.in_ok-rest.ensures

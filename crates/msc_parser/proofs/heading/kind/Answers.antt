@@ -7,7 +7,8 @@ use Rattle.msc_parser.proofs.Parts.{pushed_one, pushed_two}
 use Rattle.msc_parser.proofs.heading.kind.Goals as goal
 
 pub returns-then-not-stands : goal.returns-then-not-stands
-returns-then-not-stands c = kind_none c.args.text.now c.args.tokens.now _ c.requires (λ e. not_both c.stands.ensures c.if-not-stands.true e) (c.from_vec.ensures ∙ c.new-names.ensures.items)
+returns-then-not-stands c =
+    kind_none c.args.text.now c.args.tokens.now _ c.requires (λ e. not_both c.stands.ensures c.if-not-stands.true e) (c.from_vec.ensures ∙ c.new-names.ensures.items)
 
 pub take_name-requires : goal.take_name-requires
 take_name-requires c = within_others c.args.text.now c.args.tokens.now c.requires

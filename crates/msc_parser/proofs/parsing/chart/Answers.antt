@@ -8,7 +8,8 @@ use Rattle.msc_parser.proofs.Whole.{msc_refused, chart_name_refused, head_leads,
 use Rattle.msc_parser.proofs.parsing.chart.Goals as goal
 
 pub returns-in_err-rest : goal.returns-in_err-rest
-returns-in_err-rest c = chart_exits c.args.text.now c.args.tokens.now _ c.in_err-rest.field-0.0 c.from_residual.ensures.1 (msc_refused c.args.text.now c.args.tokens.now _ c.in_err-rest.ensures)
+returns-in_err-rest c =
+    chart_exits c.args.text.now c.args.tokens.now _ c.in_err-rest.field-0.0 c.from_residual.ensures.1 (msc_refused c.args.text.now c.args.tokens.now _ c.in_err-rest.ensures)
 
 pub returns-in_err-name : goal.returns-in_err-name
 returns-in_err-name c =

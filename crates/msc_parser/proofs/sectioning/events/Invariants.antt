@@ -6,7 +6,8 @@ use Rattle.msc_parser.specs.Reading.{DidRead}
 use Rattle.msc_parser.proofs.sectioning.events.Given as goal
 
 abbrev pub invariant-statements : goal.invariant-statements
-invariant-statements l = DidRead l.text (AreMany IsEvent) Events Events l.tokens l.rest l.events.items
+invariant-statements l =
+    DidRead l.text (AreMany IsEvent) Events Events l.tokens l.rest l.events.items
 
 abbrev pub decreases-statements : goal.decreases-statements
 decreases-statements l = length l.rest

@@ -15,13 +15,16 @@ returns-in_err-events-clause-reads c =
     exits c.args.text.now _ Items Items c.args.tokens.now _ c.in_err-events.field-0.0 c.from_residual.ensures.1 (coregion_stops c.args.text.now c.args.tokens.now _ c.requires.within (c.stands.ensures.0 c.if-stands.true) c.in_err-events.ensures)
 
 pub returns-then-stands-clause-reads : goal.returns-then-stands-clause-reads
-returns-then-stands-clause-reads c = coregion_item c.args.text.now c.args.tokens.now c.in_ok-events.rest.now _ c.requires.within (c.stands.ensures.0 c.if-stands.true) c.in_ok-events.ensures
+returns-then-stands-clause-reads c =
+    coregion_item c.args.text.now c.args.tokens.now c.in_ok-events.rest.now _ c.requires.within (c.stands.ensures.0 c.if-stands.true) c.in_ok-events.ensures
 
 pub returns-then-stands-clause-uses : goal.returns-then-stands-clause-uses
-returns-then-stands-clause-uses c = shorter_behind c.args.text.now _ c.args.tokens.now c.in_ok-events.rest.now c.requires.within (c.stands.ensures.0 c.if-stands.true) c.in_ok-events.ensures.shorter
+returns-then-stands-clause-uses c =
+    shorter_behind c.args.text.now _ c.args.tokens.now c.in_ok-events.rest.now c.requires.within (c.stands.ensures.0 c.if-stands.true) c.in_ok-events.ensures.shorter
 
 pub returns-in_default-clause-reads : goal.returns-in_default-clause-reads
-returns-in_default-clause-reads c = item_refused c.args.text.now c.args.tokens.now _ c.in_default.ensures.none (λ e. not_both c.stands.ensures c.if-stands.false e) c.requires.goes_on c.unexpected.ensures
+returns-in_default-clause-reads c =
+    item_refused c.args.text.now c.args.tokens.now _ c.in_default.ensures.none (λ e. not_both c.stands.ensures c.if-stands.false e) c.requires.goes_on c.unexpected.ensures
 
 pub signal-requires : goal.signal-requires
 signal-requires c = within_others c.args.text.now c.args.tokens.now c.requires.within
@@ -32,7 +35,9 @@ returns-in_err-signal-clause-reads c =
     (event_stops c.args.text.now c.in-Some.way Items c.args.tokens.now _ c.requires.within c.in-Some.ensures.some (item_leads c.in-Some.way) (c.in_err-signal.ensures Items))
 
 pub returns-clause-reads : goal.returns-clause-reads
-returns-clause-reads c = single_read c.args.text.now c.in-Some.way c.args.tokens.now c.in_ok-signal.rest.now _ c.requires.within c.in-Some.ensures.some (c.in_ok-signal.ensures Items)
+returns-clause-reads c =
+    single_read c.args.text.now c.in-Some.way c.args.tokens.now c.in_ok-signal.rest.now _ c.requires.within c.in-Some.ensures.some (c.in_ok-signal.ensures Items)
 
 pub returns-clause-uses : goal.returns-clause-uses
-returns-clause-uses c = shorter_behind c.args.text.now (kinds.Word (way_word c.in-Some.way)) c.args.tokens.now c.in_ok-signal.rest.now c.requires.within c.in-Some.ensures.some (c.in_ok-signal.ensures Items).shorter
+returns-clause-uses c =
+    shorter_behind c.args.text.now (kinds.Word (way_word c.in-Some.way)) c.args.tokens.now c.in_ok-signal.rest.now c.requires.within c.in-Some.ensures.some (c.in_ok-signal.ensures Items).shorter

@@ -5,7 +5,8 @@ use Rattle.msc_parser.proofs.Lines.{section_decl_leads, section_read}
 use Rattle.msc_parser.proofs.sectioning.section.Goals as goal
 
 pub returns-in_err-decl : goal.returns-in_err-decl
-returns-in_err-decl c = exits c.args.text.now _ (DeclName InInstance) Sections c.args.tokens.now _ c.in_err-decl.field-0.0 c.from_residual.ensures.1 (c.in_err-decl.ensures InInstance)
+returns-in_err-decl c =
+    exits c.args.text.now _ (DeclName InInstance) Sections c.args.tokens.now _ c.in_err-decl.field-0.0 c.from_residual.ensures.1 (c.in_err-decl.ensures InInstance)
 
 pub take_end-requires : goal.take_end-requires
 take_end-requires c = (c.in_ok-decl.ensures InInstance).within
@@ -27,4 +28,5 @@ returns-in_err-rest-2 c =
     (section_decl_leads c.args.text.now _ _ _ (c.in_ok-decl.ensures InInstance) ∙ c.in_ok-rest.ensures.leads Items ∙ c.in_ok-items.ensures.leads) (c.in_err-rest-2.ensures Sections))
 
 pub returns : goal.returns
-returns c = section_read c.args.text.now (c.in_ok-decl.ensures InInstance) c.in_ok-rest.ensures c.in_ok-items.ensures c.in_ok-rest-2.ensures
+returns c =
+    section_read c.args.text.now (c.in_ok-decl.ensures InInstance) c.in_ok-rest.ensures c.in_ok-items.ensures c.in_ok-rest-2.ensures

@@ -20,7 +20,8 @@ names-init c = λ w p.
     (pushed_one c.new-names.result.items c.push.new.self.items _ c.new-names.ensures.items c.in_ok-push.ensures.items)
 
 pub take_name-requires-in-names : goal.take_name-requires-in-names
-take_name-requires-in-names c = within_others c.args.text.now c.names.rest.now (c.names.invariant Output Start).within
+take_name-requires-in-names c =
+    within_others c.args.text.now c.names.rest.now (c.names.invariant Output Start).within
 
 pub returns-in_err-more-clause-reads : goal.returns-in_err-more-clause-reads
 returns-in_err-more-clause-reads c = λ w p.

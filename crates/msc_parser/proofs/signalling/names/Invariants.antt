@@ -6,7 +6,8 @@ use Rattle.msc_parser.specs.Reading.{DidRead}
 use Rattle.msc_parser.proofs.signalling.names.Given as goal
 
 abbrev pub invariant-names : goal.invariant-names
-invariant-names l = (w : Way) (p : Place) → DidRead l.fn.text (AreListed IsNamed) (Parameters w p) (AfterParameter w p) l.fn.tokens l.rest l.names.items
+invariant-names l =
+    (w : Way) (p : Place) → DidRead l.fn.text (AreListed IsNamed) (Parameters w p) (AfterParameter w p) l.fn.tokens l.rest l.names.items
 
 abbrev pub decreases-names : goal.decreases-names
 decreases-names l = length l.rest

@@ -7,10 +7,12 @@ use Rattle.msc_parser.proofs.Signals.{parameters_none, parameters_empty, names_s
 use Rattle.msc_parser.proofs.signalling.parameters.Goals as goal
 
 pub returns-then-not-stands : goal.returns-then-not-stands
-returns-then-not-stands c = parameters_none c.args.text.now c.args.tokens.now _ c.requires (λ e. not_both c.stands.ensures c.if-not-stands.true e) (c.from_vec.ensures ∙ c.new.ensures.items)
+returns-then-not-stands c =
+    parameters_none c.args.text.now c.args.tokens.now _ c.requires (λ e. not_both c.stands.ensures c.if-not-stands.true e) (c.from_vec.ensures ∙ c.new.ensures.items)
 
 pub returns-then-stands : goal.returns-then-stands
-returns-then-stands c = parameters_empty c.args.text.now c.args.tokens.now _ c.requires (c.stands.ensures.0 c.if-not-stands.false) (c.stands-2.ensures.0 c.if-stands.true) (c.from_vec-then-stands.ensures ∙ c.new-then-stands.ensures.items)
+returns-then-stands c =
+    parameters_empty c.args.text.now c.args.tokens.now _ c.requires (c.stands.ensures.0 c.if-not-stands.false) (c.stands-2.ensures.0 c.if-stands.true) (c.from_vec-then-stands.ensures ∙ c.new-then-stands.ensures.items)
 
 pub names-requires-clause-within : goal.names-requires-clause-within
 names-requires-clause-within c = within_others c.args.text.now c.args.tokens.now c.requires

@@ -5,4 +5,5 @@ use Rattle.msc_parser.specs.Canonical.{item_pieces}
 use Rattle.msc_parser.proofs.writing.put_items.Given as goal
 
 abbrev pub invariant-loop-item : goal.invariant-loop-item
-invariant-loop-item l = l.out.items ≡ l.fn.out.items ++ text_of (flat_map item_pieces (take l.item-index l.items))
+invariant-loop-item l =
+    l.out.items ≡ l.fn.out.items ++ text_of (flat_map item_pieces (take l.item-index l.items))

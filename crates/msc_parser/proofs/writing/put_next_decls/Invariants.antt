@@ -5,4 +5,5 @@ use Rattle.msc_parser.specs.Canonical.{next_decl_pieces}
 use Rattle.msc_parser.proofs.writing.put_next_decls.Given as goal
 
 abbrev pub invariant-loop-decl : goal.invariant-loop-decl
-invariant-loop-decl l = l.out.items ≡ l.fn.out.items ++ text_of (flat_map next_decl_pieces (take l.decl-index l.decls))
+invariant-loop-decl l =
+    l.out.items ≡ l.fn.out.items ++ text_of (flat_map next_decl_pieces (take l.decl-index l.decls))

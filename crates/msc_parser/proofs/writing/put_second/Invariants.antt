@@ -5,4 +5,5 @@ use Rattle.msc_parser.specs.Canonical.{second_pieces}
 use Rattle.msc_parser.proofs.writing.put_second.Given as goal
 
 abbrev pub invariant-loop-name : goal.invariant-loop-name
-invariant-loop-name l = l.out.items ≡ l.fn.out.items ++ text_of (flat_map second_pieces (take l.name-index l.names))
+invariant-loop-name l =
+    l.out.items ≡ l.fn.out.items ++ text_of (flat_map second_pieces (take l.name-index l.names))

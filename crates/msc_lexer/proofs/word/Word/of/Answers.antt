@@ -18,4 +18,5 @@ loop-word-preserved c =
 
 pub returns : goal.returns
 unfolding word_of
-returns c = sym (at_drop_all (find (is_spelled c.args.bytes.now)) all_words c.loop-word.word-index (omega arith)) ∙ c.loop-word.invariant
+returns c =
+    sym (at_drop_all (find (is_spelled c.args.bytes.now)) all_words c.loop-word.word-index (omega arith)) ∙ c.loop-word.invariant
