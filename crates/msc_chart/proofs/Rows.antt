@@ -35,7 +35,7 @@ unfolding chart_events events_of ends_of before line segment pairs_of pairs_to
 coregion_drawn = refl
 
 -- what stands above a coregion is drawn before its events, and these before what stands below
-pub below_coregion_drawn : drawn_pairs (chart_of below_coregion) ≡ (0, 1) ∷ (0, 2) ∷ (0, 3) ∷ (1, 2) ∷ (1, 3) ∷ (2, 3) ∷ (4, 5) ∷ (4, 6) ∷ (4, 7) ∷ (5, 7) ∷ (6, 7) ∷ []
+pub below_coregion_drawn : drawn_pairs (chart_of below_coregion) ≡ (1, 2) ∷ (1, 3) ∷ (1, 4) ∷ (2, 4) ∷ (3, 4) ∷ (5, 6) ∷ []
 unfolding chart_events events_of ends_of before line segment pairs_of pairs_to
 below_coregion_drawn = refl
 

@@ -25,6 +25,9 @@ b = 98 ∷ []
 abbrev pub c : List ℕ
 c = 99 ∷ []
 
+abbrev pub d : List ℕ
+d = 100 ∷ []
+
 abbrev pub x : List ℕ
 x = 120 ∷ []
 
@@ -98,12 +101,13 @@ two_mailboxes =
     ∷ instance_of q (Single (in_from m1 a) ∷ Single (in_from m2 b) ∷ [])
     ∷ instance_of z (Single (in_from m4 b) ∷ Single (in_from m3 a) ∷ []) ∷ [])
 
--- a coregion of two inputs between an input and an output
--- a: out m1, out m2, out m3, in m4; b: in m1, concurrent in m2, in m3, out m4
+-- a: out m1; b: in m1, a coregion of in m2 and in m3, in m4; c: out m2, out m3; d: out m4
 abbrev pub below_coregion : Tree
 below_coregion =
-    draft_of (instance_of a (Single (out_to m1 b) ∷ Single (out_to m2 b) ∷ Single (out_to m3 b) ∷ Single (in_from m4 b) ∷ [])
-    ∷ instance_of b (Single (in_from m1 a) ∷ Coregion (in_from m2 a ∷ in_from m3 a ∷ []) ∷ Single (out_to m4 a) ∷ []) ∷ [])
+    draft_of (instance_of a (Single (out_to m1 b) ∷ [])
+    ∷ instance_of b (Single (in_from m1 a) ∷ Coregion (in_from m2 c ∷ in_from m3 c ∷ []) ∷ Single (in_from m4 d) ∷ [])
+    ∷ instance_of c (Single (out_to m2 b) ∷ Single (out_to m3 b) ∷ [])
+    ∷ instance_of d (Single (out_to m4 b) ∷ []) ∷ [])
 
 -- the pairs of which the first is drawn before the second
 abbrev pub drawn_pairs : Drawing → List (ℕ × ℕ)

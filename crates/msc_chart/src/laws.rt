@@ -61,8 +61,8 @@ pub fn worked_charts()
     ensures drawn { drawn_pairs (chart_of two_senders) ≡ (1, 2) ∷ [] }
     ensures coregion { drawn_pairs (chart_of coregion) ≡ [] }
     ensures relay { drawn_pairs (chart_of relay) ≡ (0, 1) ∷ (2, 3) ∷ (4, 5) ∷ [] }
-    ensures below { drawn_pairs (chart_of below_coregion) ≡ (0, 1) ∷ (0, 2) ∷ (0, 3) ∷ (1, 2)
-        ∷ (1, 3) ∷ (2, 3) ∷ (4, 5) ∷ (4, 6) ∷ (4, 7) ∷ (5, 7) ∷ (6, 7) ∷ [] }
+    ensures below { drawn_pairs (chart_of below_coregion)
+        ≡ (1, 2) ∷ (1, 3) ∷ (1, 4) ∷ (2, 4) ∷ (3, 4) ∷ (5, 6) ∷ [] }
     ensures segments { map (λ e. e.segment) (chart_events empty_coregion) ≡ 0 ∷ 1 ∷ [] }
     ensures pair { queue_numbers Pair (chart_of relay) ≡ 1 ∷ 2 ∷ 7 ∷ [] }
     ensures mailbox { queue_numbers Mailbox (chart_of relay) ≡ 1 ∷ 2 ∷ 1 ∷ [] }
