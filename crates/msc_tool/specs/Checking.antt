@@ -8,7 +8,8 @@ use Rattle.msc_chart.specs.declared.fault.ChartFault.{ChartFault}
 use Rattle.msc_chart.specs.declared.queue.Queues.{Queues}
 use Rattle.msc_chart.specs.Drawings.{Drawing, chart_of}
 use Rattle.msc_chart.specs.Chosen.{IsChosenRun}
-use Rattle.msc_chart.specs.Faults.{Occurs, Stands, IsFirstFault, IsFaultless}
+use Rattle.msc_chart.specs.Faults.{Stands, IsFirstFault, IsFaultless}
+use Rattle.msc_chart.specs.Lists.{Occurs}
 use Rattle.msc_chart.specs.Orders.{WiredChart, wired}
 use Rattle.msc_chart.specs.Runs.{Run, IsWhole, Reverses}
 use Rattle.msc_race.specs.declared.verdict.Verdict.{Verdict}
