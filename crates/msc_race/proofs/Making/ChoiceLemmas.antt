@@ -1,8 +1,5 @@
 -- What the code that looks for the next event of a chosen run needs of lists, charts and runs.
 use Rattle.std.proofs.Common.{◌≡◌, ℕ, ◌<◌, ◌↔◌, List, [], ◌∷◌, ◌++◌, length, refl}
-use Rattle.std.proofs.lemmas.Bool.{lt-ltb}
-use Rattle.msc_chart.specs.declared.event.ChartEvent.{ChartEvent}
-use Rattle.msc_chart.specs.Charts.{kind, sends, is_output}
 use Rattle.msc_chart.specs.Orders.{WiredChart}
 use Rattle.msc_chart.specs.Chosen.{IsChosenNext}
 use Rattle.msc_race.proofs.Shared.{count_below}
@@ -10,12 +7,6 @@ use Rattle.msc_race.proofs.Runs.Inside.{is_left}
 use Rattle.msc_race.proofs.Runs.Growing.{left_less}
 use Rattle.msc_race.proofs.Runs.WholeRuns.{everything}
 use Rattle.msc_race.proofs.Runs.ChosenRuns.{may_of_next}
-
--- an event of the chart is an output where its kind is
-pub output_is : (events : List ChartEvent) (e : ℕ) → e < length events
-    → sends (kind events e) ≡ is_output events e
-unfolding is_output
-output_is events e h = rw (lt-ltb e (length events) h) refl
 
 -- one equivalence after another
 pub iff_trans : {A B C : Type 0} → A ↔ B → B ↔ C → A ↔ C

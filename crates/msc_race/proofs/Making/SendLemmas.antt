@@ -10,7 +10,7 @@ use Rattle.bit_rows.specs.Rows.{has, IsWith}
 use Rattle.msc_race.specs.declared.queued_run.QueuedRun.{QueuedRun}
 use Rattle.msc_race.specs.QueuedRuns.{IsArrived, AreQueues}
 use Rattle.msc_race.proofs.Making.RowLemmas.{row_same}
-use Rattle.msc_race.proofs.Runs.EventLemmas.{input_below, input_of}
+use Rattle.msc_race.proofs.Runs.EventLemmas.{input_below, partner_of_output}
 use Rattle.msc_race.proofs.Making.StateLemmas.{state_sent, state_sent_elsewhere}
 use Rattle.msc_race.proofs.Making.LinkLemmas.{empty_queue, last_in, queue_same, queue_push}
 use Rattle.msc_race.proofs.Making.ComingLemmas.{IsComing}
@@ -96,7 +96,7 @@ module _ {chart : WiredChart} {c : QueuedRun} {x : ℕ} (here : IsComing chart c
                 | inr other ↦ still_arrived chart past x away y other a
               ]
               | inr added ↦ subst (λ (z : ℕ). IsArrived chart after z) (sym (eqb-true y (partner chart.events x) added)) (record {
-                input = input_of chart.events is_wired.matched x o;
+                input = partner_of_output chart.events is_wired.matched x o;
                 first = rw (is_wired.one_queue x may.event, full, is_wired.matched.to_and_fro x may.event) refl;
               })
             ],

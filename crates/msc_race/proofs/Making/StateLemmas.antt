@@ -9,7 +9,7 @@ use Rattle.msc_chart.specs.Orders.{WiredChart, IsWired, queue}
 use Rattle.msc_chart.specs.Runs.{Run, MayCome, is_waiting, state}
 use Rattle.msc_chart.proofs.ListLemmas.{occurs-append}
 use Rattle.msc_race.proofs.Shared.{by_test, clash, occurs-left, occurs-push, until-within, step_at, first_occurs}
-use Rattle.msc_race.proofs.Runs.EventLemmas.{output_below, not_both, input_of}
+use Rattle.msc_race.proofs.Runs.EventLemmas.{output_below, not_both, partner_of_output}
 use Rattle.msc_race.proofs.Runs.QueueLemmas.{waiting_from, waiting_parts}
 
 -- no number stands in the list twice
@@ -109,7 +109,7 @@ module _ (chart : WiredChart) where
           (λ there.
           let r : ℕ = partner chart.events x in
           let at_r = step_at (MayCome chart) past r run there in
-          let first = first_occurs (is_waiting chart (queue chart r) (until past r)) (until past r) (partner chart.events r) (at_r.1.input (input_of chart.events is_wired.matched x o)) in
+          let first = first_occurs (is_waiting chart (queue chart r) (until past r)) (until past r) (partner chart.events r) (at_r.1.input (partner_of_output chart.events is_wired.matched x o)) in
           let x_there : occurs (until past r) x ≡ true = subst (λ (z : ℕ). occurs (until past r) z ≡ true) (is_wired.matched.to_and_fro x may.event) first.0 in
           clash (until-within past r x x_there) may.new)
           (λ out. out)
@@ -118,7 +118,7 @@ module _ (chart : WiredChart) where
       output_takes_none : is_output chart.events x ≡ true → (q z : ℕ) → is_waiting chart q past z ≡ true → x ≢ partner chart.events z
       output_takes_none o q z there same =
           let z_out = (waiting_parts chart q past z there).0 in
-          not_both chart.events x o (subst (λ (y : ℕ). is_input chart.events y ≡ true) (sym same) (input_of chart.events is_wired.matched z z_out))
+          not_both chart.events x o (subst (λ (y : ℕ). is_input chart.events y ≡ true) (sym same) (partner_of_output chart.events is_wired.matched z z_out))
 
       -- an output joins the end of its queue
       pub state_sent : is_output chart.events x ≡ true → state chart (queue chart x) (past ++ x ∷ []) ≡ state chart (queue chart x) past ++ x ∷ []

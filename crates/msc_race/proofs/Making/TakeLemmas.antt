@@ -11,7 +11,7 @@ use Rattle.msc_race.specs.declared.queued_run.QueuedRun.{QueuedRun}
 use Rattle.msc_race.specs.QueuedRuns.{IsQueue, IsArrived, AreQueues}
 use Rattle.msc_race.proofs.Making.RowLemmas.{row_same}
 use Rattle.msc_race.proofs.Making.FrontLemmas.{still_in, was_in}
-use Rattle.msc_race.proofs.Runs.EventLemmas.{input_below, input_of}
+use Rattle.msc_race.proofs.Runs.EventLemmas.{input_below, partner_of_output}
 use Rattle.msc_race.proofs.Making.StateLemmas.{IsDistinct, state_taken, state_taken_elsewhere}
 use Rattle.msc_race.proofs.Making.LinkLemmas.{queue_ends, queue_goes_on, first_parts}
 use Rattle.msc_race.proofs.Making.ComingLemmas.{IsComing}
@@ -171,7 +171,7 @@ module _ {chart : WiredChart} {c : QueuedRun} {x : ℕ} (here : IsComing chart c
                     | inr other ↦ still_arrived chart past x gone y other a
                   ]
               | inr added ↦ subst (λ (z : ℕ). IsArrived chart after z) (sym (eqb-true y (partner chart.events t) added)) (record {
-                input = input_of chart.events is_wired.matched t t_is.0;
+                input = partner_of_output chart.events is_wired.matched t t_is.0;
                 first = rw (is_wired.one_queue t t_is.1, t_is.2, left, is_wired.matched.to_and_fro t t_is.1) next_first.0;
               })
             ],

@@ -8,7 +8,7 @@ use Rattle.msc_chart.specs.Runs.{Run, MayCome, IsWhole, Reverses}
 use Rattle.msc_chart.specs.Chosen.{IsFree, MayComeFree, IsChosenNext, IsChosenRun}
 use Rattle.msc_race.proofs.Shared.{clash, step_at, until-within, Steps-map}
 use Rattle.msc_race.proofs.Runs.Standing.{until_other, until_swapped}
-use Rattle.msc_race.proofs.Runs.EventLemmas.{before_parts}
+use Rattle.msc_race.proofs.Runs.EventLemmas.{before_differs, before_parts}
 
 -- what comes next in a chosen run may come
 pub may_of_next : (chart : WiredChart) (e : ℕ) (past : List ℕ) (x : ℕ) → IsChosenNext chart e past x
@@ -52,7 +52,7 @@ pub chosen_reverses_race : (chart : WiredChart) (e : ℕ) (events : List ℕ)
     → (f : ℕ) → IsRace chart e f → Reverses events e f
 chosen_reverses_race chart e events chosen f race =
     let facts = before_parts chart.events e f race.0 in
-    chosen_reverses chart e events chosen f (facts.1, λ same. facts.2 (sym same), race.1)
+    chosen_reverses chart e events chosen f (facts.1, λ same. before_differs chart.events e f race.0 (sym same), race.1)
 
 -- there is one least number at most
 least_unique : (P : ℕ → Type 0) (x y : ℕ) → IsLeast P x → IsLeast P y → x ≡ y

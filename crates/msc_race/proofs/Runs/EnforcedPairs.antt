@@ -3,7 +3,7 @@ use Rattle.std.proofs.Common.{◌≡◌, ℕ, ◌<◌, true, ◌⊎◌, inl, inr
 use Rattle.msc_chart.specs.Charts.{partner, is_input}
 use Rattle.msc_chart.specs.Orders.{WiredChart, IsWired, queue, Enforced}
 use Rattle.msc_chart.specs.Orders.Enforced.{drawn, sent, joined, queued}
-use Rattle.msc_race.proofs.Runs.EventLemmas.{output_below, not_both, before_parts, input_of}
+use Rattle.msc_race.proofs.Runs.EventLemmas.{output_below, not_both, before_parts, partner_of_output}
 
 module _ (chart : WiredChart) (is_wired : IsWired chart) where
   -- it relates events of the chart
@@ -40,7 +40,7 @@ module _ (chart : WiredChart) (is_wired : IsWired chart) where
       let to_t = is_wired.matched.to_and_fro t t_below in
       let s_queue = is_wired.one_queue s s_below in
       let t_queue = is_wired.one_queue t t_below in
-      let input : is_input chart.events x ≡ true = rw (← p) (input_of chart.events is_wired.matched s os) in
+      let input : is_input chart.events x ≡ true = rw (← p) (partner_of_output chart.events is_wired.matched s os) in
       inr (inr (input, rw (← p, ← q, s_queue, t_queue) same, rw (← p, ← q, to_s, to_t) h))
   into_input x y (joined {y = m} h k) i =
       elim (into_input m y k i) [

@@ -3,7 +3,7 @@ use Rattle.std.proofs.Common.{◌≡◌, ℕ, ◌<◌, Bool, true, inl, inr, len
 use Rattle.msc_chart.specs.Charts.{IsAcyclic, partner}
 use Rattle.msc_chart.specs.Orders.{WiredChart, IsWired, queue, Enforced, IsEnforcedOrder}
 use Rattle.msc_chart.specs.Orders.Enforced.{drawn, sent, joined, queued}
-use Rattle.msc_race.proofs.Runs.EventLemmas.{output_below, before_parts, input_of, output_of}
+use Rattle.msc_race.proofs.Runs.EventLemmas.{output_below, before_parts, partner_of_output, partner_of_input}
 use Rattle.msc_race.proofs.Runs.EnforcedPairs.{into_input}
 use Rattle.msc_race.proofs.Runs.Inside.{is_held, held_parts, passed_on_parts}
 use Rattle.msc_race.proofs.Runs.Progress.{needed_cases, CanGoFirst}
@@ -21,7 +21,7 @@ module _ (chart : WiredChart) (is_wired : IsWired chart) (order : ℕ → ℕ �
       let s_free = free_of_test chart order told e s h.1 in
       let back = is_wired.matched.to_and_fro s s_below in
       let queues = is_wired.one_queue s s_below in
-      let input = input_of chart.events is_wired.matched s h.0 in
+      let input = partner_of_output chart.events is_wired.matched s h.0 in
       elim (not_free chart order told e below (partner chart.events s) (is_wired.matched.in_range s s_below) h.2) [
         | inl same ↦ ap (λ x. queue chart x) (sym same) ∙ queues
         | inr after ↦ elim (into_input chart is_wired e (partner chart.events s) after input) [
@@ -53,7 +53,7 @@ module _ (chart : WiredChart) (is_wired : IsWired chart) (order : ℕ → ℕ �
     drawn_inside = λ x s b o free. free_before x s (before_parts chart.events x s b).0 (drawn b o) free;
     sent_inside = λ r i free.
         let r_below = (free_of_test chart order told e r free).0 in
-        let output = output_of chart.events is_wired.matched r i in
+        let output = partner_of_input chart.events is_wired.matched r i in
         let link : Enforced chart (partner chart.events r) r = sent output (is_wired.matched.to_and_fro r r_below) in
         free_before (partner chart.events r) r (is_wired.matched.in_range r r_below) link free;
     held_after = λ s t held passed queues link.

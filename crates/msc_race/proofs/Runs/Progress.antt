@@ -8,7 +8,7 @@ use Rattle.msc_chart.specs.Charts.{partner, is_output, is_input, before}
 use Rattle.msc_chart.specs.Orders.{WiredChart, IsWired, queue}
 use Rattle.msc_chart.specs.Runs.{MayCome, is_waiting}
 use Rattle.msc_race.proofs.Shared.{by_test, clash, count_below, find_below, descend, step_at, first_occurs, before_first_fails, filter-first}
-use Rattle.msc_race.proofs.Runs.EventLemmas.{output_below, input_below, output_or_input, not_both, before_parts, input_of, output_of}
+use Rattle.msc_race.proofs.Runs.EventLemmas.{output_below, input_below, output_or_input, not_both, before_parts, partner_of_output, partner_of_input}
 use Rattle.msc_race.proofs.Runs.QueueLemmas.{waiting_from, waiting_parts}
 use Rattle.msc_race.proofs.Runs.Inside.{is_held, is_passed_on, held_from, held_parts, passed_on_from, passed_on_parts, passed_on_told, MayComeInside, SomeLeft, is_left, left_from, left_parts}
 
@@ -73,7 +73,7 @@ module _ (chart : WiredChart) (is_wired : IsWired chart) (inside : ℕ → Bool)
   take_first steps r input member out sent =
       let below = input_below chart.events r input in
       let s : ℕ = partner chart.events r in
-      let o = output_of chart.events is_wired.matched r input in
+      let o = partner_of_input chart.events is_wired.matched r input in
       let back : partner chart.events s ≡ r = is_wired.matched.to_and_fro r below in
       let q : ℕ = queue chart r in
       let waits : is_waiting chart q past s ≡ true =
@@ -84,7 +84,7 @@ module _ (chart : WiredChart) (is_wired : IsWired chart) (inside : ℕ → Bool)
       let facts = waiting_parts chart q past s0 there.1 in
       let s0_below = output_below chart.events s0 facts.0 in
       let at_s0 = step_at (MayComeInside chart inside) past s0 steps there.0 in
-      let i0 = input_of chart.events is_wired.matched s0 facts.0 in
+      let i0 = partner_of_output chart.events is_wired.matched s0 facts.0 in
       by_test (inside (partner chart.events s0))
       (λ taken_inside.
       let queues : queue chart (partner chart.events s0) ≡ q = is_wired.one_queue s0 s0_below ∙ facts.1 in
@@ -127,7 +127,7 @@ module _ (chart : WiredChart) (is_wired : IsWired chart) (inside : ℕ → Bool)
         }
         | inr i ↦
             let s : ℕ = partner chart.events x in
-            let o = output_of chart.events is_wired.matched x i in
+            let o = partner_of_input chart.events is_wired.matched x i in
             let s_left = left_from inside past s (first.sent_inside x i x_left.0) (quiet x i x_left.0 x_left.1) in
             clash (needed_sent chart.events s x o (is_wired.matched.to_and_fro x below))
             (least s (is_wired.matched.in_range x below) s_left)

@@ -5,7 +5,7 @@ use Rattle.msc_chart.specs.Orders.{WiredChart, IsWired, IsRace}
 use Rattle.msc_chart.specs.Runs.{Run, Reverses, KeepsDrawnOrder}
 use Rattle.msc_race.specs.Laws.{HasNoRace}
 use Rattle.msc_race.proofs.Shared.{clash}
-use Rattle.msc_race.proofs.Runs.EventLemmas.{before_parts}
+use Rattle.msc_race.proofs.Runs.EventLemmas.{before_differs, before_parts}
 use Rattle.msc_race.proofs.Runs.Respects.{kept, never_reversed}
 use Rattle.msc_race.proofs.Runs.Tables.{enforced_told}
 use Rattle.msc_race.proofs.Runs.Reversal.{reversed}
@@ -23,7 +23,7 @@ module _ (chart : WiredChart) (is_wired : IsWired chart) where
         → (events : List ℕ) × Run chart events × Reverses events e f
     run_of_race e f race =
         let facts = before_parts chart.events e f race.0 in
-        let shown = reversed chart is_wired acyclic e f facts.0 facts.1 facts.2 race.1 in
+        let shown = reversed chart is_wired acyclic e f facts.0 facts.1 (before_differs chart.events e f race.0) race.1 in
         (shown.0, shown.1, shown.3)
 
     -- a race is a drawn pair that some run reverses

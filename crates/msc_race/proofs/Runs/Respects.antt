@@ -6,7 +6,7 @@ use Rattle.msc_chart.specs.Orders.{WiredChart, IsWired, queue, Enforced}
 use Rattle.msc_chart.specs.Orders.Enforced.{drawn, sent, joined, queued}
 use Rattle.msc_chart.specs.Runs.{Run, MayCome, Reverses, is_waiting, state}
 use Rattle.msc_race.proofs.Shared.{clash, step_at, until-within, first_occurs, before_first_fails}
-use Rattle.msc_race.proofs.Runs.EventLemmas.{output_below, input_of}
+use Rattle.msc_race.proofs.Runs.EventLemmas.{output_below, partner_of_output}
 use Rattle.msc_race.proofs.Runs.QueueLemmas.{taken}
 
 module _ (chart : WiredChart) (is_wired : IsWired chart) where
@@ -18,7 +18,7 @@ module _ (chart : WiredChart) (is_wired : IsWired chart) where
       → MayCome chart past f → occurs past e ≡ true
   earlier e f (drawn h o) past run may = may.output o e h
   earlier e f (sent o p) past run may =
-      let input : is_input chart.events f ≡ true = rw (← p) (input_of chart.events is_wired.matched e o) in
+      let input : is_input chart.events f ≡ true = rw (← p) (partner_of_output chart.events is_wired.matched e o) in
       let below = output_below chart.events e o in
       let back : partner chart.events f ≡ e = rw (← p) (is_wired.matched.to_and_fro e below) in
       rw (← back) (first_occurs _ _ _ (may.input input)).0
@@ -27,7 +27,7 @@ module _ (chart : WiredChart) (is_wired : IsWired chart) where
       until-within past m e (earlier e m h (until past m) at_mid.0 at_mid.1)
   earlier e f (queued {s = s} {t = t} os ot same h p q) past run may =
       let t_below = output_below chart.events t ot in
-      let input : is_input chart.events f ≡ true = rw (← q) (input_of chart.events is_wired.matched t ot) in
+      let input : is_input chart.events f ≡ true = rw (← q) (partner_of_output chart.events is_wired.matched t ot) in
       let back : partner chart.events f ≡ t = rw (← q) (is_wired.matched.to_and_fro t t_below) in
       let queues : queue chart f ≡ queue chart t = rw (← q) (is_wired.one_queue t t_below) in
       let is_first : IsFirst (state chart (queue chart f) past) t = rw back at (may.input input) in

@@ -6,7 +6,7 @@ use Rattle.msc_chart.specs.Charts.{partner, is_input}
 use Rattle.msc_chart.specs.Orders.{WiredChart, IsWired, queue, Enforced, IsEnforcedOrder}
 use Rattle.msc_chart.specs.Orders.Enforced.{drawn, sent, joined, queued}
 use Rattle.msc_race.proofs.Shared.{by_test, clash, count_below, count-le, count-less, find_below, any_below, none_of_any, some_of_any, any_from, sum_below, sum-less}
-use Rattle.msc_race.proofs.Runs.EventLemmas.{output_below, input_below, input_of, output_of}
+use Rattle.msc_race.proofs.Runs.EventLemmas.{output_below, input_below, partner_of_output, partner_of_input}
 use Rattle.msc_race.proofs.Runs.EnforcedPairs.{enforced_below}
 use Rattle.msc_race.proofs.Runs.Progress.{is_needed, needed_drawn, needed_sent, needed_cases}
 
@@ -72,7 +72,7 @@ module _ (chart : WiredChart) (is_wired : IsWired chart) where
               let y_below = input_below chart.events y inputs.1 in
               let queues = is_wired.one_queue x x_below ∙ eqb-true _ _ own.1 ∙ sym (is_wired.one_queue y y_below) in
               queued
-              (output_of chart.events is_wired.matched x inputs.0) (output_of chart.events is_wired.matched y inputs.1) queues
+              (partner_of_input chart.events is_wired.matched x inputs.0) (partner_of_input chart.events is_wired.matched y inputs.1) queues
               (sound (partner chart.events x) (partner chart.events y) all.1)
               (is_wired.matched.to_and_fro x x_below) (is_wired.matched.to_and_fro y y_below)
         ]
@@ -112,8 +112,8 @@ module _ (chart : WiredChart) (is_wired : IsWired chart) where
       let outputs = closed_complete table closed s t h in
       let s_below = output_below chart.events s os in
       let t_below = output_below chart.events t ot in
-      let x_input : is_input chart.events x ≡ true = rw (← p) (input_of chart.events is_wired.matched s os) in
-      let y_input : is_input chart.events y ≡ true = rw (← q) (input_of chart.events is_wired.matched t ot) in
+      let x_input : is_input chart.events x ≡ true = rw (← p) (partner_of_output chart.events is_wired.matched s os) in
+      let y_input : is_input chart.events y ≡ true = rw (← q) (partner_of_output chart.events is_wired.matched t ot) in
       let x_back : partner chart.events x ≡ s = rw (← p) (is_wired.matched.to_and_fro s s_below) in
       let y_back : partner chart.events y ≡ t = rw (← q) (is_wired.matched.to_and_fro t t_below) in
       let x_queue : queue chart x ≡ queue chart s = rw (← p) (is_wired.one_queue s s_below) in

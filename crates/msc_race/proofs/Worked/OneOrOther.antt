@@ -13,7 +13,7 @@ use Rattle.msc_chart.specs.Runs.{Run, MayCome, Reverses, is_waiting, state}
 use Rattle.msc_race.specs.Samples.{crossed, mailboxes, NoRunReversesBoth}
 use Rattle.msc_race.proofs.Shared.{clash, step_at, until-within, first_occurs, before_first_fails}
 use Rattle.msc_race.proofs.Runs.Standing.{until_swapped, until_until, stands_trans, until_own}
-use Rattle.msc_race.proofs.Runs.EventLemmas.{output_below, input_of}
+use Rattle.msc_race.proofs.Runs.EventLemmas.{output_below, partner_of_output}
 use Rattle.msc_race.proofs.Runs.QueueLemmas.{waiting_from}
 use Rattle.msc_race.proofs.Runs.Respects.{kept}
 use Rattle.msc_race.proofs.Worked.RunTests.{wired_from}
@@ -40,7 +40,7 @@ module _ (chart : WiredChart) (is_wired : IsWired chart) (events : List ℕ) (ru
       let t_below = output_below chart.events t ot in
       let at_u = step_at (MayCome chart) events u run reverses.0 in
       let past : List ℕ = until events u in
-      let input = input_of chart.events is_wired.matched t ot in
+      let input = partner_of_output chart.events is_wired.matched t ot in
       let first : IsFirst (state chart (queue chart u) past) (partner chart.events u) = at_u.1.input input in
       let back = is_wired.matched.to_and_fro t t_below in
       let first_t : IsFirst (state chart (queue chart u) past) t = rw back at first in
