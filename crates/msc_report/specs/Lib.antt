@@ -1,3 +1,4 @@
+-- what is promised; the code keeps nothing besides
 pub mod Refusals
 pub mod Texts
 pub mod Verdicts

@@ -19,7 +19,8 @@ use Rattle.msc_race.specs.Races.{IsVerdict, TellsRuns}
 use Rattle.msc_report.specs.declared.fault.Fault.{Fault}
 use Rattle.msc_report.specs.declared.fault.Fault.TheVariants.{Parse, Chart, Memory, Device}
 use Rattle.msc_tool.proofs.Races.{pair_events}
-use Rattle.msc_tool.specs.Checking.{passes, checked_text, AreChosen, PrintsVerdict, ShowsRaces, Prints, WritesVerdict, BeginsVerdict, Writes}
+use Rattle.msc_tool.specs.Checking.{passes, checked_text, AreChosen, PrintsVerdict, ShowsRaces, Prints, WritesVerdict, BeginsVerdict}
+use Rattle.msc_tool.specs.Pages.{Writes}
 
 -- writing refuses no text
 pub writes_no_parse : (r : Result Bool Fault) (before after : Option (List ℕ)) (text : List ℕ) → Writes r before after text → (f : ParseFault) → r ≢ Err (Parse f)

@@ -1,5 +1,5 @@
 -- The faults of what was read are those of the input.
-use Rattle.std.proofs.Common.{◌≡◌, ◌≢◌, ◌⊎◌, ℕ, ◌<◌, min, List, length, take, Option, None, Some, ◌∙◌, Result, Ok, Err, subst, ap, sym, inl, inr, arith}
+use Rattle.std.proofs.Common.{◌≡◌, ◌⊎◌, ℕ, ◌<◌, min, List, length, take, Option, None, Some, ◌∙◌, Result, Ok, Err, subst, ap, sym, inl, inr, arith}
 use Rattle.std.specs.Prelude.{IfSome, IfErr}
 use Rattle.std.proofs.lemmas.List.{take_all, length-take}
 use Rattle.std.proofs.lemmas.Bool.{cases_lt}

@@ -7,8 +7,8 @@ use Rattle.std.proofs.lemmas.List.{append-nil, take_more, take-append-drop}
 use Rattle.msc_report.proofs.KnownBytes.{Appends-append}
 use Rattle.msc_report.specs.declared.fault.Fault.{Fault}
 use Rattle.msc_report.specs.declared.fault.Fault.TheVariants.{Parse, Chart, Memory, Device}
-use Rattle.msc_tool.specs.Checking.{Begins, Writes}
-use Rattle.msc_tool.specs.Pages.{Pages, Puts}
+use Rattle.msc_tool.specs.Checking.{Begins}
+use Rattle.msc_tool.specs.Pages.{Pages, Puts, Writes}
 
 -- where nothing was written, nothing was
 pub Appends-none : (now : Option (List ℕ)) → Appends now now []

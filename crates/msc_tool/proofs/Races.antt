@@ -12,7 +12,8 @@ use Rattle.msc_chart.specs.Orders.{wired}
 use Rattle.msc_race.specs.declared.verdict.Verdict.{Verdict}
 use Rattle.msc_race.specs.declared.verdict.Verdict.TheVariants.{Pass, Races}
 use Rattle.msc_race.specs.Races.{IsVerdict, AreRaces}
-use Rattle.msc_tool.specs.Checking.{AreEvents, races_of}
+use Rattle.msc_tool.specs.Checking.{races_of}
+use Rattle.msc_tool.specs.Pages.{AreEvents}
 
 -- what is drawn before something, and what it is drawn before, are events
 drawn_events : (events : List ChartEvent) (e f : ℕ) → IsTrue (before events e f) → (e < length events) × (f < length events)

@@ -1,6 +1,6 @@
 -- What checking a text answers.
-use Rattle.std.specs.Prelude.{◌≡◌, ◌⊎◌, ℕ, IfOk, IfSome, ◌<◌, Bool, true, false, List, [], ◌++◌, length, take, drop, Option, None, Some, Result, Ok, Err}
-use Rattle.std.specs.List.{flat_map, All}
+use Rattle.std.specs.Prelude.{◌≡◌, ◌⊎◌, ℕ, IfOk, IfSome, ◌<◌, Bool, true, false, List, [], ◌++◌, length, take, drop, Option, None, Some, Result, Err}
+use Rattle.std.specs.List.{flat_map}
 use Rattle.std.specs.Io.KnownBytes.{Appends}
 use Rattle.msc_parser.specs.Grammar.{Tree}
 use Rattle.msc_parser.specs.Parsing.{HasDraft}
@@ -50,10 +50,6 @@ races_text d runs show pairs = shown_text d runs (take show pairs) ++ unshown_te
 abbrev pub checked_text : Drawing → Queues → (ℕ → List ℕ) → ℕ → Verdict → List ℕ
 checked_text d queues runs show v = verdict_text d queues v ++ races_text d runs show (races_of v)
 
--- both numbers of each pair are those of events
-abbrev pub AreEvents : Drawing → List (ℕ × ℕ) → Type 0
-AreEvents d pairs = All (λ p. (p.0 < length d.events) × (p.1 < length d.events)) pairs
-
 -- each race of a verdict is reversed by the run of its first event, a whole run
 abbrev pub ShowsRaces : WiredChart → (ℕ → List ℕ) → Verdict → Type 0
 ShowsRaces chart runs v =
@@ -92,13 +88,6 @@ Begins before after text = (front rest : List ℕ) × (text ≡ front ++ rest) �
 abbrev pub BeginsVerdict : List ℕ → Queues → ℕ → Option (List ℕ) → Option (List ℕ) → Type 0
 BeginsVerdict text queues show before after =
     (passed : Bool) × (printed : List ℕ) × Prints text queues show passed printed × Begins before after printed
-
--- a text was written, or a beginning of it before memory ran out, or the writer failed
-abbrev pub Writes : {A : Type 0} → Result A Fault → Option (List ℕ) → Option (List ℕ) → List ℕ → Type 0
-Writes (Ok a) before after text = Appends before after text
-Writes (Err Memory) before after text = Begins before after text
-Writes (Err Device) before after text = Unit {0}
-Writes (Err fault) before after text = ⊥
 
 -- the draft's first fault, or want of memory
 abbrev pub IsRefusalOf : Tree → Fault → Type 0

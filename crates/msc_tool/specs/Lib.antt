@@ -1,7 +1,8 @@
 -- what is promised
+pub mod Reading
 pub mod Answers
 pub mod Checking
 pub mod Program
 -- what the code keeps
-pub mod Reading
+pub mod Calls
 pub mod Pages

@@ -1,5 +1,5 @@
 -- What reading an input to its end answers.
-use Rattle.std.specs.Prelude.{◌≡◌, ℕ, ◌≤◌, ◌<◌, List, ◌++◌, length, Option}
+use Rattle.std.specs.Prelude.{ℕ, ◌≤◌, ◌<◌, List, length, Option}
 use Rattle.std.specs.Io.KnownBytes.{Consumes, IsAtEnd}
 
 -- the bytes are all that the reader had left, or the first 1048577 of them
@@ -7,14 +7,3 @@ pub record IsReadFrom (old new : Option (List ℕ)) (bytes : List ℕ) : Type 0 
   pub taken : Consumes old new bytes
   pub most : length bytes ≤ 1048577
   pub whole : length bytes < 1048577 → IsAtEnd new
-
--- what one call of `read` gave stands behind the bytes that were read before
-pub record ReadsMore (old new : Option (List ℕ)) (before after : List ℕ) : Type 0 where
-  pub given : List ℕ
-  pub taken : Consumes old new given
-  pub behind : after ≡ before ++ given
-  pub most : length after ≤ 1048577
-
--- reading is done: the input has ended, or as many bytes as may be were read
-abbrev pub IsDone : Option (List ℕ) → List ℕ → Type 0
-IsDone new bytes = length bytes < 1048577 → IsAtEnd new

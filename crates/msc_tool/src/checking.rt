@@ -6,7 +6,8 @@ ghost use Rattle.msc_order.specs.Tables.{orders};
 ghost use Rattle.msc_race.specs.Races.{IsVerdict};
 ghost use Rattle.msc_report.specs.Verdicts.{verdict_text};
 ghost use Rattle.msc_tool.specs.Answers.{OnRead, RefusesInput, RefusesText};
-ghost use Rattle.msc_tool.specs.Checking.{passes, races_of, BeginsVerdict, ChecksText, PrintsVerdict, RefusesDraft, RefusesInputDraft, Writes, WritesVerdict};
+ghost use Rattle.msc_tool.specs.Checking.{passes, races_of, BeginsVerdict, ChecksText, PrintsVerdict, RefusesDraft, RefusesInputDraft, WritesVerdict};
+ghost use Rattle.msc_tool.specs.Pages.{Writes};
 
 use crate::reading::read_all;
 use crate::showing::put_races;

@@ -1,7 +1,8 @@
 //! Reading an input to its end.
 
 ghost use Rattle.std.specs.Prelude.{◌≡◌, ◌⊎◌, ◌<◌, false, length, take, IsTrue, IfOk, IfErr, IfSome, OnOk, vec_len};
-ghost use Rattle.msc_tool.specs.Reading.{IsReadFrom, ReadsMore, IsDone};
+ghost use Rattle.msc_tool.specs.Calls.{IsDone, ReadsMore};
+ghost use Rattle.msc_tool.specs.Reading.{IsReadFrom};
 
 use msc_report::Fault;
 use std::alloc::{AllocError, Global};

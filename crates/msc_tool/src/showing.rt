@@ -4,8 +4,8 @@ ghost use Rattle.std.specs.Prelude.{◌≡◌, ℕ, ◌<◌, ◌++◌, List, [],
 ghost use Rattle.msc_chart.specs.Orders.{wired, IsEnforcedOrder};
 ghost use Rattle.msc_order.specs.Tables.{orders};
 ghost use Rattle.msc_report.specs.Verdicts.{race_text, run_line};
-ghost use Rattle.msc_tool.specs.Checking.{races_text, shown_text, unshown_text, AreChosen, AreEvents};
-ghost use Rattle.msc_tool.specs.Pages.{Puts};
+ghost use Rattle.msc_tool.specs.Checking.{races_text, shown_text, unshown_text, AreChosen};
+ghost use Rattle.msc_tool.specs.Pages.{AreEvents, Puts};
 
 use msc_chart::{Chart, Event, Queues};
 use msc_order::Order;
