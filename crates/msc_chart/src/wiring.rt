@@ -51,10 +51,10 @@ impl Wiring<'_> {
         ensures known { result < length self.now.chart.now.instances }
     {
         self.chart.accepted();
-        if self.chart.is_output(e) {
-            self.chart.instance_of(self.chart.other_end(e))
-        } else {
+        if !self.chart.is_output(e) {
             self.chart.instance_of(e)
+        } else {
+            self.chart.instance_of(self.chart.other_end(e))
         }
     }
 
