@@ -148,12 +148,30 @@ endinstance; endmsc;";
     Ok(())
 }
 
+/// Whether a chart has these names: its own, that of instance 2 and that of message 1, which has no
+/// message instance name.
+fn has_names(chart: &Chart, name: &[u8], instance: &[u8], message: &[u8]) -> bool
+    requires instances { 2 < length chart.now.instances }
+    requires messages { 1 < length chart.now.messages }
+{
+    if chart.message_number(1).is_some() || chart.name() != name {
+        return false;
+    }
+    chart.instance_name(2) == instance && chart.message_name(1) == message
+}
+
 #[test]
-fn instances_of_relay(rt: HostRuntime) -> Result<(), Fail> {
+fn names_of_relay(rt: HostRuntime) -> Result<(), Fail> {
     let chart = chart_of(rt.alloc(), RELAY)?;
-    assert_eq!(rt; chart.name(), b"t".as_slice());
+    assert_eq!(rt; (chart.instances(), chart.messages()), (3, 3));
+    assert!(rt; has_names(&chart, b"t", b"c", b"x"));
+    Ok(())
+}
+
+#[test]
+fn lines_of_relay(rt: HostRuntime) -> Result<(), Fail> {
+    let chart = chart_of(rt.alloc(), RELAY)?;
     assert_eq!(rt; chart.instances(), 3);
-    assert_eq!(rt; chart.instance_name(2), b"c".as_slice());
     for (i, wanted) in [(0, (0, 2)), (1, (2, 4)), (2, (4, 6))] {
         assert_eq!(rt; chart.line(i), wanted, "{i}");
     }
@@ -198,8 +216,6 @@ fn messages_of_relay(rt: HostRuntime) -> Result<(), Fail> {
     for (m, wanted) in [(1, (1, 4, 0, 2)), (2, (5, 3, 2, 1))] {
         assert_eq!(rt; message_of(&chart, m), wanted, "{m}");
     }
-    assert_eq!(rt; chart.message_name(1), b"x".as_slice());
-    assert!(rt; chart.message_number(1).is_none());
     Ok(())
 }
 
