@@ -1,7 +1,9 @@
 //! Charts of drafts: numbers, segments, queues, and drafts that are no chart.
 
+ghost use Rattle.std.specs.Prelude.{◌<◌, length};
+
 use example_charts::{COREGION, EMPTY, NUMBERED, RELAY, TWO_SENDERS};
-use msc_chart::{Chart, ChartFault, EventKind, Queues};
+use msc_chart::{Chart, ChartFault, Event, EventKind, Queues};
 use msc_parser::parse;
 use msc_tool::{Fault, write_fault};
 use std::alloc::{AllocError, Global};
@@ -118,66 +120,115 @@ fn the_limit_of_instances(rt: HostRuntime) -> Result<(), Fail> {
     Ok(())
 }
 
+/// The segments of two events, and whether the first is drawn before the second.
+fn drawn(chart: &Chart, e: Event, f: Event) -> (u32, u32, bool)
+    requires e_known { e < length chart.now.events }
+    requires f_known { f < length chart.now.events }
+{
+    (chart.segment(e), chart.segment(f), chart.before(e, f))
+}
+
 #[test]
 fn segments_of_a_coregion(rt: HostRuntime) -> Result<(), Fail> {
-    let alloc = rt.alloc();
-    let chart = chart_of(alloc, COREGION)?;
-    assert_eq!(rt; chart.events(), 4);
-    assert_eq!(rt; (chart.segment(1), chart.segment(2)), (0, 0));
-    assert!(rt; !chart.before(1, 2));
-    let chart = chart_of(alloc, TWO_SENDERS)?;
-    assert_eq!(rt; chart.events(), 4);
-    assert_eq!(rt; (chart.segment(1), chart.segment(2)), (0, 1));
-    assert!(rt; chart.before(1, 2));
+    for (text, wanted) in [(COREGION, (0, 0, false)), (TWO_SENDERS, (0, 1, true))] {
+        let chart = chart_of(rt.alloc(), text)?;
+        assert_eq!(rt; chart.events(), 4);
+        assert_eq!(rt; drawn(&chart, 1, 2), wanted);
+    }
     Ok(())
 }
 
 #[test]
 fn an_empty_coregion_takes_no_segment(rt: HostRuntime) -> Result<(), Fail> {
-    let alloc = rt.alloc();
     let text = b"msc t; instance a; out m to a; concurrent; endconcurrent; in m from a; \
 endinstance; endmsc;";
-    let chart = chart_of(alloc, text)?;
+    let chart = chart_of(rt.alloc(), text)?;
     assert_eq!(rt; chart.events(), 2);
-    assert_eq!(rt; (chart.segment(0), chart.segment(1)), (0, 1));
+    assert_eq!(rt; drawn(&chart, 0, 1), (0, 1, true));
     Ok(())
+}
+
+/// Whether a chart has these names: its own, that of instance 2 and that of message 1, which has no
+/// message instance name.
+fn has_names(chart: &Chart, name: &[u8], instance: &[u8], message: &[u8]) -> bool
+    requires instances { 2 < length chart.now.instances }
+    requires messages { 1 < length chart.now.messages }
+{
+    if chart.message_number(1).is_some() || chart.name() != name {
+        return false;
+    }
+    chart.instance_name(2) == instance && chart.message_name(1) == message
+}
+
+#[test]
+fn names_of_relay(rt: HostRuntime) -> Result<(), Fail> {
+    let chart = chart_of(rt.alloc(), RELAY)?;
+    assert_eq!(rt; (chart.instances(), chart.messages()), (3, 3));
+    assert!(rt; has_names(&chart, b"t", b"c", b"x"));
+    Ok(())
+}
+
+#[test]
+fn lines_of_relay(rt: HostRuntime) -> Result<(), Fail> {
+    let chart = chart_of(rt.alloc(), RELAY)?;
+    assert_eq!(rt; chart.instances(), 3);
+    for (i, wanted) in [(0, (0, 2)), (1, (2, 4)), (2, (4, 6))] {
+        assert_eq!(rt; chart.line(i), wanted, "{i}");
+    }
+    Ok(())
+}
+
+/// The instance, the kind, the partner and the message of an event.
+fn event_of(chart: &Chart, e: Event) -> (u32, EventKind, Option<Event>, Option<u32>)
+    requires { e < length chart.now.events }
+{
+    let instance = chart.instance_of(e);
+    (instance, chart.kind(e), chart.partner(e), chart.message(e))
 }
 
 #[test]
 fn events_of_relay(rt: HostRuntime) -> Result<(), Fail> {
-    let alloc = rt.alloc();
-    let chart = chart_of(alloc, RELAY)?;
-    assert_eq!(rt; chart.name(), b"t".as_slice());
-    assert_eq!(rt; chart.instances(), 3);
-    assert_eq!(rt; chart.instance_name(2), b"c".as_slice());
-    assert_eq!(rt;
-        (chart.line(0), chart.line(1), chart.line(2)),
-        ((0, 2), (2, 4), (4, 6))
-    );
+    let chart = chart_of(rt.alloc(), RELAY)?;
     assert_eq!(rt; chart.events(), 6);
-    let kinds = (chart.kind(1), chart.kind(2));
-    assert_eq!(rt; kinds, (EventKind::Output, EventKind::Input));
-    assert_eq!(rt; (chart.instance_of(3), chart.message(3)), (1, Some(2)));
-    assert_eq!(rt; (chart.partner(3), chart.partner(5)), (Some(5), Some(3)));
+    for (e, wanted) in [
+        (1, (0, EventKind::Output, Some(4), Some(1))),
+        (2, (1, EventKind::Input, Some(0), Some(0))),
+        (3, (1, EventKind::Input, Some(5), Some(2))),
+        (5, (2, EventKind::Output, Some(3), Some(2))),
+    ] {
+        assert_eq!(rt; event_of(&chart, e), wanted, "{e}");
+    }
+    Ok(())
+}
+
+/// The output, the input, the sender and the receiver of a message.
+fn message_of(chart: &Chart, m: u32) -> (Event, Event, u32, u32)
+    requires { m < length chart.now.messages }
+{
+    let ends = (chart.output_of(m), chart.input_of(m));
+    (ends.0, ends.1, chart.sender(m), chart.receiver(m))
+}
+
+#[test]
+fn messages_of_relay(rt: HostRuntime) -> Result<(), Fail> {
+    let chart = chart_of(rt.alloc(), RELAY)?;
+    assert_eq!(rt; chart.messages(), 3);
+    for (m, wanted) in [(1, (1, 4, 0, 2)), (2, (5, 3, 2, 1))] {
+        assert_eq!(rt; message_of(&chart, m), wanted, "{m}");
+    }
     Ok(())
 }
 
 #[test]
-fn messages_and_queues_of_relay(rt: HostRuntime) -> Result<(), Fail> {
-    let alloc = rt.alloc();
-    let chart = chart_of(alloc, RELAY)?;
+fn queues_of_relay(rt: HostRuntime) -> Result<(), Fail> {
+    let chart = chart_of(rt.alloc(), RELAY)?;
     assert_eq!(rt; chart.messages(), 3);
-    assert_eq!(rt; (chart.output_of(1), chart.input_of(1)), (1, 4));
-    assert_eq!(rt; (chart.sender(2), chart.receiver(2)), (2, 1));
-    assert_eq!(rt; chart.message_name(1), b"x".as_slice());
-    assert!(rt; chart.message_number(1).is_none());
-    for (queues, wanted) in [(Queues::Pair, (1, 2, 7)), (Queues::Mailbox, (1, 2, 1))] {
+    for (m, pair, mailbox) in [(0, 1, 1), (1, 2, 2), (2, 7, 1)] {
         let numbers = (
-            chart.queue(0, queues),
-            chart.queue(1, queues),
-            chart.queue(2, queues),
+            chart.queue(m, Queues::Pair),
+            chart.queue(m, Queues::Mailbox),
         );
-        assert_eq!(rt; numbers, wanted);
+        assert_eq!(rt; numbers, (pair, mailbox), "{m}");
     }
     Ok(())
 }
