@@ -1,5 +1,6 @@
 -- What contracts see of the ends of a queue.
 use Rattle.std.specs.Prelude.{◌≡◌, ◌⊎◌, ℕ, ◌+◌, ◌<◌, ◌==◌, Bool, false, List, [], ◌∷◌, length, sum, All, count_by}
+use Rattle.msc_fifo.specs.declared.TheConstants.{QUOTA_LIMIT, SENDER_LIMIT}
 use Rattle.msc_fifo.specs.declared.entry.Entry.{Entry}
 use Rattle.msc_fifo.specs.Entries.{unended_of}
 use Rattle.msc_fifo.specs.Identity.{QueueId}
@@ -33,9 +34,9 @@ new_outlets q k (x ∷ xs) = new_outlet q k x ∷ new_outlets q (k + 1) xs
 abbrev pub new_inlet : QueueId → ℕ → InletState
 new_inlet q n = record { queue = q; senders = n; got = []; idle = 0 }
 
--- more than 32 senders, or more than 1,024 messages in all quotas
+-- more senders, or more messages in all quotas, than a queue may have
 abbrev pub IsTooLarge : List ℕ → Type 0
-IsTooLarge quotas = (32 < length quotas) ⊎ (1024 < sum quotas)
+IsTooLarge quotas = (SENDER_LIMIT < length quotas) ⊎ (QUOTA_LIMIT < sum quotas)
 
 -- the outlet is open and below its quota
 abbrev pub HasRoom : OutletState → Type 0

@@ -13,7 +13,7 @@
 //! (`specs/Ends`). They say nothing of how a queue is held. These clauses hold for any threads that
 //! hold the ends.
 //!
-//! Limits: 32 senders, and 1,024 messages in all quotas. [`queue`] makes all room, so that no other
+//! Limits: [`SENDER_LIMIT`] senders, and [`QUOTA_LIMIT`] messages in all quotas. [`queue`] makes all room, so that no other
 //! call but [`settle`] takes memory.
 #![tactic(auto)]
 
@@ -36,10 +36,10 @@ pub use outlet::Outlet;
 pub use settling::settle;
 
 /// The greatest number of senders of a queue.
-const MOST_SENDERS: usize = 32;
+pub const SENDER_LIMIT: usize = 32;
 
 /// The greatest sum of the quotas of a queue, in messages.
-const MOST_MESSAGES: usize = 1024;
+pub const QUOTA_LIMIT: usize = 1_024;
 
 #[cfg(test)]
 mod tests;

@@ -11,7 +11,7 @@ use crate::fault::QueueFault;
 use crate::inlet::Inlet;
 use crate::outlet::Outlet;
 use crate::rule::{InOrder, NextSender, Puttable, Ticket, View};
-use crate::{MOST_MESSAGES, MOST_SENDERS};
+use crate::{QUOTA_LIMIT, SENDER_LIMIT};
 use crossbeam_channel::bounded_with;
 use std::alloc::{AllocError, Global};
 use std::sync::Wait;
@@ -34,7 +34,7 @@ pub fn queue<R: Wait>(
     if quotas.is_empty() {
         return Err(QueueFault::NoSender);
     }
-    if quotas.len() > MOST_SENDERS {
+    if quotas.len() > SENDER_LIMIT {
         return Err(QueueFault::TooLarge);
     }
     let Some(messages) = total(quotas) else {
@@ -48,12 +48,13 @@ pub fn queue<R: Wait>(
 
 /// The sum of the quotas, unless it is too large.
 fn total(quotas: &[u32]) -> Option<usize>
-    ensures { MatchOption result (1024 < sum quotas.now) (λ n. (n ≡ sum quotas.now) × (n ≤ 1024)) }
+    ensures { MatchOption result (QUOTA_LIMIT < sum quotas.now)
+        (λ n. (n ≡ sum quotas.now) × (n ≤ QUOTA_LIMIT)) }
 {
     let mut sum: usize = 0;
     for quota in quotas {
         sum += *quota as usize;
-        if sum > MOST_MESSAGES {
+        if sum > QUOTA_LIMIT {
             return None;
         }
     }
@@ -63,8 +64,8 @@ fn total(quotas: &[u32]) -> Option<usize>
 /// The ends of a queue with room for so many messages and an end mark for each sender.
 fn ends(alloc: Global, quotas: &[u32], messages: usize) -> Result<(Vec<Outlet>, Inlet), AllocError>
     requires some { 0 < length quotas.now }
-    requires few { length quotas.now ≤ 32 }
-    requires room { messages ≤ 1024 }
+    requires few { length quotas.now ≤ SENDER_LIMIT }
+    requires room { messages ≤ QUOTA_LIMIT }
     ensures inlet { IfOk result (λ r. r.1 ≡ new_inlet r.1.queue (length quotas.now)) }
     ensures outlets { IfOk result (λ r. r.0.items ≡ new_outlets r.1.queue 0 quotas.now) }
 {

@@ -7,11 +7,12 @@ ghost use Rattle.msc_race.specs.Rows.{is_masked, IsRow};
 
 use bit_rows::row;
 use bit_rows::row::lowest_in;
+use msc_chart::EVENT_LIMIT;
 use std::alloc::{AllocError, Global};
 
 /// A row without events, with room for those below `n`.
 pub fn blank(alloc: Global, n: u32) -> Result<Vec<u64>, AllocError>
-    requires { n ≤ 2048 }
+    requires { n ≤ EVENT_LIMIT }
     ensures row { IfOk result (λ row. IsRow n row.items) }
     ensures blank { IfOk result (λ row. (y : ℕ) → has row.items y ≡ false) }
 {

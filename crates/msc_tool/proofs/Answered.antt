@@ -1,4 +1,5 @@
 -- What writing a verdict and its races answers.
+use Rattle.msc_tool.specs.declared.reading.TheConstants.{BYTE_LIMIT}
 use Rattle.std.proofs.Common.{◌≡◌, ◌≢◌, ◌⊎◌, ℕ, ◌<◌, min, Bool, List, [], length, take, Option, None, Some, ◌∙◌, Result, Ok, Err, subst, ap, refl, sym, inl, inr, arith}
 use Rattle.std.specs.Prelude.{IfOk, IfErr, IfSome}
 use Rattle.std.proofs.lemmas.List.{take_all, length-take}
@@ -113,13 +114,13 @@ begins_verdict A (Err (Parse f)) text queues show v printed before after wrote p
 begins_verdict A (Err (Chart f)) text queues show v printed before after wrote prints = absurd wrote
 
 -- a beginning that has a draft is no longer than a text may be, so it is the whole input
-pub whole_input : (xs bytes : List ℕ) (draft : Tree) → xs ≡ take 1048577 bytes → HasDraft xs draft → xs ≡ bytes
+pub whole_input : (xs bytes : List ℕ) (draft : Tree) → xs ≡ take BYTE_LIMIT bytes → HasDraft xs draft → xs ≡ bytes
 whole_input xs bytes draft front (tokens, has, chart) =
-    let long : length xs ≡ min 1048577 (length bytes) = ap length front ∙ length-take 1048577 bytes in
-    front ∙ take_all 1048577 bytes (omega (arith, long, has.short))
+    let long : length xs ≡ min BYTE_LIMIT (length bytes) = ap length front ∙ length-take BYTE_LIMIT bytes in
+    front ∙ take_all BYTE_LIMIT bytes (omega (arith, long, has.short))
 
 -- what is said of the text that was read holds of the input
-pub of_input : (xs : List ℕ) (input : Option (List ℕ)) (Q : List ℕ → Type 0) → IfSome input (λ bytes. xs ≡ take 1048577 bytes) → (draft : Tree) → HasDraft xs draft → Q xs
+pub of_input : (xs : List ℕ) (input : Option (List ℕ)) (Q : List ℕ → Type 0) → IfSome input (λ bytes. xs ≡ take BYTE_LIMIT bytes) → (draft : Tree) → HasDraft xs draft → Q xs
     → IfSome input Q
 of_input xs None Q read draft has told = tt
 of_input xs (Some bytes) Q read draft has told = subst Q (whole_input xs bytes draft read has) told

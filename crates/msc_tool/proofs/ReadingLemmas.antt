@@ -1,4 +1,5 @@
 -- What calls of `read` give together.
+use Rattle.msc_tool.specs.declared.reading.TheConstants.{BYTE_LIMIT}
 use Rattle.std.proofs.Common.{◌≡◌, ℕ, ◌≤◌, ◌<◌, List, [], ◌++◌, length, take, Option, Some, None, sym, ap, ◌∙◌, append_assoc, arith, inl, inr}
 use Rattle.std.specs.Prelude.{IfSome}
 use Rattle.std.specs.Io.KnownBytes.{Consumes}
@@ -26,7 +27,7 @@ front_to limit xs ys bytes whole most end =
     ]
 
 -- what was read is the front of the known bytes, as far as the limit
-pub read_front : (old new : Option (List ℕ)) (bytes : List ℕ) → IsReadFrom old new bytes → IfSome old (λ xs. bytes ≡ take 1048577 xs)
+pub read_front : (old new : Option (List ℕ)) (bytes : List ℕ) → IsReadFrom old new bytes → IfSome old (λ xs. bytes ≡ take BYTE_LIMIT xs)
 read_front None new bytes h = tt
 read_front (Some xs) None bytes h = absurd h.taken
-read_front (Some xs) (Some ys) bytes h = front_to 1048577 xs ys bytes h.taken h.most h.whole
+read_front (Some xs) (Some ys) bytes h = front_to BYTE_LIMIT xs ys bytes h.taken h.most h.whole

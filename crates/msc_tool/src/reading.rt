@@ -4,12 +4,13 @@ ghost use Rattle.std.specs.Prelude.{◌≡◌, ◌⊎◌, ◌<◌, false, length
 ghost use Rattle.msc_tool.specs.Calls.{IsDone, ReadsMore};
 ghost use Rattle.msc_tool.specs.Reading.{IsReadFrom};
 
+use msc_lexer::TEXT_LIMIT;
 use msc_report::Fault;
 use std::alloc::{AllocError, Global};
 use std::io::{ErrorKind, Read};
 
 /// The most bytes that are read: one more than a text may have, so that a longer one is refused.
-const BYTE_LIMIT: usize = 1_048_577;
+const BYTE_LIMIT: usize = TEXT_LIMIT + 1;
 
 /// The most calls of `read` on one input.
 pub const CALL_LIMIT: u32 = 2_097_152;
@@ -28,12 +29,12 @@ fn chunk_of(alloc: Global, len: usize) -> Result<Vec<u8>, AllocError>
 /// Answers whether the input has ended or the limit is reached.
 fn read_once<R: Read>(reader: &mut R, chunk: &mut [u8], bytes: &mut Vec<u8>) -> Result<bool, Fault>
     requires room { 0 < length chunk.old }
-    requires unfilled { vec_len bytes.old < 1048577 }
+    requires unfilled { vec_len bytes.old < BYTE_LIMIT }
     ensures more { OnOk result (ReadsMore (R.remaining reader.old) (R.remaining reader.new)
         bytes.old.items bytes.new.items) }
     ensures done { IfOk result
         (λ done. IsTrue done → IsDone (R.remaining reader.new) bytes.new.items) }
-    ensures goes_on { IfOk result (λ done. done ≡ false → vec_len bytes.new < 1048577) }
+    ensures goes_on { IfOk result (λ done. done ≡ false → vec_len bytes.new < BYTE_LIMIT) }
     ensures fault { IfErr result (λ e. (e ≡ Fault.Memory) ⊎ (e ≡ Fault.Device)) }
 {
     let most = chunk.len().min(BYTE_LIMIT - bytes.len());
@@ -56,7 +57,7 @@ fn read_once<R: Read>(reader: &mut R, chunk: &mut [u8], bytes: &mut Vec<u8>) -> 
 /// memory was refused. After a fault some bytes may have been taken from the reader.
 pub fn read_all<R: Read>(alloc: Global, reader: &mut R) -> Result<Vec<u8>, Fault>
     ensures bytes { IfOk result
-        (λ v. IfSome (R.remaining reader.old) (λ xs. v.items ≡ take 1048577 xs)) }
+        (λ v. IfSome (R.remaining reader.old) (λ xs. v.items ≡ take BYTE_LIMIT xs)) }
     ensures rest { IfOk result
         (λ v. IsReadFrom (R.remaining reader.old) (R.remaining reader.new) v.items) }
     ensures fault { IfErr result (λ e. (e ≡ Fault.Memory) ⊎ (e ≡ Fault.Device)) }

@@ -1,6 +1,8 @@
 //! The lines of faults, beside the messages that their types print.
 
 use msc_chart::ChartFault;
+use msc_lexer::LexFault;
+use msc_parser::ParseFault;
 use msc_tool::{Fault, write_fault};
 use std::test::Fail;
 
@@ -26,6 +28,26 @@ fn a_chart_fault_is_printed_as_its_number_and_its_message(rt: HostRuntime) -> Re
         let mut line = Vec::new(alloc);
         write_fault(&mut line, &Fault::Chart(fault))?;
         let wanted = format!(in alloc; "chart fault {number}: {fault}\n")?;
+        assert_eq!(rt; line.as_slice(), wanted.as_bytes(), "{fault}");
+    }
+    Ok(())
+}
+
+#[test]
+fn a_lexical_fault_is_printed_as_its_number_its_place_and_its_message(
+    rt: HostRuntime,
+) -> Result<(), Fail> {
+    let alloc = rt.alloc();
+    for (head, fault) in [
+        ("1", LexFault::TooLong),
+        ("2 at 0", LexFault::BadByte(0)),
+        ("3 at 7", LexFault::OpenNote(7)),
+        ("4 at 1048575", LexFault::OpenText(1_048_575)),
+        ("5 at 10", LexFault::LongName(10)),
+    ] {
+        let mut line = Vec::new(alloc);
+        write_fault(&mut line, &Fault::Parse(ParseFault::Lex(fault)))?;
+        let wanted = format!(in alloc; "lexical fault {head}: {fault}\n")?;
         assert_eq!(rt; line.as_slice(), wanted.as_bytes(), "{fault}");
     }
     Ok(())
