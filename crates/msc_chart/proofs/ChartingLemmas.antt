@@ -6,7 +6,7 @@ use Rattle.std.proofs.lemmas.Bool.{ltb-false}
 use Rattle.std.proofs.lemmas.List.{get_or-map, length-map}
 use Rattle.std.proofs.lemmas.List.Sums.{count_by_more_yes, count_by_more_no}
 use Rattle.std.specs.Prelude.{nat_lt}
-use Rattle.msc_chart.specs.declared.end.End as code
+use Rattle.msc_chart.specs.declared.end.MessageEnd as code
 use Rattle.msc_chart.specs.Events.{same_end}
 use Rattle.msc_chart.specs.Drawings.{place_of, outputs_before}
 use Rattle.msc_chart.specs.Views.{end_view}
@@ -14,7 +14,7 @@ use Rattle.msc_chart.proofs.ListLemmas.{by_test}
 use Rattle.msc_chart.proofs.MatchingLemmas.{code_same, code_same-view}
 
 -- the first place at which the code finds an equal end is the place of that end
-pub place-view : (keys : List code.End) (e : code.End) → position_or_len (code_same e) keys ≡ place_of (map end_view keys) (end_view e)
+pub place-view : (keys : List code.MessageEnd) (e : code.MessageEnd) → position_or_len (code_same e) keys ≡ place_of (map end_view keys) (end_view e)
 place-view [] e = refl
 place-view (k ∷ ks) e = rw code_same-view (ap (λ n. cond (not (same_end (end_view e) (end_view k))) (1 + n) 0) (place-view ks e))
 
@@ -38,7 +38,7 @@ unwrap_or-position p xs =
     let same : length xs ≡ position_or_len p xs = omega arith in
     ap (λ b. unwrap_or (cond b (Some (position_or_len p xs)) None) (length xs)) past ∙ same)
 
-module _ (ends : List code.End) (i : ℕ) (d : code.End) (within : i < length ends) where
+module _ (ends : List code.MessageEnd) (i : ℕ) (d : code.MessageEnd) (within : i < length ends) where
   -- the end at place i, seen through its view
   same_at : get_or (map end_view ends) i (end_view d) ≡ end_view (get_or ends i d)
   same_at = get_or-map end_view ends i d (end_view d) within

@@ -1,10 +1,10 @@
--- Drawn events: what the tests for outputs, inputs and the drawn order say.
-use Rattle.std.proofs.Common.{◌≡◌, ℕ, ◌<◌, ◌⊎◌, true, List, length, inl, inr, refl, sym, ap, ◌∙◌, true≢false}
+-- Drawn events: what the tests for their kinds and for the drawn order say.
+use Rattle.std.proofs.Common.{◌≡◌, ℕ, ◌<◌, ◌⊎◌, true, false, List, length, inl, inr, refl, sym, ap, ◌∙◌, true≢false}
 use Rattle.std.proofs.lemmas.Bool.{and_parts, and_from, ltb-true, lt-ltb, eqb-true, eq-eqb}
 use Rattle.msc_chart.specs.declared.event.EventKind.{EventKind}
-use Rattle.msc_chart.specs.declared.event.EventKind.TheVariants.{Output, Input}
+use Rattle.msc_chart.specs.declared.event.EventKind.TheVariants.{Output, Input, Local}
 use Rattle.msc_chart.specs.declared.event.ChartEvent.{ChartEvent}
-use Rattle.msc_chart.specs.Charts.{line, segment, kind, partner, sends, takes, is_output, is_input, before, IsMatched}
+use Rattle.msc_chart.specs.Charts.{line, segment, kind, partner, sends, takes, acts, controls, is_output, is_input, is_local, is_controlled, before, IsMatched}
 
 module _ (events : List ChartEvent) where
   -- two events on one line, the first in a smaller segment, are drawn in that order
@@ -53,14 +53,93 @@ module _ (events : List ChartEvent) where
       by : (k : EventKind) → sends k ≡ true → takes k ≡ true → ⊥
       by Output h k = true≢false (sym k)
       by Input h k = true≢false (sym h)
+      by Local h k = true≢false (sym h)
 
-  -- each event is one of them
-  pub output_or_input : (e : ℕ) → e < length events → (is_output events e ≡ true) ⊎ (is_input events e ≡ true)
-  output_or_input e below = by (kind events e) refl
+  -- an event of the chart whose kind acts is a local event
+  local_from : (e : ℕ) → e < length events → acts (kind events e) ≡ true → is_local events e ≡ true
+  unfolding is_local
+  local_from e p h = and_from _ _ (lt-ltb _ _ p) h
+
+  -- a local event is an event of the chart, and its kind acts
+  pub local_parts : (e : ℕ) → is_local events e ≡ true → (e < length events) × (acts (kind events e) ≡ true)
+  unfolding is_local
+  local_parts e h = let p = and_parts _ _ h in (ltb-true _ _ p.0, p.1)
+
+  -- an event of the chart is local where its kind acts
+  pub local_is : (e : ℕ) → e < length events → acts (kind events e) ≡ is_local events e
+  unfolding is_local
+  local_is e h = rw (lt-ltb e (length events) h) refl
+
+  -- an event of the chart whose kind controls is controlled
+  pub controlled_from : (e : ℕ) → e < length events → controls (kind events e) ≡ true → is_controlled events e ≡ true
+  unfolding is_controlled
+  controlled_from e p h = and_from _ _ (lt-ltb _ _ p) h
+
+  -- a controlled event is an event of the chart, and its kind controls
+  pub controlled_parts : (e : ℕ) → is_controlled events e ≡ true → (e < length events) × (controls (kind events e) ≡ true)
+  unfolding is_controlled
+  controlled_parts e h = let p = and_parts _ _ h in (ltb-true _ _ p.0, p.1)
+
+  -- an event of the chart is controlled where its kind controls
+  pub controlled_is : (e : ℕ) → e < length events → controls (kind events e) ≡ is_controlled events e
+  unfolding is_controlled
+  controlled_is e h = rw (lt-ltb e (length events) h) refl
+
+  -- an output is controlled
+  pub output_controlled : (e : ℕ) → is_output events e ≡ true → is_controlled events e ≡ true
+  output_controlled e o = let p = output_parts e o in controlled_from e p.0 (by (kind events e) p.1)
+    where
+      by : (k : EventKind) → sends k ≡ true → controls k ≡ true
+      by Output h = refl
+      by Input h = h
+      by Local h = refl
+
+  -- no input is
+  pub controlled_no_input : (e : ℕ) → is_controlled events e ≡ true → is_input events e ≡ true → ⊥
+  controlled_no_input e c i = by (kind events e) (controlled_parts e c).1 (input_parts e i).1
+    where
+      by : (k : EventKind) → controls k ≡ true → takes k ≡ true → ⊥
+      by Output h k = true≢false (sym k)
+      by Input h k = true≢false (sym h)
+      by Local h k = true≢false (sym k)
+
+  -- each event is controlled or an input
+  pub controlled_or_input : (e : ℕ) → e < length events → (is_controlled events e ≡ true) ⊎ (is_input events e ≡ true)
+  controlled_or_input e below = by (kind events e) refl
+    where
+      by : (k : EventKind) → kind events e ≡ k → (is_controlled events e ≡ true) ⊎ (is_input events e ≡ true)
+      by Output h = inl (controlled_from e below (ap controls h))
+      by Input h = inr (input_from e below (ap takes h))
+      by Local h = inl (controlled_from e below (ap controls h))
+
+  -- each event that is not local is an output or an input
+  pub output_or_input : (e : ℕ) → e < length events → is_local events e ≡ false → (is_output events e ≡ true) ⊎ (is_input events e ≡ true)
+  output_or_input e below away = by (kind events e) refl
     where
       by : (k : EventKind) → kind events e ≡ k → (is_output events e ≡ true) ⊎ (is_input events e ≡ true)
       by Output h = inl (output_from e below (ap sends h))
       by Input h = inr (input_from e below (ap takes h))
+      by Local h = absurd (true≢false (sym (local_from e below (ap acts h)) ∙ away))
+
+  -- no output is local
+  pub output_not_local : (e : ℕ) → is_output events e ≡ true → is_local events e ≡ false
+  unfolding is_local
+  output_not_local e o = let p = output_parts e o in rw (lt-ltb e (length events) p.0) (by (kind events e) p.1)
+    where
+      by : (k : EventKind) → sends k ≡ true → acts k ≡ false
+      by Output h = refl
+      by Input h = refl
+      by Local h = sym h
+
+  -- and no input is
+  pub input_not_local : (e : ℕ) → is_input events e ≡ true → is_local events e ≡ false
+  unfolding is_local
+  input_not_local e i = let p = input_parts e i in rw (lt-ltb e (length events) p.0) (by (kind events e) p.1)
+    where
+      by : (k : EventKind) → takes k ≡ true → acts k ≡ false
+      by Output h = refl
+      by Input h = refl
+      by Local h = sym h
 
   module _ (matched : IsMatched events) where
     -- the partner of an output is an input

@@ -4,7 +4,7 @@ use Rattle.std.proofs.Common.{◌≡◌, ℕ, zero, suc, ◌<◌, Bool, true, fa
 use Rattle.std.specs.List.{list_any}
 use Rattle.std.proofs.lemmas.Bool.{ltb-true, eqb-true, eq-eqb, and_parts, and_from, or_parts, not_from_false}
 use Rattle.msc_chart.specs.declared.queue.Queues.TheVariants.{Mailbox}
-use Rattle.msc_chart.specs.Charts.{line, segment, kind, partner, is_output, before}
+use Rattle.msc_chart.specs.Charts.{line, segment, kind, partner, message, is_output, is_controlled, before}
 use Rattle.msc_chart.specs.Events.{events_of, ends_of, instances_of}
 use Rattle.msc_chart.specs.Drawings.{chart_events, chart_of}
 use Rattle.msc_chart.specs.Orders.{WiredChart, wired, queue, queue_number, sender_at, receiver_at, Enforced}
@@ -23,7 +23,7 @@ has pairs n x y = (ltb x n && ltb y n) && list_any (λ p. eqb p.0 x && eqb p.1 y
 -- a rule of one or two events leads out of the list
 abbrev leads_out : WiredChart → List (ℕ × ℕ) → ℕ → ℕ → ℕ → Bool
 leads_out chart pairs n x y =
-    ((before chart.events x y && is_output chart.events y) && not (has pairs n x y))
+    ((before chart.events x y && is_controlled chart.events y) && not (has pairs n x y))
     || ((is_output chart.events x && not (has pairs n x (partner chart.events x)))
     || (((is_output chart.events x && is_output chart.events y) && (eqb (queue chart x) (queue chart y) && has pairs n x y))
     && not (has pairs n (partner chart.events x) (partner chart.events y))))
@@ -94,7 +94,7 @@ occurs_from pairs n e f h =
 
 -- the enforced order of two_mailboxes under Mailbox
 pub two_mailboxes_enforced : AreEnforcedPairs (wired Mailbox (chart_of two_mailboxes)) two_mailboxes_pairs
-unfolding chart_events events_of ends_of instances_of is_output before line segment kind partner queue queue_number sender_at receiver_at
+unfolding chart_events events_of ends_of instances_of is_output is_controlled before line segment kind partner message queue queue_number sender_at receiver_at
 two_mailboxes_enforced e f = (
   λ h. occurs_from two_mailboxes_pairs 8 e f (enforced_in (wired Mailbox (chart_of two_mailboxes)) two_mailboxes_pairs 8 refl refl refl h),
   enforced_from (wired Mailbox (chart_of two_mailboxes)) two_mailboxes_pairs

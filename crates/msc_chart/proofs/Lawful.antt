@@ -11,18 +11,18 @@ use Rattle.msc_chart.specs.declared.fault.ChartFault.{ChartFault}
 use Rattle.msc_chart.specs.declared.fault.ChartFault.TheVariants.{TooManyInstances, TwiceInstance, HeaderWithoutBody, UnknownAddress, TooManyMessages, TwiceEvent, UnmatchedOut, UnmatchedIn, Cyclic, Memory}
 use Rattle.msc_chart.specs.declared.event.ChartEvent.{ChartEvent}
 use Rattle.msc_chart.specs.declared.message.Message.{Message}
-use Rattle.msc_chart.specs.Events.{End, DraftEvent, ends_of, events_of, instances_of}
+use Rattle.msc_chart.specs.Events.{MessageEnd, DraftEvent, ends_of, events_of, instances_of}
 use Rattle.msc_chart.specs.Charts.{IsAcyclic, IsLeastCyclic, IsLinearOrder}
 use Rattle.msc_chart.specs.Drawings.{IsAccepted, drawing, event_of, chart_events, chart_of}
 use Rattle.msc_chart.specs.Faults.{Stands, AreTooMany, IsFirstFault, IsFirstOrMemory, IsFaultless, IsClearBelow}
-use Rattle.msc_chart.specs.Passes.{IsCycleOrMemory}
+use Rattle.msc_chart.specs.Sortings.{IsCycleOrMemory}
 use Rattle.msc_chart.proofs.FaultLemmas.{first_of, clear_next, faultless}
 use Rattle.msc_chart.proofs.Matched.{chart_count, ends_count, chart_on_lines, chart_in_text_order, chart_matched}
 use Rattle.msc_chart.proofs.StuckLemmas.{linear_acyclic}
 use Rattle.msc_chart.proofs.Messages.{messages_count, chart_messages}
 
 -- the events that the code makes are those of the draft's chart
-pub made : (d : Tree) (ends : List End) (drawn : List DraftEvent) (chart : List ChartEvent) → ends ≡ ends_of d → drawn ≡ events_of d
+pub made : (d : Tree) (ends : List MessageEnd) (drawn : List DraftEvent) (chart : List ChartEvent) → ends ≡ ends_of d → drawn ≡ events_of d
     → chart ≡ map (event_of ends) drawn → chart ≡ chart_events d
 unfolding chart_events
 made d ends drawn chart e v h = h ∙ ap (λ es. map (event_of es) drawn) e ∙ ap (map (event_of (ends_of d))) v
@@ -74,12 +74,12 @@ pub same_drawing : {n n' : List ℕ} {i i' : List (List ℕ)} {e e' : List Chart
 same_drawing p q r s = λ k. record { name = p k; instances = q k; events = r k; messages = s k }
 
 -- an end is an output or an input
-pub both_ways : (ends : List End) → count_by (λ x. beq x.sends true) ends + count_by (λ x. beq x.sends false) ends ≡ length ends
+pub both_ways : (ends : List MessageEnd) → count_by (λ x. beq x.sends true) ends + count_by (λ x. beq x.sends false) ends ≡ length ends
 both_ways [] = refl
 both_ways (x ∷ xs) =
     let rest = both_ways xs in
-    let sent = sum_by-cons (λ (y : End). cond (beq y.sends true) 1 0) x xs in
-    let taken = sum_by-cons (λ (y : End). cond (beq y.sends false) 1 0) x xs in
+    let sent = sum_by-cons (λ (y : MessageEnd). cond (beq y.sends true) 1 0) x xs in
+    let taken = sum_by-cons (λ (y : MessageEnd). cond (beq y.sends false) 1 0) x xs in
     omega (arith, rest, sent, taken, one_way x.sends)
   where
     one_way : (b : Bool) → cond (beq b true) 1 0 + cond (beq b false) 1 0 ≡ 1
@@ -87,12 +87,12 @@ both_ways (x ∷ xs) =
     one_way false = refl
 
 -- the outputs, counted by either test, are as many
-sent_count : (ends : List End) → count_by (λ x. x.sends) ends ≡ count_by (λ x. beq x.sends true) ends
+sent_count : (ends : List MessageEnd) → count_by (λ x. x.sends) ends ≡ count_by (λ x. beq x.sends true) ends
 sent_count [] = refl
 sent_count (x ∷ xs) =
     let rest = sent_count xs in
-    let here = sum_by-cons (λ (y : End). cond y.sends 1 0) x xs in
-    let there = sum_by-cons (λ (y : End). cond (beq y.sends true) 1 0) x xs in
+    let here = sum_by-cons (λ (y : MessageEnd). cond y.sends 1 0) x xs in
+    let there = sum_by-cons (λ (y : MessageEnd). cond (beq y.sends true) 1 0) x xs in
     omega (arith, rest, here, there, one_way x.sends)
   where
     one_way : (b : Bool) → cond b 1 0 ≡ cond (beq b true) 1 0 + 0
@@ -100,7 +100,7 @@ sent_count (x ∷ xs) =
     one_way false = refl
 
 -- so where neither are too many, all are few
-pub few_ends : (ends : List End) → (AreTooMany ends → ⊥) → length ends ≤ 2048
+pub few_ends : (ends : List MessageEnd) → (AreTooMany ends → ⊥) → length ends ≤ 2048
 few_ends ends none =
     let both = both_ways ends in
     elim (cases_lt 1024 (count_by (λ x. beq x.sends true) ends)) [

@@ -14,7 +14,7 @@ pub mod Stages
 pub mod Matched
 pub mod Messages
 pub mod ChartingLemmas
-pub mod PassLemmas
+pub mod SortingLemmas
 pub mod StuckLemmas
 pub mod Lawful
 pub mod Readers

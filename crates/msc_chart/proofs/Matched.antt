@@ -1,6 +1,6 @@
 -- Where no fault up to the unmatched inputs stands, the events of the draft's chart have their
 -- partners, and they stand in the order of the text.
-use Rattle.std.proofs.Common.{◌≡◌, ℕ, ◌<◌, ◌≤◌, Bool, true, false, cond, not, List, [], ◌∷◌, length, get_or, Some, None, suc, zero, refl, sym, ap, ◌∙◌, subst, arith, inl, inr}
+use Rattle.std.proofs.Common.{◌≡◌, ℕ, ◌<◌, ◌≤◌, Bool, true, false, cond, not, List, [], ◌∷◌, length, get_or, Some, None, suc, zero, refl, sym, ap, ◌∙◌, subst, true≢false, arith, inl, inr}
 use Rattle.std.specs.List.{list_any}
 use Rattle.std.proofs.lemmas.Bool.{cases_lt, lt-ltb}
 use Rattle.std.proofs.lemmas.Option.{slice_get_within, slice_get-get_or, get_or_from_slice_get}
@@ -9,19 +9,20 @@ use Rattle.msc_parser.specs.Grammar.{Tree}
 use Rattle.msc_chart.specs.declared.fault.ChartFault.TheVariants.{TwiceEvent, UnmatchedOut, UnmatchedIn}
 use Rattle.msc_chart.specs.declared.event.EventKind.TheVariants.{Output, Input}
 use Rattle.msc_chart.specs.declared.event.ChartEvent.{ChartEvent}
-use Rattle.msc_chart.specs.Events.{End, DraftEvent, ends_of, events_of, other_end, same_end}
-use Rattle.msc_chart.specs.Charts.{at, no_event, line, segment, kind, partner, sends, takes, is_output, is_input, IsMatched, IsInTextOrder, AreOnLines}
+use Rattle.msc_chart.specs.Events.{MessageEnd, DraftEvent, ends_of, events_of, other_end, same_end}
+use Rattle.msc_chart.specs.Charts.{at, no_event, line, segment, kind, partner, sends, takes, acts, is_output, is_input, IsMatched, IsInTextOrder, AreOnLines}
 use Rattle.msc_chart.specs.Drawings.{place_of, event_of, chart_events}
-use Rattle.msc_chart.specs.Passes.{AreReady}
+use Rattle.msc_chart.specs.Sortings.{AreReady}
 use Rattle.msc_chart.specs.Lists.{StandsAt, Occurs}
 use Rattle.msc_chart.specs.Faults.{Stands, IsClearBelow}
 use Rattle.msc_chart.proofs.ListLemmas.{by_test, clash}
 use Rattle.msc_chart.proofs.Places.{one_at, any-place, place-any, place-map}
 use Rattle.msc_chart.proofs.MatchingLemmas.{same_end-true, same_end-refl}
 use Rattle.msc_chart.proofs.DraftEvents.{of_sections, in_text_order}
+use Rattle.msc_chart.proofs.Drawn.{local_parts}
 
 -- an end that stands somewhere stands at its place
-pub place-stands : (ends : List End) (x : End) (j : ℕ) → StandsAt ends j x → StandsAt ends (place_of ends x) x × (place_of ends x ≤ j)
+pub place-stands : (ends : List MessageEnd) (x : MessageEnd) (j : ℕ) → StandsAt ends j x → StandsAt ends (place_of ends x) x × (place_of ends x ≤ j)
 place-stands [] x j h = cc
 place-stands (y ∷ ys) x zero h =
     let same : y ≡ x = cc in
@@ -36,7 +37,7 @@ place-stands (y ∷ ys) x (suc j) h =
     (subst (λ (n : ℕ). StandsAt (y ∷ ys) n x) (sym step) r.0, omega (arith, r.1, step)))
 
 -- the other end of the other end is the end itself
-other-other : (x : End) → other_end (other_end x) ≡ x
+other-other : (x : MessageEnd) → other_end (other_end x) ≡ x
 other-other x = λ i. record { sends = twice x.sends i; key = x.key }
   where
     twice : (b : Bool) → not (not b) ≡ b
@@ -47,6 +48,11 @@ other-other x = λ i. record { sends = twice x.sends i; key = x.key }
 other_kinds : (b : Bool) → sends (cond (not b) Output Input) ≡ takes (cond b Output Input)
 other_kinds true = refl
 other_kinds false = refl
+
+-- an end of a message is no local event
+none_acts : (b : Bool) → acts (cond b Output Input) ≡ true → ⊥
+none_acts true h = true≢false (sym h)
+none_acts false h = true≢false (sym h)
 
 -- the events of the chart are those of the draft
 pub chart_count : (d : Tree) → length (chart_events d) ≡ length (events_of d)
@@ -107,7 +113,7 @@ module _ (d : Tree) where
 
 module _ (d : Tree) (clear : IsClearBelow d 9) where
   -- no end stands twice, so each stands at its place
-  pub place-own : (e : ℕ) (x : End) → StandsAt (ends_of d) e x → place_of (ends_of d) x ≡ e
+  pub place-own : (e : ℕ) (x : MessageEnd) → StandsAt (ends_of d) e x → place_of (ends_of d) x ≡ e
   unfolding Stands
   place-own e x h =
       let p = place-stands (ends_of d) x e h in
@@ -117,7 +123,7 @@ module _ (d : Tree) (clear : IsClearBelow d 9) where
       ]
 
   -- no end is alone
-  other-occurs : (e : ℕ) (x : End) → StandsAt (ends_of d) e x → Occurs (ends_of d) (other_end x)
+  other-occurs : (e : ℕ) (x : MessageEnd) → StandsAt (ends_of d) e x → Occurs (ends_of d) (other_end x)
   unfolding Stands
   other-occurs e x h =
       by_test (list_any (same_end (other_end x)) (ends_of d))
@@ -159,7 +165,7 @@ module _ (d : Tree) (clear : IsClearBelow d 9) where
             let y = (partner_at e x.0 x.2).1 in
             ap (λ (z : ℕ). (at (chart_events d) z).partner) same
             ∙ ap (λ (v : ChartEvent). v.partner) y.2
-            ∙ ap (λ (f : End). place_of (ends_of d) (other_end f)) y.3
+            ∙ ap (λ (f : MessageEnd). place_of (ends_of d) (other_end f)) y.3
             ∙ ap (place_of (ends_of d)) (other-other x.0.end)
             ∙ place-own e x.0.end x.2;
         other_kind = λ e within.
@@ -169,9 +175,13 @@ module _ (d : Tree) (clear : IsClearBelow d 9) where
             let y = p.1 in
             rw (same, lt-ltb _ _ p.0, lt-ltb _ _ within)
             (ap (λ (v : ChartEvent). sends v.kind) y.2
-            ∙ ap (λ (f : End). sends (cond f.sends Output Input)) y.3
+            ∙ ap (λ (f : MessageEnd). sends (cond f.sends Output Input)) y.3
             ∙ other_kinds x.0.end.sends
             ∙ ap (λ (v : ChartEvent). takes v.kind) (sym x.3));
+        own = λ e local.
+            let p = local_parts (chart_events d) e local in
+            let x = drawn_at d e p.0 in
+            absurd (none_acts x.0.end.sends (sym (ap (λ (v : ChartEvent). acts v.kind) x.3) ∙ p.1));
       }
 
   -- so the events are ready to be put into a linear order

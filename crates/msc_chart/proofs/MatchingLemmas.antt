@@ -12,12 +12,12 @@ use Rattle.msc_chart.specs.Faults.{IsUnknown}
 use Rattle.msc_chart.proofs.ListLemmas.{by_test, clash}
 use Rattle.msc_chart.proofs.Places.{any_from, occurs_from}
 use Rattle.std.specs.Prelude.{nat_eq}
-use Rattle.msc_chart.specs.declared.end.End as code
-use Rattle.msc_chart.specs.Events.{End, same_end, same_name, same_number, other_end}
+use Rattle.msc_chart.specs.declared.end.MessageEnd as code
+use Rattle.msc_chart.specs.Events.{MessageEnd, same_end, same_name, same_number, other_end}
 use Rattle.msc_chart.specs.Views.{end_view}
 
 -- the code compares ends as their names compare
-pub number_view : (a b : code.End) → option_eq (λ x y. pointwise nat_eq x.now y.now) a.number b.number ≡ same_number (option_copied a.number) (option_copied b.number)
+pub number_view : (a b : code.MessageEnd) → option_eq (λ x y. pointwise nat_eq x.now y.now) a.number b.number ≡ same_number (option_copied a.number) (option_copied b.number)
 number_view a b = by a.number b.number
   where
     by : (m n : _) → option_eq (λ x y. pointwise nat_eq x.now y.now) m n ≡ same_number (option_copied m) (option_copied n)
@@ -51,7 +51,7 @@ same_number-refl None = refl
 same_number-refl (Some x) = (bytes_decides x x).1 refl
 
 -- ends that compare equal are equal, part by part
-pub same_end-true : (a b : End) → same_end a b ≡ true → a ≡ b
+pub same_end-true : (a b : MessageEnd) → same_end a b ≡ true → a ≡ b
 same_end-true a b h =
     let p = and_parts _ _ h in
     let q = and_parts _ _ p.1 in
@@ -65,7 +65,7 @@ same_end-true a b h =
     λ i. record { sends = sends i; key = record { sender = sender i; receiver = receiver i; name = name i; number = number i } }
 
 -- an end compares equal to itself
-pub same_end-refl : (a : End) → same_end a a ≡ true
+pub same_end-refl : (a : MessageEnd) → same_end a a ≡ true
 same_end-refl a =
     and_from _ _ (beq-refl a.sends)
     (and_from _ _ ((bytes_decides a.key.sender a.key.sender).1 refl)
@@ -73,7 +73,7 @@ same_end-refl a =
     (and_from _ _ ((bytes_decides a.key.name a.key.name).1 refl) (same_number-refl a.key.number))))
 
 -- what the code computes for `==` of two ends
-abbrev pub code_same : code.End → code.End → Bool
+abbrev pub code_same : code.MessageEnd → code.MessageEnd → Bool
 code_same a b =
     beq a.sends b.sends
     && (pointwise nat_eq a.sender.now b.sender.now
@@ -82,15 +82,15 @@ code_same a b =
     && option_eq (λ x y. pointwise nat_eq x.now y.now) a.number b.number)))
 
 -- which is what the definition computes for what they show
-pub code_same-view : (a b : code.End) → code_same a b ≡ same_end (end_view a) (end_view b)
+pub code_same-view : (a b : code.MessageEnd) → code_same a b ≡ same_end (end_view a) (end_view b)
 code_same-view a b = ap (λ n. beq a.sends b.sends && (same_name a.sender.now b.sender.now && (same_name a.receiver.now b.receiver.now && (same_name a.name.now b.name.now && n)))) (number_view a b)
 
 -- so ends that the code finds equal show one end
-pub code_same-true : (a b : code.End) → code_same a b ≡ true → end_view a ≡ end_view b
+pub code_same-true : (a b : code.MessageEnd) → code_same a b ≡ true → end_view a ≡ end_view b
 code_same-true a b h = same_end-true _ _ (sym (code_same-view a b) ∙ h)
 
 -- and ends that show one end are found equal
-pub code_same-from : (a b : code.End) → end_view a ≡ end_view b → code_same a b ≡ true
+pub code_same-from : (a b : code.MessageEnd) → end_view a ≡ end_view b → code_same a b ≡ true
 code_same-from a b h = code_same-view a b ∙ ap (same_end (end_view a)) (sym h) ∙ same_end-refl (end_view a)
 
 -- the tests of the two look-ups
@@ -104,7 +104,7 @@ unknown_test keys n r is = (
 )
 
 -- the other end is not found exactly where it does not occur
-pub unmatched_test : (keys : List code.End) (x other : code.End) (r : Bool) → end_view other ≡ other_end (end_view x) → r ≡ list_any (code_same other) keys
+pub unmatched_test : (keys : List code.MessageEnd) (x other : code.MessageEnd) (r : Bool) → end_view other ≡ other_end (end_view x) → r ≡ list_any (code_same other) keys
     → (not r ≡ true → Occurs (map end_view keys) (other_end (end_view x)) → ⊥) × ((Occurs (map end_view keys) (other_end (end_view x)) → ⊥) → not r ≡ true)
 unmatched_test keys x other r same is = (
   λ h there. clash (is ∙ any_from end_view (code_same other) (other_end (end_view x)) (λ k e. code_same-from other k (same ∙ sym e)) keys there) (not-true r h),

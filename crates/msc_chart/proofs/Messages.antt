@@ -7,7 +7,7 @@ use Rattle.msc_parser.specs.Grammar.{Tree}
 use Rattle.msc_chart.specs.declared.event.EventKind.TheVariants.{Output, Input}
 use Rattle.msc_chart.specs.declared.event.ChartEvent.{ChartEvent}
 use Rattle.msc_chart.specs.declared.message.Message.{Message}
-use Rattle.msc_chart.specs.Events.{End, DraftEvent, ends_of}
+use Rattle.msc_chart.specs.Events.{MessageEnd, DraftEvent, ends_of}
 use Rattle.msc_chart.specs.Charts.{at, kind, partner, message, sends, is_output}
 use Rattle.msc_chart.specs.Drawings.{place_of, output_end, outputs_before, event_of, chart_events, messages_from, Drawing, no_message, output_of, HasMessages, chart_of}
 use Rattle.msc_chart.specs.Lists.{StandsAt}
@@ -18,31 +18,31 @@ use Rattle.msc_chart.proofs.Matched.{drawn_at, partner_at, place-own, chart_coun
 use Rattle.msc_chart.proofs.Drawn.{output_from, output_parts, output_or_input, partner_of_input}
 
 -- how many of the ends are outputs
-abbrev sent_of : List End → ℕ
+abbrev sent_of : List MessageEnd → ℕ
 sent_of ends = count_by (λ x. x.sends) ends
 
 -- an output in front is one output more
-count-yes : (x : End) (xs : List End) → x.sends ≡ true → sent_of (x ∷ xs) ≡ suc (sent_of xs)
-count-yes x xs h = sum_by-cons (λ (y : End). cond y.sends 1 0) x xs ∙ ap (λ (b : Bool). cond b 1 0 + sent_of xs) h ∙ omega arith
+count-yes : (x : MessageEnd) (xs : List MessageEnd) → x.sends ≡ true → sent_of (x ∷ xs) ≡ suc (sent_of xs)
+count-yes x xs h = sum_by-cons (λ (y : MessageEnd). cond y.sends 1 0) x xs ∙ ap (λ (b : Bool). cond b 1 0 + sent_of xs) h ∙ omega arith
 
 -- an input in front is none more
-count-no : (x : End) (xs : List End) → x.sends ≡ false → sent_of (x ∷ xs) ≡ sent_of xs
-count-no x xs h = sum_by-cons (λ (y : End). cond y.sends 1 0) x xs ∙ ap (λ (b : Bool). cond b 1 0 + sent_of xs) h ∙ omega arith
+count-no : (x : MessageEnd) (xs : List MessageEnd) → x.sends ≡ false → sent_of (x ∷ xs) ≡ sent_of xs
+count-no x xs h = sum_by-cons (λ (y : MessageEnd). cond y.sends 1 0) x xs ∙ ap (λ (b : Bool). cond b 1 0 + sent_of xs) h ∙ omega arith
 
 -- the message of an output at place k
-abbrev message_of : ℕ → End → Message
+abbrev message_of : ℕ → MessageEnd → Message
 message_of k x = record { name = x.key.name; number = x.key.number; output = k }
 
 -- an output in front gives its message first
-messages-yes : (k : ℕ) (x : End) (xs : List End) → x.sends ≡ true → messages_from k (x ∷ xs) ≡ message_of k x ∷ messages_from (k + 1) xs
+messages-yes : (k : ℕ) (x : MessageEnd) (xs : List MessageEnd) → x.sends ≡ true → messages_from k (x ∷ xs) ≡ message_of k x ∷ messages_from (k + 1) xs
 messages-yes k x xs h = ap (λ (b : Bool). cond b (message_of k x ∷ messages_from (k + 1) xs) (messages_from (k + 1) xs)) h
 
 -- an input in front gives no message
-messages-no : (k : ℕ) (x : End) (xs : List End) → x.sends ≡ false → messages_from k (x ∷ xs) ≡ messages_from (k + 1) xs
+messages-no : (k : ℕ) (x : MessageEnd) (xs : List MessageEnd) → x.sends ≡ false → messages_from k (x ∷ xs) ≡ messages_from (k + 1) xs
 messages-no k x xs h = ap (λ (b : Bool). cond b (message_of k x ∷ messages_from (k + 1) xs) (messages_from (k + 1) xs)) h
 
 -- the messages of ends are as many as their outputs
-pub messages_count : (k : ℕ) (ends : List End) → length (messages_from k ends) ≡ count_by (λ x. x.sends) ends
+pub messages_count : (k : ℕ) (ends : List MessageEnd) → length (messages_from k ends) ≡ count_by (λ x. x.sends) ends
 messages_count k [] = refl
 messages_count k (x ∷ xs) =
     by_test x.sends
@@ -59,11 +59,11 @@ later : (messages : List Message) (x : Message) (m j : ℕ) → HasOutput messag
 later messages x m j h = record { within = omega (arith, h.within); output = h.output }
 
 -- an output has its message, at the number of outputs before it
-pub message_back : (k : ℕ) (ends : List End) (j : ℕ) (x : End) → StandsAt ends j x → x.sends ≡ true → HasOutput (messages_from k ends) (outputs_before ends j) (k + j)
+pub message_back : (k : ℕ) (ends : List MessageEnd) (j : ℕ) (x : MessageEnd) → StandsAt ends j x → x.sends ≡ true → HasOutput (messages_from k ends) (outputs_before ends j) (k + j)
 message_back k [] j x h sent = cc
 message_back k (y ∷ ys) zero x h sent =
     let same : y ≡ x = cc in
-    let first : y.sends ≡ true = ap (λ (e : End). e.sends) same ∙ sent in
+    let first : y.sends ≡ true = ap (λ (e : MessageEnd). e.sends) same ∙ sent in
     subst (λ (l : List Message). HasOutput l 0 (k + 0)) (sym (messages-yes k y ys first)) (record { within = omega arith; output = omega arith })
 message_back k (y ∷ ys) (suc j) x h sent =
     let rest = message_back (k + 1) ys j x h sent in
@@ -78,16 +78,16 @@ message_back k (y ∷ ys) (suc j) x h sent =
     (subst (λ (l : List Message). HasOutput l (outputs_before ys j) (k + suc j)) (sym (messages-no k y ys first)) here))
 
 -- message m is that of the output at a place
-pub record IsMessageOf (k : ℕ) (ends : List End) (messages : List Message) (m : ℕ) : Type 0 where
+pub record IsMessageOf (k : ℕ) (ends : List MessageEnd) (messages : List Message) (m : ℕ) : Type 0 where
   pub place : ℕ
-  pub end : End
+  pub end : MessageEnd
   pub stands : StandsAt ends place end
   pub sent : end.sends ≡ true
   pub count : outputs_before ends place ≡ m
   pub output : (get_or messages m no_message).output ≡ k + place
 
 -- and each message has its output
-pub message_own : (k : ℕ) (ends : List End) (m : ℕ) → m < length (messages_from k ends) → IsMessageOf k ends (messages_from k ends) m
+pub message_own : (k : ℕ) (ends : List MessageEnd) (m : ℕ) → m < length (messages_from k ends) → IsMessageOf k ends (messages_from k ends) m
 message_own k [] m below = absurd (omega arith)
 message_own k (y ∷ ys) m below =
     by_test y.sends
@@ -100,7 +100,7 @@ message_own k (y ∷ ys) m below =
     subst (λ (l : List Message). IsMessageOf k (y ∷ ys) l m) (sym (messages-no k y ys taken))
     (record { place = suc r.place; end = r.end; stands = r.stands; sent = r.sent; count = count-no y (take r.place ys) taken ∙ r.count; output = o ∙ omega arith }))
   where
-    first : (k : ℕ) (y : End) (ys : List End) → ((n : ℕ) → n < length (messages_from (k + 1) ys) → IsMessageOf (k + 1) ys (messages_from (k + 1) ys) n)
+    first : (k : ℕ) (y : MessageEnd) (ys : List MessageEnd) → ((n : ℕ) → n < length (messages_from (k + 1) ys) → IsMessageOf (k + 1) ys (messages_from (k + 1) ys) n)
         → (m : ℕ) → y.sends ≡ true → m < suc (length (messages_from (k + 1) ys)) → IsMessageOf k (y ∷ ys) (message_of k y ∷ messages_from (k + 1) ys) m
     first k y ys rest zero sent lt = record { place = 0; end = y; stands = refl; sent = sent; count = refl; output = omega arith }
     first k y ys rest (suc m) sent lt =
@@ -108,7 +108,7 @@ message_own k (y ∷ ys) m below =
         record { place = suc r.place; end = r.end; stands = r.stands; sent = r.sent; count = count-yes y (take r.place ys) sent ∙ ap suc r.count; output = r.output ∙ omega arith }
 
 -- the output of an output's message is itself
-output_same : (x : End) → x.sends ≡ true → output_end x ≡ x
+output_same : (x : MessageEnd) → x.sends ≡ true → output_end x ≡ x
 output_same x h = λ i. record { sends = sym h i; key = x.key }
 
 module _ (d : Tree) (clear : IsClearBelow d 9) where
@@ -134,7 +134,7 @@ module _ (d : Tree) (clear : IsClearBelow d 9) where
   sent_message e o =
       let x = is_sent e o in
       ap (λ (v : ChartEvent). v.message) x.3
-      ∙ ap (λ (end : End). outputs_before (ends_of d) (place_of (ends_of d) end)) (output_same x.0.end x.2)
+      ∙ ap (λ (end : MessageEnd). outputs_before (ends_of d) (place_of (ends_of d) end)) (output_same x.0.end x.2)
       ∙ ap (outputs_before (ends_of d)) (place-own d clear e x.0.end x.1)
 
   -- both ends of a message have it
@@ -145,7 +145,7 @@ module _ (d : Tree) (clear : IsClearBelow d 9) where
       let y = (partner_at d clear e x.0 x.2).1 in
       ap (λ (v : ChartEvent). (at (chart_events d) v.partner).message) x.3
       ∙ ap (λ (v : ChartEvent). v.message) y.2
-      ∙ ap (λ (end : End). outputs_before (ends_of d) (place_of (ends_of d) (output_end end))) y.3
+      ∙ ap (λ (end : MessageEnd). outputs_before (ends_of d) (place_of (ends_of d) (output_end end))) y.3
       ∙ ap (λ (v : ChartEvent). v.message) (sym x.3)
 
   -- an output's message is a message of the chart, and its output is that event
@@ -172,7 +172,7 @@ module _ (d : Tree) (clear : IsClearBelow d 9) where
       let output : output_of chart m ≡ r.place = r.output ∙ omega arith in
       rw output (
         output_from (chart_events d) r.place within
-            (ap (λ (v : ChartEvent). sends v.kind) x.3 ∙ ap (λ (b : Bool). sends (cond b Output Input)) (ap (λ (end : End). end.sends) same ∙ r.sent)),
+            (ap (λ (v : ChartEvent). sends v.kind) x.3 ∙ ap (λ (b : Bool). sends (cond b Output Input)) (ap (λ (end : MessageEnd). end.sends) same ∙ r.sent)),
         r.count,
       )
 
@@ -184,8 +184,8 @@ module _ (d : Tree) (clear : IsClearBelow d 9) where
       record {
         output = λ m below. (own_output m below).0;
         own = λ m below. let o = own_output m below in sent_message (output_of (chart_of d) m) o.0 ∙ o.1;
-        known = λ e within.
-            elim (output_or_input (chart_events d) e within) [
+        known = λ e within away.
+            elim (output_or_input (chart_events d) e within away) [
               | inl o ↦ (sent_back e o).0
               | inr i ↦ rw (← shares e within) (sent_back (partner (chart_events d) e) (partner_of_input (chart_events d) matched e i)).0
             ];

@@ -9,31 +9,30 @@ use Rattle.std.proofs.lemmas.List.FromFn.{length-range_with_len, get_or-range_wi
 use Rattle.std.proofs.lemmas.List.Sums.{length-filter, count_by-le-length}
 use Rattle.std.proofs.lemmas.Option.{slice_get-get_or}
 use Rattle.msc_chart.specs.declared.queue.Queues.{Queues}
-use Rattle.msc_chart.specs.declared.queue.Queues.TheVariants.{Pair, Mailbox}
-use Rattle.msc_chart.specs.Charts.{line, partner, message, is_output, is_input}
-use Rattle.msc_chart.specs.Drawings.{Drawing, input_of, sender_of, receiver_of, IsAccepted}
+use Rattle.msc_chart.specs.declared.queue.Queues.TheVariants.{Pair, Mailbox, Single}
+use Rattle.msc_chart.specs.Charts.{line, partner, message, is_output, is_input, is_local}
+use Rattle.msc_chart.specs.Drawings.{Drawing, input_of, output_of, sender_of, receiver_of, IsAccepted}
 use Rattle.msc_chart.specs.Orders.{queue_bound, queue_number, queue_of, sender_at, receiver_at, wired, queue, IsWired}
 use Rattle.msc_chart.specs.Laws.{messages_in, sends_to, senders_in, IsBounded}
 use Rattle.msc_chart.specs.Lists.{StandsAt}
 use Rattle.msc_chart.proofs.ListLemmas.{by_test, clash}
 use Rattle.msc_chart.proofs.Places.{place-any}
-use Rattle.msc_chart.proofs.Drawn.{input_parts, output_or_input, not_both, partner_of_output, partner_of_input}
+use Rattle.msc_chart.proofs.Drawn.{input_parts, output_or_input, input_not_local, not_both, partner_of_output, partner_of_input}
 use Rattle.msc_chart.proofs.Readers.{sender_in, receiver_in}
 
--- a queue number has one receiver
-one_receiver : (queues : Queues) (n s r t u : ℕ) → r < n → u < n → queue_number queues n s r ≡ queue_number queues n t u → r ≡ u
+-- under Pair a queue number has one receiver
+one_receiver : (n s r t u k l : ℕ) → r < n → u < n → queue_number Pair n s r k ≡ queue_number Pair n t u l → r ≡ u
 unfolding queue_number
-one_receiver Pair n s r t u r_in u_in same =
+one_receiver n s r t u k l r_in u_in same =
     sym (mul-add-mod_self_right s n r ∙ mod-eq_of_lt r_in)
     ∙ ap (λ (x : ℕ). x % n) same
     ∙ mul-add-mod_self_right t n u
     ∙ mod-eq_of_lt u_in
-one_receiver Mailbox n s r t u r_in u_in same = same
 
--- under Pair it has one sender
-one_sender : (n s r t u : ℕ) → r < n → u < n → queue_number Pair n s r ≡ queue_number Pair n t u → s ≡ t
+-- and one sender
+one_sender : (n s r t u k l : ℕ) → r < n → u < n → queue_number Pair n s r k ≡ queue_number Pair n t u l → s ≡ t
 unfolding queue_number
-one_sender n s r t u r_in u_in same = (same_from_place s r t u n r_in u_in same).0
+one_sender n s r t u k l r_in u_in same = (same_from_place s r t u n r_in u_in same).0
 
 -- a filter keeps what passes it
 any_kept : (test p : ℕ → Bool) (xs : List ℕ) (j x : ℕ) → StandsAt xs j x → p x ≡ true → test x ≡ true → list_any test (filter p xs) ≡ true
@@ -74,15 +73,17 @@ few_kept p n = omega (arith, length-filter p (range_with_len 0 n), count_by-le-l
 
 -- messages of one queue have one receiver
 shared : (queues : Queues) (d : Drawing) → IsAccepted d → (k l : ℕ) → k < length d.messages → l < length d.messages → queue_of queues d k ≡ queue_of queues d l → receiver_of d k ≡ receiver_of d l
-unfolding queue_of
-shared queues d accepted k l k_in l_in same = one_receiver queues (length d.instances) _ _ _ _ (receiver_in d accepted k k_in) (receiver_in d accepted l l_in) same
+unfolding queue_of queue_number
+shared Pair d accepted k l k_in l_in same = one_receiver (length d.instances) _ _ _ _ k l (receiver_in d accepted k k_in) (receiver_in d accepted l l_in) same
+shared Mailbox d accepted k l k_in l_in same = same
+shared Single d accepted k l k_in l_in same = ap (receiver_of d) same
 
 -- under Pair they have one sender too
 pub own_queues : (d : Drawing) (k m : ℕ) → IsAccepted d → k < length d.messages → m < length d.messages
     → queue_of Pair d k ≡ queue_of Pair d m → (sender_of d k ≡ sender_of d m) × (receiver_of d k ≡ receiver_of d m)
 unfolding queue_of
 own_queues d k m accepted k_in m_in same = (
-  one_sender (length d.instances) _ _ _ _ (receiver_in d accepted k k_in) (receiver_in d accepted m m_in) same,
+  one_sender (length d.instances) _ _ _ _ k m (receiver_in d accepted k k_in) (receiver_in d accepted m m_in) same,
   shared Pair d accepted k m k_in m_in same,
 )
 
@@ -95,15 +96,17 @@ ends_in d accepted e below =
     by_test (is_output d.events e) (λ h. rw h (here, there)) (λ h. rw h (there, here))
 
 -- so its queue number is below the bound
-pub number_bounded : (queues : Queues) (d : Drawing) (e : ℕ) → IsAccepted d → e < length d.events → queue (wired queues d) e < queue_bound queues d
+pub number_bounded : (queues : Queues) (d : Drawing) (e : ℕ) → IsAccepted d → e < length d.events → is_local d.events e ≡ false
+    → queue (wired queues d) e < queue_bound queues d
 unfolding queue queue_number queue_bound
-number_bounded Pair d e accepted below =
+number_bounded Pair d e accepted below away =
     let n : ℕ = length d.instances in
     let in_lines = ends_in d accepted e below in
     let p : (sender_at d.events e + 1) * n ≤ n * n = mul-le-mul_right n (omega (arith, in_lines.0)) in
     let q : (sender_at d.events e + 1) * n ≡ sender_at d.events e * n + n = omega arith in
     omega (arith, p, q, in_lines.1)
-number_bounded Mailbox d e accepted below = (ends_in d accepted e below).1
+number_bounded Mailbox d e accepted below away = (ends_in d accepted e below).1
+number_bounded Single d e accepted below away = accepted.has_messages.known e below away
 
 -- which is small
 pub bound_small : (queues : Queues) (d : Drawing) → IsAccepted d → queue_bound queues d ≤ 1024
@@ -113,6 +116,7 @@ bound_small Pair d accepted =
     let p : length d.instances * length d.instances ≤ 32 * length d.instances = mul-le-mul_right (length d.instances) few in
     omega (arith, p, few)
 bound_small Mailbox d accepted = let few = accepted.few_instances in omega (arith, few)
+bound_small Single d accepted = accepted.few_messages
 
 -- a queue with a message has from 1 to 32 senders, one receiver, and at most 1,024 messages
 pub bounded : (queues : Queues) (d : Drawing) (m : ℕ) → IsAccepted d → m < length d.messages → IsBounded queues d (queue_of queues d m)
@@ -149,9 +153,9 @@ module _ (queues : Queues) (d : Drawing) (accepted : IsAccepted d) where
     ap (λ (b : Bool). cond b (line d.events (partner d.events r)) (line d.events r)) (not_output r i),
   )
 
-  -- equal senders and equal receivers have one queue number
-  same_number : {s s' r r' : ℕ} → s ≡ s' → r ≡ r' → queue_number queues (length d.instances) s r ≡ queue_number queues (length d.instances) s' r'
-  same_number p q = λ k. queue_number queues (length d.instances) (p k) (q k)
+  -- equal senders, receivers and messages have one queue number
+  same_number : {s s' r r' m m' : ℕ} → s ≡ s' → r ≡ r' → m ≡ m' → queue_number queues (length d.instances) s r m ≡ queue_number queues (length d.instances) s' r' m'
+  same_number p q o = λ k. queue_number queues (length d.instances) (p k) (q k) (o k)
 
   -- both ends of a message have one queue
   pub ends_share : IsWired (wired queues d)
@@ -160,16 +164,19 @@ module _ (queues : Queues) (d : Drawing) (accepted : IsAccepted d) where
     matched = accepted.matched;
     one_queue = λ e within.
         let back = accepted.matched.to_and_fro e within in
-        elim (output_or_input d.events e within) [
+        let one = accepted.has_messages.shared e within in
+        by_test (is_local d.events e)
+        (λ local. ap (queue (wired queues d)) (accepted.matched.own e local))
+        (λ away. elim (output_or_input d.events e within away) [
           | inl o ↦
               let here = of_output e o in
               let there = of_input (partner d.events e) (partner_of_output d.events accepted.matched e o) in
-              same_number (there.0 ∙ ap (line d.events) back ∙ sym here.0) (there.1 ∙ sym here.1)
+              same_number (there.0 ∙ ap (line d.events) back ∙ sym here.0) (there.1 ∙ sym here.1) one
           | inr i ↦
               let here = of_input e i in
               let there = of_output (partner d.events e) (partner_of_input d.events accepted.matched e i) in
-              same_number (there.0 ∙ sym here.0) (there.1 ∙ ap (line d.events) back ∙ sym here.1)
-        ];
+              same_number (there.0 ∙ sym here.0) (there.1 ∙ ap (line d.events) back ∙ sym here.1) one
+        ]);
   }
 
   -- the queue of an output is that of its message
@@ -178,12 +185,12 @@ module _ (queues : Queues) (d : Drawing) (accepted : IsAccepted d) where
   output_queue s o =
       let here = of_output s o in
       let back = accepted.has_messages.back s o in
-      same_number (here.0 ∙ ap (line d.events) (sym back)) (here.1 ∙ ap (λ (e : ℕ). line d.events (partner d.events e)) (sym back))
+      same_number (here.0 ∙ ap (line d.events) (sym back)) (here.1 ∙ ap (λ (e : ℕ). line d.events (partner d.events e)) (sym back)) refl
 
   -- and so is that of an input
-  pub event_queue : (e : ℕ) → e < length d.events → queue (wired queues d) e ≡ queue_of queues d (message d.events e)
-  event_queue e within =
-      elim (output_or_input d.events e within) [
+  pub event_queue : (e : ℕ) → e < length d.events → is_local d.events e ≡ false → queue (wired queues d) e ≡ queue_of queues d (message d.events e)
+  event_queue e within away =
+      elim (output_or_input d.events e within away) [
         | inl o ↦ output_queue e o
         | inr i ↦
             sym (ends_share.one_queue e within)
@@ -191,12 +198,22 @@ module _ (queues : Queues) (d : Drawing) (accepted : IsAccepted d) where
             ∙ ap (queue_of queues d) (accepted.has_messages.shared e within)
       ]
 
+  -- an input is on the line of its message's receiver
+  taken_at : (r : ℕ) → is_input d.events r ≡ true → receiver_of d (message d.events r) ≡ line d.events r
+  unfolding receiver_of input_of
+  taken_at r i =
+      let within = (input_parts d.events r i).0 in
+      let sent = partner_of_input d.events accepted.matched r i in
+      let back = ap (output_of d) (sym (accepted.has_messages.shared r within)) ∙ accepted.has_messages.back (partner d.events r) sent in
+      ap (λ (s : ℕ). line d.events (partner d.events s)) back ∙ ap (line d.events) (accepted.matched.to_and_fro r within)
+
   -- the inputs of a queue are on one line
   pub inputs_share : (r u : ℕ) → is_input d.events r ≡ true → is_input d.events u ≡ true → queue (wired queues d) r ≡ queue (wired queues d) u → line d.events r ≡ line d.events u
-  unfolding queue
   inputs_share r u i j same =
-      let a = of_input r i in
-      let b = of_input u j in
-      let r_in = accepted.on_lines.on_line r (input_parts d.events r i).0 in
-      let u_in = accepted.on_lines.on_line u (input_parts d.events u j).0 in
-      sym a.1 ∙ one_receiver queues (length d.instances) _ _ _ _ (rw a.1 r_in) (rw b.1 u_in) same ∙ b.1
+      let r_in = (input_parts d.events r i).0 in
+      let u_in = (input_parts d.events u j).0 in
+      let r_away = input_not_local d.events r i in
+      let u_away = input_not_local d.events u j in
+      let one = sym (event_queue r r_in r_away) ∙ same ∙ event_queue u u_in u_away in
+      let known = accepted.has_messages.known in
+      sym (taken_at r i) ∙ shared queues d accepted _ _ (known r r_in r_away) (known u u_in u_away) one ∙ taken_at u j

@@ -1,7 +1,7 @@
 -- What the definitions say of the small charts, by computing.
 use Rattle.std.proofs.Common.{◌≡◌, [], ◌∷◌, refl}
 use Rattle.msc_chart.specs.declared.event.EventKind.TheVariants as kinds
-use Rattle.msc_chart.specs.declared.queue.Queues.TheVariants.{Pair, Mailbox}
+use Rattle.msc_chart.specs.declared.queue.Queues.TheVariants.{Pair, Mailbox, Single}
 use Rattle.msc_chart.specs.Events.{events_of, ends_of, instances_of}
 use Rattle.msc_chart.specs.Charts.{line, segment, partner, before}
 use Rattle.msc_chart.specs.Drawings.{chart_events, chart_of, output_of, input_of, sender_of, receiver_of}
@@ -63,3 +63,8 @@ relay_pair = refl
 pub relay_mailbox : queue_numbers Mailbox (chart_of relay) ≡ 1 ∷ 2 ∷ 1 ∷ []
 unfolding chart_events events_of ends_of instances_of line partner output_of input_of sender_of receiver_of queue_number queue_of
 relay_mailbox = refl
+
+-- under Single: the queue of each message
+pub relay_single : queue_numbers Single (chart_of relay) ≡ 0 ∷ 1 ∷ 2 ∷ []
+unfolding chart_events events_of ends_of instances_of line partner output_of input_of sender_of receiver_of queue_number queue_of
+relay_single = refl

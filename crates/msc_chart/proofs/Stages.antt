@@ -8,9 +8,9 @@ use Rattle.std.proofs.lemmas.List.{length-map}
 use Rattle.std.proofs.lemmas.Option.{slice_get_within}
 use Rattle.msc_parser.specs.Grammar.{Tree}
 use Rattle.msc_chart.specs.declared.fault.ChartFault.TheVariants.{TooManyInstances, TwiceInstance, HeaderWithoutBody, UnknownAddress, TooManyMessages, TwiceEvent, UnmatchedOut, UnmatchedIn}
-use Rattle.msc_chart.specs.declared.end.End as code
+use Rattle.msc_chart.specs.declared.end.MessageEnd as code
 use Rattle.msc_chart.specs.declared.end.DraftEvent as coded
-use Rattle.msc_chart.specs.Events.{End, instances_of, header_of, ends_of, events_of, address_of}
+use Rattle.msc_chart.specs.Events.{MessageEnd, instances_of, header_of, ends_of, events_of, address_of}
 use Rattle.msc_chart.specs.Views.{end_view, event_view}
 use Rattle.msc_chart.specs.Numbering.{AreNewBelow, IsFirstRepeat, AreNumbered}
 use Rattle.msc_chart.specs.Lists.{IsLeast}
@@ -77,7 +77,7 @@ module _ (d : Tree) where
   names_count names seen = simp length-map at (ap length seen)
 
   -- there are as many ends as events
-  pub ends_count : (ends : List code.End) → map end_view ends ≡ ends_of d → length ends ≡ length (events_of d)
+  pub ends_count : (ends : List code.MessageEnd) → map end_view ends ≡ ends_of d → length ends ≡ length (events_of d)
   unfolding ends_of
   ends_count ends drawn = simp length-map at (ap length drawn)
 
@@ -106,9 +106,9 @@ module _ (d : Tree) where
     unfolding Stands header_of
     known_headers_clear clear none = clear_next d 3 clear (λ p s. none p (subst (λ ns. HoldsAt (IsUnknown ns) (header_of d) p) (sym seen) s))
 
-    module _ (ends : List code.End) (drawn : map end_view ends ≡ ends_of d) where
+    module _ (ends : List code.MessageEnd) (drawn : map end_view ends ≡ ends_of d) where
       -- the end at place k has the address of no section
-      abbrev Away : List (List ℕ) → List End → ℕ → Type 0
+      abbrev Away : List (List ℕ) → List MessageEnd → ℕ → Type 0
       Away ns es k = HoldsAt (λ x. IsUnknown ns (address_of x)) es k
 
       -- what is away for the code is away in the draft
@@ -131,7 +131,7 @@ module _ (d : Tree) where
       known_addresses_clear clear none = clear_next d 4 clear (λ p s. none p (back p s))
 
   -- faults of the ends
-  module _ (ends : List code.End) (drawn : map end_view ends ≡ ends_of d) where
+  module _ (ends : List code.MessageEnd) (drawn : map end_view ends ≡ ends_of d) where
     -- more than 1,024 outputs or inputs are the first fault, where no lower one stands
     pub many_messages_first : IsClearBelow d 5 → AreTooMany (map end_view ends) → IsFirstFault d TooManyMessages
     unfolding Stands
@@ -155,7 +155,7 @@ module _ (d : Tree) where
     distinct_ends_clear clear new = clear_next d 6 clear (none_repeats end_view code_same ends code_same-from (ends_of d) drawn new)
 
     -- the end at place k is alone
-    Alone : Bool → List End → ℕ → Type 0
+    Alone : Bool → List MessageEnd → ℕ → Type 0
     Alone sends es k = HoldsAt (IsUnmatched sends es) es k
 
     -- the first output without an input is the first fault, where no lower one stands
@@ -181,13 +181,13 @@ module _ (d : Tree) where
     matched_inputs_clear clear none = clear_next d 8 clear (λ p s. none p (subst (λ es. Alone false es p) (sym drawn) s))
 
 -- the same in one go, as far as the look-ups went: no fault of a lower rank than the next stands
-module _ (d : Tree) (names : List (Bor (List ℕ))) (seen : map deref names ≡ instances_of d) (ends : List code.End) (drawn : map end_view ends ≡ ends_of d) (clear : IsClearBelow d 4)
+module _ (d : Tree) (names : List (Bor (List ℕ))) (seen : map deref names ≡ instances_of d) (ends : List code.MessageEnd) (drawn : map end_view ends ≡ ends_of d) (clear : IsClearBelow d 4)
     (known : (k : ℕ) → HoldsAt (λ x. IsUnknown (map deref names) (address_of x)) (map end_view ends) k → ⊥) (few : AreTooMany (map end_view ends) → ⊥) where
   -- where the addresses are known and the messages few enough
   pub clear_with_few_messages : IsClearBelow d 6
   clear_with_few_messages = few_messages_clear d ends drawn (known_addresses_clear d names seen ends drawn clear known) few
 
-  module _ (keys : List code.End) (n : AreNumbered code_same ends keys) where
+  module _ (keys : List code.MessageEnd) (n : AreNumbered code_same ends keys) where
     -- where also the ends differ, so that each has its number
     pub clear_with_distinct_ends : IsClearBelow d 7
     clear_with_distinct_ends = distinct_ends_clear d ends drawn clear_with_few_messages n.new
@@ -210,7 +210,7 @@ module _ (d : Tree) (names : List (Bor (List ℕ))) (seen : map deref names ≡ 
       clear_with_matched_inputs back = matched_inputs_clear d ends drawn clear_with_matched_outputs (subst (λ ks. (k : ℕ) → HoldsAt (IsUnmatched false (map end_view ks)) (map end_view ends) k → ⊥) n.same back)
 
 -- the ends of the code's events are those of the draft
-pub ends_seen : (d : Tree) (events : List coded.DraftEvent) (ends : List code.End) → ends ≡ map (λ e. e.end) events → map event_view events ≡ events_of d → map end_view ends ≡ ends_of d
+pub ends_seen : (d : Tree) (events : List coded.DraftEvent) (ends : List code.MessageEnd) → ends ≡ map (λ e. e.end) events → map event_view events ≡ events_of d → map end_view ends ≡ ends_of d
 unfolding ends_of
 ends_seen d events ends same seen = ap (map end_view) same ∙ by events ∙ ap (map (λ e. e.end)) seen
   where

@@ -1,11 +1,11 @@
--- A pass that is stuck has an event that precedes itself, and a linear order has none.
+-- A sorting that is stuck has an event that precedes itself, and a linear order has none.
 use Rattle.std.proofs.Common.{◌≡◌, ℕ, suc, ◌+◌, ◌<◌, Bool, true, false, not, ◌||◌, ◌&&◌, List, [], ◌∷◌, length, inl, inr, refl, sym, subst, arith, eqb}
 use Rattle.std.specs.Prelude.{count_by}
 use Rattle.std.proofs.lemmas.Bool.{cases_lt, eqb-true, eq-eqb, not-true, not_from_false, and_parts, and_from, or_cases, or_left, or_right}
 use Rattle.msc_chart.specs.declared.event.ChartEvent.{ChartEvent}
 use Rattle.msc_chart.specs.Charts.{partner, is_output, before, Visual, Follows, IsAcyclic, IsLinearOrder}
 use Rattle.msc_chart.specs.Charts.Visual.{seen, passed, linked}
-use Rattle.msc_chart.specs.Passes.{is_put, IsStuckAt, IsStuckBelow, IsPassOf}
+use Rattle.msc_chart.specs.Sortings.{is_put, IsStuckAt, IsStuckBelow, IsSortingOf}
 use Rattle.msc_chart.proofs.ListLemmas.{clash, step_at}
 use Rattle.msc_chart.proofs.Numbers.{count_below, descend}
 use Rattle.msc_chart.proofs.Drawn.{before_parts, output_parts}
@@ -28,10 +28,10 @@ some_out (true ∷ bs) some = let r = some_out bs some in (suc r.0, omega (arith
 directly : List ChartEvent → ℕ → ℕ → Bool
 directly events x y = before events x y || (is_output events x && eqb (partner events x) y)
 
--- A stuck pass has a cycle: from an event that is left go back to one that is left, and before which
+-- A stuck sorting has a cycle: from an event that is left go back to one that is left, and before which
 -- none that is left comes directly. It could be put.
 pub stuck_cyclic : (events : List ChartEvent) (order : List ℕ) (marks : List Bool) (first : List ℕ) (left : ℕ)
-    → IsPassOf events order marks first left → IsStuckBelow events marks (length events) → 0 < left → IsAcyclic events → ⊥
+    → IsSortingOf events order marks first left → IsStuckBelow events marks (length events) → 0 < left → IsAcyclic events → ⊥
 unfolding directly
 stuck_cyclic events order marks first left kept stuck some acyclic =
     let out = some_out marks (let n = kept.left_count in omega arith) in

@@ -1,7 +1,7 @@
 -- The events of a chart, their drawn order, and their visual order.
 use Rattle.std.specs.Prelude.{◌≡◌, ℕ, ◌<◌, ◌≤◌, Bool, true, false, ◌&&◌, List, [], length, get_or, count_by, IsTrue, nat_eq, nat_lt}
 use Rattle.msc_chart.specs.declared.event.EventKind.{EventKind}
-use Rattle.msc_chart.specs.declared.event.EventKind.TheVariants.{Output, Input}
+use Rattle.msc_chart.specs.declared.event.EventKind.TheVariants.{Output, Input, Local}
 use Rattle.msc_chart.specs.declared.event.ChartEvent.{ChartEvent}
 use Rattle.msc_chart.specs.Lists.{occurs, Steps}
 
@@ -20,11 +20,11 @@ line events e = (at events e).line
 unfoldable pub segment : List ChartEvent → ℕ → ℕ
 segment events e = (at events e).segment
 
--- whether event e is an output or an input of a message (Z.120)
+-- whether event e is an output or an input of a message, or a local event (Z.120)
 unfoldable pub kind : List ChartEvent → ℕ → EventKind
 kind events e = (at events e).kind
 
--- the event at the other end of the message of event e
+-- the event at the other end of the message of event e; a local event is its own
 unfoldable pub partner : List ChartEvent → ℕ → ℕ
 partner events e = (at events e).partner
 
@@ -35,10 +35,22 @@ message events e = (at events e).message
 abbrev pub sends : EventKind → Bool
 sends Output = true
 sends Input = false
+sends Local = false
 
 abbrev pub takes : EventKind → Bool
 takes Output = false
 takes Input = true
+takes Local = false
+
+abbrev pub acts : EventKind → Bool
+acts Output = false
+acts Input = false
+acts Local = true
+
+abbrev pub controls : EventKind → Bool
+controls Output = true
+controls Input = false
+controls Local = true
 
 -- e is an output of the chart
 unfoldable pub is_output : List ChartEvent → ℕ → Bool
@@ -47,6 +59,14 @@ is_output events e = nat_lt e (length events) && sends (kind events e)
 -- e is an input of the chart
 unfoldable pub is_input : List ChartEvent → ℕ → Bool
 is_input events e = nat_lt e (length events) && takes (kind events e)
+
+-- e is a local event of the chart: an action of its instance
+unfoldable pub is_local : List ChartEvent → ℕ → Bool
+is_local events e = nat_lt e (length events) && acts (kind events e)
+
+-- e is controlled: its instance decides when it comes. It is an output or a local event of the chart.
+unfoldable pub is_controlled : List ChartEvent → ℕ → Bool
+is_controlled events e = nat_lt e (length events) && controls (kind events e)
 
 -- x is drawn before y: both are events of the chart, on one line, and x is in a smaller segment. So
 -- the events of a coregion are unordered among themselves.
@@ -72,11 +92,12 @@ pub record IsLeastCyclic (events : List ChartEvent) (e : ℕ) : Type 0 where
   pub precedes_itself : Visual events e e
   pub least : (d : ℕ) → d < e → Visual events d d → ⊥
 
--- partners lead to and fro between the outputs and the inputs
+-- partners lead to and fro between the outputs and the inputs; a local event is its own partner
 pub record IsMatched (events : List ChartEvent) : Type 0 where
   pub in_range : (e : ℕ) → e < length events → partner events e < length events
   pub to_and_fro : (e : ℕ) → e < length events → partner events (partner events e) ≡ e
   pub other_kind : (e : ℕ) → e < length events → is_output events (partner events e) ≡ is_input events e
+  pub own : (e : ℕ) → IsTrue (is_local events e) → partner events e ≡ e
 
 -- events are numbered line by line, and down each line: so a line is a contiguous range of numbers,
 -- along which segments do not fall

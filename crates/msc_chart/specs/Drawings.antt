@@ -1,29 +1,29 @@
 -- The chart of a draft.
-use Rattle.std.specs.Prelude.{◌≡◌, ℕ, ◌+◌, ◌<◌, ◌≤◌, true, cond, List, [], ◌∷◌, length, get_or, map, take, count_by, None, IsTrue, ◌↔◌}
+use Rattle.std.specs.Prelude.{◌≡◌, ℕ, ◌+◌, ◌<◌, ◌≤◌, true, cond, List, [], ◌∷◌, length, get_or, false, map, take, count_by, None, IsTrue, ◌↔◌}
 use Rattle.msc_chart.specs.declared.TheConstants.{EVENT_LIMIT, INSTANCE_LIMIT, MESSAGE_LIMIT}
 use Rattle.std.specs.List.{position_or_len}
 use Rattle.msc_chart.specs.declared.event.EventKind.TheVariants.{Output, Input}
 use Rattle.msc_chart.specs.declared.event.ChartEvent.{ChartEvent}
 use Rattle.msc_chart.specs.declared.message.Message.{Message}
-use Rattle.msc_chart.specs.Events.{instances_of, DraftEvent, End, other_end, same_end, ends_of, events_of}
-use Rattle.msc_chart.specs.Charts.{line, partner, message, is_output, IsMatched, IsInTextOrder, AreOnLines, IsAcyclic, IsLinearOrder}
+use Rattle.msc_chart.specs.Events.{instances_of, DraftEvent, MessageEnd, other_end, same_end, ends_of, events_of}
+use Rattle.msc_chart.specs.Charts.{line, partner, message, is_output, is_local, IsMatched, IsInTextOrder, AreOnLines, IsAcyclic, IsLinearOrder}
 use Rattle.msc_parser.specs.Grammar.{Tree}
 
 -- the place of the first end that is equal to this one, or the number of ends
-abbrev pub place_of : List End → End → ℕ
+abbrev pub place_of : List MessageEnd → MessageEnd → ℕ
 place_of ends e = position_or_len (same_end e) ends
 
 -- the output of the message of an end
-abbrev pub output_end : End → End
+abbrev pub output_end : MessageEnd → MessageEnd
 output_end e = record { sends = true; key = e.key }
 
 -- how many outputs stand before a place
-abbrev pub outputs_before : List End → ℕ → ℕ
+abbrev pub outputs_before : List MessageEnd → ℕ → ℕ
 outputs_before ends e = count_by (λ x. x.sends) (take e ends)
 
 -- An event's partner is the other end of its message. Messages are numbered by their outputs, in the
 -- order of the text.
-abbrev pub event_of : List End → DraftEvent → ChartEvent
+abbrev pub event_of : List MessageEnd → DraftEvent → ChartEvent
 event_of ends e = record {
   line = e.line;
   segment = e.segment;
@@ -37,7 +37,7 @@ unfoldable pub chart_events : Tree → List ChartEvent
 chart_events draft = map (event_of (ends_of draft)) (events_of draft)
 
 -- the messages of the ends from this place on, by their outputs
-abbrev pub messages_from : ℕ → List End → List Message
+abbrev pub messages_from : ℕ → List MessageEnd → List Message
 messages_from e [] = []
 messages_from e (x ∷ xs) =
     cond x.sends
@@ -87,11 +87,11 @@ sender_of d m = line d.events (output_of d m)
 unfoldable pub receiver_of : Drawing → ℕ → ℕ
 receiver_of d m = line d.events (input_of d m)
 
--- each message has its output and its input among the events, and each event has its message
+-- each message has its output and its input among the events, and each of these has its message
 pub record HasMessages (d : Drawing) : Type 0 where
   pub output : (m : ℕ) → m < length d.messages → IsTrue (is_output d.events (output_of d m))
   pub own : (m : ℕ) → m < length d.messages → message d.events (output_of d m) ≡ m
-  pub known : (e : ℕ) → e < length d.events → message d.events e < length d.messages
+  pub known : (e : ℕ) → e < length d.events → is_local d.events e ≡ false → message d.events e < length d.messages
   pub back : (e : ℕ) → IsTrue (is_output d.events e) → output_of d (message d.events e) ≡ e
   pub shared : (e : ℕ) → e < length d.events → message d.events (partner d.events e) ≡ message d.events e
 

@@ -18,23 +18,23 @@ pub record Key : Type 0 where
   pub number : Option (List ℕ)
 
 -- an end of a message: an output, or an input
-pub record End : Type 0 where
+pub record MessageEnd : Type 0 where
   pub sends : Bool
   pub key : Key
 
 pub record DraftEvent : Type 0 where
   pub line : ℕ
   pub segment : ℕ
-  pub end : End
+  pub end : MessageEnd
 
 -- the end of a message that a statement of an instance of this name draws
-abbrev pub end_by : Way → List ℕ → Signal → End
+abbrev pub end_by : Way → List ℕ → Signal → MessageEnd
 end_by Output own s =
     record { sends = true; key = record { sender = own; receiver = s.address; name = s.name; number = s.number } }
 end_by Input own s =
     record { sends = false; key = record { sender = s.address; receiver = own; name = s.name; number = s.number } }
 
-abbrev pub end_of : List ℕ → Signal → End
+abbrev pub end_of : List ℕ → Signal → MessageEnd
 end_of own s = end_by s.way own s
 
 abbrev pub drawn : ℕ → List ℕ → ℕ → Signal → DraftEvent
@@ -74,14 +74,14 @@ unfoldable pub header_of : Tree → List (List ℕ)
 header_of draft = map (λ d. d.name) draft.header
 
 -- the name that stands as the address of an end
-abbrev pub address_of : End → List ℕ
+abbrev pub address_of : MessageEnd → List ℕ
 address_of e = cond e.sends e.key.receiver e.key.sender
 
 -- the other end of the same message
-abbrev pub other_end : End → End
+abbrev pub other_end : MessageEnd → MessageEnd
 other_end e = record { sends = not e.sends; key = e.key }
 
-unfoldable pub ends_of : Tree → List End
+unfoldable pub ends_of : Tree → List MessageEnd
 ends_of draft = map (λ e. e.end) (events_of draft)
 
 -- names are compared byte by byte
@@ -95,7 +95,7 @@ same_number (Some x) None = false
 same_number (Some x) (Some y) = same_name x y
 
 -- whether two ends are equal
-abbrev pub same_end : End → End → Bool
+abbrev pub same_end : MessageEnd → MessageEnd → Bool
 same_end a b =
     beq a.sends b.sends
     && (same_name a.key.sender b.key.sender

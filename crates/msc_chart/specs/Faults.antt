@@ -6,7 +6,7 @@ use Rattle.msc_parser.specs.Grammar.{Tree}
 use Rattle.msc_chart.specs.Lists.{StandsAt, Occurs, IsLeast}
 use Rattle.msc_chart.specs.declared.fault.ChartFault.{ChartFault}
 use Rattle.msc_chart.specs.declared.fault.ChartFault.TheVariants.{TooManyInstances, TwiceInstance, HeaderWithoutBody, UnknownAddress, TooManyMessages, TwiceEvent, UnmatchedOut, UnmatchedIn, Cyclic, Memory}
-use Rattle.msc_chart.specs.Events.{End, instances_of, header_of, ends_of, address_of, other_end}
+use Rattle.msc_chart.specs.Events.{MessageEnd, instances_of, header_of, ends_of, address_of, other_end}
 use Rattle.msc_chart.specs.Charts.{Visual}
 use Rattle.msc_chart.specs.Drawings.{chart_events}
 
@@ -27,11 +27,11 @@ abbrev pub IsUnknown : List (List ℕ) → List ℕ → Type 0
 IsUnknown names name = Occurs names name → ⊥
 
 -- an output, or an input, has no other end
-pub record IsUnmatched (sends : Bool) (ends : List End) (end : End) : Type 0 where
+pub record IsUnmatched (sends : Bool) (ends : List MessageEnd) (end : MessageEnd) : Type 0 where
   pub kind : end.sends ≡ sends
   pub alone : Occurs ends (other_end end) → ⊥
 
-abbrev pub AreTooMany : List End → Type 0
+abbrev pub AreTooMany : List MessageEnd → Type 0
 AreTooMany ends = (MESSAGE_LIMIT < count_by (λ x. beq x.sends true) ends) ⊎ (MESSAGE_LIMIT < count_by (λ x. beq x.sends false) ends)
 
 -- the fault stands in the draft

@@ -1,10 +1,10 @@
 -- Laws of charts, for the crates that rest on this one.
-use Rattle.std.specs.Prelude.{◌≡◌, ℕ, ◌+◌, ◌*◌, ◌<◌, ◌≤◌, Bool, List, length, filter, IsTrue, nat_eq}
+use Rattle.std.specs.Prelude.{◌≡◌, ℕ, ◌+◌, ◌*◌, ◌<◌, ◌≤◌, Bool, false, List, length, filter, IsTrue, nat_eq}
 use Rattle.msc_chart.specs.declared.TheConstants.{INSTANCE_LIMIT, MESSAGE_LIMIT}
 use Rattle.std.specs.List.{list_any, range_with_len}
 use Rattle.msc_chart.specs.declared.queue.Queues.{Queues}
 use Rattle.msc_chart.specs.declared.queue.Queues.TheVariants.{Pair}
-use Rattle.msc_chart.specs.Charts.{line, segment, message, is_input, line_start}
+use Rattle.msc_chart.specs.Charts.{line, segment, message, is_input, is_local, line_start}
 use Rattle.msc_chart.specs.Drawings.{Drawing, sender_of, receiver_of, IsAccepted, IsLine}
 use Rattle.msc_chart.specs.Orders.{queue_bound, queue_of, queue, wired, IsWired}
 
@@ -28,7 +28,7 @@ pub record IsBounded (queues : Queues) (d : Drawing) (q : ℕ) : Type 0 where
   pub one_receiver : (k m : ℕ) → k < length d.messages → m < length d.messages
       → queue_of queues d k ≡ q → queue_of queues d m ≡ q → receiver_of d k ≡ receiver_of d m
 
--- under either architecture each queue with a message is bounded
+-- under each architecture each queue with a message is bounded
 abbrev pub QueuesAreBounded : Type 0
 QueuesAreBounded =
     (queues : Queues) (d : Drawing) (m : ℕ) → IsAccepted d → m < length d.messages → IsBounded queues d (queue_of queues d m)
@@ -37,10 +37,10 @@ QueuesAreBounded =
 abbrev pub EndsShareQueues : Type 0
 EndsShareQueues = (queues : Queues) (d : Drawing) → IsAccepted d → IsWired (wired queues d)
 
--- the queue of an event is that of its message
+-- the queue of an output or input is that of its message
 abbrev pub EventsHaveQueues : Type 0
 EventsHaveQueues =
-    (queues : Queues) (d : Drawing) (e : ℕ) → IsAccepted d → e < length d.events
+    (queues : Queues) (d : Drawing) (e : ℕ) → IsAccepted d → e < length d.events → is_local d.events e ≡ false
     → queue (wired queues d) e ≡ queue_of queues d (message d.events e)
 
 -- under Pair messages of one queue have one sender and one receiver
@@ -49,10 +49,10 @@ PairsHaveQueuesOfTheirOwn =
     (d : Drawing) (k m : ℕ) → IsAccepted d → k < length d.messages → m < length d.messages
     → queue_of Pair d k ≡ queue_of Pair d m → (sender_of d k ≡ sender_of d m) × (receiver_of d k ≡ receiver_of d m)
 
--- each event's queue has a number below the bound
+-- the queue of each output and input has a number below the bound
 abbrev pub QueueNumbersAreBounded : Type 0
 QueueNumbersAreBounded =
-    (queues : Queues) (d : Drawing) (e : ℕ) → IsAccepted d → e < length d.events
+    (queues : Queues) (d : Drawing) (e : ℕ) → IsAccepted d → e < length d.events → is_local d.events e ≡ false
     → queue (wired queues d) e < queue_bound queues d
 
 -- and the bound is small

@@ -15,5 +15,5 @@ pub mod Samples
 -- what the code keeps
 pub mod Views
 pub mod Numbering
-pub mod Passes
+pub mod Sortings
 pub mod Reach

@@ -1,25 +1,27 @@
 -- The queues of a chart under an architecture, the enforced order, and races.
 use Rattle.std.specs.Prelude.{◌≡◌, ℕ, ◌+◌, ◌*◌, ◌<◌, Bool, cond, List, length, IsTrue}
 use Rattle.msc_chart.specs.declared.queue.Queues.{Queues}
-use Rattle.msc_chart.specs.declared.queue.Queues.TheVariants.{Pair, Mailbox}
+use Rattle.msc_chart.specs.declared.queue.Queues.TheVariants.{Pair, Mailbox, Single}
 use Rattle.msc_chart.specs.declared.event.ChartEvent.{ChartEvent}
-use Rattle.msc_chart.specs.Charts.{line, partner, is_output, before, Visual, IsMatched}
+use Rattle.msc_chart.specs.Charts.{line, partner, message, is_output, is_controlled, before, Visual, IsMatched}
 use Rattle.msc_chart.specs.Drawings.{Drawing, sender_of, receiver_of}
 
--- the number of the queue from a sender to a receiver, of so many instances: under Pair each sender
--- and receiver have one, under Mailbox each receiver has one
-unfoldable pub queue_number : Queues → ℕ → ℕ → ℕ → ℕ
-queue_number Pair instances sender receiver = sender * instances + receiver
-queue_number Mailbox instances sender receiver = receiver
+-- the number of the queue of a message from a sender to a receiver, of so many instances: under Pair
+-- each sender and receiver have one, under Mailbox each receiver, under Single each message
+unfoldable pub queue_number : Queues → ℕ → ℕ → ℕ → ℕ → ℕ
+queue_number Pair instances sender receiver m = sender * instances + receiver
+queue_number Mailbox instances sender receiver m = receiver
+queue_number Single instances sender receiver m = m
 
 -- a number past all queue numbers of a chart
 unfoldable pub queue_bound : Queues → Drawing → ℕ
 queue_bound Pair d = length d.instances * length d.instances
 queue_bound Mailbox d = length d.instances
+queue_bound Single d = length d.messages
 
 -- the queue of message m
 unfoldable pub queue_of : Queues → Drawing → ℕ → ℕ
-queue_of queues d m = queue_number queues (length d.instances) (sender_of d m) (receiver_of d m)
+queue_of queues d m = queue_number queues (length d.instances) (sender_of d m) (receiver_of d m) m
 
 -- the instance that sends the message of event e
 unfoldable pub sender_at : List ChartEvent → ℕ → ℕ
@@ -37,7 +39,8 @@ pub record WiredChart : Type 0 where
 abbrev pub wired : Queues → Drawing → WiredChart
 wired queues d = record {
   events = d.events;
-  queue_at = λ e. queue_number queues (length d.instances) (sender_at d.events e) (receiver_at d.events e);
+  queue_at = λ e.
+      queue_number queues (length d.instances) (sender_at d.events e) (receiver_at d.events e) (message d.events e);
 }
 
 -- the queue of the message of event e
@@ -51,8 +54,8 @@ pub record IsWired (chart : WiredChart) : Type 0 where
 
 -- the enforced order: the least relation closed under four rules (this project's own)
 pub data Enforced (chart : WiredChart) : ℕ → ℕ → Type 0 where
-  -- what is drawn before an output comes before it
-  drawn : {x s : ℕ} → IsTrue (before chart.events x s) → IsTrue (is_output chart.events s) → Enforced chart x s
+  -- what is drawn before a controlled event comes before it
+  drawn : {x s : ℕ} → IsTrue (before chart.events x s) → IsTrue (is_controlled chart.events s) → Enforced chart x s
   -- an output comes before its input
   sent : {s r : ℕ} → IsTrue (is_output chart.events s) → partner chart.events s ≡ r → Enforced chart s r
   -- transitivity

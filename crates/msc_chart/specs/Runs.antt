@@ -1,7 +1,7 @@
 -- The runs of a chart under an architecture.
 use Rattle.std.specs.Prelude.{◌≡◌, ℕ, ◌<◌, Bool, false, ◌&&◌, not, List, [], length, filter, IsTrue, nat_eq}
 use Rattle.msc_chart.specs.Lists.{occurs, until, IsFirst, Steps}
-use Rattle.msc_chart.specs.Charts.{line, partner, is_output, is_input, before}
+use Rattle.msc_chart.specs.Charts.{line, partner, is_output, is_input, is_controlled, before}
 use Rattle.msc_chart.specs.Orders.{WiredChart, queue}
 
 -- s is an output to the queue whose message is still there after these events
@@ -13,12 +13,12 @@ is_waiting chart q past s =
 abbrev pub state : WiredChart → ℕ → List ℕ → List ℕ
 state chart q past = filter (is_waiting chart q past) past
 
--- After these events e may come next: it is new, an output has all that is drawn before it behind it,
--- and the message of an input is the first of its queue.
+-- After these events e may come next: it is new, a controlled event has all that is drawn before it
+-- behind it, and the message of an input is the first of its queue.
 pub record MayCome (chart : WiredChart) (past : List ℕ) (e : ℕ) : Type 0 where
   pub event : e < length chart.events
   pub new : occurs past e ≡ false
-  pub output : IsTrue (is_output chart.events e) → (x : ℕ) → IsTrue (before chart.events x e) → IsTrue (occurs past x)
+  pub controlled : IsTrue (is_controlled chart.events e) → (x : ℕ) → IsTrue (before chart.events x e) → IsTrue (occurs past x)
   pub input : IsTrue (is_input chart.events e) → IsFirst (state chart (queue chart e) past) (partner chart.events e)
 
 -- a run: each event may come after those before it

@@ -10,7 +10,7 @@ ghost use Rattle.msc_chart.specs.Faults.{IsClearBelow, IsFaultless, IsFirstOrMem
 
 use crate::charting::chart_events;
 use crate::check::{are_too_many, unknown_address, unknown_header, unmatched};
-use crate::end::{DraftEvent, End, events_of};
+use crate::end::{DraftEvent, MessageEnd, events_of};
 use crate::event::{ChartEvent, Event};
 use crate::fault::ChartFault;
 use crate::linear::linear_order;
@@ -32,7 +32,7 @@ fn section_names<'d>(alloc: Global, draft: &'d Draft) -> Result<Vec<&'d [u8]>, A
 }
 
 /// The ends of the events.
-fn ends_of<'d>(alloc: Global, events: &[DraftEvent<'d>]) -> Result<Vec<End<'d>>, AllocError>
+fn ends_of<'d>(alloc: Global, events: &[DraftEvent<'d>]) -> Result<Vec<MessageEnd<'d>>, AllocError>
     ensures { IfOk result (λ ends. ends.items ≡ map (λ e. e.end) events.now) }
 {
     let mut ends = Vec::new(alloc);
@@ -68,7 +68,7 @@ fn matched_events<'d>(
     alloc: Global,
     draft: &'d Draft,
     instances: &IndexSet<&'d [u8]>,
-) -> Result<(Vec<DraftEvent<'d>>, IndexSet<End<'d>>), ChartFault>
+) -> Result<(Vec<DraftEvent<'d>>, IndexSet<MessageEnd<'d>>), ChartFault>
     requires names { map deref instances.now.keys ≡ instances_of draft.now }
     requires few { length draft.now.sections ≤ INSTANCE_LIMIT }
     requires clear { IsClearBelow draft.now 4 }
@@ -105,7 +105,7 @@ fn matched_events<'d>(
 pub(crate) fn lawful_events<'d>(
     alloc: Global,
     draft: &'d Draft,
-) -> Result<(Vec<ChartEvent>, Vec<Event>, IndexSet<End<'d>>), ChartFault>
+) -> Result<(Vec<ChartEvent>, Vec<Event>, IndexSet<MessageEnd<'d>>), ChartFault>
     ensures events { IfOk result (λ r. r.0.items ≡ chart_events draft.entry.now) }
     ensures order { IfOk result (λ r. IsLinearOrder r.0.items r.1.items) }
     ensures ends { IfOk result (λ r. map end_view r.2.keys ≡ ends_of draft.entry.now) }

@@ -4,9 +4,9 @@
 //! order of the text, messages by their outputs. Contracts see the lists of all three. The words are
 //! those of Z.120; the visual order is that of Alur, Holzmann and Peled (1996).
 
-ghost use Rattle.std.specs.Prelude.{◌≡◌, ◌≢◌, ◌<◌, ◌≤◌, ◌+◌, ◌↔◌, IsTrue, Some, length, IfOk, IfErr, OnOk, slice_get};
+ghost use Rattle.std.specs.Prelude.{◌≡◌, ◌≢◌, ◌<◌, ◌≤◌, ◌+◌, ◌↔◌, IsTrue, false, cond, None, Some, length, IfOk, IfErr, OnOk, slice_get};
 ghost use Rattle.std.specs.Option.{option_copied};
-ghost use Rattle.msc_chart.specs.Charts.{before, IsLineEnd, IsLinearOrder, IsSegmentEnd, ShareSegment, is_output, kind, line, line_start, message, partner, segment};
+ghost use Rattle.msc_chart.specs.Charts.{before, IsLineEnd, IsLinearOrder, IsSegmentEnd, ShareSegment, is_controlled, is_local, is_output, kind, line, line_start, message, partner, segment};
 ghost use Rattle.msc_chart.specs.Drawings.{Drawing, IsAccepted, IsBuilt, IsLine, chart_of, drawing, input_of, message_at, output_of, receiver_of, sender_of};
 ghost use Rattle.msc_chart.specs.Orders.{queue_of};
 ghost use Rattle.msc_chart.specs.Faults.{IsFaultless, IsFirstFault};
@@ -189,7 +189,7 @@ impl Chart {
         events
     }
 
-    /// Whether event `e` is an output or an input. It takes no memory.
+    /// Whether event `e` is an output, an input or a local event. It takes no memory.
     pub fn kind(&self, e: Event) -> EventKind
         requires { e < length self.now.events }
         ensures { result ≡ kind self.now.events e }
@@ -205,33 +205,58 @@ impl Chart {
         self.kind(e).is_output()
     }
 
-    /// The message of event `e`: some for every output and input. It takes no memory.
+    /// Whether event `e` is a local event. It takes no memory.
+    pub fn is_local(&self, e: Event) -> bool
+        requires { e < length self.now.events }
+        ensures { result ≡ is_local self.now.events e }
+    {
+        self.kind(e).is_local()
+    }
+
+    /// Whether the instance of event `e` decides when it comes: it is an output or a local event. An
+    /// input waits for its message. It takes no memory.
+    pub fn is_controlled(&self, e: Event) -> bool
+        requires { e < length self.now.events }
+        ensures { result ≡ is_controlled self.now.events e }
+    {
+        self.kind(e).is_controlled()
+    }
+
+    /// The message of event `e`: some for every output and input, none for a local event. It takes no
+    /// memory.
     pub fn message(&self, e: Event) -> Option<u32>
         requires { e < length self.now.events }
-        ensures { result ≡ Some (message self.now.events e) }
+        ensures { result ≡ cond (is_local self.now.events e) None (Some (message self.now.events e)) }
     {
+        if self.is_local(e) {
+            return None;
+        }
         Some(self.events[e as usize].message)
     }
 
-    /// The event at the other end of the message of event `e`: some for every output and input. It
-    /// takes no memory.
+    /// The event at the other end of the message of event `e`: some for every output and input, none
+    /// for a local event. It takes no memory.
     pub fn partner(&self, e: Event) -> Option<Event>
         requires { e < length self.now.events }
-        ensures { result ≡ Some (partner self.now.events e) }
+        ensures { result ≡ cond (is_local self.now.events e) None (Some (partner self.now.events e)) }
     {
+        if self.is_local(e) {
+            return None;
+        }
         Some(self.events[e as usize].partner)
     }
 
     /// The message of event `e`, an output or an input. It takes no memory.
     pub fn message_of(&self, e: Event) -> u32
-        requires { e < length self.now.events }
+        requires known { e < length self.now.events }
+        requires message { is_local self.now.events e ≡ false }
         ensures value { result ≡ message self.now.events e }
         ensures known { result < length self.now.messages }
     {
         self.events[e as usize].message
     }
 
-    /// The event at the other end of the message of event `e`, an output or an input. It takes no
+    /// The event at the other end of the message of event `e`; of a local event itself. It takes no
     /// memory.
     pub fn other_end(&self, e: Event) -> Event
         requires { e < length self.now.events }
@@ -320,11 +345,11 @@ impl Chart {
     }
 
     /// The number of the queue of message `m`. With `n` instances it is `sender * n + receiver` for
-    /// `Pair`, and `receiver` for `Mailbox`. It takes no memory.
+    /// `Pair`, `receiver` for `Mailbox`, and `m` for `Single`. It takes no memory.
     pub fn queue(&self, m: u32, queues: Queues) -> u32
         requires { m < length self.now.messages }
         ensures { result ≡ queue_of queues self.now m }
     {
-        queue_number(queues, self.instances(), self.sender(m), self.receiver(m))
+        queue_number(queues, self.instances(), self.sender(m), self.receiver(m), m)
     }
 }

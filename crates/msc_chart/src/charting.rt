@@ -7,7 +7,7 @@ ghost use Rattle.msc_chart.specs.Drawings.{place_of, event_of, outputs_before, m
 ghost use Rattle.msc_chart.specs.Views.{end_view, event_view};
 
 use crate::EVENT_LIMIT;
-use crate::end::{DraftEvent, End};
+use crate::end::{DraftEvent, MessageEnd};
 use crate::event::{ChartEvent, EventKind};
 use crate::message::Message;
 use indexmap::IndexSet;
@@ -16,7 +16,7 @@ use msc_parser::{Draft, Name};
 use std::alloc::{AllocError, Global};
 
 /// The place of an end among all ends, or their number.
-fn place<'d>(places: &IndexSet<End<'d>>, end: End<'d>) -> usize
+fn place<'d>(places: &IndexSet<MessageEnd<'d>>, end: MessageEnd<'d>) -> usize
     ensures place { result ≡ place_of (map end_view places.now.keys) (end_view end.entry) }
     ensures within { result ≤ length places.now.keys }
 {
@@ -24,7 +24,7 @@ fn place<'d>(places: &IndexSet<End<'d>>, end: End<'d>) -> usize
 }
 
 /// How many outputs stand before each place, the place past the last one too.
-fn outputs_before(alloc: Global, ends: &[End]) -> Result<Vec<u32>, AllocError>
+fn outputs_before(alloc: Global, ends: &[MessageEnd]) -> Result<Vec<u32>, AllocError>
     requires { length ends.now ≤ EVENT_LIMIT }
     ensures len { IfOk result (λ counts. vec_len counts ≡ length ends.now + 1) }
     ensures counts { IfOk result (λ counts.
@@ -55,7 +55,7 @@ fn kind_of(sends: bool) -> EventKind
 }
 
 /// The event of a chart that an event of a draft becomes.
-fn charted<'d>(event: &DraftEvent<'d>, places: &IndexSet<End<'d>>, counts: &[u32]) -> ChartEvent
+fn charted<'d>(event: &DraftEvent<'d>, places: &IndexSet<MessageEnd<'d>>, counts: &[u32]) -> ChartEvent
     requires small { length places.now.keys ≤ EVENT_LIMIT }
     requires len { length counts.now ≡ length places.now.keys + 1 }
     requires counts { (k : ℕ) → k ≤ length places.now.keys
@@ -75,7 +75,7 @@ fn charted<'d>(event: &DraftEvent<'d>, places: &IndexSet<End<'d>>, counts: &[u32
 pub(crate) fn chart_events<'d>(
     alloc: Global,
     events: &[DraftEvent<'d>],
-    places: &IndexSet<End<'d>>,
+    places: &IndexSet<MessageEnd<'d>>,
 ) -> Result<Vec<ChartEvent>, AllocError>
     requires { length places.now.keys ≤ EVENT_LIMIT }
     ensures { IfOk result (λ chart.
@@ -118,7 +118,7 @@ fn owned_number(alloc: Global, number: Option<&[u8]>) -> Result<Option<Name>, Al
 }
 
 /// The messages, by their outputs.
-pub(crate) fn messages<'d>(alloc: Global, ends: &[End<'d>]) -> Result<Listed<Message>, AllocError>
+pub(crate) fn messages<'d>(alloc: Global, ends: &[MessageEnd<'d>]) -> Result<Listed<Message>, AllocError>
     requires { length ends.now ≤ EVENT_LIMIT }
     ensures { IfOk result (λ messages. messages ≡ messages_from 0 (map end_view ends.now)) }
 {

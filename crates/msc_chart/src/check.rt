@@ -8,7 +8,7 @@ ghost use Rattle.msc_chart.specs.Views.{end_view};
 ghost use Rattle.msc_chart.specs.Faults.{AnswersLeast, HoldsAt, IsUnknown, IsUnmatched, AreTooMany};
 
 use crate::MESSAGE_LIMIT;
-use crate::end::End;
+use crate::end::MessageEnd;
 use indexmap::IndexSet;
 use msc_parser::Decl;
 
@@ -20,7 +20,7 @@ fn is_unknown<'d>(instances: &IndexSet<&'d [u8]>, name: &[u8]) -> bool
 }
 
 /// Whether the other end is at no place.
-fn is_unmatched<'d>(places: &IndexSet<End<'d>>, end: &End<'d>, sends: bool) -> bool
+fn is_unmatched<'d>(places: &IndexSet<MessageEnd<'d>>, end: &MessageEnd<'d>, sends: bool) -> bool
     ensures { IsTrue result ↔ IsUnmatched sends (map end_view places.now.keys) (end_view end.now) }
 {
     end.sends == sends && !places.contains(&end.other())
@@ -40,7 +40,7 @@ pub(crate) fn unknown_header<'d>(header: &[Decl], instances: &IndexSet<&'d [u8]>
 }
 
 /// The first event whose address is not a section's name.
-pub(crate) fn unknown_address<'d>(ends: &[End<'d>], instances: &IndexSet<&'d [u8]>) -> Option<usize>
+pub(crate) fn unknown_address<'d>(ends: &[MessageEnd<'d>], instances: &IndexSet<&'d [u8]>) -> Option<usize>
     ensures { AnswersLeast (HoldsAt
         (λ x. IsUnknown (map deref instances.now.keys) (address_of x))
         (map end_view ends.now)) result }
@@ -55,8 +55,8 @@ pub(crate) fn unknown_address<'d>(ends: &[End<'d>], instances: &IndexSet<&'d [u8
 
 /// The first output, or the first input, whose other end is at no place.
 pub(crate) fn unmatched<'d>(
-    ends: &[End<'d>],
-    places: &IndexSet<End<'d>>,
+    ends: &[MessageEnd<'d>],
+    places: &IndexSet<MessageEnd<'d>>,
     sends: bool,
 ) -> Option<usize>
     ensures { AnswersLeast (HoldsAt
@@ -71,14 +71,14 @@ pub(crate) fn unmatched<'d>(
 }
 
 /// How many ends are outputs, or inputs.
-fn ends_that(ends: &[End], sends: bool) -> usize
+fn ends_that(ends: &[MessageEnd], sends: bool) -> usize
     ensures { result ≡ count_by (λ x. beq x.sends sends) (map end_view ends.now) }
 {
     ends.iter().filter(|end| end.sends == sends).count()
 }
 
 /// Whether there are more outputs, or more inputs, than a chart may have.
-pub(crate) fn are_too_many(ends: &[End]) -> bool
+pub(crate) fn are_too_many(ends: &[MessageEnd]) -> bool
     ensures { IsTrue result ↔ AreTooMany (map end_view ends.now) }
 {
     let limit = MESSAGE_LIMIT as usize;

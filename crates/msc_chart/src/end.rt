@@ -12,7 +12,7 @@ use std::alloc::{AllocError, Global};
 
 /// An end of a message, with its names in the draft.
 #[derive(Clone, Copy, PartialEq, Eq, Hash)]
-pub(crate) struct End<'d> {
+pub(crate) struct MessageEnd<'d> {
     pub sends: bool,
     pub sender: &'d [u8],
     pub receiver: &'d [u8],
@@ -20,22 +20,22 @@ pub(crate) struct End<'d> {
     pub number: Option<&'d [u8]>,
 }
 
-impl<'d> End<'d> {
+impl<'d> MessageEnd<'d> {
     /// The other end of the same message.
-    pub fn other(&self) -> End<'d>
+    pub fn other(&self) -> MessageEnd<'d>
         ensures { end_view result ≡ other_end (end_view self.entry.now) }
     {
-        End {
+        MessageEnd {
             sends: !self.sends,
             ..*self
         }
     }
 
     /// The output of the same message.
-    pub fn output(&self) -> End<'d>
+    pub fn output(&self) -> MessageEnd<'d>
         ensures { end_view result ≡ output_end (end_view self.entry.now) }
     {
-        End {
+        MessageEnd {
             sends: true,
             ..*self
         }
@@ -58,11 +58,11 @@ impl<'d> End<'d> {
 pub(crate) struct DraftEvent<'d> {
     pub line: u32,
     pub segment: u32,
-    pub end: End<'d>,
+    pub end: MessageEnd<'d>,
 }
 
 /// The end of a message that a statement of the instance `own` draws.
-fn end_of<'d>(own: &'d [u8], signal: &'d Signal) -> End<'d>
+fn end_of<'d>(own: &'d [u8], signal: &'d Signal) -> MessageEnd<'d>
     ensures { end_view result ≡ end_of own.entry.now signal.entry.now }
 {
     let address = signal.address.as_slice();
@@ -72,14 +72,14 @@ fn end_of<'d>(own: &'d [u8], signal: &'d Signal) -> End<'d>
         None => None,
     };
     match signal.way {
-        Way::Output => End {
+        Way::Output => MessageEnd {
             sends: true,
             sender: own,
             receiver: address,
             name,
             number,
         },
-        Way::Input => End {
+        Way::Input => MessageEnd {
             sends: false,
             sender: address,
             receiver: own,

@@ -2,14 +2,14 @@
 //! rest its own proof on the law.
 
 ghost use Rattle.std.specs.Prelude.{◌≡◌, ◌∷◌, [], map};
-ghost use Rattle.msc_chart.specs.declared.queue.Queues.TheVariants.{Pair, Mailbox};
+ghost use Rattle.msc_chart.specs.declared.queue.Queues.TheVariants.{Pair, Mailbox, Single};
 ghost use Rattle.msc_chart.specs.Drawings.{chart_events, chart_of};
 ghost use Rattle.msc_chart.specs.Items.{EachHasAnEvent, ItemsAreDrawnInOrder};
 ghost use Rattle.msc_chart.specs.Orders.{wired};
 ghost use Rattle.msc_chart.specs.Laws.{EndsShareQueues, EventsHaveQueues, InputsShareLines, LinesAreRanges, PairsHaveQueuesOfTheirOwn, QueueBoundsAreSmall, QueueNumbersAreBounded, QueuesAreBounded, SegmentsRise};
 ghost use Rattle.msc_chart.specs.Samples.{AreEnforcedPairs, below_coregion, coregion, drawn_pairs, empty_coregion, queue_numbers, relay, two_mailboxes, two_mailboxes_pairs, two_senders};
 
-/// Under either architecture a queue with a message has from 1 to 32 senders, one receiver, and at
+/// Under each architecture a queue with a message has from 1 to 32 senders, one receiver, and at
 /// most 1,024 messages.
 pub fn queues_are_bounded()
     ensures { QueuesAreBounded }
@@ -20,7 +20,7 @@ pub fn ends_share_queues()
     ensures { EndsShareQueues }
 {}
 
-/// The queue of an event is that of its message.
+/// The queue of an output or input is that of its message.
 pub fn events_have_queues()
     ensures { EventsHaveQueues }
 {}
@@ -30,8 +30,8 @@ pub fn pairs_have_queues_of_their_own()
     ensures { PairsHaveQueuesOfTheirOwn }
 {}
 
-/// The number of each event's queue is below a bound, which is at most the square of the greatest
-/// number of instances.
+/// The number of the queue of each output and input is below a bound, which is at most the square of
+/// the greatest number of instances.
 pub fn queue_numbers_are_bounded()
     ensures numbers { QueueNumbersAreBounded }
     ensures few { QueueBoundsAreSmall }
@@ -66,6 +66,7 @@ pub fn worked_charts()
     ensures segments { map (λ e. e.segment) (chart_events empty_coregion) ≡ 0 ∷ 1 ∷ [] }
     ensures pair { queue_numbers Pair (chart_of relay) ≡ 1 ∷ 2 ∷ 7 ∷ [] }
     ensures mailbox { queue_numbers Mailbox (chart_of relay) ≡ 1 ∷ 2 ∷ 1 ∷ [] }
+    ensures single { queue_numbers Single (chart_of relay) ≡ 0 ∷ 1 ∷ 2 ∷ [] }
     ensures senders { queue_numbers Pair (chart_of two_senders) ≡ 1 ∷ 7 ∷ [] }
     ensures one { queue_numbers Mailbox (chart_of coregion) ≡ 1 ∷ 1 ∷ [] }
     ensures enforced { AreEnforcedPairs (wired Mailbox (chart_of two_mailboxes)) two_mailboxes_pairs }

@@ -3,22 +3,22 @@
 //! The events are put into a list one by one, each as soon as all that comes directly before it
 //! stands there: what is drawn before it and, for an input, its output. Each event that was put is
 //! followed by a look at what it may have opened: the input of its message, and the next segment of
-//! its line. So the pass takes few steps for each event. Where it gets stuck before all events are
+//! its line. So the sorting takes few steps for each event. Where it gets stuck before all events are
 //! put, some event precedes itself in the visual order.
 
 ghost use Rattle.std.specs.Prelude.{◌≡◌, ℕ, ◌+◌, ◌<◌, ◌≤◌, ◌↔◌, IsTrue, false, length, vec_len, IfOk, OnOk, IfErr};
 ghost use Rattle.std.specs.Bool.{OnTrue, OnFalse};
 ghost use Rattle.msc_chart.specs.Charts.{line, IsLinearOrder};
-ghost use Rattle.msc_chart.specs.Passes.{is_put, AreReady, IsBarred, IsCycleOrMemory, IsLeftOn, IsUnbarred, IsPass, IsStuckAt, IsStuckBelow, NoneLeftBelow};
+ghost use Rattle.msc_chart.specs.Sortings.{is_put, AreReady, IsBarred, IsCycleOrMemory, IsLeftOn, IsUnbarred, IsSorting, IsStuckAt, IsStuckBelow, NoneLeftBelow};
 
 use crate::cycle::least_cyclic;
 use crate::event::{ChartEvent, Event};
 use crate::fault::ChartFault;
 use std::alloc::{AllocError, Global};
 
-/// How far the pass has come.
+/// How far the sorting has come.
 #[derive(Drop)]
-pub(crate) struct Pass {
+pub(crate) struct Sorting {
     /// The events that were put, in their order.
     pub order: Vec<Event>,
     /// Whether each event was put.
@@ -71,143 +71,143 @@ fn is_open(events: &[ChartEvent], marks: &[bool], first: usize, e: usize) -> boo
     if events[first].segment < events[e].segment {
         return false;
     }
-    if events[e].kind.is_output() {
+    if events[e].kind.is_controlled() {
         return true;
     }
     marks[events[e].partner as usize]
 }
 
 /// The first event of line `i` that is left; the next search begins there.
-fn move_first(events: &[ChartEvent], pass: &mut Pass, i: u32) -> usize
-    requires pass { IsPass events.now pass.old }
-    requires line { i < vec_len pass.old.first }
-    ensures pass { IsPass events.now pass.new }
-    ensures order { pass.new.order ≡ pass.old.order }
-    ensures marks { pass.new.is_put ≡ pass.old.is_put }
-    ensures same { pass.new.left ≡ pass.old.left }
-    ensures below { NoneLeftBelow events.now pass.new.is_put.items i result }
-    ensures left { result < length events.now → IsLeftOn events.now pass.new.is_put.items i result }
+fn move_first(events: &[ChartEvent], sorting: &mut Sorting, i: u32) -> usize
+    requires sorting { IsSorting events.now sorting.old }
+    requires line { i < vec_len sorting.old.first }
+    ensures sorting { IsSorting events.now sorting.new }
+    ensures order { sorting.new.order ≡ sorting.old.order }
+    ensures marks { sorting.new.is_put ≡ sorting.old.is_put }
+    ensures same { sorting.new.left ≡ sorting.old.left }
+    ensures below { NoneLeftBelow events.now sorting.new.is_put.items i result }
+    ensures left { result < length events.now → IsLeftOn events.now sorting.new.is_put.items i result }
     ensures within { result ≤ length events.now }
 {
-    let from = pass.first[i as usize] as usize;
-    let first = first_left(events, pass.is_put.as_slice(), i, from);
-    pass.first[i as usize] = first as u32;
+    let from = sorting.first[i as usize] as usize;
+    let first = first_left(events, sorting.is_put.as_slice(), i, from);
+    sorting.first[i as usize] = first as u32;
     first
 }
 
 /// Puts `e`, which is open, behind the others.
-fn push(events: &[ChartEvent], pass: &mut Pass, e: usize) -> Result<(), AllocError>
-    requires pass { IsPass events.now pass.old }
+fn push(events: &[ChartEvent], sorting: &mut Sorting, e: usize) -> Result<(), AllocError>
+    requires sorting { IsSorting events.now sorting.old }
     requires event { e < length events.now }
-    requires left { is_put pass.old.is_put.items e ≡ false }
-    requires open { IsUnbarred events.now pass.old.is_put.items e }
-    ensures pass { OnOk result (IsPass events.now pass.new) }
-    ensures left { OnOk result (pass.new.left + 1 ≡ pass.old.left) }
+    requires left { is_put sorting.old.is_put.items e ≡ false }
+    requires open { IsUnbarred events.now sorting.old.is_put.items e }
+    ensures sorting { OnOk result (IsSorting events.now sorting.new) }
+    ensures left { OnOk result (sorting.new.left + 1 ≡ sorting.old.left) }
 {
     let _events = events;
-    pass.order.push(e as u32)?;
-    pass.is_put[e] = true;
-    pass.left -= 1;
+    sorting.order.push(e as u32)?;
+    sorting.is_put[e] = true;
+    sorting.left -= 1;
     Ok(())
 }
 
 /// Puts `e` behind the others, if it is left and all that comes directly before it stands there;
 /// answers whether.
-fn put(events: &[ChartEvent], pass: &mut Pass, e: usize) -> Result<bool, AllocError>
-    requires pass { IsPass events.now pass.old }
+fn put(events: &[ChartEvent], sorting: &mut Sorting, e: usize) -> Result<bool, AllocError>
+    requires sorting { IsSorting events.now sorting.old }
     requires event { e < length events.now }
-    ensures pass { OnOk result (IsPass events.now pass.new) }
-    ensures put { IfOk result (λ r. OnTrue r (pass.new.left + 1 ≡ pass.old.left)) }
-    ensures same { IfOk result (λ r. OnFalse r (pass.new.left ≡ pass.old.left)) }
-    ensures marks { IfOk result (λ r. OnFalse r (pass.new.is_put.items ≡ pass.old.is_put.items)) }
-    ensures stuck { IfOk result (λ r. OnFalse r (IsStuckAt events.now pass.new.is_put.items e)) }
+    ensures sorting { OnOk result (IsSorting events.now sorting.new) }
+    ensures put { IfOk result (λ r. OnTrue r (sorting.new.left + 1 ≡ sorting.old.left)) }
+    ensures same { IfOk result (λ r. OnFalse r (sorting.new.left ≡ sorting.old.left)) }
+    ensures marks { IfOk result (λ r. OnFalse r (sorting.new.is_put.items ≡ sorting.old.is_put.items)) }
+    ensures stuck { IfOk result (λ r. OnFalse r (IsStuckAt events.now sorting.new.is_put.items e)) }
 {
-    if pass.is_put[e] {
+    if sorting.is_put[e] {
         return Ok(false);
     }
-    let first = move_first(events, pass, events[e].line);
-    if !is_open(events, pass.is_put.as_slice(), first, e) {
+    let first = move_first(events, sorting, events[e].line);
+    if !is_open(events, sorting.is_put.as_slice(), first, e) {
         return Ok(false);
     }
-    push(events, pass, e)?;
+    push(events, sorting, e)?;
     Ok(true)
 }
 
 /// Puts what can be put of the segment that begins at event `from`.
-fn put_segment(events: &[ChartEvent], pass: &mut Pass, from: usize) -> Result<(), AllocError>
-    requires pass { IsPass events.now pass.old }
+fn put_segment(events: &[ChartEvent], sorting: &mut Sorting, from: usize) -> Result<(), AllocError>
+    requires sorting { IsSorting events.now sorting.old }
     requires from { from < length events.now }
-    ensures pass { OnOk result (IsPass events.now pass.new) }
-    ensures left { OnOk result (pass.new.left ≤ pass.old.left) }
+    ensures sorting { OnOk result (IsSorting events.now sorting.new) }
+    ensures left { OnOk result (sorting.new.left ≤ sorting.old.left) }
 {
     let head = events[from];
     for x in from..events.len() {
         if events[x].line != head.line || events[x].segment != head.segment {
             return Ok(());
         }
-        put(events, pass, x)?;
+        put(events, sorting, x)?;
     }
     Ok(())
 }
 
 /// Puts what `e`, which was put, may have opened: the input of its message, and the next segment of
 /// its line, where that was not yet looked at.
-fn put_opened(events: &[ChartEvent], pass: &mut Pass, e: usize) -> Result<(), AllocError>
-    requires pass { IsPass events.now pass.old }
+fn put_opened(events: &[ChartEvent], sorting: &mut Sorting, e: usize) -> Result<(), AllocError>
+    requires sorting { IsSorting events.now sorting.old }
     requires event { e < length events.now }
-    ensures pass { OnOk result (IsPass events.now pass.new) }
-    ensures left { OnOk result (pass.new.left ≤ pass.old.left) }
+    ensures sorting { OnOk result (IsSorting events.now sorting.new) }
+    ensures left { OnOk result (sorting.new.left ≤ sorting.old.left) }
 {
     let event = events[e];
-    put(events, pass, event.partner as usize)?;
-    let next = move_first(events, pass, event.line);
-    if next == events.len() || events[next].segment < pass.unopened[event.line as usize] {
+    put(events, sorting, event.partner as usize)?;
+    let next = move_first(events, sorting, event.line);
+    if next == events.len() || events[next].segment < sorting.unopened[event.line as usize] {
         return Ok(());
     }
-    pass.unopened[event.line as usize] = events[next].segment + 1;
-    put_segment(events, pass, next)
+    sorting.unopened[event.line as usize] = events[next].segment + 1;
+    put_segment(events, sorting, next)
 }
 
 /// Looks behind each event of the order from this place on, as far as the order grows; answers where
 /// it ends.
-fn follow(events: &[ChartEvent], pass: &mut Pass, from: usize) -> Result<usize, AllocError>
-    requires pass { IsPass events.now pass.old }
-    ensures pass { OnOk result (IsPass events.now pass.new) }
-    ensures left { OnOk result (pass.new.left ≤ pass.old.left) }
+fn follow(events: &[ChartEvent], sorting: &mut Sorting, from: usize) -> Result<usize, AllocError>
+    requires sorting { IsSorting events.now sorting.old }
+    ensures sorting { OnOk result (IsSorting events.now sorting.new) }
+    ensures left { OnOk result (sorting.new.left ≤ sorting.old.left) }
 {
     let mut place = from;
-    while place < pass.order.len() {
-        let e = pass.order[place] as usize;
-        put_opened(events, pass, e)?;
+    while place < sorting.order.len() {
+        let e = sorting.order[place] as usize;
+        put_opened(events, sorting, e)?;
         place += 1;
     }
     Ok(place)
 }
 
 /// Puts what can be put, once along all events; answers whether anything was.
-fn sweep(events: &[ChartEvent], pass: &mut Pass) -> Result<bool, AllocError>
-    requires pass { IsPass events.now pass.old }
-    ensures pass { OnOk result (IsPass events.now pass.new) }
-    ensures put { IfOk result (λ r. OnTrue r (pass.new.left < pass.old.left)) }
-    ensures same { IfOk result (λ r. OnFalse r (pass.new.left ≤ pass.old.left)) }
+fn sweep(events: &[ChartEvent], sorting: &mut Sorting) -> Result<bool, AllocError>
+    requires sorting { IsSorting events.now sorting.old }
+    ensures sorting { OnOk result (IsSorting events.now sorting.new) }
+    ensures put { IfOk result (λ r. OnTrue r (sorting.new.left < sorting.old.left)) }
+    ensures same { IfOk result (λ r. OnFalse r (sorting.new.left ≤ sorting.old.left)) }
     ensures stuck { IfOk result (λ r. OnFalse r
-        (IsStuckBelow events.now pass.new.is_put.items (length events.now))) }
+        (IsStuckBelow events.now sorting.new.is_put.items (length events.now))) }
 {
     let mut changed = false;
     for e in 0..events.len() {
-        if put(events, pass, e)? {
+        if put(events, sorting, e)? {
             changed = true;
         }
     }
     Ok(changed)
 }
 
-/// The pass before its first event.
-fn begun(alloc: Global, events: &[ChartEvent], lines: usize) -> Result<Pass, AllocError>
+/// The sorting before its first event.
+fn begun(alloc: Global, events: &[ChartEvent], lines: usize) -> Result<Sorting, AllocError>
     requires { AreReady lines events.now }
-    ensures { IfOk result (IsPass events.now) }
+    ensures { IfOk result (IsSorting events.now) }
 {
-    Ok(Pass {
+    Ok(Sorting {
         order: Vec::new(alloc),
         is_put: vec![in alloc; false; events.len()]?,
         first: vec![in alloc; 0u32; lines]?,
@@ -216,24 +216,24 @@ fn begun(alloc: Global, events: &[ChartEvent], lines: usize) -> Result<Pass, All
     })
 }
 
-/// The pass where it is whole or stuck.
-pub(crate) fn whole_pass(
+/// The sorting where it is whole or stuck.
+pub(crate) fn whole_sorting(
     alloc: Global,
     events: &[ChartEvent],
     lines: usize,
-) -> Result<Pass, AllocError>
+) -> Result<Sorting, AllocError>
     requires { AreReady lines events.now }
-    ensures pass { IfOk result (IsPass events.now) }
+    ensures sorting { IfOk result (IsSorting events.now) }
     ensures stuck { IfOk result (λ p. IsStuckBelow events.now p.is_put.items (length events.now)) }
 {
-    let mut pass = begun(alloc, events, lines)?;
+    let mut sorting = begun(alloc, events, lines)?;
     let mut place = 0;
     let mut changed = true;
     while changed {
-        place = follow(events, &mut pass, place)?;
-        changed = sweep(events, &mut pass)?;
+        place = follow(events, &mut sorting, place)?;
+        changed = sweep(events, &mut sorting)?;
     }
-    Ok(pass)
+    Ok(sorting)
 }
 
 /// A linear order of the events that keeps the visual order, or the least event that precedes
@@ -247,13 +247,13 @@ pub(crate) fn linear_order(
     ensures order { IfOk result (λ order. IsLinearOrder events.now order.items) }
     ensures fault { IfErr result (IsCycleOrMemory events.now) }
 {
-    let pass = whole_pass(alloc, events, lines)?;
-    if pass.left == 0 {
-        return Ok(pass.order);
+    let sorting = whole_sorting(alloc, events, lines)?;
+    if sorting.left == 0 {
+        return Ok(sorting.order);
     }
-    // The pass is stuck, so there is such an event.
+    // The sorting is stuck, so there is such an event.
     match least_cyclic(alloc, events, lines)? {
         Some(e) => Err(ChartFault::Cyclic(e as u32)),
-        None => Ok(pass.order),
+        None => Ok(sorting.order),
     }
 }

@@ -10,11 +10,13 @@ pub enum Queues {
     Pair,
     /// A queue for each receiver.
     Mailbox,
+    /// A queue for each message, so that none waits for another.
+    Single,
 }
 
 impl Queues {
     /// Each architecture once.
-    pub const ALL: [Queues; 2] = [Queues::Pair, Queues::Mailbox];
+    pub const ALL: [Queues; 3] = [Queues::Pair, Queues::Mailbox, Queues::Single];
 
     /// The word for the architecture.
     pub fn word(self) -> &'static str
@@ -23,6 +25,7 @@ impl Queues {
         match self {
             Queues::Pair => "pair",
             Queues::Mailbox => "mailbox",
+            Queues::Single => "single",
         }
     }
 

@@ -1,7 +1,7 @@
 use Rattle.std.proofs.Common.{◌≡◌, map, ap, subst, ◌∙◌, arith}
 use Rattle.msc_chart.specs.Charts.{IsLinearOrder}
 use Rattle.msc_chart.specs.Drawings.{chart_events}
-use Rattle.msc_chart.specs.Passes.{IsCycleOrMemory}
+use Rattle.msc_chart.specs.Sortings.{IsCycleOrMemory}
 use Rattle.msc_chart.specs.Views.{end_view, event_view}
 use Rattle.msc_chart.proofs.Stages.{ends_count}
 use Rattle.msc_chart.proofs.Matched.{chart_ready}

@@ -1,5 +1,5 @@
 use Rattle.std.proofs.Common.{map, ap}
-use Rattle.msc_chart.proofs.Rows.{below_coregion_drawn, two_senders_drawn, coregion_drawn, relay_drawn, empty_coregion_events, relay_pair, relay_mailbox, two_senders_pair, coregion_mailbox}
+use Rattle.msc_chart.proofs.Rows.{below_coregion_drawn, two_senders_drawn, coregion_drawn, relay_drawn, empty_coregion_events, relay_pair, relay_mailbox, relay_single, two_senders_pair, coregion_mailbox}
 use Rattle.msc_chart.proofs.EnforcedRows.{two_mailboxes_enforced}
 use Rattle.msc_chart.proofs.laws.worked_charts.Goals as goal
 
@@ -12,6 +12,7 @@ returns c = record {
   segments = ap (map (λ e. e.segment)) empty_coregion_events;
   pair = relay_pair;
   mailbox = relay_mailbox;
+  single = relay_single;
   senders = two_senders_pair;
   one = coregion_mailbox;
   enforced = two_mailboxes_enforced;

@@ -1,5 +1,5 @@
 use Rattle.std.proofs.Common.{arith}
-use Rattle.msc_chart.proofs.PassLemmas.{nothing_put}
+use Rattle.msc_chart.proofs.SortingLemmas.{nothing_put}
 use Rattle.msc_chart.proofs.linear.begun.Goals as goal
 
 pub returns : goal.returns

@@ -1,4 +1,4 @@
-use Rattle.msc_chart.proofs.PassLemmas.{none-next}
+use Rattle.msc_chart.proofs.SortingLemmas.{none-next}
 use Rattle.msc_chart.proofs.ListLemmas.{clash}
 use Rattle.msc_chart.proofs.linear.first_left.Goals as goal
 

@@ -1,4 +1,4 @@
-use Rattle.msc_chart.specs.Passes.{NoneLeftBelow}
+use Rattle.msc_chart.specs.Sortings.{NoneLeftBelow}
 use Rattle.msc_chart.proofs.linear.first_left.Given as goal
 
 abbrev pub invariant-loop-x : goal.invariant-loop-x

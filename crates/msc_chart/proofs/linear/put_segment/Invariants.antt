@@ -1,9 +1,9 @@
 use Rattle.std.proofs.Common.{◌≤◌}
-use Rattle.msc_chart.specs.Passes.{IsPass}
+use Rattle.msc_chart.specs.Sortings.{IsSorting}
 use Rattle.msc_chart.proofs.linear.put_segment.Given as goal
 
 abbrev pub invariant-loop-x : goal.invariant-loop-x
 invariant-loop-x l = record {
-  pass : IsPass l.events l.pass;
-  left : l.pass.left ≤ l.initial.pass.left;
+  sorting : IsSorting l.events l.sorting;
+  left : l.sorting.left ≤ l.initial.sorting.left;
 }

@@ -16,3 +16,7 @@ returns-in-Pair c = search rules
 pub returns-in-Mailbox : goal.returns-in-Mailbox
 unfolding queue_number
 returns-in-Mailbox c = search rules
+
+pub returns-in-Single : goal.returns-in-Single
+unfolding queue_number
+returns-in-Single c = search rules

@@ -1,8 +1,8 @@
--- What the pass that puts the events into a linear order keeps.
+-- What the sorting of the events into a linear order keeps.
 use Rattle.std.specs.Prelude.{◌≡◌, ℕ, ◌+◌, ◌<◌, ◌≤◌, ◌⊎◌, Bool, false, not, List, [], length, get_or, count_by, vec_len, IsTrue}
 use Rattle.msc_chart.specs.declared.TheConstants.{EVENT_LIMIT}
 use Rattle.msc_chart.specs.declared.event.ChartEvent.{ChartEvent}
-use Rattle.msc_chart.specs.declared.linear.Pass.{Pass}
+use Rattle.msc_chart.specs.declared.linear.Sorting.{Sorting}
 use Rattle.msc_chart.specs.declared.fault.ChartFault.{ChartFault}
 use Rattle.msc_chart.specs.declared.fault.ChartFault.TheVariants.{Cyclic, Memory}
 use Rattle.msc_chart.specs.Lists.{occurs, Steps}
@@ -48,7 +48,7 @@ pub record AreReady (lines : ℕ) (events : List ChartEvent) : Type 0 where
   pub on_lines : AreOnLines lines events
 
 -- The marks tell what is in the order, in which whatever precedes an event visibly stands before it.
-pub record IsPassOf (events : List ChartEvent) (order : List ℕ) (marks : List Bool) (first : List ℕ) (left : ℕ) : Type 0 where
+pub record IsSortingOf (events : List ChartEvent) (order : List ℕ) (marks : List Bool) (first : List ℕ) (left : ℕ) : Type 0 where
   pub ready : AreReady (length first) events
   pub marks_len : length marks ≡ length events
   pub marked : (e : ℕ) → e < length events → is_put marks e ≡ occurs order e
@@ -57,8 +57,8 @@ pub record IsPassOf (events : List ChartEvent) (order : List ℕ) (marks : List 
   pub all : length order + left ≡ length events
   pub steps : Steps (Follows events) [] order
 
-abbrev pub IsPass : List ChartEvent → Pass → Type 0
-IsPass events p = IsPassOf events p.order.items p.is_put.items p.first.items p.left × (vec_len p.unopened ≡ vec_len p.first)
+abbrev pub IsSorting : List ChartEvent → Sorting → Type 0
+IsSorting events p = IsSortingOf events p.order.items p.is_put.items p.first.items p.left × (vec_len p.unopened ≡ vec_len p.first)
 
 -- the least event that precedes itself, or want of memory
 abbrev pub IsCycleOrMemory : List ChartEvent → ChartFault → Type 0

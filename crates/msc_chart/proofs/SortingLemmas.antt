@@ -1,4 +1,4 @@
--- The pass that puts the events into a linear order: what may be put next, and what the pass keeps.
+-- The sorting of the events into a linear order: what may be put next, and what is kept.
 use Rattle.std.proofs.Common.{◌≡◌, ℕ, zero, suc, ◌+◌, ◌-◌, ◌<◌, ◌≤◌, ◌⊎◌, Bool, true, false, not, cond, List, [], ◌∷◌, ◌++◌, length, get_or, set, inl, inr, refl, sym, ap, subst, ◌∙◌, arith, get_or-set_other, get_or-set_same, length-set}
 use Rattle.std.specs.Prelude.{count_by}
 use Rattle.std.proofs.Math.ListN.{replicate}
@@ -8,11 +8,11 @@ use Rattle.std.proofs.lemmas.List.Folds.{sum_by-replicate}
 use Rattle.std.proofs.lemmas.List.Sums.{sum_by-set, sum_by-cons}
 use Rattle.msc_chart.specs.declared.event.ChartEvent.{ChartEvent}
 use Rattle.msc_chart.specs.Lists.{occurs, Steps}
-use Rattle.msc_chart.specs.Charts.{line, segment, partner, is_output, is_input, before, Visual, Follows, IsLinearOrder}
+use Rattle.msc_chart.specs.Charts.{line, segment, partner, is_input, is_controlled, before, Visual, Follows, IsLinearOrder}
 use Rattle.msc_chart.specs.Charts.Visual.{seen, passed, linked}
-use Rattle.msc_chart.specs.Passes.{IsDirectly, is_put, NoneLeftBelow, IsLeftOn, IsUnbarred, IsBarred, AreReady, IsPassOf}
+use Rattle.msc_chart.specs.Sortings.{IsDirectly, is_put, NoneLeftBelow, IsLeftOn, IsUnbarred, IsBarred, AreReady, IsSortingOf}
 use Rattle.msc_chart.proofs.ListLemmas.{by_test, clash, occurs-push, occurs_other, occurs_at, until-within, Steps-push, step_at}
-use Rattle.msc_chart.proofs.Drawn.{before_from, before_parts, output_parts, not_both, partner_of_input}
+use Rattle.msc_chart.proofs.Drawn.{before_from, before_parts, output_parts, controlled_no_input, partner_of_output, partner_of_input}
 
 module _ (events : List ChartEvent) (marks : List Bool) where
   -- one event more of a line that was put, or of another line
@@ -52,12 +52,12 @@ module _ (events : List ChartEvent) (marks : List Bool) where
     pub barred_by_first : segment events first < segment events e → IsBarred events marks e
     barred_by_first low = (first, inl (before_from events first e known within is_left.on_line low), is_left.left)
 
-    -- an output in no later segment is open: only what is drawn before it comes directly before it
-    pub output_open : segment events e ≤ segment events first → is_output events e ≡ true → IsUnbarred events marks e
-    output_open low o x (inl h) = drawn_put low x h
-    output_open low o x (inr h) =
-        let i = (ready.matched.other_kind x (output_parts events x h.0).0) in
-        absurd (not_both events x h.0 (sym i ∙ ap (is_output events) h.1 ∙ o))
+    -- a controlled event in no later segment is open: only what is drawn before it comes directly
+    -- before it
+    pub controlled_open : segment events e ≤ segment events first → is_controlled events e ≡ true → IsUnbarred events marks e
+    controlled_open low c x (inl h) = drawn_put low x h
+    controlled_open low c x (inr h) =
+        absurd (controlled_no_input events e c (ap (is_input events) (sym h.1) ∙ partner_of_output events ready.matched x h.0))
 
     -- so is an input, where its output was put too
     pub input_open : segment events e ≤ segment events first → is_put marks (partner events e) ≡ true → IsUnbarred events marks e
@@ -104,7 +104,7 @@ all_put (true ∷ bs) none zero within = refl
 all_put (true ∷ bs) none (suc e) within = all_put bs none e (omega arith)
 all_put (false ∷ bs) none e within = let s = sum_by-cons (λ (b : Bool). cond (not b) 1 0) false bs in absurd (omega arith)
 
-module _ (events : List ChartEvent) (order : List ℕ) (marks : List Bool) (first : List ℕ) (left : ℕ) (kept : IsPassOf events order marks first left) where
+module _ (events : List ChartEvent) (order : List ℕ) (marks : List Bool) (first : List ℕ) (left : ℕ) (kept : IsSortingOf events order marks first left) where
   -- where an event was not put, some are left
   pub some_left : (e : ℕ) → e < length events → is_put marks e ≡ false → 0 < left
   some_left e within out =
@@ -114,7 +114,7 @@ module _ (events : List ChartEvent) (order : List ℕ) (marks : List Bool) (firs
 
   -- an event more is put
   pub pushed : (e : ℕ) → e < length events → is_put marks e ≡ false → IsUnbarred events marks e
-      → IsPassOf events (order ++ e ∷ []) (set marks e true) first (left - 1)
+      → IsSortingOf events (order ++ e ∷ []) (set marks e true) first (left - 1)
   pushed e within out opens =
       let known : e < length marks = let n = kept.marks_len in omega arith in
       let count = count_less marks e left known out kept.left_count in
@@ -165,7 +165,7 @@ zeros_at n i z =
 -- nothing was put yet
 pub nothing_put : (lines : ℕ) (events : List ChartEvent) → AreReady lines events → (order : List ℕ) → order ≡ []
     → (marks : List Bool) → marks ≡ replicate (length events) false → (first : List ℕ) → first ≡ replicate lines 0
-    → IsPassOf events order marks first (length events)
+    → IsSortingOf events order marks first (length events)
 unfolding occurs
 nothing_put lines events ready order none marks ms first fs = record {
   ready = subst (λ (n : ℕ). AreReady n events) (sym (ap length fs ∙ length-replicate lines 0)) ready;
