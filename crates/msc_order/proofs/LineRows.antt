@@ -3,8 +3,8 @@ use Rattle.std.proofs.Common.{◌≡◌, ◌≢◌, ℕ, ◌+◌, ◌<◌, ◌�
 use Rattle.std.proofs.lemmas.Bool.{eqb-true, eq-eqb, ne_eqb, and_parts, and_from, or_cases, or_left, or_right, cases_lt, cases_eq}
 use Rattle.std.proofs.Math.Bool.{or-false}
 use Rattle.msc_chart.specs.declared.event.ChartEvent.{ChartEvent}
-use Rattle.msc_chart.specs.Charts.{partner, is_output, before, ShareSegment}
-use Rattle.msc_chart.proofs.Drawn.{before_from, before_parts}
+use Rattle.msc_chart.specs.Charts.{partner, is_output, is_controlled, before, ShareSegment}
+use Rattle.msc_chart.proofs.Drawn.{before_from, before_parts, output_controlled}
 use Rattle.bit_rows.specs.Tables.{with_row}
 use Rattle.msc_order.specs.Causes.{Led, LedByLine, IsSound, HasRowOf, KeepsOthers, IsBegun, IsNextSegment}
 use Rattle.msc_order.specs.Causes.Led.{led, carried, chained}
@@ -31,7 +31,7 @@ module _ (events : List ChartEvent) (inputs : Bool) where
       let p = before_parts events e f b in
       let q = before_parts events f y c in
       record { first = y; drawn = before_from events e y p.0 q.1 (p.2 ∙ q.2) (omega (arith, p.3, q.3)); led_to = g; onward = inl refl }
-  line_over e f y b (carried o p) = record { first = f; drawn = b; led_to = or_right inputs (is_output events f) o; onward = inr (carried o p) }
+  line_over e f y b (carried o p) = record { first = f; drawn = b; led_to = or_right inputs (is_controlled events f) (output_controlled events f o); onward = inr (carried o p) }
   line_over e f y b (chained {y = m} h k) = line_more e m y (line_over e f m b h) k
 
   -- what the line leads to is led to
@@ -65,7 +65,7 @@ module _ (events : List ChartEvent) (inputs : Bool) where
 
   -- a row that takes in the row of an event that is drawn later stays within what the line leads to
   pub line_taken : (test now last : ℕ → ℕ → Bool) (e f : ℕ) (wanted : Bool) → IsSound (Led events inputs) test → before events e f ≡ true
-      → (wanted ≡ true → (inputs || is_output events f) ≡ true) → f ≢ e → KeepsOthers e test now
+      → (wanted ≡ true → (inputs || is_controlled events f) ≡ true) → f ≢ e → KeepsOthers e test now
       → ((x y : ℕ) → last x y ≡ with_row now e f wanted x y) → ((y : ℕ) → now e y ≡ true → LedByLine events inputs e y)
       → (y : ℕ) → last e y ≡ true → LedByLine events inputs e y
   line_taken test now last e f wanted sound b goal apart others is was y h =
@@ -78,10 +78,10 @@ module _ (events : List ChartEvent) (inputs : Bool) where
       ]
 
   -- the rows of the segment below f are taken in, and that of f too
-  pub taken_more : (start e f : ℕ) (test now last : ℕ → ℕ → Bool) (wanted : Bool) → f ≢ e → wanted ≡ (inputs || is_output events f)
+  pub taken_more : (start e f : ℕ) (test now last : ℕ → ℕ → Bool) (wanted : Bool) → f ≢ e → wanted ≡ (inputs || is_controlled events f)
       → ((x y : ℕ) → last x y ≡ with_row now e f wanted x y) → KeepsOthers e test now
-      → ((g : ℕ) → start ≤ g → g < f → ((inputs || is_output events g) ≡ true → now e g ≡ true) × ((y : ℕ) → test g y ≡ true → now e y ≡ true))
-      → (g : ℕ) → start ≤ g → g < f + 1 → ((inputs || is_output events g) ≡ true → last e g ≡ true) × ((y : ℕ) → test g y ≡ true → last e y ≡ true)
+      → ((g : ℕ) → start ≤ g → g < f → ((inputs || is_controlled events g) ≡ true → now e g ≡ true) × ((y : ℕ) → test g y ≡ true → now e y ≡ true))
+      → (g : ℕ) → start ≤ g → g < f + 1 → ((inputs || is_controlled events g) ≡ true → last e g ≡ true) × ((y : ℕ) → test g y ≡ true → last e y ≡ true)
   taken_more start e f test now last wanted apart goal is others taken g low high =
       elim (cases_lt g f) [
         | inl less ↦
@@ -89,7 +89,7 @@ module _ (events : List ChartEvent) (inputs : Bool) where
             (λ h. is e g ∙ row_kept now e f wanted e g (t.0 h), λ y h. is e y ∙ row_kept now e f wanted e y (t.1 y h))
         | inr more ↦
             let same : g ≡ f = omega (arith, high, more) in (
-              λ h. subst (λ (z : ℕ). last e z ≡ true) (sym same) (is e f ∙ row_there now e f wanted (goal ∙ subst (λ (z : ℕ). (inputs || is_output events z) ≡ true) same h)),
+              λ h. subst (λ (z : ℕ). last e z ≡ true) (sym same) (is e f ∙ row_there now e f wanted (goal ∙ subst (λ (z : ℕ). (inputs || is_controlled events z) ≡ true) same h)),
               λ y h. is e y ∙ row_after now e f wanted y (others f y apart ∙ subst (λ (z : ℕ). test z y ≡ true) same h),
             )
       ]
@@ -97,7 +97,7 @@ module _ (events : List ChartEvent) (inputs : Bool) where
   -- a row that has taken in the rows of the next segment has all that the line leads to
   pub line_row : (test now : ℕ → ℕ → Bool) (e start end : ℕ) → IsNextSegment events e start end
       → ((f : ℕ) → before events e f ≡ true → HasRowOf (Led events inputs) test f)
-      → ((g : ℕ) → start ≤ g → g < end → ((inputs || is_output events g) ≡ true → now e g ≡ true) × ((y : ℕ) → test g y ≡ true → now e y ≡ true))
+      → ((g : ℕ) → start ≤ g → g < end → ((inputs || is_controlled events g) ≡ true → now e g ≡ true) × ((y : ℕ) → test g y ≡ true → now e y ≡ true))
       → HasRowOf (LedByLine events inputs) now e
   line_row test now e start end segment later taken y l =
       let n = segment.next l.first l.drawn in

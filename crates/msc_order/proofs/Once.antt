@@ -3,7 +3,7 @@ use Rattle.std.proofs.Common.{◌≡◌, ℕ, true, ◌⊎◌, inl, inr, refl, s
 use Rattle.msc_chart.specs.Charts.{partner, is_input}
 use Rattle.msc_chart.specs.Orders.{WiredChart, queue, IsWired, Enforced}
 use Rattle.msc_chart.specs.Orders.Enforced.{drawn, sent, joined, queued}
-use Rattle.msc_chart.proofs.Drawn.{output_parts, input_parts, not_both, partner_of_output, partner_of_input}
+use Rattle.msc_chart.proofs.Drawn.{output_parts, input_parts, not_both, controlled_no_input, partner_of_output, partner_of_input}
 use Rattle.msc_order.specs.Causes.{Caused, InQueueOrder}
 use Rattle.msc_order.specs.Causes.Led.{led, carried, chained}
 
@@ -23,7 +23,7 @@ queue_enforced chart wired r u h =
 
 -- an input is entered only from its own output
 pub enters : (chart : WiredChart) → IsWired chart → (x r : ℕ) → Caused chart.events x r → is_input chart.events r ≡ true → (x ≡ partner chart.events r) ⊎ Caused chart.events x (partner chart.events r)
-enters chart wired x r (led b o) input = absurd (not_both chart.events r o input)
+enters chart wired x r (led b o) input = absurd (controlled_no_input chart.events r o input)
 enters chart wired x r (carried o p) input = inl (sym (subst (λ (z : ℕ). partner chart.events z ≡ x) p (wired.matched.to_and_fro x ((output_parts chart.events x o).0))))
 enters chart wired x r (chained {y = m} h k) input =
     elim (enters chart wired m r k input) [

@@ -3,14 +3,14 @@
 use Rattle.std.specs.Prelude.{◌≡◌, ◌≢◌, ℕ, ◌<◌, ◌≤◌, Bool, false, ◌||◌, ◌⊎◌, List, length, take, IsTrue}
 use Rattle.msc_chart.specs.declared.event.ChartEvent.{ChartEvent}
 use Rattle.msc_chart.specs.Lists.{occurs}
-use Rattle.msc_chart.specs.Charts.{partner, is_output, is_input, before}
+use Rattle.msc_chart.specs.Charts.{partner, is_output, is_input, is_controlled, before}
 use Rattle.msc_chart.specs.Orders.{WiredChart, queue, Enforced}
 use Rattle.bit_rows.specs.Tables.{cell}
 
 -- The least transitive relation that puts each output before its input, and what is drawn before an
--- event before it: where `inputs` says so before each event, otherwise before each output.
+-- event before it: where `inputs` says so before each event, otherwise before each controlled one.
 pub data Led (events : List ChartEvent) (inputs : Bool) : ℕ → ℕ → Type 0 where
-  led : {x y : ℕ} → IsTrue (before events x y) → IsTrue (inputs || is_output events y) → Led events inputs x y
+  led : {x y : ℕ} → IsTrue (before events x y) → IsTrue (inputs || is_controlled events y) → Led events inputs x y
   carried : {s r : ℕ} → IsTrue (is_output events s) → partner events s ≡ r → Led events inputs s r
   chained : {x y z : ℕ} → Led events inputs x y → Led events inputs y z → Led events inputs x z
 
@@ -23,7 +23,7 @@ Caused events = Led events false
 pub record LedByLine (events : List ChartEvent) (inputs : Bool) (e y : ℕ) : Type 0 where
   pub first : ℕ
   pub drawn : IsTrue (before events e first)
-  pub led_to : IsTrue (inputs || is_output events first)
+  pub led_to : IsTrue (inputs || is_controlled events first)
   pub onward : (first ≡ y) ⊎ Led events inputs first y
 
 -- the numbers from start up to end are the events of the next segment after that of e on its line

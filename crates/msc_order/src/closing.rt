@@ -7,7 +7,7 @@
 
 ghost use Rattle.std.specs.Prelude.{◌≡◌, ℕ, ◌*◌, ◌<◌, ◌||◌, ◌&&◌, ◌↔◌, length, nat_eq};
 ghost use Rattle.std.specs.Prelude.{IsTrue, OnOk, false};
-ghost use Rattle.msc_chart.specs.Charts.{before, is_output, Visual};
+ghost use Rattle.msc_chart.specs.Charts.{before, is_controlled, Visual};
 ghost use Rattle.bit_rows.specs.Rows.{word_count};
 ghost use Rattle.bit_rows.specs.Tables.{cell, HasRow};
 ghost use Rattle.msc_order.specs.Causes.{Led, LedByLine, IsNextSegment, IsSound, IsTestOf};
@@ -21,9 +21,9 @@ use std::alloc::{AllocError, Global};
 /// Whether what is drawn before `f` leads to it.
 fn leads(chart: &Chart, inputs: bool, f: Event) -> bool
     requires { f < length chart.now.events }
-    ensures { result ≡ (inputs || is_output chart.now.events f) }
+    ensures { result ≡ (inputs || is_controlled chart.now.events f) }
 {
-    inputs || chart.is_output(f)
+    inputs || chart.is_controlled(f)
 }
 
 /// The row of `e`, a blank one, takes in what the line leads to from `e`, where the events from
@@ -135,8 +135,8 @@ fn add_rows(words: &mut [u64], begun: &mut [u64], chart: &Chart, inputs: bool)
 }
 
 /// Closes a blank table under the rules of lines and messages: what is drawn before an event comes
-/// before it, where `inputs` says so before each event, otherwise before each output; and an output
-/// comes before its input.
+/// before it, where `inputs` says so before each event, otherwise before each controlled one; and an
+/// output comes before its input.
 pub fn close(
     alloc: Global,
     words: &mut [u64],

@@ -101,7 +101,7 @@ fn add_queue_of(words: &mut [u64], masks: &mut [u64], left: &mut [u64], wiring: 
 /// Adds the rule of queues to the caused order.
 fn add_queues(words: &mut [u64], masks: &mut [u64], left: &mut [u64], wiring: &Wiring)
     requires square { length words.old ≡ size wiring.now * word_count (size wiring.now) }
-    requires masks { (e : ℕ) → e < size wiring.now → HasRow (size wiring.now) masks.old (queue (wired_by wiring.now) e) }
+    requires masks { (e : ℕ) → IsTrue (is_output wiring.now.chart.now.events e) → HasRow (size wiring.now) masks.old (queue (wired_by wiring.now) e) }
     requires row { length left.old ≡ word_count (size wiring.now) }
     requires blank { (x y : ℕ) → cell (size wiring.now) masks.old x y ≡ false }
     requires caused { IsTestOf (Caused wiring.now.chart.now.events) (cell (size wiring.now) words.old) }

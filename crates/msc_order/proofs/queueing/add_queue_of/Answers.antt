@@ -1,6 +1,6 @@
 use Rattle.std.proofs.Common.{ℕ, refl}
 use Rattle.msc_chart.specs.Orders.{queue}
-use Rattle.msc_chart.proofs.Drawn.{output_parts}
+use Rattle.msc_chart.proofs.Drawn.{output_parts, output_not_local}
 use Rattle.msc_chart.specs.Wirings.{size, wired_by}
 use Rattle.bit_rows.specs.Tables.{cell}
 use Rattle.bit_rows.specs.Rows.{has}
@@ -9,7 +9,10 @@ use Rattle.msc_order.proofs.Between.{left_first, seen_next}
 use Rattle.msc_order.proofs.queueing.add_queue_of.Goals as goal
 
 pub queue-q-requires : goal.queue-q-requires
-queue-q-requires c = (output_parts c.args.wiring.now.chart.now.events c.args.s c.requires.output).0
+queue-q-requires c = record {
+  known = (output_parts c.args.wiring.now.chart.now.events c.args.s c.requires.output).0;
+  message = output_not_local c.args.wiring.now.chart.now.events c.args.s c.requires.output;
+}
 
 pub common-requires-clause-row : goal.common-requires-clause-row
 common-requires-clause-row c =

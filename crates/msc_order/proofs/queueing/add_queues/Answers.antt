@@ -30,7 +30,7 @@ pub add_queue_of-requires-clause-masks : goal.add_queue_of-requires-clause-masks
 add_queue_of-requires-clause-masks c =
     let order = c.linear_order-order.result.now in
     let s : ℕ = get_or order (length order - 1 - c.loop-done.done) 0 in
-    let row = c.requires.masks s (at_place c.args.wiring.now.chart.now.events order c.linear_order-order.ensures (length order - 1 - c.loop-done.done) (omega arith)).event in
+    let row = c.requires.masks s (sym c.is_output.ensures ∙ c.if-is_output.true) in
     let same = c.loop-done.auto.masks in
     omega (arith, row, same)
 
