@@ -2,7 +2,7 @@
 use Rattle.std.specs.Prelude.{◌≡◌, ℕ, ◌<◌, ◌≤◌, false, ◌↔◌, List, length, get_or, IsTrue}
 use Rattle.msc_chart.specs.declared.event.ChartEvent.{ChartEvent}
 use Rattle.msc_chart.specs.Drawings.{Drawing}
-use Rattle.msc_chart.specs.Charts.{line, is_output, before}
+use Rattle.msc_chart.specs.Charts.{line, is_controlled, before}
 use Rattle.msc_race.specs.declared.lines.Lines.{Lines}
 use Rattle.bit_rows.specs.Rows.{has}
 use Rattle.msc_race.specs.Rows.{IsRow}
@@ -14,20 +14,20 @@ pub record IsFront (events : List ChartEvent) (left : List ℕ) (i f : ℕ) : Ty
   pub itself : f < length events → line events f ≡ i → IsTrue (has left f)
   pub reach : (y : ℕ) → f ≤ y → y < length events → line events y ≡ i → line events f ≡ i
 
--- an output that is left, while nothing is left that is drawn before it
-pub record IsOpenOutput (events : List ChartEvent) (left : List ℕ) (s : ℕ) : Type 0 where
-  pub output : IsTrue (is_output events s)
+-- a controlled event that is left, while nothing is left that is drawn before it
+pub record IsOpenControlled (events : List ChartEvent) (left : List ℕ) (s : ℕ) : Type 0 where
+  pub controlled : IsTrue (is_controlled events s)
   pub remains : IsTrue (has left s)
   pub ready : (x : ℕ) → IsTrue (before events x s) → has left x ≡ false
 
--- the events that are left, the front of each line, and the outputs that are open
+-- the events that are left, the front of each line, and the controlled that are open
 pub record AreLines (instances : ℕ) (events : List ChartEvent) (lefts firsts opens : List ℕ) : Type 0 where
   pub left_row : IsRow (length events) lefts
-  pub outputs_row : IsRow (length events) opens
+  pub controlled_row : IsRow (length events) opens
   pub known : (y : ℕ) → IsTrue (has lefts y) → y < length events
   pub lines : length firsts ≡ instances
   pub fronts : (i : ℕ) → i < instances → IsFront events lefts i (get_or firsts i 0)
-  pub outputs : (y : ℕ) → IsTrue (has opens y) ↔ IsOpenOutput events lefts y
+  pub controlled : (y : ℕ) → IsTrue (has opens y) ↔ IsOpenControlled events lefts y
 
 -- f is the first event of line i from start on, or the number of events
 pub record IsLowest (events : List ChartEvent) (start i f : ℕ) : Type 0 where
@@ -38,26 +38,26 @@ pub record IsLowest (events : List ChartEvent) (start i f : ℕ) : Type 0 where
 -- the events from start on are left, and each front is the first of them on its line
 pub record AreLinesFrom (instances : ℕ) (events : List ChartEvent) (lefts firsts opens : List ℕ) (start : ℕ) : Type 0 where
   pub left_row : IsRow (length events) lefts
-  pub outputs_row : IsRow (length events) opens
+  pub controlled_row : IsRow (length events) opens
   pub left : (y : ℕ) → IsTrue (has lefts y) ↔ ((start ≤ y) × (y < length events))
   pub lines : length firsts ≡ instances
   pub fronts : (i : ℕ) → i < instances → IsLowest events start i (get_or firsts i 0)
-  pub outputs : (y : ℕ) → has opens y ≡ false
+  pub controlled : (y : ℕ) → has opens y ≡ false
 
 -- all events are left, and what is open below k is told
 pub record AreLinesTo (instances : ℕ) (events : List ChartEvent) (lefts firsts opens : List ℕ) (k : ℕ) : Type 0 where
   pub left_row : IsRow (length events) lefts
-  pub outputs_row : IsRow (length events) opens
+  pub controlled_row : IsRow (length events) opens
   pub left : (y : ℕ) → IsTrue (has lefts y) ↔ (y < length events)
   pub lines : length firsts ≡ instances
   pub fronts : (i : ℕ) → i < instances → IsLowest events 0 i (get_or firsts i 0)
-  pub outputs : (y : ℕ) → IsTrue (has opens y) ↔ (IsOpenOutput events lefts y × (y < k))
+  pub controlled : (y : ℕ) → IsTrue (has opens y) ↔ (IsOpenControlled events lefts y × (y < k))
 
--- an output that is left in the segment of f, from f on and before end
+-- a controlled event that is left in the segment of f, from f on and before end
 pub record IsOpened (events : List ChartEvent) (left : List ℕ) (f end s : ℕ) : Type 0 where
   pub later : f ≤ s
   pub within : s < end
-  pub output : IsTrue (is_output events s)
+  pub controlled : IsTrue (is_controlled events s)
   pub remains : IsTrue (has left s)
 
 -- f is the first number from start on that is left or not on line i
@@ -69,13 +69,13 @@ pub record IsNextLeft (events : List ChartEvent) (left : List ℕ) (i start f : 
 
 -- the lines of a chart, as the code holds them
 abbrev pub HoldsLines : Drawing → Lines → Type 0
-HoldsLines d l = AreLines (length d.instances) d.events l.left.items l.fronts.items l.outputs.items
+HoldsLines d l = AreLines (length d.instances) d.events l.left.items l.fronts.items l.controlled.items
 
 -- the lines of a chart while they are made, from the last event back
 abbrev pub HoldsLinesFrom : Drawing → Lines → ℕ → Type 0
 HoldsLinesFrom d l start =
-    AreLinesFrom (length d.instances) d.events l.left.items l.fronts.items l.outputs.items start
+    AreLinesFrom (length d.instances) d.events l.left.items l.fronts.items l.controlled.items start
 
--- and while the outputs are opened
+-- and while the controlled are opened
 abbrev pub HoldsLinesTo : Drawing → Lines → ℕ → Type 0
-HoldsLinesTo d l k = AreLinesTo (length d.instances) d.events l.left.items l.fronts.items l.outputs.items k
+HoldsLinesTo d l k = AreLinesTo (length d.instances) d.events l.left.items l.fronts.items l.controlled.items k

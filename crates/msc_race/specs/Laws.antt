@@ -1,4 +1,4 @@
--- Laws of the runs of an accepted chart, under either architecture.
+-- Laws of the runs of an accepted chart, under each architecture.
 use Rattle.std.specs.Prelude.{◌≡◌, ◌≢◌, ℕ, ◌<◌, ◌⊎◌, ◌↔◌, List, [], ◌∷◌, ◌++◌, length, IsTrue}
 use Rattle.msc_chart.specs.declared.queue.Queues.{Queues}
 use Rattle.msc_chart.specs.Lists.{occurs, until, Steps}

@@ -1,7 +1,7 @@
 -- The queues of a run as linked lists.
-use Rattle.std.specs.Prelude.{◌≡◌, ℕ, ◌<◌, ◌↔◌, List, [], ◌∷◌, length, get_or, IsTrue}
+use Rattle.std.specs.Prelude.{◌≡◌, ℕ, ◌<◌, false, ◌↔◌, List, [], ◌∷◌, length, get_or, IsTrue}
 use Rattle.msc_chart.specs.Lists.{IsFirst}
-use Rattle.msc_chart.specs.Charts.{partner, is_input}
+use Rattle.msc_chart.specs.Charts.{partner, is_input, is_local}
 use Rattle.msc_chart.specs.Orders.{WiredChart, queue}
 use Rattle.msc_chart.specs.Runs.{state}
 use Rattle.msc_race.specs.declared.queued_run.QueuedRun.{QueuedRun}
@@ -26,7 +26,7 @@ pub record IsArrived (chart : WiredChart) (queues : ℕ → List ℕ) (y : ℕ) 
 -- what is in the queues, and the inputs whose messages are first
 pub record AreQueues (chart : WiredChart) (queues : ℕ → List ℕ) (firsts ends links opens : List ℕ) : Type 0 where
   pub inputs_row : IsRow (length chart.events) opens
-  pub heads : (e : ℕ) → e < length chart.events → queue chart e < length firsts
+  pub heads : (e : ℕ) → e < length chart.events → is_local chart.events e ≡ false → queue chart e < length firsts
   pub lasts : length ends ≡ length firsts
   pub next : length links ≡ length chart.events
   pub linked : (q : ℕ) → q < length firsts

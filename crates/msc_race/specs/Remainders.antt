@@ -1,5 +1,6 @@
 -- The events that the choice of the next one depends on, as rows of bits.
 use Rattle.std.specs.Prelude.{◌≡◌, ℕ, ◌<◌, ◌↔◌, List, IsTrue}
+use Rattle.msc_chart.specs.Charts.{is_input}
 use Rattle.msc_chart.specs.Orders.{WiredChart, queue}
 use Rattle.msc_chart.specs.Chosen.{IsFree, IsHeld, IsPassedOn}
 use Rattle.msc_race.specs.declared.choosing.Choice.{Choice}
@@ -16,9 +17,11 @@ HoldsBelow row P k = (y : ℕ) → IsTrue (has row y) ↔ (P y × (y < k))
 abbrev pub IsUnheld : WiredChart → ℕ → ℕ → Type 0
 IsUnheld chart e x = IsFree chart e x × (IsHeld chart e x → ⊥)
 
--- an output to the queue of e that is passed on
+-- Where e is an input: an output to the queue of e that is passed on. Only such an e leaves held
+-- outputs, and all of these are in its queue.
 abbrev pub IsPassedOnWith : WiredChart → ℕ → ℕ → Type 0
-IsPassedOnWith chart e x = IsPassedOn chart e x × (queue chart x ≡ queue chart e)
+IsPassedOnWith chart e x =
+    IsPassedOn chart e x × IsTrue (is_input chart.events e) × (queue chart x ≡ queue chart e)
 
 -- The rows hold, of the events below k, those that are free, those that are not held, and those that
 -- are passed on with e.

@@ -57,16 +57,16 @@ impl Beginning {
         a_chosen_run_goes_on();
         no_run_is_stuck();
         ends_share_queues();
-        let outputs = &self.lines.outputs;
+        let controlled = &self.lines.controlled;
         let inputs = &self.queued.inputs;
         if !self.remaining.has_free() {
-            return lowest(outputs, inputs, &self.lines.left, 0);
+            return lowest(controlled, inputs, &self.lines.left, 0);
         }
         let from = self.remaining.free_from;
         if self.remaining.has_passed() {
-            return lowest(outputs, inputs, &self.remaining.unheld, from);
+            return lowest(controlled, inputs, &self.remaining.unheld, from);
         }
-        lowest(outputs, inputs, &self.remaining.free, from)
+        lowest(controlled, inputs, &self.remaining.free, from)
     }
 
     /// `x` comes next.

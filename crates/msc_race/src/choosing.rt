@@ -62,12 +62,15 @@ impl Choice<'_> {
         !self.is_held(x)
     }
 
-    /// Whether `x` is an output to the queue of `e` that is passed on.
+    /// Whether `e` is an input, and `x` is an output to its queue that is passed on.
     pub fn is_passed_on_with(&self, x: Event) -> bool
         requires settled { IsSettled self.now }
         requires known { x < size self.now }
         ensures { IsTrue result ↔ IsPassedOnWith (wired_chart self.now) self.now.e x }
     {
+        if self.wiring.chart.is_controlled(self.e) {
+            return false;
+        }
         if !self.is_passed_on(x) {
             return false;
         }

@@ -4,7 +4,7 @@
 
 ghost use Rattle.std.specs.Prelude.{[], ◌∷◌};
 ghost use Rattle.msc_chart.specs.declared.queue.Queues.{Queues};
-ghost use Rattle.msc_chart.specs.declared.queue.Queues.TheVariants.{Mailbox, Pair};
+ghost use Rattle.msc_chart.specs.declared.queue.Queues.TheVariants.{Mailbox, Pair, Single};
 ghost use Rattle.msc_chart.specs.Orders.{Enforced};
 ghost use Rattle.msc_chart.specs.Runs.{Run};
 ghost use Rattle.msc_race.specs.Laws.{AChosenRunExists, ChosenRunsAreUnique, ChosenRunsAreWhole};
@@ -104,10 +104,11 @@ pub fn worked_races()
     ensures two_senders_mailbox { AreRaces (senders Mailbox) ((1, 2) ∷ []) }
     ensures coregion { (queues : Queues) → AreRaces (unordered queues) [] }
     ensures relay_pair { AreRaces (relayed Pair) ((2, 3) ∷ []) }
+    ensures relay_single { AreRaces (relayed Single) ((2, 3) ∷ []) }
     ensures relay_mailbox { AreRaces (relayed Mailbox) [] }
     ensures relay_enforced { Enforced (relayed Mailbox) 2 3 }
     ensures overtaking { (queues : Queues) → AreRaces (overtaken queues) ((2, 3) ∷ []) }
-    ensures overtaking_enforced { (queues : Queues) → Enforced (overtaken queues) 3 2 }
+    ensures overtaking_enforced { Enforced (overtaken Pair) 3 2 × Enforced (overtaken Mailbox) 3 2 }
     ensures crossing { (queues : Queues) → AreRaces (crossed queues) ((0, 1) ∷ (2, 3) ∷ []) }
     ensures mailboxes { AreRaces mailboxes ((4, 5) ∷ (6, 7) ∷ []) }
 {}

@@ -1,7 +1,7 @@
-//! How far the lines of a chart have come in a run, and so which outputs may come next.
+//! How far the lines of a chart have come in a run, and so which controlled events may come next.
 
 ghost use Rattle.std.specs.Prelude.{◌≡◌, ℕ, ◌+◌, ◌<◌, ◌≤◌, ◌↔◌, ◌⊎◌, false, length, IfOk, IsTrue};
-ghost use Rattle.msc_chart.specs.Charts.{before, is_output, line};
+ghost use Rattle.msc_chart.specs.Charts.{before, is_controlled, line};
 ghost use Rattle.bit_rows.specs.Rows.{has, IsWithout};
 ghost use Rattle.msc_race.specs.Rows.{IsRow};
 ghost use Rattle.msc_race.specs.Choices.{size, IsSettled};
@@ -14,13 +14,13 @@ use bit_rows::row::{clear, has, put_where};
 use msc_chart::Event;
 use std::alloc::{AllocError, Global};
 
-/// The events that have not occurred, the first of them on each line, and the outputs that may come
-/// next: those before which nothing that has not occurred is drawn.
+/// The events that have not occurred, the first of them on each line, and the controlled events that
+/// may come next: those before which nothing that has not occurred is drawn.
 #[derive(Drop)]
 pub struct Lines {
     pub left: Vec<u64>,
     pub fronts: Vec<Event>,
-    pub outputs: Vec<u64>,
+    pub controlled: Vec<u64>,
 }
 
 /// Whether event `f` is there, and on line `i`.
@@ -51,8 +51,8 @@ fn next_left(choice: &Choice, left: &[u64], i: u32, start: Event) -> Event
     events
 }
 
-/// Opens the outputs that are left from `f` up to `end`.
-fn open_outputs(row: &mut [u64], choice: &Choice, left: &[u64], f: Event, end: Event)
+/// Opens the controlled that are left from `f` up to `end`.
+fn open_controlled(row: &mut [u64], choice: &Choice, left: &[u64], f: Event, end: Event)
     requires row { IsRow (size choice.now) row.old }
     requires left_row { IsRow (size choice.now) left.now }
     requires within { end ≤ size choice.now }
@@ -61,19 +61,19 @@ fn open_outputs(row: &mut [u64], choice: &Choice, left: &[u64], f: Event, end: E
         ↔ (IsTrue (has row.old y) ⊎ IsOpened choice.now.wiring.chart.now.events left.now f end y) }
 {
     for y in f..end {
-        put_where(row, y, choice.wiring.chart.is_output(y) && has(left, y));
+        put_where(row, y, choice.wiring.chart.is_controlled(y) && has(left, y));
     }
 }
 
-/// Whether `x` is an output, and `front` is not drawn before it.
+/// Whether `x` is controlled, and `front` is not drawn before it.
 fn is_first(choice: &Choice, front: Event, x: Event) -> bool
     requires front { front < size choice.now }
     requires known { x < size choice.now }
     ensures { IsTrue result
-        ↔ (IsTrue (is_output choice.now.wiring.chart.now.events x)
+        ↔ (IsTrue (is_controlled choice.now.wiring.chart.now.events x)
         × (before choice.now.wiring.chart.now.events front x ≡ false)) }
 {
-    if !choice.wiring.chart.is_output(x) {
+    if !choice.wiring.chart.is_controlled(x) {
         return false;
     }
     !choice.wiring.chart.before(front, x)
@@ -89,7 +89,7 @@ impl Lines {
         Ok(Lines {
             left: blank(alloc, events)?,
             fronts: vec![in alloc; events; choice.wiring.chart.instances() as usize]?,
-            outputs: blank(alloc, events)?,
+            controlled: blank(alloc, events)?,
         })
     }
 
@@ -104,7 +104,7 @@ impl Lines {
         self.fronts[choice.wiring.chart.instance_of(x) as usize] = x;
     }
 
-    /// Opens `x`, where it is an output and nothing is drawn before it.
+    /// Opens `x`, where it is controlled and nothing is drawn before it.
     fn open_first(&mut self, choice: &Choice, x: Event)
         requires settled { IsSettled choice.now }
         requires known { x < size choice.now }
@@ -112,7 +112,7 @@ impl Lines {
         ensures { HoldsLinesTo choice.now.wiring.chart.now self.new (x + 1) }
     {
         let front = self.fronts[choice.wiring.chart.instance_of(x) as usize];
-        put_where(&mut self.outputs, x, is_first(choice, front, x));
+        put_where(&mut self.controlled, x, is_first(choice, front, x));
     }
 
     /// The lines before any event has occurred.
@@ -144,7 +144,7 @@ impl Lines {
         let i = choice.wiring.chart.instance_of(x);
         let start = self.fronts[i as usize];
         clear(&mut self.left, x);
-        clear(&mut self.outputs, x);
+        clear(&mut self.controlled, x);
         let front = next_left(choice, &self.left, i, start);
         self.fronts[i as usize] = front;
         if !is_on(choice, front, i) {
@@ -152,7 +152,7 @@ impl Lines {
         }
         if choice.wiring.chart.before(start, front) {
             let end = choice.wiring.chart.segment_end(front);
-            open_outputs(&mut self.outputs, choice, &self.left, front, end);
+            open_controlled(&mut self.controlled, choice, &self.left, front, end);
         }
     }
 }

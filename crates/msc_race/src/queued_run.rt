@@ -2,7 +2,7 @@
 
 ghost use Rattle.std.specs.Prelude.{◌≡◌, ℕ, ◌<◌, ◌≤◌, false, [], ◌∷◌, ◌++◌, length, IfOk, OnOk};
 ghost use Rattle.std.specs.Prelude.{IsTrue};
-ghost use Rattle.msc_chart.specs.Charts.{is_output};
+ghost use Rattle.msc_chart.specs.Charts.{is_input, is_output};
 ghost use Rattle.msc_chart.specs.Orders.{queue};
 ghost use Rattle.msc_chart.specs.Runs.{MayCome, Run};
 ghost use Rattle.msc_race.specs.QueuedRuns.{HoldsQueues};
@@ -80,7 +80,7 @@ impl QueuedRun {
         requires queues { HoldsQueues (wired_chart choice.now) self.old.run.items self.old }
         requires run { Run (wired_chart choice.now) self.old.run.items }
         requires may { MayCome (wired_chart choice.now) self.old.run.items x }
-        requires input { is_output choice.now.wiring.chart.now.events x ≡ false }
+        requires input { IsTrue (is_input choice.now.wiring.chart.now.events x) }
         ensures queues { HoldsQueues (wired_chart choice.now) (self.old.run.items ++ x ∷ []) self.new }
         ensures run { self.new.run ≡ self.old.run }
     {
@@ -102,6 +102,24 @@ impl QueuedRun {
         }
     }
 
+    /// The queues change with `x`: an output's message is put, an input's is taken.
+    fn change(&mut self, choice: &Choice, x: Event)
+        requires settled { IsSettled choice.now }
+        requires queues { HoldsQueues (wired_chart choice.now) self.old.run.items self.old }
+        requires run { Run (wired_chart choice.now) self.old.run.items }
+        requires may { MayCome (wired_chart choice.now) self.old.run.items x }
+        ensures queues { HoldsQueues (wired_chart choice.now) (self.old.run.items ++ x ∷ []) self.new }
+        ensures run { self.new.run ≡ self.old.run }
+    {
+        ends_share_queues();
+        if choice.wiring.chart.is_output(x) {
+            return self.send(choice, x);
+        }
+        if !choice.wiring.chart.is_local(x) {
+            self.take(choice, x);
+        }
+    }
+
     /// `x` occurs.
     pub fn occur(&mut self, choice: &Choice, x: Event) -> Result<(), AllocError>
         requires settled { IsSettled choice.now }
@@ -112,11 +130,7 @@ impl QueuedRun {
             (HoldsQueues (wired_chart choice.now) self.new.run.items self.new) }
         ensures run { OnOk result (self.new.run.items ≡ self.old.run.items ++ x ∷ []) }
     {
-        if choice.wiring.chart.is_output(x) {
-            self.send(choice, x);
-        } else {
-            self.take(choice, x);
-        }
+        self.change(choice, x);
         self.run.push(x)?;
         Ok(())
     }

@@ -10,11 +10,11 @@ use Rattle.msc_chart.proofs.ListLemmas.{occurs_other}
 use Rattle.bit_rows.specs.Rows.{has, IsWithout}
 use Rattle.msc_race.specs.Rows.{is_masked}
 use Rattle.msc_race.specs.Remainders.{HoldsBelow, IsUnheld, IsPassedOnWith}
-use Rattle.msc_race.specs.Fronts.{IsOpenOutput}
+use Rattle.msc_race.specs.Fronts.{IsOpenControlled}
 use Rattle.msc_race.specs.QueuedRuns.{IsArrived}
 use Rattle.msc_race.specs.Beginnings.{HoldsLeft}
 use Rattle.msc_race.proofs.Shared.{by_test, clash, occurs-push, first_occurs}
-use Rattle.msc_race.proofs.Runs.EventLemmas.{output_below, input_below, output_or_input, not_both, before_parts}
+use Rattle.msc_race.proofs.Runs.EventLemmas.{input_below, controlled_parts, controlled_or_input, controlled_no_input, before_parts}
 use Rattle.msc_race.proofs.Runs.QueueLemmas.{waiting_parts}
 use Rattle.msc_race.proofs.Making.FrontLemmas.{still_in, was_in}
 use Rattle.msc_race.proofs.Runs.FreeRuns.{test_of_held}
@@ -47,18 +47,18 @@ left_after old new P past x held without y = (
 pub least_same : (P Q : ℕ → Type 0) → ((y : ℕ) → P y ↔ Q y) → (x : ℕ) → IsLeast P x → IsLeast Q x
 least_same P Q same x h = record { itself = (same x).0 h.itself; none_below = λ y less q. h.none_below y less ((same y).1 q) }
 
-module _ (chart : WiredChart) (is_wired : IsWired chart) (past left outputs inputs : List ℕ)
+module _ (chart : WiredChart) (is_wired : IsWired chart) (past left controlled inputs : List ℕ)
     (held : HoldsLeft left (λ y. y < length chart.events) past)
-    (opens : (y : ℕ) → (has outputs y ≡ true) ↔ IsOpenOutput chart.events left y)
+    (opens : (y : ℕ) → (has controlled y ≡ true) ↔ IsOpenControlled chart.events left y)
     (arrived : (y : ℕ) → (has inputs y ≡ true) ↔ IsArrived chart (λ q. state chart q past) y) where
-  -- an open output may come next
-  output_may : (y : ℕ) → IsOpenOutput chart.events left y → MayCome chart past y
-  output_may y o = record {
-    event = output_below chart.events y o.output;
+  -- an open controlled event may come next
+  controlled_may : (y : ℕ) → IsOpenControlled chart.events left y → MayCome chart past y
+  controlled_may y o = record {
+    event = (controlled_parts chart.events y o.controlled).0;
     new = ((held y).0 o.remains).1;
-    output = λ again x drawn. by_test (occurs past x) (λ there. there)
+    controlled = λ again x drawn. by_test (occurs past x) (λ there. there)
         (λ out. clash ((held x).1 ((before_parts chart.events x y drawn).0, out)) (o.ready x drawn));
-    input = λ i. absurd (not_both chart.events y o.output i);
+    input = λ i. absurd (controlled_no_input chart.events y o.controlled i);
   }
 
   -- so may an input whose message is the first of its queue
@@ -71,32 +71,32 @@ module _ (chart : WiredChart) (is_wired : IsWired chart) (past left outputs inpu
       record {
         event = below;
         new = subst (λ (z : ℕ). occurs past z ≡ false) (is_wired.matched.to_and_fro y below) out;
-        output = λ o. absurd (not_both chart.events y o a.input);
+        controlled = λ o. absurd (controlled_no_input chart.events y o a.input);
         input = λ again. a.first;
       }
 
   -- and nothing else may
-  may_rows : (y : ℕ) → MayCome chart past y → (has outputs y || has inputs y) ≡ true
+  may_rows : (y : ℕ) → MayCome chart past y → (has controlled y || has inputs y) ≡ true
   may_rows y may =
-      elim (output_or_input chart.events y may.event) [
-        | inl o ↦ or_left (has outputs y) (has inputs y) ((opens y).1 (record {
-          output = o;
+      elim (controlled_or_input chart.events y may.event) [
+        | inl o ↦ or_left (has controlled y) (has inputs y) ((opens y).1 (record {
+          controlled = o;
           remains = (held y).1 (may.event, may.new);
-          ready = λ x drawn. by_test (has left x) (λ there. clash (may.output o x drawn) ((held x).0 there).1) (λ out. out);
+          ready = λ x drawn. by_test (has left x) (λ there. clash (may.controlled o x drawn) ((held x).0 there).1) (λ out. out);
         }))
-        | inr i ↦ or_right (has outputs y) (has inputs y) ((arrived y).1 (record { input = i; first = may.input i }))
+        | inr i ↦ or_right (has controlled y) (has inputs y) ((arrived y).1 (record { input = i; first = may.input i }))
       ]
 
   -- what is picked with a mask may come next, and has the property of the mask
   pub picked : (mask : List ℕ) (P : ℕ → Type 0) → HoldsLeft mask P past → (y : ℕ)
-      → (is_masked outputs inputs mask y ≡ true) ↔ (MayCome chart past y × P y)
+      → (is_masked controlled inputs mask y ≡ true) ↔ (MayCome chart past y × P y)
   unfolding is_masked
   picked mask P masked y = (
     λ h.
         let both = and_parts _ _ h in
         let p = ((masked y).0 both.1).0 in
         elim (or_cases _ _ both.0) [
-          | inl output ↦ (output_may y ((opens y).0 output), p)
+          | inl free ↦ (controlled_may y ((opens y).0 free), p)
           | inr input ↦ (input_may y ((arrived y).0 input), p)
         ],
     λ h. and_from _ _ (may_rows y h.0) ((masked y).1 (h.1, h.0.new)),
@@ -104,7 +104,7 @@ module _ (chart : WiredChart) (is_wired : IsWired chart) (past left outputs inpu
 
 module _ (chart : WiredChart) (is_wired : IsWired chart) (order : ℕ → ℕ → Bool) (told : IsEnforcedOrder chart order) (e : ℕ)
     (below : e < length chart.events) (past : List ℕ) where
-  -- while an output that is passed on with e is left, the held outputs wait
+  -- while an output that is passed on with e is left, the held controlled wait
   pub unheld_free : (t : ℕ) → IsPassedOnWith chart e t → occurs past t ≡ false → (y : ℕ)
       → (MayCome chart past y × IsUnheld chart e y) ↔ MayComeFree chart e past y
   unheld_free t passed out y = (
@@ -115,7 +115,7 @@ module _ (chart : WiredChart) (is_wired : IsWired chart) (order : ℕ → ℕ �
         m.free,
         λ held.
             let queues = held_queue chart is_wired order told e below y (test_of_held chart order told e below y held) in
-            m.ready (held, (t, passed.0, passed.1 ∙ queues, out)),
+            m.ready (held, (t, passed.0, passed.2 ∙ queues.1, out)),
       ),
     ),
   )
@@ -129,7 +129,7 @@ module _ (chart : WiredChart) (is_wired : IsWired chart) (order : ℕ → ℕ �
       free = h.1;
       ready = λ waits.
           let queues = held_queue chart is_wired order told e below y (test_of_held chart order told e below y waits.0) in
-          none waits.1.0 (waits.1.1, waits.1.2 ∙ sym queues) waits.1.3;
+          none waits.1.0 (waits.1.1, queues.0, waits.1.2 ∙ sym queues.1) waits.1.3;
     },
     λ m. (m.may, m.free),
   )

@@ -1,4 +1,4 @@
--- How the fronts of the lines and the open outputs change when an event occurs.
+-- How the fronts of the lines and the open controlled change when an event occurs.
 use Rattle.std.proofs.Common.{◌≡◌, ◌≢◌, ℕ, ◌<◌, ◌≤◌, true, false, ◌↔◌, ◌⊎◌, inl, inr, List, length, get_or, set, refl, sym, ap, ◌∙◌, arith, get_or-set_same, get_or-set_other}
 use Rattle.std.proofs.lemmas.Bool.{eq-eqb, ne_eqb, cases_lt, cases_eq, and_parts, and_from, not-true, not_from_false}
 use Rattle.std.proofs.lemmas.List.{length-set}
@@ -7,9 +7,9 @@ use Rattle.msc_chart.specs.declared.event.ChartEvent.{ChartEvent}
 use Rattle.msc_chart.specs.Charts.{line, segment, before, IsInTextOrder, IsSegmentEnd}
 use Rattle.msc_chart.proofs.Drawn.{before_from, before_parts}
 use Rattle.bit_rows.specs.Rows.{has, IsWithout}
-use Rattle.msc_race.specs.Fronts.{AreLines, IsFront, IsOpenOutput, IsOpened, IsNextLeft}
+use Rattle.msc_race.specs.Fronts.{AreLines, IsFront, IsOpenControlled, IsOpened, IsNextLeft}
 use Rattle.msc_race.proofs.Shared.{by_test, clash}
-use Rattle.msc_race.proofs.Runs.EventLemmas.{output_below}
+use Rattle.msc_race.proofs.Runs.EventLemmas.{controlled_parts}
 
 module _ (old new : List ℕ) (x : ℕ) (without : IsWithout old new x) where
   -- what is not there is not there later
@@ -56,10 +56,10 @@ module _ (events : List ChartEvent) (text : IsInTextOrder events) (old new : Lis
 
     -- where nothing is left that is drawn before an output of the line, the front is on the line, and
     -- not drawn before the output
-    meets : (y : ℕ) → IsOpenOutput events new y → line events y ≡ line events x
+    meets : (y : ℕ) → IsOpenControlled events new y → line events y ≡ line events x
         → (front ≤ y) × (y < length events) × (line events front ≡ line events x) × (before events front y ≡ false)
     meets y opens on =
-        let below = output_below events y opens.output in
+        let below = (controlled_parts events y opens.controlled).0 in
         let later : front ≤ y = elim (cases_lt y front) [
           | inl less ↦ clash opens.remains (own_front.below y less on)
           | inr more ↦ more
@@ -81,17 +81,17 @@ module _ (events : List ChartEvent) (text : IsInTextOrder events) (old new : Lis
         ]
 
     -- what was open and is not x stays open
-    pub stays_open : (y : ℕ) → IsOpenOutput events old y → y ≢ x → IsOpenOutput events new y
+    pub stays_open : (y : ℕ) → IsOpenControlled events old y → y ≢ x → IsOpenControlled events new y
     stays_open y opens other = record {
-      output = opens.output;
+      controlled = opens.controlled;
       remains = still_in old new x without y opens.remains other;
       ready = λ z drawn. still_out old new x without z (opens.ready z drawn);
     }
 
     -- an open output of another line was open
-    elsewhere : (y : ℕ) → IsOpenOutput events new y → line events y ≢ line events x → IsOpenOutput events old y
+    elsewhere : (y : ℕ) → IsOpenControlled events new y → line events y ≢ line events x → IsOpenControlled events old y
     elsewhere y opens off = record {
-      output = opens.output;
+      controlled = opens.controlled;
       remains = (was_in old new x without y opens.remains).0;
       ready = λ z drawn. by_test (has old z)
           (λ there.
@@ -102,7 +102,7 @@ module _ (events : List ChartEvent) (text : IsInTextOrder events) (old new : Lis
 
     -- so it is with the line of x, where the front has not come to another segment
     pub was_open : ((y : ℕ) → y < length events → front ≤ y → line events front ≡ line events x → before events start front ≡ false)
-        → (y : ℕ) → IsOpenOutput events new y → IsOpenOutput events old y
+        → (y : ℕ) → IsOpenControlled events new y → IsOpenControlled events old y
     was_open level y opens =
         elim (cases_eq (line events y) (line events x)) [
           | inr off ↦ elsewhere y opens off
@@ -114,7 +114,7 @@ module _ (events : List ChartEvent) (text : IsInTextOrder events) (old new : Lis
               let low = no_lower start front (omega (arith, from, front_in)) front_in (first ∙ sym met.2) (level y met.1 met.0 met.2) in
               let high = no_lower front y front_in met.1 (met.2 ∙ sym on) met.3 in
               record {
-                output = opens.output;
+                controlled = opens.controlled;
                 remains = (was_in old new x without y opens.remains).0;
                 ready = λ z drawn.
                     let p = before_parts events z y drawn in
@@ -132,11 +132,11 @@ module _ (events : List ChartEvent) (text : IsInTextOrder events) (old new : Lis
 
     module _ (end : ℕ) (segment_end : IsSegmentEnd events front end) (here : line events front ≡ line events x) where
       -- what is left in the segment of the front is open
-      pub opened_open : (y : ℕ) → IsOpened events new front end y → IsOpenOutput events new y
+      pub opened_open : (y : ℕ) → IsOpened events new front end y → IsOpenControlled events new y
       opened_open y opened =
           let share = segment_end.together y opened.later opened.within in
           record {
-            output = opened.output;
+            controlled = opened.controlled;
             remains = opened.remains;
             ready = λ z drawn.
                 let p = before_parts events z y drawn in
@@ -149,7 +149,7 @@ module _ (events : List ChartEvent) (text : IsInTextOrder events) (old new : Lis
           }
 
       -- and what is open was open, or is left there
-      pub open_opened : (y : ℕ) → IsOpenOutput events new y → IsOpenOutput events old y ⊎ IsOpened events new front end y
+      pub open_opened : (y : ℕ) → IsOpenControlled events new y → IsOpenControlled events old y ⊎ IsOpened events new front end y
       open_opened y opens =
           elim (cases_eq (line events y) (line events x)) [
             | inr off ↦ inl (elsewhere y opens off)
@@ -161,7 +161,7 @@ module _ (events : List ChartEvent) (text : IsInTextOrder events) (old new : Lis
                     | inl less ↦ less
                     | inr more ↦ clash (segment_end.past y more met.1 (here ∙ sym on)) met.3
                   ];
-                  output = opens.output;
+                  controlled = opens.controlled;
                   remains = opens.remains;
                 })
           ]
@@ -177,16 +177,16 @@ moved_fronts events old new x text without fronts front known own were i below =
       | inr other ↦ rw (get_or-set_other fronts (line events x) i front 0 other) (other_front events text old new x without i (get_or fronts i 0) (λ h. other (sym h)) (were i below))
     ]
 
--- The lines after x: its line has a new front, and the open outputs are told.
-pub lines_after : (instances : ℕ) (events : List ChartEvent) (text : IsInTextOrder events) (left fronts outputs new_left new_outputs : List ℕ)
-    (x front : ℕ) → AreLines instances events left fronts outputs → line events x < instances
+-- The lines after x: its line has a new front, and the open controlled are told.
+pub lines_after : (instances : ℕ) (events : List ChartEvent) (text : IsInTextOrder events) (left fronts controlled new_left new_controlled : List ℕ)
+    (x front : ℕ) → AreLines instances events left fronts controlled → line events x < instances
     → IsWithout left new_left x → IsNextLeft events new_left (line events x) (get_or fronts (line events x) 0) front
-    → length new_left ≡ length left → length new_outputs ≡ length outputs
-    → ((y : ℕ) → (has new_outputs y ≡ true) ↔ IsOpenOutput events new_left y)
-    → AreLines instances events new_left (set fronts (line events x) front) new_outputs
-lines_after instances events text left fronts outputs new_left new_outputs x front kept on without next same_left same_outputs told = record {
+    → length new_left ≡ length left → length new_controlled ≡ length controlled
+    → ((y : ℕ) → (has new_controlled y ≡ true) ↔ IsOpenControlled events new_left y)
+    → AreLines instances events new_left (set fronts (line events x) front) new_controlled
+lines_after instances events text left fronts controlled new_left new_controlled x front kept on without next same_left same_controlled told = record {
   left_row = row_same (length events) left new_left same_left kept.left_row;
-  outputs_row = row_same (length events) outputs new_outputs same_outputs kept.outputs_row;
+  controlled_row = row_same (length events) controlled new_controlled same_controlled kept.controlled_row;
   known = λ y there. kept.known y (was_in left new_left x without y there).0;
   lines = length-set fronts (line events x) front ∙ kept.lines;
   fronts = λ i below.
@@ -194,40 +194,40 @@ lines_after instances events text left fronts outputs new_left new_outputs x fro
       let own = own_front events text left new_left x without (get_or fronts (line events x) 0) front (kept.fronts (line events x) on) next in
       moved_fronts events left new_left x text without fronts front (omega (arith, number, on)) own
       (λ j less. kept.fronts j (omega (arith, number, less))) i (omega (arith, number, below));
-  outputs = told;
+  controlled = told;
 }
 
--- Where the front has not come to another segment, the open outputs are those that were, without x.
-pub outputs_kept : (events : List ChartEvent) (text : IsInTextOrder events) (old new outputs new_outputs : List ℕ) (x start front : ℕ)
-    → IsWithout old new x → IsWithout outputs new_outputs x
+-- Where the front has not come to another segment, the open controlled are those that were, without x.
+pub controlled_kept : (events : List ChartEvent) (text : IsInTextOrder events) (old new controlled new_controlled : List ℕ) (x start front : ℕ)
+    → IsWithout old new x → IsWithout controlled new_controlled x
     → IsFront events old (line events x) start → IsNextLeft events new (line events x) start front
-    → ((y : ℕ) → (has outputs y ≡ true) ↔ IsOpenOutput events old y)
+    → ((y : ℕ) → (has controlled y ≡ true) ↔ IsOpenControlled events old y)
     → ((y : ℕ) → y < length events → front ≤ y → line events front ≡ line events x → before events start front ≡ false)
-    → (y : ℕ) → (has new_outputs y ≡ true) ↔ IsOpenOutput events new y
-outputs_kept events text old new outputs new_outputs x start front without cleared was next told level y = (
-  λ h. let there = was_in outputs new_outputs x cleared y h in
+    → (y : ℕ) → (has new_controlled y ≡ true) ↔ IsOpenControlled events new y
+controlled_kept events text old new controlled new_controlled x start front without cleared was next told level y = (
+  λ h. let there = was_in controlled new_controlled x cleared y h in
       stays_open events text old new x without start front was next y ((told y).0 there.0) there.1,
-  λ opens. still_in outputs new_outputs x cleared y ((told y).1 (was_open events text old new x without start front was next level y opens))
+  λ opens. still_in controlled new_controlled x cleared y ((told y).1 (was_open events text old new x without start front was next level y opens))
       (was_in old new x without y opens.remains).1,
 )
 
 -- Otherwise what is left in the segment of the front is opened.
-pub outputs_opened : (events : List ChartEvent) (text : IsInTextOrder events) (old new outputs cleared new_outputs : List ℕ) (x start front end : ℕ)
-    → IsWithout old new x → IsWithout outputs cleared x
+pub controlled_opened : (events : List ChartEvent) (text : IsInTextOrder events) (old new controlled cleared new_controlled : List ℕ) (x start front end : ℕ)
+    → IsWithout old new x → IsWithout controlled cleared x
     → IsFront events old (line events x) start → IsNextLeft events new (line events x) start front
-    → ((y : ℕ) → (has outputs y ≡ true) ↔ IsOpenOutput events old y)
+    → ((y : ℕ) → (has controlled y ≡ true) ↔ IsOpenControlled events old y)
     → IsSegmentEnd events front end → line events front ≡ line events x
-    → ((y : ℕ) → (has new_outputs y ≡ true) ↔ ((has cleared y ≡ true) ⊎ IsOpened events new front end y))
-    → (y : ℕ) → (has new_outputs y ≡ true) ↔ IsOpenOutput events new y
-outputs_opened events text old new outputs cleared new_outputs x start front end without clears was next told segment_end here added y = (
+    → ((y : ℕ) → (has new_controlled y ≡ true) ↔ ((has cleared y ≡ true) ⊎ IsOpened events new front end y))
+    → (y : ℕ) → (has new_controlled y ≡ true) ↔ IsOpenControlled events new y
+controlled_opened events text old new controlled cleared new_controlled x start front end without clears was next told segment_end here added y = (
   λ h. elim ((added y).0 h) [
     | inl kept ↦
-        let there = was_in outputs cleared x clears y kept in
+        let there = was_in controlled cleared x clears y kept in
         stays_open events text old new x without start front was next y ((told y).0 there.0) there.1
     | inr opened ↦ opened_open events text old new x without start front was next end segment_end here y opened
   ],
   λ opens. (added y).1 (elim (open_opened events text old new x without start front was next end segment_end here y opens) [
-    | inl was_there ↦ inl (still_in outputs cleared x clears y ((told y).1 was_there) (was_in old new x without y opens.remains).1)
+    | inl was_there ↦ inl (still_in controlled cleared x clears y ((told y).1 was_there) (was_in old new x without y opens.remains).1)
     | inr opened ↦ inr opened
   ]),
 )

@@ -57,7 +57,7 @@ module _ {chart : WiredChart} {c : QueuedRun} {x : ℕ} (here : IsComing chart c
 
   -- the queue of x is there
   q_in : q < length heads
-  q_in = were.heads x may.event
+  q_in = were.heads x may.event here.message
 
   -- so is its last
   q_last : q < length lasts
@@ -80,7 +80,7 @@ module _ {chart : WiredChart} {c : QueuedRun} {x : ℕ} (here : IsComing chart c
         let full : after q ≡ x ∷ [] = state_sent chart past x is_wired run may o ∙ ap (λ l. l ++ x ∷ []) empty in
         record {
           inputs_row = row_same n inputs new_inputs same were.inputs_row;
-          heads = λ e below. rw (length-set heads q x) (were.heads e below);
+          heads = λ e below message. rw (length-set heads q x) (were.heads e below message);
           lasts = length-set lasts q x ∙ were.lasts ∙ sym (length-set heads q x);
           next = were.next;
           linked = λ p p_below. elim (cases_eq p q) [

@@ -4,12 +4,12 @@ use Rattle.std.proofs.lemmas.Bool.{eqb-true, eq-eqb, ne_eqb, or_left}
 use Rattle.std.proofs.lemmas.List.{append-nil}
 use Rattle.std.proofs.lemmas.List.Elements.{filter-append, filter_agree}
 use Rattle.msc_chart.specs.Lists.{occurs, until, Steps}
-use Rattle.msc_chart.specs.Charts.{partner, is_output, is_input}
+use Rattle.msc_chart.specs.Charts.{partner, is_output, is_input, is_local}
 use Rattle.msc_chart.specs.Orders.{WiredChart, IsWired, queue}
 use Rattle.msc_chart.specs.Runs.{Run, MayCome, is_waiting, state}
 use Rattle.msc_chart.proofs.ListLemmas.{occurs-append}
 use Rattle.msc_race.proofs.Shared.{by_test, clash, occurs-left, occurs-push, until-within, step_at, first_occurs}
-use Rattle.msc_race.proofs.Runs.EventLemmas.{output_below, not_both, partner_of_output}
+use Rattle.msc_race.proofs.Runs.EventLemmas.{input_not_local, output_below, output_not_local, not_both, partner_of_output}
 use Rattle.msc_race.proofs.Runs.QueueLemmas.{waiting_from, waiting_parts}
 
 -- no number stands in the list twice
@@ -183,3 +183,14 @@ module _ (chart : WiredChart) where
               (λ same. rw same (eq-eqb x (partner chart.events z) (sym (ap (λ y. partner chart.events y) (eqb-true z (partner chart.events x) same) ∙ is_wired.matched.to_and_fro x may.event))))
               (λ other. rw other (ne_eqb x (partner chart.events z) (λ same.
               clash (eq-eqb z (partner chart.events x) (sym (ap (λ y. partner chart.events y) same ∙ is_wired.matched.to_and_fro z below))) other)))
+
+      -- a local event leaves all queues as they were
+      pub state_passed : is_local chart.events x ≡ true → (q : ℕ) → state chart q (past ++ x ∷ []) ≡ state chart q past
+      state_passed l q =
+          let other : is_local chart.events x ≡ false → ⊥ = λ b. clash l b in
+          out_of q
+          (by_test (is_waiting chart q past x)
+          (λ there. absurd (other (output_not_local chart.events x (waiting_parts chart q past x there).0))) (λ out. out))
+          (λ z there same.
+          let input = partner_of_output chart.events is_wired.matched z (waiting_parts chart q past z there).0 in
+          other (input_not_local chart.events x (subst (λ (y : ℕ). is_input chart.events y ≡ true) (sym same) input)))

@@ -63,7 +63,7 @@ module _ {chart : WiredChart} {c : QueuedRun} {x : ℕ} (here : IsComing chart c
 
   -- the queue of x is there
   q_in : q < length heads
-  q_in = were.heads x may.event
+  q_in = were.heads x may.event here.message
 
   -- an input whose output is that of another input is that input
   same_partner : (y z : ℕ) → y < n → z < n → partner chart.events y ≡ partner chart.events z → y ≡ z
@@ -107,7 +107,7 @@ module _ {chart : WiredChart} {c : QueuedRun} {x : ℕ} (here : IsComing chart c
         let empty : after q ≡ [] = left ∙ none in
         record {
           inputs_row = row_same n inputs new_inputs size were.inputs_row;
-          heads = λ e below. rw (length-set heads q n) (were.heads e below);
+          heads = λ e below message. rw (length-set heads q n) (were.heads e below message);
           lasts = were.lasts ∙ sym (length-set heads q n);
           next = were.next;
           linked = λ p p_below. elim (cases_eq p q) [
@@ -153,7 +153,7 @@ module _ {chart : WiredChart} {c : QueuedRun} {x : ℕ} (here : IsComing chart c
         let t_is = follower differs in
         record {
           inputs_row = row_same n inputs new_inputs (more ∙ size) were.inputs_row;
-          heads = λ e below. rw (length-set heads q t) (were.heads e below);
+          heads = λ e below message. rw (length-set heads q t) (were.heads e below message);
           lasts = were.lasts ∙ sym (length-set heads q t);
           next = were.next;
           linked = λ p p_below. elim (cases_eq p q) [

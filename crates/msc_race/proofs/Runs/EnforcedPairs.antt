@@ -3,13 +3,13 @@ use Rattle.std.proofs.Common.{◌≡◌, ℕ, ◌<◌, true, ◌⊎◌, inl, inr
 use Rattle.msc_chart.specs.Charts.{partner, is_input}
 use Rattle.msc_chart.specs.Orders.{WiredChart, IsWired, queue, Enforced}
 use Rattle.msc_chart.specs.Orders.Enforced.{drawn, sent, joined, queued}
-use Rattle.msc_race.proofs.Runs.EventLemmas.{output_below, not_both, before_parts, partner_of_output}
+use Rattle.msc_race.proofs.Runs.EventLemmas.{output_below, controlled_no_input, before_parts, partner_of_output}
 
 module _ (chart : WiredChart) (is_wired : IsWired chart) where
   -- it relates events of the chart
   pub enforced_below : (x y : ℕ) → Enforced chart x y
       → (x < length chart.events) × (y < length chart.events)
-  enforced_below x y (drawn b o) = ((before_parts chart.events x y b).0, output_below chart.events y o)
+  enforced_below x y (drawn b o) = let p = before_parts chart.events x y b in (p.0, p.1)
   enforced_below x y (sent o p) =
       let below = output_below chart.events x o in
       (below, subst (λ (z : ℕ). z < length chart.events) p (is_wired.matched.in_range x below))
@@ -30,7 +30,7 @@ module _ (chart : WiredChart) (is_wired : IsWired chart) where
 
   -- so it is for whatever is enforced before an input y
   pub into_input : (x y : ℕ) → Enforced chart x y → is_input chart.events y ≡ true → IntoInput x y
-  into_input x y (drawn b o) i = absurd (not_both chart.events y o i)
+  into_input x y (drawn b o) i = absurd (controlled_no_input chart.events y o i)
   into_input x y (sent o p) i =
       inl (rw (← p) (sym (is_wired.matched.to_and_fro x (output_below chart.events x o))))
   into_input x y (queued {s = s} {t = t} os ot same h p q) i =

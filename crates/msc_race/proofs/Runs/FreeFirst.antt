@@ -1,6 +1,6 @@
 -- The events that are free of an event can go first.
 use Rattle.std.proofs.Common.{◌≡◌, ℕ, ◌<◌, Bool, true, inl, inr, length, refl, sym, ap, ◌∙◌, subst}
-use Rattle.msc_chart.specs.Charts.{IsAcyclic, partner}
+use Rattle.msc_chart.specs.Charts.{IsAcyclic, partner, is_input}
 use Rattle.msc_chart.specs.Orders.{WiredChart, IsWired, queue, Enforced, IsEnforcedOrder}
 use Rattle.msc_chart.specs.Orders.Enforced.{drawn, sent, joined, queued}
 use Rattle.msc_race.proofs.Runs.EventLemmas.{output_below, before_parts, partner_of_output, partner_of_input}
@@ -12,9 +12,10 @@ use Rattle.msc_race.proofs.Runs.FreeEvents.{is_free_of, free_of_test, test_of_fr
 
 module _ (chart : WiredChart) (is_wired : IsWired chart) (order : ℕ → ℕ → Bool)
     (told : IsEnforcedOrder chart order) (e : ℕ) (below : e < length chart.events) where
-  -- A held output is in the queue of e: its input is e or after e, and the output itself is neither.
+  -- Where an output is held, e is an input, and it is in the queue of e: its input is e or after e,
+  -- and the output itself is neither.
   pub held_queue : (s : ℕ) → is_held chart (is_free_of chart order e) s ≡ true
-      → queue chart e ≡ queue chart s
+      → (is_input chart.events e ≡ true) × (queue chart e ≡ queue chart s)
   held_queue s held =
       let h = held_parts chart (is_free_of chart order e) s held in
       let s_below = output_below chart.events s h.0 in
@@ -23,12 +24,12 @@ module _ (chart : WiredChart) (is_wired : IsWired chart) (order : ℕ → ℕ �
       let queues = is_wired.one_queue s s_below in
       let input = partner_of_output chart.events is_wired.matched s h.0 in
       elim (not_free chart order told e below (partner chart.events s) (is_wired.matched.in_range s s_below) h.2) [
-        | inl same ↦ ap (λ x. queue chart x) (sym same) ∙ queues
+        | inl same ↦ (subst (λ (x : ℕ). is_input chart.events x ≡ true) same input, ap (λ x. queue chart x) (sym same) ∙ queues)
         | inr after ↦ elim (into_input chart is_wired e (partner chart.events s) after input) [
           | inl same ↦ absurd (s_free.1 (sym (same ∙ back)))
           | inr other ↦ elim other [
             | inl late ↦ absurd (s_free.2 (rw back at late))
-            | inr mate ↦ mate.1 ∙ queues
+            | inr mate ↦ (mate.0, mate.1 ∙ queues)
           ]
         ]
       ]
@@ -67,5 +68,5 @@ module _ (chart : WiredChart) (is_wired : IsWired chart) (order : ℕ → ℕ �
           | inl same ↦ apart (subst (λ (z : ℕ). Enforced chart z (partner chart.events t)) same inputs)
           | inr after ↦ apart (joined after inputs)
         ];
-    held_together = λ s t held other. sym (held_queue s held) ∙ held_queue t other;
+    held_together = λ s t held other. sym (held_queue s held).1 ∙ (held_queue t other).1;
   }

@@ -4,22 +4,22 @@ use Rattle.std.proofs.lemmas.Bool.{eqb-true, eq-eqb, and_parts, and_from, or_lef
 use Rattle.std.proofs.Math.Nat.{le_refl}
 use Rattle.msc_chart.specs.declared.event.ChartEvent.{ChartEvent}
 use Rattle.msc_chart.specs.Lists.{occurs, Steps}
-use Rattle.msc_chart.specs.Charts.{partner, is_output, is_input, before}
+use Rattle.msc_chart.specs.Charts.{partner, is_output, is_input, is_controlled, before}
 use Rattle.msc_chart.specs.Orders.{WiredChart, IsWired, queue}
 use Rattle.msc_chart.specs.Runs.{MayCome, is_waiting}
 use Rattle.msc_race.proofs.Shared.{by_test, clash, count_below, find_below, descend, step_at, first_occurs, before_first_fails, filter-first}
-use Rattle.msc_race.proofs.Runs.EventLemmas.{output_below, input_below, output_or_input, not_both, before_parts, partner_of_output, partner_of_input}
+use Rattle.msc_race.proofs.Runs.EventLemmas.{output_below, input_below, controlled_or_input, controlled_no_input, not_both, before_parts, partner_of_output, partner_of_input}
 use Rattle.msc_race.proofs.Runs.QueueLemmas.{waiting_from, waiting_parts}
 use Rattle.msc_race.proofs.Runs.Inside.{is_held, is_passed_on, held_from, held_parts, passed_on_from, passed_on_parts, passed_on_told, MayComeInside, SomeLeft, is_left, left_from, left_parts}
 
 module _ (events : List ChartEvent) (x y : ℕ) where
-  -- x has to come before y by a rule of a run: it is drawn before the output y, or is the output of
-  -- the input y
+  -- x has to come before y by a rule of a run: it is drawn before y, which is controlled, or is the
+  -- output of the input y
   pub is_needed : Bool
-  is_needed = (before events x y && is_output events y) || (is_output events x && eqb (partner events x) y)
+  is_needed = (before events x y && is_controlled events y) || (is_output events x && eqb (partner events x) y)
 
-  -- what is drawn before an output has to come before it
-  pub needed_drawn : before events x y ≡ true → is_output events y ≡ true → is_needed ≡ true
+  -- what is drawn before a controlled event has to come before it
+  pub needed_drawn : before events x y ≡ true → is_controlled events y ≡ true → is_needed ≡ true
   unfolding is_needed
   needed_drawn h o = or_left _ _ (and_from _ _ h o)
 
@@ -30,7 +30,7 @@ module _ (events : List ChartEvent) (x y : ℕ) where
 
   -- and there is no third case
   pub needed_cases : {X : Type 0} → is_needed ≡ true
-      → (before events x y ≡ true → is_output events y ≡ true → X)
+      → (before events x y ≡ true → is_controlled events y ≡ true → X)
       → (is_output events x ≡ true → partner events x ≡ y → X) → X
   unfolding is_needed
   needed_cases h drawn sent =
@@ -46,7 +46,7 @@ pub record CanGoFirst (chart : WiredChart) (inside : ℕ → Bool) (R : ℕ → 
   pub base : (x y : ℕ) → is_needed chart.events x y ≡ true → R x y
   pub trans : (x y z : ℕ) → R x y → R y z → R x z
   pub irreflexive : (x : ℕ) → x < length chart.events → R x x → ⊥
-  pub drawn_inside : (x s : ℕ) → before chart.events x s ≡ true → is_output chart.events s ≡ true
+  pub drawn_inside : (x s : ℕ) → before chart.events x s ≡ true → is_controlled chart.events s ≡ true
       → inside s ≡ true → inside x ≡ true
   pub sent_inside : (r : ℕ) → is_input chart.events r ≡ true → inside r ≡ true
       → inside (partner chart.events r) ≡ true
@@ -94,7 +94,7 @@ module _ (chart : WiredChart) (is_wired : IsWired chart) (inside : ℕ → Bool)
           may = record {
             event = is_wired.matched.in_range s0 s0_below;
             new = facts.2;
-            output = λ o0. absurd (not_both chart.events _ o0 i0);
+            controlled = λ c0. absurd (controlled_no_input chart.events _ c0 i0);
             input = λ i. rw (queues, to_s0) found.1;
           };
           member = taken_inside;
@@ -108,22 +108,22 @@ module _ (chart : WiredChart) (is_wired : IsWired chart) (inside : ℕ → Bool)
       let earlier = at_s0.1.patient held s passed queues in
       clash waits (before_first_fails (is_waiting chart q past) past s0 s found.1 earlier))
 
-  -- Where the set is quiet, what is left and has nothing left that it needs is an output that may come.
+  -- Where the set is quiet, what is left and has nothing left that it needs is controlled, and may come.
   ready : IsQuiet chart inside past
       → (x : ℕ) → x < length chart.events → is_left inside past x ≡ true
       → ((y : ℕ) → y < length chart.events → is_left inside past y ≡ true → is_needed chart.events y x ≡ false)
       → MayCome chart past x
   ready quiet x below left least =
       let x_left = left_parts inside past x left in
-      elim (output_or_input chart.events x below) [
+      elim (controlled_or_input chart.events x below) [
         | inl o ↦ record {
           event = below;
           new = x_left.1;
-          output = λ again y drawn. by_test (occurs past y) (λ there. there)
+          controlled = λ again y drawn. by_test (occurs past y) (λ there. there)
               (λ out.
               let y_left = left_from inside past y (first.drawn_inside y x drawn o x_left.0) out in
               clash (needed_drawn chart.events y x drawn o) (least y (before_parts chart.events y x drawn).0 y_left));
-          input = λ i. absurd (not_both chart.events x o i);
+          input = λ i. absurd (controlled_no_input chart.events x o i);
         }
         | inr i ↦
             let s : ℕ = partner chart.events x in

@@ -10,13 +10,13 @@ use Rattle.msc_race.proofs.Runs.EventLemmas.{output_below, partner_of_output}
 use Rattle.msc_race.proofs.Runs.QueueLemmas.{taken}
 
 module _ (chart : WiredChart) (is_wired : IsWired chart) where
-  -- What is enforced before an event that may come next has occurred. By the rules of the order: an
-  -- output waits for what is drawn before it; the first of a queue has occurred; of two links the
+  -- What is enforced before an event that may come next has occurred. By the rules of the order: a
+  -- controlled event waits for what is drawn before it; the first of a queue has occurred; of two links the
   -- later is taken first, then the run up to the middle; and what stands before the first of a queue
   -- is out of the queue, so its input has occurred.
   pub earlier : (e f : ℕ) → Enforced chart e f → (past : List ℕ) → Run chart past
       → MayCome chart past f → occurs past e ≡ true
-  earlier e f (drawn h o) past run may = may.output o e h
+  earlier e f (drawn h o) past run may = may.controlled o e h
   earlier e f (sent o p) past run may =
       let input : is_input chart.events f ≡ true = rw (← p) (partner_of_output chart.events is_wired.matched e o) in
       let below = output_below chart.events e o in

@@ -3,11 +3,11 @@ use Rattle.std.proofs.Common.{◌≡◌, ℕ, zero, suc, ◌<◌, Bool, true, fa
 use Rattle.std.proofs.lemmas.Bool.{cases_lt, cases_eq, and_parts, and_from, not-true, not_from_false}
 use Rattle.std.proofs.Math.Nat.{le_refl}
 use Rattle.msc_chart.specs.Lists.{occurs, IsFirst, IsLeast}
-use Rattle.msc_chart.specs.Charts.{partner, is_output, is_input, before}
+use Rattle.msc_chart.specs.Charts.{partner, is_input, is_controlled, before}
 use Rattle.msc_chart.specs.Orders.{WiredChart, queue}
 use Rattle.msc_chart.specs.Runs.{MayCome, state}
 use Rattle.msc_race.proofs.Shared.{by_test, clash, find_below}
-use Rattle.msc_race.proofs.Runs.EventLemmas.{output_or_input, not_both, before_parts}
+use Rattle.msc_race.proofs.Runs.EventLemmas.{controlled_or_input, controlled_no_input, before_parts}
 use Rattle.msc_race.proofs.Runs.Inside.{is_held, MayComeInside, passed_on_told}
 
 -- each number has a property, or does not have it
@@ -59,17 +59,17 @@ module _ (chart : WiredChart) (past : List ℕ) where
         | inr ge ↦ inr (λ may. let h : x < length chart.events = may.event in omega arith)
         | inl below ↦ by_test (occurs past x)
             (λ old. inr (λ may. clash old may.new))
-            (λ new. elim (output_or_input chart.events x below) [
+            (λ new. elim (controlled_or_input chart.events x below) [
               | inl o ↦ elim (drawn_told x) [
                 | inl all ↦
-                    let no_input = λ (i : is_input chart.events x ≡ true). absurd (not_both chart.events x o i) in
-                    inl (record { event = below; new = new; output = λ again. all; input = no_input })
-                | inr some ↦ inr (λ may. clash (may.output o some.0 some.1) some.2)
+                    let no_input = λ (i : is_input chart.events x ≡ true). absurd (controlled_no_input chart.events x o i) in
+                    inl (record { event = below; new = new; controlled = λ again. all; input = no_input })
+                | inr some ↦ inr (λ may. clash (may.controlled o some.0 some.1) some.2)
               ]
               | inr i ↦ elim (first_told (state chart (queue chart x) past) (partner chart.events x)) [
                 | inl first ↦
-                    let no_output = λ (o : is_output chart.events x ≡ true). absurd (not_both chart.events x o i) in
-                    inl (record { event = below; new = new; output = no_output; input = λ again. first })
+                    let free = λ (o : is_controlled chart.events x ≡ true). absurd (controlled_no_input chart.events x o i) in
+                    inl (record { event = below; new = new; controlled = free; input = λ again. first })
                 | inr other ↦ inr (λ may. other (may.input i))
               ]
             ])

@@ -1,13 +1,13 @@
 -- Tests that compute: that a list is a run, and that partners match and have one queue.
-use Rattle.std.proofs.Common.{◌≡◌, ℕ, ◌<◌, Bool, true, false, cond, ◌&&◌, not, eqb, ltb, List, [], ◌∷◌, ◌++◌, length, refl, subst}
-use Rattle.std.proofs.lemmas.Bool.{ltb-true, eqb-true, and_parts, and_from, not-true, not-false, not_from_false, false_from_ne_true}
+use Rattle.std.proofs.Common.{◌≡◌, ℕ, ◌<◌, Bool, true, false, cond, ◌&&◌, ◌||◌, not, inl, inr, eqb, ltb, List, [], ◌∷◌, ◌++◌, length, refl, subst}
+use Rattle.std.proofs.lemmas.Bool.{ltb-true, eqb-true, and_parts, and_from, or_cases, not-true, not-false, not_from_false, false_from_ne_true}
 use Rattle.msc_chart.specs.Lists.{occurs, until, IsFirst, Steps}
-use Rattle.msc_chart.specs.Charts.{partner, is_output, is_input, before}
+use Rattle.msc_chart.specs.Charts.{partner, is_output, is_input, is_local, is_controlled, before}
 use Rattle.msc_chart.specs.Orders.{WiredChart, IsWired, queue}
 use Rattle.msc_chart.specs.Runs.{MayCome, state}
 use Rattle.msc_race.specs.Samples.{IsReversal}
 use Rattle.msc_race.proofs.Shared.{by_test, clash, any_below, none_of_any}
-use Rattle.msc_race.proofs.Runs.EventLemmas.{before_parts, not_both}
+use Rattle.msc_race.proofs.Runs.EventLemmas.{before_parts, controlled_no_input, local_parts}
 
 -- s is the first of the list
 abbrev is_first : List ℕ → ℕ → Bool
@@ -24,16 +24,16 @@ module _ (chart : WiredChart) where
   abbrev is_missing : List ℕ → ℕ → Bool
   is_missing past x = any_below (λ y. before chart.events y x && not (occurs past y)) (length chart.events)
 
-  -- an output has all that is drawn before it behind it, and the message of an input is the first of
-  -- its queue
+  -- a controlled event has all that is drawn before it behind it, and the message of an input is the
+  -- first of its queue
   abbrev is_open : List ℕ → ℕ → Bool → Bool
-  is_open past x sends =
-      cond sends (not (is_missing past x)) (is_first (state chart (queue chart x) past) (partner chart.events x))
+  is_open past x controlled =
+      cond controlled (not (is_missing past x)) (is_first (state chart (queue chart x) past) (partner chart.events x))
 
   -- x may come next
   abbrev may_come : List ℕ → ℕ → Bool
   may_come past x =
-      (ltb x (length chart.events) && not (occurs past x)) && is_open past x (is_output chart.events x)
+      (ltb x (length chart.events) && not (occurs past x)) && is_open past x (is_controlled chart.events x)
 
   -- each event of the list may come after those before it
   abbrev pub is_run : List ℕ → List ℕ → Bool
@@ -48,15 +48,15 @@ module _ (chart : WiredChart) where
       record {
         event = ltb-true _ _ own.0;
         new = not-true _ own.1;
-        output = λ o y drawn.
-            let none = not-true _ (subst (λ (sends : Bool). is_open past x sends ≡ true) o both.1) in
+        controlled = λ o y drawn.
+            let none = not-true _ (subst (λ (controlled : Bool). is_open past x controlled ≡ true) o both.1) in
             by_test (occurs past y) (λ there. there)
             (λ out.
             let fails = none_of_any _ _ none y (before_parts chart.events y x drawn).0 in
             clash (and_from _ _ drawn (not_from_false _ out)) fails);
         input = λ i.
-            let takes : is_output chart.events x ≡ false = false_from_ne_true _ (λ o. not_both chart.events x o i) in
-            first_from _ _ (subst (λ (sends : Bool). is_open past x sends ≡ true) takes both.1);
+            let takes : is_controlled chart.events x ≡ false = false_from_ne_true _ (λ o. controlled_no_input chart.events x o i) in
+            first_from _ _ (subst (λ (controlled : Bool). is_open past x controlled ≡ true) takes both.1);
       }
 
   -- so does the test of a run
@@ -80,10 +80,13 @@ module _ (chart : WiredChart) where
     reverses = (there, out);
   }
 
-  -- the partner of e is an event of the other kind and of the same queue, whose partner is e
+  -- the partner of e is an event of the other kind and of the same queue, whose partner is e; a local
+  -- event is its own
   abbrev is_paired : ℕ → Bool
   is_paired e =
-      (ltb (partner chart.events e) (length chart.events) && eqb (partner chart.events (partner chart.events e)) e)
+      (ltb (partner chart.events e) (length chart.events)
+      && (eqb (partner chart.events (partner chart.events e)) e
+      && (not (is_local chart.events e) || eqb (partner chart.events e) e)))
       && (eqb (queue chart (partner chart.events e)) (queue chart e)
       && cond (is_input chart.events e) (is_output chart.events (partner chart.events e))
       (not (is_output chart.events (partner chart.events e))))
@@ -102,11 +105,16 @@ module _ (chart : WiredChart) where
   wired_from h =
       let each =
       λ (e : ℕ) (below : e < length chart.events). and_parts _ _ (not-false _ (none_of_any _ _ h e below)) in
+      let own = λ (e : ℕ) (below : e < length chart.events). and_parts _ _ (and_parts _ _ (each e below).0).1 in
       record {
         matched = record {
           in_range = λ e below. ltb-true _ _ (and_parts _ _ (each e below).0).0;
-          to_and_fro = λ e below. eqb-true _ _ (and_parts _ _ (each e below).0).1;
+          to_and_fro = λ e below. eqb-true _ _ (own e below).0;
           other_kind = λ e below. same_from _ _ (and_parts _ _ (each e below).1).1;
+          own = λ e local. elim (or_cases _ _ (own e (local_parts chart.events e local).0).1) [
+            | inl away ↦ clash local (not-true _ away)
+            | inr same ↦ eqb-true _ _ same
+          ];
         };
         one_queue = λ e below. eqb-true _ _ (and_parts _ _ (each e below).1).0;
       }

@@ -7,6 +7,7 @@ returns c = record {
   two_senders_mailbox = rows.two_senders_mailbox;
   coregion = rows.coregion_none;
   relay_pair = rows.relay_pair;
+  relay_single = rows.relay_single;
   relay_mailbox = rows.relay_mailbox;
   relay_enforced = rows.relay_enforced;
   overtaking = rows.overtaking_races;

@@ -14,6 +14,6 @@ returns c =
     let number = were.lines in
     let i = c.instance_of.ensures in
     let front = c.index-front.ensures ∙ any_default self.fronts.items c.instance_of.result _ 0 (omega (arith, i, on, number)) ∙ ap (λ j. get_or self.fronts.items j 0) i in
-    let outputs = with_items_is self.outputs c.put_where.new.row (c.put_where.auto.row ∙ c.deref_mut.ensures.len) in
-    rw outputs (told_more (length d.instances) d.events accepted.in_text_order self.left.items self.fronts.items self.outputs.items c.put_where.new.row c.args.x _
+    let controlled = with_items_is self.controlled c.put_where.new.row (c.put_where.auto.row ∙ c.deref_mut.ensures.len) in
+    rw controlled (told_more (length d.instances) d.events accepted.in_text_order self.left.items self.fronts.items self.controlled.items c.put_where.new.row c.args.x _
     were c.requires.known on (c.put_where.auto.row ∙ ap length c.deref_mut.ensures.value) (rw c.deref_mut.ensures.value at c.put_where.ensures) (rw front at c.is_first.ensures))

@@ -1,7 +1,7 @@
 use Rattle.std.proofs.Common.{◌≡◌, ℕ, ◌⊎◌, ◌↔◌, true}
 use Rattle.bit_rows.specs.Rows.{has}
 use Rattle.msc_race.specs.Fronts.{IsOpened}
-use Rattle.msc_race.proofs.lines.open_outputs.Given as goal
+use Rattle.msc_race.proofs.lines.open_controlled.Given as goal
 
 abbrev pub invariant-loop-y : goal.invariant-loop-y
 invariant-loop-y l =
