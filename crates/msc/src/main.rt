@@ -1,7 +1,7 @@
 //! The program `msc`.
 #![tactic(auto)]
 
-use msc_tool::{command, refuse_words};
+use msc_command::{command, refuse_words};
 use std::process::ExitCode;
 use std::{env, io};
 

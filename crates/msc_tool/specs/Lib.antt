@@ -2,7 +2,6 @@
 pub mod Reading
 pub mod Answers
 pub mod Checking
-pub mod Program
 -- what the code keeps
 pub mod Calls
 pub mod Pages

@@ -9,6 +9,7 @@ ghost use Rattle.msc_tool.specs.Answers.{OnRead, RefusesInput, RefusesText};
 ghost use Rattle.msc_tool.specs.Checking.{passes, races_of, BeginsVerdict, ChecksText, PrintsVerdict, RefusesDraft, RefusesInputDraft, WritesVerdict};
 ghost use Rattle.msc_tool.specs.Pages.{Writes};
 
+use crate::page::Page;
 use crate::reading::read_all;
 use crate::showing::put_races;
 use msc_chart::{Chart, Event, Queues};
@@ -46,10 +47,10 @@ fn head_of(
     chart: &Chart,
     queues: Queues,
     verdict: &Verdict,
-) -> Result<Vec<u8>, AllocError>
-    ensures { IfOk result (λ page. page.items ≡ verdict_text chart.now queues verdict.now) }
+) -> Result<Page, AllocError>
+    ensures { IfOk result (λ page. page.bytes.items ≡ verdict_text chart.now queues verdict.now) }
 {
-    let mut page = Vec::new(alloc);
+    let mut page = Page::new(alloc);
     match write_verdict(&mut page, chart, queues, verdict) {
         Ok(()) => Ok(page),
         Err(_) => Err(AllocError),
@@ -88,7 +89,7 @@ fn write_checked<W: Write>(
         races_of(verdict),
         show,
     )?;
-    writer.write_all(page.as_slice())?;
+    writer.write_all(page.bytes.as_slice())?;
     Ok(passes(verdict))
 }
 

@@ -1,18 +1,17 @@
-//! The program `msc` as calls: reading an input, a text's canonical text, the verdict on its chart,
-//! the command line.
+//! The answers of the program `msc` as calls: reading an input, a text's canonical text, the verdict
+//! on its chart.
 //!
 //! Each call speaks of the bytes that it takes from a reader and gives to a writer, so what the
 //! program prints is a stated function of what it reads.
 #![tactic(auto)]
 
 mod checking;
-mod program;
+mod page;
 mod reading;
 mod showing;
 mod text;
 
 pub use checking::{check_input, check_text};
 pub use msc_report::{Fault, write_draft, write_fault, write_race, write_verdict};
-pub use program::{command, refuse_words};
 pub use reading::{CALL_LIMIT, read_all};
 pub use text::{read_input, read_text};

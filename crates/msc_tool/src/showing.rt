@@ -7,6 +7,7 @@ ghost use Rattle.msc_report.specs.Verdicts.{race_text, run_line};
 ghost use Rattle.msc_tool.specs.Checking.{races_text, shown_text, unshown_text, AreChosen};
 ghost use Rattle.msc_tool.specs.Pages.{AreEvents, Puts};
 
+use crate::page::Page;
 use msc_chart::{Chart, Event, Queues};
 use msc_order::Order;
 use msc_race::chosen_run;
@@ -34,26 +35,23 @@ fn line_of(
     run_line(alloc, run.as_slice())
 }
 
-/// How many bytes of an answer go out at once: some lines of runs, which have up to 10,000 bytes.
-const PAGE_SIZE: usize = 65_536;
-
 /// Lets a page go out where it is full.
-fn turn<W: Write>(writer: &mut W, page: &mut Vec<u8>) -> Result<(), Fault>
+fn turn<W: Write>(writer: &mut W, page: &mut Page) -> Result<(), Fault>
     ensures { Puts result (W.contents writer.old) (W.contents writer.new)
-        page.old.items page.new.items [] }
+        page.old.bytes.items page.new.bytes.items [] }
 {
-    if page.len() < PAGE_SIZE {
+    if !page.is_full() {
         return Ok(());
     }
-    writer.write_all(page.as_slice())?;
-    page.clear();
+    writer.write_all(page.bytes.as_slice())?;
+    page.bytes.clear();
     Ok(())
 }
 
 /// Puts a race, and behind it a line, behind a page.
 fn put_race<W: Write>(
     writer: &mut W,
-    page: &mut Vec<u8>,
+    page: &mut Page,
     chart: &Chart,
     race: (Event, Event),
     line: &[u8],
@@ -61,12 +59,12 @@ fn put_race<W: Write>(
     requires first { race.0 < length chart.now.events }
     requires second { race.1 < length chart.now.events }
     ensures { Puts result (W.contents writer.old) (W.contents writer.new)
-        page.old.items page.new.items (race_text chart.now race.0 race.1 None ++ line.now) }
+        page.old.bytes.items page.new.bytes.items (race_text chart.now race.0 race.1 None ++ line.now) }
 {
     turn(writer, page)?;
     match write_race(page, chart, race.0, race.1, None) {
         Ok(()) => {
-            page.extend_from_slice(line)?;
+            page.bytes.extend_from_slice(line)?;
             Ok(())
         }
         Err(_) => Err(Fault::Memory),
@@ -78,7 +76,7 @@ fn put_race<W: Write>(
 fn put_shown<W: Write>(
     alloc: Global,
     writer: &mut W,
-    page: &mut Vec<u8>,
+    page: &mut Page,
     chart: &Chart,
     queues: Queues,
     order: &Order,
@@ -89,7 +87,7 @@ fn put_shown<W: Write>(
     requires known { AreEvents chart.now races.now }
     ensures { (runs : ℕ → List ℕ) → AreChosen (wired queues chart.now) runs
         → Puts result (W.contents writer.old) (W.contents writer.new)
-        page.old.items page.new.items (shown_text chart.now runs races.now) }
+        page.old.bytes.items page.new.bytes.items (shown_text chart.now runs races.now) }
 {
     let mut of = chart.events();
     let mut line = Vec::new(alloc);
@@ -106,13 +104,13 @@ fn put_shown<W: Write>(
 /// Puts each of these races behind a page, without a run.
 fn put_unshown<W: Write>(
     writer: &mut W,
-    page: &mut Vec<u8>,
+    page: &mut Page,
     chart: &Chart,
     races: &[(Event, Event)],
 ) -> Result<(), Fault>
     requires { AreEvents chart.now races.now }
     ensures { Puts result (W.contents writer.old) (W.contents writer.new)
-        page.old.items page.new.items (unshown_text chart.now races.now) }
+        page.old.bytes.items page.new.bytes.items (unshown_text chart.now races.now) }
 {
     for race in races {
         put_race(writer, page, chart, *race, b"")?;
@@ -125,7 +123,7 @@ fn put_unshown<W: Write>(
 pub fn put_races<W: Write>(
     alloc: Global,
     writer: &mut W,
-    page: &mut Vec<u8>,
+    page: &mut Page,
     chart: &Chart,
     queues: Queues,
     order: &Order,
@@ -137,7 +135,7 @@ pub fn put_races<W: Write>(
     requires known { AreEvents chart.now races.now }
     ensures { (runs : ℕ → List ℕ) → AreChosen (wired queues chart.now) runs
         → Puts result (W.contents writer.old) (W.contents writer.new)
-        page.old.items page.new.items (races_text chart.now runs show races.now) }
+        page.old.bytes.items page.new.bytes.items (races_text chart.now runs show races.now) }
 {
     let (shown, others) = races.split_at((show as usize).min(races.len()));
     put_shown(alloc, writer, page, chart, queues, order, shown)?;

@@ -2,7 +2,7 @@
 
 use crate::devices::{Narrow, Unflushed};
 use example_charts::{EMPTY, KINDS_AND_COMMENTS, ONE_MESSAGE};
-use msc_tool::command;
+use msc_command::command;
 use std::alloc::{AllocError, Global};
 use std::io::Write;
 use std::test::Fail;

@@ -28,7 +28,7 @@ returns-in_err-put_races-clause-written g c =
     let races = races_text c.args.chart.now runs c.args.show c.races_of.result.now in
     let same = ap (λ (t : List ℕ). t ++ races) c.in_ok-page.ensures
     ∙ ap (λ (pairs : List (ℕ × ℕ)). verdict_text c.args.chart.now c.args.queues c.args.verdict.now ++ races_text c.args.chart.now runs c.args.show pairs) c.races_of.ensures in
-    rw (exit.1, exit.2) (puts_written (Unit {0}) Bool _ _ _ _ c.put_races.new.page.items races _ same (c.in_err-put_races.ensures runs chosen)))
+    rw (exit.1, exit.2) (puts_written (Unit {0}) Bool _ _ _ _ c.put_races.new.page.bytes.items races _ same (c.in_err-put_races.ensures runs chosen)))
 
 pub returns-in_err-write_all-clause-written : goal.returns-in_err-write_all-clause-written
 returns-in_err-write_all-clause-written g c =
@@ -45,5 +45,5 @@ returns-clause-written g c =
     let races = races_text c.args.chart.now runs c.args.show c.races_of.result.now in
     let same = ap (λ (t : List ℕ). t ++ races) c.in_ok-page.ensures
     ∙ ap (λ (pairs : List (ℕ × ℕ)). verdict_text c.args.chart.now c.args.queues c.args.verdict.now ++ races_text c.args.chart.now runs c.args.show pairs) c.races_of.ensures in
-    pages_out _ _ _ c.in_ok-page.page.items c.put_races.new.page.items races _ same (c.in_ok-put_races.ensures runs chosen)
+    pages_out _ _ _ c.in_ok-page.page.bytes.items c.put_races.new.page.bytes.items races _ same (c.in_ok-put_races.ensures runs chosen)
     (subst (Appends (g.W.Write.contents c.put_races.new.writer) (g.W.Write.contents c.write_all.new.self)) c.as_slice.ensures.value c.in_ok-write_all.ensures.bytes))

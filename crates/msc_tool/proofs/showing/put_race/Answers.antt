@@ -8,7 +8,7 @@ pub returns-in_err-turn : goal.returns-in_err-turn
 returns-in_err-turn g c =
     let exit = err_from_is_err_and c.from_residual.result c.from_residual.ensures.1 in
     let text = race_text c.args.chart.now c.args.race.0 c.args.race.1 None ++ c.args.line.now in
-    rw (exit.1, exit.2) (puts_longer (Unit {0}) (Unit {0}) _ _ _ _ c.turn.new.page.items _ [] text c.in_err-turn.ensures)
+    rw (exit.1, exit.2) (puts_longer (Unit {0}) (Unit {0}) _ _ _ _ c.turn.new.page.bytes.items _ [] text c.in_err-turn.ensures)
 
 pub returns-in_err-extend_from_slice-in-Ok : goal.returns-in_err-extend_from_slice-in-Ok
 returns-in_err-extend_from_slice-in-Ok g c =

@@ -9,6 +9,6 @@ use Rattle.msc_tool.proofs.showing.put_shown.Given as goal
 abbrev pub invariant-loop-race : goal.invariant-loop-race
 invariant-loop-race g l =
     (runs : ℕ → List ℕ) → AreChosen (wired l.queues l.chart) runs
-    → Pages (g.W.Write.contents l.fn.writer) (g.W.Write.contents l.writer) l.fn.page.items l.page.items
+    → Pages (g.W.Write.contents l.fn.writer) (g.W.Write.contents l.writer) l.fn.page.bytes.items l.page.bytes.items
     (shown_text l.chart runs (take l.race-index l.races))
     × (l.of < length l.chart.events → l.line.items ≡ run_line (Some (runs l.of)))

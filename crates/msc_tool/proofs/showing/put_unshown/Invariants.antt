@@ -6,5 +6,5 @@ use Rattle.msc_tool.proofs.showing.put_unshown.Given as goal
 -- the races so far are put behind the page
 abbrev pub invariant-loop-race : goal.invariant-loop-race
 invariant-loop-race g l =
-    Pages (g.W.Write.contents l.fn.writer) (g.W.Write.contents l.writer) l.fn.page.items l.page.items
+    Pages (g.W.Write.contents l.fn.writer) (g.W.Write.contents l.writer) l.fn.page.bytes.items l.page.bytes.items
     (unshown_text l.chart (take l.race-index l.races))

@@ -3,10 +3,10 @@ use Rattle.std.specs.Prelude.{ℕ, List, Option, true, false}
 use Rattle.msc_chart.specs.declared.queue.Queues.{Queues}
 use Rattle.msc_report.specs.declared.fault.Fault.{Fault}
 use Rattle.msc_report.specs.declared.fault.Fault.TheVariants.{Parse, Chart, Memory, Device}
-use Rattle.msc_tool.specs.declared.program.Status.{Status}
-use Rattle.msc_tool.specs.declared.program.Status.TheVariants.{Done, Races, Refused, Failed}
-use Rattle.msc_tool.specs.declared.program.Task.{Task}
-use Rattle.msc_tool.specs.declared.program.Task.TheVariants.{Read, Check}
+use Rattle.msc_command.specs.declared.program.Status.{Status}
+use Rattle.msc_command.specs.declared.program.Status.TheVariants.{Done, Races, Refused, Failed}
+use Rattle.msc_command.specs.declared.program.Task.{Task}
+use Rattle.msc_command.specs.declared.program.Task.TheVariants.{Read, Check}
 use Rattle.msc_tool.specs.Answers.{WritesDraft}
 use Rattle.msc_tool.specs.Checking.{WritesVerdict}
 

@@ -3,14 +3,13 @@
 ghost use Rattle.std.specs.Prelude.{◌≡◌, ◌≢◌, ◌⊎◌, codes, IfOk, List, ℕ};
 ghost use Rattle.std.specs.IoError.{error_kind};
 ghost use Rattle.std.specs.declared.io.ErrorKind.TheVariants.{OutOfMemory};
-ghost use Rattle.msc_tool.specs.Program.{status_code, status_of, PrintsRaces, WritesAnswer};
+ghost use Rattle.msc_command.specs.Program.{status_code, status_of, PrintsRaces, WritesAnswer};
 ghost use Rattle.msc_tool.specs.Reading.{IsReadFrom};
 
-use crate::checking::check_input;
-use crate::text::read_input;
 use clap::{Arg, ArgMatches, Command, Error, value_parser};
 use msc_chart::Queues;
 use msc_report::{Fault, write_fault};
+use msc_tool::{check_input, read_input};
 use std::alloc::{AllocError, Global};
 use std::io::{ErrorKind, Read, Write};
 use std::rt::Files;

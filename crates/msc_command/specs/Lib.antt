@@ -1,0 +1,2 @@
+-- what is promised; the code keeps nothing besides
+pub mod Program

@@ -1,0 +1,9 @@
+//! The command line of the program `msc`: its words, the file that they name, and its exit status.
+//!
+//! It stands apart from `msc_tool`, whose calls do the work, so that these are checked without the
+//! library that reads command lines.
+#![tactic(auto)]
+
+mod program;
+
+pub use program::{command, refuse_words};
