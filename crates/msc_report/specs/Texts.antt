@@ -64,6 +64,7 @@ chart_fault_line (charts.TwiceInstance i) = numbered 2 (codes "section ") (Some 
 chart_fault_line (charts.HeaderWithoutBody k) = numbered 3 (codes "header name ") (Some k) (codes " has no section")
 chart_fault_line (charts.UnknownAddress e) = numbered 4 (codes "event ") (Some e) (codes " has an unknown address")
 chart_fault_line charts.TooManyMessages = numbered 5 (codes "more than 1024 messages") None []
+chart_fault_line charts.TooManyActions = numbered 11 (codes "more than 1024 actions") None []
 chart_fault_line (charts.TwiceEvent e) = numbered 6 (codes "event ") (Some e) (codes " repeats a message")
 chart_fault_line (charts.UnmatchedOut e) = numbered 7 (codes "output ") (Some e) (codes " has no input")
 chart_fault_line (charts.UnmatchedIn e) = numbered 8 (codes "input ") (Some e) (codes " has no output")

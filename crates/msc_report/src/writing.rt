@@ -125,6 +125,7 @@ fn chart_words(fault: ChartFault) -> Option<(u32, &'static str, Option<u32>, &'s
         ChartFault::HeaderWithoutBody(k) => Some((3, "header name ", Some(k), " has no section")),
         ChartFault::UnknownAddress(e) => Some((4, "event ", Some(e), " has an unknown address")),
         ChartFault::TooManyMessages => Some((5, "more than 1024 messages", None, "")),
+        ChartFault::TooManyActions => Some((11, "more than 1024 actions", None, "")),
         ChartFault::TwiceEvent(e) => Some((6, "event ", Some(e), " repeats a message")),
         ChartFault::UnmatchedOut(e) => Some((7, "output ", Some(e), " has no input")),
         ChartFault::UnmatchedIn(e) => Some((8, "input ", Some(e), " has no output")),
