@@ -5,10 +5,11 @@ use Rattle.std.specs.Borrow.{Bor}
 use Rattle.msc_lexer.specs.declared.token.Kind.{Kind}
 use Rattle.msc_lexer.specs.declared.token.Kind.TheVariants as kinds
 use Rattle.msc_lexer.specs.declared.token.Token.{Token}
-use Rattle.msc_lexer.specs.Lexemes.{Symbol, Named, Lexeme, lexemes, symbol_of, AreWithin}
+use Rattle.msc_lexer.specs.Lexemes.{Symbol, Named, Quoted, Lexeme, lexemes, symbol_of, AreWithin}
 use Rattle.msc_parser.specs.declared.tree.Way.{Way}
 use Rattle.msc_parser.specs.declared.tree.Signal.{Signal}
 use Rattle.msc_parser.specs.declared.fault.What.{What}
+use Rattle.msc_parser.specs.declared.fault.What.TheVariants as whats
 use Rattle.msc_parser.specs.declared.fault.ParseFault.{ParseFault}
 use Rattle.msc_parser.specs.declared.fault.ParseFault.TheVariants.{Memory}
 use Rattle.msc_parser.specs.Forms.{IsToken, AreMany}
@@ -60,6 +61,12 @@ TakesName text w before (Ok x) = DidTake text (Named x.0) before x.1.now
 TakesName text w before (Err Memory) = Unit {0}
 TakesName text w before (Err e) = Refuses text kinds.Name w before e
 
+-- what taking a text, with what it holds, answers
+abbrev pub TakesText : List ℕ → List Token → Result (List ℕ × Bor (List Token)) ParseFault → Type 0
+TakesText text before (Ok x) = DidTake text (Quoted x.0) before x.1.now
+TakesText text before (Err Memory) = Unit {0}
+TakesText text before (Err e) = Refuses text kinds.Text whats.Text before e
+
 -- the end of a statement was read, wherever the statement ends
 pub record DidEnd (text : List ℕ) (before after : List Token) : Type 0 where
   pub part : IsEnd (lexemes text before) (lexemes text after)
@@ -96,7 +103,7 @@ abbrev pub Leaves : {X : Type 0} → Kind → Result (X × Bor (List Token)) Par
 Leaves kind (Ok x) = first_kind x.1.now ≢ Some kind
 Leaves kind (Err e) = Unit {0}
 
--- an event of this way, behind its first word
+-- a message event of this way, behind its first word
 abbrev pub IsSignalOf : Way → List Lexeme → Signal → List Lexeme → Type 0
 IsSignalOf way before e after = (e.way ≡ way) × IsSignal before e after
 

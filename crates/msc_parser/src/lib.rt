@@ -21,4 +21,4 @@ mod writing;
 pub use draft::Draft;
 pub use fault::{ParseFault, What};
 pub use parsing::parse;
-pub use tree::{Decl, Item, Name, Section, Signal, Way};
+pub use tree::{Decl, Item, Label, Name, Section, Signal, Statement, Way};
