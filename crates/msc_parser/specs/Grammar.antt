@@ -95,9 +95,13 @@ pub record IsAction (before : List Lexeme) (label : List ℕ) (after : List Lexe
   pub is_text : IsToken (Quoted label) before close
   pub is_end : IsEnd close after
 
--- an event: `out` ident `to` name end, `in` ident `from` name end, or `action` text end
+-- a message event: `out` ident `to` name end, or `in` ident `from` name end
+abbrev pub IsMessage : List Lexeme → Signal → List Lexeme → Type 0
+IsMessage before e after = IsLedBy (Reserved (way_word e.way)) IsSignal before e after
+
+-- an event: that of a message, or `action` text end
 abbrev pub IsEvent : List Lexeme → Statement → List Lexeme → Type 0
-IsEvent before (Message e) after = IsLedBy (Reserved (way_word e.way)) IsSignal before e after
+IsEvent before (Message e) after = IsMessage before e after
 IsEvent before (Action label) after = IsLedBy (Reserved words.Action) IsAction before label after
 
 -- a coregion behind its first word: end, events, `endconcurrent` end

@@ -14,7 +14,7 @@ pub enum What {
     Msc,
     /// A name.
     Name,
-    /// The text of a comment.
+    /// The text of an action or of a comment.
     Text,
     /// The end of the statement: `;`, or a comment and `;`.
     End,

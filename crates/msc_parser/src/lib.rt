@@ -11,6 +11,7 @@ mod draft;
 mod fault;
 mod heading;
 pub mod laws;
+mod opening;
 mod parsing;
 mod sectioning;
 mod signalling;
