@@ -1,6 +1,6 @@
 -- Actions are read: a text, what it holds, and the end of the statement. They and message events are
 -- told apart by their first words.
-use Rattle.std.proofs.Common.{◌≡◌, ℕ, ◌<◌, ◌≤◌, List, [], ◌∷◌, length, get_or, Some, Err, refl, sym, ap, ◌∙◌, arith}
+use Rattle.std.proofs.Common.{◌≡◌, ℕ, List, [], ◌∷◌, get_or, Some, Err, refl, sym, ap, ◌∙◌, arith}
 use Rattle.std.specs.List.{slice_range}
 use Rattle.std.proofs.lemmas.List.{take_rest}
 use Rattle.std.proofs.lemmas.List.Elements.{All-head, All-tail}
@@ -16,7 +16,7 @@ use Rattle.msc_parser.specs.declared.fault.What.TheVariants as whats
 use Rattle.msc_parser.specs.declared.fault.ParseFault.{ParseFault}
 use Rattle.msc_parser.specs.declared.fault.ParseFault.TheVariants as faults
 use Rattle.msc_parser.specs.Grammar.{IsAction}
-use Rattle.msc_parser.specs.Places.{Place, Message, ActionText, StatementEnd, next}
+use Rattle.msc_parser.specs.Places.{Place, Message, ActionText, StatementEnd}
 use Rattle.msc_parser.specs.Reading.{first_kind, fault_from, Stops, DidTake, TakesText, DidEnd, DidRead, IsSignalOf, IsOpened}
 use Rattle.msc_parser.proofs.Steps.{others, leads_on, OnlyTakes, refuses_kind}
 

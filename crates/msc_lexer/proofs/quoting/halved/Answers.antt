@@ -1,4 +1,4 @@
-use Rattle.msc_lexer.proofs.Quotes.{halved_more, mark_step, plain_step, all_halved}
+use Rattle.msc_lexer.proofs.Quotes.{halved_more, mark_step, plain_step}
 use Rattle.msc_lexer.proofs.quoting.halved.Goals as goal
 use Rattle.msc_lexer.proofs.quoting.halved.Goals.{then-byte-eq39, else-byte-eq39}
 

@@ -1,5 +1,5 @@
 use Rattle.std.proofs.Common.{◌∙◌}
-use Rattle.msc_parser.proofs.Actions.{first_within, took_text}
+use Rattle.msc_parser.proofs.Actions.{took_text}
 use Rattle.msc_parser.proofs.taking.take_text.Goals as goal
 
 pub returns : goal.returns
