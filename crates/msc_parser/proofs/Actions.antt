@@ -3,7 +3,7 @@
 use Rattle.std.proofs.Common.{◌≡◌, ℕ, List, [], ◌∷◌, get_or, Some, Err, refl, sym, ap, ◌∙◌, arith}
 use Rattle.std.specs.List.{slice_range}
 use Rattle.std.proofs.lemmas.List.{take_rest}
-use Rattle.std.proofs.lemmas.List.Elements.{All-head, All-tail}
+use Rattle.std.proofs.lemmas.List.Elements.{All-tail}
 use Rattle.msc_lexer.specs.declared.token.Kind.{Kind}
 use Rattle.msc_lexer.specs.declared.token.Kind.TheVariants as kinds
 use Rattle.msc_lexer.specs.declared.token.Token.{Token}
@@ -19,13 +19,6 @@ use Rattle.msc_parser.specs.Grammar.{IsAction}
 use Rattle.msc_parser.specs.Places.{Place, Message, ActionText, StatementEnd}
 use Rattle.msc_parser.specs.Reading.{first_kind, fault_from, Stops, DidTake, TakesText, DidEnd, DidRead, IsSignalOf, IsOpened}
 use Rattle.msc_parser.proofs.Steps.{others, leads_on, OnlyTakes, refuses_kind}
-
--- a text that stands first stands in the text of the chart
-pub first_within : (text : List ℕ) (tokens : List Token) (d : Token) → AreWithin text tokens
-    → first_kind tokens ≡ Some kinds.Text
-    → IsWithin text (get_or tokens 0 d) × ((get_or tokens 0 d).kind ≡ kinds.Text)
-first_within text [] d within h = absurd cc
-first_within text (t ∷ ts) d within h = (All-head (IsWithin text) t ts within, cc)
 
 -- the first token is a text that holds these bytes
 pub took_text : (text : List ℕ) (tokens : List Token) (held : List ℕ) (d : Token)

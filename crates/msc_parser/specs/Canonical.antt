@@ -1,6 +1,6 @@
--- The canonical text of a draft, as pieces: words, names, texts, marks, spaces and line ends (this project's
--- profile of MSC/PR, ITU-T Z.120). Each statement is a line; words are in small letters; no notes and
--- no comments are there.
+-- The canonical text of a draft, as pieces: words, names, texts, marks, spaces and line ends (this
+-- project's profile of MSC/PR, ITU-T Z.120). A line ends behind each statement; words are in small
+-- letters; no notes and no comments are there.
 use Rattle.std.specs.Prelude.{ℕ, List, [], ◌∷◌, ◌++◌, Option, Some, None}
 use Rattle.std.specs.List.{flat_map}
 use Rattle.msc_lexer.specs.declared.word.Word.{Word}

@@ -114,7 +114,7 @@ pub record IsCoregion (before : List Lexeme) (es : List Statement) (after : List
   pub is_endconcurrent : IsToken (Reserved EndConcurrent) last close
   pub is_last_end : IsEnd close after
 
--- a statement of a section: an event or a coregion
+-- an item of a section: an event or a coregion
 abbrev pub IsItem : List Lexeme → Item → List Lexeme → Type 0
 IsItem before (Single e) after = IsEvent before e after
 IsItem before (Coregion es) after = IsLedBy (Reserved Concurrent) IsCoregion before es after

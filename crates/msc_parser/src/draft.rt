@@ -87,8 +87,9 @@ impl Draft {
     }
 
     /// The canonical text: one line for each statement, words in small letters, no notes and no
-    /// comments. The only error is want of memory. The text can be longer than the text that was
-    /// read, and longer than a text may be; then it is written in full and isn't read again.
+    /// comments. The texts of actions may have line ends of their own. The only error is want of
+    /// memory. The text can be longer than the text that was read, and longer than a text may be;
+    /// then it is written in full and isn't read again.
     pub fn write(&self, alloc: Global) -> Result<Vec<u8>, AllocError>
         ensures text { IfOk result (λ v. v.items ≡ canonical self.now) }
 

@@ -17,7 +17,7 @@ use msc_lexer::{Kind, Token, Word};
 use std::alloc::Global;
 
 /// How an event begins.
-#[derive(Clone, Copy, Debug)]
+#[derive(Clone, Copy)]
 pub enum Opening {
     /// With `out` or `in`.
     Message(Way),

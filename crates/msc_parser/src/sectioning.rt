@@ -18,7 +18,7 @@ use listed::Listed;
 use msc_lexer::{Kind, Token, Word};
 use std::alloc::Global;
 
-/// A statement of a coregion.
+/// An event of a coregion.
 fn event<'a>(
     alloc: Global,
     text: &[u8],
@@ -35,7 +35,7 @@ fn event<'a>(
     opened(alloc, opening, text, &tokens[1..])
 }
 
-/// The statements of a coregion, and its `endconcurrent`.
+/// The events of a coregion, and its `endconcurrent`.
 fn events<'a>(
     alloc: Global,
     text: &[u8],
@@ -70,7 +70,7 @@ fn coregion<'a>(
     Ok((events, rest))
 }
 
-/// A statement of a section.
+/// An item of a section.
 fn item<'a>(
     alloc: Global,
     text: &[u8],
@@ -92,7 +92,7 @@ fn item<'a>(
     Ok((Item::Single(event), rest))
 }
 
-/// The statements of a section, and its `endinstance`.
+/// The items of a section, and its `endinstance`.
 fn items<'a>(
     alloc: Global,
     text: &[u8],
