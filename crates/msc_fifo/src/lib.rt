@@ -18,21 +18,27 @@
 #![tactic(auto)]
 
 mod accounts;
+mod claim;
 mod entry;
 mod fault;
 mod inlet;
 pub mod laws;
 mod making;
 mod outlet;
+mod parts;
+mod places;
 mod rule;
 mod settling;
+mod steps;
 
 pub use accounts::{Account, Settled};
+pub use claim::Claim;
 pub use entry::{Entry, Taken};
 pub use fault::{QueueFault, SendFault};
 pub use inlet::Inlet;
 pub use making::queue;
-pub use outlet::Outlet;
+pub use outlet::{Outlet, Sent};
+pub use places::Place;
 pub use settling::settle;
 
 /// The greatest number of senders of a queue.
@@ -40,6 +46,9 @@ pub const SENDER_LIMIT: usize = 32;
 
 /// The greatest sum of the quotas of a queue, in messages.
 pub const QUOTA_LIMIT: usize = 1_024;
+
+/// The greatest number of places of a queue: one for each message and one for each end mark.
+pub const PLACE_LIMIT: usize = 1_056;
 
 #[cfg(test)]
 mod tests;

@@ -1,0 +1,70 @@
+-- Lists of claims: what one claim more changes.
+use Rattle.std.proofs.Common.{◌≡◌, ◌≢◌, ℕ, zero, suc, ◌+◌, ◌<◌, ◌==◌, Bool, true, false, cond, true≢false, List, [], ◌∷◌, ◌++◌, length, Some, slice_get, sym, refl, ap, ◌∙◌, arith, eq-eqb, ne_eqb, append-nil}
+use Rattle.msc_fifo.specs.Entries.{sender_of, HasNothingOf}
+use Rattle.msc_fifo.specs.World.{Each, Slot, spot, entries, own, Covers}
+
+pub entries-append : (log more : List Slot) → entries (log ++ more) ≡ entries log ++ entries more
+entries-append [] more = refl
+entries-append (y ∷ log) more = ap (λ l. y.entry ∷ l) (entries-append log more)
+
+pub length-entries : (log : List Slot) → length (entries log) ≡ length log
+length-entries [] = refl
+length-entries (y ∷ log) = ap suc (length-entries log)
+
+module _ {A : Type 0} where
+  pub cond-true : (b : Bool) (x y : A) → b ≡ true → cond b x y ≡ x
+  cond-true true x y e = refl
+  cond-true false x y e = absurd (true≢false (sym e))
+
+  pub cond-false : (b : Bool) (x y : A) → b ≡ false → cond b x y ≡ y
+  cond-false true x y e = absurd (true≢false e)
+  cond-false false x y e = refl
+
+  cond-append : (b : Bool) (x : A) (xs ys zs : List A) → zs ≡ xs ++ ys → cond b (x ∷ zs) zs ≡ cond b (x ∷ xs) xs ++ ys
+  cond-append true x xs ys zs e = ap (λ l. x ∷ l) e
+  cond-append false x xs ys zs e = e
+
+  pub get_front : (xs ys : List A) (k : ℕ) (e : A) → slice_get xs k ≡ Some e → slice_get (xs ++ ys) k ≡ Some e
+  get_front [] ys k e h = cc
+  get_front (x ∷ xs) ys zero e h = h
+  get_front (x ∷ xs) ys (suc k) e h = get_front xs ys k e h
+
+  pub get_back : (xs ys : List A) (k : ℕ) (e : A) → k < length xs → slice_get (xs ++ ys) k ≡ Some e → slice_get xs k ≡ Some e
+  get_back [] ys k e lt h = absurd (omega arith)
+  get_back (x ∷ xs) ys zero e lt h = h
+  get_back (x ∷ xs) ys (suc k) e lt h = get_back xs ys k e (omega arith) h
+
+  pub get_last : (xs : List A) (e : A) (k : ℕ) → k ≡ length xs → slice_get (xs ++ e ∷ []) k ≡ Some e
+  get_last [] e zero h = refl
+  get_last [] e (suc k) h = absurd (omega arith)
+  get_last (x ∷ xs) e zero h = absurd (omega arith)
+  get_last (x ∷ xs) e (suc k) h = get_last xs e k (omega arith)
+
+  pub get_inside : (xs : List A) (k : ℕ) (e : A) → slice_get xs k ≡ Some e → k < length xs
+  get_inside [] k e h = cc
+  get_inside (x ∷ xs) zero e h = omega arith
+  get_inside (x ∷ xs) (suc k) e h = let r = get_inside xs k e h in omega arith
+
+  pub each-append : (P : A → Type 0) (xs ys : List A) → Each P xs → Each P ys → Each P (xs ++ ys)
+  each-append P [] ys a b = b
+  each-append P (x ∷ xs) ys a b = (a.0, each-append P xs ys a.1 b)
+
+  pub each-map : (P Q : A → Type 0) (xs : List A) → ((x : A) → P x → Q x) → Each P xs → Each Q xs
+  each-map P Q [] f h = tt
+  each-map P Q (x ∷ xs) f h = (f x h.0, each-map P Q xs f h.1)
+
+pub own-mine : (i k n : ℕ) (log : List Slot) (x : Slot) → sender_of x.entry ≡ i → n ≡ k + length log → own i k (log ++ x ∷ []) ≡ own i k log ++ spot n x ∷ []
+own-mine i k n [] x same at = let here : k ≡ n = omega arith in cond-true (sender_of x.entry == i) (spot k x ∷ []) [] (eq-eqb (sender_of x.entry) i same) ∙ ap (λ (j : ℕ). spot j x ∷ []) here
+own-mine i k n (y ∷ log) x same at = cond-append (sender_of y.entry == i) (spot k y) (own i (k + 1) log) (spot n x ∷ []) (own i (k + 1) (log ++ x ∷ [])) (own-mine i (k + 1) n log x same (omega arith))
+
+pub own-other : (i k : ℕ) (log : List Slot) (x : Slot) → sender_of x.entry ≢ i → own i k (log ++ x ∷ []) ≡ own i k log
+own-other i k [] x other = cond-false (sender_of x.entry == i) (spot k x ∷ []) [] (ne_eqb (sender_of x.entry) i other)
+own-other i k (y ∷ log) x other = cond-append (sender_of y.entry == i) (spot k y) (own i (k + 1) log) [] (own i (k + 1) (log ++ x ∷ [])) (own-other i (k + 1) log x other ∙ sym (append-nil (own i (k + 1) log))) ∙ append-nil (own i k (y ∷ log))
+
+pub own-nothing : (i k : ℕ) (log : List Slot) → HasNothingOf i (entries log) → own i k log ≡ []
+own-nothing i k [] h = refl
+own-nothing i k (y ∷ log) h = cond-false (sender_of y.entry == i) (spot k y ∷ own i (k + 1) log) (own i (k + 1) log) (ne_eqb (sender_of y.entry) i h.0) ∙ own-nothing i (k + 1) log h.1
+
+-- a clock still covers the places up to its own after more claims
+pub covers_longer : (log more : List Slot) (k n : ℕ) (x : Slot) → slice_get log k ≡ Some x → Covers log k n → Covers (log ++ more) k n
+covers_longer log more k n x at covers j y le here = let inside = get_inside log k x at in let lt : j < length log = omega arith in covers j y le (get_back log more j y lt here)
