@@ -19,6 +19,7 @@ use Rattle.msc_fifo.specs.Settling.{put_all, IsSenderOf, AreSendersOf}
 use Rattle.msc_fifo.specs.Parts.{IsPartOf, ArePartsOf}
 use Rattle.msc_fifo.proofs.LogLemmas.{get_inside}
 use Rattle.msc_fifo.proofs.PlaceLemmas.{build, dress, entries-build, length-build, get-build, claims-build, dressed, among_each, among_own, own_among, offer_among, outlet_of, length-put_all}
+use Rattle.msc_fifo.proofs.ItemLemmas.{claimed_items}
 use Rattle.msc_fifo.proofs.SettleLemmas.{IsLearned, learned, account_of}
 use Rattle.msc_fifo.proofs.FillLemmas.{once_apart, slice_get-set_same, kept_accounts}
 use Rattle.msc_fifo.proofs.GatherLemmas.{parts_back}
@@ -106,8 +107,8 @@ answered inlet outlets v n are t senders made got clocks proper =
         numbered = λ k c at. (let g = get-build 0 k k t.clk t.log c (omega arith) at in sym (ap (λ (x : Claim). x.place) g.2));
         orderly = orderly;
         claims = λ o a. (among_each (IsKnown inlet.senders log t.offered) outlets o a.0 a.1 known).claims;
-        put = λ o a. (among_each (IsKnown inlet.senders log t.offered) outlets o a.0 a.1 known).put;
-        closed = λ o a. (among_each (IsKnown inlet.senders log t.offered) outlets o a.0 a.1 known).closed;
+        items = λ o a. (let k = among_each (IsKnown inlet.senders log t.offered) outlets o a.0 a.1 known in
+            ap entries_at k.claims ∙ claimed_items o.sender inlet.senders log o.put o.closed orderly k.put k.closed);
         got = (t.got.0, es ∙ t.got.1 ∙ ap (λ l. l ++ t.got.0) got);
         clocks = λ k c lt at. (let g = get-build 0 k k t.clk t.log c (omega arith) at in let lt' : k < length v.clocks = subst (λ (l : List ℕ). k < length l) (sym clocks) lt in
             sym (ap (λ (x : Claim). x.clock) g.2) ∙ t.clocks k lt' ∙ ap (λ (l : List ℕ). slice_index l k) clocks);

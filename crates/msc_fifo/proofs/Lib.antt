@@ -12,5 +12,6 @@ pub mod InletLemmas
 pub mod SettleLemmas
 pub mod FillLemmas
 pub mod PlaceLemmas
+pub mod ItemLemmas
 pub mod GatherLemmas
 pub mod AnswerLemmas

@@ -26,6 +26,10 @@ HasAccount accounts got o = (a : Account) × (slice_get accounts o.sender ≡ So
 abbrev pub entries_at : List Claim → List Entry
 entries_at log = map (λ (c : Claim). c.entry) log
 
+-- what an outlet has put, and then its end mark where it is closed
+abbrev pub items_of : OutletState → List Entry
+items_of o = map (λ (m : ℕ). Message o.sender m) o.put ++ (if o.closed then (Ended o.sender ∷ []) else [])
+
 -- the claims of sender i, in order
 abbrev pub claims_of : ℕ → List Claim → List Claim
 claims_of i [] = []
@@ -45,15 +49,14 @@ abbrev pub IsAmong : {A : Type 0} → A → List A → Type 0
 IsAmong x xs = (k : ℕ) × (slice_get xs k ≡ Some x)
 
 -- The places of a queue that were claimed, in order and without gaps. Each outlet's claims are its
--- part of them; what was got is the items of the first places, and the clocks that were read are
--- theirs. The clock of a message's place is at least each offer made for it or a place before it,
--- and is the offer of some message
+-- part of them, for what it put and then its end mark; what was got is the items of the first places,
+-- and the clocks that were read are theirs. The clock of a message's place is at least each offer
+-- made for it or a place before it, and is the offer of some message
 pub record IsPlaced (inlet : InletState) (outlets : List OutletState) (log : List Claim) : Type 0 where
   pub numbered : (k : ℕ) (c : Claim) → slice_get log k ≡ Some c → c.place ≡ k
   pub orderly : IsOrderly inlet.senders (entries_at log)
   pub claims : (o : OutletState) → IsAmong o outlets → o.claims ≡ claims_of o.sender log
-  pub put : (o : OutletState) → IsAmong o outlets → o.put ≡ messages_of o.sender (entries_at log)
-  pub closed : (o : OutletState) → IsAmong o outlets → o.closed ≡ has_ended o.sender (entries_at log)
+  pub items : (o : OutletState) → IsAmong o outlets → entries_at o.claims ≡ items_of o
   pub got : (rest : List Entry) × (entries_at log ≡ inlet.got ++ rest)
   pub clocks : (k : ℕ) (c : Claim) → k < length inlet.clocks → slice_get log k ≡ Some c → c.clock ≡ slice_index inlet.clocks k
   pub covers : (c d : Claim) → IsAmong c log → is_message c.entry ≡ true → IsAmong d log → d.place ≤ c.place → d.offer ≤ c.clock

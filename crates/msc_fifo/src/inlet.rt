@@ -98,6 +98,7 @@ impl Inlet {
         ensures count { vec_len result.senders ≡ self.senders }
         ensures accounts { All (HasAccount result.senders.items self.got) outlets.items }
         ensures places { IsSettled self outlets.items result.places.items }
+        ensures orderly { IsOrderly self.senders self.got }
     {
         let Inlet {
             row,

@@ -3,6 +3,7 @@
 
 ghost use Rattle.std.specs.Prelude.{◌≡◌, length, map, vec_len, All, IfOk, IfErr};
 ghost use Rattle.msc_fifo.specs.Ends.{AreOutletsOf};
+ghost use Rattle.msc_fifo.specs.Entries.{IsOrderly};
 ghost use Rattle.msc_fifo.specs.Settlement.{HasAccount, IsSettled};
 
 use crate::PLACE_LIMIT;
@@ -24,6 +25,7 @@ pub fn settle(
     ensures count { IfOk result (λ s. vec_len s.senders ≡ inlet.senders) }
     ensures accounts { IfOk result (λ s. All (HasAccount s.senders.items inlet.got) outlets.items) }
     ensures places { IfOk result (λ s. IsSettled inlet outlets.items s.places.items) }
+    ensures orderly { IfOk result (λ _. IsOrderly inlet.senders inlet.got) }
     ensures inlet { IfErr result (λ e. e.1 ≡ inlet) }
     ensures outlets { IfErr result (λ e. e.2.items ≡ outlets.items) }
 {

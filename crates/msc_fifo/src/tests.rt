@@ -1,8 +1,8 @@
 //! Queues in one thread and in three. What clauses say is proved; these tests have the answers that
 //! no clause fixes: that what was put is found, that calls succeed with ample memory, and threads.
 
-ghost use Rattle.std.specs.Prelude.{◌≡◌, ◌≤◌};
-ghost use Rattle.msc_fifo.specs.Ends.{IsSameInlet, IsSameOutlet};
+ghost use Rattle.std.specs.Prelude.{◌≡◌, ◌≤◌, IfOk};
+ghost use Rattle.msc_fifo.specs.Ends.{new_inlet, new_outlet, IsSameInlet, IsSameOutlet};
 
 use super::*;
 use std::alloc::Global;
@@ -56,7 +56,7 @@ type Shown<'a> = (&'a [u32], &'a [u32], &'a [u32], bool);
 
 /// Calls on the ends of a queue with these quotas, and what is settled then.
 struct Row {
-    quotas: [u32; 2],
+    quotas: (u32, u32),
     calls: &'static [Call],
     zero: Shown<'static>,
     one: Shown<'static>,
@@ -74,12 +74,26 @@ enum Wrong {
     Places,
 }
 
+/// The ends of a new queue of two senders.
+fn pair(
+    alloc: Global,
+    first: u32,
+    second: u32,
+) -> Result<(Outlet, Outlet, Inlet), QueueFault>
+    ensures zero { IfOk result (λ r. r.0 ≡ new_outlet r.2.queue 0 first) }
+    ensures one { IfOk result (λ r. r.1 ≡ new_outlet r.2.queue 1 second) }
+    ensures inlet { IfOk result (λ r. r.2 ≡ new_inlet r.2.queue 2) }
+{
+    let (mut outlets, inlet) = queue(alloc, &[first, second])?;
+    let one = outlets.pop().unwrap();
+    let zero = outlets.pop().unwrap();
+    Ok((zero, one, inlet))
+}
+
 impl Ends {
     /// The ends of a new queue with these quotas.
-    fn new(alloc: Global, quotas: [u32; 2]) -> Result<Ends, QueueFault> {
-        let (mut outlets, inlet) = queue(alloc, &quotas)?;
-        let one = outlets.pop().unwrap();
-        let zero = outlets.pop().unwrap();
+    fn new(alloc: Global, quotas: (u32, u32)) -> Result<Ends, QueueFault> {
+        let (zero, one, inlet) = pair(alloc, quotas.0, quotas.1)?;
         Ok(Ends { zero, one, inlet })
     }
 
@@ -172,7 +186,7 @@ fn first_wrong(alloc: Global, row: &Row) -> Result<Wrong, QueueFault> {
 
 /// Two senders fill their quotas and close, and all is taken.
 const ONE_THREAD: Row = Row {
-    quotas: [2, 1],
+    quotas: (2, 1),
     calls: &[
         Call::Put(0, 10, 0, 0, 1),
         Call::Put(0, 11, 0, 1, 1),
@@ -198,7 +212,7 @@ const ONE_THREAD: Row = Row {
 
 /// The same, settled after the first take.
 const SETTLED_AFTER_THE_FIRST_TAKE: Row = Row {
-    quotas: [2, 1],
+    quotas: (2, 1),
     calls: &[
         Call::Put(0, 10, 0, 0, 1),
         Call::Put(0, 11, 0, 1, 1),
@@ -215,7 +229,7 @@ const SETTLED_AFTER_THE_FIRST_TAKE: Row = Row {
 
 /// Clocks are raised by offers and by places; a fault of the clock is the last one.
 const CLOCKS: Row = Row {
-    quotas: [2, 1],
+    quotas: (2, 1),
     calls: &[
         Call::Put(0, 10, 0, 0, 1),
         Call::Put(1, 20, 5, 1, 6),
@@ -236,7 +250,7 @@ const CLOCKS: Row = Row {
 
 /// A second close changes nothing, and the end mark has a place beside the quota.
 const A_SECOND_CLOSE: Row = Row {
-    quotas: [2, 0],
+    quotas: (2, 0),
     calls: &[
         Call::Put(0, u32::MAX, 0, 0, 1),
         Call::Left(0, 1, false),
@@ -257,7 +271,7 @@ const A_SECOND_CLOSE: Row = Row {
 
 /// The greatest clock is refused, and changes nothing; one less is not.
 const THE_GREATEST_CLOCKS: Row = Row {
-    quotas: [1, 0],
+    quotas: (1, 0),
     calls: &[
         Call::Refuse(0, 7, u64::MAX, SendFault::ClockSpent(7)),
         Call::Left(0, 1, false),
@@ -363,12 +377,12 @@ fn the_largest_queue_is_filled_and_emptied(rt: HostRuntime) -> Result<(), Fail> 
 
 #[test]
 fn ends_that_are_gone_hold_up_nobody(rt: HostRuntime) -> Result<(), Fail> {
-    let Ends { mut zero, one, inlet } = Ends::new(rt.alloc(), [1, 1])?;
+    let Ends { mut zero, one, inlet } = Ends::new(rt.alloc(), (1, 1))?;
     drop(one);
     drop(inlet);
     assert_eq!(rt; zero.send(5, 0), Ok(Sent { place: 0, clock: 1 }));
     zero.close();
-    let Ends { mut zero, one, mut inlet } = Ends::new(rt.alloc(), [1, 1])?;
+    let Ends { mut zero, one, mut inlet } = Ends::new(rt.alloc(), (1, 1))?;
     assert_eq!(rt; zero.send(5, 3), Ok(Sent { place: 0, clock: 4 }));
     drop(zero);
     drop(one);
@@ -417,7 +431,7 @@ fn in_three_threads<R: Threads + Sync>(rt: &R, ends: Ends) -> Ends {
 
 #[test]
 fn three_threads(rt: HostRuntime) -> Result<(), Fail> {
-    let ends = in_three_threads(&rt, Ends::new(rt.alloc(), [100, 100])?);
+    let ends = in_three_threads(&rt, Ends::new(rt.alloc(), (100, 100))?);
     assert_eq!(rt; ends.inlet.unended(), 0);
     let settled = ends.settled(rt.alloc())?;
     let mut low = Vec::new(rt.alloc());
