@@ -61,7 +61,7 @@ pub record IsPlaced (inlet : InletState) (outlets : List OutletState) (log : Lis
   pub clocks : (k : ℕ) (c : Claim) → k < length inlet.clocks → slice_get log k ≡ Some c → c.clock ≡ slice_index inlet.clocks k
   pub covers : (c d : Claim) → IsAmong c log → is_message c.entry ≡ true → IsAmong d log → d.place ≤ c.place → d.offer ≤ c.clock
   pub offered : (c : Claim) → IsAmong c log → is_message c.entry ≡ true
-    → (d : Claim) × IsAmong d log × (is_message d.entry ≡ true) × (d.offer ≡ c.clock)
+      → (d : Claim) × IsAmong d log × (is_message d.entry ≡ true) × (d.offer ≡ c.clock)
 
 -- these are the places of the queue whose ends were these
 pub record IsSettled (inlet : InletState) (outlets : List OutletState) (places : List Place) : Type 0 where

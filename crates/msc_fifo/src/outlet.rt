@@ -69,7 +69,7 @@ impl Model for Outlet {
     ghost invariant = { λ o.
         IsTicketOf (arc_value o.row) o.ticket
         × (knows o.ticket ≡ sends (left_of o.quota o.put.items o.closed) (resting
-          (arc_value o.row).shared.key o.sender o.put.items o.closed o.claims.items))
+        (arc_value o.row).shared.key o.sender o.put.items o.closed o.claims.items))
         × (vec_len o.put ≤ o.quota)
         × (o.quota ≤ vec_capacity o.put)
         × (vec_len o.claims ≡ vec_len o.put + (if o.closed then 1 else 0))

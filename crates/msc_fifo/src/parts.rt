@@ -36,7 +36,9 @@ pub(crate) fn gather(
     requires parts { (parts.old.items ≡ []) × (length outlets.items ≤ vec_capacity parts.old) }
     ensures seat { IsTicketOf row.now ticket.new }
     ensures view { knows ticket.new ≡ record (knows ticket.old) {
-        room = (knows ticket.new).room; senders = (knows ticket.new).senders } }
+      room = (knows ticket.new).room;
+      senders = (knows ticket.new).senders;
+    } }
     ensures senders { AreSendersOf outlets.items (knows ticket.new).senders }
     ensures parts { ArePartsOf outlets.items parts.new.items }
     ensures capacity { vec_capacity parts.new ≡ vec_capacity parts.old }

@@ -77,7 +77,8 @@ pub fn learn(row: &Row, ticket: &mut Ticket, place: usize) -> u64
     requires fits { place < row.now.shared.key }
     ensures seat { IsTicketOf row.now ticket.new }
     ensures view { knows ticket.new ≡ record (knows ticket.old) {
-        clocks = (knows ticket.old).clocks ++ result ∷ [] } }
+      clocks = (knows ticket.old).clocks ++ result ∷ [];
+    } }
 {
     row.shared.load::<Learns>(ticket, place + place + 3)
 }

@@ -75,11 +75,7 @@ enum Wrong {
 }
 
 /// The ends of a new queue of two senders.
-fn pair(
-    alloc: Global,
-    first: u32,
-    second: u32,
-) -> Result<(Outlet, Outlet, Inlet), QueueFault>
+fn pair(alloc: Global, first: u32, second: u32) -> Result<(Outlet, Outlet, Inlet), QueueFault>
     ensures zero { IfOk result (λ r. r.0 ≡ new_outlet r.2.queue 0 first) }
     ensures one { IfOk result (λ r. r.1 ≡ new_outlet r.2.queue 1 second) }
     ensures inlet { IfOk result (λ r. r.2 ≡ new_inlet r.2.queue 2) }
@@ -207,7 +203,13 @@ const ONE_THREAD: Row = Row {
     ],
     zero: (&[10, 11], &[10, 11], &[], true),
     one: (&[20], &[20], &[], true),
-    places: &[(0, Some(10), 1), (0, Some(11), 1), (1, Some(20), 1), (0, None, 0), (1, None, 0)],
+    places: &[
+        (0, Some(10), 1),
+        (0, Some(11), 1),
+        (1, Some(20), 1),
+        (0, None, 0),
+        (1, None, 0),
+    ],
 };
 
 /// The same, settled after the first take.
@@ -224,7 +226,12 @@ const SETTLED_AFTER_THE_FIRST_TAKE: Row = Row {
     ],
     zero: (&[10, 11], &[10], &[11], true),
     one: (&[20], &[], &[20], false),
-    places: &[(0, Some(10), 1), (0, Some(11), 1), (1, Some(20), 1), (0, None, 0)],
+    places: &[
+        (0, Some(10), 1),
+        (0, Some(11), 1),
+        (1, Some(20), 1),
+        (0, None, 0),
+    ],
 };
 
 /// Clocks are raised by offers and by places; a fault of the clock is the last one.
@@ -245,7 +252,12 @@ const CLOCKS: Row = Row {
     ],
     zero: (&[10, 11], &[10, 11], &[], false),
     one: (&[20], &[20], &[], true),
-    places: &[(0, Some(10), 1), (1, Some(20), 6), (0, Some(11), 6), (1, None, 0)],
+    places: &[
+        (0, Some(10), 1),
+        (1, Some(20), 6),
+        (0, Some(11), 6),
+        (1, None, 0),
+    ],
 };
 
 /// A second close changes nothing, and the end mark has a place beside the quota.
@@ -377,12 +389,20 @@ fn the_largest_queue_is_filled_and_emptied(rt: HostRuntime) -> Result<(), Fail> 
 
 #[test]
 fn ends_that_are_gone_hold_up_nobody(rt: HostRuntime) -> Result<(), Fail> {
-    let Ends { mut zero, one, inlet } = Ends::new(rt.alloc(), (1, 1))?;
+    let Ends {
+        mut zero,
+        one,
+        inlet,
+    } = Ends::new(rt.alloc(), (1, 1))?;
     drop(one);
     drop(inlet);
     assert_eq!(rt; zero.send(5, 0), Ok(Sent { place: 0, clock: 1 }));
     zero.close();
-    let Ends { mut zero, one, mut inlet } = Ends::new(rt.alloc(), (1, 1))?;
+    let Ends {
+        mut zero,
+        one,
+        mut inlet,
+    } = Ends::new(rt.alloc(), (1, 1))?;
     assert_eq!(rt; zero.send(5, 3), Ok(Sent { place: 0, clock: 4 }));
     drop(zero);
     drop(one);

@@ -106,7 +106,9 @@ fn take_all(mut inlet: Inlet) -> u64 {
                 std::hint::black_box((sender, m, clock));
                 taken += 1;
             }
-            Some((Entry::Ended(_), _)) => {}
+            Some((Entry::Ended(sender), _)) => {
+                std::hint::black_box(sender);
+            }
             None => thread::yield_now(),
         }
     }
