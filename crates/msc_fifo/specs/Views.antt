@@ -13,7 +13,7 @@ use Rattle.msc_fifo.specs.declared.rule.View.{View}
 use Rattle.msc_fifo.specs.Claims.{is_message}
 use Rattle.msc_fifo.specs.Entries.{sender_of, messages_of, has_ended, IsOrderly}
 use Rattle.msc_fifo.specs.Identity.{QueueId}
-use Rattle.msc_fifo.specs.World.{Each, Slot, slot, spot_of, entries, own, World, world, Covers, Offered, Holds, IsDated, IsStored}
+use Rattle.msc_fifo.specs.World.{Each, Slot, slot, spot_of, entries, own, World, world, Offered, Holds, IsDated, IsStored}
 
 -- the claim isn't stored yet
 pub record IsPending (w : World) (x : Sender) (c : Claim) : Type 0 where
