@@ -32,9 +32,11 @@ pub record IsKnown (made : ℕ) (log : List Claim) (offered : ℕ → List ℕ) 
   pub claims : o.claims ≡ claims_of o.sender log
   pub offers : offers_of o.claims ≡ offered o.sender
 
+-- what the claim word tells of a sender
 abbrev Tells : ℕ → List Slot → (ℕ → ℕ) → (ℕ → List ℕ) → Sender → Type 0
 Tells made log clk offered x = (x.from < made) × (x.put ≡ messages_of x.from (entries log)) × (x.closed ≡ has_ended x.from (entries log)) × (map spot_of (x.claims ++ x.pending) ≡ own x.from 0 log) × (x.offers ≡ offered x.from) × Each (λ (c : Claim). clk c.place ≡ c.clock) x.claims
 
+-- what the claim word told of a sender, said of its outlet
 known_one : (made : ℕ) (log : List Slot) (clk : ℕ → ℕ) (offered : ℕ → List ℕ) (o : OutletState) (x : Sender) → IsSenderOf o x → Tells made log clk offered x → IsKnown made (build 0 clk log) offered o
 known_one made log clk offered o x is t =
     let es : entries_at (build 0 clk log) ≡ entries log = entries-build 0 clk log in
@@ -48,6 +50,7 @@ known_one made log clk offered o x is t =
       offers = sym is.offers ∙ t.4 ∙ ap offered is.from;
     }
 
+-- the same of all outlets
 known_each : (made : ℕ) (log : List Slot) (clk : ℕ → ℕ) (offered : ℕ → List ℕ) (os : List OutletState) (xs : List Sender) → AreSendersOf os xs → Each (Tells made log clk offered) xs → Each (IsKnown made (build 0 clk log) offered) os
 known_each made log clk offered [] [] are t = tt
 known_each made log clk offered [] (x ∷ xs) are t = absurd are
@@ -60,6 +63,7 @@ sender_within n k [] e o at = cc
 sender_within n zero (d ∷ es) e o at = let same : d ≡ e = cc in subst (λ (x : Entry). sender_of x < n) same o.0
 sender_within n (suc k) (d ∷ es) e o at = sender_within n k es e o.2 at
 
+-- the entry of a claim stands where the claim does
 entry_at : (log : List Claim) (k : ℕ) (c : Claim) → slice_get log k ≡ Some c → slice_get (entries_at log) k ≡ Some c.entry
 entry_at [] k c at = cc
 entry_at (d ∷ log) zero c at = let same : d ≡ c = cc in ap (λ (x : Claim). Some x.entry) same
@@ -73,6 +77,7 @@ pub record IsAnswered (inlet : InletState) (outlets : List OutletState) (count :
   pub is_log : IsPlaced inlet outlets log
   pub known : Each (IsKnown inlet.senders log offered) outlets
 
+-- what the claim word told, said of the outlets: the claims by places, with the clocks that the words hold
 pub answered : (inlet : InletState) (outlets : List OutletState) (v : View) (n : ℕ) → AreOutletsOf inlet outlets → Told v n → AreSendersOf outlets v.senders → v.made ≡ inlet.senders → v.got ≡ inlet.got → v.clocks ≡ inlet.clocks
     → Each (λ (o : OutletState). Each IsProper o.claims) outlets → IsAnswered inlet outlets n
 answered inlet outlets v n are t senders made got clocks proper =
@@ -124,11 +129,13 @@ answered inlet outlets v n are t senders made got clocks proper =
     }
 
 module _ {A : Type 0} where
+  -- what is written at a place stands there
   set_get : (xs : List A) (i : ℕ) (a : A) → i < length xs → slice_get (set xs i a) i ≡ Some a
   set_get [] i a lt = absurd (omega arith)
   set_get (x ∷ xs) zero a lt = refl
   set_get (x ∷ xs) (suc i) a lt = set_get xs i a (omega arith)
 
+  -- and nothing else changes
   set_pass : (xs : List A) (i j : ℕ) (a : A) → j ≢ i → slice_get (set xs i a) j ≡ slice_get xs j
   set_pass [] i j a n = refl
   set_pass (x ∷ xs) zero zero a n = absurd (n refl)
@@ -136,35 +143,43 @@ module _ {A : Type 0} where
   set_pass (x ∷ xs) (suc i) zero a n = refl
   set_pass (x ∷ xs) (suc i) (suc j) a n = set_pass xs i j a (λ e. n (ap suc e))
 
+  -- what holds of each member holds of the list
   each_of : (P : A → Type 0) (xs : List A) → ((x : A) → IsAmong x xs → P x) → Each P xs
   each_of P [] f = tt
   each_of P (x ∷ xs) f = (f x (0, refl), each_of P xs (λ y a. f y (suc a.0, a.1)))
 
+-- two numbers are equal or not
 equal_or_not : (j k : ℕ) → (j ≡ k) ⊎ (j ≢ k)
 equal_or_not zero zero = inl refl
 equal_or_not zero (suc k) = inr (λ e. omega arith)
 equal_or_not (suc j) zero = inr (λ e. omega arith)
 equal_or_not (suc j) (suc k) = ⊎_elim (λ e. inl (ap suc e)) (λ n. inr (λ e. n (omega arith))) (equal_or_not j k)
 
+-- the place of a claim is written
 abbrev pub IsFilled : List Place → Claim → Type 0
 IsFilled ps c = slice_get ps c.place ≡ Some (place_of c)
 
+-- a claim is that of its place in the list, and there is room for it
 abbrev Stands : List Claim → List Place → Claim → Type 0
 Stands log ps c = (slice_get log c.place ≡ Some c) × (c.place < length ps)
 
+-- a place that is written stays so while claims of the list are written
 stays_filled : (log : List Claim) (ps : List Place) (c d : Claim) → Stands log ps c → slice_get log d.place ≡ Some d → IsFilled ps d → IsFilled (set ps c.place (place_of c)) d
 stays_filled log ps c d s at f = ⊎_elim
     (λ (same : d.place ≡ c.place). let both : Some c ≡ Some d = sym s.0 ∙ ap (slice_get log) (sym same) ∙ at in let is : c ≡ d = cc in ap (slice_get (set ps c.place (place_of c))) same ∙ set_get ps c.place (place_of c) s.1 ∙ ap (λ (x : Claim). Some (place_of x)) is)
     (λ other. set_pass ps c.place d.place (place_of c) other ∙ f) (equal_or_not d.place c.place)
 
+-- there is as much room after a place was written
 stands_on : (log : List Claim) (ps : List Place) (i : ℕ) (p : Place) (cs : List Claim) → Each (Stands log ps) cs → Each (Stands log (set ps i p)) cs
 stands_on log ps i p [] h = tt
 stands_on log ps i p (c ∷ cs) h = ((h.0.0, (let n = length-set ps i p in let lt = h.0.1 in omega arith)), stands_on log ps i p cs h.1)
 
+-- the same where many claims are written
 keeps_filled : (log : List Claim) (cs : List Claim) (ps : List Place) (d : Claim) → Each (Stands log ps) cs → slice_get log d.place ≡ Some d → IsFilled ps d → IsFilled (put_all cs ps) d
 keeps_filled log [] ps d h at f = f
 keeps_filled log (c ∷ cs) ps d h at f = keeps_filled log cs (set ps c.place (place_of c)) d (stands_on log ps c.place (place_of c) cs h.1) at (stays_filled log ps c d h.0 at f)
 
+-- all claims that were written are filled in
 fills_all : (log : List Claim) (cs : List Claim) (ps : List Place) → Each (Stands log ps) cs → Each (IsFilled (put_all cs ps)) cs
 fills_all log [] ps h = tt
 fills_all log (c ∷ cs) ps h = let on = stands_on log ps c.place (place_of c) cs h.1 in (
@@ -172,6 +187,7 @@ fills_all log (c ∷ cs) ps h = let on = stands_on log ps c.place (place_of c) c
   fills_all log cs (set ps c.place (place_of c)) on,
 )
 
+-- where each place is that of its claim, the places are those of the claims
 same_list : (xs : List Place) (ys : List Claim) → length xs ≡ length ys → ((k : ℕ) (c : Claim) → slice_get ys k ≡ Some c → slice_get xs k ≡ Some (place_of c)) → xs ≡ map place_of ys
 same_list [] [] e f = refl
 same_list [] (y ∷ ys) e f = absurd (omega arith)
@@ -190,6 +206,7 @@ pub record IsAnswering (inlet : InletState) (outlets : List OutletState) (count 
   pub places_size : length places ≡ length told.log
   pub filled : Each (λ (o : OutletState). Each (IsFilled places) o.claims) done
 
+-- at first no part is answered
 pub starts : (inlet : InletState) (outlets : List OutletState) (count : ℕ) (parts : List Part) (senders : List Account) (places : List Place) → ArePartsOf outlets parts → IsAnswered inlet outlets count → length senders ≡ inlet.senders → length places ≡ count
     → IsAnswering inlet outlets count parts senders places
 starts inlet outlets count parts senders places are told size places_size = record {
@@ -204,6 +221,7 @@ starts inlet outlets count parts senders places are told size places_size = reco
   filled = tt;
 }
 
+-- the claims of an outlet are those of their places
 claims_stand : (inlet : InletState) (outlets : List OutletState) (log : List Claim) (o : OutletState) (ps : List Place) → IsPlaced inlet outlets log → o.claims ≡ claims_of o.sender log → length ps ≡ length log → Each (Stands log ps) o.claims
 claims_stand inlet outlets log o ps is mine size = each_of (Stands log ps) o.claims (λ c a.
     let b = subst (IsAmong c) mine a in let r = (own_among o.sender b.0 log c b.1).0 in let at = is.numbered r.0 c r.1 in let inside = get_inside log r.0 c r.1 in
@@ -216,14 +234,17 @@ pub record IsNextPart (inlet : InletState) (outlets : List OutletState) (places 
   pub learned_is : IsLearned inlet.senders o.sender inlet.got o.put o.closed
   pub inside : Each (λ (c : Claim). c.place < length places) o.claims
 
+-- what holds of all outlets holds of one in the middle
 each_append : (P : OutletState → Type 0) (xs ys : List OutletState) (o : OutletState) → Each P (xs ++ o ∷ ys) → P o
 each_append P [] ys o h = h.0
 each_append P (x ∷ xs) ys o h = each_append P xs ys o h.1
 
+-- claims that stand are inside
 each_second : (log : List Claim) (ps : List Place) (cs : List Claim) → Each (Stands log ps) cs → Each (λ (c : Claim). c.place < length ps) cs
 each_second log ps [] h = tt
 each_second log ps (c ∷ cs) h = (h.0.1, each_second log ps cs h.1)
 
+-- the part that is answered next is that of some outlet, of which all is known
 pub next_part : (inlet : InletState) (outlets : List OutletState) (count : ℕ) (parts rest : List Part) (senders : List Account) (places : List Place) (p : Part) → IsAnswering inlet outlets count parts senders places → parts ≡ rest ++ p ∷ [] → IsNextPart inlet outlets places p
 next_part inlet outlets count parts rest senders places p h popped =
     let b = parts_back h.outs rest p (subst (ArePartsOf h.outs) popped h.parts_are) in
@@ -238,6 +259,7 @@ next_part inlet outlets count parts rest senders places p h popped =
       inside = each_second h.told.log places o.claims (claims_stand inlet outlets h.told.log o places is k.claims h.places_size);
     }
 
+-- what is filled in stays so where the claims of one more outlet are written
 filled_on : (log : List Claim) (cs : List Claim) (ps : List Place) (os : List OutletState) → Each (Stands log ps) cs → Each (λ (o : OutletState). Each (Stands log ps) o.claims) os → Each (λ (o : OutletState). Each (IsFilled ps) o.claims) os → Each (λ (o : OutletState). Each (IsFilled (put_all cs ps)) o.claims) os
 filled_on log cs ps [] s t f = tt
 filled_on log cs ps (o ∷ os) s t f = (inner o.claims t.0 f.0, filled_on log cs ps os s t.1 f.1)
@@ -246,14 +268,17 @@ filled_on log cs ps (o ∷ os) s t f = (inner o.claims t.0 f.0, filled_on log cs
     inner [] t f = tt
     inner (d ∷ ds) t f = (keeps_filled log cs ps d s t.0.0 f.0, inner ds t.1 f.1)
 
+-- what holds of all outlets holds of those behind one
 each_tail : (P : OutletState → Type 0) (xs ys : List OutletState) (o : OutletState) → Each P (xs ++ o ∷ ys) → Each P ys
 each_tail P [] ys o h = h.1
 each_tail P (x ∷ xs) ys o h = each_tail P xs ys o h.1
 
+-- the claims of all outlets are those of their places
 stand_each : (inlet : InletState) (outlets : List OutletState) (log : List Claim) (offered : ℕ → List ℕ) (ps : List Place) → IsPlaced inlet outlets log → length ps ≡ length log → (os : List OutletState) → Each (IsKnown inlet.senders log offered) os → Each (λ (o : OutletState). Each (Stands log ps) o.claims) os
 stand_each inlet outlets log offered ps is size [] h = tt
 stand_each inlet outlets log offered ps is size (o ∷ os) h = (claims_stand inlet outlets log o ps is h.0.claims size, stand_each inlet outlets log offered ps is size os h.1)
 
+-- one part less is left, one account more is there, and its places are filled in
 pub part_answered : (inlet : InletState) (outlets : List OutletState) (count : ℕ) (parts rest : List Part) (senders : List Account) (places : List Place) (p : Part) (a : Account) → AreOutletsOf inlet outlets → (h : IsAnswering inlet outlets count parts senders places) → (popped : parts ≡ rest ++ p ∷ [])
     → ((o : OutletState) → IsPartOf o p → IsLearned inlet.senders o.sender inlet.got o.put o.closed → IsAccountOf inlet.got o a) → IsAnswering inlet outlets count rest (set senders p.sender a) (put_all p.claims.items places)
 part_answered inlet outlets count parts rest senders places p a are h popped account =
@@ -284,11 +309,13 @@ part_answered inlet outlets count parts rest senders places p a are h popped acc
     subst (λ (n : ℕ). IsAnswering inlet outlets count rest (set senders n a) (put_all p.claims.items places)) (sym part.sender)
     (subst (λ (cs : List Claim). IsAnswering inlet outlets count rest (set senders o.sender a) (put_all cs places)) (sym part.claims) moved)
 
+-- where no part is left, no outlet is
 outs_none : (os : List OutletState) (ps : List Part) → ArePartsOf os ps → ps ≡ [] → os ≡ []
 outs_none [] ps are e = refl
 outs_none (o ∷ os) [] are e = absurd are
 outs_none (o ∷ os) (p ∷ ps) are e = cc
 
+-- where no part is left, all accounts are there, and the places are the claims
 pub all_answered : (inlet : InletState) (outlets : List OutletState) (count : ℕ) (parts : List Part) (senders : List Account) (places : List Place) → AreOutletsOf inlet outlets → IsAnswering inlet outlets count parts senders places → parts ≡ []
     → All (HasAccount senders inlet.got) outlets × IsSettled inlet outlets places
 all_answered inlet outlets count parts senders places are h none =
@@ -310,20 +337,24 @@ all_answered inlet outlets count parts senders places are h none =
       },
     )
 
+-- the claims of outlets whose parts are there are proper
 pub parts_proper : (os : List OutletState) (ps : List Part) → ArePartsOf os ps → Each (λ (o : OutletState). Each IsProper o.claims) os
 parts_proper [] [] h = tt
 parts_proper [] (p ∷ ps) h = absurd h
 parts_proper (o ∷ os) [] h = absurd h
 parts_proper (o ∷ os) (p ∷ ps) h = (h.0.proper, parts_proper os ps h.1)
 
+-- what a part has put begins with what was taken of it
 pub part_prefix : (made : ℕ) (got got' : List Entry) (o : OutletState) (p : Part) → IsPartOf o p → IsLearned made o.sender got o.put o.closed → got' ≡ got → (rest : List ℕ) × (p.put.items ≡ messages_of p.sender got' ++ rest)
 part_prefix made got got' o p part l same = (l.prefix.0, part.put ∙ l.prefix.1 ∙ (λ j. messages_of (sym part.sender j) (sym same j) ++ l.prefix.0))
 
+-- the account of a part is its outlet's
 pub part_account : (made : ℕ) (got got' : List Entry) (o : OutletState) (p : Part) (a : Account) → IsPartOf o p → IsLearned made o.sender got o.put o.closed → got' ≡ got → a.put ≡ p.put.items → a.taken ≡ messages_of p.sender got' → p.put.items ≡ messages_of p.sender got' ++ a.left → a.closed ≡ p.closed
     → IsAccountOf got o a
 part_account made got got' o p a part l same put taken left closed =
     account_of made got o a l (put ∙ part.put) (taken ∙ (λ j. messages_of (part.sender j) (same j))) (sym part.put ∙ left ∙ (λ j. messages_of (part.sender j) (same j) ++ a.left)) (closed ∙ part.closed)
 
+-- a list of no parts is empty
 pub parts_none : (ps : List Part) → length ps ≡ 0 → ps ≡ []
 parts_none [] e = refl
 parts_none (p ∷ ps) e = absurd (omega arith)

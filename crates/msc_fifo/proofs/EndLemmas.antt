@@ -21,6 +21,7 @@ length-new_outlets : (q : QueueId) (k : ℕ) (xs : List ℕ) → length (new_out
 length-new_outlets q k [] = refl
 length-new_outlets q k (x ∷ xs) = let h = length-new_outlets q (k + 1) xs in omega arith
 
+-- the first i numbers are i numbers
 length_take : (i : ℕ) (xs : List ℕ) → i < length xs → length (take i xs) ≡ i
 length_take i xs lt = let h = length-take i xs in grind (arith, length-take)
 

@@ -22,18 +22,22 @@ rooms_set [] id v w e = absurd (some-ne-none v (sym e))
 rooms_set (x ∷ xs) zero v w e = let h : x.room ≡ v.room = ap (λ (u : View). u.room) (some-injective x v e) in omega arith
 rooms_set (x ∷ xs) (suc id) v w e = let h = rooms_set xs id v w e in omega arith
 
+-- the rooms with one view more
 pub rooms_snoc : (views : List View) (w : View) → rooms_of (views ++ w ∷ []) ≡ rooms_of views + w.room
 rooms_snoc [] w = omega arith
 rooms_snoc (x ∷ xs) w = let h = rooms_snoc xs w in omega arith
 
+-- the room of one view is at most all rooms
 pub room_within : (views : List View) (id : ℕ) (v : View) → get_elem? views id ≡ some v → v.room ≤ rooms_of views
 room_within [] id v e = absurd (some-ne-none v (sym e))
 room_within (x ∷ xs) zero v e = let h : x.room ≡ v.room = ap (λ (u : View). u.room) (some-injective x v e) in omega arith
 room_within (x ∷ xs) (suc id) v e = let h = room_within xs id v e in omega arith
 
+-- a word that was written
 pub this_word : (words : List ℕ) (i n : ℕ) → i < length words → slice_index (set words i n) i ≡ n
 this_word words i n lt = get_or-set_same words i n 0 lt
 
+-- another word
 pub other_word : (words : List ℕ) (i j n : ℕ) → j ≢ i → slice_index (set words i n) j ≡ slice_index words j
 other_word words i j n other = get_or-set_other words i j n 0 other
 
@@ -47,9 +51,11 @@ set_same (x ∷ xs) (suc i) = ap (λ l. x ∷ l) (set_same xs i)
 abbrev pub now : {places : ℕ} {s : State (Unit {0}) View} → Kept places s → World
 now {s = s} h = world h.reader h.made h.seat h.offered h.log s.words
 
+-- the world after a step
 abbrev pub next : {places : ℕ} {s : State (Unit {0}) View} → Kept places s → (ℕ → List ℕ) → List Slot → List ℕ → World
 next h offered log words = world h.reader h.made h.seat offered log words
 
+-- an outlet's step keeps the rule where the words grow, the other senders are spared, and its own view fits
 pub outlet_keeps : (places i n id : ℕ) (s : State (Unit {0}) View) (c : List (ℕ × Unit {0})) (v w : View) (x y : Sender) (h : Kept places s) (offered : ℕ → List ℕ) (log : List Slot) (words : List ℕ)
     → set s.words i n ≡ words → get_elem? s.views id ≡ some v → v.senders ≡ x ∷ [] → w.gets ≡ false → w.senders ≡ y ∷ []
     → Grows (now h) (next h offered log words) → ((j : ℕ) → j ≢ x.from → Spares (now h) (next h offered log words) j)
@@ -81,6 +87,7 @@ outlet_keeps places i n id s c v w x y h offered log words is at only quiet only
           (all_set F s.views id w ((λ g. absurd (true≢false (sym g ∙ quiet))), subst (Each (IsSender places new id)) (sym only') (mine, tt)) others j u e);
     }
 
+-- a step of the inlet that writes nothing keeps the rule where its own view fits
 pub inlet_keeps : (places i id : ℕ) (s : State (Unit {0}) View) (c : List (ℕ × Unit {0})) (v w : View) (h : Kept places s)
     → get_elem? s.views id ≡ some v → w.senders ≡ v.senders → w.room ≡ v.room → (w.gets ≡ true → IsReceiver places (now h) id w)
     → Kept places (stepped s i (slice_index s.words i) id c w keeps)

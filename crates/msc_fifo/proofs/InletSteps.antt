@@ -24,22 +24,26 @@ get_entry [] k x h = cc
 get_entry (y ∷ log) zero x h = let e : y ≡ x = cc in ap (λ (z : Slot). Some z.entry) e
 get_entry (y ∷ log) (suc k) x h = get_entry log k x h
 
+-- behind the first entries stands the next one
 rest_first : (xs rest : List Entry) (e : Entry) → slice_get (xs ++ rest) (length xs) ≡ Some e → (more : List Entry) × (rest ≡ e ∷ more)
 rest_first [] [] e h = cc
 rest_first [] (x ∷ rest) e h = let same : x ≡ e = cc in (rest, λ i. same i ∷ rest)
 rest_first (x ∷ xs) rest e h = rest_first xs rest e h
 
+-- a number in front
 index_front : (xs ys : List ℕ) (k : ℕ) → k < length xs → slice_index (xs ++ ys) k ≡ slice_index xs k
 index_front [] ys k lt = absurd (omega arith)
 index_front (x ∷ xs) ys zero lt = refl
 index_front (x ∷ xs) ys (suc k) lt = index_front xs ys k (omega arith)
 
+-- the last number
 index_last : (xs : List ℕ) (x k : ℕ) → k ≡ length xs → slice_index (xs ++ x ∷ []) k ≡ x
 index_last [] x zero h = refl
 index_last [] x (suc k) h = absurd (omega arith)
 index_last (y ∷ xs) x zero h = absurd (omega arith)
 index_last (y ∷ xs) x (suc k) h = index_last xs x k (omega arith)
 
+-- the word of an entry is not 0
 code_full : (e : Entry) → code e ≢ 0
 code_full (Message i m) z = omega arith
 code_full (Ended i) z = omega arith
@@ -73,6 +77,7 @@ taken places id w v (Ended i) x more h sound fits even whole at is full = let on
           (λ (before : k < length v.clocks). h.clocks k before ∙ sym (index_front v.clocks (0 ∷ []) k before)) (eq-or-lt_of_le (omega arith));
     }
 
+-- the two cases of the next place
 looks : (places slots id i : ℕ) (me : Seated) → me.0.gets ≡ true → i ≡ length me.0.got + length me.0.got + 2 → length me.0.clocks ≡ length me.0.got → length me.0.got < places → (s : State (Unit {0}) View) (h : Kept places s) (at : get_elem? s.views id ≡ some me.0)
     → Holds h.log (length me.0.got) (slice_index s.words i)
     → (w : View) × Kept places (stepped s i (slice_index s.words i) id me.1 w keeps) × LooksAt (step slots i 0 0 none) me (slice_index s.words i) (w, me.1)
@@ -92,11 +97,13 @@ looks places slots id i me gets word even fits s h at (inr x) =
       (inr (e, x.2, x.3, (refl, subst (λ (n : ℕ). sender_of e < n) (sym mine.made) front.0, front.1)), refl),
     )
 
+-- reading the next place keeps the rule
 pub looks_keep : (places slots id i : ℕ) (me : Seated) → me.0.gets ≡ true → i ≡ length me.0.got + length me.0.got + 2 → length me.0.clocks ≡ length me.0.got → length me.0.got < me.0.places
     → Allows (Kept places) slots id me i (λ n. n) (LooksAt (step slots i 0 0 none) me)
 looks_keep places slots id i me gets word even fits s h same at lt = let mine = (h.each id me.0 at).0 gets in let fits' : length me.0.got < places = subst (λ (p : ℕ). length me.0.got < p) mine.places_are fits in
     let r = looks places slots id i me gets word even fits' s h at (subst (λ (j : ℕ). Holds h.log (length me.0.got) (slice_index s.words j)) (sym word) (h.sound.cells (length me.0.got) fits')) in (r.0, keeps, tt, r.1, r.2)
 
+-- reading the clock of the place that was taken keeps the rule
 pub learns_keep : (places slots id i : ℕ) (me : Seated) → me.0.gets ≡ true → i ≡ length me.0.clocks + length me.0.clocks + 3 → length me.0.clocks < length me.0.got
     → Allows (Kept places) slots id me i (λ n. n) (LearnsIt (step slots i 0 0 none) me)
 learns_keep places slots id i me gets word behind s h same at lt =
@@ -116,6 +123,7 @@ learns_keep places slots id i me gets word behind s h same at lt =
     } in
     (w, keeps, tt, inlet_keeps places i id s me.1 v w h at refl refl (λ _. known), (refl, refl))
 
+-- reading the claim word keeps the rule, and tells all that was claimed
 pub settles_keep : (places slots id : ℕ) (me : Seated) → me.0.gets ≡ true → Allows (Kept places) slots id me 0 (λ n. n) (SettlesIt (step slots 0 0 0 none) me)
 settles_keep places slots id me gets s h same at lt =
     let v : View = me.0 in let old = now h in
@@ -143,6 +151,7 @@ snoc_cases [] a b (suc j) e = absurd (some-ne-none b (sym e))
 snoc_cases (x ∷ xs) a b zero e = inl e
 snoc_cases (x ∷ xs) a b (suc j) e = ⊎_elim (λ h. inl h) (λ (h : (j ≡ length xs) × (a ≡ b)). inr (ap suc h.0, h.1)) (snoc_cases xs a b j e)
 
+-- making the next sender keeps the rule: nothing of it stands anywhere
 pub splits_keep : (places id room : ℕ) (v : View) → v.gets ≡ true → v.senders ≡ [] → room ≤ v.room → Splits (Kept places) id v (receives v.places (v.room - room) (v.made + 1) v.got v.clocks) (sends room (new_sender v.places v.made))
 splits_keep places id room v gets alone enough s h at =
     let x : Sender = new_sender v.places v.made in
@@ -215,6 +224,7 @@ splits_keep places id room v gets alone enough s h at =
       each = λ j u e. ⊎_elim (λ y. olds j u y) (λ (y : (j ≡ length vs) × (r ≡ u)). subst (F j) y.1 ((λ no. absurd (true≢false (sym no))), (first j y.0, tt))) (snoc_cases vs r u j e);
     }
 
+-- taking in an outlet's ticket keeps the rule: the inlet's seat is now also that of its sender
 pub joins_keep : (places id : ℕ) (v : View) (other : ℕ) (w : View) (x : Sender) → v.gets ≡ true → w.senders ≡ x ∷ [] → Joins (Kept places) id v other w (beside v w) nobody
 joins_keep places id v other w x gets only s h at two at' =
     let both : View = beside v w in let vs : List View = set s.views id both in
@@ -259,15 +269,18 @@ joins_keep places id v other w x gets only s h at two at' =
       each = all_set F vs other nobody ((λ no. absurd (true≢false (sym no))), tt) (λ j u away e. now' j u e away);
     }
 
+-- each of the first words is 0
 zero_at : (n k : ℕ) → slice_index (replicate n 0) k ≡ 0
 zero_at zero k = refl
 zero_at (suc n) zero = refl
 zero_at (suc n) (suc k) = zero_at n k
 
+-- so many words
 length_zeros : (n : ℕ) → length (replicate {A = ℕ} n 0) ≡ n
 length_zeros zero = refl
 length_zeros (suc n) = ap suc (length_zeros n)
 
+-- a new row keeps the rule: nothing is claimed, and the one ticket is the inlet's
 pub begins : (places count : ℕ) (words : List ℕ) → places ≤ 1056 → count ≡ places + places + 2 → words ≡ replicate count 0 → Kept places (opening words [] (receives places places 0 [] []))
 begins places count words small size are =
     let blank : (k : ℕ) → slice_index words k ≡ 0 = λ k. ap (λ (l : List ℕ). slice_index l k) are ∙ zero_at count k in

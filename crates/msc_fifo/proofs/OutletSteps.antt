@@ -28,16 +28,20 @@ sound_same places w w' g made log item clk clock h = record {
   clock = clock;
 }
 
+-- the greater of two is at least the second
 max_right : (n o : ℕ) → o ≤ max n o
 max_right n o = omega arith
 
+-- and at least the first
 max_left : (n o : ℕ) → n ≤ max n o
 max_left n o = omega arith
 
+-- and one of them, where it is known which is at most the other
 max_either : (n o : ℕ) → Dec (o ≤ n) → (max n o ≡ n) ⊎ (max n o ≡ o)
 max_either n o (yes le) = inl (omega arith)
 max_either n o (no not) = let lt = lt_of_not-le not in inr (omega arith)
 
+-- and one of them
 max_cases : (n o : ℕ) → (max n o ≡ n) ⊎ (max n o ≡ o)
 max_cases n o = max_either n o (dec_le o n)
 
@@ -45,6 +49,7 @@ max_cases n o = max_either n o (dec_le o n)
 abbrev more_offers : (ℕ → List ℕ) → ℕ → ℕ → ℕ → List ℕ
 more_offers offered i o p = cond (p == i) (offered p ++ o ∷ []) (offered p)
 
+-- what was offered before is still offered
 offered_more : (offered : ℕ → List ℕ) (i o p k n : ℕ) → slice_get (offered p) k ≡ Some n → slice_get (more_offers offered i o p) k ≡ Some n
 offered_more offered i o p k n at = both (p == i)
   where
@@ -52,6 +57,7 @@ offered_more offered i o p k n at = both (p == i)
     both true = get_front (offered p) (o ∷ []) k n at
     both false = at
 
+-- an offer keeps the rule: the clock word is as before, or is the offer
 pub offers_keep : (places slots id o : ℕ) (me : Seated) (x : Sender) → me.0.gets ≡ false → me.0.senders ≡ x ∷ [] → x.pending ≡ [] → Allows (Kept places) slots id me 1 (λ n. max n o) (OffersIt (step slots 1 o 0 none) me)
 offers_keep places slots id o me x quiet only rest s h same at lt =
     let v : View = me.0 in let y : Sender = after_offer o x in let w : View = with_senders (after_offer o) v in
@@ -105,6 +111,7 @@ offers_keep places slots id o me x quiet only rest s h same at lt =
       (refl, refl),
     )
 
+-- the offer for an entry
 abbrev offer_for : Sender → Entry → ℕ
 offer_for x (Message i m) = x.ready
 offer_for x (Ended i) = 0
@@ -117,6 +124,7 @@ item_blank places w k h lt last = blank (h.cells k lt)
     blank (inl z) = z
     blank (inr x) = let i = get_inside w.log k x.0 x.1 in absurd (omega arith)
 
+-- a place that was not claimed has no clock
 clk_blank : (places : ℕ) (w : World) (k : ℕ) → Sound places w → k < places → k ≡ length w.log → w.clk k ≡ 0
 clk_blank places w k h lt last = blank (h.dated k lt)
   where
@@ -124,15 +132,18 @@ clk_blank places w k h lt last = blank (h.dated k lt)
     blank (inl z) = z
     blank (inr x) = let i = get_inside w.log k x.0 x.1 in absurd (omega arith)
 
+-- one claim more without its clock
 map-append : (cs : List Claim) (c : Claim) → map spot_of (cs ++ c ∷ []) ≡ map spot_of cs ++ spot_of c ∷ []
 map-append [] c = refl
 map-append (d ∷ cs) c = ap (λ l. spot_of d ∷ l) (map-append cs c)
 
+-- one claim more is the sender's last
 claims_more : (x : Sender) (c : Claim) (log : List Slot) → x.pending ≡ [] → map spot_of (x.claims ++ x.pending) ≡ own x.from 0 log → sender_of c.entry ≡ x.from → c.place ≡ length log
     → map spot_of (x.claims ++ c ∷ []) ≡ own x.from 0 (log ++ slot c.entry c.offer ∷ [])
 claims_more x c log rest was mine at = map-append x.claims c ∙ ap (λ l. l ++ spot_of c ∷ []) (ap (map spot_of) (sym (append-nil x.claims) ∙ ap (λ l. x.claims ++ l) (sym rest)) ∙ was)
     ∙ sym (own-mine x.from 0 c.place log (slot c.entry c.offer) mine (omega arith))
 
+-- the claim that was just made is not stored
 pending_claim : (places k : ℕ) (old new : World) (x y : Sender) (e : Entry) (o : ℕ) → k ≡ length old.log → k < places → x.places ≡ places → y.places ≡ x.places → y.from ≡ x.from → y.shown ≡ 0 → sender_of e ≡ x.from
     → new.log ≡ old.log ++ slot e o ∷ [] → new.item k ≡ 0 → new.clk k ≡ 0 → IsPending new y (claim k e o 0)
 pending_claim places k old new x y e o last fits places_are same_places same_from shown mine log item clk = record {
@@ -144,6 +155,7 @@ pending_claim places k old new x y e o last fits places_are same_places same_fro
   dated = inl refl;
 }
 
+-- what a sender knows after its claim is so
 grown : (places id k : ℕ) (old new : World) (x : Sender) (e : Entry) → x.pending ≡ [] → sender_of e ≡ x.from → k ≡ length old.log → k < places
     → new.log ≡ old.log ++ slot e (offer_for x e) ∷ [] → new.item k ≡ 0 → new.clk k ≡ 0 → new.seat x.from ≡ old.seat x.from → new.offered x.from ≡ old.offered x.from → Grows old new
     → IsSender places old id x → IsSender places new id (after_claim k e x)
@@ -178,16 +190,19 @@ grown places id k old new x (Ended i) rest is last fits log item clk seat offere
       pending = (pending_claim places k old new x (after_claim k (Ended i) x) (Ended i) 0 last fits h.places_are refl refl refl is log item clk, tt);
     }
 
+-- the offer for an entry is at most the clock word
 offer_below : (x : Sender) (e : Entry) (n : ℕ) → x.ready ≤ n → offer_for x e ≤ n
 offer_below x (Message i m) n le = le
 offer_below x (Ended i) n le = omega arith
 
+-- what stands in a list that is one longer
 snoc_get : (log : List Slot) (x y : Slot) (k : ℕ) → slice_get (log ++ x ∷ []) k ≡ Some y → (slice_get log k ≡ Some y) ⊎ (x ≡ y)
 snoc_get [] x y zero h = inr cc
 snoc_get [] x y (suc k) h = cc
 snoc_get (z ∷ log) x y zero h = inl h
 snoc_get (z ∷ log) x y (suc k) h = snoc_get log x y k h
 
+-- a claim keeps the rule: the entry is the sender's next one, and nobody else's
 pub claims_keep : (places slots id : ℕ) (me : Seated) (x : Sender) (e : Entry) → me.0.gets ≡ false → me.0.senders ≡ x ∷ [] → x.pending ≡ [] → x.closed ≡ false → sender_of e ≡ x.from → 0 < me.0.room
     → Allows (Kept places) slots id me 0 (λ n. (n + 1) % 2 ^ 64) (ClaimsIt e (step slots 0 1 0 none) me)
 claims_keep places slots id me x e quiet only rest opened is room s h same at lt =
@@ -246,15 +261,15 @@ claims_keep places slots id me x e quiet only rest opened is room s h same at lt
       (refl, refl, subst (Each (λ (z : Sender). n < z.places)) (sym only) ((let p = mine.places_are in omega arith), tt)),
     )
 
+-- nothing changes: the words grow
 grows_same : (w : World) → Grows w w
 grows_same w = record { made = omega arith; log = ([], sym (append-nil w.log)); frozen = λ k _. (refl, refl); clock = omega arith; offered = λ n f. f }
 
+-- nothing changes: each sender is spared
 spares_same : (w : World) (j : ℕ) → Spares w w j
 spares_same w j = record { put = refl; closed = refl; claims = refl; offers = refl; places = λ k x at is. (refl, refl) }
 
-dated_claim : ℕ → Claim → Claim
-dated_claim n c = claim c.place c.entry c.offer n
-
+-- reading the clock word keeps the rule: it covers the place that was claimed
 pub dates_keep : (places slots id : ℕ) (me : Seated) (x : Sender) (c : Claim) → me.0.gets ≡ false → me.0.senders ≡ x ∷ [] → x.pending ≡ c ∷ [] → is_message c.entry ≡ true
     → Allows (Kept places) slots id me 1 (λ n. n) (DatesIt (step slots 1 0 0 none) me)
 dates_keep places slots id me x c quiet only waits message s h same at lt =
@@ -296,12 +311,14 @@ apart : (w : World) (x : Sender) (c : Claim) (j k : ℕ) (z : Slot) → IsPendin
 apart w x c j k z p other at is same = let both : Some z ≡ Some (slot c.entry c.offer) = sym at ∙ ap (slice_get w.log) same ∙ p.at in
     let z_is : z ≡ slot c.entry c.offer = cc in other (sym is ∙ ap (λ (t : Slot). sender_of t.entry) z_is ∙ p.mine)
 
+-- two numbers are equal or not
 same_or_not : (j k : ℕ) → (j ≡ k) ⊎ (j ≢ k)
 same_or_not zero zero = inl refl
 same_or_not zero (suc k) = inr (λ e. omega arith)
 same_or_not (suc j) zero = inr (λ e. omega arith)
 same_or_not (suc j) (suc k) = ⊎_elim (λ e. inl (ap suc e)) (λ n. inr (λ e. n (omega arith))) (same_or_not j k)
 
+-- storing the clock of the place keeps the rule
 pub shows_keep : (places slots id i n : ℕ) (me : Seated) (x : Sender) (c : Claim) → me.0.gets ≡ false → me.0.senders ≡ x ∷ [] → x.pending ≡ c ∷ [] → i ≡ c.place + c.place + 3 → n ≡ c.clock
     → Allows (Kept places) slots id me i (λ _. n) (λ _. ShowsIt (step slots i n 0 none) me n)
 shows_keep places slots id i n me x c quiet only waits word value s h same at lt =
@@ -366,10 +383,12 @@ shows_keep places slots id i n me x c quiet only waits word value s h same at lt
       (refl, refl),
     )
 
+-- the word of an entry is not 0
 code_some : (e : Entry) → code e ≢ 0
 code_some (Message i m) z = omega arith
 code_some (Ended i) z = omega arith
 
+-- storing the entry of the place keeps the rule: the claim is stored from now on
 pub stores_keep : (places slots id i n : ℕ) (me : Seated) (x : Sender) (c : Claim) → me.0.gets ≡ false → me.0.senders ≡ x ∷ [] → x.pending ≡ c ∷ [] → i ≡ c.place + c.place + 2 → n ≡ code c.entry → IsSmall c.entry → x.shown ≡ c.clock
     → Allows (Kept places) slots id me i (λ _. n) (λ _. StoresIt (step slots i n 0 none) me n)
 stores_keep places slots id i n me x c quiet only waits word value small shown s h same at lt =

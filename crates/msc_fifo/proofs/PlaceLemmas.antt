@@ -13,22 +13,27 @@ use Rattle.msc_fifo.specs.Views.{offers_of}
 use Rattle.msc_fifo.specs.Settling.{put_all}
 use Rattle.msc_fifo.proofs.LogLemmas.{cond-true}
 
+-- one claim more is written last
 pub put_all-snoc : (cs : List Claim) (c : Claim) (ps : List Place) → put_all (cs ++ c ∷ []) ps ≡ set (put_all cs ps) c.place (place_of c)
 put_all-snoc [] c ps = refl
 put_all-snoc (d ∷ cs) c ps = put_all-snoc cs c (set ps d.place (place_of d))
 
+-- writing changes no length
 pub length-put_all : (cs : List Claim) (ps : List Place) → length (put_all cs ps) ≡ length ps
 length-put_all [] ps = refl
 length-put_all (c ∷ cs) ps = length-put_all cs (set ps c.place (place_of c)) ∙ length-set ps c.place (place_of c)
 
+-- the loop that writes claims, one turn on
 pub put_all-more : (cs : List Claim) (k : ℕ) (d : Claim) (ps : List Place) → k < length cs → put_all (take (k + 1) cs) ps ≡ set (put_all (take k cs) ps) (get_or cs k d).place (place_of (get_or cs k d))
 put_all-more cs k d ps lt = ap (λ l. put_all l ps) (take_more cs k d lt) ∙ put_all-snoc (take k cs) (get_or cs k d) ps
 
+-- what holds of all claims holds of claim k
 pub each_at : (P : Claim → Type 0) (cs : List Claim) (k : ℕ) (d : Claim) → k < length cs → Each P cs → P (get_or cs k d)
 each_at P [] k d lt h = absurd (omega arith)
 each_at P (c ∷ cs) zero d lt h = h.0
 each_at P (c ∷ cs) (suc k) d lt h = each_at P cs k d (omega arith) h.1
 
+-- the same, of the list that the loop keeps
 pub filled_more : (cs : List Claim) (k : ℕ) (d : Claim) (ps now : List Place) (p : Place) → k < length cs → now ≡ put_all (take k cs) ps → p ≡ place_of (get_or cs k d) → set now (get_or cs k d).place p ≡ put_all (take (k + 1) cs) ps
 filled_more cs k d ps now p lt was is = (λ j. set (was j) (get_or cs k d).place (is j)) ∙ sym (put_all-more cs k d ps lt)
 
@@ -37,43 +42,53 @@ abbrev pub build : ℕ → (ℕ → ℕ) → List Slot → List Claim
 build k clk [] = []
 build k clk (x ∷ xs) = claim k x.entry x.offer (clk k) ∷ build (k + 1) clk xs
 
+-- a claim with the clock that the words hold
 abbrev pub dress : (ℕ → ℕ) → Spot → Claim
 dress clk s = claim s.place s.slot.entry s.slot.offer (clk s.place)
 
+-- the claims by places are for the entries
 pub entries-build : (k : ℕ) (clk : ℕ → ℕ) (log : List Slot) → entries_at (build k clk log) ≡ entries log
 entries-build k clk [] = refl
 entries-build k clk (x ∷ log) = ap (λ l. x.entry ∷ l) (entries-build (k + 1) clk log)
 
+-- as many claims as places
 pub length-build : (k : ℕ) (clk : ℕ → ℕ) (log : List Slot) → length (build k clk log) ≡ length log
 length-build k clk [] = refl
 length-build k clk (x ∷ log) = ap suc (length-build (k + 1) clk log)
 
+-- the claim at a place
 pub get-build : (k n j : ℕ) (clk : ℕ → ℕ) (log : List Slot) (c : Claim) → n ≡ k + j → slice_get (build k clk log) j ≡ Some c → (x : Slot) × (slice_get log j ≡ Some x) × (claim n x.entry x.offer (clk n) ≡ c)
 get-build k n j clk [] c at h = cc
 get-build k n zero clk (x ∷ log) c at h = let here : n ≡ k = omega arith in let is : claim k x.entry x.offer (clk k) ≡ c = cc in (x, refl, (λ i. claim (here i) x.entry x.offer (clk (here i))) ∙ is)
 get-build k n (suc j) clk (x ∷ log) c at h = get-build (k + 1) n j clk log c (omega arith) h
 
+-- a choice between lists of claims
 cond-map : (clk : ℕ → ℕ) (b : Bool) (s : Spot) (cs : List Claim) (bs : List Spot) → cs ≡ map (dress clk) bs → cond b (dress clk s ∷ cs) cs ≡ map (dress clk) (cond b (s ∷ bs) bs)
 cond-map clk true s cs bs e = ap (λ l. dress clk s ∷ l) e
 cond-map clk false s cs bs e = e
 
+-- a sender's claims by places are its own
 pub claims-build : (i k : ℕ) (clk : ℕ → ℕ) (log : List Slot) → claims_of i (build k clk log) ≡ map (dress clk) (own i k log)
 claims-build i k clk [] = refl
 claims-build i k clk (x ∷ log) = cond-map clk (sender_of x.entry == i) (spot k x) (claims_of i (build (k + 1) clk log)) (own i (k + 1) log) (claims-build i (k + 1) clk log)
 
+-- claims with the clocks that the words hold are the claims
 pub dressed : (clk : ℕ → ℕ) (cs : List Claim) → Each (λ (c : Claim). clk c.place ≡ c.clock) cs → map (dress clk) (map spot_of cs) ≡ cs
 dressed clk [] h = refl
 dressed clk (c ∷ cs) h = λ j. claim c.place c.entry c.offer (h.0 j) ∷ dressed clk cs h.1 j
 
 module _ {A : Type 0} where
+  -- what holds of all holds of one among them
   pub among_each : (P : A → Type 0) (xs : List A) (x : A) (k : ℕ) → slice_get xs k ≡ Some x → Each P xs → P x
   among_each P [] x k at h = cc
   among_each P (y ∷ xs) x zero at h = let is : y ≡ x = cc in subst P is h.0
   among_each P (y ∷ xs) x (suc k) at h = among_each P xs x k at h.1
 
+  -- what is in a list is in a longer one
   among_more : (y x : A) (xs : List A) → IsAmong x xs → IsAmong x (y ∷ xs)
   among_more y x xs h = (suc h.0, h.1)
 
+  -- the same behind a choice
   cond-among : (b : Bool) (y x : A) (xs : List A) → IsAmong x xs → IsAmong x (cond b (y ∷ xs) xs)
   cond-among true y x xs h = among_more y x xs h
   cond-among false y x xs h = h
@@ -84,11 +99,13 @@ among_own i k [] c at is = cc
 among_own i zero (d ∷ log) c at is = let same : d ≡ c = cc in subst (IsAmong c) (sym (cond-true (sender_of d.entry == i) (d ∷ claims_of i log) (claims_of i log) (eq-eqb (sender_of d.entry) i (ap (λ (x : Claim). sender_of x.entry) same ∙ is)))) (0, at)
 among_own i (suc k) (d ∷ log) c at is = cond-among (sender_of d.entry == i) d c (claims_of i log) (among_own i k log c at is)
 
+-- a member behind a choice is the first or one of the rest
 cond-get : (b : Bool) (d c : Claim) (cs : List Claim) (k : ℕ) → slice_get (cond b (d ∷ cs) cs) k ≡ Some c → ((b ≡ true) × (d ≡ c)) ⊎ ((j : ℕ) × (slice_get cs j ≡ Some c))
 cond-get true d c cs zero h = let same : d ≡ c = cc in inl (refl, same)
 cond-get true d c cs (suc k) h = inr (k, h)
 cond-get false d c cs k h = inr (k, h)
 
+-- a sender's claims stand among all, and are its own
 pub own_among : (i k : ℕ) (log : List Claim) (c : Claim) → slice_get (claims_of i log) k ≡ Some c → IsAmong c log × (sender_of c.entry ≡ i)
 own_among i k [] c at = cc
 own_among i k (d ∷ log) c at = ⊎_elim
@@ -113,6 +130,7 @@ offer_among (c ∷ cs) k n at = both (is_message c.entry) refl at (λ j h. let r
 is_of : ℕ → OutletState → Bool
 is_of i o = o.sender == i
 
+-- a choice that is false counts nothing
 cond-zero : (b : Bool) (n : ℕ) → b ≡ false → cond {A = ℕ} b 1 0 + n ≡ n
 cond-zero true n e = absurd (true≢false e)
 cond-zero false n e = omega arith

@@ -24,19 +24,24 @@ pub record Spares (w w' : World) (i : ℕ) : Type 0 where
   pub offers : w'.offered i ≡ w.offered i
   pub places : (k : ℕ) (x : Slot) → slice_get w.log k ≡ Some x → sender_of x.entry ≡ i → (w'.item k ≡ w.item k) × (w'.clk k ≡ w.clk k)
 
+-- what was claimed stays
 pub at_longer : (w w' : World) (k : ℕ) (x : Slot) → Grows w w' → slice_get w.log k ≡ Some x → slice_get w'.log k ≡ Some x
 at_longer w w' k x g at = subst (λ (l : List Slot). slice_get l k ≡ Some x) (sym g.log.1) (get_front w.log g.log.0 k x at)
 
+-- a clock still covers its place
 pub covers_stay : (w w' : World) (k n : ℕ) (x : Slot) → Grows w w' → slice_get w.log k ≡ Some x → Covers w.log k n → Covers w'.log k n
 covers_stay w w' k n x g at c = subst (λ (l : List Slot). Covers l k n) (sym g.log.1) (covers_longer w.log g.log.0 k n x at c)
 
+-- a clock stays lawful
 pub dated_stays : (w w' : World) (k n : ℕ) → Grows w w' → IsDated w k n → IsDated w' k n
 dated_stays w w' k n g (inl z) = inl z
 dated_stays w w' k n g (inr h) = inr (h.0, at_longer w w' k h.0 g h.1, h.2, covers_stay w w' k n h.0 g h.1 h.3, g.offered n h.4)
 
+-- a stored claim stays stored
 pub stored_stays : (w w' : World) (c : Claim) → Grows w w' → IsStored w c → IsStored w' c
 stored_stays w w' c g h = let f = g.frozen c.place h.0 in ((λ z. h.0 (sym f.0 ∙ z)), f.1 ∙ h.1)
 
+-- a claim that is not stored stays so where the step is none of its sender
 pending_stays : (w w' : World) (x : Sender) (c : Claim) → Grows w w' → Spares w w' x.from → IsPending w x c → IsPending w' x c
 pending_stays w w' x c g s h = let p = s.places c.place (slot c.entry c.offer) h.at h.mine in record {
   at = at_longer w w' c.place (slot c.entry c.offer) g h.at;
@@ -47,6 +52,7 @@ pending_stays w w' x c g s h = let p = s.places c.place (slot c.entry c.offer) h
   dated = dated_stays w w' c.place c.clock g h.dated;
 }
 
+-- what is known of a sender stays so where the step is none of its own
 pub sender_stays : (places : ℕ) (w w' : World) (id id' : ℕ) (x : Sender) → Grows w w' → Spares w w' x.from → w'.seat x.from ≡ id' → IsSender places w id x → IsSender places w' id' x
 sender_stays places w w' id id' x g s seat h = record {
   seat = seat;

@@ -11,26 +11,32 @@ use Rattle.msc_fifo.specs.Entries.{sender_of, messages_of, has_ended, IsOrderly}
 use Rattle.msc_fifo.specs.World.{Each, Slot, spot_of, entries, own, code, IsSmall, Covers}
 use Rattle.msc_fifo.specs.Views.{sends, resting}
 
+-- what a seat knows and holds; it never holds a slot
 abbrev pub Seated : Type 0
 Seated = Me (Unit {0}) View
 
+-- the view with a change of its senders
 abbrev pub with_senders : (Sender → Sender) → View → View
 with_senders f v = record v { senders = map f v.senders }
 
--- the senders' knowledge after an offer, a claim, the reading of the clock, and the two stores
+-- what is known of a sender after it made an offer
 abbrev pub after_offer : ℕ → Sender → Sender
 after_offer n x = record x { offers = x.offers ++ n ∷ []; ready = n }
 
+-- after a claim
 abbrev pub after_claim : ℕ → Entry → Sender → Sender
 after_claim k (Message i m) x = record x { put = x.put ++ m ∷ []; pending = claim k (Message i m) x.ready 0 ∷ []; shown = 0 }
 after_claim k (Ended i) x = record x { closed = true; pending = claim k (Ended i) 0 0 ∷ []; shown = 0 }
 
+-- after the clock of the place was read
 abbrev pub after_date : ℕ → Sender → Sender
 after_date n x = record x { pending = map (λ (c : Claim). claim c.place c.entry c.offer n) x.pending }
 
+-- after the clock of the place was stored
 abbrev pub after_show : ℕ → Sender → Sender
 after_show n x = record x { shown = n }
 
+-- after the entry of the place was stored
 abbrev pub after_store : Sender → Sender
 after_store x = record x { claims = x.claims ++ x.pending; pending = []; ready = 0; shown = 0 }
 
@@ -46,9 +52,11 @@ ClaimsIt e st m found m' = (m'.0 ≡ record (with_senders (after_claim found e) 
 abbrev pub DatesIt : Step (Unit {0}) → Seated → ℕ → Seated → Type 0
 DatesIt st m found m' = (m'.0 ≡ with_senders (after_date found) m.0) × (m'.1 ≡ m.1) × Each (λ (x : Sender). x.ready ≤ found) m.0.senders
 
+-- the clock of the place was stored
 abbrev pub ShowsIt : Step (Unit {0}) → Seated → ℕ → Seated → Type 0
 ShowsIt st m found m' = (m'.0 ≡ with_senders (after_show st.first) m.0) × (m'.1 ≡ m.1)
 
+-- the entry of the place was stored
 abbrev pub StoresIt : Step (Unit {0}) → Seated → ℕ → Seated → Type 0
 StoresIt st m found m' = (m'.0 ≡ with_senders after_store m.0) × (m'.1 ≡ m.1)
 
@@ -82,6 +90,7 @@ pub record Told (v : View) (count : ℕ) : Type 0 where
   pub dated : (k : ℕ) → k < count → (clk k ≡ 0) ⊎ (Covers log k (clk k) × ((i : ℕ) × (i < v.made) × ((j : ℕ) × (slice_get (offered i) j ≡ Some (clk k)))))
   pub senders : Each (λ (x : Sender). (x.from < v.made) × (x.put ≡ messages_of x.from (entries log)) × (x.closed ≡ has_ended x.from (entries log)) × (map spot_of (x.claims ++ x.pending) ≡ own x.from 0 log) × (x.offers ≡ offered x.from) × Each (λ (c : Claim). clk c.place ≡ c.clock) x.claims) v.senders
 
+-- the claim word was read
 abbrev pub SettlesIt : Step (Unit {0}) → Seated → ℕ → Seated → Type 0
 SettlesIt st m found m' = (m' ≡ m) × Told m.0 found
 

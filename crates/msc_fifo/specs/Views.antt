@@ -47,6 +47,7 @@ pub record IsReceiver (places : ℕ) (w : World) (id : ℕ) (v : View) : Type 0 
   pub few : length v.clocks ≤ length v.got
   pub clocks : (k : ℕ) → k < length v.clocks → w.clk k ≡ slice_index v.clocks k
 
+-- what a seat knows is so
 abbrev pub Fits : ℕ → World → ℕ → View → Type 0
 Fits places w id v = (v.gets ≡ true → IsReceiver places w id v) × Each (IsSender places w id) v.senders
 
@@ -93,6 +94,7 @@ sends room x = record { gets = false; made = 0; places = 0; got = []; clocks = [
 abbrev pub beside : View → View → View
 beside v w = record v { room = v.room + w.room; senders = v.senders ++ w.senders }
 
+-- the view of a ticket that was taken in
 abbrev pub nobody : View
 nobody = record { gets = false; made = 0; places = 0; got = []; clocks = []; room = 0; senders = [] }
 
@@ -121,6 +123,7 @@ IsProper c = is_message c.entry ≡ true → (0 < c.offer) × (c.offer ≤ c.clo
 abbrev pub Ticket : Type 0
 Ticket = Seat (Unit {0}) View
 
+-- what the ticket knows
 abbrev pub knows : Ticket → View
 knows t = t.me.0
 

@@ -21,11 +21,13 @@ pub record Slot : Type 0 where
 -- a place, and what was claimed there
 pub record Spot : Type 0 where
   pub place : ℕ
+  -- a slot of this entry and offer
   pub slot : Slot
 
 abbrev pub slot : Entry → ℕ → Slot
 slot e n = record { entry = e; offer = n }
 
+-- a spot of this place and slot
 abbrev pub spot : ℕ → Slot → Spot
 spot k x = record { place = k; slot = x }
 
