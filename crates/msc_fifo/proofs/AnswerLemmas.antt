@@ -1,5 +1,5 @@
 -- What the joined seat tells of the places, and the answers that follow.
-use Rattle.std.proofs.Common.{◌≡◌, ◌≢◌, ◌⊎◌, ℕ, zero, suc, ◌<◌, ◌≤◌, ◌==◌, true, List, [], ◌∷◌, ◌++◌, map, length, set, count_by, All, Some, slice_get, slice_index, inl, inr, ⊎_elim, sym, refl, ap, ◌∙◌, subst, arith, length-set, append-nil, append_assoc}
+use Rattle.std.proofs.Common.{◌≡◌, ℕ, zero, suc, ◌<◌, ◌≤◌, ◌==◌, true, List, [], ◌∷◌, ◌++◌, map, length, set, count_by, All, Some, slice_get, slice_index, ⊎_elim, sym, refl, ap, ◌∙◌, subst, arith, length-set, append-nil, append_assoc}
 use Rattle.std.proofs.lemmas.List.Elements.{All-cons, All-nil}
 use Rattle.msc_fifo.specs.declared.entry.Entry.{Entry}
 use Rattle.msc_fifo.specs.declared.claim.Claim.{Claim}
@@ -11,14 +11,14 @@ use Rattle.msc_fifo.specs.declared.parts.Part.{Part}
 use Rattle.msc_fifo.specs.Claims.{is_message}
 use Rattle.msc_fifo.specs.Entries.{sender_of, messages_of, has_ended, IsOrderly}
 use Rattle.msc_fifo.specs.Ends.{OutletState, InletState, AreOutletsOf}
-use Rattle.msc_fifo.specs.Settlement.{IsAccountOf, HasAccount, entries_at, claims_of, place_of, IsAmong, IsPlaced, IsSettled}
+use Rattle.msc_fifo.specs.Settlement.{IsAccountOf, HasAccount, entries_at, claims_of, place_of, IsAmong, IsPlaced}
 use Rattle.msc_fifo.specs.World.{Each, Slot, spot_of, entries, own, Covers}
 use Rattle.msc_fifo.specs.Views.{offers_of, IsProper}
 use Rattle.msc_fifo.specs.Moves.{Told}
-use Rattle.msc_fifo.specs.Settling.{put_all, IsSenderOf, AreSendersOf}
+use Rattle.msc_fifo.specs.Settling.{Shows, IsSenderOf, AreSendersOf}
 use Rattle.msc_fifo.specs.Parts.{IsPartOf, ArePartsOf}
 use Rattle.msc_fifo.proofs.LogLemmas.{get_inside}
-use Rattle.msc_fifo.proofs.PlaceLemmas.{build, dress, entries-build, length-build, get-build, claims-build, dressed, among_each, among_own, own_among, offer_among, outlet_of, length-put_all}
+use Rattle.msc_fifo.proofs.PlaceLemmas.{build, dress, entries-build, length-build, get-build, claims-build, dressed, among_each, among_own, own_among, offer_among, outlet_of}
 use Rattle.msc_fifo.proofs.ItemLemmas.{claimed_items}
 use Rattle.msc_fifo.proofs.SettleLemmas.{IsLearned, learned, account_of}
 use Rattle.msc_fifo.proofs.FillLemmas.{once_apart, slice_get-set_same, kept_accounts}
@@ -128,65 +128,6 @@ answered inlet outlets v n are t senders made got clocks proper =
       };
     }
 
-module _ {A : Type 0} where
-  -- what is written at a place stands there
-  set_get : (xs : List A) (i : ℕ) (a : A) → i < length xs → slice_get (set xs i a) i ≡ Some a
-  set_get [] i a lt = absurd (omega arith)
-  set_get (x ∷ xs) zero a lt = refl
-  set_get (x ∷ xs) (suc i) a lt = set_get xs i a (omega arith)
-
-  -- and nothing else changes
-  set_pass : (xs : List A) (i j : ℕ) (a : A) → j ≢ i → slice_get (set xs i a) j ≡ slice_get xs j
-  set_pass [] i j a n = refl
-  set_pass (x ∷ xs) zero zero a n = absurd (n refl)
-  set_pass (x ∷ xs) zero (suc j) a n = refl
-  set_pass (x ∷ xs) (suc i) zero a n = refl
-  set_pass (x ∷ xs) (suc i) (suc j) a n = set_pass xs i j a (λ e. n (ap suc e))
-
-  -- what holds of each member holds of the list
-  each_of : (P : A → Type 0) (xs : List A) → ((x : A) → IsAmong x xs → P x) → Each P xs
-  each_of P [] f = tt
-  each_of P (x ∷ xs) f = (f x (0, refl), each_of P xs (λ y a. f y (suc a.0, a.1)))
-
--- two numbers are equal or not
-equal_or_not : (j k : ℕ) → (j ≡ k) ⊎ (j ≢ k)
-equal_or_not zero zero = inl refl
-equal_or_not zero (suc k) = inr (λ e. omega arith)
-equal_or_not (suc j) zero = inr (λ e. omega arith)
-equal_or_not (suc j) (suc k) = ⊎_elim (λ e. inl (ap suc e)) (λ n. inr (λ e. n (omega arith))) (equal_or_not j k)
-
--- the place of a claim is written
-abbrev pub IsFilled : List Place → Claim → Type 0
-IsFilled ps c = slice_get ps c.place ≡ Some (place_of c)
-
--- a claim is that of its place in the list, and there is room for it
-abbrev Stands : List Claim → List Place → Claim → Type 0
-Stands log ps c = (slice_get log c.place ≡ Some c) × (c.place < length ps)
-
--- a place that is written stays so while claims of the list are written
-stays_filled : (log : List Claim) (ps : List Place) (c d : Claim) → Stands log ps c → slice_get log d.place ≡ Some d → IsFilled ps d → IsFilled (set ps c.place (place_of c)) d
-stays_filled log ps c d s at f = ⊎_elim
-    (λ (same : d.place ≡ c.place). let both : Some c ≡ Some d = sym s.0 ∙ ap (slice_get log) (sym same) ∙ at in let is : c ≡ d = cc in ap (slice_get (set ps c.place (place_of c))) same ∙ set_get ps c.place (place_of c) s.1 ∙ ap (λ (x : Claim). Some (place_of x)) is)
-    (λ other. set_pass ps c.place d.place (place_of c) other ∙ f) (equal_or_not d.place c.place)
-
--- there is as much room after a place was written
-stands_on : (log : List Claim) (ps : List Place) (i : ℕ) (p : Place) (cs : List Claim) → Each (Stands log ps) cs → Each (Stands log (set ps i p)) cs
-stands_on log ps i p [] h = tt
-stands_on log ps i p (c ∷ cs) h = ((h.0.0, (let n = length-set ps i p in let lt = h.0.1 in omega arith)), stands_on log ps i p cs h.1)
-
--- the same where many claims are written
-keeps_filled : (log : List Claim) (cs : List Claim) (ps : List Place) (d : Claim) → Each (Stands log ps) cs → slice_get log d.place ≡ Some d → IsFilled ps d → IsFilled (put_all cs ps) d
-keeps_filled log [] ps d h at f = f
-keeps_filled log (c ∷ cs) ps d h at f = keeps_filled log cs (set ps c.place (place_of c)) d (stands_on log ps c.place (place_of c) cs h.1) at (stays_filled log ps c d h.0 at f)
-
--- all claims that were written are filled in
-fills_all : (log : List Claim) (cs : List Claim) (ps : List Place) → Each (Stands log ps) cs → Each (IsFilled (put_all cs ps)) cs
-fills_all log [] ps h = tt
-fills_all log (c ∷ cs) ps h = let on = stands_on log ps c.place (place_of c) cs h.1 in (
-  keeps_filled log cs (set ps c.place (place_of c)) c on h.0.0 (set_get ps c.place (place_of c) h.0.1),
-  fills_all log cs (set ps c.place (place_of c)) on,
-)
-
 -- where each place is that of its claim, the places are those of the claims
 same_list : (xs : List Place) (ys : List Claim) → length xs ≡ length ys → ((k : ℕ) (c : Claim) → slice_get ys k ≡ Some c → slice_get xs k ≡ Some (place_of c)) → xs ≡ map place_of ys
 same_list [] [] e f = refl
@@ -194,8 +135,27 @@ same_list [] (y ∷ ys) e f = absurd (omega arith)
 same_list (x ∷ xs) [] e f = absurd (omega arith)
 same_list (x ∷ xs) (y ∷ ys) e f = let here : Some x ≡ Some (place_of y) = f zero y refl in let is : x ≡ place_of y = cc in λ j. is j ∷ same_list xs ys (omega arith) (λ k c at. f (suc k) c at) j
 
--- some of the parts are still there, and the others have their accounts and places
-pub record IsAnswering (inlet : InletState) (outlets : List OutletState) (count : ℕ) (parts : List Part) (senders : List Account) (places : List Place) : Type 0 where
+-- an outlet among those that were taken in is one of the senders
+pub sender_at : (os : List OutletState) (xs : List Sender) (k : ℕ) (o : OutletState) → AreSendersOf os xs → slice_get os k ≡ Some o → (x : Sender) × (slice_get xs k ≡ Some x) × IsSenderOf o x
+sender_at [] xs k o are at = cc
+sender_at (p ∷ os) [] k o are at = absurd are
+sender_at (p ∷ os) (y ∷ xs) zero o are at = let same : p ≡ o = cc in (y, refl, subst (λ (q : OutletState). IsSenderOf q y) same are.0)
+sender_at (p ∷ os) (y ∷ xs) (suc k) o are at = sender_at os xs k o are.1 at
+
+-- the places that were read are those of the claims
+pub shown : (inlet : InletState) (outlets : List OutletState) (xs : List Sender) (log : List Claim) (ps : List Place) → AreOutletsOf inlet outlets → AreSendersOf outlets xs → IsPlaced inlet outlets log → length ps ≡ length log → Shows xs ps → ps ≡ map place_of log
+shown inlet outlets xs log ps are senders is size shows = same_list ps log size (λ k c at.
+    let i = sender_of c.entry in
+    let o = outlet_of i outlets (are.once i (sender_within inlet.senders k (entries_at log) c.entry is.orderly (entry_at log k c at))) in
+    let mine = is.claims o.0 o.1 in
+    let b = subst (IsAmong c) (sym (mine ∙ (λ j. claims_of (o.2 j) log))) (among_own i k log c at refl) in
+    let x = sender_at outlets xs o.1.0 o.0 senders o.1.1 in
+    let here = is.numbered k c at in
+    let inside = get_inside log k c at in
+    subst (λ (n : ℕ). slice_get ps n ≡ Some (place_of c)) here (shows c (x.0, (o.1.0, x.1), subst (IsAmong c) (sym x.2.claims) b) (omega arith)))
+
+-- some of the parts are still there, and the others have their accounts
+pub record IsAnswering (inlet : InletState) (outlets : List OutletState) (count : ℕ) (parts : List Part) (senders : List Account) : Type 0 where
   pub outs : List OutletState
   pub done : List OutletState
   pub split : outlets ≡ outs ++ done
@@ -203,13 +163,10 @@ pub record IsAnswering (inlet : InletState) (outlets : List OutletState) (count 
   pub told : IsAnswered inlet outlets count
   pub size : length senders ≡ inlet.senders
   pub accounts : All (HasAccount senders inlet.got) done
-  pub places_size : length places ≡ length told.log
-  pub filled : Each (λ (o : OutletState). Each (IsFilled places) o.claims) done
 
 -- at first no part is answered
-pub starts : (inlet : InletState) (outlets : List OutletState) (count : ℕ) (parts : List Part) (senders : List Account) (places : List Place) → ArePartsOf outlets parts → IsAnswered inlet outlets count → length senders ≡ inlet.senders → length places ≡ count
-    → IsAnswering inlet outlets count parts senders places
-starts inlet outlets count parts senders places are told size places_size = record {
+pub starts : (inlet : InletState) (outlets : List OutletState) (count : ℕ) (parts : List Part) (senders : List Account) → ArePartsOf outlets parts → IsAnswered inlet outlets count → length senders ≡ inlet.senders → IsAnswering inlet outlets count parts senders
+starts inlet outlets count parts senders are told size = record {
   outs = outlets;
   done = [];
   split = sym (append-nil outlets);
@@ -217,36 +174,22 @@ starts inlet outlets count parts senders places are told size places_size = reco
   told = told;
   size = size;
   accounts = All-nil (HasAccount senders inlet.got);
-  places_size = places_size ∙ told.size;
-  filled = tt;
 }
 
--- the claims of an outlet are those of their places
-claims_stand : (inlet : InletState) (outlets : List OutletState) (log : List Claim) (o : OutletState) (ps : List Place) → IsPlaced inlet outlets log → o.claims ≡ claims_of o.sender log → length ps ≡ length log → Each (Stands log ps) o.claims
-claims_stand inlet outlets log o ps is mine size = each_of (Stands log ps) o.claims (λ c a.
-    let b = subst (IsAmong c) mine a in let r = (own_among o.sender b.0 log c b.1).0 in let at = is.numbered r.0 c r.1 in let inside = get_inside log r.0 c r.1 in
-    (subst (λ (k : ℕ). slice_get log k ≡ Some c) (sym at) r.1, omega arith))
-
 -- what is known of the next part
-pub record IsNextPart (inlet : InletState) (outlets : List OutletState) (places : List Place) (p : Part) : Type 0 where
+pub record IsNextPart (inlet : InletState) (p : Part) : Type 0 where
   pub o : OutletState
   pub part : IsPartOf o p
   pub learned_is : IsLearned inlet.senders o.sender inlet.got o.put o.closed
-  pub inside : Each (λ (c : Claim). c.place < length places) o.claims
 
 -- what holds of all outlets holds of one in the middle
 each_append : (P : OutletState → Type 0) (xs ys : List OutletState) (o : OutletState) → Each P (xs ++ o ∷ ys) → P o
 each_append P [] ys o h = h.0
 each_append P (x ∷ xs) ys o h = each_append P xs ys o h.1
 
--- claims that stand are inside
-each_second : (log : List Claim) (ps : List Place) (cs : List Claim) → Each (Stands log ps) cs → Each (λ (c : Claim). c.place < length ps) cs
-each_second log ps [] h = tt
-each_second log ps (c ∷ cs) h = (h.0.1, each_second log ps cs h.1)
-
 -- the part that is answered next is that of some outlet, of which all is known
-pub next_part : (inlet : InletState) (outlets : List OutletState) (count : ℕ) (parts rest : List Part) (senders : List Account) (places : List Place) (p : Part) → IsAnswering inlet outlets count parts senders places → parts ≡ rest ++ p ∷ [] → IsNextPart inlet outlets places p
-next_part inlet outlets count parts rest senders places p h popped =
+pub next_part : (inlet : InletState) (outlets : List OutletState) (count : ℕ) (parts rest : List Part) (senders : List Account) (p : Part) → IsAnswering inlet outlets count parts senders → parts ≡ rest ++ p ∷ [] → IsNextPart inlet p
+next_part inlet outlets count parts rest senders p h popped =
     let b = parts_back h.outs rest p (subst (ArePartsOf h.outs) popped h.parts_are) in
     let o = b.1 in
     let whole : outlets ≡ b.0 ++ o ∷ h.done = h.split ∙ ap (λ l. l ++ h.done) b.2 ∙ append_assoc b.0 (o ∷ []) h.done in
@@ -256,45 +199,22 @@ next_part inlet outlets count parts rest senders places p h popped =
       o = o;
       part = b.4;
       learned_is = learned inlet.senders o.sender inlet.got is.got.0 (entries_at h.told.log) o.put o.closed k.lt is.orderly is.got.1 k.put k.closed;
-      inside = each_second h.told.log places o.claims (claims_stand inlet outlets h.told.log o places is k.claims h.places_size);
     }
 
--- what is filled in stays so where the claims of one more outlet are written
-filled_on : (log : List Claim) (cs : List Claim) (ps : List Place) (os : List OutletState) → Each (Stands log ps) cs → Each (λ (o : OutletState). Each (Stands log ps) o.claims) os → Each (λ (o : OutletState). Each (IsFilled ps) o.claims) os → Each (λ (o : OutletState). Each (IsFilled (put_all cs ps)) o.claims) os
-filled_on log cs ps [] s t f = tt
-filled_on log cs ps (o ∷ os) s t f = (inner o.claims t.0 f.0, filled_on log cs ps os s t.1 f.1)
-  where
-    inner : (ds : List Claim) → Each (Stands log ps) ds → Each (IsFilled ps) ds → Each (IsFilled (put_all cs ps)) ds
-    inner [] t f = tt
-    inner (d ∷ ds) t f = (keeps_filled log cs ps d s t.0.0 f.0, inner ds t.1 f.1)
-
--- what holds of all outlets holds of those behind one
-each_tail : (P : OutletState → Type 0) (xs ys : List OutletState) (o : OutletState) → Each P (xs ++ o ∷ ys) → Each P ys
-each_tail P [] ys o h = h.1
-each_tail P (x ∷ xs) ys o h = each_tail P xs ys o h.1
-
--- the claims of all outlets are those of their places
-stand_each : (inlet : InletState) (outlets : List OutletState) (log : List Claim) (offered : ℕ → List ℕ) (ps : List Place) → IsPlaced inlet outlets log → length ps ≡ length log → (os : List OutletState) → Each (IsKnown inlet.senders log offered) os → Each (λ (o : OutletState). Each (Stands log ps) o.claims) os
-stand_each inlet outlets log offered ps is size [] h = tt
-stand_each inlet outlets log offered ps is size (o ∷ os) h = (claims_stand inlet outlets log o ps is h.0.claims size, stand_each inlet outlets log offered ps is size os h.1)
-
--- one part less is left, one account more is there, and its places are filled in
-pub part_answered : (inlet : InletState) (outlets : List OutletState) (count : ℕ) (parts rest : List Part) (senders : List Account) (places : List Place) (p : Part) (a : Account) → AreOutletsOf inlet outlets → (h : IsAnswering inlet outlets count parts senders places) → (popped : parts ≡ rest ++ p ∷ [])
-    → ((o : OutletState) → IsPartOf o p → IsLearned inlet.senders o.sender inlet.got o.put o.closed → IsAccountOf inlet.got o a) → IsAnswering inlet outlets count rest (set senders p.sender a) (put_all p.claims.items places)
-part_answered inlet outlets count parts rest senders places p a are h popped account =
+-- one part less is left, and one account more is there
+pub part_answered : (inlet : InletState) (outlets : List OutletState) (count : ℕ) (parts rest : List Part) (senders : List Account) (p : Part) (a : Account) → AreOutletsOf inlet outlets → (h : IsAnswering inlet outlets count parts senders) → (popped : parts ≡ rest ++ p ∷ [])
+    → ((o : OutletState) → IsPartOf o p → IsLearned inlet.senders o.sender inlet.got o.put o.closed → IsAccountOf inlet.got o a) → IsAnswering inlet outlets count rest (set senders p.sender a)
+part_answered inlet outlets count parts rest senders p a are h popped account =
     let b = parts_back h.outs rest p (subst (ArePartsOf h.outs) popped h.parts_are) in
     let o = b.1 in let part = b.4 in
     let whole : outlets ≡ b.0 ++ o ∷ h.done = h.split ∙ ap (λ l. l ++ h.done) b.2 ∙ append_assoc b.0 (o ∷ []) h.done in
     let log = h.told.log in let is = h.told.is_log in
     let known = subst (Each (IsKnown inlet.senders log h.told.offered)) whole h.told.known in
     let k = each_append (IsKnown inlet.senders log h.told.offered) b.0 h.done o known in
-    let kept = each_tail (IsKnown inlet.senders log h.told.offered) b.0 h.done o known in
-    let stand = claims_stand inlet outlets log o places is k.claims h.places_size in
-    let others = stand_each inlet outlets log h.told.offered places is h.places_size h.done kept in
     let once : count_by (λ x. x.sender == o.sender) (b.0 ++ o ∷ h.done) ≡ 1 = ap (count_by (λ x. x.sender == o.sender)) (sym whole) ∙ are.once o.sender k.lt in
     let fits : o.sender < length senders = subst (λ (n : ℕ). o.sender < n) (sym h.size) k.lt in
     let l = learned inlet.senders o.sender inlet.got is.got.0 (entries_at log) o.put o.closed k.lt is.orderly is.got.1 k.put k.closed in
-    let moved : IsAnswering inlet outlets count rest (set senders o.sender a) (put_all o.claims places) = record {
+    let moved : IsAnswering inlet outlets count rest (set senders o.sender a) = record {
       outs = b.0;
       done = o ∷ h.done;
       split = whole;
@@ -303,11 +223,8 @@ part_answered inlet outlets count parts rest senders places p a are h popped acc
       size = length-set senders o.sender a ∙ h.size;
       accounts = All-cons (HasAccount (set senders o.sender a) inlet.got) o h.done (a, slice_get-set_same senders o.sender a fits, account o part l)
           (kept_accounts inlet.got senders o.sender a h.done (once_apart b.0 h.done o once) h.accounts);
-      places_size = length-put_all o.claims places ∙ h.places_size;
-      filled = (fills_all log o.claims places stand, filled_on log o.claims places h.done stand others h.filled);
     } in
-    subst (λ (n : ℕ). IsAnswering inlet outlets count rest (set senders n a) (put_all p.claims.items places)) (sym part.sender)
-    (subst (λ (cs : List Claim). IsAnswering inlet outlets count rest (set senders o.sender a) (put_all cs places)) (sym part.claims) moved)
+    subst (λ (n : ℕ). IsAnswering inlet outlets count rest (set senders n a)) (sym part.sender) moved
 
 -- where no part is left, no outlet is
 outs_none : (os : List OutletState) (ps : List Part) → ArePartsOf os ps → ps ≡ [] → os ≡ []
@@ -315,27 +232,10 @@ outs_none [] ps are e = refl
 outs_none (o ∷ os) [] are e = absurd are
 outs_none (o ∷ os) (p ∷ ps) are e = cc
 
--- where no part is left, all accounts are there, and the places are the claims
-pub all_answered : (inlet : InletState) (outlets : List OutletState) (count : ℕ) (parts : List Part) (senders : List Account) (places : List Place) → AreOutletsOf inlet outlets → IsAnswering inlet outlets count parts senders places → parts ≡ []
-    → All (HasAccount senders inlet.got) outlets × IsSettled inlet outlets places
-all_answered inlet outlets count parts senders places are h none =
-    let whole : outlets ≡ h.done = h.split ∙ ap (λ l. l ++ h.done) (outs_none h.outs parts h.parts_are none) in
-    let log = h.told.log in let is = h.told.is_log in
-    let filled = subst (Each (λ (o : OutletState). Each (IsFilled places) o.claims)) (sym whole) h.filled in (
-      subst (All (HasAccount senders inlet.got)) (sym whole) h.accounts,
-      record {
-        log = log;
-        is_log = is;
-        places_are = same_list places log h.places_size (λ k c at.
-            let i = sender_of c.entry in
-            let o = outlet_of i outlets (are.once i (sender_within inlet.senders k (entries_at log) c.entry is.orderly (entry_at log k c at))) in
-            let mine = is.claims o.0 o.1 in
-            let f = among_each (λ (x : OutletState). Each (IsFilled places) x.claims) outlets o.0 o.1.0 o.1.1 filled in
-            let b = subst (IsAmong c) (sym (mine ∙ (λ j. claims_of (o.2 j) log))) (among_own i k log c at refl) in
-            let at' = is.numbered k c at in
-            subst (λ (n : ℕ). slice_get places n ≡ Some (place_of c)) at' (among_each (IsFilled places) o.0.claims c b.0 b.1 f));
-      },
-    )
+-- where no part is left, all accounts are there
+pub all_answered : (inlet : InletState) (outlets : List OutletState) (count : ℕ) (parts : List Part) (senders : List Account) → IsAnswering inlet outlets count parts senders → parts ≡ [] → All (HasAccount senders inlet.got) outlets
+all_answered inlet outlets count parts senders h none =
+    subst (All (HasAccount senders inlet.got)) (sym (h.split ∙ ap (λ l. l ++ h.done) (outs_none h.outs parts h.parts_are none))) h.accounts
 
 -- the claims of outlets whose parts are there are proper
 pub parts_proper : (os : List OutletState) (ps : List Part) → ArePartsOf os ps → Each (λ (o : OutletState). Each IsProper o.claims) os

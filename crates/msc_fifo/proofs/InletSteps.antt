@@ -6,15 +6,16 @@ use Rattle.atomic_table.specs.Table.{State, step, keeps, Allows, Splits, Joins, 
 use Rattle.atomic_table.proofs.Lists.{at_set}
 use Rattle.msc_fifo.specs.declared.entry.Entry.{Entry}
 use Rattle.msc_fifo.specs.declared.entry.Entry.TheVariants.{Message, Ended}
+use Rattle.msc_fifo.specs.declared.claim.Claim.{Claim}
 use Rattle.msc_fifo.specs.declared.rule.Sender.{Sender}
 use Rattle.msc_fifo.specs.declared.rule.View.{View}
 use Rattle.msc_fifo.specs.Claims.{is_message}
 use Rattle.msc_fifo.specs.Entries.{sender_of, IsOrderly}
-use Rattle.msc_fifo.specs.World.{Each, Slot, entries, code, World, world, Holds, IsDated, IsStored}
+use Rattle.msc_fifo.specs.World.{Each, Slot, entries, code, World, world, Holds, IsDated, IsStored, slot, IsSmall}
 use Rattle.msc_fifo.specs.Views.{IsSender, IsReceiver, Fits, Sound, Kept, receives, new_sender, sends, beside, nobody}
-use Rattle.msc_fifo.specs.Moves.{Seated, LooksAt, LearnsIt, SettlesIt, Told, clocks_at_once}
+use Rattle.msc_fifo.specs.Moves.{Seated, LooksAt, LearnsIt, SettlesIt, Told, clocks_at_once, ReadsItsEntry, ReadsItsClock}
 use Rattle.msc_fifo.proofs.EntryLemmas.{messages_of-nothing, has_ended-nothing, nothing_past, orderly_wider, orderly-at}
-use Rattle.msc_fifo.proofs.LogLemmas.{cond-true, cond-false, own-nothing, each-map, each-append}
+use Rattle.msc_fifo.proofs.LogLemmas.{cond-true, cond-false, own-nothing, each-map, each-append, get_inside, claim_get}
 use Rattle.msc_fifo.proofs.Worlds.{Grows, Spares, dated_stays, sender_stays, receiver_stays}
 use Rattle.msc_fifo.proofs.Frames.{all_set, rooms_set, rooms_snoc, inlet_keeps, now}
 
@@ -143,6 +144,63 @@ settles_keep places slots id me gets s h same at lt =
           (λ x p. (subst (λ (n : ℕ). x.from < n) (sym mine.made) p.made, p.put, p.closed, p.claims, p.offers, each-map (IsStored old) _ x.claims (λ c q. q.1) p.stored)) (h.each id v at).1;
     } in
     (v, keeps, tt, inlet_keeps places 0 id s me.1 v v h at refl refl (λ g. mine), (refl, told))
+
+module _ {A : Type 0} where
+  -- what holds of all holds of one among them
+  member : (P : A → Type 0) (xs : List A) (k : ℕ) (x : A) → slice_get xs k ≡ Some x → Each P xs → P x
+  member P [] k x at h = cc
+  member P (y ∷ xs) zero x at h = let is : y ≡ x = cc in subst P is h.0
+  member P (y ∷ xs) (suc k) x at h = member P xs k x at h.1
+
+-- what the words of a stored claim are
+pub record IsWritten (places : ℕ) (w : World) (c : Claim) : Type 0 where
+  pub item : w.item c.place ≡ code c.entry
+  pub small : IsSmall c.entry
+  pub clk : w.clk c.place ≡ c.clock
+
+-- the words of a claim that is known of some sender
+kept_at : (places id k : ℕ) (w : World) (x : Sender) (c : Claim) → Sound places w → length w.log ≤ places → IsSender places w id x → slice_get x.claims k ≡ Some c → IsWritten places w c
+kept_at places id k w x c sound few h at =
+    let stored = member (IsStored w) x.claims k c at h.stored in
+    let here = claim_get x.from k w.log x.claims x.pending c h.claims at in
+    let lt = get_inside w.log c.place (slot c.entry c.offer) here in
+    ⊎_elim (λ (z : w.item c.place ≡ 0). absurd (stored.0 z))
+    (λ (y : (z : Slot) × (slice_get w.log c.place ≡ Some z) × (w.item c.place ≡ code z.entry) × IsSmall z.entry).
+    let both : Some y.0 ≡ Some (slot c.entry c.offer) = sym y.1 ∙ here in let same : y.0 ≡ slot c.entry c.offer = cc in
+    record { item = y.2 ∙ ap (λ (z : Slot). code z.entry) same; small = subst (λ (z : Slot). IsSmall z.entry) same y.3; clk = stored.1 })
+    (sound.cells c.place (omega arith))
+
+-- reading the entry of a place keeps the rule, and tells that of its claim
+pub reads_entry : (places slots id i : ℕ) (me : Seated) → me.0.gets ≡ true → Allows (Kept places) slots id me i (λ n. n) (ReadsItsEntry (step slots i 0 0 none) me)
+reads_entry places slots id i me gets s h same at lt = let v : View = me.0 in let old = now h in let total = h.rooms in (
+  v,
+  keeps,
+  tt,
+  inlet_keeps places i id s me.1 v v h at refl refl (h.each id v at).0,
+  (
+    refl,
+    λ c of word.
+        let x = member (IsSender places old id) v.senders of.1.0 of.0 of.1.1 (h.each id v at).1 in
+        let r = kept_at places id of.2.0 old of.0 c h.sound (omega arith) x of.2.1 in
+        (ap (λ (j : ℕ). slice_index s.words j) word ∙ r.item, r.small),
+  ),
+)
+
+-- reading the clock of a place keeps the rule, and tells that of its claim
+pub reads_clock : (places slots id i : ℕ) (me : Seated) → me.0.gets ≡ true → Allows (Kept places) slots id me i (λ n. n) (ReadsItsClock (step slots i 0 0 none) me)
+reads_clock places slots id i me gets s h same at lt = let v : View = me.0 in let old = now h in let total = h.rooms in (
+  v,
+  keeps,
+  tt,
+  inlet_keeps places i id s me.1 v v h at refl refl (h.each id v at).0,
+  (
+    refl,
+    λ c of word.
+        let x = member (IsSender places old id) v.senders of.1.0 of.0 of.1.1 (h.each id v at).1 in
+        let r = kept_at places id of.2.0 old of.0 c h.sound (omega arith) x of.2.1 in
+        ap (λ (j : ℕ). slice_index s.words j) word ∙ r.clk,
+  ),
+)
 
 -- what stands in a list that is one longer
 snoc_cases : (l : List View) (a b : View) (j : ℕ) → get_elem? (l ++ a ∷ []) j ≡ some b → (get_elem? l j ≡ some b) ⊎ ((j ≡ length l) × (a ≡ b))

@@ -1,7 +1,8 @@
 -- Lists of claims: what one claim more changes.
-use Rattle.std.proofs.Common.{◌≡◌, ◌≢◌, ℕ, zero, suc, ◌+◌, ◌<◌, ◌==◌, Bool, true, false, cond, true≢false, List, [], ◌∷◌, ◌++◌, length, Some, slice_get, sym, refl, ap, ◌∙◌, arith, eq-eqb, ne_eqb, append-nil}
+use Rattle.std.proofs.Common.{◌≡◌, ◌≢◌, ◌⊎◌, inl, inr, ⊎_elim, map, ℕ, zero, suc, ◌+◌, ◌<◌, ◌==◌, Bool, true, false, cond, true≢false, List, [], ◌∷◌, ◌++◌, length, Some, slice_get, sym, refl, ap, ◌∙◌, arith, eq-eqb, ne_eqb, append-nil}
+use Rattle.msc_fifo.specs.declared.claim.Claim.{Claim}
 use Rattle.msc_fifo.specs.Entries.{sender_of, HasNothingOf}
-use Rattle.msc_fifo.specs.World.{Each, Slot, spot, entries, own, Covers}
+use Rattle.msc_fifo.specs.World.{Each, Slot, Spot, slot, spot, spot_of, entries, own, Covers}
 
 -- the entries of two lists, one after the other
 pub entries-append : (log more : List Slot) → entries (log ++ more) ≡ entries log ++ entries more
@@ -82,3 +83,29 @@ own-nothing i k (y ∷ log) h = cond-false (sender_of y.entry == i) (spot k y �
 -- a clock still covers the places up to its own after more claims
 pub covers_longer : (log more : List Slot) (k n : ℕ) (x : Slot) → slice_get log k ≡ Some x → Covers log k n → Covers (log ++ more) k n
 covers_longer log more k n x at covers j y le here = let inside = get_inside log k x at in let lt : j < length log = omega arith in covers j y le (get_back log more j y lt here)
+
+module _ {A : Type 0} where
+  -- a member behind a choice is the first or one of the rest
+  pub cond-get : (b : Bool) (d c : A) (cs : List A) (k : ℕ) → slice_get (cond b (d ∷ cs) cs) k ≡ Some c → (d ≡ c) ⊎ ((j : ℕ) × (slice_get cs j ≡ Some c))
+  cond-get true d c cs zero h = let same : d ≡ c = cc in inl same
+  cond-get true d c cs (suc k) h = inr (k, h)
+  cond-get false d c cs k h = inr (k, h)
+
+-- what a sender claimed stands at its place
+pub own_get : (i k n : ℕ) (log : List Slot) (s : Spot) → slice_get (own i k log) n ≡ Some s → (j : ℕ) × (s.place ≡ k + j) × (slice_get log j ≡ Some s.slot)
+own_get i k n [] s h = cc
+own_get i k n (x ∷ log) s h = ⊎_elim
+    (λ (e : spot k x ≡ s). (0, (let place : k ≡ s.place = ap (λ (t : Spot). t.place) e in omega arith), ap (λ (t : Spot). Some t.slot) e))
+    (λ (r : (j : ℕ) × (slice_get (own i (k + 1) log) j ≡ Some s)). let q = own_get i (k + 1) r.0 log s r.1 in (suc q.0, (let place = q.1 in omega arith), q.2))
+    (cond-get (sender_of x.entry == i) (spot k x) s (own i (k + 1) log) n h)
+
+-- a claim without its clock stands where the claim does
+pub spot_get : (cs ds : List Claim) (k : ℕ) (c : Claim) → slice_get cs k ≡ Some c → slice_get (map spot_of (cs ++ ds)) k ≡ Some (spot_of c)
+spot_get [] ds k c h = cc
+spot_get (d ∷ cs) ds zero c h = let same : d ≡ c = cc in ap (λ (x : Claim). Some (spot_of x)) same
+spot_get (d ∷ cs) ds (suc k) c h = spot_get cs ds k c h
+
+-- so a claim of a sender stands at its place
+pub claim_get : (i k : ℕ) (log : List Slot) (cs ds : List Claim) (c : Claim) → map spot_of (cs ++ ds) ≡ own i 0 log → slice_get cs k ≡ Some c → slice_get log c.place ≡ Some (slot c.entry c.offer)
+claim_get i k log cs ds c is at = let r = own_get i 0 k log (spot_of c) (ap (λ (l : List Spot). slice_get l k) (sym is) ∙ spot_get cs ds k c at) in
+    let place : c.place ≡ r.0 = (let e = r.1 in omega arith) in ap (slice_get log) place ∙ r.2

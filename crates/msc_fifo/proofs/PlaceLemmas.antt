@@ -1,41 +1,24 @@
--- The places of a queue: how they are filled, and what the lists of the ends tell of them.
-use Rattle.std.proofs.Common.{◌≡◌, ◌⊎◌, ℕ, zero, suc, ◌+◌, ◌<◌, ◌==◌, Bool, true, false, cond, true≢false, List, [], ◌∷◌, ◌++◌, map, length, set, take, get_or, count_by, Some, slice_get, inl, inr, ⊎_elim, sym, refl, ap, ◌∙◌, subst, arith, length-set, eq-eqb, eqb-true}
-use Rattle.std.proofs.lemmas.List.{take_more}
+-- The places of a queue: how they are read, and what the lists of the ends tell of them.
+use Rattle.std.proofs.Common.{◌≡◌, ◌⊎◌, ℕ, zero, suc, ◌+◌, ◌<◌, ◌==◌, Bool, true, false, cond, true≢false, List, [], ◌∷◌, ◌++◌, map, length, count_by, Some, slice_get, inl, inr, ⊎_elim, sym, refl, ap, ◌∙◌, subst, arith, length-append, eq-or-lt_of_le, eq-eqb, eqb-true}
 use Rattle.std.proofs.lemmas.List.Sums.{sum_by-cons}
 use Rattle.msc_fifo.specs.declared.claim.Claim.{Claim}
 use Rattle.msc_fifo.specs.declared.places.Place.{Place}
+use Rattle.msc_fifo.specs.declared.rule.Sender.{Sender}
 use Rattle.msc_fifo.specs.Claims.{claim, is_message}
 use Rattle.msc_fifo.specs.Entries.{sender_of}
 use Rattle.msc_fifo.specs.Ends.{OutletState}
 use Rattle.msc_fifo.specs.Settlement.{entries_at, claims_of, place_of, IsAmong}
 use Rattle.msc_fifo.specs.World.{Each, Slot, Spot, spot, spot_of, entries, own}
 use Rattle.msc_fifo.specs.Views.{offers_of}
-use Rattle.msc_fifo.specs.Settling.{put_all}
-use Rattle.msc_fifo.proofs.LogLemmas.{cond-true}
+use Rattle.msc_fifo.specs.Moves.{IsClaimOf}
+use Rattle.msc_fifo.specs.Settling.{Shows}
+use Rattle.msc_fifo.proofs.LogLemmas.{cond-true, get_front, get_last}
 
--- one claim more is written last
-pub put_all-snoc : (cs : List Claim) (c : Claim) (ps : List Place) → put_all (cs ++ c ∷ []) ps ≡ set (put_all cs ps) c.place (place_of c)
-put_all-snoc [] c ps = refl
-put_all-snoc (d ∷ cs) c ps = put_all-snoc cs c (set ps d.place (place_of d))
-
--- writing changes no length
-pub length-put_all : (cs : List Claim) (ps : List Place) → length (put_all cs ps) ≡ length ps
-length-put_all [] ps = refl
-length-put_all (c ∷ cs) ps = length-put_all cs (set ps c.place (place_of c)) ∙ length-set ps c.place (place_of c)
-
--- the loop that writes claims, one turn on
-pub put_all-more : (cs : List Claim) (k : ℕ) (d : Claim) (ps : List Place) → k < length cs → put_all (take (k + 1) cs) ps ≡ set (put_all (take k cs) ps) (get_or cs k d).place (place_of (get_or cs k d))
-put_all-more cs k d ps lt = ap (λ l. put_all l ps) (take_more cs k d lt) ∙ put_all-snoc (take k cs) (get_or cs k d) ps
-
--- what holds of all claims holds of claim k
-pub each_at : (P : Claim → Type 0) (cs : List Claim) (k : ℕ) (d : Claim) → k < length cs → Each P cs → P (get_or cs k d)
-each_at P [] k d lt h = absurd (omega arith)
-each_at P (c ∷ cs) zero d lt h = h.0
-each_at P (c ∷ cs) (suc k) d lt h = each_at P cs k d (omega arith) h.1
-
--- the same, of the list that the loop keeps
-pub filled_more : (cs : List Claim) (k : ℕ) (d : Claim) (ps now : List Place) (p : Place) → k < length cs → now ≡ put_all (take k cs) ps → p ≡ place_of (get_or cs k d) → set now (get_or cs k d).place p ≡ put_all (take (k + 1) cs) ps
-filled_more cs k d ps now p lt was is = (λ j. set (was j) (get_or cs k d).place (is j)) ∙ sym (put_all-more cs k d ps lt)
+-- a place more that was read is that of its claim
+pub shown_more : (xs : List Sender) (ps : List Place) (p : Place) (k : ℕ) → k ≡ length ps → Shows xs ps → ((c : Claim) → IsClaimOf c xs → c.place ≡ k → p ≡ place_of c) → Shows xs (ps ++ p ∷ [])
+shown_more xs ps p k at was is c of lt = ⊎_elim
+    (λ (here : c.place ≡ length ps). get_last ps p c.place here ∙ ap Some (is c of (here ∙ sym at)))
+    (λ (before : c.place < length ps). get_front ps (p ∷ []) c.place (place_of c) (was c of before)) (eq-or-lt_of_le (let n = length-append ps (p ∷ []) in omega arith))
 
 -- the claims by places, with the clocks that the words hold
 abbrev pub build : ℕ → (ℕ → ℕ) → List Slot → List Claim

@@ -1,5 +1,5 @@
 -- The moves of the ends of a queue: what each step on its words tells.
-use Rattle.std.specs.Prelude.{◌≡◌, ◌⊎◌, ℕ, ◌-◌, ◌<◌, ◌≤◌, true, false, List, [], ◌∷◌, ◌++◌, map, length, slice_index, slice_get, Some}
+use Rattle.std.specs.Prelude.{◌≡◌, ◌⊎◌, ℕ, ◌+◌, ◌-◌, ◌<◌, ◌≤◌, true, false, List, [], ◌∷◌, ◌++◌, map, length, slice_index, slice_get, Some}
 use Rattle.atomic_table.specs.Table.{Step, Me}
 use Rattle.msc_fifo.specs.declared.entry.Entry.{Entry}
 use Rattle.msc_fifo.specs.declared.entry.Entry.TheVariants.{Message, Ended}
@@ -8,6 +8,7 @@ use Rattle.msc_fifo.specs.declared.rule.Sender.{Sender}
 use Rattle.msc_fifo.specs.declared.rule.View.{View}
 use Rattle.msc_fifo.specs.Claims.{claim}
 use Rattle.msc_fifo.specs.Entries.{sender_of, messages_of, has_ended, IsOrderly}
+use Rattle.msc_fifo.specs.Settlement.{IsAmong}
 use Rattle.msc_fifo.specs.World.{Each, Slot, spot_of, entries, own, code, IsSmall, Covers}
 use Rattle.msc_fifo.specs.Views.{sends, resting}
 
@@ -89,6 +90,18 @@ pub record Told (v : View) (count : ℕ) : Type 0 where
   pub clocks : (k : ℕ) → k < length v.clocks → clk k ≡ slice_index v.clocks k
   pub dated : (k : ℕ) → k < count → (clk k ≡ 0) ⊎ (Covers log k (clk k) × ((i : ℕ) × (i < v.made) × ((j : ℕ) × (slice_get (offered i) j ≡ Some (clk k)))))
   pub senders : Each (λ (x : Sender). (x.from < v.made) × (x.put ≡ messages_of x.from (entries log)) × (x.closed ≡ has_ended x.from (entries log)) × (map spot_of (x.claims ++ x.pending) ≡ own x.from 0 log) × (x.offers ≡ offered x.from) × Each (λ (c : Claim). clk c.place ≡ c.clock) x.claims) v.senders
+
+-- the claim is one that is known of some sender
+abbrev pub IsClaimOf : Claim → List Sender → Type 0
+IsClaimOf c xs = (x : Sender) × IsAmong x xs × IsAmong c x.claims
+
+-- the entry of a place was read: it is that of the claim that is known of it
+abbrev pub ReadsItsEntry : Step (Unit {0}) → Seated → ℕ → Seated → Type 0
+ReadsItsEntry st m found m' = (m' ≡ m) × ((c : Claim) → IsClaimOf c m.0.senders → st.word ≡ c.place + c.place + 2 → (found ≡ code c.entry) × IsSmall c.entry)
+
+-- the clock of a place was read: it is that of the claim that is known of it
+abbrev pub ReadsItsClock : Step (Unit {0}) → Seated → ℕ → Seated → Type 0
+ReadsItsClock st m found m' = (m' ≡ m) × ((c : Claim) → IsClaimOf c m.0.senders → st.word ≡ c.place + c.place + 3 → found ≡ c.clock)
 
 -- the claim word was read
 abbrev pub SettlesIt : Step (Unit {0}) → Seated → ℕ → Seated → Type 0

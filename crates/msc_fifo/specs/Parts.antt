@@ -10,7 +10,6 @@ pub record IsPartOf (o : OutletState) (p : Part) : Type 0 where
   pub sender : p.sender ≡ o.sender
   pub put : p.put.items ≡ o.put
   pub closed : p.closed ≡ o.closed
-  pub claims : p.claims.items ≡ o.claims
   pub room : length o.put ≤ p.room
   pub proper : Each IsProper o.claims
 

@@ -1,5 +1,5 @@
--- How a queue is settled: what the joined ticket knows, and how the places are written.
-use Rattle.std.specs.Prelude.{◌≡◌, ℕ, List, [], ◌∷◌, ◌++◌, set}
+-- How a queue is settled: what the joined ticket knows, and what the places show.
+use Rattle.std.specs.Prelude.{◌≡◌, ℕ, ◌<◌, List, [], ◌∷◌, ◌++◌, length, slice_get, Some}
 use Rattle.msc_fifo.specs.declared.claim.Claim.{Claim}
 use Rattle.msc_fifo.specs.declared.rule.Sender.{Sender}
 use Rattle.msc_fifo.specs.declared.rule.View.{View}
@@ -7,11 +7,11 @@ use Rattle.msc_fifo.specs.declared.places.Place.{Place}
 use Rattle.msc_fifo.specs.Ends.{OutletState}
 use Rattle.msc_fifo.specs.Settlement.{place_of}
 use Rattle.msc_fifo.specs.Views.{offers_of}
+use Rattle.msc_fifo.specs.Moves.{IsClaimOf}
 
--- the places after some claims were written over them
-abbrev pub put_all : List Claim → List Place → List Place
-put_all [] ps = ps
-put_all (c ∷ cs) ps = put_all cs (set ps c.place (place_of c))
+-- each place that was claimed by one of these senders is answered as its claim says
+abbrev pub Shows : List Sender → List Place → Type 0
+Shows xs ps = (c : Claim) → IsClaimOf c xs → c.place < length ps → slice_get ps c.place ≡ Some (place_of c)
 
 -- what the joined ticket knows of an outlet
 pub record IsSenderOf (o : OutletState) (x : Sender) : Type 0 where

@@ -115,6 +115,11 @@ left_of quota put closed = (quota - length put) + (if closed then 0 else 1)
 abbrev pub Receives : View → ℕ → ℕ → List Entry → Type 0
 Receives v places made got = (v.gets ≡ true) × (v.made ≡ made) × (v.got ≡ got) × (v.senders ≡ []) × (length v.clocks ≡ length got) × (v.places ≡ places)
 
+-- the claims of the first sender: of an outlet's view its own
+abbrev pub claims_in : List Sender → List Claim
+claims_in [] = []
+claims_in (x ∷ xs) = x.claims
+
 -- a message's claim has an offer of at least 1, and its clock is at least the offer
 abbrev pub IsProper : Claim → Type 0
 IsProper c = is_message c.entry ≡ true → (0 < c.offer) × (c.offer ≤ c.clock)

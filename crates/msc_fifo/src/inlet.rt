@@ -14,7 +14,7 @@ use crate::accounts::{Account, Room, Settled};
 use crate::entry::{Entry, Taken};
 use crate::outlet::Outlet;
 use crate::parts::{Part, gather};
-use crate::places::{Place, blank, fill};
+use crate::places::{Place, read_all};
 use crate::rule::{Shelf, Ticket};
 use crate::steps::{count, learn, look};
 use std::marker::Model;
@@ -81,7 +81,7 @@ impl Inlet {
     }
 
     /// Settles the queue, in the room that was made: takes in the outlets' tickets, reads the claim
-    /// word once, and answers from the lists of the ends.
+    /// word and the places, and answers the accounts from the lists of the ends.
     pub(crate) fn settle(
         self,
         outlets: Vec<Outlet>,
@@ -108,16 +108,14 @@ impl Inlet {
         } = self;
         gather(&row, &mut ticket, outlets, rooms, &mut parts);
         let claimed = count(&row, &mut ticket);
-        let mut places = blank(places, claimed);
+        let places = read_all(&row, &mut ticket, claimed, places);
         while let Some(part) = parts.pop() {
             let Part {
                 sender,
                 put,
-                claims,
                 closed,
                 room,
             } = part;
-            fill(&mut places, claims.as_slice());
             senders[sender as usize] = room.account(got.as_slice(), sender, put, closed);
         }
         Settled { senders, places }

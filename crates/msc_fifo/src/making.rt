@@ -114,7 +114,6 @@ fn outlet<D: Due>(
 {
     let own = Arc::try_clone(row)?;
     let put = Vec::with_capacity(alloc, quota as usize)?;
-    let claims = Vec::with_capacity(alloc, quota as usize + 1)?;
     let seat = deal::<D>(row, ticket);
-    Ok(Outlet::new(own, seat, number, quota, put, claims))
+    Ok(Outlet::new(own, seat, number, quota, put))
 }

@@ -1,8 +1,8 @@
 //! The end of a sender.
 //!
-//! It keeps the list of what it has put and its claims beside the queue's words, and a ticket whose
-//! view is those lists: so the rule of the words says what of it is still on its way
-//! (`specs/Views`). Contracts see an `OutletState`.
+//! It keeps the list of what it has put beside the queue's words, and a ticket whose view is that list
+//! and its claims: so the rule of the words says what of it is still on its way (`specs/Views`).
+//! Contracts see an `OutletState`.
 
 ghost use Rattle.std.specs.Prelude.{◌≡◌, ◌↔◌, ◌+◌, ◌<◌, ◌≤◌, [], ◌∷◌, ◌++◌, ℕ, true, false, length, Err, OnOk, OnErr, IfOk, IsOk, IsTrue, vec_capacity};
 ghost use Rattle.std.specs.Arc.{arc_value};
@@ -14,7 +14,6 @@ ghost use Rattle.msc_fifo.specs.Settling.{HandsOver};
 ghost use Rattle.msc_fifo.specs.Parts.{IsPartOf};
 
 use crate::accounts::Room;
-use crate::claim::Claim;
 use crate::entry::Entry;
 use crate::fault::SendFault;
 use crate::parts::Part;
@@ -42,17 +41,15 @@ pub struct Outlet {
     quota: u32,
     /// What was put, with room for the quota.
     put: Vec<u32>,
-    /// What was claimed, with room for the quota and the end mark.
-    claims: Vec<Claim>,
     /// Whether the end mark was put.
     closed: bool,
 }
 
 impl Model for Outlet {
-    ghost use Rattle.std.specs.Prelude.{◌≡◌, ◌<◌, ◌≤◌, ◌+◌, vec_len, vec_capacity, if◌then◌else◌};
+    ghost use Rattle.std.specs.Prelude.{◌≡◌, ◌<◌, ◌≤◌, vec_len, vec_capacity};
     ghost use Rattle.std.specs.Arc.{arc_value};
     ghost use Rattle.msc_fifo.specs.World.{Each};
-    ghost use Rattle.msc_fifo.specs.Views.{sends, resting, IsProper, IsTicketOf, knows, left_of};
+    ghost use Rattle.msc_fifo.specs.Views.{claims_in, sends, resting, IsProper, IsTicketOf, knows, left_of};
     ghost use Rattle.msc_fifo.specs.Ends.{OutletState};
 
     ghost Value = { OutletState };
@@ -63,36 +60,28 @@ impl Model for Outlet {
       quota = o.quota;
       put = o.put.items;
       closed = o.closed;
-      claims = o.claims.items;
+      claims = claims_in o.ticket.me.0.senders;
     } };
 
     ghost invariant = { λ o.
         IsTicketOf (arc_value o.row) o.ticket
         × (knows o.ticket ≡ sends (left_of o.quota o.put.items o.closed) (resting
-        (arc_value o.row).shared.key o.sender o.put.items o.closed o.claims.items))
+        (arc_value o.row).shared.key o.sender o.put.items o.closed
+        (claims_in (knows o.ticket).senders)))
         × (vec_len o.put ≤ o.quota)
         × (o.quota ≤ vec_capacity o.put)
-        × (vec_len o.claims ≡ vec_len o.put + (if o.closed then 1 else 0))
-        × (o.quota + 1 ≤ vec_capacity o.claims)
-        × Each IsProper o.claims.items
+        × Each IsProper (claims_in (knows o.ticket).senders)
         × (o.sender < 32) };
 }
 
 impl Outlet {
-    /// A new outlet, with room for its quota and the end mark.
-    pub(crate) fn new(
-        row: Shelf,
-        ticket: Ticket,
-        sender: u32,
-        quota: u32,
-        put: Vec<u32>,
-        claims: Vec<Claim>,
-    ) -> Outlet
+    /// A new outlet, with room for its quota.
+    pub(crate) fn new(row: Shelf, ticket: Ticket, sender: u32, quota: u32, put: Vec<u32>) -> Outlet
         requires seat { IsTicketOf (arc_value row) ticket }
         requires view { knows ticket ≡ sends (quota + 1) (new_sender (arc_value row).shared.key sender) }
         requires sender { sender < 32 }
-        requires empty { (put.items ≡ []) × (claims.items ≡ []) }
-        requires room { (quota ≤ vec_capacity put) × (quota + 1 ≤ vec_capacity claims) }
+        requires empty { put.items ≡ [] }
+        requires room { quota ≤ vec_capacity put }
         ensures { result ≡ new_outlet (record { table = ticket.table_id }) sender quota }
     {
         Outlet {
@@ -101,7 +90,6 @@ impl Outlet {
             sender,
             quota,
             put,
-            claims,
             closed: false,
         }
     }
@@ -128,7 +116,6 @@ impl Outlet {
             ticket: own,
             sender,
             put,
-            claims,
             closed,
             ..
         } = self;
@@ -136,7 +123,6 @@ impl Outlet {
         Part {
             sender,
             put,
-            claims,
             closed,
             room,
         }
@@ -177,12 +163,6 @@ impl Outlet {
         let offer = clock + 1;
         let (place, clock) = put::<Brand>(&self.row, &mut self.ticket, entry, offer);
         self.put.push_reserved(m);
-        self.claims.push_reserved(Claim {
-            place,
-            entry,
-            offer,
-            clock,
-        });
         Ok(Sent {
             place: place as u32,
             clock,
@@ -203,13 +183,7 @@ impl Outlet {
             return;
         }
         let entry = Entry::Ended(self.sender);
-        let place = put_mark::<Brand>(&self.row, &mut self.ticket, entry);
-        self.claims.push_reserved(Claim {
-            place,
-            entry,
-            offer: 0,
-            clock: 0,
-        });
+        put_mark::<Brand>(&self.row, &mut self.ticket, entry);
         self.closed = true;
     }
 

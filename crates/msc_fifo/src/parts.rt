@@ -6,7 +6,6 @@ ghost use Rattle.msc_fifo.specs.Settling.{AreSendersOf};
 ghost use Rattle.msc_fifo.specs.Parts.{ArePartsOf};
 
 use crate::accounts::Room;
-use crate::claim::Claim;
 use crate::outlet::Outlet;
 use crate::rule::{Row, Ticket};
 
@@ -15,7 +14,6 @@ use crate::rule::{Row, Ticket};
 pub(crate) struct Part {
     pub sender: u32,
     pub put: Vec<u32>,
-    pub claims: Vec<Claim>,
     pub closed: bool,
     pub room: Room,
 }

@@ -1,12 +1,14 @@
 //! The places of a settled queue: what was claimed there, in the order of all senders.
 
-ghost use Rattle.std.specs.Prelude.{◌≡◌, ◌<◌, ◌≤◌, [], vec_len, vec_capacity};
-ghost use Rattle.msc_fifo.specs.World.{Each};
-ghost use Rattle.msc_fifo.specs.Settlement.{place_of};
-ghost use Rattle.msc_fifo.specs.Settling.{put_all};
+ghost use Rattle.std.specs.Prelude.{◌≡◌, ◌≤◌, [], Some, true, vec_len, vec_capacity};
+ghost use Rattle.msc_fifo.specs.Entries.{sender_of};
+ghost use Rattle.msc_fifo.specs.Settlement.{message_of};
+ghost use Rattle.msc_fifo.specs.Settling.{Shows};
+ghost use Rattle.msc_fifo.specs.Views.{IsTicketOf, knows};
 
-use crate::claim::Claim;
 use crate::entry::Entry;
+use crate::rule::{Row, Ticket};
+use crate::steps::read;
 
 /// What stands at a place of a queue: a message or an end mark, and the clock of the place.
 #[derive(Clone, Copy, Debug, PartialEq, Eq)]
@@ -20,52 +22,48 @@ pub struct Place {
 }
 
 impl Place {
-    /// A place that is not written yet.
-    fn blank() -> Place {
-        Place {
-            sender: 0,
-            message: None,
-            clock: 0,
-        }
-    }
-
-    /// The place that was claimed.
-    fn of(claim: &Claim) -> Place
-        ensures { result ≡ place_of claim.now }
+    /// The place with this entry and this clock; with no entry nobody asks for it.
+    pub(crate) fn of(entry: Option<Entry>, clock: u64) -> Place
+        ensures { (e : Entry) → entry ≡ Some e
+            → result ≡ record { sender = sender_of e; message = message_of e; clock = clock } }
     {
-        match claim.entry {
-            Entry::Message(sender, m) => Place {
+        match entry {
+            Some(Entry::Message(sender, m)) => Place {
                 sender,
                 message: Some(m),
-                clock: claim.clock,
+                clock,
             },
-            Entry::Ended(sender) => Place {
+            Some(Entry::Ended(sender)) => Place {
                 sender,
                 message: None,
-                clock: claim.clock,
+                clock,
+            },
+            None => Place {
+                sender: 0,
+                message: None,
+                clock,
             },
         }
     }
 }
 
-/// So many places that are not written yet, in the room that was made for them.
-pub(crate) fn blank(mut places: Vec<Place>, count: u64) -> Vec<Place>
+/// The places that were claimed, in the room that was made for them.
+pub(crate) fn read_all(
+    row: &Row,
+    ticket: &mut Ticket,
+    claimed: u64,
+    mut places: Vec<Place>,
+) -> Vec<Place>
+    requires seat { IsTicketOf row.now ticket.old }
+    requires inlet { (knows ticket.old).gets ≡ true }
+    requires fits { claimed ≤ row.now.shared.key }
     requires empty { places.items ≡ [] }
-    requires room { count ≤ vec_capacity places }
-    ensures { vec_len result ≡ count }
+    requires room { claimed ≤ vec_capacity places }
+    ensures count { vec_len result ≡ claimed }
+    ensures places { Shows (knows ticket.old).senders result.items }
 {
-    for _ in 0..count {
-        places.push_reserved(Place::blank());
+    for k in 0..claimed as usize {
+        places.push_reserved(read(row, ticket, k));
     }
     places
-}
-
-/// Writes the places of an outlet's claims.
-pub(crate) fn fill(places: &mut Vec<Place>, claims: &[Claim])
-    requires inside { Each (λ c. c.place < vec_len places.old) claims.now }
-    ensures { places.new.items ≡ put_all claims.now places.old.items }
-{
-    for claim in claims {
-        places[claim.place as usize] = Place::of(claim);
-    }
 }

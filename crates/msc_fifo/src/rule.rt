@@ -157,6 +157,24 @@ impl Play<(), View> for Learns {
     ghost then = { LearnsIt };
 }
 
+/// The inlet reads the entry of a place, once it has taken in the outlets' tickets.
+pub struct ReadsEntry;
+
+impl Play<(), View> for ReadsEntry {
+    ghost use Rattle.msc_fifo.specs.Moves.{ReadsItsEntry};
+
+    ghost then = { ReadsItsEntry };
+}
+
+/// The inlet reads the clock of a place, once it has taken in the outlets' tickets.
+pub struct ReadsClock;
+
+impl Play<(), View> for ReadsClock {
+    ghost use Rattle.msc_fifo.specs.Moves.{ReadsItsClock};
+
+    ghost then = { ReadsItsClock };
+}
+
 /// The inlet reads the claim word, once it has taken in the outlets' tickets.
 pub struct Settles;
 

@@ -5,12 +5,15 @@ ghost use Rattle.msc_fifo.specs.declared.rule.Sender.{Sender};
 ghost use Rattle.msc_fifo.specs.Claims.{is_message};
 ghost use Rattle.msc_fifo.specs.World.{IsSmall, code};
 ghost use Rattle.msc_fifo.specs.Views.{IsTicketOf, beside, knows, new_sender, receives, sends};
-ghost use Rattle.msc_fifo.specs.Moves.{Makes, MayClaim, Takes, Told, after_mark, after_put};
+ghost use Rattle.msc_fifo.specs.declared.claim.Claim.{Claim};
+ghost use Rattle.msc_fifo.specs.Settlement.{place_of};
+ghost use Rattle.msc_fifo.specs.Moves.{IsClaimOf, Makes, MayClaim, Takes, Told, after_mark, after_put};
 
 use crate::entry::Entry;
+use crate::places::Place;
 use crate::rule::{
-    Claims, Dates, Due, Learns, Looks, NextSender, Offers, Row, Said, Settles, Shows, Stores,
-    TakesIn, Ticket,
+    Claims, Dates, Due, Learns, Looks, NextSender, Offers, ReadsClock, ReadsEntry, Row, Said,
+    Settles, Shows, Stores, TakesIn, Ticket,
 };
 
 /// Makes the offer, claims the next place for the message, and stores the clock of the place and
@@ -120,6 +123,21 @@ pub fn count(row: &Row, ticket: &mut Ticket) -> u64
     ensures told { Told (knows ticket.old) result }
 {
     row.shared.load::<Settles>(ticket, 0)
+}
+
+/// What stands at a place that was claimed, once the outlets' tickets were taken in.
+pub fn read(row: &Row, ticket: &mut Ticket, place: usize) -> Place
+    requires seat { IsTicketOf row.now ticket.old }
+    requires inlet { (knows ticket.old).gets ≡ true }
+    requires fits { place < row.now.shared.key }
+    ensures seat { IsTicketOf row.now ticket.new }
+    ensures same { knows ticket.new ≡ knows ticket.old }
+    ensures place { (c : Claim) → IsClaimOf c (knows ticket.old).senders → c.place ≡ place
+        → result ≡ place_of c }
+{
+    let entry = entry_of(row.shared.load::<ReadsEntry>(ticket, place + place + 2));
+    let clock = row.shared.load::<ReadsClock>(ticket, place + place + 3);
+    Place::of(entry, clock)
 }
 
 /// The word of an entry: of message m of sender i 2(2^32 i + m) + 1, of its end mark 2(i + 1).
