@@ -2,8 +2,7 @@
 //! sequentially consistent words, a claim word, a clock word, and for each place an entry and a
 //! clock. Senders go through queues one after the other, each in a thread of its own, and put their
 //! shares of 1,024 messages and an end mark; one thread takes, queue by queue, until all senders have
-//! ended. With a third word, `lists`, its ends keep the lists that the proved ones keep: what was put,
-//! what was claimed, and what was got. It is the yardstick of `bench/queues`.
+//! ended. It keeps no lists beside the words. It is one yardstick of `bench/queues`.
 
 use std::env;
 use std::sync::atomic::{AtomicU64, Ordering::SeqCst};
@@ -15,7 +14,6 @@ use std::time::Instant;
 const MOST_MESSAGES: u32 = 1024;
 
 /// What stands at a place.
-#[derive(Clone, Copy)]
 enum Entry {
     Message(u32, u32),
     Ended(u32),
@@ -40,52 +38,25 @@ impl Row {
     }
 }
 
-/// What a sender claimed.
-struct Claim {
-    place: u64,
-    entry: Entry,
-    offer: u64,
-    clock: u64,
-}
-
-/// The end of a sender, which keeps lists or does not.
-struct Outlet<const LISTS: bool> {
+/// The end of a sender.
+struct Outlet {
     row: Arc<Row>,
     sender: u32,
     left: u32,
-    put: Vec<u32>,
-    claims: Vec<Claim>,
 }
 
-impl<const LISTS: bool> Outlet<LISTS> {
-    fn new(row: Arc<Row>, sender: u32, share: u32) -> Outlet<LISTS> {
-        let room = if LISTS { share as usize } else { 0 };
-        let (put, claims) = (Vec::with_capacity(room), Vec::with_capacity(room + 1));
-        Outlet { row, sender, left: share, put, claims }
-    }
-
-    fn keep(&mut self, place: u64, entry: Entry, offer: u64, clock: u64) {
-        if LISTS {
-            if let Entry::Message(_, m) = entry {
-                self.put.push(m);
-            }
-            self.claims.push(Claim { place, entry, offer, clock });
-        }
-    }
-
+impl Outlet {
     fn send(&mut self, m: u32, clock: u64) -> Option<(usize, u64)> {
         if self.left == 0 || clock == u64::MAX {
             return None;
         }
         self.left -= 1;
         let words = &self.row.0;
-        let offer = clock + 1;
-        words[1].fetch_max(offer, SeqCst);
+        words[1].fetch_max(clock + 1, SeqCst);
         let place = words[0].fetch_add(1, SeqCst) as usize;
         let clock = words[1].load(SeqCst);
         words[2 * place + 3].store(clock, SeqCst);
         words[2 * place + 2].store(1 + 2 * (u64::from(self.sender) << 32 | u64::from(m)), SeqCst);
-        self.keep(place as u64, Entry::Message(self.sender, m), offer, clock);
         Some((place, clock))
     }
 
@@ -93,19 +64,17 @@ impl<const LISTS: bool> Outlet<LISTS> {
         let words = &self.row.0;
         let place = words[0].fetch_add(1, SeqCst) as usize;
         words[2 * place + 2].store(2 * (u64::from(self.sender) + 1), SeqCst);
-        self.keep(place as u64, Entry::Ended(self.sender), 0, 0);
     }
 }
 
-/// The end of the receiver, which keeps a list or does not.
-struct Inlet<const LISTS: bool> {
+/// The end of the receiver.
+struct Inlet {
     row: Arc<Row>,
     next: usize,
     unended: u32,
-    got: Vec<Entry>,
 }
 
-impl<const LISTS: bool> Inlet<LISTS> {
+impl Inlet {
     fn take(&mut self, clock: u64) -> Option<(Entry, u64)> {
         let entry = self.row.entry(self.next)?;
         let mut found = clock;
@@ -114,28 +83,22 @@ impl<const LISTS: bool> Inlet<LISTS> {
             Entry::Ended(_) => self.unended -= 1,
         }
         self.next += 1;
-        if LISTS {
-            self.got.push(entry);
-        }
         Some((entry, found))
     }
 }
 
 /// Puts a share of the messages into each queue, and closes.
-fn send_all<const LISTS: bool>(outlets: Vec<Outlet<LISTS>>) {
+fn send_all(outlets: Vec<Outlet>) {
     for mut outlet in outlets {
         for m in 0..outlet.left {
             let _ = std::hint::black_box(outlet.send(m, 0));
         }
         outlet.close();
-        if let Some(claim) = std::hint::black_box(&outlet).claims.last() {
-            std::hint::black_box((claim.place, claim.entry, claim.offer, claim.clock));
-        }
     }
 }
 
 /// Takes all messages of a queue, and answers how many there were.
-fn take_all<const LISTS: bool>(mut inlet: Inlet<LISTS>) -> u64 {
+fn take_all(mut inlet: Inlet) -> u64 {
     let mut taken = 0;
     while inlet.unended > 0 {
         match inlet.take(0) {
@@ -152,38 +115,28 @@ fn take_all<const LISTS: bool>(mut inlet: Inlet<LISTS>) -> u64 {
     taken
 }
 
-/// Sends and takes; answers how many messages were taken, and in how many nanoseconds.
-fn measure<const LISTS: bool>(count: u32, queues: u32) -> (u64, u128) {
+fn main() {
+    let mut words = env::args().skip(1);
+    let mut number = || words.next().expect("a word").parse::<u32>().expect("a number");
+    let (count, queues) = (number(), number());
     let share = MOST_MESSAGES / count;
-    let places = ((share + 1) * count) as usize;
-    let mut senders: Vec<Vec<Outlet<LISTS>>> = (0..count).map(|_| Vec::new()).collect();
-    let mut inlets: Vec<Inlet<LISTS>> = Vec::new();
+    let mut senders: Vec<Vec<Outlet>> = (0..count).map(|_| Vec::new()).collect();
+    let mut inlets = Vec::new();
     for _ in 0..queues {
-        let row = Arc::new(Row::new(places));
+        let row = Arc::new(Row::new(((share + 1) * count) as usize));
         for (sender, own) in senders.iter_mut().enumerate() {
-            own.push(Outlet::new(row.clone(), sender as u32, share));
+            own.push(Outlet { row: row.clone(), sender: sender as u32, left: share });
         }
-        let got = Vec::with_capacity(if LISTS { places } else { 0 });
-        inlets.push(Inlet { row, next: 0, unended: count, got });
+        inlets.push(Inlet { row, next: 0, unended: count });
     }
     let start = Instant::now();
-    let taken = thread::scope(|scope| {
+    let taken: u64 = thread::scope(|scope| {
         for outlets in senders {
             scope.spawn(move || send_all(outlets));
         }
         inlets.into_iter().map(take_all).sum()
     });
-    (taken, start.elapsed().as_nanos())
-}
-
-fn main() {
-    let mut words = env::args().skip(1);
-    let mut number = || words.next().expect("a word").parse::<u32>().expect("a number");
-    let (count, queues) = (number(), number());
-    let (taken, time) = match words.next() {
-        Some(_) => measure::<true>(count, queues),
-        None => measure::<false>(count, queues),
-    };
+    let time = start.elapsed().as_nanos();
     println!("{taken} messages");
     eprintln!("{time} nanoseconds");
 }
