@@ -2,8 +2,8 @@
 
 use crate::entry::Entry;
 
-/// A place of a queue that a sender claimed. No call hands one out, and no end keeps any to run, but
-/// contracts speak of an outlet's claims.
+/// A place of a queue that a sender claimed. No call hands one out, and no end keeps any to run,
+/// but contracts speak of an outlet's claims.
 #[derive(Clone, Copy, Debug, PartialEq, Eq)]
 pub struct Claim {
     /// The place, from 0.

@@ -64,7 +64,8 @@ impl Inlet {
     /// A new inlet, whose list has the room that `got` has.
     pub(crate) fn new(row: Shelf, ticket: Ticket, senders: u32, got: Vec<Entry>) -> Inlet
         requires seat { IsTicketOf (arc_value row) ticket }
-        requires view { (room : ℕ) × (knows ticket ≡ receives (arc_value row).shared.key room senders [] []) }
+        requires view { (room : ℕ)
+            × (knows ticket ≡ receives (arc_value row).shared.key room senders [] []) }
         requires room { (arc_value row).shared.key ≤ vec_capacity got }
         requires empty { got.items ≡ [] }
         requires some { 0 < senders }
@@ -157,7 +158,8 @@ impl Inlet {
     /// Counts a take that found nothing.
     fn nothing(&mut self) -> Taken
         ensures answer { result ≡ Taken.Nothing }
-        ensures state { self.new ≡ record self.old { idle = idle_after self.old.idle Taken.Nothing } }
+        ensures state { self.new
+            ≡ record self.old { idle = idle_after self.old.idle Taken.Nothing } }
         ensures orderly { IsOrderly self.new.senders self.new.got }
     {
         self.idle = self.idle.saturating_add(1);

@@ -14,8 +14,8 @@
 //! Senders and places are numbered from 0. A message is a number that the queue does not look at.
 //! Contracts see an outlet as its queue, sender number, quota, the list put, whether it is closed
 //! and its claims, and an inlet as its queue, number of senders, the list got, the clocks of these
-//! places and a count of takes that found nothing (`specs/Ends`). They say nothing of how a queue is
-//! held. These clauses hold for any threads that hold the ends, and no call waits for another
+//! places and a count of takes that found nothing (`specs/Ends`). They say nothing of how a queue
+//! is held. These clauses hold for any threads that hold the ends, and no call waits for another
 //! thread.
 //!
 //! Limits: [`SENDER_LIMIT`] senders, and [`QUOTA_LIMIT`] messages in all quotas. [`queue`] makes

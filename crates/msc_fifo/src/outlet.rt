@@ -1,8 +1,8 @@
 //! The end of a sender.
 //!
-//! It keeps the list of what it has put beside the queue's words, and a ticket whose view is that list
-//! and its claims: so the rule of the words says what of it is still on its way (`specs/Views`).
-//! Contracts see an `OutletState`.
+//! It keeps the list of what it has put beside the queue's words, and a ticket whose view is that
+//! list and its claims: so the rule of the words says what of it is still on its way
+//! (`specs/Views`). Contracts see an `OutletState`.
 
 ghost use Rattle.std.specs.Prelude.{◌≡◌, ◌↔◌, ◌+◌, ◌<◌, ◌≤◌, [], ◌∷◌, ◌++◌, ℕ, true, false, length, Err, OnOk, OnErr, IfOk, IsOk, IsTrue, vec_capacity};
 ghost use Rattle.std.specs.Arc.{arc_value};
@@ -78,7 +78,8 @@ impl Outlet {
     /// A new outlet, with room for its quota.
     pub(crate) fn new(row: Shelf, ticket: Ticket, sender: u32, quota: u32, put: Vec<u32>) -> Outlet
         requires seat { IsTicketOf (arc_value row) ticket }
-        requires view { knows ticket ≡ sends (quota + 1) (new_sender (arc_value row).shared.key sender) }
+        requires view { knows ticket
+            ≡ sends (quota + 1) (new_sender (arc_value row).shared.key sender) }
         requires sender { sender < 32 }
         requires empty { put.items ≡ [] }
         requires room { quota ≤ vec_capacity put }

@@ -48,7 +48,8 @@ pub fn put_mark<W: Said>(row: &Row, ticket: &mut Ticket, entry: Entry) -> u64
     requires mark { is_message entry ≡ false }
     requires small { IsSmall entry }
     ensures seat { IsTicketOf row.now ticket.new }
-    ensures view { Makes row.now.shared.key (after_mark entry result) (knows ticket.old) (knows ticket.new) }
+    ensures view { Makes row.now.shared.key (after_mark entry result)
+        (knows ticket.old) (knows ticket.new) }
     ensures place { result < row.now.shared.key }
 {
     let mark = row.shared.fetch_add::<Claims<W>>(ticket, 0, 1);
@@ -61,8 +62,10 @@ pub fn put_mark<W: Said>(row: &Row, ticket: &mut Ticket, entry: Entry) -> u64
 /// The entry at the next place, where something stands there.
 pub fn look(row: &Row, ticket: &mut Ticket, place: usize) -> Option<Entry>
     requires seat { IsTicketOf row.now ticket.old }
-    requires inlet { ((knows ticket.old).gets ≡ true) × ((knows ticket.old).places ≡ row.now.shared.key) }
-    requires next { (length (knows ticket.old).got ≡ place) × (length (knows ticket.old).clocks ≡ place) }
+    requires inlet { ((knows ticket.old).gets ≡ true)
+        × ((knows ticket.old).places ≡ row.now.shared.key) }
+    requires next { (length (knows ticket.old).got ≡ place)
+        × (length (knows ticket.old).clocks ≡ place) }
     requires fits { place < row.now.shared.key }
     ensures seat { IsTicketOf row.now ticket.new }
     ensures view { MatchOption result (knows ticket.new ≡ knows ticket.old)
@@ -74,7 +77,8 @@ pub fn look(row: &Row, ticket: &mut Ticket, place: usize) -> Option<Entry>
 /// The clock of the place whose message was taken.
 pub fn learn(row: &Row, ticket: &mut Ticket, place: usize) -> u64
     requires seat { IsTicketOf row.now ticket.old }
-    requires inlet { ((knows ticket.old).gets ≡ true) × ((knows ticket.old).places ≡ row.now.shared.key) }
+    requires inlet { ((knows ticket.old).gets ≡ true)
+        × ((knows ticket.old).places ≡ row.now.shared.key) }
     requires next { (length (knows ticket.old).clocks ≡ place)
         × (length (knows ticket.old).clocks < length (knows ticket.old).got) }
     requires fits { place < row.now.shared.key }
