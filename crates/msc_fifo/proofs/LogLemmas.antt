@@ -9,11 +9,6 @@ pub entries-append : (log more : List Slot) → entries (log ++ more) ≡ entrie
 entries-append [] more = refl
 entries-append (y ∷ log) more = ap (λ l. y.entry ∷ l) (entries-append log more)
 
--- as many entries as claims
-pub length-entries : (log : List Slot) → length (entries log) ≡ length log
-length-entries [] = refl
-length-entries (y ∷ log) = ap suc (length-entries log)
-
 module _ {A : Type 0} where
   -- a choice that is true
   pub cond-true : (b : Bool) (x y : A) → b ≡ true → cond b x y ≡ x
