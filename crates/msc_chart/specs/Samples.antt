@@ -139,6 +139,10 @@ queue_numbers queues d = map (queue_of queues d) (range_with_len 0 (length d.mes
 abbrev pub two_mailboxes_pairs : List (ℕ × ℕ)
 two_mailboxes_pairs = (0, 1) ∷ (0, 4) ∷ (0, 7) ∷ (1, 7) ∷ (2, 3) ∷ (2, 5) ∷ (2, 6) ∷ (3, 5) ∷ []
 
+-- the enforced order of the chart with actions, under each architecture
+abbrev pub actions_pairs : List (ℕ × ℕ)
+actions_pairs = (0, 1) ∷ (0, 2) ∷ (0, 3) ∷ (1, 2) ∷ (1, 3) ∷ (2, 3) ∷ []
+
 -- a pair of the list is enforced, and no other
 abbrev pub AreEnforcedPairs : WiredChart → List (ℕ × ℕ) → Type 0
 AreEnforcedPairs chart pairs = (e f : ℕ) → Enforced chart e f ↔ Occurs pairs (e, f)

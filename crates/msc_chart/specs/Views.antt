@@ -1,5 +1,5 @@
 -- What the code's borrowed names show.
-use Rattle.std.specs.Prelude.{◌≡◌, ℕ, ◌+◌, List, [], ◌∷◌, Bor}
+use Rattle.std.specs.Prelude.{ℕ, ◌+◌, List, [], ◌∷◌}
 use Rattle.std.specs.Option.{option_copied}
 use Rattle.msc_chart.specs.declared.end.MessageEnd as code
 use Rattle.msc_chart.specs.declared.end.DraftEvent as coded
@@ -9,7 +9,6 @@ use Rattle.msc_chart.specs.declared.end.Mark as coded_mark
 use Rattle.msc_chart.specs.declared.end.Mark.TheVariants as coded_marks
 use Rattle.msc_chart.specs.Events.{MessageEnd, Act, DraftEvent}
 use Rattle.msc_chart.specs.Events.Act.{End, Action}
-use Rattle.msc_chart.specs.Lists.{StandsAt}
 
 abbrev pub end_view : code.MessageEnd → MessageEnd
 end_view e = record {
@@ -38,7 +37,3 @@ mark_of e (coded_acts.Action text) = coded_marks.Action e text
 abbrev pub marks_from : ℕ → List coded.DraftEvent → List coded_mark.Mark
 marks_from e [] = []
 marks_from e (x ∷ xs) = mark_of e x.act ∷ marks_from (e + 1) xs
-
--- each action has its own number
-abbrev pub AreOwn : List coded_mark.Mark → Type 0
-AreOwn marks = (e n : ℕ) (text : Bor (List ℕ)) → StandsAt marks e (coded_marks.Action n text) → n ≡ e

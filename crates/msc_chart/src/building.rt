@@ -35,7 +35,8 @@ fn section_names<'d>(alloc: Global, draft: &'d Draft) -> Result<Vec<&'d [u8]>, A
 /// The marks of the events.
 fn marks_of<'d>(alloc: Global, events: &[DraftEvent<'d>]) -> Result<Vec<Mark<'d>>, AllocError>
     requires { length events.now ≤ TEXT_LIMIT }
-    ensures { IfOk result (λ marks. marks.items ≡ marks_from 0 events.now) }
+    ensures value { IfOk result (λ marks. marks.items ≡ marks_from 0 events.now) }
+    ensures each { IfOk result (λ marks. length marks.items ≡ length events.now) }
 {
     let mut marks = Vec::new(alloc);
     for (e, event) in events.iter().enumerate() {

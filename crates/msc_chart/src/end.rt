@@ -63,7 +63,7 @@ pub(crate) enum Act<'d> {
 impl<'d> Act<'d> {
     /// The mark of event `e`, which does this.
     pub fn mark(self, e: u32) -> Mark<'d>
-        ensures { result ≡ mark_of e self }
+        ensures { result ≡ mark_of e self.entry }
     {
         match self {
             Act::End(end) => Mark::End(end),

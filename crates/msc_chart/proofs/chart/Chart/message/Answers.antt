@@ -10,4 +10,4 @@ pub returns : goal.returns
 unfolding message
 returns c =
     rw (sym c.is_local.ensures ∙ c.if-is_local.false)
-    (ap (λ v. Some v.message) (seen_at _ _ c.self.view_is _ c.args.e _ refl c.requires c.index.ensures))
+    (ap (λ v. Some v.subject) (seen_at _ _ c.self.view_is _ c.args.e _ refl c.requires c.index.ensures))
