@@ -7,7 +7,7 @@ use Rattle.msc_chart.specs.declared.event.EventKind.TheVariants.{Output, Input}
 use Rattle.msc_chart.specs.declared.event.ChartEvent.{ChartEvent}
 use Rattle.msc_chart.specs.Events.{Act, DraftEvent, is_action, acts_of, events_of}
 use Rattle.msc_chart.specs.Events.Act.{End, Action}
-use Rattle.msc_chart.specs.Charts.{at, kind, action, acts}
+use Rattle.msc_chart.specs.Charts.{kind, action, acts}
 use Rattle.msc_chart.specs.Drawings.{kind_of, subject_of, event_of, actions_before, events_from, chart_events, texts_of, HasActions, chart_of}
 use Rattle.msc_chart.specs.Lists.{StandsAt}
 use Rattle.msc_chart.proofs.Matched.{drawn_at}

@@ -88,6 +88,7 @@ each_way (x ∷ xs) =
     by : (b : Bool) → cond b 1 0 + cond (not b) 1 0 + 0 ≡ 1
     by true = refl
     by false = refl
+
     one_way : (a : Act) → cond (is_sent a) 1 0 + cond (is_taken a) 1 0 + cond (is_action a) 1 0 ≡ 1
     one_way (End e) = by e.sends
     one_way (Action text) = refl

@@ -248,6 +248,7 @@ marks_seen d events marks same seen = ap (map mark_view) same ∙ by 0 events �
     one : (k : ℕ) (a : code_act.Act) → mark_view (mark_of k a) ≡ act_view a
     one k (code_acts.End e) = refl
     one k (code_acts.Action text) = refl
+
     by : (k : ℕ) (es : List coded.DraftEvent) → map mark_view (marks_from k es) ≡ map (λ e. e.act) (map event_view es)
     by k [] = refl
     by k (e ∷ es) = ap (λ a. a ∷ map mark_view (marks_from (k + 1) es)) (one k e.act) ∙ ap (λ l. act_view e.act ∷ l) (by (k + 1) es)

@@ -1,5 +1,5 @@
 -- The chart of a draft.
-use Rattle.std.specs.Prelude.{◌≡◌, ℕ, ◌+◌, ◌<◌, ◌≤◌, true, cond, List, [], ◌∷◌, length, get_or, false, map, take, count_by, None, IsTrue, ◌↔◌}
+use Rattle.std.specs.Prelude.{◌≡◌, ℕ, ◌+◌, ◌<◌, ◌≤◌, true, cond, List, [], ◌∷◌, length, get_or, false, take, count_by, None, IsTrue, ◌↔◌}
 use Rattle.msc_chart.specs.declared.TheConstants.{ACTION_LIMIT, EVENT_LIMIT, INSTANCE_LIMIT, MESSAGE_LIMIT}
 use Rattle.std.specs.List.{position_or_len}
 use Rattle.msc_chart.specs.declared.event.EventKind.{EventKind}

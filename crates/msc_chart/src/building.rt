@@ -9,7 +9,9 @@ ghost use Rattle.msc_chart.specs.Views.{event_view, mark_view, marks_from};
 ghost use Rattle.msc_chart.specs.Faults.{IsClearBelow, IsFaultless, IsFirstOrMemory};
 
 use crate::charting::chart_events;
-use crate::check::{are_too_many, are_too_many_actions, unknown_address, unknown_header, unmatched};
+use crate::check::{
+    are_too_many, are_too_many_actions, unknown_address, unknown_header, unmatched,
+};
 use crate::end::{DraftEvent, Mark, events_of};
 use crate::event::{ChartEvent, Event};
 use crate::fault::ChartFault;

@@ -367,6 +367,12 @@ impl Chart {
         requires { m < length self.now.messages }
         ensures { result ≡ queue_of queues self.now m }
     {
-        queue_number(queues, self.instances(), self.sender(m), self.receiver(m), m)
+        queue_number(
+            queues,
+            self.instances(),
+            self.sender(m),
+            self.receiver(m),
+            m,
+        )
     }
 }

@@ -124,7 +124,13 @@ pub(crate) fn chart_events<'d>(
     let actions = actions_before(alloc, places.as_slice())?;
     let mut chart = Vec::new(alloc);
     for (e, event) in events.iter().enumerate() {
-        let charted = charted(e as u32, event, places, outputs.as_slice(), actions.as_slice());
+        let charted = charted(
+            e as u32,
+            event,
+            places,
+            outputs.as_slice(),
+            actions.as_slice(),
+        );
         chart.push(charted)?;
     }
     Ok(chart)

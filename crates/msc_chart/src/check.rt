@@ -54,7 +54,10 @@ pub(crate) fn unknown_header<'d>(header: &[Decl], instances: &IndexSet<&'d [u8]>
 }
 
 /// The first event whose address is not a section's name.
-pub(crate) fn unknown_address<'d>(marks: &[Mark<'d>], instances: &IndexSet<&'d [u8]>) -> Option<usize>
+pub(crate) fn unknown_address<'d>(
+    marks: &[Mark<'d>],
+    instances: &IndexSet<&'d [u8]>,
+) -> Option<usize>
     ensures { AnswersLeast (HoldsAt
         (OfEnd (λ x. IsUnknown (map deref instances.now.keys) (address_of x)))
         (map mark_view marks.now)) result }

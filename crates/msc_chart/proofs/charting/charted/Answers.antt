@@ -1,4 +1,4 @@
-use Rattle.std.proofs.Common.{◌≡◌, map, ap, ◌∙◌, arith}
+use Rattle.std.proofs.Common.{map, ap, ◌∙◌, arith}
 use Rattle.msc_chart.specs.declared.event.EventKind.TheVariants.{Local}
 use Rattle.msc_chart.specs.Events.Act.{End, Action}
 use Rattle.msc_chart.specs.Drawings.{place_of, outputs_before}

@@ -1,7 +1,7 @@
-use Rattle.std.proofs.Common.{◌≡◌, arith, map}
+use Rattle.std.proofs.Common.{arith, map}
 use Rattle.std.specs.Map.Iter.{deref}
 use Rattle.std.proofs.lemmas.Option.{slice_get-get_or}
-use Rattle.msc_chart.specs.Events.{Act, address_of}
+use Rattle.msc_chart.specs.Events.{address_of}
 use Rattle.msc_chart.specs.Views.{mark_view}
 use Rattle.msc_chart.specs.Faults.{IsUnknown, OfEnd}
 use Rattle.msc_chart.proofs.ListLemmas.{clash}

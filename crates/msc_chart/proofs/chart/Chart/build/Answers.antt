@@ -16,7 +16,7 @@ invariant_of-result c = record {
       subst IsAccepted
       (sym (same_drawing (c.in_ok-owned.ensures ∙ c.name.ensures.value) c.in_ok-instance_names.ensures c.in_ok-events.ensures.events
       (c.in_ok-messages.ensures ∙ ap (messages_from 0) (ap (map mark_view) c.as_slice.ensures.keys ∙ c.in_ok-events.ensures.acts))
-    (c.in_ok-texts.ensures ∙ ap texts_of (ap (map mark_view) c.as_slice-2.ensures.keys ∙ c.in_ok-events.ensures.acts))))
+      (c.in_ok-texts.ensures ∙ ap texts_of (ap (map mark_view) c.as_slice-2.ensures.keys ∙ c.in_ok-events.ensures.acts))))
       (accepted c.args.draft.now c.in_ok-events.ensures.faultless);
   linear = c.in_ok-events.ensures.order;
 }
