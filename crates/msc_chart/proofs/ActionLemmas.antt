@@ -8,7 +8,8 @@ use Rattle.msc_chart.specs.declared.event.ChartEvent.{ChartEvent}
 use Rattle.msc_chart.specs.Events.{Act, DraftEvent, is_action, acts_of, events_of}
 use Rattle.msc_chart.specs.Events.Act.{End, Action}
 use Rattle.msc_chart.specs.Charts.{kind, action, acts}
-use Rattle.msc_chart.specs.Drawings.{kind_of, subject_of, event_of, actions_before, events_from, chart_events, texts_of, HasActions, chart_of}
+use Rattle.msc_chart.specs.Drawings.{chart_events, HasActions, chart_of}
+use Rattle.msc_chart.specs.Charting.{kind_of, subject_of, event_of, actions_before, events_from, texts_of}
 use Rattle.msc_chart.specs.Lists.{StandsAt}
 use Rattle.msc_chart.proofs.Matched.{drawn_at}
 use Rattle.msc_chart.proofs.Drawn.{local_parts}

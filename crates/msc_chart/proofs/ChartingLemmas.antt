@@ -12,7 +12,7 @@ use Rattle.msc_chart.specs.declared.end.DraftEvent as coded_event
 use Rattle.msc_chart.specs.declared.event.EventKind.{EventKind}
 use Rattle.msc_chart.specs.declared.end.Mark.TheVariants as marks
 use Rattle.msc_chart.specs.Events.{Act, is_end}
-use Rattle.msc_chart.specs.Drawings.{place_of, kind_of, partner_of, subject_of, event_of}
+use Rattle.msc_chart.specs.Charting.{place_of, kind_of, partner_of, subject_of, event_of}
 use Rattle.msc_chart.specs.Views.{act_view, end_view, event_view, mark_view}
 use Rattle.msc_chart.proofs.ListLemmas.{by_test}
 use Rattle.msc_chart.proofs.MatchingLemmas.{mark_same, mark_same-view}

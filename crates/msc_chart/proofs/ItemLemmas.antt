@@ -10,7 +10,8 @@ use Rattle.msc_chart.specs.declared.event.ChartEvent.{ChartEvent}
 use Rattle.msc_chart.specs.Lists.{StandsAt, Occurs}
 use Rattle.msc_chart.specs.Events.{DraftEvent, drawn, acts_of, events_of, events_of_item, events_of_items, events_of_sections, next_segment}
 use Rattle.msc_chart.specs.Charts.{at, line, segment, no_event}
-use Rattle.msc_chart.specs.Drawings.{chart_events, event_of}
+use Rattle.msc_chart.specs.Drawings.{chart_events}
+use Rattle.msc_chart.specs.Charting.{event_of}
 use Rattle.msc_chart.specs.Items.{Place, place, places_of, places_of_item, places_of_items, places_of_sections, ItemsAreDrawnInOrder}
 use Rattle.msc_chart.proofs.Places.{map-place, place-map}
 use Rattle.msc_chart.proofs.DraftEvents.{joined}

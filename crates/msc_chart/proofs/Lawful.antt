@@ -13,7 +13,8 @@ use Rattle.msc_chart.specs.declared.message.Message.{Message}
 use Rattle.msc_chart.specs.Events.{Act, DraftEvent, is_sent, is_taken, is_action, acts_of, events_of, instances_of}
 use Rattle.msc_chart.specs.Events.Act.{End, Action}
 use Rattle.msc_chart.specs.Charts.{IsAcyclic, IsLeastCyclic, IsLinearOrder}
-use Rattle.msc_chart.specs.Drawings.{IsAccepted, drawing, events_from, chart_events, chart_of}
+use Rattle.msc_chart.specs.Drawings.{IsAccepted, drawing, chart_events, chart_of}
+use Rattle.msc_chart.specs.Charting.{events_from}
 use Rattle.msc_chart.specs.Faults.{Stands, AreTooMany, IsFirstFault, IsFirstOrMemory, IsFaultless, IsClearBelow}
 use Rattle.msc_chart.specs.Sortings.{IsCycleOrMemory}
 use Rattle.msc_chart.proofs.FaultLemmas.{first_of, clear_next, faultless}

@@ -12,7 +12,8 @@ use Rattle.msc_chart.specs.declared.event.ChartEvent.{ChartEvent}
 use Rattle.msc_chart.specs.Events.{MessageEnd, Act, DraftEvent, acts_of, events_of, other_end, is_end}
 use Rattle.msc_chart.specs.Events.Act.{End, Action}
 use Rattle.msc_chart.specs.Charts.{at, no_event, line, segment, kind, partner, sends, takes, acts, is_output, is_input, IsMatched, IsInTextOrder, AreOnLines}
-use Rattle.msc_chart.specs.Drawings.{place_of, kind_of, partner_of, event_of, events_from, chart_events}
+use Rattle.msc_chart.specs.Drawings.{chart_events}
+use Rattle.msc_chart.specs.Charting.{place_of, kind_of, partner_of, event_of, events_from}
 use Rattle.msc_chart.specs.Sortings.{AreReady}
 use Rattle.msc_chart.specs.Lists.{StandsAt, Occurs}
 use Rattle.msc_chart.specs.Faults.{Stands, IsClearBelow}

@@ -10,7 +10,8 @@ use Rattle.msc_chart.specs.declared.message.Message.{Message}
 use Rattle.msc_chart.specs.Events.{MessageEnd, Act, is_sent, other_end, acts_of}
 use Rattle.msc_chart.specs.Events.Act.{End, Action}
 use Rattle.msc_chart.specs.Charts.{at, kind, partner, message, sends, is_output}
-use Rattle.msc_chart.specs.Drawings.{place_of, output_end, outputs_before, kind_of, partner_of, subject_of, chart_events, messages_from, Drawing, no_message, output_of, HasMessages, chart_of}
+use Rattle.msc_chart.specs.Drawings.{chart_events, Drawing, no_message, output_of, HasMessages, chart_of}
+use Rattle.msc_chart.specs.Charting.{place_of, output_end, outputs_before, kind_of, partner_of, subject_of, messages_from}
 use Rattle.msc_chart.specs.Lists.{StandsAt}
 use Rattle.msc_chart.specs.Faults.{IsClearBelow}
 use Rattle.msc_chart.proofs.ListLemmas.{by_test}

@@ -2,6 +2,7 @@
 pub mod Lists
 pub mod Events
 pub mod Charts
+pub mod Charting
 pub mod Drawings
 pub mod Items
 pub mod Architectures

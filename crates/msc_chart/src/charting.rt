@@ -3,7 +3,7 @@
 ghost use Rattle.std.specs.Prelude.{◌≡◌, ◌<◌, ◌≤◌, ◌+◌, ℕ, map, length, get_or, vec_len, cond, IfOk};
 ghost use Rattle.std.specs.Option.{option_copied};
 ghost use Rattle.msc_chart.specs.Events.{instances_of};
-ghost use Rattle.msc_chart.specs.Drawings.{actions_before, place_of, event_of, events_from, outputs_before, messages_from, texts_of};
+ghost use Rattle.msc_chart.specs.Charting.{actions_before, place_of, event_of, events_from, outputs_before, messages_from, texts_of};
 ghost use Rattle.msc_chart.specs.Views.{end_view, event_view, mark_view};
 
 use crate::EVENT_LIMIT;

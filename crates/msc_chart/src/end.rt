@@ -2,7 +2,7 @@
 
 ghost use Rattle.std.specs.Prelude.{◌≡◌, ◌+◌, ◌<◌, ◌≤◌, ◌++◌, map, length, IfOk, OnOk};
 ghost use Rattle.msc_chart.specs.Events.{events_of, events_of_item, events_of_items, next_segment, act_of, drawn, end_of, is_action, is_sent, is_taken, other_end, address_of};
-ghost use Rattle.msc_chart.specs.Drawings.{output_end};
+ghost use Rattle.msc_chart.specs.Charting.{output_end};
 ghost use Rattle.msc_chart.specs.Views.{act_view, end_view, event_view, mark_of, mark_view};
 
 use crate::INSTANCE_LIMIT;

@@ -1,5 +1,5 @@
 use Rattle.std.proofs.Common.{◌≡◌, ◌≤◌, ◌<◌, ℕ, map, vec_len, get_or}
-use Rattle.msc_chart.specs.Drawings.{actions_before}
+use Rattle.msc_chart.specs.Charting.{actions_before}
 use Rattle.msc_chart.specs.Views.{mark_view}
 use Rattle.msc_chart.proofs.charting.actions_before.Given as goal
 

@@ -1,5 +1,5 @@
 use Rattle.std.proofs.Common.{◌≡◌, ◌++◌, map, drop}
-use Rattle.msc_chart.specs.Drawings.{events_from}
+use Rattle.msc_chart.specs.Charting.{events_from}
 use Rattle.msc_chart.specs.Views.{event_view, mark_view}
 use Rattle.msc_chart.proofs.charting.chart_events.Given as goal
 

@@ -1,7 +1,7 @@
 use Rattle.std.proofs.Common.{map, ap, ◌∙◌, arith}
 use Rattle.msc_chart.specs.declared.event.EventKind.TheVariants.{Local}
 use Rattle.msc_chart.specs.Events.Act.{End, Action}
-use Rattle.msc_chart.specs.Drawings.{place_of, outputs_before}
+use Rattle.msc_chart.specs.Charting.{place_of, outputs_before}
 use Rattle.msc_chart.specs.Views.{act_view, end_view, mark_view}
 use Rattle.msc_chart.proofs.ChartingLemmas.{charted_act}
 use Rattle.msc_chart.proofs.charting.charted.Goals as goal

@@ -1,5 +1,5 @@
 use Rattle.std.proofs.Common.{◌≡◌, ◌++◌, map, drop}
-use Rattle.msc_chart.specs.Drawings.{messages_from}
+use Rattle.msc_chart.specs.Charting.{messages_from}
 use Rattle.msc_chart.specs.Views.{mark_view}
 use Rattle.msc_chart.proofs.charting.messages.Given as goal
 

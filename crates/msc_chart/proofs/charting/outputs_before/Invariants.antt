@@ -1,5 +1,5 @@
 use Rattle.std.proofs.Common.{◌≡◌, ◌≤◌, ◌<◌, ℕ, map, vec_len, get_or}
-use Rattle.msc_chart.specs.Drawings.{outputs_before}
+use Rattle.msc_chart.specs.Charting.{outputs_before}
 use Rattle.msc_chart.specs.Views.{mark_view}
 use Rattle.msc_chart.proofs.charting.outputs_before.Given as goal
 

@@ -1,5 +1,5 @@
 use Rattle.std.proofs.Common.{◌≡◌, ◌++◌, map, drop}
-use Rattle.msc_chart.specs.Drawings.{texts_of}
+use Rattle.msc_chart.specs.Charting.{texts_of}
 use Rattle.msc_chart.specs.Views.{mark_view}
 use Rattle.msc_chart.proofs.charting.texts.Given as goal
 

@@ -1,5 +1,6 @@
 use Rattle.std.proofs.Common.{map, ap, sym, subst, ◌∙◌}
-use Rattle.msc_chart.specs.Drawings.{messages_from, texts_of, IsAccepted}
+use Rattle.msc_chart.specs.Drawings.{IsAccepted}
+use Rattle.msc_chart.specs.Charting.{messages_from, texts_of}
 use Rattle.msc_chart.specs.Views.{mark_view}
 use Rattle.msc_chart.proofs.Lawful.{same_drawing, accepted}
 use Rattle.msc_chart.proofs.chart.Chart.build.Goals as goal

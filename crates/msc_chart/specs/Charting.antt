@@ -1,0 +1,69 @@
+-- What the events of a draft become in its chart.
+use Rattle.std.specs.Prelude.{ℕ, ◌+◌, true, cond, List, [], ◌∷◌, take, count_by}
+use Rattle.std.specs.List.{position_or_len}
+use Rattle.msc_chart.specs.declared.event.EventKind.{EventKind}
+use Rattle.msc_chart.specs.declared.event.EventKind.TheVariants.{Output, Input, Local}
+use Rattle.msc_chart.specs.declared.event.ChartEvent.{ChartEvent}
+use Rattle.msc_chart.specs.declared.message.Message.{Message}
+use Rattle.msc_chart.specs.Events.{DraftEvent, MessageEnd, Act, other_end, is_end, is_sent, is_action}
+use Rattle.msc_chart.specs.Events.Act.{End, Action}
+
+-- the place of the first act that is this end, or the number of acts
+abbrev pub place_of : List Act → MessageEnd → ℕ
+place_of acts e = position_or_len (is_end e) acts
+
+-- the output of the message of an end
+abbrev pub output_end : MessageEnd → MessageEnd
+output_end e = record { sends = true; key = e.key }
+
+-- how many outputs stand before a place
+abbrev pub outputs_before : List Act → ℕ → ℕ
+outputs_before acts e = count_by is_sent (take e acts)
+
+-- how many actions stand before a place
+abbrev pub actions_before : List Act → ℕ → ℕ
+actions_before acts e = count_by is_action (take e acts)
+
+abbrev pub kind_of : Act → EventKind
+kind_of (End x) = cond x.sends Output Input
+kind_of (Action text) = Local
+
+-- the event at the other end of its message; an action is its own
+abbrev pub partner_of : List Act → ℕ → Act → ℕ
+partner_of acts e (End x) = place_of acts (other_end x)
+partner_of acts e (Action text) = e
+
+-- Messages are numbered by their outputs, and actions by themselves, in the order of the text.
+abbrev pub subject_of : List Act → ℕ → Act → ℕ
+subject_of acts e (End x) = outputs_before acts (place_of acts (output_end x))
+subject_of acts e (Action text) = actions_before acts e
+
+-- event e of a chart, of a draft with these acts
+abbrev pub event_of : List Act → ℕ → DraftEvent → ChartEvent
+event_of acts e x = record {
+  line = x.line;
+  segment = x.segment;
+  kind = kind_of x.act;
+  partner = partner_of acts e x.act;
+  subject = subject_of acts e x.act;
+}
+
+-- the events from number e on
+abbrev pub events_from : List Act → ℕ → List DraftEvent → List ChartEvent
+events_from acts e [] = []
+events_from acts e (x ∷ xs) = event_of acts e x ∷ events_from acts (e + 1) xs
+
+-- the messages of the acts from this place on, by their outputs
+abbrev pub messages_from : ℕ → List Act → List Message
+messages_from e [] = []
+messages_from e (End x ∷ xs) =
+    cond x.sends
+    (record { name = x.key.name; number = x.key.number; output = e } ∷ messages_from (e + 1) xs)
+    (messages_from (e + 1) xs)
+messages_from e (Action text ∷ xs) = messages_from (e + 1) xs
+
+-- the texts of the actions
+abbrev pub texts_of : List Act → List (List ℕ)
+texts_of [] = []
+texts_of (End x ∷ xs) = texts_of xs
+texts_of (Action text ∷ xs) = text ∷ texts_of xs
