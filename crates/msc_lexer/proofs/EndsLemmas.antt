@@ -47,7 +47,7 @@ never_closes body at high none k a b =
 -- ---- texts
 
 -- doubling goes through joining
-doubled-append : (xs ys : List ℕ) → doubled (xs ++ ys) ≡ doubled xs ++ doubled ys
+pub doubled-append : (xs ys : List ℕ) → doubled (xs ++ ys) ≡ doubled xs ++ doubled ys
 doubled-append [] ys = refl
 doubled-append (x ∷ xs) ys =
     elim (eqb x 39) as (λ t. cond t (39 ∷ 39 ∷ doubled (xs ++ ys)) (x ∷ doubled (xs ++ ys)) ≡ cond t (39 ∷ 39 ∷ doubled xs) (x ∷ doubled xs) ++ doubled ys) [

@@ -11,5 +11,7 @@ pub mod OneFlaw
 pub mod OneReading
 -- what the tokens of every text keep
 pub mod Placed
+-- what a text holds
+pub mod Quotes
 -- what is printed is read again
 pub mod Printed

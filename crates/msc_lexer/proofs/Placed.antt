@@ -1,6 +1,6 @@
 -- What the tokens of a text keep: they stand in the text, their names are names, and they are no more than its bytes.
-use Rattle.std.proofs.Common.{◌≡◌, ◌≢◌, ℕ, ◌+◌, ◌≤◌, Bool, true, false, cond, List, [], ◌∷◌, ◌++◌, length, Option, Some, None, refl, ap, inl, inr, arith}
-use Rattle.std.specs.Prelude.{option_map, unwrap_or, take_while}
+use Rattle.std.proofs.Common.{◌≡◌, ◌≢◌, ℕ, ◌+◌, ◌≤◌, Bool, true, false, cond, List, [], ◌∷◌, ◌++◌, length, Option, Some, None, refl, sym, ap, subst, append_assoc, ◌∙◌, inl, inr, arith}
+use Rattle.std.specs.Prelude.{slice_range, option_map, unwrap_or, take_while}
 use Rattle.std.specs.List.{list_all}
 use Rattle.std.proofs.lemmas.Bool.{and_from, cases_Bool}
 use Rattle.std.proofs.lemmas.List.{length-append}
@@ -13,34 +13,87 @@ use Rattle.msc_lexer.specs.declared.token.Kind.TheVariants as kinds
 use Rattle.msc_lexer.specs.declared.token.Token.{Token}
 use Rattle.msc_lexer.specs.Bytes.{is_run_byte}
 use Rattle.msc_lexer.specs.Words.{word_of}
-use Rattle.msc_lexer.specs.Pieces.{Piece, Blank, Note, Run, Mark, IsRun, spelled, kind_of, mark_of, text_of, AreCut, token_of, tokens_of}
+use Rattle.msc_lexer.specs.Pieces.{Piece, Blank, Note, Run, Mark, IsRun, quoted, spelled, kind_of, mark_of, text_of, AreCut, token_of, tokens_of}
 use Rattle.msc_lexer.specs.Pieces as pieces
 use Rattle.msc_lexer.specs.Lexing.{HasTokens}
 use Rattle.msc_lexer.specs.Lexemes.{Lexeme, lexemes, lexemes_of, lexeme_at, AreWithin, IsWithin, IsName, HaveNames}
-use Rattle.msc_lexer.proofs.Printed.{lexemes_seen}
+use Rattle.msc_lexer.proofs.Printed.{cut_out, lexemes_seen}
+
+-- ---- what is no mark
+
+-- a choice between what is not this kind is not it
+if_other : (t : Bool) (k n : Kind) (o : Option Kind) → k ≢ n → o ≢ Some n
+    → cond t (Some k) o ≢ Some n
+if_other true k n o h g e = h (inside e)
+  where
+    inside : {a b : Kind} → Some a ≡ Some b → a ≡ b
+    inside e = cc
+if_other false k n o h g e = g e
+
+-- no mark is a name
+mark_no_name : (b : ℕ) → mark_of b ≢ Some kinds.Name
+mark_no_name b =
+    if_other _ kinds.Semicolon kinds.Name _ (λ e. cc) (if_other _ kinds.Comma kinds.Name _ (λ e. cc) (if_other _ kinds.Colon kinds.Name _ (λ e. cc) (if_other _ kinds.LeftParen kinds.Name _ (λ e. cc) (if_other _ kinds.RightParen kinds.Name _ (λ e. cc) (λ e. none_name e)))))
+  where
+    none_name : None ≡ Some kinds.Name → ⊥
+    none_name e = cc
+
+-- no mark is a text
+mark_no_text : (b : ℕ) → mark_of b ≢ Some kinds.Text
+mark_no_text b =
+    if_other _ kinds.Semicolon kinds.Text _ (λ e. cc) (if_other _ kinds.Comma kinds.Text _ (λ e. cc) (if_other _ kinds.Colon kinds.Text _ (λ e. cc) (if_other _ kinds.LeftParen kinds.Text _ (λ e. cc) (if_other _ kinds.RightParen kinds.Text _ (λ e. cc) (λ e. none_text e)))))
+  where
+    none_text : None ≡ Some kinds.Text → ⊥
+    none_text e = cc
+
+-- no run is a text
+run_no_text : (o : Option Word) → Some (unwrap_or (option_map kinds.Word o) kinds.Name) ≢ Some kinds.Text
+run_no_text None e = cc
+run_no_text (Some w) e = cc
 
 -- ---- tokens stand in their text
 
+-- a piece that is a text has the bytes of one
+as_text : (p : Piece) → kind_of p ≡ Some kinds.Text → (body : List ℕ) × (spelled p ≡ quoted body)
+as_text (Blank b) e = absurd (none_text e)
+  where
+    none_text : None ≡ Some kinds.Text → ⊥
+    none_text e = cc
+as_text (Note body) e = absurd (none_text e)
+  where
+    none_text : None ≡ Some kinds.Text → ⊥
+    none_text e = cc
+as_text (Run bytes) e = absurd (run_no_text (word_of bytes) e)
+as_text (pieces.Quoted body) e = (body, refl)
+as_text (Mark b) e = absurd (mark_no_text b e)
+
 -- a token within the text goes before tokens within it
 token_within : (text : List ℕ) (o : Option Kind) (at len : ℕ) (ts : List Token)
-    → at + len ≤ length text → AreWithin text ts → AreWithin text (token_of o at len ++ ts)
-token_within text None at len ts fits others = others
-token_within text (Some k) at len ts fits others =
-    All-cons (IsWithin text) (record { kind = k; start = at; «end» = at + len }) ts (record { ordered = omega arith; inside = fits }) others
+    → at + len ≤ length text
+    → (o ≡ Some kinds.Text → (body : List ℕ) × (slice_range text at (at + len) ≡ quoted body))
+    → AreWithin text ts → AreWithin text (token_of o at len ++ ts)
+token_within text None at len ts fits bytes others = others
+token_within text (Some k) at len ts fits bytes others =
+    All-cons (IsWithin text) (record { kind = k; start = at; «end» = at + len }) ts (record { ordered = omega arith; inside = fits; as_text = λ e. bytes (ap (λ (x : Kind). Some x) e) }) others
 
 -- the tokens of pieces stand within the text of the pieces
-tokens_within : (text : List ℕ) (ps : List Piece) (at : ℕ) → at + length (text_of ps) ≤ length text
-    → AreWithin text (tokens_of at ps)
-tokens_within text [] at fits = All-nil (IsWithin text)
-tokens_within text (p ∷ ps) at fits =
-    token_within text (kind_of p) at (length (spelled p)) (tokens_of (at + length (spelled p)) ps) (omega (arith, fits, length-append (spelled p) (text_of ps)))
-    (tokens_within text ps (at + length (spelled p)) (omega (arith, fits, length-append (spelled p) (text_of ps))))
+tokens_within : (text front : List ℕ) (ps : List Piece) → text ≡ front ++ text_of ps
+    → AreWithin text (tokens_of (length front) ps)
+tokens_within text front [] e = All-nil (IsWithin text)
+tokens_within text front (p ∷ ps) e =
+    let one : slice_range text (length front) (length front + length (spelled p)) ≡ spelled p = rw e (cut_out front (spelled p) (text_of ps)) in
+    let n : length (front ++ spelled p) ≡ length front + length (spelled p) = length-append front (spelled p) in
+    let others = tokens_within text (front ++ spelled p) ps (e ∙ sym (append_assoc front (spelled p) (text_of ps))) in
+    let fits : length front + length (spelled p) ≤ length text = omega (arith, ap length e, length-append front (spelled p ++ text_of ps), length-append (spelled p) (text_of ps)) in
+    token_within text (kind_of p) (length front) (length (spelled p)) (tokens_of (length front + length (spelled p)) ps) fits
+    (λ k. let b = as_text p k in (b.0, one ∙ b.1))
+    (subst (λ (k : ℕ). AreWithin text (tokens_of k ps)) n others)
 
 -- so the tokens of a text stand in it
 pub are_within : (text : List ℕ) (tokens : List Token) → HasTokens text tokens
     → AreWithin text tokens
 are_within text tokens h =
-    All-same (IsWithin text) tokens (tokens_of 0 h.pieces) h.made (tokens_within text h.pieces 0 (let e = ap length h.whole in omega (arith, e)))
+    All-same (IsWithin text) tokens (tokens_of 0 h.pieces) h.made (tokens_within text [] h.pieces h.whole)
 
 -- ---- names are names
 
@@ -74,23 +127,6 @@ unfolding lexeme_at
 mark_named None b at ls h others = others
 mark_named (Some kinds.Name) b at ls h others = absurd (h refl)
 mark_named (Some k) b at ls h others = (tt, others)
-
--- a choice between what is no name is none
-if_no_name : (t : Bool) (k : Kind) (o : Option Kind) → k ≢ kinds.Name → o ≢ Some kinds.Name
-    → cond t (Some k) o ≢ Some kinds.Name
-if_no_name true k o h g e = h (inside e)
-  where
-    inside : {a b : Kind} → Some a ≡ Some b → a ≡ b
-    inside e = cc
-if_no_name false k o h g e = g e
-
--- no mark is a name
-mark_no_name : (b : ℕ) → mark_of b ≢ Some kinds.Name
-mark_no_name b =
-    if_no_name _ kinds.Semicolon _ (λ e. cc) (if_no_name _ kinds.Comma _ (λ e. cc) (if_no_name _ kinds.Colon _ (λ e. cc) (if_no_name _ kinds.LeftParen _ (λ e. cc) (if_no_name _ kinds.RightParen _ (λ e. cc) (λ e. none_name e)))))
-  where
-    none_name : None ≡ Some kinds.Name → ⊥
-    none_name e = cc
 
 -- the names among pieces are names
 pieces_named : (at : ℕ) (ps : List Piece) (rest : List ℕ) → AreCut ps rest

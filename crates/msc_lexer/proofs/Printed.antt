@@ -15,6 +15,7 @@ use Rattle.msc_lexer.specs.Pieces.{Piece, Run, IsRun, Fits, spelled, kind_of, te
 use Rattle.msc_lexer.specs.Lexemes.{Lexeme, symbol_of, lexeme_of, lexemes, lexeme_at, lexemes_of, IsName, PrintsPieces}
 use Rattle.msc_lexer.proofs.Spellings.{word_of-spelling}
 use Rattle.msc_lexer.proofs.Cuts.{AreCut-append}
+use Rattle.msc_lexer.proofs.Quotes.{unquoted-quoted}
 
 -- ---- what a grammar sees of pieces
 
@@ -35,7 +36,7 @@ lexemes-append text (t ∷ ts) us =
     ap (λ (x : List Lexeme). lexeme_of text t ∷ x) (lexemes-append text ts us)
 
 -- the bytes between a front and a rest
-cut_out : (front bytes rest : List ℕ)
+pub cut_out : (front bytes rest : List ℕ)
     → slice_range (front ++ (bytes ++ rest)) (length front) (length front + length bytes) ≡ bytes
 cut_out front bytes rest =
     let n : length front + length bytes - length front ≡ length bytes = omega arith in
@@ -111,6 +112,7 @@ prints_pieces = record {
   words = word_of-spelling;
   word_fits = word_fits;
   name_fits = name_fits;
+  texts = unquoted-quoted;
   joined = AreCut-append;
   seen = λ ps. lexemes_seen (text_of ps) [] ps refl;
 }

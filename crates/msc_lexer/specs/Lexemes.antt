@@ -1,5 +1,5 @@
 -- What a grammar sees of tokens: what each is, with its bytes, and where it begins.
-use Rattle.std.specs.Prelude.{◌≡◌, ◌≢◌, ℕ, ◌+◌, ◌≤◌, true, false, List, [], ◌∷◌, ◌++◌, length, map, slice_range, Option, Some, None, All}
+use Rattle.std.specs.Prelude.{◌≡◌, ◌≢◌, ℕ, ◌+◌, ◌≤◌, true, false, ◌==◌, if◌then◌else◌, List, [], ◌∷◌, ◌++◌, length, map, slice_range, Option, Some, None, All}
 use Rattle.std.specs.List.{list_all}
 use Rattle.msc_lexer.specs.declared.TheConstants.{NAME_LIMIT}
 use Rattle.msc_lexer.specs.declared.word.Word.{Word}
@@ -8,13 +8,13 @@ use Rattle.msc_lexer.specs.declared.token.Kind.TheVariants as kinds
 use Rattle.msc_lexer.specs.declared.token.Token.{Token}
 use Rattle.msc_lexer.specs.Bytes.{is_run_byte, begins}
 use Rattle.msc_lexer.specs.Words.{spelling, word_of}
-use Rattle.msc_lexer.specs.Pieces.{Piece, Run, Fits, spelled, kind_of, text_of, AreCut, tokens_of}
+use Rattle.msc_lexer.specs.Pieces.{Piece, Run, Fits, quoted, spelled, kind_of, text_of, AreCut, tokens_of}
 
 -- what a token is to a grammar: a reserved word, a name, a text or a mark
 pub data Symbol : Type 0 where
   Reserved : Word → Symbol
   Named : List ℕ → Symbol  -- a name, with its bytes
-  Quoted : List ℕ → Symbol  -- a text, with its bytes as they stand
+  Quoted : List ℕ → Symbol  -- a text, with the bytes that it holds
   Semicolon : Symbol
   Comma : Symbol
   Colon : Symbol
@@ -26,11 +26,22 @@ pub record Lexeme : Type 0 where
   pub symbol : Symbol
   pub place : ℕ
 
+-- each doubled apostrophe halved, and the last byte left out
+abbrev pub halved : List ℕ → List ℕ
+halved [] = []
+halved (b ∷ []) = []
+halved (b ∷ c ∷ bs) = if b == 39 then 39 ∷ halved bs else b ∷ halved (c ∷ bs)
+
+-- what a text between apostrophes holds: the bytes between them, each doubled apostrophe halved
+abbrev pub unquoted : List ℕ → List ℕ
+unquoted [] = []
+unquoted (b ∷ bs) = halved bs
+
 -- the symbol of a token of a kind with these bytes
 abbrev pub symbol_of : Kind → List ℕ → Symbol
 symbol_of (kinds.Word w) bytes = Reserved w
 symbol_of kinds.Name bytes = Named bytes
-symbol_of kinds.Text bytes = Quoted bytes
+symbol_of kinds.Text bytes = Quoted (unquoted bytes)
 symbol_of kinds.Semicolon bytes = Semicolon
 symbol_of kinds.Comma bytes = Comma
 symbol_of kinds.Colon bytes = Colon
@@ -46,10 +57,12 @@ lexeme_of text t =
 abbrev pub lexemes : List ℕ → List Token → List Lexeme
 lexemes text tokens = map (lexeme_of text) tokens
 
--- the token stands in the text
+-- the token stands in the text; where it is a text, its bytes are those of one
 pub record IsWithin (text : List ℕ) (t : Token) : Type 0 where
   pub ordered : t.start ≤ t.«end»
   pub inside : t.«end» ≤ length text
+  pub as_text : t.kind ≡ kinds.Text
+      → (body : List ℕ) × (slice_range text t.start t.«end» ≡ quoted body)
 
 -- all tokens stand in the text
 abbrev pub AreWithin : List ℕ → List Token → Type 0
@@ -93,6 +106,8 @@ pub record PrintsPieces : Type 0 where
       → Fits (Run (spelling w)) rest
   pub name_fits : (name rest : List ℕ) → IsName name → begins is_run_byte rest ≡ false
       → Fits (Run name) rest
+  -- what stands between apostrophes is what was printed there
+  pub texts : (body : List ℕ) → unquoted (quoted body) ≡ body
   -- pieces that fit may be joined
   pub joined : (ps qs : List Piece) (rest : List ℕ) → AreCut ps (text_of qs ++ rest)
       → AreCut qs rest → AreCut (ps ++ qs) rest

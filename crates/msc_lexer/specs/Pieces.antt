@@ -26,6 +26,10 @@ abbrev pub doubled : List ℕ → List ℕ
 doubled [] = []
 doubled (b ∷ bs) = if b == 39 then 39 ∷ 39 ∷ doubled bs else b ∷ doubled bs
 
+-- a text as it stands: between apostrophes, with each apostrophe that it holds twice
+abbrev pub quoted : List ℕ → List ℕ
+quoted body = 39 ∷ (doubled body ++ 39 ∷ [])
+
 -- the mark that a byte is: `;` `,` `:` `(` or `)`
 abbrev pub mark_of : ℕ → Option Kind
 mark_of b =
@@ -36,7 +40,7 @@ abbrev pub spelled : Piece → List ℕ
 spelled (Blank b) = b ∷ []
 spelled (Note body) = 47 ∷ 42 ∷ (body ++ 42 ∷ 47 ∷ [])
 spelled (Run bytes) = bytes
-spelled (Quoted body) = 39 ∷ (doubled body ++ 39 ∷ [])
+spelled (Quoted body) = quoted body
 spelled (Mark b) = b ∷ []
 
 -- the kind of token that a piece is, if it is one: a run is its reserved word, or a name

@@ -8,12 +8,14 @@ mod byte;
 mod fault;
 pub mod laws;
 mod lexing;
+mod quoting;
 mod scanning;
 mod token;
 mod word;
 
 pub use fault::LexFault;
 pub use lexing::lex;
+pub use quoting::text_bytes;
 pub use token::{Kind, Token};
 pub use word::Word;
 

@@ -2,8 +2,10 @@
 //!
 //! Which of them the grammar supports is the parser's matter.
 
-ghost use Rattle.std.specs.Prelude.{◌≡◌};
+ghost use Rattle.std.specs.Prelude.{◌≡◌, Some};
 ghost use Rattle.msc_lexer.specs.Words.{spelling, word_of};
+
+use std::fmt;
 
 /// A reserved word. `Input` and `Output` are spelled `in` and `out`.
 #[derive(Clone, Copy, Debug, PartialEq, Eq)]
@@ -55,32 +57,39 @@ impl Word {
         Word::Stop,
     ];
 
+    /// The word in small letters, as text.
+    fn text(self) -> &'static str
+        ensures { result.now ≡ spelling self }
+    {
+        match self {
+            Word::Msc => "msc",
+            Word::EndMsc => "endmsc",
+            Word::Inst => "inst",
+            Word::Instance => "instance",
+            Word::EndInstance => "endinstance",
+            Word::Input => "in",
+            Word::From => "from",
+            Word::Output => "out",
+            Word::To => "to",
+            Word::Concurrent => "concurrent",
+            Word::EndConcurrent => "endconcurrent",
+            Word::Comment => "comment",
+            Word::Env => "env",
+            Word::Action => "action",
+            Word::Condition => "condition",
+            Word::Set => "set",
+            Word::Reset => "reset",
+            Word::Timeout => "timeout",
+            Word::Create => "create",
+            Word::Stop => "stop",
+        }
+    }
+
     /// The word in small letters.
     pub fn spelling(self) -> &'static [u8]
         ensures { result.now ≡ spelling self }
     {
-        match self {
-            Word::Msc => b"msc",
-            Word::EndMsc => b"endmsc",
-            Word::Inst => b"inst",
-            Word::Instance => b"instance",
-            Word::EndInstance => b"endinstance",
-            Word::Input => b"in",
-            Word::From => b"from",
-            Word::Output => b"out",
-            Word::To => b"to",
-            Word::Concurrent => b"concurrent",
-            Word::EndConcurrent => b"endconcurrent",
-            Word::Comment => b"comment",
-            Word::Env => b"env",
-            Word::Action => b"action",
-            Word::Condition => b"condition",
-            Word::Set => b"set",
-            Word::Reset => b"reset",
-            Word::Timeout => b"timeout",
-            Word::Create => b"create",
-            Word::Stop => b"stop",
-        }
+        self.text().as_bytes()
     }
 
     /// The word that these bytes spell, in capital or small letters.
@@ -93,5 +102,14 @@ impl Word {
             }
         }
         None
+    }
+}
+
+/// Shows the word in small letters.
+impl fmt::Display for Word {
+    ghost output = { λ w. Some (spelling w) };
+
+    fn fmt<W: fmt::Write>(&self, f: &mut fmt::Formatter<W>) -> fmt::Result {
+        f.write_str(self.text())
     }
 }

@@ -7,13 +7,16 @@ use Rattle.msc_parser.specs.declared.tree.Way.{Way}
 use Rattle.msc_parser.specs.declared.tree.Way.TheVariants as ways
 use Rattle.msc_parser.specs.declared.tree.Decl.{Decl}
 use Rattle.msc_parser.specs.declared.tree.Signal.{Signal}
+use Rattle.msc_parser.specs.declared.tree.Statement.{Statement}
+use Rattle.msc_parser.specs.declared.tree.Statement.TheVariants as statements
+use Rattle.msc_parser.specs.declared.opening.Opening.TheVariants as openings
 use Rattle.msc_parser.specs.declared.tree.Item.{Item}
 use Rattle.msc_parser.specs.declared.tree.Item.TheVariants.{Single, Coregion}
 use Rattle.msc_parser.specs.declared.tree.Section.{Section}
 use Rattle.msc_parser.specs.Forms.{IsToken, IsNamed, AreMany, IsLedBy, AreListed}
-use Rattle.msc_parser.specs.Grammar.{Tree, IsEnd, Plain, Commented, IsSecond, IsKind, IsDecl, IsNumber, AreParameters, Absent, Empty, Given, IsSignal, IsEvent, IsCoregion, IsItem, IsSection, AreDecls, IsChart}
-use Rattle.msc_parser.specs.Places.{Statement, InInst, InInstance, Place, Start, ChartName, Header, Sections, Items, Events, DeclName, DeclKind, KindFirst, KindSecond, DeclEnd, Message, AfterMessage, Number, AfterNumber, Parameters, Parameter, AfterParameter, AfterParameters, Address, StatementEnd, CommentText, CommentEnd, Done, behind, next, walk}
-use Rattle.msc_parser.proofs.Leading.{colon_leads, second_leads, comma_leads, open_leads, word_leads, item_leads, event_leads}
+use Rattle.msc_parser.specs.Grammar.{Tree, IsEnd, Plain, Commented, IsSecond, IsKind, IsDecl, IsNumber, AreParameters, Absent, Empty, Given, IsSignal, IsAction, IsEvent, IsCoregion, IsItem, IsSection, AreDecls, IsChart}
+use Rattle.msc_parser.specs.Places.{DeclStatement, InInst, InInstance, Place, Start, ChartName, Header, Sections, Items, Events, DeclName, DeclKind, KindFirst, KindSecond, DeclEnd, Message, AfterMessage, Number, AfterNumber, Parameters, Parameter, AfterParameter, AfterParameters, Address, ActionText, StatementEnd, CommentText, CommentEnd, Done, behind, next, walk}
+use Rattle.msc_parser.proofs.Leading.{colon_leads, second_leads, comma_leads, open_leads, word_leads, LeadsToEvents, item_leads, event_leads}
 
 -- a token that may stand at a place leads on
 pub walk_token : (p q : Place) (s : Symbol) (before after : List Lexeme) → IsToken s before after
@@ -51,21 +54,21 @@ by_wider p q wide other [] h = absurd (other (ap (λ (x : Place × List Lexeme).
 by_wider p q wide other (l ∷ ls) h = wider_step p q l ls (next q l.symbol) refl (wide l.symbol) h
 
 -- behind a name may stand what may stand behind a whole kind, and `:`
-wide_kind : (st : Statement) → Wider (DeclKind st) (DeclEnd st)
+wide_kind : (st : DeclStatement) → Wider (DeclKind st) (DeclEnd st)
 wide_kind InInst Colon h = absurd (h refl)
 wide_kind InInst x h = refl
 wide_kind InInstance Colon h = absurd (h refl)
 wide_kind InInstance x h = refl
 
 -- behind the first name of a kind may stand what may stand behind the second, and a name
-wide_second : (st : Statement) → Wider (KindSecond st) (DeclEnd st)
+wide_second : (st : DeclStatement) → Wider (KindSecond st) (DeclEnd st)
 wide_second InInst (Named n) h = absurd (h refl)
 wide_second InInst x h = refl
 wide_second InInstance (Named n) h = absurd (h refl)
 wide_second InInstance x h = refl
 
 -- behind a decl may stand the end of the statement, and in `inst` a comma
-wide_decl : (st : Statement) → Wider (DeclEnd st) (StatementEnd (behind st))
+wide_decl : (st : DeclStatement) → Wider (DeclEnd st) (StatementEnd (behind st))
 wide_decl InInst Comma h = absurd (h refl)
 wide_decl InInst x h = refl
 wide_decl InInstance x h = refl
@@ -105,7 +108,7 @@ by_end p b a (Commented bytes text close h k l) rest =
     by_token (StatementEnd p) (CommentText p) (Reserved words.Comment) b text h refl (by_token (CommentText p) (CommentEnd p) (Quoted bytes) text close k refl (by_token (CommentEnd p) p Semicolon close a l refl rest))
 
 -- a second name, or none, leads to the end of a decl
-by_second : (st : Statement) (ks : List (List ℕ)) (b a : List Lexeme) → IsSecond b ks a
+by_second : (st : DeclStatement) (ks : List (List ℕ)) (b a : List Lexeme) → IsSecond b ks a
     → Accepts (DeclEnd st) a → Accepts (KindSecond st) b
 by_second st [] b a h rest =
     by_wider (KindSecond st) (DeclEnd st) (wide_second st) (λ e. cc) b (ap (walk (DeclEnd st)) h ∙ rest)
@@ -113,7 +116,7 @@ by_second st (k ∷ []) b a h rest = by_token _ (DeclEnd st) (Named k) b a h (se
 by_second st (k ∷ l ∷ ks) b a h rest = absurd h
 
 -- a kind, or none, leads to the end of a decl
-by_kind : (st : Statement) (ks : List (List ℕ)) (b a : List Lexeme) → IsKind b ks a
+by_kind : (st : DeclStatement) (ks : List (List ℕ)) (b a : List Lexeme) → IsKind b ks a
     → Accepts (DeclEnd st) a → Accepts (DeclKind st) b
 by_kind st [] b a h rest =
     by_wider (DeclKind st) (DeclEnd st) (wide_kind st) (λ e. cc) b (ap (walk (DeclEnd st)) h ∙ rest)
@@ -121,13 +124,13 @@ by_kind st (k ∷ ks) b a h rest =
     by_token _ (KindFirst st) Colon b h.0 h.2 (colon_leads st) (by_token _ (KindSecond st) (Named k) h.0 h.1 h.3 refl (by_second st ks h.1 a h.4 rest))
 
 -- a decl leads to its end
-by_decl : (st : Statement) (b a : List Lexeme) (d : Decl) → IsDecl b d a → Accepts (DeclEnd st) a
+by_decl : (st : DeclStatement) (b a : List Lexeme) (d : Decl) → IsDecl b d a → Accepts (DeclEnd st) a
     → Accepts (DeclName st) b
 by_decl st b a d h rest =
     by_token _ (DeclKind st) (Named d.name) b h.0 h.1 refl (by_kind st d.kind h.0 a h.2 rest)
 
 -- the end of a statement with decls leads behind it
-by_decl_end : (st : Statement) (b a : List Lexeme) → IsEnd b a → Accepts (behind st) a
+by_decl_end : (st : DeclStatement) (b a : List Lexeme) → IsEnd b a → Accepts (behind st) a
     → Accepts (DeclEnd st) b
 by_decl_end st b a h rest =
     by_wider (DeclEnd st) (StatementEnd (behind st)) (wide_decl st) (λ e. cc) b (by_end (behind st) b a h rest)
@@ -167,7 +170,7 @@ by_parameters w p ps b a (Empty close none h k) rest =
 by_parameters w p ps b a (Given names close h k l) rest =
     by_token _ (Parameters w p) LeftParen b names h (open_leads w p) (by_names w p ps names close k (by_token _ _ RightParen close a l refl rest))
 
--- an event behind its first word leads behind the event
+-- a message event behind its first word leads behind the event
 by_signal : (p : Place) (b a : List Lexeme) (e : Signal) → IsSignal b e a → Accepts p a
     → Accepts (Message e.way p) b
 by_signal p b a e h rest =
@@ -177,18 +180,32 @@ by_signal p b a e h rest =
     (by_token _ (Address p) _ h.word h.address h.is_word (word_leads e.way p)
     (by_token _ (StatementEnd p) (Named e.address) h.address h.close h.is_address refl (by_end p h.close a h.is_end rest)))))
 
+-- an action behind its first word leads behind the action
+by_action : (p : Place) (b a : List Lexeme) (label : List ℕ) → IsAction b label a → Accepts p a
+    → Accepts (ActionText p) b
+by_action p b a label h rest =
+    by_token _ (StatementEnd p) (Quoted label) b h.close h.is_text refl (by_end p h.close a h.is_end rest)
+
+-- an event leads behind the event
+by_event : (p : Place) → LeadsToEvents p → (b a : List Lexeme) (x : Statement) → IsEvent b x a
+    → Accepts p a → Accepts p b
+by_event p leads b a (statements.Message e) h rest =
+    by_token p (Message e.way p) _ b h.0 h.1 (leads (openings.Message e.way)) (by_signal p h.0 a e h.2 rest)
+by_event p leads b a (statements.Action label) h rest =
+    by_token p (ActionText p) _ b h.0 h.1 (leads openings.Action) (by_action p h.0 a label h.2 rest)
+
 -- a coregion behind its first word leads to the next item
-by_coregion : (b a : List Lexeme) (es : List Signal) → IsCoregion b es a → Accepts Items a
+by_coregion : (b a : List Lexeme) (es : List Statement) → IsCoregion b es a → Accepts Items a
     → Accepts (StatementEnd Events) b
 by_coregion b a es h rest =
     by_end Events b h.events h.is_end
-    (by_many IsEvent Events (λ c d x k more. by_token Events (Message x.way Events) _ c k.0 k.1 (event_leads x.way) (by_signal Events k.0 d x k.2 more)) es h.events h.last h.are_events
+    (by_many IsEvent Events (by_event Events event_leads) es h.events h.last h.are_events
     (by_token Events (StatementEnd Items) _ h.last h.close h.is_endconcurrent refl (by_end Items h.close a h.is_last_end rest)))
 
 -- an item leads to the next item
 by_item : (b a : List Lexeme) (x : Item) → IsItem b x a → Accepts Items a → Accepts Items b
 by_item b a (Single e) h rest =
-    by_token Items (Message e.way Items) _ b h.0 h.1 (item_leads e.way) (by_signal Items h.0 a e h.2 rest)
+    by_event Items item_leads b a e h rest
 by_item b a (Coregion es) h rest =
     by_token Items (StatementEnd Events) _ b h.0 h.1 refl (by_coregion h.0 a es h.2 rest)
 

@@ -4,10 +4,11 @@ use Rattle.std.specs.List.{flat_map}
 use Rattle.msc_lexer.specs.declared.word.Word.TheVariants as words
 use Rattle.msc_lexer.specs.Lexemes.{Reserved, Named, Quoted, Semicolon, Comma, Lexeme}
 use Rattle.msc_parser.specs.declared.tree.Way.{Way}
+use Rattle.msc_parser.specs.declared.tree.Statement.TheVariants.{Message, Action}
 use Rattle.msc_parser.specs.declared.tree.Item.TheVariants.{Single, Coregion}
 use Rattle.msc_parser.specs.Forms.{IsToken}
 use Rattle.msc_parser.specs.Grammar.{Tree, IsEnd, Plain, Commented, way_word, address_word, Absent, IsInstance, IsChart}
-use Rattle.msc_parser.specs.Places.{Statement, InInst, InInstance}
+use Rattle.msc_parser.specs.Places.{DeclStatement, InInst, InInstance}
 use Rattle.msc_parser.proofs.Following.{at_place, SectionsRest, HeaderRest, ItemsRest, EventsRest, EndRest, DeclsRest, DeclRest, SecondRest, KindRest, NameRest, AddressRest, WordRest, ParametersRest, NumberRest, EventRest}
 
 -- `;` in front of what may follow
@@ -33,11 +34,11 @@ comma_decl at ls r =
     record { decls = r.decl ∷ r.rest.decls; close = r.rest.close; are = (r.after, (ls, (at, refl), r.is), r.rest.are); rest = r.rest.rest }
 
 -- there may be no kind here
-pub no_kind : (st : Statement) (ls : List Lexeme) → DeclRest st ls → KindRest st ls
+pub no_kind : (st : DeclStatement) (ls : List Lexeme) → DeclRest st ls → KindRest st ls
 no_kind st ls r = record { kind = []; after = ls; is = refl; rest = r }
 
 -- there may be no second name here
-pub no_second : (st : Statement) (ls : List Lexeme) → DeclRest st ls → SecondRest st ls
+pub no_second : (st : DeclStatement) (ls : List Lexeme) → DeclRest st ls → SecondRest st ls
 no_second st ls r = record { second = []; after = ls; is = refl; rest = r }
 
 -- there may be no message instance name here
@@ -55,7 +56,7 @@ pub word_back : (w : Way) (More : List Lexeme → Type 0) (at : ℕ) (ls : List 
     → AddressRest More ls → WordRest w More (at_place (Reserved (address_word w)) at ∷ ls)
 word_back w More at ls r = record { address = ls; is = (at, refl); rest = r }
 
--- a way and a message name in front of the rest of the event
+-- a way and a message name in front of the rest of the message event
 pub event_back : (w : Way) (More : List Lexeme → Type 0) (n : List ℕ) (at bt : ℕ) (ls : List Lexeme)
     → NumberRest w More ls
     → EventRest More (at_place (Reserved (way_word w)) at ∷ at_place (Named n) bt ∷ ls)
@@ -64,7 +65,7 @@ event_back w More n at bt ls r =
     let q = p.rest in
     let a = q.rest in
     record {
-      event = record { way = w; name = n; number = r.number; parameters = p.parameters; address = a.name };
+      event = Message (record { way = w; name = n; number = r.number; parameters = p.parameters; address = a.name });
       after = a.rest.after;
       is = (
         at_place (Named n) bt ∷ ls,
@@ -81,6 +82,17 @@ event_back w More n at bt ls r =
       );
       rest = a.rest.rest;
     }
+
+-- `action` and its text in front of the end of the action
+pub action_back : (More : List Lexeme → Type 0) (label : List ℕ) (at bt : ℕ) (ls : List Lexeme)
+    → EndRest More ls
+    → EventRest More (at_place (Reserved words.Action) at ∷ at_place (Quoted label) bt ∷ ls)
+action_back More label at bt ls r = record {
+  event = Action label;
+  after = r.after;
+  is = (at_place (Quoted label) bt ∷ ls, (at, refl), record { close = ls; is_text = (bt, refl); is_end = r.is_end });
+  rest = r.rest;
+}
 
 -- an event in front of the items of a section
 pub item_back : (ls : List Lexeme) → EventRest ItemsRest ls → ItemsRest ls

@@ -6,9 +6,9 @@ use Rattle.msc_lexer.specs.declared.word.Word.TheVariants as words
 use Rattle.msc_lexer.specs.Lexemes.{Symbol, Reserved, Named, Quoted, Semicolon, Comma, Colon, LeftParen, RightParen, Lexeme}
 use Rattle.msc_parser.specs.declared.tree.Way.TheVariants as ways
 use Rattle.msc_parser.specs.Grammar.{Tree, Empty, Given, IsChart}
-use Rattle.msc_parser.specs.Places.{InInst, InInstance, Place, Start, ChartName, Header, Sections, Items, Events, DeclName, DeclKind, KindFirst, KindSecond, DeclEnd, Message, AfterMessage, Number, AfterNumber, Parameters, Parameter, AfterParameter, AfterParameters, Address, StatementEnd, CommentText, CommentEnd, Done, next, walk}
+use Rattle.msc_parser.specs.Places.{InInst, InInstance, Place, Start, ChartName, Header, Sections, Items, Events, DeclName, DeclKind, KindFirst, KindSecond, DeclEnd, Message, AfterMessage, Number, AfterNumber, Parameters, Parameter, AfterParameter, AfterParameters, Address, ActionText, StatementEnd, CommentText, CommentEnd, Done, next, walk}
 use Rattle.msc_parser.proofs.Following.{at_place, HeaderRest, ItemsRest, Rest}
-use Rattle.msc_parser.proofs.Backwards.{plain_end, commented_end, no_decls, comma_decl, no_kind, no_second, no_number, no_parameters, word_back, event_back, item_back, coregion_event, coregion_back, last_back, section_back, no_inst, inst_back, chart_back}
+use Rattle.msc_parser.proofs.Backwards.{plain_end, commented_end, no_decls, comma_decl, no_kind, no_second, no_number, no_parameters, word_back, event_back, action_back, item_back, coregion_event, coregion_back, last_back, section_back, no_inst, inst_back, chart_back}
 
 -- one token back, a line for each that may stand at a place
 back : (p : Place) (s : Symbol) (at : ℕ) (ls : List Lexeme)
@@ -23,11 +23,13 @@ back Sections (Reserved words.Instance) at ls = λ r. section_back at ls r
 back Sections (Reserved words.EndMsc) at ls = λ r. last_back at ls r
 back Items (Reserved words.Output) at ls = λ r. item_back _ (r at)
 back Items (Reserved words.Input) at ls = λ r. item_back _ (r at)
+back Items (Reserved words.Action) at ls = λ r. item_back _ (r at)
 back Items (Reserved words.Concurrent) at ls = λ r. coregion_back at ls r
 back Items (Reserved words.EndInstance) at ls =
     λ r. record { items = []; last = at_place (Reserved words.EndInstance) at ∷ ls; close = ls; after = r.after; are = refl; is_endinstance = (at, refl); is_end = r.is_end; rest = r.rest }
 back Events (Reserved words.Output) at ls = λ r. coregion_event _ (r at)
 back Events (Reserved words.Input) at ls = λ r. coregion_event _ (r at)
+back Events (Reserved words.Action) at ls = λ r. coregion_event _ (r at)
 back Events (Reserved words.EndConcurrent) at ls =
     λ r. record { events = []; last = at_place (Reserved words.EndConcurrent) at ∷ ls; close = ls; after = r.after; are = refl; is_endconcurrent = (at, refl); is_end = r.is_end; rest = r.rest }
 back (DeclName st) (Named n) at ls =
@@ -90,6 +92,7 @@ back (AfterParameters ways.Output p) (Reserved words.To) at ls =
 back (AfterParameters ways.Input p) (Reserved words.From) at ls =
     λ r. word_back ways.Input (Rest p) at ls r
 back (Address p) (Named n) at ls = λ r. record { name = n; close = ls; is = (at, refl); rest = r }
+back (ActionText p) (Quoted label) at ls = λ r bt. action_back (Rest p) label bt at ls r
 back (StatementEnd p) (Reserved words.Comment) at ls = λ r. r at
 back (StatementEnd p) Semicolon at ls = λ r. plain_end (Rest p) at ls r
 back (CommentText p) (Quoted bytes) at ls = λ r bt. r bt at bytes

@@ -1,13 +1,14 @@
--- A chart has no more decls and events than tokens.
+-- A chart has no more decls and statements than tokens.
 use Rattle.std.proofs.Common.{◌≡◌, ℕ, ◌+◌, ◌≤◌, List, [], ◌∷◌, length, Option, Some, None, ap, arith}
 use Rattle.std.specs.List.{flat_map}
 use Rattle.std.proofs.lemmas.List.{length-append}
 use Rattle.msc_lexer.specs.declared.word.Word.TheVariants as words
 use Rattle.msc_lexer.specs.Lexemes.{Symbol, Reserved, Comma, Lexeme}
+use Rattle.msc_parser.specs.declared.tree.Statement.TheVariants.{Message, Action}
 use Rattle.msc_parser.specs.declared.tree.Item.TheVariants.{Single, Coregion}
 use Rattle.msc_parser.specs.Forms.{IsToken, IsNamed, AreMany, IsLedBy}
-use Rattle.msc_parser.specs.Grammar.{Tree, IsEnd, Plain, Commented, IsSecond, IsKind, IsDecl, IsNumber, AreParameters, Absent, Empty, Given, IsEvent, IsCoregion, IsItem, IsSection, AreDecls, IsChart}
-use Rattle.msc_parser.specs.Drafts.{signals_in, signals_of}
+use Rattle.msc_parser.specs.Grammar.{Tree, IsEnd, Plain, Commented, IsSecond, IsKind, IsDecl, IsNumber, AreParameters, Absent, Empty, Given, IsAction, IsMessage, IsEvent, IsCoregion, IsItem, IsSection, AreDecls, IsChart}
+use Rattle.msc_parser.specs.Drafts.{statements_in, statements_of}
 
 -- a part of this size takes as many tokens, or more
 abbrev TakesAsMany : {X : Type 0} → (List Lexeme → X → List Lexeme → Type 0) → (X → ℕ) → Type 0
@@ -99,9 +100,9 @@ takes_parameters (p ∷ ps) b a (Given names close h k l) =
     let w = takes_token _ close a l in
     omega (arith, t, u, v, w)
 
--- an event takes a token, or more
-takes_event : TakesAsMany IsEvent (λ e. 1)
-takes_event b a e h =
+-- a message event takes a token, or more
+takes_message : TakesAsMany IsMessage (λ e. 1)
+takes_message b a e h =
     let k = h.2 in
     let i = k.is_ident in
     let t0 = takes_token _ b h.0 h.1 in
@@ -113,6 +114,17 @@ takes_event b a e h =
     let t6 = takes_end k.close a k.is_end in
     omega (arith, t0, t1, t2, t3, t4, t5, t6)
 
+-- an action behind its first word takes no less than nothing
+takes_action : (l : List ℕ) (b a : List Lexeme) → IsAction b l a → length a ≤ length b
+takes_action l b a h =
+    let t = takes_token _ b h.close h.is_text in let u = takes_end h.close a h.is_end in omega (arith, t, u)
+
+-- an event takes a token, or more
+takes_event : TakesAsMany IsEvent (λ e. 1)
+takes_event b a (Message e) h = takes_message b a e h
+takes_event b a (Action l) h =
+    let t = takes_token _ b h.0 h.1 in let u = takes_action l h.0 a h.2 in omega (arith, t, u)
+
 -- a coregion takes as many tokens as it has events, or more
 takes_coregion : TakesAsMany IsCoregion (λ es. length es)
 takes_coregion b a es h =
@@ -123,33 +135,33 @@ takes_coregion b a es h =
     omega (arith, t0, t1, t2, t3)
 
 -- an item takes as many tokens as it has events, or more
-takes_item : TakesAsMany IsItem (λ x. length (signals_in x))
+takes_item : TakesAsMany IsItem (λ x. length (statements_in x))
 takes_item b a (Single e) h = takes_event b a e h
 takes_item b a (Coregion es) h =
     takes_behind (Reserved words.Concurrent) IsCoregion (λ es. length es) takes_coregion b a es h
 
 -- a section takes as many tokens as it has events, or more
-takes_section : TakesAsMany IsSection (λ s. length (flat_map signals_in s.items))
+takes_section : TakesAsMany IsSection (λ s. length (flat_map statements_in s.items))
 takes_section b a s h =
     let k = h.2 in
     let t0 = takes_token _ b h.0 h.1 in
     let t1 = takes_decl h.0 k.close s.decl k.is_decl in
     let t2 = takes_end k.close k.items k.is_end in
-    let t3 = takes_many IsItem signals_in takes_item k.items k.last s.items k.are_items in
+    let t3 = takes_many IsItem statements_in takes_item k.items k.last s.items k.are_items in
     let t4 = takes_token _ k.last k.last_close k.is_endinstance in
     let t5 = takes_end k.last_close a k.is_last_end in
     omega (arith, t0, t1, t2, t3, t4, t5)
 
 -- ---- the whole chart
 
--- a chart takes as many tokens as it has decls in the header and events, or more
+-- a chart takes as many tokens as it has decls in the header and statements, or more
 pub chart_takes : (ls : List Lexeme) (t : Tree) → IsChart ls t
-    → length t.header + length (signals_of t.sections) ≤ length ls
+    → length t.header + length (statements_of t.sections) ≤ length ls
 chart_takes ls t h =
     let t0 = takes_token _ ls h.name h.is_msc in
     let t1 = takes_token _ h.name h.close h.is_name in
     let t2 = takes_end h.close h.header h.is_end in
     let t3 = takes_many (IsLedBy (Reserved words.Inst) AreDecls) (λ g. g) (takes_behind (Reserved words.Inst) AreDecls (λ ds. length ds) takes_decls) h.header h.sections h.is_header.0 h.is_header.2 in
-    let t4 = takes_many IsSection (λ s. flat_map signals_in s.items) takes_section h.sections h.last t.sections h.are_sections in
+    let t4 = takes_many IsSection (λ s. flat_map statements_in s.items) takes_section h.sections h.last t.sections h.are_sections in
     let e = ap length h.is_header.1 in
     omega (arith, t0, t1, t2, t3, t4, e)

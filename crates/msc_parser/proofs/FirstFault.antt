@@ -7,7 +7,7 @@ use Rattle.msc_lexer.specs.Lexemes.{Symbol, Reserved, Named, Quoted, Semicolon, 
 use Rattle.msc_parser.specs.declared.tree.Way.{Way}
 use Rattle.msc_parser.specs.declared.tree.Way.TheVariants as ways
 use Rattle.msc_parser.specs.Grammar.{address_word}
-use Rattle.msc_parser.specs.Places.{Statement, InInst, InInstance, Place, Start, ChartName, Header, Sections, Items, Events, DeclName, DeclKind, KindFirst, KindSecond, DeclEnd, Message, AfterMessage, Number, AfterNumber, Parameters, Parameter, AfterParameter, AfterParameters, Address, StatementEnd, CommentText, CommentEnd, Done, next, walk}
+use Rattle.msc_parser.specs.Places.{DeclStatement, InInst, InInstance, Place, Start, ChartName, Header, Sections, Items, Events, DeclName, DeclKind, KindFirst, KindSecond, DeclEnd, Message, AfterMessage, Number, AfterNumber, Parameters, Parameter, AfterParameter, AfterParameters, Address, ActionText, StatementEnd, CommentText, CommentEnd, Done, next, walk}
 use Rattle.msc_parser.specs.Parsing.{IsContinuable, IsEndOfGood}
 use Rattle.msc_parser.proofs.Accepting.{chart_walks}
 use Rattle.msc_parser.proofs.Continuing.{walks_chart}
@@ -74,7 +74,7 @@ unfolding lexeme
 from_items = lexeme (Reserved words.EndInstance) ∷ from_end from_sections
 
 -- the shortest way to the end from behind a decl
-from_decl : Statement → List Lexeme
+from_decl : DeclStatement → List Lexeme
 from_decl InInst = from_end from_sections
 from_decl InInstance = from_end from_items
 
@@ -106,6 +106,7 @@ completion (Parameter w p) = name ∷ lexeme RightParen ∷ from_word w (complet
 completion (AfterParameter w p) = lexeme RightParen ∷ from_word w (completion p)
 completion (AfterParameters w p) = from_word w (completion p)
 completion (Address p) = name ∷ from_end (completion p)
+completion (ActionText p) = lexeme (Quoted []) ∷ from_end (completion p)
 completion (StatementEnd p) = from_end (completion p)
 completion (CommentText p) = lexeme (Quoted []) ∷ from_end (completion p)
 completion (CommentEnd p) = from_end (completion p)
@@ -147,6 +148,7 @@ completed (AfterParameter ways.Input p) = completed p
 completed (AfterParameters ways.Output p) = completed p
 completed (AfterParameters ways.Input p) = completed p
 completed (Address p) = completed p
+completed (ActionText p) = completed p
 completed (StatementEnd p) = completed p
 completed (CommentText p) = completed p
 completed (CommentEnd p) = completed p

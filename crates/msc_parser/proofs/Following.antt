@@ -4,12 +4,12 @@ use Rattle.msc_lexer.specs.declared.word.Word.TheVariants as words
 use Rattle.msc_lexer.specs.Lexemes.{Symbol, Reserved, Named, Quoted, Comma, Colon, LeftParen, RightParen, Lexeme}
 use Rattle.msc_parser.specs.declared.tree.Way.{Way}
 use Rattle.msc_parser.specs.declared.tree.Decl.{Decl}
-use Rattle.msc_parser.specs.declared.tree.Signal.{Signal}
+use Rattle.msc_parser.specs.declared.tree.Statement.{Statement}
 use Rattle.msc_parser.specs.declared.tree.Item.{Item}
 use Rattle.msc_parser.specs.declared.tree.Section.{Section}
 use Rattle.msc_parser.specs.Forms.{IsToken, IsNamed, AreMany, IsLedBy}
 use Rattle.msc_parser.specs.Grammar.{Tree, IsEnd, IsSecond, IsKind, IsDecl, way_word, address_word, IsNumber, AreParameters, IsEvent, IsItem, IsSection, AreDecls, IsChart}
-use Rattle.msc_parser.specs.Places.{Statement, InInst, InInstance, Place, Start, ChartName, Header, Sections, Items, Events, DeclName, DeclKind, KindFirst, KindSecond, DeclEnd, Message, AfterMessage, Number, AfterNumber, Parameters, Parameter, AfterParameter, AfterParameters, Address, StatementEnd, CommentText, CommentEnd, Done}
+use Rattle.msc_parser.specs.Places.{DeclStatement, InInst, InInstance, Place, Start, ChartName, Header, Sections, Items, Events, DeclName, DeclKind, KindFirst, KindSecond, DeclEnd, Message, AfterMessage, Number, AfterNumber, Parameters, Parameter, AfterParameter, AfterParameters, Address, ActionText, StatementEnd, CommentText, CommentEnd, Done}
 
 -- a symbol that stands at a place of the text
 abbrev pub at_place : Symbol → ℕ → Lexeme
@@ -46,7 +46,7 @@ pub record ItemsRest (ls : List Lexeme) : Type 0 where
 
 -- events, `endconcurrent` and its end, and what follows an item
 pub record EventsRest (ls : List Lexeme) : Type 0 where
-  pub events : List Signal
+  pub events : List Statement
   pub last : List Lexeme
   pub close : List Lexeme
   pub after : List Lexeme
@@ -69,32 +69,32 @@ pub record DeclsRest (ls : List Lexeme) : Type 0 where
   pub rest : EndRest HeaderRest close
 
 -- what may follow a decl
-abbrev pub DeclRest : Statement → List Lexeme → Type 0
+abbrev pub DeclRest : DeclStatement → List Lexeme → Type 0
 DeclRest InInst ls = DeclsRest ls
 DeclRest InInstance ls = EndRest ItemsRest ls
 
 -- a second name of a kind or none, and what follows the decl
-pub record SecondRest (st : Statement) (ls : List Lexeme) : Type 0 where
+pub record SecondRest (st : DeclStatement) (ls : List Lexeme) : Type 0 where
   pub second : List (List ℕ)
   pub after : List Lexeme
   pub is : IsSecond ls second after
   pub rest : DeclRest st after
 
 -- a kind or none, and what follows the decl
-pub record KindRest (st : Statement) (ls : List Lexeme) : Type 0 where
+pub record KindRest (st : DeclStatement) (ls : List Lexeme) : Type 0 where
   pub kind : List (List ℕ)
   pub after : List Lexeme
   pub is : IsKind ls kind after
   pub rest : DeclRest st after
 
 -- a decl, and what follows it
-pub record NameRest (st : Statement) (ls : List Lexeme) : Type 0 where
+pub record NameRest (st : DeclStatement) (ls : List Lexeme) : Type 0 where
   pub decl : Decl
   pub after : List Lexeme
   pub is : IsDecl ls decl after
   pub rest : DeclRest st after
 
--- an address and the end of the event, and more
+-- an address and the end of the message event, and more
 pub record AddressRest (More : List Lexeme → Type 0) (ls : List Lexeme) : Type 0 where
   pub name : List ℕ
   pub close : List Lexeme
@@ -132,7 +132,7 @@ pub record NumberRest (w : Way) (More : List Lexeme → Type 0) (ls : List Lexem
 
 -- an event, and more
 pub record EventRest (More : List Lexeme → Type 0) (ls : List Lexeme) : Type 0 where
-  pub event : Signal
+  pub event : Statement
   pub after : List Lexeme
   pub is : IsEvent ls event after
   pub rest : More after
@@ -161,6 +161,8 @@ Rest (Parameter w p) ls = (at : ℕ) → NamesRest w (Rest p) (at_place Comma at
 Rest (AfterParameter w p) ls = NamesRest w (Rest p) ls
 Rest (AfterParameters w p) ls = WordRest w (Rest p) ls
 Rest (Address p) ls = AddressRest (Rest p) ls
+Rest (ActionText p) ls =
+    (at : ℕ) → EventRest (Rest p) (at_place (Reserved words.Action) at ∷ ls)
 Rest (StatementEnd p) ls = EndRest (Rest p) ls
 Rest (CommentText p) ls = (at : ℕ) → EndRest (Rest p) (at_place (Reserved words.Comment) at ∷ ls)
 Rest (CommentEnd p) ls =

@@ -13,7 +13,7 @@ use Rattle.msc_parser.specs.declared.fault.What.TheVariants as whats
 use Rattle.msc_parser.specs.declared.fault.ParseFault.{ParseFault}
 use Rattle.msc_parser.specs.Forms.{IsLedBy, AreListed}
 use Rattle.msc_parser.specs.Grammar.{IsKind, IsDecl, AreDecls, IsHeader}
-use Rattle.msc_parser.specs.Places.{Statement, InInst, InInstance, Place, Header, Sections, DeclName, DeclKind, KindFirst, KindSecond, DeclEnd, StatementEnd, next}
+use Rattle.msc_parser.specs.Places.{DeclStatement, InInst, InInstance, Place, Header, Sections, DeclName, DeclKind, KindFirst, KindSecond, DeclEnd, StatementEnd, next}
 use Rattle.msc_parser.specs.Reading.{first_kind, fault_from, Stops, DidTake, TakesName, DidEnd, DidRead}
 use Rattle.msc_parser.proofs.Leading.{colon_leads, second_leads}
 use Rattle.msc_parser.proofs.Steps.{others, took, leads_on, fault_but, OnlyTakes, refuses_name, Stops-back}
@@ -22,17 +22,17 @@ use Rattle.msc_parser.proofs.Parts.{AreMany-push, behind_read}
 -- ---- kinds
 
 -- where a decl begins only a name may stand
-only-DeclName : (st : Statement) → OnlyTakes (DeclName st) kinds.Name
+only-DeclName : (st : DeclStatement) → OnlyTakes (DeclName st) kinds.Name
 only-DeclName st kinds.Name bytes a = absurd (a refl)
 only-DeclName st k bytes a = refl
 
 -- behind `:` only a name may stand
-only-KindFirst : (st : Statement) → OnlyTakes (KindFirst st) kinds.Name
+only-KindFirst : (st : DeclStatement) → OnlyTakes (KindFirst st) kinds.Name
 only-KindFirst st kinds.Name bytes a = absurd (a refl)
 only-KindFirst st k bytes a = refl
 
 -- but for `:`, behind a name stands what stands behind a decl
-alike-DeclKind : (st : Statement) (k : Kind) (bytes : List ℕ) → k ≢ kinds.Colon
+alike-DeclKind : (st : DeclStatement) (k : Kind) (bytes : List ℕ) → k ≢ kinds.Colon
     → next (DeclKind st) (symbol_of k bytes) ≡ next (DeclEnd st) (symbol_of k bytes)
 alike-DeclKind InInst kinds.Colon bytes a = absurd (a refl)
 alike-DeclKind InInst k bytes a = refl
@@ -40,7 +40,7 @@ alike-DeclKind InInstance kinds.Colon bytes a = absurd (a refl)
 alike-DeclKind InInstance k bytes a = refl
 
 -- but for a name, behind the first name of a kind stands what stands behind a decl
-alike-KindSecond : (st : Statement) (k : Kind) (bytes : List ℕ) → k ≢ kinds.Name
+alike-KindSecond : (st : DeclStatement) (k : Kind) (bytes : List ℕ) → k ≢ kinds.Name
     → next (KindSecond st) (symbol_of k bytes) ≡ next (DeclEnd st) (symbol_of k bytes)
 alike-KindSecond InInst kinds.Name bytes a = absurd (a refl)
 alike-KindSecond InInst k bytes a = refl
@@ -49,7 +49,7 @@ alike-KindSecond InInstance k bytes a = refl
 
 -- no colon stands behind the name
 pub kind_none : (text : List ℕ) (a : List Token) (ks : List (List ℕ)) → AreWithin text a
-    → first_kind a ≢ Some kinds.Colon → ks ≡ [] → (st : Statement)
+    → first_kind a ≢ Some kinds.Colon → ks ≡ [] → (st : DeclStatement)
     → DidRead text IsKind (DeclKind st) (DeclEnd st) a a ks
 kind_none text a ks within no_colon none st = rw none (record {
   part = refl;
@@ -59,7 +59,7 @@ kind_none text a ks within no_colon none st = rw none (record {
 })
 
 -- a colon and a first name stand there
-first_leads : (text : List ℕ) (a b : List Token) (n : List ℕ) (st : Statement) → AreWithin text a
+first_leads : (text : List ℕ) (a b : List Token) (n : List ℕ) (st : DeclStatement) → AreWithin text a
     → first_kind a ≡ Some kinds.Colon → DidTake text (Named n) (others a) b
     → fault_from text (DeclKind st) a ≡ fault_from text (KindSecond st) b
 first_leads text a b n st within colon name =
@@ -68,7 +68,7 @@ first_leads text a b n st within colon name =
 -- behind `:` no name stands
 pub kind_first_refused : (text : List ℕ) (a : List Token) (e : ParseFault) → AreWithin text a
     → first_kind a ≡ Some kinds.Colon → TakesName text whats.Name (others a) (Err e)
-    → (st : Statement) → Stops text (DeclKind st) a e
+    → (st : DeclStatement) → Stops text (DeclKind st) a e
 kind_first_refused text a e within colon refused st =
     Stops-back text (DeclKind st) (KindFirst st) a (others a) e (leads_on text (DeclKind st) (KindFirst st) Colon a (others a) (took text kinds.Colon a within colon).1 (colon_leads st))
     (refuses_name text (KindFirst st) whats.Name (others a) e (λ len ls. refl) (only-KindFirst st) refl refused)
@@ -77,7 +77,7 @@ kind_first_refused text a e within colon refused st =
 pub kind_one : (text : List ℕ) (a : List Token) {b : List Token} {n : List ℕ}
     → AreWithin text a → first_kind a ≡ Some kinds.Colon → DidTake text (Named n) (others a) b
     → first_kind b ≢ Some kinds.Name
-    → (st : Statement) → DidRead text IsKind (DeclKind st) (DeclEnd st) a b (n ∷ [])
+    → (st : DeclStatement) → DidRead text IsKind (DeclKind st) (DeclEnd st) a b (n ∷ [])
 kind_one text a {b} {n} within colon name no_name st =
     let word = (took text kinds.Colon a within colon).1 in
     record {
@@ -92,7 +92,7 @@ kind_one text a {b} {n} within colon name no_name st =
 pub kind_two : (text : List ℕ) (a : List Token) {b c : List Token} {n m : List ℕ}
     → AreWithin text a → first_kind a ≡ Some kinds.Colon → DidTake text (Named n) (others a) b
     → DidTake text (Named m) b c
-    → (st : Statement) → DidRead text IsKind (DeclKind st) (DeclEnd st) a c (n ∷ m ∷ [])
+    → (st : DeclStatement) → DidRead text IsKind (DeclKind st) (DeclEnd st) a c (n ∷ m ∷ [])
 kind_two text a {b} {c} {n} {m} within colon name second st =
     let word = (took text kinds.Colon a within colon).1 in
     record {
@@ -106,7 +106,7 @@ kind_two text a {b} {c} {n} {m} within colon name second st =
 
 -- a decl is a name and its kind
 pub decl_read : (text : List ℕ) (a b c : List Token) (n : List ℕ) (k : List (List ℕ))
-    (st : Statement) → DidTake text (Named n) a b
+    (st : DeclStatement) → DidTake text (Named n) a b
     → DidRead text IsKind (DeclKind st) (DeclEnd st) b c k
     → DidRead text IsDecl (DeclName st) (DeclEnd st) a c record { name = n; kind = k }
 decl_read text a b c n k st name kind = record {
@@ -118,13 +118,13 @@ decl_read text a b c n k st name kind = record {
 
 -- no name stands where a decl begins
 pub decl_refused : (text : List ℕ) (a : List Token) (e : ParseFault)
-    → TakesName text whats.Name a (Err e) → (st : Statement) → Stops text (DeclName st) a e
+    → TakesName text whats.Name a (Err e) → (st : DeclStatement) → Stops text (DeclName st) a e
 decl_refused text a e refused st =
     refuses_name text (DeclName st) whats.Name a e (λ len ls. refl) (only-DeclName st) refl refused
 
 -- a fault of the kind is a fault of the decl
 pub decl_kind_refused : (text : List ℕ) (a b : List Token) (n : List ℕ) (e : ParseFault)
-    (st : Statement) → DidTake text (Named n) a b → Stops text (DeclKind st) b e
+    (st : DeclStatement) → DidTake text (Named n) a b → Stops text (DeclKind st) b e
     → Stops text (DeclName st) a e
 decl_kind_refused text a b n e st name stop =
     Stops-back text (DeclName st) (DeclKind st) a b e (leads_on text (DeclName st) (DeclKind st) (Named n) a b name refl) stop

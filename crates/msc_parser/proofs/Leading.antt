@@ -1,18 +1,22 @@
--- Steps of the table that are alike for both statements with decls, or for both ways of an event.
+-- Steps of the table that are alike for both statements with decls, for both ways of a message event,
+-- or for all events.
 use Rattle.std.proofs.Common.{◌≡◌, ℕ, List, Some, refl}
 use Rattle.msc_lexer.specs.Lexemes.{Reserved, Named, Comma, Colon, LeftParen}
 use Rattle.msc_parser.specs.declared.tree.Way.{Way}
 use Rattle.msc_parser.specs.declared.tree.Way.TheVariants as ways
-use Rattle.msc_parser.specs.Grammar.{way_word, address_word}
-use Rattle.msc_parser.specs.Places.{Statement, InInst, InInstance, Place, Items, Events, DeclKind, KindFirst, KindSecond, DeclEnd, Message, AfterMessage, Number, AfterNumber, Parameters, AfterParameters, Address, next}
+use Rattle.msc_parser.specs.declared.opening.Opening.{Opening}
+use Rattle.msc_parser.specs.declared.opening.Opening.TheVariants as openings
+use Rattle.msc_parser.specs.Grammar.{address_word}
+use Rattle.msc_parser.specs.Places.{DeclStatement, InInst, InInstance, Place, Items, Events, DeclKind, KindFirst, KindSecond, DeclEnd, AfterMessage, Number, AfterNumber, Parameters, AfterParameters, Address, next}
+use Rattle.msc_parser.specs.Reading.{opening_word, behind_opening}
 
 -- `:` leads to the first name of a kind
-pub colon_leads : (st : Statement) → next (DeclKind st) Colon ≡ Some (KindFirst st)
+pub colon_leads : (st : DeclStatement) → next (DeclKind st) Colon ≡ Some (KindFirst st)
 colon_leads InInst = refl
 colon_leads InInstance = refl
 
 -- a second name of a kind leads to the end of the decl
-pub second_leads : (st : Statement) (n : List ℕ)
+pub second_leads : (st : DeclStatement) (n : List ℕ)
     → next (KindSecond st) (Named n) ≡ Some (DeclEnd st)
 second_leads InInst n = refl
 second_leads InInstance n = refl
@@ -33,12 +37,19 @@ pub word_leads : (w : Way) (p : Place)
 word_leads ways.Output p = refl
 word_leads ways.Input p = refl
 
--- the word of a way leads from a statement of a section to the message
-pub item_leads : (w : Way) → next Items (Reserved (way_word w)) ≡ Some (Message w Items)
-item_leads ways.Output = refl
-item_leads ways.Input = refl
+-- the first word of an event leads behind it from the place
+abbrev pub LeadsToEvents : Place → Type 0
+LeadsToEvents p =
+    (o : Opening) → next p (Reserved (opening_word o)) ≡ Some (behind_opening o p)
 
--- the word of a way leads from a statement of a coregion to the message
-pub event_leads : (w : Way) → next Events (Reserved (way_word w)) ≡ Some (Message w Events)
-event_leads ways.Output = refl
-event_leads ways.Input = refl
+-- so it does from a statement of a section
+pub item_leads : LeadsToEvents Items
+item_leads (openings.Message ways.Output) = refl
+item_leads (openings.Message ways.Input) = refl
+item_leads openings.Action = refl
+
+-- and from a statement of a coregion
+pub event_leads : LeadsToEvents Events
+event_leads (openings.Message ways.Output) = refl
+event_leads (openings.Message ways.Input) = refl
+event_leads openings.Action = refl

@@ -18,6 +18,7 @@ pub mod Endings
 pub mod Parts
 pub mod Headings
 pub mod Signals
+pub mod Actions
 pub mod Lines
 pub mod Whole
 -- what every draft keeps

@@ -5,22 +5,24 @@ use Rattle.msc_lexer.specs.declared.word.Word.TheVariants as words
 use Rattle.msc_lexer.specs.declared.token.Kind.{Kind}
 use Rattle.msc_lexer.specs.declared.token.Kind.TheVariants as kinds
 use Rattle.msc_lexer.specs.declared.token.Token.{Token}
-use Rattle.msc_lexer.specs.Lexemes.{Reserved, lexemes, symbol_of, AreWithin}
-use Rattle.msc_parser.specs.declared.tree.Way.{Way}
+use Rattle.msc_lexer.specs.Lexemes.{Reserved, Lexeme, lexemes, symbol_of, AreWithin}
 use Rattle.msc_parser.specs.declared.tree.Way.TheVariants as ways
 use Rattle.msc_parser.specs.declared.tree.Decl.{Decl}
-use Rattle.msc_parser.specs.declared.tree.Signal.{Signal}
+use Rattle.msc_parser.specs.declared.tree.Statement.{Statement}
+use Rattle.msc_parser.specs.declared.tree.Statement.TheVariants as statements
+use Rattle.msc_parser.specs.declared.opening.Opening.{Opening}
+use Rattle.msc_parser.specs.declared.opening.Opening.TheVariants as openings
 use Rattle.msc_parser.specs.declared.tree.Item.{Item}
 use Rattle.msc_parser.specs.declared.tree.Item.TheVariants.{Single, Coregion}
 use Rattle.msc_parser.specs.declared.tree.Section.{Section}
 use Rattle.msc_parser.specs.declared.fault.What.TheVariants as whats
 use Rattle.msc_parser.specs.declared.fault.ParseFault.{ParseFault}
-use Rattle.msc_parser.specs.Forms.{AreMany}
-use Rattle.msc_parser.specs.Grammar.{IsDecl, way_word, IsEvent, IsCoregion, IsItem, IsInstance, IsSection}
-use Rattle.msc_parser.specs.Places.{InInstance, Place, Items, Events, Sections, DeclName, DeclEnd, Message, StatementEnd, next}
+use Rattle.msc_parser.specs.Forms.{IsToken, AreMany}
+use Rattle.msc_parser.specs.Grammar.{IsDecl, IsEvent, IsCoregion, IsItem, IsInstance, IsSection}
+use Rattle.msc_parser.specs.Places.{InInstance, Place, Items, Events, Sections, DeclName, DeclEnd, StatementEnd, next}
 use Rattle.msc_parser.specs.Parsing.{fault_at}
-use Rattle.msc_parser.specs.Reading.{first_kind, fault_from, Stops, DidTake, Refuses, DidEnd, DidRead, Reads, Uses, IsSignalOf, AreUpTo}
-use Rattle.msc_parser.proofs.Leading.{item_leads, event_leads}
+use Rattle.msc_parser.specs.Reading.{first_kind, fault_from, Stops, DidTake, Refuses, DidEnd, DidRead, Reads, Uses, opening_word, behind_opening, IsOpened, AreUpTo}
+use Rattle.msc_parser.proofs.Leading.{LeadsToEvents, item_leads, event_leads}
 use Rattle.msc_parser.proofs.Steps.{others, took, leads_on, same_fault, IsStuck, stops_here, Stops-back}
 use Rattle.msc_parser.proofs.Endings.{stuck_but_two}
 use Rattle.msc_parser.proofs.Parts.{behind_read, many_more}
@@ -31,17 +33,21 @@ some_kind k = Some k
 
 -- no event begins here
 abbrev pub NoEvent : List Token → Type 0
-NoEvent tokens = (way : Way) → first_kind tokens ≢ Some (kinds.Word (way_word way))
+NoEvent tokens = (o : Opening) → first_kind tokens ≢ Some (kinds.Word (opening_word o))
 
 -- ---- events
 
--- in a coregion only `out`, `in` and `endconcurrent` may stand
-only-Events : (k : Kind) (bytes : List ℕ) → k ≢ kinds.Word words.Output → k ≢ kinds.Word words.Input
+-- in a coregion only `out`, `in`, `action` and `endconcurrent` may stand
+only-Events : (k : Kind) (bytes : List ℕ)
+    → ((o : Opening) → k ≢ kinds.Word (opening_word o))
     → k ≢ kinds.Word words.EndConcurrent → next Events (symbol_of k bytes) ≡ None
-only-Events (kinds.Word words.Output) bytes a b c = absurd (a refl)
-only-Events (kinds.Word words.Input) bytes a b c = absurd (b refl)
-only-Events (kinds.Word words.EndConcurrent) bytes a b c = absurd (c refl)
-only-Events k bytes a b c = refl
+only-Events (kinds.Word words.Output) bytes no_event c =
+    absurd (no_event (openings.Message ways.Output) refl)
+only-Events (kinds.Word words.Input) bytes no_event c =
+    absurd (no_event (openings.Message ways.Input) refl)
+only-Events (kinds.Word words.Action) bytes no_event c = absurd (no_event openings.Action refl)
+only-Events (kinds.Word words.EndConcurrent) bytes no_event c = absurd (c refl)
+only-Events k bytes no_event c = refl
 
 -- none of these stands here
 stuck_in_coregion : (text : List ℕ) (a : List Token) → NoEvent a
@@ -49,7 +55,7 @@ stuck_in_coregion : (text : List ℕ) (a : List Token) → NoEvent a
 unfolding some_kind
 stuck_in_coregion text [] no_event no_end = tt
 stuck_in_coregion text (t ∷ ts) no_event no_end =
-    only-Events t.kind _ (λ e. no_event ways.Output (ap some_kind e)) (λ e. no_event ways.Input (ap some_kind e)) (λ e. no_end (ap some_kind e))
+    only-Events t.kind _ (λ o e. no_event o (ap some_kind e)) (λ e. no_end (ap some_kind e))
 
 -- neither an event nor `endconcurrent` stands here
 pub event_refused : (text : List ℕ) (a : List Token) (e : ParseFault) → NoEvent a
@@ -58,49 +64,56 @@ pub event_refused : (text : List ℕ) (a : List Token) (e : ParseFault) → NoEv
 event_refused text a e no_event no_end fault =
     stops_here text Events whats.Event a e (λ len ls. refl) (stuck_in_coregion text a no_event no_end) refl fault
 
--- the word of a way leads to the event's message
-word_of_way : (text : List ℕ) (w : Way) (a : List Token) → AreWithin text a
-    → first_kind a ≡ Some (kinds.Word (way_word w))
-    → DidTake text (Reserved (way_word w)) a (others a)
-word_of_way text w a within first = (took text (kinds.Word (way_word w)) a within first).1
+-- the first word of an event leads to what follows it
+first_word : (text : List ℕ) (o : Opening) (a : List Token) → AreWithin text a
+    → first_kind a ≡ Some (kinds.Word (opening_word o))
+    → DidTake text (Reserved (opening_word o)) a (others a)
+first_word text o a within first = (took text (kinds.Word (opening_word o)) a within first).1
 
 -- an event is its first word and what follows
-pub event_read : (text : List ℕ) (w : Way) (p : Place) (a b : List Token) (e : Signal)
-    → AreWithin text a → first_kind a ≡ Some (kinds.Word (way_word w))
-    → next p (Reserved (way_word w)) ≡ Some (Message w p)
-    → DidRead text (IsSignalOf w) (Message w p) p (others a) b e → DidRead text IsEvent p p a b e
-event_read text w p a b e within first step h =
-    let word = word_of_way text w a within first in
+put_together : (o : Opening) (b m a : List Lexeme) (x : Statement)
+    → IsToken (Reserved (opening_word o)) b m → IsOpened o m x a → IsEvent b x a
+put_together (openings.Message w) b m a (statements.Message e) t h = (m, rw h.0 t, h.1)
+put_together (openings.Message w) b m a (statements.Action l) t h = absurd h
+put_together openings.Action b m a (statements.Message e) t h = absurd h
+put_together openings.Action b m a (statements.Action l) t h = (m, t, h)
+
+-- an event behind its first word that was read is an event that was read
+pub event_read : (text : List ℕ) (o : Opening) (p : Place) (a b : List Token) (x : Statement)
+    → AreWithin text a → first_kind a ≡ Some (kinds.Word (opening_word o)) → LeadsToEvents p
+    → DidRead text (IsOpened o) (behind_opening o p) p (others a) b x
+    → DidRead text IsEvent p p a b x
+event_read text o p a b x within first leads h =
+    let word = first_word text o a within first in
     record {
-      part = (lexemes text (others a), rw h.part.0 word.part, h.part.1);
+      part = put_together o (lexemes text a) (lexemes text (others a)) (lexemes text b) x word.part h.part;
       within = h.within;
       shorter = omega (arith, word.shorter, h.shorter);
-      leads = leads_on text p (Message w p) (Reserved (way_word w)) a (others a) word step ∙ h.leads;
+      leads = leads_on text p (behind_opening o p) (Reserved (opening_word o)) a (others a) word (leads o) ∙ h.leads;
     }
 
 -- a fault of an event behind its first word is a fault of the event
-pub event_stops : (text : List ℕ) (w : Way) (p : Place) (a : List Token) (e : ParseFault)
-    → AreWithin text a → first_kind a ≡ Some (kinds.Word (way_word w))
-    → next p (Reserved (way_word w)) ≡ Some (Message w p) → Stops text (Message w p) (others a) e
-    → Stops text p a e
-event_stops text w p a e within first step stop =
-    Stops-back text p (Message w p) a (others a) e (leads_on text p (Message w p) (Reserved (way_word w)) a (others a) (word_of_way text w a within first) step) stop
+pub event_stops : (text : List ℕ) (o : Opening) (p : Place) (a : List Token) (e : ParseFault)
+    → AreWithin text a → first_kind a ≡ Some (kinds.Word (opening_word o)) → LeadsToEvents p
+    → Stops text (behind_opening o p) (others a) e → Stops text p a e
+event_stops text o p a e within first leads stop =
+    Stops-back text p (behind_opening o p) a (others a) e (leads_on text p (behind_opening o p) (Reserved (opening_word o)) a (others a) (first_word text o a within first) (leads o)) stop
 
 -- what is answered of an event behind its first word is answered of the event in a coregion
-pub event_answer : (text : List ℕ) (w : Way) (a : List Token)
-    (r : Result (Signal × Bor (List Token)) ParseFault) → AreWithin text a
-    → first_kind a ≡ Some (kinds.Word (way_word w))
-    → ((p : Place) → Reads text (IsSignalOf w) (Message w p) p (others a) r)
+pub event_answer : (text : List ℕ) (o : Opening) (a : List Token)
+    (r : Result (Statement × Bor (List Token)) ParseFault) → AreWithin text a
+    → first_kind a ≡ Some (kinds.Word (opening_word o))
+    → ((p : Place) → Reads text (IsOpened o) (behind_opening o p) p (others a) r)
     → Reads text IsEvent Events Events a r × Uses a r
-event_answer text w a (Ok x) within first h =
-    let word = word_of_way text w a within first in (event_read text w Events a x.1.now x.0 within first (event_leads w) (h Events), let s = (h Events).shorter in omega (arith, word.shorter, s))
-event_answer text w a (Err e) within first h =
-    (event_stops text w Events a e within first (event_leads w) (h Events), tt)
+event_answer text o a (Ok x) within first h =
+    let word = first_word text o a within first in (event_read text o Events a x.1.now x.0 within first event_leads (h Events), let s = (h Events).shorter in omega (arith, word.shorter, s))
+event_answer text o a (Err e) within first h =
+    (event_stops text o Events a e within first event_leads (h Events), tt)
 
 -- ---- coregions
 
 -- a coregion is its end, its events, `endconcurrent` and its end
-pub coregion_read : (text : List ℕ) (a b c d : List Token) (es : List Signal) → DidEnd text a b
+pub coregion_read : (text : List ℕ) (a b c d : List Token) (es : List Statement) → DidEnd text a b
     → DidRead text (AreUpTo (Reserved words.EndConcurrent) IsEvent) Events (StatementEnd Items) b c es
     → DidEnd text c d → DidRead text IsCoregion (StatementEnd Events) Items a d es
 coregion_read text a b c d es end events last = record {
@@ -120,15 +133,19 @@ coregion_read text a b c d es end events last = record {
 
 -- ---- items
 
--- in a section only `out`, `in`, `concurrent` and `endinstance` may stand
-only-Items : (k : Kind) (bytes : List ℕ) → k ≢ kinds.Word words.Output → k ≢ kinds.Word words.Input
+-- in a section only `out`, `in`, `action`, `concurrent` and `endinstance` may stand
+only-Items : (k : Kind) (bytes : List ℕ)
+    → ((o : Opening) → k ≢ kinds.Word (opening_word o))
     → k ≢ kinds.Word words.Concurrent → k ≢ kinds.Word words.EndInstance
     → next Items (symbol_of k bytes) ≡ None
-only-Items (kinds.Word words.Output) bytes a b c d = absurd (a refl)
-only-Items (kinds.Word words.Input) bytes a b c d = absurd (b refl)
-only-Items (kinds.Word words.Concurrent) bytes a b c d = absurd (c refl)
-only-Items (kinds.Word words.EndInstance) bytes a b c d = absurd (d refl)
-only-Items k bytes a b c d = refl
+only-Items (kinds.Word words.Output) bytes no_event c d =
+    absurd (no_event (openings.Message ways.Output) refl)
+only-Items (kinds.Word words.Input) bytes no_event c d =
+    absurd (no_event (openings.Message ways.Input) refl)
+only-Items (kinds.Word words.Action) bytes no_event c d = absurd (no_event openings.Action refl)
+only-Items (kinds.Word words.Concurrent) bytes no_event c d = absurd (c refl)
+only-Items (kinds.Word words.EndInstance) bytes no_event c d = absurd (d refl)
+only-Items k bytes no_event c d = refl
 
 -- none of these stands here
 stuck_in_section : (text : List ℕ) (a : List Token) → NoEvent a
@@ -137,7 +154,7 @@ stuck_in_section : (text : List ℕ) (a : List Token) → NoEvent a
 unfolding some_kind
 stuck_in_section text [] no_event no_coregion no_end = tt
 stuck_in_section text (t ∷ ts) no_event no_coregion no_end =
-    only-Items t.kind _ (λ e. no_event ways.Output (ap some_kind e)) (λ e. no_event ways.Input (ap some_kind e)) (λ e. no_coregion (ap some_kind e)) (λ e. no_end (ap some_kind e))
+    only-Items t.kind _ (λ o e. no_event o (ap some_kind e)) (λ e. no_coregion (ap some_kind e)) (λ e. no_end (ap some_kind e))
 
 -- neither an item nor `endinstance` stands here
 pub item_refused : (text : List ℕ) (a : List Token) (e : ParseFault) → NoEvent a
@@ -148,12 +165,12 @@ item_refused text a e no_event no_coregion no_end fault =
     stops_here text Items whats.Item a e (λ len ls. refl) (stuck_in_section text a no_event no_coregion no_end) refl fault
 
 -- an event is an item
-pub single_read : (text : List ℕ) (w : Way) (a b : List Token) (e : Signal) → AreWithin text a
-    → first_kind a ≡ Some (kinds.Word (way_word w))
-    → DidRead text (IsSignalOf w) (Message w Items) Items (others a) b e
-    → DidRead text IsItem Items Items a b (Single e)
-single_read text w a b e within first h =
-    let r = event_read text w Items a b e within first (item_leads w) h in
+pub single_read : (text : List ℕ) (o : Opening) (a b : List Token) (x : Statement)
+    → AreWithin text a → first_kind a ≡ Some (kinds.Word (opening_word o))
+    → DidRead text (IsOpened o) (behind_opening o Items) Items (others a) b x
+    → DidRead text IsItem Items Items a b (Single x)
+single_read text o a b x within first h =
+    let r = event_read text o Items a b x within first item_leads h in
     record { part = r.part; within = r.within; shorter = r.shorter; leads = r.leads }
 
 -- `concurrent` leads to a coregion
@@ -163,7 +180,7 @@ concurrent : (text : List ℕ) (a : List Token) → AreWithin text a
 concurrent text a within first = (took text (kinds.Word words.Concurrent) a within first).1
 
 -- a coregion is an item
-pub coregion_item : (text : List ℕ) (a b : List Token) (es : List Signal) → AreWithin text a
+pub coregion_item : (text : List ℕ) (a b : List Token) (es : List Statement) → AreWithin text a
     → first_kind a ≡ Some (kinds.Word words.Concurrent)
     → DidRead text IsCoregion (StatementEnd Events) Items (others a) b es
     → DidRead text IsItem Items Items a b (Coregion es)

@@ -5,11 +5,12 @@ use Rattle.std.specs.Prelude.{IfSome}
 use Rattle.std.specs.List.{flat_map, AllByRecursion}
 use Rattle.msc_lexer.specs.declared.TheConstants.{TEXT_LIMIT}
 use Rattle.msc_lexer.specs.declared.word.Word.TheVariants as words
-use Rattle.msc_lexer.specs.Lexemes.{Symbol, Reserved, Named, Semicolon, Comma, Colon, LeftParen, RightParen, Lexeme, IsName, HasName, HaveNames}
+use Rattle.msc_lexer.specs.Lexemes.{Symbol, Reserved, Named, Quoted, Semicolon, Comma, Colon, LeftParen, RightParen, Lexeme, IsName, HasName, HaveNames}
+use Rattle.msc_parser.specs.declared.tree.Statement.TheVariants.{Message, Action}
 use Rattle.msc_parser.specs.declared.tree.Item.TheVariants.{Single, Coregion}
 use Rattle.msc_parser.specs.Forms.{IsToken, IsNamed, AreMany, IsLedBy, AreListed}
-use Rattle.msc_parser.specs.Grammar.{Tree, IsEnd, Plain, Commented, IsSecond, IsKind, IsDecl, IsNumber, AreParameters, Absent, Empty, Given, IsEvent, IsCoregion, IsItem, IsSection, AreDecls, IsChart}
-use Rattle.msc_parser.specs.Drafts.{IsDeclNamed, IsSignalNamed, IsItemNamed, IsSectionNamed, IsDraft}
+use Rattle.msc_parser.specs.Grammar.{Tree, IsEnd, Plain, Commented, IsSecond, IsKind, IsDecl, IsNumber, AreParameters, Absent, Empty, Given, IsMessage, IsEvent, IsCoregion, IsItem, IsSection, AreDecls, IsChart}
+use Rattle.msc_parser.specs.Drafts.{IsDeclNamed, IsSignalNamed, IsStatementNamed, IsItemNamed, IsSectionNamed, IsDraft}
 use Rattle.msc_parser.proofs.Counting.{chart_takes}
 
 -- of tokens with names a part has them, and what follows too
@@ -107,9 +108,9 @@ parameters_names ps b a (Given inner close h k l) names =
     let t = listed_names IsNamed IsName name_names inner close ps k (token_names LeftParen b inner h names).1 in
     (t.0, (token_names RightParen close a l t.1).1)
 
--- an event is of names
-event_names : Names IsEvent IsSignalNamed
-event_names b a e h names =
+-- a message event is of names
+message_names : Names IsMessage IsSignalNamed
+message_names b a e h names =
     let k = h.2 in
     let i = k.is_ident in
     let t0 = token_names _ b h.0 h.1 names in
@@ -120,17 +121,26 @@ event_names b a e h names =
     let t5 = token_names (Named e.address) k.address k.close k.is_address t4.1 in
     (record { name = t1.0; number = t2.0; parameters = t3.0; address = t5.0 }, end_names k.close a k.is_end t5.1)
 
+-- an event is of names
+event_names : Names IsEvent IsStatementNamed
+event_names b a (Message e) h names = message_names b a e h names
+event_names b a (Action l) h names =
+    let k = h.2 in
+    let t0 = token_names _ b h.0 h.1 names in
+    let t1 = token_names (Quoted l) h.0 k.close k.is_text t0.1 in
+    (tt, end_names k.close a k.is_end t1.1)
+
 -- the events of a coregion are of names
-coregion_names : Names IsCoregion (AllByRecursion IsSignalNamed)
+coregion_names : Names IsCoregion (AllByRecursion IsStatementNamed)
 coregion_names b a es h names =
-    let t = many_names IsEvent IsSignalNamed event_names h.events h.last es h.are_events (end_names b h.events h.is_end names) in
+    let t = many_names IsEvent IsStatementNamed event_names h.events h.last es h.are_events (end_names b h.events h.is_end names) in
     (t.0, end_names h.close a h.is_last_end (token_names _ h.last h.close h.is_endconcurrent t.1).1)
 
 -- an item is of names
 item_names : Names IsItem IsItemNamed
 item_names b a (Single e) h names = event_names b a e h names
 item_names b a (Coregion es) h names =
-    behind_names (Reserved words.Concurrent) IsCoregion (AllByRecursion IsSignalNamed) coregion_names b a es h names
+    behind_names (Reserved words.Concurrent) IsCoregion (AllByRecursion IsStatementNamed) coregion_names b a es h names
 
 -- a section is of names
 section_names : Names IsSection IsSectionNamed
@@ -169,5 +179,5 @@ chart_draft ls t h names few =
       header = subst (AllByRecursion IsDeclNamed) (sym h.is_header.1) (flat_all IsDeclNamed h.is_header.0 t2.0);
       few_decls = omega (arith, takes, few);
       sections = t3.0;
-      few_signals = omega (arith, takes, few);
+      few_statements = omega (arith, takes, few);
     }

@@ -3,18 +3,18 @@ use Rattle.std.proofs.Common.{◌≡◌, ◌≢◌, ℕ, List, [], ◌∷◌, sy
 use Rattle.std.specs.List.{flat_map}
 use Rattle.msc_lexer.specs.declared.word.Word.TheVariants as words
 use Rattle.msc_lexer.specs.Lexemes.{Symbol, Reserved, Lexeme}
-use Rattle.msc_parser.specs.declared.tree.Way.{Way}
-use Rattle.msc_parser.specs.declared.tree.Way.TheVariants as ways
 use Rattle.msc_parser.specs.declared.tree.Decl.{Decl}
+use Rattle.msc_parser.specs.declared.tree.Statement.{Statement}
+use Rattle.msc_parser.specs.declared.tree.Statement.TheVariants.{Message, Action}
 use Rattle.msc_parser.specs.declared.tree.Item.{Item}
 use Rattle.msc_parser.specs.declared.tree.Item.TheVariants.{Single, Coregion}
 use Rattle.msc_parser.specs.declared.tree.Section.{Section}
 use Rattle.msc_parser.specs.Forms.{IsToken, AreMany, IsLedBy}
-use Rattle.msc_parser.specs.Grammar.{IsEnd, way_word, IsEvent, IsCoregion, IsItem, IsInstance, IsSection, AreDecls, Tree}
+use Rattle.msc_parser.specs.Grammar.{IsEnd, IsEvent, IsCoregion, IsItem, IsInstance, IsSection, AreDecls, Tree}
 use Rattle.msc_parser.specs.Parsing.{OneDraft}
 use Rattle.msc_parser.proofs.Tokens.{token_same, symbols_clash, name_same, token_at, end_same}
 use Rattle.msc_parser.proofs.Decided.{Decided, IsSequence, many_same, behind_same}
-use Rattle.msc_parser.proofs.OnePart.{Closed, end_stops, decl_same, decls_same, event_same}
+use Rattle.msc_parser.proofs.OnePart.{Closed, end_stops, decl_same, decls_same, way_apart, event_same}
 
 -- this symbol stands first
 abbrev StandsFirst : Symbol → List Lexeme → Type 0
@@ -22,19 +22,19 @@ StandsFirst s b = (a : List Lexeme) × IsToken s b a
 
 -- ---- coregions and items
 
--- an event begins with no other symbol than `out` and `in`
-event_apart : (w : Way) (s : Symbol) (b a c : List Lexeme) → IsToken (Reserved (way_word w)) b a
-    → IsToken s b c → s ≢ Reserved words.Output → s ≢ Reserved words.Input → ⊥
-event_apart ways.Output s b a c h g no_out no_in =
-    symbols_clash s (Reserved words.Output) b c a g h no_out
-event_apart ways.Input s b a c h g no_out no_in =
-    symbols_clash s (Reserved words.Input) b c a g h no_in
+-- an event begins with no other symbol than `out`, `in` and `action`
+event_apart : (x : Statement) (s : Symbol) (b a c : List Lexeme) → IsEvent b x a → IsToken s b c
+    → s ≢ Reserved words.Output → s ≢ Reserved words.Input → s ≢ Reserved words.Action → ⊥
+event_apart (Message e) s b a c h g no_out no_in no_action =
+    way_apart e.way b h.0 c h.1 s g no_out no_in
+event_apart (Action l) s b a c h g no_out no_in no_action =
+    symbols_clash s (Reserved words.Action) b c h.0 g h.1 no_action
 
 -- events of a coregion follow one another up to `endconcurrent`
 event_sequence : IsSequence IsEvent Closed (StandsFirst (Reserved words.EndConcurrent))
 event_sequence = record {
   one = event_same;
-  goes_on = λ b a x h ends. event_apart x.way _ b h.0 ends.0 h.1 ends.1 (λ e. cc) (λ e. cc);
+  goes_on = λ b a x h ends. event_apart x _ b a ends.0 h ends.1 (λ e. cc) (λ e. cc) (λ e. cc);
   begins = λ b a x h. tt;
   ends = λ b ends. tt;
 }
@@ -52,16 +52,17 @@ item_same : Decided Closed IsItem
 item_same b a c (Single x) (Single y) h g stop_a stop_c =
     let e = event_same b a c x y h g tt tt in let i = e.0 in ((cc), e.1)
 item_same b a c (Single x) (Coregion ys) h g stop_a stop_c =
-    absurd (event_apart x.way _ b h.0 g.0 h.1 g.1 (λ e. cc) (λ e. cc))
+    absurd (event_apart x _ b a g.0 h g.1 (λ e. cc) (λ e. cc) (λ e. cc))
 item_same b a c (Coregion xs) (Single y) h g stop_a stop_c =
-    absurd (event_apart y.way _ b g.0 h.0 g.1 h.1 (λ e. cc) (λ e. cc))
+    absurd (event_apart y _ b c h.0 g h.1 (λ e. cc) (λ e. cc) (λ e. cc))
 item_same b a c (Coregion xs) (Coregion ys) h g stop_a stop_c =
     let e = behind_same (Reserved words.Concurrent) IsCoregion Closed coregion_same b a c xs ys h g tt tt in let i = e.0 in ((cc), e.1)
 
 -- an item does not begin with `endinstance`
 item_goes_on : (b a : List Lexeme) (x : Item) → IsItem b x a
     → StandsFirst (Reserved words.EndInstance) b → ⊥
-item_goes_on b a (Single x) h ends = event_apart x.way _ b h.0 ends.0 h.1 ends.1 (λ e. cc) (λ e. cc)
+item_goes_on b a (Single x) h ends =
+    event_apart x _ b a ends.0 h ends.1 (λ e. cc) (λ e. cc) (λ e. cc)
 item_goes_on b a (Coregion xs) h ends = symbols_clash _ _ b h.0 ends.0 h.1 ends.1 (λ e. cc)
 
 -- items follow one another up to `endinstance`

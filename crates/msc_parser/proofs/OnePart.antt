@@ -1,12 +1,14 @@
 -- Each part of a chart is determined by its tokens and by what stops it.
-use Rattle.std.proofs.Common.{◌≡◌, ℕ, List, [], ◌∷◌, Option, Some, None, refl, sym, subst, ◌∙◌}
-use Rattle.msc_lexer.specs.Lexemes.{Reserved, Named, Comma, Colon, LeftParen, RightParen, Lexeme}
+use Rattle.std.proofs.Common.{◌≡◌, ◌≢◌, ℕ, List, [], ◌∷◌, Option, Some, None, refl, sym, subst, ◌∙◌}
+use Rattle.msc_lexer.specs.declared.word.Word.TheVariants as words
+use Rattle.msc_lexer.specs.Lexemes.{Symbol, Reserved, Named, Quoted, Comma, Colon, LeftParen, RightParen, Lexeme}
 use Rattle.msc_parser.specs.declared.tree.Way.{Way}
 use Rattle.msc_parser.specs.declared.tree.Way.TheVariants as ways
 use Rattle.msc_parser.specs.declared.tree.Decl.{Decl}
 use Rattle.msc_parser.specs.declared.tree.Signal.{Signal}
+use Rattle.msc_parser.specs.declared.tree.Statement.TheVariants.{Message, Action}
 use Rattle.msc_parser.specs.Forms.{IsToken, IsNamed, IsLedBy, AreListed}
-use Rattle.msc_parser.specs.Grammar.{IsEnd, IsSecond, IsKind, IsDecl, way_word, address_word, IsNumber, AreParameters, Absent, Empty, Given, IsIdent, IsSignal, IsEvent, AreDecls}
+use Rattle.msc_parser.specs.Grammar.{IsEnd, IsSecond, IsKind, IsDecl, way_word, address_word, IsNumber, AreParameters, Absent, Empty, Given, IsIdent, IsSignal, IsAction, IsMessage, IsEvent, AreDecls}
 use Rattle.msc_parser.proofs.Tokens.{token_same, symbols_clash, name_same, token_at, end_apart, end_same}
 use Rattle.msc_parser.proofs.Decided.{Decided, IsSequence, behind_same, listed_same}
 
@@ -180,9 +182,9 @@ way_word_same ways.Input ways.Input e = refl
 way_word_same ways.Output ways.Input e = absurd cc
 way_word_same ways.Input ways.Output e = absurd cc
 
--- an event is determined
-pub event_same : Decided Closed IsEvent
-event_same b a c x y h g stop_a stop_c =
+-- a message event is determined
+message_same : Decided Closed IsMessage
+message_same b a c x y h g stop_a stop_c =
     let e0 = token_same _ _ b h.0 g.0 h.1 g.1 in
     let way = way_word_same x.way y.way e0.0 in
     let k = subst (λ (m : List Lexeme). IsSignal m x a) e0.1 h.2 in
@@ -196,3 +198,29 @@ event_same b a c x y h g stop_a stop_c =
         → m ≡ n → k ≡ l → f ≡ g → p ≡ q
         → (let e : Signal = record { way = v; name = m; number = k; parameters = f; address = p } in e) ≡ record { way = w; name = n; number = l; parameters = g; address = q }
     signal p1 p2 p3 p4 p5 = cc
+
+-- an action behind its first word is determined
+action_same : Decided Closed IsAction
+action_same b a c x y h g stop_a stop_c =
+    let e0 = token_same (Quoted x) (Quoted y) b h.close g.close h.is_text g.is_text in
+    let f : Quoted x ≡ Quoted y = e0.0 in
+    ((cc), end_same g.close a c (subst (λ (m : List Lexeme). IsEnd m a) e0.1 h.is_end) g.is_end)
+
+-- a message event begins with no other symbol than `out` and `in`
+pub way_apart : (w : Way) (b a c : List Lexeme) → IsToken (Reserved (way_word w)) b a
+    → (s : Symbol) → IsToken s b c → s ≢ Reserved words.Output → s ≢ Reserved words.Input → ⊥
+way_apart ways.Output b a c h s g no_out no_in =
+    symbols_clash s (Reserved words.Output) b c a g h no_out
+way_apart ways.Input b a c h s g no_out no_in =
+    symbols_clash s (Reserved words.Input) b c a g h no_in
+
+-- an event is determined
+pub event_same : Decided Closed IsEvent
+event_same b a c (Message x) (Message y) h g stop_a stop_c =
+    let e = message_same b a c x y h g tt tt in let i = e.0 in ((cc), e.1)
+event_same b a c (Message x) (Action l) h g stop_a stop_c =
+    absurd (way_apart x.way b h.0 g.0 h.1 _ g.1 (λ e. cc) (λ e. cc))
+event_same b a c (Action k) (Message y) h g stop_a stop_c =
+    absurd (way_apart y.way b g.0 h.0 g.1 _ h.1 (λ e. cc) (λ e. cc))
+event_same b a c (Action k) (Action l) h g stop_a stop_c =
+    let e = behind_same (Reserved words.Action) IsAction Closed action_same b a c k l h g tt tt in let i = e.0 in ((cc), e.1)

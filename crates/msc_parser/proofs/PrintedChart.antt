@@ -7,7 +7,7 @@ use Rattle.msc_lexer.specs.declared.TheConstants.{TEXT_LIMIT}
 use Rattle.msc_lexer.specs.declared.word.Word.TheVariants as words
 use Rattle.msc_lexer.specs.Pieces.{Piece, Blank, Run, Mark, AreCut, tokens_of}
 use Rattle.msc_lexer.specs.Lexemes.{Reserved, Semicolon, Lexeme, lexemes_of, PrintsPieces}
-use Rattle.msc_parser.specs.declared.tree.Signal.{Signal}
+use Rattle.msc_parser.specs.declared.tree.Statement.{Statement}
 use Rattle.msc_parser.specs.declared.tree.Item.{Item}
 use Rattle.msc_parser.specs.declared.tree.Item.TheVariants.{Single, Coregion}
 use Rattle.msc_parser.specs.declared.tree.Section.{Section}
@@ -15,7 +15,7 @@ use Rattle.msc_parser.specs.Forms.{IsLedBy}
 use Rattle.msc_parser.specs.Grammar.{Tree, IsEnd, Plain, IsEvent, IsCoregion, IsItem, IsSection, IsChart}
 use Rattle.msc_parser.specs.Parsing.{HasDraft}
 use Rattle.msc_parser.specs.Canonical.{word, space, line_end, decl_pieces, header_pieces, event_pieces, inner_pieces, coregion_pieces, item_pieces, section_pieces, printed, canonical}
-use Rattle.msc_parser.specs.Drafts.{IsSignalNamed, IsItemNamed, IsSectionNamed, IsDraft}
+use Rattle.msc_parser.specs.Drafts.{IsStatementNamed, IsItemNamed, IsSectionNamed, IsDraft}
 use Rattle.msc_parser.proofs.Printing.{IsPrintedAs, IsOnly, after_space, same_pieces, a_line_end, a_word, a_name, PrintsEach, a_many}
 use Rattle.msc_parser.proofs.PrintedParts.{Anything, a_decl, a_header, an_event}
 
@@ -28,7 +28,7 @@ module _ (laws : PrintsPieces) where
   -- ---- coregions and items
 
   -- each event of a coregion is printed in its own line
-  each_event : PrintsEach IsEvent inner_pieces IsSignalNamed Anything
+  each_event : PrintsEach IsEvent inner_pieces IsStatementNamed Anything
   each_event = record {
     one = λ e rest named any.
         after_space IsEvent e (space ∷ space ∷ space ∷ event_pieces e ++ rest) rest (after_space IsEvent e (space ∷ space ∷ event_pieces e ++ rest) rest (after_space IsEvent e (space ∷ event_pieces e ++ rest) rest (after_space IsEvent e (event_pieces e ++ rest) rest (an_event laws e rest named))));
@@ -36,7 +36,7 @@ module _ (laws : PrintsPieces) where
   }
 
   -- a coregion is read again
-  a_coregion : (es : List Signal) (rest : List Piece) → AllByRecursion IsSignalNamed es
+  a_coregion : (es : List Statement) (rest : List Piece) → AllByRecursion IsStatementNamed es
       → IsPrintedAs (IsLedBy (Reserved words.Concurrent) IsCoregion) es (coregion_pieces es ++ rest) rest
   a_coregion es rest named =
       let close = Mark 59 ∷ Blank 10 ∷ rest in
@@ -45,7 +45,7 @@ module _ (laws : PrintsPieces) where
       let first = Mark 59 ∷ Blank 10 ∷ body in
       let last_end = a_line_end rest in
       let end_word = after_space _ tt (space ∷ word words.EndConcurrent ∷ close) close (after_space _ tt (word words.EndConcurrent ∷ close) close (a_word laws words.EndConcurrent close refl)) in
-      let many = a_many IsEvent inner_pieces IsSignalNamed Anything each_event es last named tt in
+      let many = a_many IsEvent inner_pieces IsStatementNamed Anything each_event es last named tt in
       let end = a_line_end body in
       let start = after_space _ tt (space ∷ word words.Concurrent ∷ first) first (after_space _ tt (word words.Concurrent ∷ first) first (a_word laws words.Concurrent first refl)) in
       let same : (flat_map inner_pieces es ++ (space ∷ space ∷ word words.EndConcurrent ∷ line_end)) ++ rest ≡ body = append_assoc (flat_map inner_pieces es) (space ∷ space ∷ word words.EndConcurrent ∷ line_end) rest in

@@ -4,15 +4,17 @@ use Rattle.std.specs.Prelude.{IfSome}
 use Rattle.std.specs.List.{flat_map, AllByRecursion}
 use Rattle.std.proofs.lemmas.List.{append-nil}
 use Rattle.msc_lexer.specs.declared.word.Word.TheVariants as words
-use Rattle.msc_lexer.specs.Pieces.{Piece, Blank, Run, Mark}
-use Rattle.msc_lexer.specs.Lexemes.{Comma, IsName, lexemes_of, PrintsPieces}
+use Rattle.msc_lexer.specs.Pieces.{Piece, Blank, Run, Quoted, Mark}
+use Rattle.msc_lexer.specs.Lexemes.{Reserved, Comma, IsName, lexemes_of, PrintsPieces}
 use Rattle.msc_parser.specs.declared.tree.Decl.{Decl}
 use Rattle.msc_parser.specs.declared.tree.Signal.{Signal}
+use Rattle.msc_parser.specs.declared.tree.Statement.{Statement}
+use Rattle.msc_parser.specs.declared.tree.Statement.TheVariants.{Message, Action}
 use Rattle.msc_parser.specs.Forms.{IsNamed, IsLedBy}
-use Rattle.msc_parser.specs.Grammar.{Plain, IsKind, IsDecl, way_word, address_word, IsNumber, AreParameters, Absent, Given, IsIdent, IsEvent, IsHeader}
-use Rattle.msc_parser.specs.Canonical.{word, space, line_end, kind_pieces, decl_pieces, next_decl_pieces, header_pieces, next_name_pieces, number_pieces, parameter_pieces, ident_pieces, address_pieces, event_pieces}
-use Rattle.msc_parser.specs.Drafts.{IsDeclNamed, IsSignalNamed}
-use Rattle.msc_parser.proofs.Printing.{StopsRun, IsPrintedAs, after_space, same_pieces, a_colon, a_comma, a_left_paren, a_right_paren, a_line_end, a_word, a_name, a_behind, PrintsEach, many_follow, a_many}
+use Rattle.msc_parser.specs.Grammar.{Plain, IsKind, IsDecl, way_word, address_word, IsNumber, AreParameters, Absent, Given, IsIdent, IsAction, IsMessage, IsEvent, IsHeader}
+use Rattle.msc_parser.specs.Canonical.{word, space, line_end, kind_pieces, decl_pieces, next_decl_pieces, header_pieces, next_name_pieces, number_pieces, parameter_pieces, ident_pieces, address_pieces, signal_pieces, action_pieces, event_pieces}
+use Rattle.msc_parser.specs.Drafts.{IsDeclNamed, IsSignalNamed, IsStatementNamed}
+use Rattle.msc_parser.proofs.Printing.{StopsRun, IsPrintedAs, after_space, same_pieces, a_colon, a_comma, a_left_paren, a_right_paren, a_line_end, a_word, a_name, a_text, a_behind, PrintsEach, many_follow, a_many}
 
 -- behind a name a kind, or what follows, goes on with no letter, digit or underscore
 kind_stops : (ks : List (List ℕ)) (rest : List Piece) → StopsRun rest
@@ -162,10 +164,10 @@ module _ (laws : PrintsPieces) where
         cut = λ c. name.cut (number.cut (parameters.cut c));
       })
 
-  -- an event is read again
-  pub an_event : (e : Signal) (rest : List Piece) → IsSignalNamed e
-      → IsPrintedAs IsEvent e (event_pieces e ++ rest) rest
-  an_event e rest named =
+  -- a message event is read again
+  a_message : (e : Signal) (rest : List Piece) → IsSignalNamed e
+      → IsPrintedAs IsMessage e (signal_pieces e ++ rest) rest
+  a_message e rest named =
       let last = Mark 59 ∷ Blank 10 ∷ rest in
       let target = Run e.address ∷ last in
       let after = space ∷ word (address_word e.way) ∷ space ∷ target in
@@ -175,7 +177,7 @@ module _ (laws : PrintsPieces) where
       let ident = after_space IsIdent e (ident_pieces e ++ after) after (an_ident e after named refl) in
       let way = a_word laws (way_word e.way) (space ∷ ident_pieces e ++ after) refl in
       let same : (ident_pieces e ++ address_pieces e) ++ rest ≡ ident_pieces e ++ after = append_assoc (ident_pieces e) (address_pieces e) rest in
-      same_pieces IsEvent e (event_pieces e ++ rest) (word (way_word e.way) ∷ space ∷ ident_pieces e ++ after) rest (ap (λ (x : List Piece). word (way_word e.way) ∷ space ∷ x) same) (record {
+      same_pieces IsMessage e (signal_pieces e ++ rest) (word (way_word e.way) ∷ space ∷ ident_pieces e ++ after) rest (ap (λ (x : List Piece). word (way_word e.way) ∷ space ∷ x) same) (record {
         reads = λ at.
             let t0 = way.reads at in
             let t1 = ident.reads t0.0 in
@@ -185,3 +187,28 @@ module _ (laws : PrintsPieces) where
             (t4.0, (lexemes_of t0.0 (space ∷ ident_pieces e ++ after), t0.1, record { word = lexemes_of t1.0 after; address = lexemes_of t2.0 (space ∷ target); close = lexemes_of t3.0 last; is_ident = t1.1; is_word = t2.1; is_address = t3.1; is_end = Plain t4.1 }));
         cut = λ c. way.cut (ident.cut (partner.cut (address.cut (end.cut c))));
       })
+
+  -- an action is read again, whatever its text
+  an_action : (l : List ℕ) (rest : List Piece)
+      → IsPrintedAs (IsLedBy (Reserved words.Action) IsAction) l (action_pieces l ++ rest) rest
+  an_action l rest =
+      let last = Mark 59 ∷ Blank 10 ∷ rest in
+      let end = a_line_end rest in
+      let text = after_space _ tt (Quoted l ∷ last) last (a_text laws l last refl) in
+      let action = a_word laws words.Action (space ∷ Quoted l ∷ last) refl in
+      record {
+        reads = λ at.
+            let t0 = action.reads at in
+            let t1 = text.reads t0.0 in
+            let t2 = end.reads t1.0 in
+            (t2.0, (lexemes_of t0.0 (space ∷ Quoted l ∷ last), t0.1, record { close = lexemes_of t1.0 last; is_text = t1.1; is_end = Plain t2.1 }));
+        cut = λ c. action.cut (text.cut (end.cut c));
+      }
+
+  -- an event is read again
+  pub an_event : (x : Statement) (rest : List Piece) → IsStatementNamed x
+      → IsPrintedAs IsEvent x (event_pieces x ++ rest) rest
+  an_event (Message e) rest named =
+      let p = a_message e rest named in record { reads = p.reads; cut = p.cut }
+  an_event (Action l) rest named =
+      let p = an_action l rest in record { reads = p.reads; cut = p.cut }

@@ -1,13 +1,14 @@
--- Printed tokens are read as those tokens: words, names and marks, with blanks between them.
-use Rattle.std.proofs.Common.{◌≡◌, ◌≢◌, ℕ, ◌+◌, false, List, [], ◌∷◌, ◌++◌, length, Some, None, refl, sym, subst, append_assoc}
+-- Printed tokens are read as those tokens: words, names, texts and marks, with blanks between them.
+use Rattle.std.proofs.Common.{◌≡◌, ◌≢◌, ℕ, ◌+◌, false, nat_eq, List, [], ◌∷◌, ◌++◌, length, Some, None, refl, sym, subst, append_assoc}
 use Rattle.std.specs.List.{flat_map, AllByRecursion}
 use Rattle.msc_lexer.specs.declared.word.Word.{Word}
 use Rattle.msc_lexer.specs.declared.token.Kind.{Kind}
 use Rattle.msc_lexer.specs.declared.token.Kind.TheVariants as kinds
 use Rattle.msc_lexer.specs.Bytes.{is_run_byte, begins}
 use Rattle.msc_lexer.specs.Words.{spelling}
-use Rattle.msc_lexer.specs.Pieces.{Piece, Blank, Run, Mark, text_of, AreCut}
-use Rattle.msc_lexer.specs.Lexemes.{Symbol, Reserved, Semicolon, Comma, Colon, LeftParen, RightParen, Lexeme, IsName, lexeme_at, lexemes_of, PrintsPieces}
+use Rattle.msc_lexer.specs.Pieces.{Piece, Blank, Run, Mark, quoted, text_of, AreCut}
+use Rattle.msc_lexer.specs.Pieces as pieces
+use Rattle.msc_lexer.specs.Lexemes.{Symbol, Reserved, Quoted, Semicolon, Comma, Colon, LeftParen, RightParen, Lexeme, IsName, lexeme_at, lexemes_of, PrintsPieces}
 use Rattle.msc_parser.specs.Forms.{IsToken, IsNamed, AreMany, IsLedBy}
 use Rattle.msc_parser.specs.Canonical.{word, space}
 
@@ -96,6 +97,13 @@ module _ (laws : PrintsPieces) where
   unfolding lexemes_of lexeme_at
   a_name n rest named stop =
       record { reads = λ at. (at + length n, (at, rw named.free refl)); cut = λ c. (laws.name_fits n (text_of rest ++ []) named stop, c) }
+
+  -- a text, where no apostrophe follows
+  pub a_text : (l : List ℕ) (rest : List Piece) → begins (nat_eq 39) (text_of rest ++ []) ≡ false
+      → IsPrintedAs (IsOnly (Quoted l)) tt (pieces.Quoted l ∷ rest) rest
+  unfolding lexemes_of lexeme_at
+  a_text l rest stop =
+      record { reads = λ at. (at + length (quoted l), (at, rw (laws.texts l) refl)); cut = λ c. (stop, c) }
 
 -- a token and then a part
 pub a_behind : {X : Type 0} (s : Symbol) (IsPart : List Lexeme → X → List Lexeme → Type 0) (x : X)

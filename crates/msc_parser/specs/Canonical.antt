@@ -1,14 +1,17 @@
--- The canonical text of a draft, as pieces: words, names, marks, spaces and line ends (this project's
--- profile of MSC/PR, ITU-T Z.120). Each statement is a line; words are in small letters; no notes and
--- no comments are there.
+-- The canonical text of a draft, as pieces: words, names, texts, marks, spaces and line ends (this
+-- project's profile of MSC/PR, ITU-T Z.120). A line ends behind each statement; words are in small
+-- letters; no notes and no comments are there.
 use Rattle.std.specs.Prelude.{ℕ, List, [], ◌∷◌, ◌++◌, Option, Some, None}
 use Rattle.std.specs.List.{flat_map}
 use Rattle.msc_lexer.specs.declared.word.Word.{Word}
 use Rattle.msc_lexer.specs.declared.word.Word.TheVariants.{Msc, EndMsc, Inst, Instance, EndInstance, Concurrent, EndConcurrent}
+use Rattle.msc_lexer.specs.declared.word.Word.TheVariants as words
 use Rattle.msc_lexer.specs.Words.{spelling}
-use Rattle.msc_lexer.specs.Pieces.{Piece, Blank, Run, Mark, text_of}
+use Rattle.msc_lexer.specs.Pieces.{Piece, Blank, Run, Quoted, Mark, text_of}
 use Rattle.msc_parser.specs.declared.tree.Decl.{Decl}
 use Rattle.msc_parser.specs.declared.tree.Signal.{Signal}
+use Rattle.msc_parser.specs.declared.tree.Statement.{Statement}
+use Rattle.msc_parser.specs.declared.tree.Statement.TheVariants.{Message, Action}
 use Rattle.msc_parser.specs.declared.tree.Item.{Item}
 use Rattle.msc_parser.specs.declared.tree.Item.TheVariants.{Single, Coregion}
 use Rattle.msc_parser.specs.declared.tree.Section.{Section}
@@ -73,15 +76,24 @@ abbrev pub address_pieces : Signal → List Piece
 address_pieces e = space ∷ word (address_word e.way) ∷ space ∷ Run e.address ∷ line_end
 
 -- `out IDENT to NAME;` or `in IDENT from NAME;`
-abbrev pub event_pieces : Signal → List Piece
-event_pieces e = word (way_word e.way) ∷ space ∷ ident_pieces e ++ address_pieces e
+abbrev pub signal_pieces : Signal → List Piece
+signal_pieces e = word (way_word e.way) ∷ space ∷ ident_pieces e ++ address_pieces e
+
+-- `action 'TEXT';`, where each apostrophe that the text holds is doubled
+abbrev pub action_pieces : List ℕ → List Piece
+action_pieces label = word words.Action ∷ space ∷ Quoted label ∷ line_end
+
+-- an event: that of a message, or an action
+abbrev pub event_pieces : Statement → List Piece
+event_pieces (Message e) = signal_pieces e
+event_pieces (Action label) = action_pieces label
 
 -- four spaces before an event of a coregion
-abbrev pub inner_pieces : Signal → List Piece
+abbrev pub inner_pieces : Statement → List Piece
 inner_pieces e = space ∷ space ∷ space ∷ space ∷ event_pieces e
 
 -- two spaces before `concurrent;` and before `endconcurrent;`
-abbrev pub coregion_pieces : List Signal → List Piece
+abbrev pub coregion_pieces : List Statement → List Piece
 coregion_pieces es =
     space ∷ space ∷ word Concurrent ∷ line_end ++ (flat_map inner_pieces es ++ (space ∷ space ∷ word EndConcurrent ∷ line_end))
 

@@ -5,17 +5,20 @@ use Rattle.std.specs.Prelude.{◌≡◌, ℕ, List, [], ◌∷◌, Option, Some,
 use Rattle.std.specs.List.{flat_map}
 use Rattle.msc_lexer.specs.declared.word.Word.{Word}
 use Rattle.msc_lexer.specs.declared.word.Word.TheVariants.{Msc, EndMsc, Inst, Instance, EndInstance, Input, From, Output, To, Concurrent, EndConcurrent, Comment}
+use Rattle.msc_lexer.specs.declared.word.Word.TheVariants as words
 use Rattle.msc_lexer.specs.Lexemes.{Reserved, Named, Quoted, Semicolon, Comma, Colon, LeftParen, RightParen, Lexeme}
 use Rattle.msc_parser.specs.Forms.{IsToken, IsNamed, AreMany, IsLedBy, AreListed}
 use Rattle.msc_parser.specs.declared.tree.Way.{Way}
 use Rattle.msc_parser.specs.declared.tree.Way.TheVariants as ways
 use Rattle.msc_parser.specs.declared.tree.Decl.{Decl}
 use Rattle.msc_parser.specs.declared.tree.Signal.{Signal}
+use Rattle.msc_parser.specs.declared.tree.Statement.{Statement}
+use Rattle.msc_parser.specs.declared.tree.Statement.TheVariants.{Message, Action}
 use Rattle.msc_parser.specs.declared.tree.Item.{Item}
 use Rattle.msc_parser.specs.declared.tree.Item.TheVariants.{Single, Coregion}
 use Rattle.msc_parser.specs.declared.tree.Section.{Section}
 
--- a draft: the names of a chart
+-- a draft: the names of a chart, and the texts of its actions
 pub record Tree : Type 0 where
   pub name : List ℕ
   pub header : List Decl
@@ -44,12 +47,12 @@ abbrev pub IsDecl : List Lexeme → Decl → List Lexeme → Type 0
 IsDecl before d after =
     (kind : List Lexeme) × IsToken (Named d.name) before kind × IsKind kind d.kind after
 
--- the first word of an event
+-- the first word of a message event
 abbrev pub way_word : Way → Word
 way_word ways.Output = Output
 way_word ways.Input = Input
 
--- the word before the address of an event
+-- the word before the address of a message event
 abbrev pub address_word : Way → Word
 address_word ways.Output = To
 address_word ways.Input = From
@@ -76,7 +79,7 @@ pub record IsIdent (before : List Lexeme) (e : Signal) (after : List Lexeme) : T
   pub is_number : IsNumber number e.number parameters
   pub are_parameters : AreParameters parameters e.parameters after
 
--- an event behind its first word
+-- a message event behind its first word
 pub record IsSignal (before : List Lexeme) (e : Signal) (after : List Lexeme) : Type 0 where
   pub word : List Lexeme
   pub address : List Lexeme
@@ -86,12 +89,23 @@ pub record IsSignal (before : List Lexeme) (e : Signal) (after : List Lexeme) : 
   pub is_address : IsToken (Named e.address) address close
   pub is_end : IsEnd close after
 
--- an event: `out` ident `to` name end, or `in` ident `from` name end
-abbrev pub IsEvent : List Lexeme → Signal → List Lexeme → Type 0
-IsEvent before e after = IsLedBy (Reserved (way_word e.way)) IsSignal before e after
+-- an action behind its first word: a text and the end. What the text holds is kept.
+pub record IsAction (before : List Lexeme) (label : List ℕ) (after : List Lexeme) : Type 0 where
+  pub close : List Lexeme
+  pub is_text : IsToken (Quoted label) before close
+  pub is_end : IsEnd close after
+
+-- a message event: `out` ident `to` name end, or `in` ident `from` name end
+abbrev pub IsMessage : List Lexeme → Signal → List Lexeme → Type 0
+IsMessage before e after = IsLedBy (Reserved (way_word e.way)) IsSignal before e after
+
+-- an event: that of a message, or `action` text end
+abbrev pub IsEvent : List Lexeme → Statement → List Lexeme → Type 0
+IsEvent before (Message e) after = IsMessage before e after
+IsEvent before (Action label) after = IsLedBy (Reserved words.Action) IsAction before label after
 
 -- a coregion behind its first word: end, events, `endconcurrent` end
-pub record IsCoregion (before : List Lexeme) (es : List Signal) (after : List Lexeme) : Type 0 where
+pub record IsCoregion (before : List Lexeme) (es : List Statement) (after : List Lexeme) : Type 0 where
   pub events : List Lexeme
   pub last : List Lexeme
   pub close : List Lexeme
@@ -100,7 +114,7 @@ pub record IsCoregion (before : List Lexeme) (es : List Signal) (after : List Le
   pub is_endconcurrent : IsToken (Reserved EndConcurrent) last close
   pub is_last_end : IsEnd close after
 
--- a statement of a section: an event or a coregion
+-- an item of a section: an event or a coregion
 abbrev pub IsItem : List Lexeme → Item → List Lexeme → Type 0
 IsItem before (Single e) after = IsEvent before e after
 IsItem before (Coregion es) after = IsLedBy (Reserved Concurrent) IsCoregion before es after

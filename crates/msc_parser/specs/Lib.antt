@@ -6,5 +6,6 @@ pub mod Parsing
 pub mod Table
 pub mod Canonical
 pub mod Drafts
+pub mod Expectations
 -- what the code keeps
 pub mod Reading

@@ -2,7 +2,7 @@
 -- Z.120).
 use Rattle.std.specs.Prelude.{◌≡◌, ◌⊎◌, ℕ, Bool, true, false, List, [], ◌∷◌, ◌++◌, length, Result, Ok, Err, if◌then◌else◌}
 use Rattle.msc_lexer.specs.declared.word.Word.{Word}
-use Rattle.msc_lexer.specs.declared.word.Word.TheVariants.{Env, Action, Condition, Set, Reset, Timeout, Create, Stop}
+use Rattle.msc_lexer.specs.declared.word.Word.TheVariants.{Env, Condition, Set, Reset, Timeout, Create, Stop}
 use Rattle.msc_lexer.specs.declared.token.Token.{Token}
 use Rattle.msc_lexer.specs.Lexemes.{Symbol, Reserved, Lexeme, lexemes}
 use Rattle.msc_lexer.specs.Lexing.{HasTokens, HasFault}
@@ -15,7 +15,6 @@ use Rattle.msc_parser.specs.Places.{Start, what, walk}
 -- the reserved words that no chart of the profile has
 abbrev pub is_refused : Word → Bool
 is_refused Env = true
-is_refused Action = true
 is_refused Condition = true
 is_refused Set = true
 is_refused Reset = true

@@ -10,9 +10,9 @@ use Rattle.msc_parser.specs.declared.fault.What.{What}
 use Rattle.msc_parser.specs.declared.fault.What.TheVariants as whats
 
 -- the statement in which a decl stands
-pub data Statement : Type 0 where
-  InInst : Statement
-  InInstance : Statement
+pub data DeclStatement : Type 0 where
+  InInst : DeclStatement
+  InInstance : DeclStatement
 
 -- A place between two tokens. Where a statement ends at several places, the place behind its `;` is
 -- told with it.
@@ -23,11 +23,11 @@ pub data Place : Type 0 where
   Sections : Place  -- after a section
   Items : Place  -- at the beginning of a statement in a section
   Events : Place  -- at the beginning of a statement in a coregion
-  DeclName : Statement → Place  -- after `inst` or a comma there, or after `instance`
-  DeclKind : Statement → Place  -- after the name of a decl
-  KindFirst : Statement → Place  -- after the `:` of a kind
-  KindSecond : Statement → Place  -- after the first name of a kind
-  DeclEnd : Statement → Place  -- after the second name of a kind
+  DeclName : DeclStatement → Place  -- after `inst` or a comma there, or after `instance`
+  DeclKind : DeclStatement → Place  -- after the name of a decl
+  KindFirst : DeclStatement → Place  -- after the `:` of a kind
+  KindSecond : DeclStatement → Place  -- after the first name of a kind
+  DeclEnd : DeclStatement → Place  -- after the second name of a kind
   Message : Way → Place → Place  -- after `out` or `in`
   AfterMessage : Way → Place → Place  -- after the message name
   Number : Way → Place → Place  -- after the comma behind the message name
@@ -37,13 +37,14 @@ pub data Place : Type 0 where
   AfterParameter : Way → Place → Place  -- after a parameter
   AfterParameters : Way → Place → Place  -- after `)`
   Address : Place → Place  -- after `to` or `from`
+  ActionText : Place → Place  -- after `action`
   StatementEnd : Place → Place  -- at the end of a statement
   CommentText : Place → Place  -- after `comment`
   CommentEnd : Place → Place  -- after the text of a comment
   Done : Place  -- after the whole chart
 
 -- the place behind the `;` of a statement with decls
-abbrev pub behind : Statement → Place
+abbrev pub behind : DeclStatement → Place
 behind InInst = Header
 behind InInstance = Items
 
@@ -58,10 +59,12 @@ next Sections (Reserved words.Instance) = Some (DeclName InInstance)
 next Sections (Reserved words.EndMsc) = Some (StatementEnd Done)
 next Items (Reserved words.Output) = Some (Message ways.Output Items)
 next Items (Reserved words.Input) = Some (Message ways.Input Items)
+next Items (Reserved words.Action) = Some (ActionText Items)
 next Items (Reserved words.Concurrent) = Some (StatementEnd Events)
 next Items (Reserved words.EndInstance) = Some (StatementEnd Sections)
 next Events (Reserved words.Output) = Some (Message ways.Output Events)
 next Events (Reserved words.Input) = Some (Message ways.Input Events)
+next Events (Reserved words.Action) = Some (ActionText Events)
 next Events (Reserved words.EndConcurrent) = Some (StatementEnd Items)
 next (DeclName st) (Named n) = Some (DeclKind st)
 next (DeclKind st) Colon = Some (KindFirst st)
@@ -93,13 +96,14 @@ next (AfterParameter way p) RightParen = Some (AfterParameters way p)
 next (AfterParameters ways.Output p) (Reserved words.To) = Some (Address p)
 next (AfterParameters ways.Input p) (Reserved words.From) = Some (Address p)
 next (Address p) (Named n) = Some (StatementEnd p)
+next (ActionText p) (Quoted label) = Some (StatementEnd p)
 next (StatementEnd p) (Reserved words.Comment) = Some (CommentText p)
 next (StatementEnd p) Semicolon = Some p
 next (CommentText p) (Quoted bytes) = Some (CommentEnd p)
 next (CommentEnd p) Semicolon = Some p
 next place symbol = None
 
--- what is expected before the address of an event
+-- what is expected before the address of a message event
 abbrev pub address_what : Way → What
 address_what ways.Output = whats.To
 address_what ways.Input = whats.From
@@ -126,6 +130,7 @@ what (Parameter way p) = whats.Name
 what (AfterParameter way p) = whats.Parameter
 what (AfterParameters way p) = address_what way
 what (Address p) = whats.Name
+what (ActionText p) = whats.Text
 what (StatementEnd p) = whats.End
 what (CommentText p) = whats.Text
 what (CommentEnd p) = whats.End

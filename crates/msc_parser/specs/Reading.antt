@@ -2,18 +2,25 @@
 -- part and the tokens behind it, or the first fault from that place on.
 use Rattle.std.specs.Prelude.{◌≡◌, ◌≢◌, ℕ, ◌<◌, ◌≤◌, List, [], ◌∷◌, length, Option, Some, None, Result, Ok, Err}
 use Rattle.std.specs.Borrow.{Bor}
+use Rattle.msc_lexer.specs.declared.word.Word.{Word}
+use Rattle.msc_lexer.specs.declared.word.Word.TheVariants as words
 use Rattle.msc_lexer.specs.declared.token.Kind.{Kind}
 use Rattle.msc_lexer.specs.declared.token.Kind.TheVariants as kinds
 use Rattle.msc_lexer.specs.declared.token.Token.{Token}
-use Rattle.msc_lexer.specs.Lexemes.{Symbol, Named, Lexeme, lexemes, symbol_of, AreWithin}
+use Rattle.msc_lexer.specs.Lexemes.{Symbol, Named, Quoted, Lexeme, lexemes, symbol_of, AreWithin}
 use Rattle.msc_parser.specs.declared.tree.Way.{Way}
 use Rattle.msc_parser.specs.declared.tree.Signal.{Signal}
+use Rattle.msc_parser.specs.declared.tree.Statement.{Statement}
+use Rattle.msc_parser.specs.declared.tree.Statement.TheVariants as statements
+use Rattle.msc_parser.specs.declared.opening.Opening.{Opening}
+use Rattle.msc_parser.specs.declared.opening.Opening.TheVariants as openings
 use Rattle.msc_parser.specs.declared.fault.What.{What}
+use Rattle.msc_parser.specs.declared.fault.What.TheVariants as whats
 use Rattle.msc_parser.specs.declared.fault.ParseFault.{ParseFault}
 use Rattle.msc_parser.specs.declared.fault.ParseFault.TheVariants.{Memory}
 use Rattle.msc_parser.specs.Forms.{IsToken, AreMany}
-use Rattle.msc_parser.specs.Grammar.{Tree, IsEnd, IsSignal, IsChart}
-use Rattle.msc_parser.specs.Places.{Place, Start, StatementEnd, Done, what, walk}
+use Rattle.msc_parser.specs.Grammar.{Tree, IsEnd, way_word, IsSignal, IsAction, IsChart}
+use Rattle.msc_parser.specs.Places.{Place, Start, Message, ActionText, StatementEnd, Done, what, walk}
 use Rattle.msc_parser.specs.Parsing.{fault_at}
 
 -- the kind of the first token
@@ -60,6 +67,12 @@ TakesName text w before (Ok x) = DidTake text (Named x.0) before x.1.now
 TakesName text w before (Err Memory) = Unit {0}
 TakesName text w before (Err e) = Refuses text kinds.Name w before e
 
+-- what taking a text, with what it holds, answers
+abbrev pub TakesText : List ℕ → List Token → Result (List ℕ × Bor (List Token)) ParseFault → Type 0
+TakesText text before (Ok x) = DidTake text (Quoted x.0) before x.1.now
+TakesText text before (Err Memory) = Unit {0}
+TakesText text before (Err e) = Refuses text kinds.Text whats.Text before e
+
 -- the end of a statement was read, wherever the statement ends
 pub record DidEnd (text : List ℕ) (before after : List Token) : Type 0 where
   pub part : IsEnd (lexemes text before) (lexemes text after)
@@ -96,9 +109,25 @@ abbrev pub Leaves : {X : Type 0} → Kind → Result (X × Bor (List Token)) Par
 Leaves kind (Ok x) = first_kind x.1.now ≢ Some kind
 Leaves kind (Err e) = Unit {0}
 
--- an event of this way, behind its first word
+-- a message event of this way, behind its first word
 abbrev pub IsSignalOf : Way → List Lexeme → Signal → List Lexeme → Type 0
 IsSignalOf way before e after = (e.way ≡ way) × IsSignal before e after
+
+-- the first word of an event that begins so
+abbrev pub opening_word : Opening → Word
+opening_word (openings.Message way) = way_word way
+opening_word openings.Action = words.Action
+
+-- the place behind that word, where the event ends at a place
+abbrev pub behind_opening : Opening → Place → Place
+behind_opening (openings.Message way) p = Message way p
+behind_opening openings.Action p = ActionText p
+
+-- an event that begins so, behind its first word
+abbrev pub IsOpened : Opening → List Lexeme → Statement → List Lexeme → Type 0
+IsOpened (openings.Message way) before (statements.Message e) after = IsSignalOf way before e after
+IsOpened openings.Action before (statements.Action label) after = IsAction before label after
+IsOpened opening before statement after = ⊥
 
 -- parts, and a token behind them
 abbrev pub AreUpTo : {X : Type 0} → Symbol → (List Lexeme → X → List Lexeme → Type 0) → List Lexeme

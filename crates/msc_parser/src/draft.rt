@@ -1,4 +1,4 @@
-//! Drafts: the tree of names of a chart's text, made by `parse` alone.
+//! Drafts: the tree of names and texts of a chart's text, made by `parse` alone.
 //!
 //! Contracts see a draft as its `Tree`: the chart's name, the header and the sections, as plain
 //! lists.
@@ -8,7 +8,7 @@ ghost use Rattle.std.specs.List.{AllByRecursion};
 ghost use Rattle.msc_lexer.specs.Lexemes.{IsName};
 ghost use Rattle.msc_parser.specs.Grammar.{Tree};
 ghost use Rattle.msc_parser.specs.Canonical.{canonical};
-ghost use Rattle.msc_parser.specs.Drafts.{IsDraft, IsDeclNamed, IsSectionNamed, signals_of};
+ghost use Rattle.msc_parser.specs.Drafts.{IsDraft, IsDeclNamed, IsSectionNamed, statements_of};
 ghost use Rattle.msc_parser.specs.Parsing.{HasDraft};
 
 use crate::tree::{Decl, Name, Section};
@@ -19,7 +19,7 @@ use msc_lexer::laws::prints_pieces;
 use std::alloc::{AllocError, Global};
 use std::marker::Model;
 
-/// The tree of names of a chart's text. Notes and comments leave nothing in it.
+/// The tree of names and texts of actions of a chart's text. Notes and comments leave nothing in it.
 #[derive(Debug, Drop)]
 pub struct Draft {
     name: Name,
@@ -80,15 +80,16 @@ impl Draft {
     pub fn sections(&self) -> &[Section]
         ensures value { result.now ≡ self.now.sections }
         ensures named { AllByRecursion IsSectionNamed result.now }
-        ensures few { length (signals_of result.now) ≤ TEXT_LIMIT }
+        ensures few { length (statements_of result.now) ≤ TEXT_LIMIT }
     {
         self.known();
         self.sections.as_slice()
     }
 
     /// The canonical text: one line for each statement, words in small letters, no notes and no
-    /// comments. The only error is want of memory. The text can be longer than the text that was
-    /// read, and longer than a text may be; then it is written in full and isn't read again.
+    /// comments. The texts of actions may have line ends of their own. The only error is want of
+    /// memory. The text can be longer than the text that was read, and longer than a text may be;
+    /// then it is written in full and isn't read again.
     pub fn write(&self, alloc: Global) -> Result<Vec<u8>, AllocError>
         ensures text { IfOk result (λ v. v.items ≡ canonical self.now) }
 

@@ -1,10 +1,12 @@
 //! Why a text is no chart.
 
-ghost use Rattle.std.specs.Prelude.{◌≡◌};
+ghost use Rattle.std.specs.Prelude.{◌≡◌, Some};
 ghost use Rattle.msc_parser.specs.declared.fault.ParseFault.TheVariants.{Memory};
+ghost use Rattle.msc_parser.specs.Expectations.{expectation};
 
 use msc_lexer::{LexFault, Word};
 use std::alloc::{AllocError, AllocFailed};
+use std::fmt;
 use thiserror::Error;
 
 /// What the grammar wanted at the place of an error.
@@ -14,7 +16,7 @@ pub enum What {
     Msc,
     /// A name.
     Name,
-    /// The text of a comment.
+    /// The text of an action or of a comment.
     Text,
     /// The end of the statement: `;`, or a comment and `;`.
     End,
@@ -34,18 +36,49 @@ pub enum What {
     Nothing,
 }
 
+impl What {
+    /// What was expected, in words.
+    fn words(self) -> &'static str
+        ensures { result.now ≡ expectation self }
+    {
+        match self {
+            What::Msc => "msc",
+            What::Name => "a name",
+            What::Text => "a text",
+            What::End => "the end of the statement",
+            What::Section => "a section",
+            What::Item => "an item",
+            What::Event => "an event",
+            What::To => "to",
+            What::From => "from",
+            What::Parameter => "a parameter list",
+            What::Nothing => "the end of the text",
+        }
+    }
+}
+
+/// Shows what was expected in the words of a printed fault.
+impl fmt::Display for What {
+    ghost output = { λ w. Some (expectation w) };
+
+    fn fmt<W: fmt::Write>(&self, f: &mut fmt::Formatter<W>) -> fmt::Result {
+        f.write_str(self.words())
+    }
+}
+
 /// The first fault of a text. Each place is a byte place from 0, that of the first byte of the
 /// token that cannot stand there, or the length of the text where it ends too early.
+/// The messages are the words of the printed lines, without number and place.
 #[derive(Clone, Copy, Debug, PartialEq, Eq, Error)]
 pub enum ParseFault {
     /// The text has no tokens. Comes before all faults of the grammar.
     #[error("{0}")]
     Lex(LexFault),
     /// A reserved word that this profile of Z.120 refuses stands where no chart goes on with it.
-    #[error("the word at {0} is not supported: {1:?}")]
+    #[error("{1} is not supported")]
     Unsupported(usize, Word),
     /// Something else was expected here than what stands here.
-    #[error("expected {1:?} at {0}")]
+    #[error("expected {1}")]
     Expected(usize, What),
     /// A growth of memory was refused.
     #[error("out of memory")]

@@ -4,7 +4,7 @@
 
 ghost use Rattle.msc_lexer.specs.Lexemes.{AreWithin};
 ghost use Rattle.msc_parser.specs.Grammar.{IsKind, IsDecl, AreDecls, IsHeader};
-ghost use Rattle.msc_parser.specs.Places.{Statement, InInst, DeclName, DeclKind, DeclEnd, Header};
+ghost use Rattle.msc_parser.specs.Places.{DeclStatement, InInst, DeclName, DeclKind, DeclEnd, Header};
 ghost use Rattle.msc_parser.specs.Places.{Sections};
 ghost use Rattle.msc_parser.specs.Reading.{Reads};
 
@@ -22,7 +22,7 @@ fn kind<'a>(
     tokens: &'a [Token],
 ) -> Result<(Listed<Name>, &'a [Token]), ParseFault>
     requires { AreWithin text.now tokens.now }
-    ensures { (st : Statement) →
+    ensures { (st : DeclStatement) →
         Reads text.now IsKind (DeclKind st) (DeclEnd st) tokens.now result }
 {
     let mut names = Vec::new(alloc);
@@ -46,7 +46,7 @@ pub fn decl<'a>(
     tokens: &'a [Token],
 ) -> Result<(Decl, &'a [Token]), ParseFault>
     requires { AreWithin text.now tokens.now }
-    ensures { (st : Statement) →
+    ensures { (st : DeclStatement) →
         Reads text.now IsDecl (DeclName st) (DeclEnd st) tokens.now result }
 {
     let (name, rest) = take_name(alloc, What::Name, text, tokens)?;

@@ -11,36 +11,36 @@ ghost use Rattle.msc_parser.specs.Reading.{first_kind, Reads, Uses, AreUpTo};
 
 use crate::fault::{ParseFault, What};
 use crate::heading::decl;
-use crate::signalling::{first_way, signal};
+use crate::opening::{first_opening, opened};
 use crate::taking::{stands, take, take_end, unexpected};
-use crate::tree::{Item, Section, Signal};
+use crate::tree::{Item, Section, Statement};
 use listed::Listed;
 use msc_lexer::{Kind, Token, Word};
 use std::alloc::Global;
 
-/// A statement of a coregion.
+/// An event of a coregion.
 fn event<'a>(
     alloc: Global,
     text: &[u8],
     tokens: &'a [Token],
-) -> Result<(Signal, &'a [Token]), ParseFault>
+) -> Result<(Statement, &'a [Token]), ParseFault>
     requires within { AreWithin text.now tokens.now }
     requires goes_on { first_kind tokens.now ≢ Some (Kind.Word Word.EndConcurrent) }
     ensures reads { Reads text.now IsEvent Events Events tokens.now result }
     ensures uses { Uses tokens.now result }
 {
-    let Some(way) = first_way(tokens) else {
+    let Some(opening) = first_opening(tokens) else {
         return Err(unexpected(text, tokens, What::Event));
     };
-    signal(alloc, way, text, &tokens[1..])
+    opened(alloc, opening, text, &tokens[1..])
 }
 
-/// The statements of a coregion, and its `endconcurrent`.
+/// The events of a coregion, and its `endconcurrent`.
 fn events<'a>(
     alloc: Global,
     text: &[u8],
     tokens: &'a [Token],
-) -> Result<(Listed<Signal>, &'a [Token]), ParseFault>
+) -> Result<(Listed<Statement>, &'a [Token]), ParseFault>
     requires { AreWithin text.now tokens.now }
     ensures { Reads text.now (AreUpTo (Reserved Word.EndConcurrent)
         IsEvent) Events (StatementEnd Items) tokens.now result }
@@ -60,7 +60,7 @@ fn coregion<'a>(
     alloc: Global,
     text: &[u8],
     tokens: &'a [Token],
-) -> Result<(Listed<Signal>, &'a [Token]), ParseFault>
+) -> Result<(Listed<Statement>, &'a [Token]), ParseFault>
     requires { AreWithin text.now tokens.now }
     ensures { Reads text.now IsCoregion (StatementEnd Events) Items tokens.now result }
 {
@@ -70,7 +70,7 @@ fn coregion<'a>(
     Ok((events, rest))
 }
 
-/// A statement of a section.
+/// An item of a section.
 fn item<'a>(
     alloc: Global,
     text: &[u8],
@@ -85,14 +85,14 @@ fn item<'a>(
         let (events, rest) = coregion(alloc, text, &tokens[1..])?;
         return Ok((Item::Coregion(events), rest));
     }
-    let Some(way) = first_way(tokens) else {
+    let Some(opening) = first_opening(tokens) else {
         return Err(unexpected(text, tokens, What::Item));
     };
-    let (signal, rest) = signal(alloc, way, text, &tokens[1..])?;
-    Ok((Item::Single(signal), rest))
+    let (event, rest) = opened(alloc, opening, text, &tokens[1..])?;
+    Ok((Item::Single(event), rest))
 }
 
-/// The statements of a section, and its `endinstance`.
+/// The items of a section, and its `endinstance`.
 fn items<'a>(
     alloc: Global,
     text: &[u8],

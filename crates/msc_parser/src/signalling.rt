@@ -2,11 +2,11 @@
 //!
 //! Each function reads the front of a slice of tokens, and answers the rest of the slice with it.
 
-ghost use Rattle.std.specs.Prelude.{◌≡◌, ◌≢◌, Some, IfSome, IfNone};
+ghost use Rattle.std.specs.Prelude.{◌≡◌, ◌≢◌, Some};
 ghost use Rattle.msc_lexer.specs.Lexemes.{AreWithin};
 ghost use Rattle.msc_parser.specs.declared.tree.Way.{Way};
 ghost use Rattle.msc_parser.specs.Forms.{IsNamed, AreListed};
-ghost use Rattle.msc_parser.specs.Grammar.{way_word, address_word, IsNumber, AreParameters};
+ghost use Rattle.msc_parser.specs.Grammar.{address_word, IsNumber, AreParameters};
 ghost use Rattle.msc_parser.specs.Places.{Place, Message, AfterMessage, AfterNumber, Parameters};
 ghost use Rattle.msc_parser.specs.Places.{AfterParameter, AfterParameters, address_what};
 ghost use Rattle.msc_parser.specs.Reading.{first_kind, Reads, Leaves, IsSignalOf};
@@ -18,7 +18,7 @@ use listed::Listed;
 use msc_lexer::{Kind, Token, Word};
 use std::alloc::Global;
 
-/// The word before the address of an event.
+/// The word before the address of a message event.
 pub fn address_word(way: Way) -> Word
     ensures { result ≡ address_word way }
 {
@@ -28,28 +28,13 @@ pub fn address_word(way: Way) -> Word
     }
 }
 
-/// What is expected before the address of an event.
+/// What is expected before the address of a message event.
 fn address_what(way: Way) -> What
     ensures { result ≡ address_what way }
 {
     match way {
         Way::Output => What::To,
         Way::Input => What::From,
-    }
-}
-
-/// The way of the event that begins here, if one does.
-pub fn first_way(tokens: &[Token]) -> Option<Way>
-    ensures some { IfSome result (λ way. first_kind tokens.now ≡ Some (Kind.Word (way_word way))) }
-    ensures none { IfNone result
-        ((way : Way) → first_kind tokens.now ≢ Some (Kind.Word (way_word way))) }
-{
-    if stands(Kind::Word(Word::Output), tokens) {
-        Some(Way::Output)
-    } else if stands(Kind::Word(Word::Input), tokens) {
-        Some(Way::Input)
-    } else {
-        None
     }
 }
 
@@ -115,7 +100,7 @@ fn parameters<'a>(
     Ok((names, rest))
 }
 
-/// An event of this way, behind its first word.
+/// A message event of this way, behind its first word.
 pub fn signal<'a>(
     alloc: Global,
     way: Way,

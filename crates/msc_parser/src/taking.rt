@@ -5,11 +5,11 @@
 ghost use Rattle.std.specs.Prelude.{◌≡◌, ◌↔◌, IsTrue, length, Some};
 ghost use Rattle.msc_lexer.specs.Lexemes.{lexemes, AreWithin};
 ghost use Rattle.msc_parser.specs.Parsing.{is_refused, fault_at};
-ghost use Rattle.msc_parser.specs.Reading.{first_kind, TakesToken, TakesName, Ends};
+ghost use Rattle.msc_parser.specs.Reading.{first_kind, TakesToken, TakesName, TakesText, Ends};
 
 use crate::fault::{ParseFault, What};
-use crate::tree::Name;
-use msc_lexer::{Kind, Token, Word};
+use crate::tree::{Label, Name};
+use msc_lexer::{Kind, Token, Word, text_bytes};
 use std::alloc::Global;
 
 /// Whether this profile of Z.120 refuses the word.
@@ -18,7 +18,6 @@ fn is_refused(word: Word) -> bool
 {
     match word {
         Word::Env
-        | Word::Action
         | Word::Condition
         | Word::Set
         | Word::Reset
@@ -85,6 +84,22 @@ pub fn take_name<'a>(
     let token = tokens[0];
     let bytes = Vec::from_slice(alloc, &text[token.start..token.end])?;
     Ok((Name::from_vec(bytes), &tokens[1..]))
+}
+
+/// Takes a text, with what it holds.
+pub fn take_text<'a>(
+    alloc: Global,
+    text: &[u8],
+    tokens: &'a [Token],
+) -> Result<(Label, &'a [Token]), ParseFault>
+    requires { AreWithin text.now tokens.now }
+    ensures { TakesText text.now tokens.now result }
+{
+    if !stands(Kind::Text, tokens) {
+        return Err(unexpected(text, tokens, What::Text));
+    }
+    let bytes = text_bytes(alloc, text, &tokens[0])?;
+    Ok((Label::from_vec(bytes), &tokens[1..]))
 }
 
 /// Takes the end of a statement: `;`, or a comment and `;`. Nothing is kept of the comment.

@@ -1,4 +1,4 @@
-//! The parts of a draft: names, and what a chart's text says of them.
+//! The parts of a draft: names and texts of actions, and what a chart's text says of them.
 //!
 //! A name is the list of its bytes as they stand in the text, since capital and small letters
 //! count. Contracts see each part as the record or the variant that it is, with lists for its
@@ -10,7 +10,11 @@ use listed::Listed;
 /// that are no reserved word.
 pub type Name = Listed<u8>;
 
-/// Whether an event is an output (`out`) or an input (`in`) of its message.
+/// The text of an action: any bytes, none included. Each doubled apostrophe of the chart's text is
+/// one here.
+pub type Label = Listed<u8>;
+
+/// Whether a message event is an output (`out`) or an input (`in`) of its message.
 #[derive(Clone, Copy, Debug, PartialEq, Eq)]
 pub enum Way {
     /// The message is sent.
@@ -40,13 +44,22 @@ pub struct Signal {
     pub address: Name,
 }
 
-/// A statement of a section.
+/// A statement that is one event of its instance.
+#[derive(Debug, Drop)]
+pub enum Statement {
+    /// An output or an input of a message.
+    Message(Signal),
+    /// An action (Z.120): something that the instance does by itself, told by a text.
+    Action(Label),
+}
+
+/// A part of a section.
 #[derive(Debug, Drop)]
 pub enum Item {
     /// An event that is ordered on the instance's line.
-    Single(Signal),
+    Single(Statement),
     /// A coregion: events that are unordered among themselves (Z.120), in the order of the text.
-    Coregion(Listed<Signal>),
+    Coregion(Listed<Statement>),
 }
 
 /// The part of a text that describes one instance, from `instance` to `endinstance`.

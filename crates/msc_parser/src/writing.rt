@@ -2,22 +2,23 @@
 
 ghost use Rattle.std.specs.Prelude.{◌≡◌, ◌++◌, OnOk, IfOk};
 ghost use Rattle.std.specs.List.{flat_map};
-ghost use Rattle.msc_lexer.specs.Pieces.{text_of};
+ghost use Rattle.msc_lexer.specs.Pieces.{doubled, text_of};
 ghost use Rattle.msc_parser.specs.Grammar.{way_word};
 ghost use Rattle.msc_parser.specs.Canonical.{second_pieces, kind_pieces, decl_pieces};
 ghost use Rattle.msc_parser.specs.Canonical.{next_decl_pieces, header_pieces, next_name_pieces};
 ghost use Rattle.msc_parser.specs.Canonical.{number_pieces, parameter_pieces, ident_pieces};
-ghost use Rattle.msc_parser.specs.Canonical.{address_pieces, event_pieces, inner_pieces};
+ghost use Rattle.msc_parser.specs.Canonical.{address_pieces, signal_pieces, action_pieces};
+ghost use Rattle.msc_parser.specs.Canonical.{event_pieces, inner_pieces};
 ghost use Rattle.msc_parser.specs.Canonical.{coregion_pieces, item_pieces, section_pieces};
 ghost use Rattle.msc_parser.specs.Canonical.{canonical};
 
 use crate::draft::Draft;
 use crate::signalling::address_word;
-use crate::tree::{Decl, Item, Name, Section, Signal, Way};
+use crate::tree::{Decl, Item, Name, Section, Signal, Statement, Way};
 use msc_lexer::Word;
 use std::alloc::{AllocError, Global};
 
-/// The first word of an event.
+/// The first word of a message event.
 fn way_word(way: Way) -> Word
     ensures { result ≡ way_word way }
 {
@@ -138,7 +139,7 @@ fn put_ident(out: &mut Vec<u8>, e: &Signal) -> Result<(), AllocError>
     put_parameters(out, e.parameters.as_slice())
 }
 
-/// The address of an event, and the end of its line.
+/// The address of a message event, and the end of its line.
 fn put_address(out: &mut Vec<u8>, e: &Signal) -> Result<(), AllocError>
     ensures { OnOk result (out.new.items ≡ out.old.items ++ text_of (address_pieces e.now)) }
 {
@@ -150,9 +151,9 @@ fn put_address(out: &mut Vec<u8>, e: &Signal) -> Result<(), AllocError>
     Ok(())
 }
 
-/// An event, from its first word to the end of its line.
-fn put_event(out: &mut Vec<u8>, e: &Signal) -> Result<(), AllocError>
-    ensures { OnOk result (out.new.items ≡ out.old.items ++ text_of (event_pieces e.now)) }
+/// A message event, from its first word to the end of its line.
+fn put_signal(out: &mut Vec<u8>, e: &Signal) -> Result<(), AllocError>
+    ensures { OnOk result (out.new.items ≡ out.old.items ++ text_of (signal_pieces e.now)) }
 {
     out.extend_from_slice(way_word(e.way).spelling())?;
     out.push(b' ')?;
@@ -160,8 +161,41 @@ fn put_event(out: &mut Vec<u8>, e: &Signal) -> Result<(), AllocError>
     put_address(out, e)
 }
 
+/// Bytes, each apostrophe among them twice.
+fn put_doubled(out: &mut Vec<u8>, bytes: &[u8]) -> Result<(), AllocError>
+    ensures { OnOk result (out.new.items ≡ out.old.items ++ doubled bytes.now) }
+{
+    for byte in bytes {
+        if *byte == b'\'' {
+            out.push(b'\'')?;
+        }
+        out.push(*byte)?;
+    }
+    Ok(())
+}
+
+/// An action with this text, from its first word to the end of its line.
+fn put_action(out: &mut Vec<u8>, label: &[u8]) -> Result<(), AllocError>
+    ensures { OnOk result (out.new.items ≡ out.old.items ++ text_of (action_pieces label.now)) }
+{
+    out.extend_from_slice(b"action '")?;
+    put_doubled(out, label)?;
+    out.extend_from_slice(b"';\n")?;
+    Ok(())
+}
+
+/// An event, from its first word to the end of its line.
+fn put_event(out: &mut Vec<u8>, event: &Statement) -> Result<(), AllocError>
+    ensures { OnOk result (out.new.items ≡ out.old.items ++ text_of (event_pieces event.now)) }
+{
+    match event {
+        Statement::Message(e) => put_signal(out, e),
+        Statement::Action(label) => put_action(out, label.as_slice()),
+    }
+}
+
 /// The events of a coregion.
-fn put_inner(out: &mut Vec<u8>, events: &[Signal]) -> Result<(), AllocError>
+fn put_inner(out: &mut Vec<u8>, events: &[Statement]) -> Result<(), AllocError>
     ensures { OnOk result
         (out.new.items ≡ out.old.items ++ text_of (flat_map inner_pieces events.now)) }
 {
@@ -173,7 +207,7 @@ fn put_inner(out: &mut Vec<u8>, events: &[Signal]) -> Result<(), AllocError>
 }
 
 /// A coregion: its first line, its events, its last line.
-fn put_coregion(out: &mut Vec<u8>, events: &[Signal]) -> Result<(), AllocError>
+fn put_coregion(out: &mut Vec<u8>, events: &[Statement]) -> Result<(), AllocError>
     ensures { OnOk result (out.new.items ≡ out.old.items ++ text_of (coregion_pieces events.now)) }
 {
     out.extend_from_slice(b"  concurrent;\n")?;

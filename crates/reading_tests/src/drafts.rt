@@ -1,7 +1,7 @@
 //! Drafts: the parts that the readers show, and the canonical text.
 
 use example_charts::ONE_MESSAGE;
-use msc_parser::{Decl, Draft, Item, ParseFault, Section, Signal, Way, parse};
+use msc_parser::{Decl, Draft, Item, ParseFault, Section, Signal, Statement, Way, parse};
 use std::alloc::Global;
 use std::test::Fail;
 
@@ -21,7 +21,7 @@ fn is_of(section: &Section, name: &[u8], way: Way, address: &[u8]) -> bool {
         return false;
     }
     match section.items.as_slice() {
-        [Item::Single(signal)] => is_plain(signal, way, address),
+        [Item::Single(Statement::Message(signal))] => is_plain(signal, way, address),
         _ => false,
     }
 }

@@ -22,8 +22,8 @@ fn refused_texts(rt: HostRuntime) {
         (b"", ParseFault::Expected(0, What::Msc)),
         (b"msc t; x /*", ParseFault::Lex(LexFault::OpenNote(9))),
         (
-            b"msc t; instance a; action x;",
-            ParseFault::Unsupported(19, Word::Action),
+            b"msc t; instance a; out m to action;",
+            ParseFault::Expected(28, What::Name),
         ),
         (
             b"msc t; instance a; out in to b;",
@@ -32,6 +32,22 @@ fn refused_texts(rt: HostRuntime) {
     ] {
         assert_eq!(rt; parse(alloc, text).err(), Some(wanted), "{text:?}");
     }
+}
+
+#[test]
+fn messages_are_the_printed_words(rt: HostRuntime) -> Result<(), Fail> {
+    for (fault, wanted) in [
+        (ParseFault::Unsupported(28, Word::Env), "env is not supported"),
+        (ParseFault::Expected(26, What::Text), "expected a text"),
+        (
+            ParseFault::Expected(6, What::End),
+            "expected the end of the statement",
+        ),
+        (ParseFault::Lex(LexFault::OpenNote(7)), "note without end"),
+    ] {
+        assert_eq!(rt; fault.to_string(rt.alloc())?.as_str(), wanted);
+    }
+    Ok(())
 }
 
 #[test]

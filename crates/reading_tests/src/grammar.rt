@@ -4,7 +4,7 @@
 use crate::drafts::canonical;
 use example_charts::KINDS_AND_COMMENTS;
 use msc_lexer::LexFault;
-use msc_parser::{Draft, Item, Name, ParseFault, Signal, What, parse};
+use msc_parser::{Draft, Item, Name, ParseFault, Signal, Statement, What, parse};
 use std::alloc::{AllocError, Global};
 use std::test::Fail;
 
@@ -38,7 +38,7 @@ fn has_kinds_numbers_and_parameters(draft: &Draft) -> bool {
         return false;
     }
     match a.items.as_slice() {
-        [Item::Single(signal)] => has_number_and_parameters(signal),
+        [Item::Single(Statement::Message(signal))] => has_number_and_parameters(signal),
         _ => false,
     }
 }
@@ -99,6 +99,9 @@ fn a_refused_text_for_each_place(rt: HostRuntime) {
         (b"msc t; instance a; out m, ;", 26, What::Name),
         (b"msc t; instance a; out m(x, ;", 28, What::Name),
         (b"msc t comment ;", 14, What::Text),
+        (b"msc t; instance a; action x;", 26, What::Text),
+        (b"msc t; instance a; action 'x' x", 30, What::End),
+        (b"msc t; instance a; out action", 23, What::Name),
         (b"msc t x", 6, What::End),
         (b"msc t; instance a; out m to b x", 30, What::End),
         (b"msc t; endmsc x", 14, What::End),
@@ -126,6 +129,7 @@ fn a_refused_text_for_each_later_place(rt: HostRuntime) {
         (b"msc t; instance a : p, q", 21, What::End),
         (b"msc t; instance a : p q r", 24, What::End),
         (b"msc t; out m to b;", 7, What::Section),
+        (b"msc t; action 'x';", 7, What::Section),
         (b"msc t; inst a; x", 15, What::Section),
         (
             b"msc t; instance a; endinstance; inst b;",

@@ -1,6 +1,6 @@
 use Rattle.msc_lexer.specs.declared.token.Kind.TheVariants as kinds
 use Rattle.msc_parser.specs.Places.{Items}
-use Rattle.msc_parser.specs.Grammar.{way_word}
+use Rattle.msc_parser.specs.Reading.{opening_word}
 use Rattle.msc_parser.proofs.Leading.{item_leads}
 use Rattle.msc_parser.proofs.Steps.{not_both, exits}
 use Rattle.msc_parser.proofs.Endings.{within_others}
@@ -26,18 +26,18 @@ pub returns-in_default-clause-reads : goal.returns-in_default-clause-reads
 returns-in_default-clause-reads c =
     item_refused c.args.text.now c.args.tokens.now _ c.in_default.ensures.none (λ e. not_both c.stands.ensures c.if-stands.false e) c.requires.goes_on c.unexpected.ensures
 
-pub signal-requires : goal.signal-requires
-signal-requires c = within_others c.args.text.now c.args.tokens.now c.requires.within
+pub opened-requires : goal.opened-requires
+opened-requires c = within_others c.args.text.now c.args.tokens.now c.requires.within
 
-pub returns-in_err-signal-clause-reads : goal.returns-in_err-signal-clause-reads
-returns-in_err-signal-clause-reads c =
-    exits c.args.text.now _ Items Items c.args.tokens.now _ c.in_err-signal.field-0.0 c.from_residual-in_err-signal.ensures.1
-    (event_stops c.args.text.now c.in-Some.way Items c.args.tokens.now _ c.requires.within c.in-Some.ensures.some (item_leads c.in-Some.way) (c.in_err-signal.ensures Items))
+pub returns-in_err-event-clause-reads : goal.returns-in_err-event-clause-reads
+returns-in_err-event-clause-reads c =
+    exits c.args.text.now _ Items Items c.args.tokens.now _ c.in_err-event.field-0.0 c.from_residual-in_err-event.ensures.1
+    (event_stops c.args.text.now c.in-Some.opening Items c.args.tokens.now _ c.requires.within c.in-Some.ensures.some item_leads (c.in_err-event.ensures Items))
 
 pub returns-clause-reads : goal.returns-clause-reads
 returns-clause-reads c =
-    single_read c.args.text.now c.in-Some.way c.args.tokens.now c.in_ok-signal.rest.now _ c.requires.within c.in-Some.ensures.some (c.in_ok-signal.ensures Items)
+    single_read c.args.text.now c.in-Some.opening c.args.tokens.now c.in_ok-event.rest.now _ c.requires.within c.in-Some.ensures.some (c.in_ok-event.ensures Items)
 
 pub returns-clause-uses : goal.returns-clause-uses
 returns-clause-uses c =
-    shorter_behind c.args.text.now (kinds.Word (way_word c.in-Some.way)) c.args.tokens.now c.in_ok-signal.rest.now c.requires.within c.in-Some.ensures.some (c.in_ok-signal.ensures Items).shorter
+    shorter_behind c.args.text.now (kinds.Word (opening_word c.in-Some.opening)) c.args.tokens.now c.in_ok-event.rest.now c.requires.within c.in-Some.ensures.some (c.in_ok-event.ensures Items).shorter

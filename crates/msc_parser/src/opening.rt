@@ -1,0 +1,81 @@
+//! Events: those of messages, and actions, told apart by their first words.
+//!
+//! Each function reads the front of a slice of tokens, and answers the rest of the slice with it.
+
+ghost use Rattle.std.specs.Prelude.{◌≡◌, ◌≢◌, Some, IfSome, IfNone};
+ghost use Rattle.msc_lexer.specs.Lexemes.{AreWithin};
+ghost use Rattle.msc_parser.specs.Grammar.{IsAction};
+ghost use Rattle.msc_parser.specs.Places.{Place, ActionText};
+ghost use Rattle.msc_parser.specs.Reading.{first_kind, Reads, opening_word, behind_opening};
+ghost use Rattle.msc_parser.specs.Reading.{IsOpened};
+
+use crate::fault::ParseFault;
+use crate::signalling::signal;
+use crate::taking::{stands, take_end, take_text};
+use crate::tree::{Label, Statement, Way};
+use msc_lexer::{Kind, Token, Word};
+use std::alloc::Global;
+
+/// How an event begins.
+#[derive(Clone, Copy)]
+pub enum Opening {
+    /// With `out` or `in`.
+    Message(Way),
+    /// With `action`.
+    Action,
+}
+
+/// How the event begins that stands here, if one does.
+pub fn first_opening(tokens: &[Token]) -> Option<Opening>
+    ensures some { IfSome result (λ o.
+        first_kind tokens.now ≡ Some (Kind.Word (opening_word o))) }
+    ensures none { IfNone result
+        ((o : Opening) → first_kind tokens.now ≢ Some (Kind.Word (opening_word o))) }
+{
+    if stands(Kind::Word(Word::Output), tokens) {
+        Some(Opening::Message(Way::Output))
+    } else if stands(Kind::Word(Word::Input), tokens) {
+        Some(Opening::Message(Way::Input))
+    } else if stands(Kind::Word(Word::Action), tokens) {
+        Some(Opening::Action)
+    } else {
+        None
+    }
+}
+
+/// An action behind its first word.
+fn action<'a>(
+    alloc: Global,
+    text: &[u8],
+    tokens: &'a [Token],
+) -> Result<(Label, &'a [Token]), ParseFault>
+    requires { AreWithin text.now tokens.now }
+    ensures { (p : Place) → Reads text.now IsAction (ActionText p) p tokens.now result }
+{
+    let (label, rest) = take_text(alloc, text, tokens)?;
+    let rest = take_end(text, rest)?;
+    Ok((label, rest))
+}
+
+/// An event that begins so, behind its first word.
+pub fn opened<'a>(
+    alloc: Global,
+    opening: Opening,
+    text: &[u8],
+    tokens: &'a [Token],
+) -> Result<(Statement, &'a [Token]), ParseFault>
+    requires { AreWithin text.now tokens.now }
+    ensures { (p : Place) →
+        Reads text.now (IsOpened opening) (behind_opening opening p) p tokens.now result }
+{
+    match opening {
+        Opening::Message(way) => {
+            let (signal, rest) = signal(alloc, way, text, tokens)?;
+            Ok((Statement::Message(signal), rest))
+        }
+        Opening::Action => {
+            let (label, rest) = action(alloc, text, tokens)?;
+            Ok((Statement::Action(label), rest))
+        }
+    }
+}

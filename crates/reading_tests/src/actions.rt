@@ -1,0 +1,88 @@
+//! Actions: what their texts hold, and how they are written.
+
+use crate::drafts::canonical;
+use msc_lexer::{Kind, lex, text_bytes};
+use msc_parser::{Draft, Item, ParseFault, Statement, parse};
+use std::alloc::{AllocError, Global};
+use std::test::Fail;
+
+/// Charts with actions, and their canonical texts.
+const CHARTS: [(&[u8], &[u8]); 4] = [
+    (
+        b"msc t; instance a; action 'go'; endinstance; endmsc;",
+        b"msc t;\ninstance a;\n  action 'go';\nendinstance;\nendmsc;\n",
+    ),
+    (
+        b"msc t; instance a; concurrent; Action '' comment 'c'; out m to b; endconcurrent; \
+endinstance; endmsc;",
+        b"msc t;\ninstance a;\n  concurrent;\n    action '';\n    out m to b;\n  endconcurrent;\n\
+endinstance;\nendmsc;\n",
+    ),
+    (
+        b"msc t; instance a; action 'it''s' comment 'it''s'; action ''''''; endinstance; endmsc;",
+        b"msc t;\ninstance a;\n  action 'it''s';\n  action '''''';\nendinstance;\nendmsc;\n",
+    ),
+    (
+        b"msc t; instance a; action '/*;\n\xff\x00 */' /* '' */; endinstance; endmsc;",
+        b"msc t;\ninstance a;\n  action '/*;\n\xff\x00 */';\nendinstance;\nendmsc;\n",
+    ),
+];
+
+/// Whether a text is written as `wanted`, and `wanted` as itself.
+fn is_written_as(alloc: Global, text: &[u8], wanted: &[u8]) -> Result<bool, ParseFault> {
+    let first = canonical(alloc, text)?;
+    let again = canonical(alloc, wanted)?;
+    Ok(first.as_slice() == wanted && again.as_slice() == wanted)
+}
+
+/// Whether the first token of a text is a text that holds `wanted`.
+fn holds(alloc: Global, text: &[u8], wanted: &[u8]) -> Result<bool, AllocError> {
+    let Ok(tokens) = lex(alloc, text) else {
+        return Ok(false);
+    };
+    match tokens.first() {
+        Some(token) if token.kind == Kind::Text => {
+            Ok(text_bytes(alloc, text, token)?.as_slice() == wanted)
+        }
+        _ => Ok(false),
+    }
+}
+
+/// Whether the first section of a draft is one action with this text.
+fn is_action(draft: &Draft, text: &[u8]) -> bool {
+    let [section, ..] = draft.sections() else {
+        return false;
+    };
+    match section.items.as_slice() {
+        [Item::Single(Statement::Action(label))] => label.as_slice() == text,
+        _ => false,
+    }
+}
+
+#[test]
+fn actions_are_written_and_read_again(rt: HostRuntime) -> Result<(), Fail> {
+    for (text, wanted) in CHARTS {
+        assert!(rt; is_written_as(rt.alloc(), text, wanted)?, "{text:?}");
+    }
+    Ok(())
+}
+
+#[test]
+fn what_a_text_holds(rt: HostRuntime) -> Result<(), Fail> {
+    for (text, wanted) in [
+        (b"'it''s'".as_slice(), b"it's".as_slice()),
+        (b"''", b""),
+        (b"'''''a'", b"''a"),
+    ] {
+        assert!(rt; holds(rt.alloc(), text, wanted)?, "{text:?}");
+    }
+    Ok(())
+}
+
+#[test]
+fn the_text_of_an_action(rt: HostRuntime) -> Result<(), Fail> {
+    let text = b"msc t; instance a; action 'it''s' comment 'no'; endinstance; endmsc;";
+    let draft = parse(rt.alloc(), text)?;
+    assert!(rt; is_action(&draft, b"it's"));
+    Ok(())
+}
