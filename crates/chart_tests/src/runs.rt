@@ -1,7 +1,9 @@
 //! Runs that reverse pairs of events.
 
 use crate::charts::chart_of;
-use example_charts::{COREGION, CROSSING, OVERTAKING, RELAY, TWO_MAILBOXES, TWO_SENDERS};
+use example_charts::{
+    COREGION, CROSSING, NUMBERED, OVERTAKING, RELAY, TWO_MAILBOXES, TWO_SENDERS, WAITS,
+};
 use msc_chart::{Event, Queues};
 use msc_order::Order;
 use msc_race::reversing_run;
@@ -9,7 +11,7 @@ use std::alloc::Global;
 use std::test::Fail;
 
 /// Texts, architectures, two events of the chart, and the run that reverses them.
-const REVERSED: [(&[u8], Queues, Event, Event, &[Event]); 15] = [
+const REVERSED: [(&[u8], Queues, Event, Event, &[Event]); 20] = [
     (TWO_SENDERS, Queues::Pair, 1, 2, &[0, 3, 2, 1]),
     (TWO_SENDERS, Queues::Mailbox, 1, 2, &[3, 0, 2, 1]),
     (TWO_SENDERS, Queues::Pair, 3, 0, &[0, 1, 3, 2]),
@@ -37,6 +39,11 @@ const REVERSED: [(&[u8], Queues, Event, Event, &[Event]); 15] = [
         7,
         &[0, 1, 2, 3, 4, 5, 7, 6],
     ),
+    (NUMBERED, Queues::Single, 2, 3, &[0, 1, 3, 2]),
+    (RELAY, Queues::Single, 2, 3, &[0, 1, 4, 5, 3, 2]),
+    (WAITS, Queues::Pair, 1, 2, &[0, 2, 1]),
+    (WAITS, Queues::Mailbox, 1, 2, &[0, 2, 1]),
+    (WAITS, Queues::Single, 1, 2, &[0, 2, 1]),
 ];
 
 /// Whether two events of a text's chart are different and not enforced in this order, and this is the
