@@ -198,42 +198,45 @@ fn segments_and_what_is_drawn_before(rt: HostRuntime) -> Result<(), Fail> {
     Ok(())
 }
 
-/// Whether a text's chart has three instances and three messages, and these names: its own, that of
-/// instance 2 and that of message 1, which has no message instance name.
-fn has_names(
-    alloc: Global,
-    text: &[u8],
-    name: &[u8],
-    instance: &[u8],
-    message: &[u8],
-) -> Result<bool, Fail> {
-    let chart = chart_of(alloc, text)?;
-    if chart.instances() != 3 || chart.messages() != 3 || chart.message_number(1).is_some() {
-        return Ok(false);
+/// Whether a chart has these names: its own, that of its last instance, and that of its second
+/// message, which has no message instance name.
+fn has_names(chart: &Chart, [name, instance, message]: [&[u8]; 3]) -> bool {
+    if chart.instances() != 3 || chart.messages() != 3 || chart.name() != name {
+        return false;
     }
-    let of_parts = chart.instance_name(2) == instance && chart.message_name(1) == message;
-    Ok(of_parts && chart.name() == name)
+    let of_message = chart.message_number(1).is_none() && chart.message_name(1) == message;
+    of_message && chart.instance_name(2) == instance
 }
 
 #[test]
 fn names_of_relay(rt: HostRuntime) -> Result<(), Fail> {
-    assert!(rt; has_names(rt.alloc(), RELAY, b"t", b"c", b"x")?);
+    let chart = chart_of(rt.alloc(), RELAY)?;
+    assert!(rt; has_names(&chart, [b"t", b"c", b"x"]));
     Ok(())
 }
 
-/// The lines of the three instances of a text's chart, or none where it has another number of them.
-fn lines_of(alloc: Global, text: &[u8]) -> Result<Option<[(Event, Event); 3]>, Fail> {
+/// The line of an instance of a text's chart, if it has it.
+fn line_of(alloc: Global, text: &[u8], i: u32) -> Result<Option<(Event, Event)>, Fail> {
     let chart = chart_of(alloc, text)?;
-    if chart.instances() != 3 {
+    if i >= chart.instances() {
         return Ok(None);
     }
-    Ok(Some([chart.line(0), chart.line(1), chart.line(2)]))
+    Ok(Some(chart.line(i)))
 }
+
+/// The instances of `relay` and their lines, and the number past the last instance.
+const LINES: [(u32, Option<(Event, Event)>); 4] = [
+    (0, Some((0, 2))),
+    (1, Some((2, 4))),
+    (2, Some((4, 6))),
+    (3, None),
+];
 
 #[test]
 fn lines_of_relay(rt: HostRuntime) -> Result<(), Fail> {
-    let wanted = Some([(0, 2), (2, 4), (4, 6)]);
-    assert_eq!(rt; lines_of(rt.alloc(), RELAY)?, wanted);
+    for (i, wanted) in LINES {
+        assert_eq!(rt; line_of(rt.alloc(), RELAY, i)?, wanted, "{i}");
+    }
     Ok(())
 }
 

@@ -1,9 +1,7 @@
-//! Races of charts, and verdicts.
+//! Races of charts, and verdicts. Those of the worked charts are tested as they are printed, in
+//! `program_tests`.
 
 use crate::charts::chart_of;
-use example_charts::{
-    COREGION, CROSSING, LOCAL_EVENTS, NUMBERED, OVERTAKING, RELAY, TWO_MAILBOXES, TWO_SENDERS, WAITS,
-};
 use msc_chart::{Event, Queues};
 use msc_race::{Verdict, check};
 use std::alloc::{AllocError, Global};
@@ -35,44 +33,9 @@ fn are_races(
     Ok(listed(&verdict) == wanted)
 }
 
-/// A message from an instance to itself.
-const TO_ITSELF: &[u8] = b"msc t; instance a; out m to a; in m from a; endinstance; endmsc;";
-
-/// Texts, architectures, and the races of their charts.
-const WORKED: [(&[u8], Queues, &[(Event, Event)]); 25] = [
-    (TWO_SENDERS, Queues::Pair, &[(1, 2)]),
-    (TWO_SENDERS, Queues::Mailbox, &[(1, 2)]),
-    (RELAY, Queues::Pair, &[(2, 3)]),
-    (RELAY, Queues::Mailbox, &[]),
-    (RELAY, Queues::Single, &[(2, 3)]),
-    (OVERTAKING, Queues::Pair, &[(2, 3)]),
-    (OVERTAKING, Queues::Mailbox, &[(2, 3)]),
-    (COREGION, Queues::Pair, &[]),
-    (COREGION, Queues::Mailbox, &[]),
-    (CROSSING, Queues::Pair, &[(0, 1), (2, 3)]),
-    (CROSSING, Queues::Mailbox, &[(0, 1), (2, 3)]),
-    (NUMBERED, Queues::Pair, &[]),
-    (NUMBERED, Queues::Mailbox, &[]),
-    (NUMBERED, Queues::Single, &[(2, 3)]),
-    (TWO_MAILBOXES, Queues::Pair, &[(4, 5), (6, 7)]),
-    (TWO_MAILBOXES, Queues::Mailbox, &[(4, 5), (6, 7)]),
-    (TO_ITSELF, Queues::Pair, &[]),
-    (TO_ITSELF, Queues::Mailbox, &[]),
-    (REPLY, Queues::Pair, &[(2, 4), (3, 4)]),
-    (LOCAL_EVENTS, Queues::Pair, &[]),
-    (LOCAL_EVENTS, Queues::Mailbox, &[]),
-    (LOCAL_EVENTS, Queues::Single, &[]),
-    (WAITS, Queues::Pair, &[(1, 2)]),
-    (WAITS, Queues::Mailbox, &[(1, 2)]),
-    (WAITS, Queues::Single, &[(1, 2)]),
-];
-
 #[test]
-fn the_race_lists_of_the_worked_charts(rt: HostRuntime) -> Result<(), Fail> {
-    for (text, queues, wanted) in WORKED {
-        let are = are_races(rt.alloc(), text, queues, wanted)?;
-        assert!(rt; are, "{queues:?}: {text:?}");
-    }
+fn what_follows_the_queue_rule_is_enforced(rt: HostRuntime) -> Result<(), Fail> {
+    assert!(rt; are_races(rt.alloc(), REPLY, Queues::Pair, &[(2, 4), (3, 4)])?);
     Ok(())
 }
 

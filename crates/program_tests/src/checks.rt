@@ -1,6 +1,6 @@
 //! `msc check`: the verdicts, races and runs of charts, what it prints, and its exit statuses.
 
-use crate::devices::narrow;
+use crate::devices::byte_writer;
 use crate::program::{answers, run};
 use example_charts::{
     COREGION, CROSSING, EMPTY, LOCAL_EVENTS, NUMBERED, ONE_MESSAGE, OVERTAKING, RELAY,
@@ -164,7 +164,7 @@ fn texts_that_are_refused(rt: HostRuntime) -> Result<(), Fail> {
 
 /// What `check_text` answers of `relay`, without its faults.
 fn passes(alloc: Global, queues: Queues) -> Option<bool> {
-    check_text(alloc, RELAY, queues, 0, &mut narrow(alloc, 0)).ok()
+    check_text(alloc, RELAY, queues, 0, &mut byte_writer(alloc, 0)).ok()
 }
 
 #[test]
@@ -184,14 +184,14 @@ race 1 2 on b: in m1 from a; in m2 from c\nrun 0 3 2 1\n";
 
 /// How many calls a writer that takes a byte at a time gets that, if it does.
 fn calls_for_all(alloc: Global) -> Result<Option<u32>, Fault> {
-    let mut writer = narrow(alloc, 0);
+    let mut writer = byte_writer(alloc, 0);
     check_text(alloc, TWO_SENDERS, Queues::Pair, 1, &mut writer)?;
     Ok((writer.written.as_slice() == WRITTEN).then_some(writer.calls))
 }
 
 /// Whether a writer that fails at this call is a device fault, with a beginning of that written.
 fn fails_at(alloc: Global, call: u32) -> bool {
-    let mut writer = narrow(alloc, call);
+    let mut writer = byte_writer(alloc, call);
     let fault = check_text(alloc, TWO_SENDERS, Queues::Pair, 1, &mut writer).err();
     fault == Some(Fault::Device) && WRITTEN.starts_with(writer.written.as_slice())
 }
@@ -208,7 +208,7 @@ fn failing_writes_are_a_device_fault(rt: HostRuntime) -> Result<(), Fail> {
 
 /// How many calls a writer gets of a text that is refused, if it is.
 fn calls_of_refused(alloc: Global, text: &[u8]) -> Option<u32> {
-    let mut writer = narrow(alloc, 0);
+    let mut writer = byte_writer(alloc, 0);
     let answer = check_text(alloc, text, Queues::Pair, 0, &mut writer);
     answer.is_err().then_some(writer.calls)
 }
@@ -226,7 +226,7 @@ fn writes_race(alloc: Global, wanted: &[u8]) -> Result<bool, Fail> {
     if chart.events() != 4 {
         return Ok(false);
     }
-    let mut writer = narrow(alloc, 0);
+    let mut writer = byte_writer(alloc, 0);
     write_race(&mut writer, &chart, 1, 2, Some([0, 3, 2, 1].as_slice()))?;
     Ok(writer.written.as_slice() == wanted)
 }

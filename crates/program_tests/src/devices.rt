@@ -56,7 +56,7 @@ pub struct Narrow {
 }
 
 /// A writer that takes a byte at a time and fails at this call, from 1, or at none where it is 0.
-pub fn narrow(alloc: Global, fails_at: u32) -> Narrow {
+pub fn byte_writer(alloc: Global, fails_at: u32) -> Narrow {
     Narrow {
         written: Vec::new(alloc),
         step: 1,

@@ -1,6 +1,6 @@
 //! Reading an input to its end, and writing to devices that fail.
 
-use crate::devices::{Unsteady, narrow};
+use crate::devices::{Unsteady, byte_writer};
 use example_charts::EMPTY;
 use msc_chart::{ChartFault, Queues};
 use msc_tool::{CALL_LIMIT, Fault, check_text, read_all, read_input, read_text};
@@ -52,7 +52,7 @@ fn the_first_bytes_of_a_long_input(rt: HostRuntime) -> Result<(), Fail> {
 
 #[test]
 fn a_writer_that_takes_a_byte_at_a_time(rt: HostRuntime) -> Result<(), Fail> {
-    let mut writer = narrow(rt.alloc(), 0);
+    let mut writer = byte_writer(rt.alloc(), 0);
     read_text(rt.alloc(), EMPTY, &mut writer)?;
     assert_eq!(rt; writer.written.as_slice(), b"msc t;\nendmsc;\n".as_slice());
     Ok(())
@@ -60,7 +60,7 @@ fn a_writer_that_takes_a_byte_at_a_time(rt: HostRuntime) -> Result<(), Fail> {
 
 /// The fault of reading a chart without instances, to a writer that fails at this call.
 fn fault_at(alloc: Global, call: u32) -> Option<Fault> {
-    read_text(alloc, EMPTY, &mut narrow(alloc, call)).err()
+    read_text(alloc, EMPTY, &mut byte_writer(alloc, call)).err()
 }
 
 #[test]
@@ -72,7 +72,7 @@ fn failing_writes_are_a_device_fault(rt: HostRuntime) {
 
 #[test]
 fn a_refused_text_leaves_the_writer_with_no_call(rt: HostRuntime) {
-    let mut writer = narrow(rt.alloc(), 0);
+    let mut writer = byte_writer(rt.alloc(), 0);
     assert!(rt; read_text(rt.alloc(), b"msc t;", &mut writer).is_err());
     assert_eq!(rt; writer.calls, 0);
 }
@@ -95,7 +95,7 @@ fn are_read_as(alloc: Global, text: &[u8], wanted: &[u8]) -> Result<bool, Fault>
 fn a_text_whose_chart_is_refused_is_read(rt: HostRuntime) -> Result<(), Fail> {
     let alloc = rt.alloc();
     assert!(rt; are_read_as(alloc, NO_CHART, CANONICAL)?);
-    let refused = check_text(alloc, NO_CHART, Queues::Pair, 0, &mut narrow(alloc, 0)).err();
+    let refused = check_text(alloc, NO_CHART, Queues::Pair, 0, &mut byte_writer(alloc, 0)).err();
     assert_eq!(rt; refused, Some(Fault::Chart(ChartFault::Cyclic(0))));
     Ok(())
 }

@@ -90,9 +90,9 @@ instance b;\n  in m from a;\nendinstance;\nendmsc;\n",
     ),
     (
         TEXTS_OF_ACTIONS,
-        b"msc t;\ninstance a;\n  out m to b;\nendinstance;\ninstance b;\n\
-  action 'it''s; /* no note */';\n  action 'gr\xc3\xbcn\tund\nrot ~';\n  action '';\n\
-  in m from a;\nendinstance;\nendmsc;\n",
+        b"msc t;\ninstance a;\n  out m to b;\nendinstance;\ninstance b;\n  \
+action 'it''s; /* no note */';\n  action 'gr\xc3\xbcn\tund\nrot ~';\n  action '';\n  \
+in m from a;\nendinstance;\nendmsc;\n",
     ),
 ];
 
