@@ -5,10 +5,10 @@
 #     tools/examples.sh [PROGRAM]
 #
 # PROGRAM is ./msc where it is left out. Beside charts/NAME.msc stand NAME.read.txt, the output of
-# `msc read`, and NAME.pair.txt and NAME.mailbox.txt, those of `msc check`, whose status is 1 where there
-# are races. Beside charts/refused/NAME.msc stands NAME.txt: what is written to standard error, and then
-# the status. `msc check` refuses each of them. `msc read` meets no fault of charts; charts with such a
-# fault are canonical texts, so it prints them as they are.
+# `msc read`, and NAME.pair.txt, NAME.mailbox.txt and NAME.single.txt, those of `msc check`, whose status is
+# 1 where there are races. Beside charts/refused/NAME.msc stands NAME.txt: what is written to standard
+# error, and then the status. `msc check` refuses each of them. `msc read` meets no fault of charts; charts
+# with such a fault are canonical texts, so it prints them as they are.
 set -u
 cd "$(dirname "$(readlink -f "${BASH_SOURCE[0]}")")/.." || exit 1
 program=${1-./msc}
@@ -33,7 +33,7 @@ compare() {
 for chart in charts/*.msc; do
   name=${chart%.msc}
   compare "$name.read.txt" /dev/null 0 read "$chart"
-  for queues in pair mailbox; do
+  for queues in pair mailbox single; do
     status=0
     if grep -qs '^races ' "$name.$queues.txt"; then status=1; fi
     compare "$name.$queues.txt" /dev/null "$status" check --queues "$queues" "$chart"
@@ -44,7 +44,7 @@ for chart in charts/refused/*.msc; do
   name=${chart%.msc}
   sed '/^status /d' "$name.txt" >"$room/fault"
   status=$(sed -n 's/^status //p' "$name.txt")
-  for queues in pair mailbox; do
+  for queues in pair mailbox single; do
     compare /dev/null "$room/fault" "$status" check --queues "$queues" "$chart"
   done
   if grep -q '^chart fault ' "$room/fault"; then

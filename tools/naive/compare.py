@@ -10,8 +10,9 @@ chart is given on standard input. For instance
     compare.py bench/plain/out/release/checks QUEUES SHOW
 
 Each chart is drawn as a list of events in which an output comes before its input, with up to 8 lines, up
-to M messages, and coregions. Prints how many outputs were compared and how many races they had. The exit
-status is 1 at the first difference, whose chart is printed.
+to M messages, actions, and coregions; each is compared under each architecture. Prints how many outputs
+were compared and how many races they had. The exit status is 1 at the first difference, whose chart is
+printed.
 """
 import argparse
 import random
@@ -22,12 +23,24 @@ sys.dont_write_bytecode = True
 from verdict import Chart
 
 
+def action(pick):
+    """An action whose text is of any bytes, most of them such as could be taken for something else; some
+    have a comment."""
+    some = "".join(pick.choice("';, /*\n\\~?" + chr(pick.randrange(256))) for _ in range(pick.randrange(8)))
+    comment = pick.choice(["", "", " comment 'it''s; action'"])
+    return "action '" + some.replace("'", "''") + f"'{comment};"
+
+
 def events(pick, lines, messages):
-    """For each line its events, from a list in which each output comes before its input."""
+    """For each line its events, from a list in which each output comes before its input; in some charts
+    many are actions."""
     drawn = [[] for _ in range(lines)]
+    acting = pick.choice([0, 0.1, 0.3])
     sent, number = [], 0
     while number < messages or sent:
-        if number < messages and (not sent or pick.random() < 0.6):
+        if pick.random() < acting:
+            drawn[pick.randrange(lines)].append(action(pick))
+        elif number < messages and (not sent or pick.random() < 0.6):
             sender, receiver = pick.randrange(lines), pick.randrange(lines)
             drawn[sender].append(f"out m{number} to i{receiver};")
             sent.append((receiver, f"in m{number} from i{sender};"))
@@ -65,16 +78,17 @@ def main():
     compared = races = 0
     for _ in range(options.charts):
         text = chart(pick, options.messages)
-        for queues in ("pair", "mailbox"):
+        for queues in ("pair", "mailbox", "single"):
             show = pick.choice([0, 1, 3, 2 ** 32 - 1])
             drawn = Chart(text, queues)
             wanted = "".join(line + "\n" for line in drawn.verdict(show))
             given = {"QUEUES": queues, "SHOW": str(show)}
             program = [given.get(word, word) for word in options.program]
-            done = subprocess.run(program, input=text, capture_output=True, text=True)
-            compared, races = compared + 1, races + wanted.count("race ")
-            if done.stdout != wanted or done.returncode != (0 if "\npass\n" in wanted else 1):
-                print(f"{text}\n{queues}, show {show}: wanted\n{wanted}got, with status {done.returncode},\n{done.stdout}")
+            done = subprocess.run(program, input=text.encode("latin-1"), capture_output=True)
+            output, status = done.stdout.decode("latin-1"), int(bool(drawn.races()))
+            compared, races = compared + 1, races + len(drawn.races())
+            if (output, done.returncode) != (wanted, status):
+                print(f"{text!r}\n{queues}, show {show}: wanted\n{wanted}got, with status {done.returncode},\n{output}")
                 return 1
     print(f"{compared} outputs are the same, with {races} races")
     return 0

@@ -1,59 +1,84 @@
 #!/usr/bin/env python3
 """Prints what `msc check` prints for a chart, straight from the definitions of docs/MODEL.md.
 
-    verdict.py [--show N] pair|mailbox < CHART
+    verdict.py [--show N] pair|mailbox|single < CHART
 
 Each definition is a function of its own, written for a reader and not for speed; sets of events are
 numbers, with a bit for each event. It shares nothing with the crates, so that expected outputs can be
-taken from it. The text has to be a chart: it names no fault. The exit status is 0 for `pass`, 1 for races.
+taken from it. The text has to be a chart: it names no fault. It is read as bytes, each of which is a
+character here. The exit status is 0 for `pass`, 1 for races.
 """
 import argparse
 import re
 import sys
 
-TOKEN = re.compile(r"\s+|/\*.*?\*/|(?:'[^']*')+|\w+|.", re.DOTALL)
+TOKEN = re.compile(r"\s+|/\*.*?\*/|(?:'[^']*')+|\w+|.", re.DOTALL | re.ASCII)
 SIGNAL = re.compile(r"(in|out) (\w+)(?: , (\w+))?(?: \( [^)]*\))? (?:from|to) (\w+)", re.IGNORECASE)
 
 
 def statements(text):
-    """The statements of a text, without notes and comments: each its tokens with a space between two."""
-    tokens = [token for token in TOKEN.findall(text) if not token.isspace() and token[:2] != "/*"]
-    for statement in " ".join(tokens).split(" ;"):
-        yield re.sub(r" ?comment '.*", "", statement.strip(), flags=re.IGNORECASE)
+    """The statements of a text, without notes and comments: each the list of its tokens before its `;`.
+    A quoted text is one token, so what stands in it ends no statement."""
+    statement = []
+    for token in TOKEN.findall(text):
+        if token == ";":
+            has_comment = len(statement) > 1 and statement[-2].lower() == "comment"
+            yield statement[:-2] if has_comment else statement
+            statement = []
+        elif not token.isspace() and not token.startswith("/*"):
+            statement.append(token)
+
+
+def action_text(token):
+    """What is printed of an action: what its text holds, with apostrophes doubled, and `?` for each byte
+    below 32 or above 126."""
+    held = token[1:-1].replace("''", "'")
+    shown = "".join(byte if 32 <= ord(byte) <= 126 else "?" for byte in held)
+    return "action '" + shown.replace("'", "''") + "'"
 
 
 class Event:
-    """An output or an input on a line: the message's key is sender, receiver, name and number."""
+    """An event on a line: an output, an input, or a local event, which is an action."""
 
-    def __init__(self, line, segment, signal, names):
-        way, name, number, self.address = SIGNAL.fullmatch(signal).groups()
-        self.line, self.segment, self.is_output = line, segment, way.lower() == "out"
-        ends = [line, names.index(self.address)]
+    def __init__(self, line, segment, statement, names):
+        self.line, self.segment, self.word = line, segment, statement[0].lower()
+        self.is_output, self.is_input = self.word == "out", self.word == "in"
+        self.is_local = self.word == "action"
+        # the instance decides when it comes
+        self.is_controlled = self.is_output or self.is_local
+        if self.is_local:
+            self.text = action_text(statement[1])
+        else:
+            self.read_signal(" ".join(statement), names)
+
+    def read_signal(self, signal, names):
+        """An output or an input: the message's key is sender, receiver, name and number."""
+        _, name, number, address = SIGNAL.fullmatch(signal).groups()
+        ends = [self.line, names.index(address)]
         self.sender, self.receiver = ends if self.is_output else reversed(ends)
         self.key = (self.sender, self.receiver, name, number)
         message = name if number is None else f"{name}, {number}"
-        self.text = f"{way.lower()} {message} {'to' if self.is_output else 'from'} {self.address}"
+        self.text = f"{self.word} {message} {'to' if self.is_output else 'from'} {address}"
 
 
 class Chart:
     def __init__(self, text, queues):
         lines = list(statements(text))
-        self.name, self.queues = lines[0].split()[1], queues
-        self.names = [line.split()[1] for line in lines if re.match("instance ", line, re.IGNORECASE)]
+        self.name, self.queues = lines[0][1], queues
+        self.names = [statement[1] for statement in lines if statement[0].lower() == "instance"]
         self.events = []
         line, segment, shared = -1, 0, False
         for statement in lines:
-            word = statement.split(" ")[0].lower()
+            word = statement[0].lower()
             if word == "instance":
                 line, segment = line + 1, 0
             elif word in ("concurrent", "endconcurrent"):
                 shared, segment = word == "concurrent", segment + 1
-            elif word in ("in", "out"):
+            elif word in ("in", "out", "action"):
                 self.events.append(Event(line, segment, statement, self.names))
                 segment += not shared
         self.all = range(len(self.events))
-        ends = {(event.is_output, event.key): e for e, event in enumerate(self.events)}
-        self.partner = [ends[not event.is_output, event.key] for event in self.events]
+        self.partner = [self.partner_of(e) for e in self.all]
         self.drawn_before = [self.set_of(d for d in self.all if self.before(d, e)) for e in self.all]
         self.enforced = self.enforced_order()
 
@@ -61,8 +86,18 @@ class Chart:
     def set_of(numbers):
         return sum(1 << number for number in numbers)
 
+    def partner_of(self, e):
+        """The event at the other end of the message of e; a local event is its own."""
+        if self.events[e].is_local:
+            return e
+        ends = [x for x in self.all if not self.events[x].is_local and self.events[x].key == self.events[e].key]
+        return next(x for x in ends if x != e)
+
     def is_output(self, e):
         return self.events[e].is_output
+
+    def is_controlled(self, e):
+        return self.events[e].is_controlled
 
     def before(self, d, e):
         """d is drawn before e."""
@@ -70,9 +105,11 @@ class Chart:
         return first.line == second.line and first.segment < second.segment
 
     def queue(self, e):
-        """The queue of the message of e."""
+        """The queue of the message of e, which is no local event: one for each sender and receiver, for
+        each receiver, or for each message."""
         event = self.events[e]
-        return (event.sender, event.receiver) if self.queues == "pair" else event.receiver
+        queues = {"pair": (event.sender, event.receiver), "mailbox": event.receiver, "single": event.key}
+        return queues[self.queues]
 
     def enforced_order(self):
         """For each event the set of those that are enforced after it: the least relation of four rules,
@@ -80,7 +117,7 @@ class Chart:
         after = [0 for _ in self.all]
         for e in self.all:
             for f in self.all:
-                if self.before(e, f) and self.is_output(f) or self.is_output(e) and self.partner[e] == f:
+                if self.before(e, f) and self.is_controlled(f) or self.is_output(e) and self.partner[e] == f:
                     after[e] |= 1 << f
         outputs = [e for e in self.all if self.is_output(e)]
         while True:
@@ -109,12 +146,12 @@ class Chart:
         least event that may come next; until all events have occurred."""
         free = self.set_of(x for x in self.all if self.is_free(e, x))
         passed_on = [s for s in self.all if self.is_output(s) and free >> s & 1 and free >> self.partner[s] & 1]
-        run, past, sent = [], 0, {self.queue(x): [] for x in self.all}
+        run, past, sent = [], 0, {self.queue(x): [] for x in self.all if self.is_output(x)}
 
         def may_come(x):
             if past >> x & 1:
                 return False
-            if self.is_output(x):
+            if self.is_controlled(x):
                 return not self.drawn_before[x] & ~past
             return sent[self.queue(x)][:1] == [self.partner[x]]
 
@@ -131,7 +168,7 @@ class Chart:
             past |= 1 << x
             if self.is_output(x):
                 sent[self.queue(x)].append(x)
-            else:
+            elif not self.is_controlled(x):
                 sent[self.queue(x)].pop(0)
         return run
 
@@ -154,9 +191,9 @@ class Chart:
 def main():
     words = argparse.ArgumentParser(description=__doc__, formatter_class=argparse.RawDescriptionHelpFormatter)
     words.add_argument("--show", type=int, default=2 ** 32 - 1, metavar="N")
-    words.add_argument("queues", choices=["pair", "mailbox"])
+    words.add_argument("queues", choices=["pair", "mailbox", "single"])
     options = words.parse_args()
-    chart = Chart(sys.stdin.read(), options.queues)
+    chart = Chart(sys.stdin.buffer.read().decode("latin-1"), options.queues)
     for line in chart.verdict(options.show):
         print(line)
     return int(bool(chart.races()))

@@ -1,58 +1,75 @@
 //! Orders of charts, and their rows of bits.
 
-ghost use Rattle.std.specs.Prelude.{◌≡◌, length, IfOk};
+ghost use Rattle.std.specs.Prelude.{◌≡◌, length};
 
 use crate::charts::chart_of;
-use example_charts::{OVERTAKING, RELAY, TWO_MAILBOXES, TWO_SENDERS};
-use msc_chart::{Chart, Event, Queues};
+use example_charts::{LOCAL_EVENTS, OVERTAKING, RELAY, TWO_MAILBOXES, TWO_SENDERS, WAITS};
+use msc_chart::{Event, Queues};
 use msc_order::Order;
 use std::alloc::{AllocError, Global};
 use std::test::Fail;
 
-/// An order of a text's chart: the enforced one of an architecture, or the visual one.
-fn order_of(alloc: Global, chart: &Chart, queues: Option<Queues>) -> Result<Order, AllocError>
-    ensures { IfOk result (λ order. length order ≡ length chart.now.events) }
+/// How many events an order is of, and whether it holds two of them in this order, and in the other.
+fn held(order: &Order, events: u32, e: Event, f: Event) -> (u32, bool, bool)
+    requires { events ≡ length order.now }
 {
-    match queues {
-        Some(queues) => Order::enforced(alloc, chart, queues),
-        None => Order::visual(alloc, chart),
+    if e >= events || f >= events {
+        return (events, false, false);
     }
+    (events, order.holds(e, f), order.holds(f, e))
 }
 
-/// How many events a text's chart has, and whether an order holds two of them in this order, and in
-/// the other.
-fn held(
+/// The same of the visual order of a text's chart.
+fn seen(alloc: Global, text: &[u8], e: Event, f: Event) -> Result<(u32, bool, bool), Fail> {
+    let chart = chart_of(alloc, text)?;
+    let order = Order::visual(alloc, &chart)?;
+    Ok(held(&order, chart.events(), e, f))
+}
+
+/// The same of the enforced order of a text's chart.
+fn enforced(
     alloc: Global,
     text: &[u8],
-    queues: Option<Queues>,
+    queues: Queues,
     e: Event,
     f: Event,
 ) -> Result<(u32, bool, bool), Fail> {
     let chart = chart_of(alloc, text)?;
-    let order = order_of(alloc, &chart, queues)?;
-    let events = chart.events();
-    if e >= events || f >= events {
-        return Ok((events, false, false));
-    }
-    Ok((events, order.holds(e, f), order.holds(f, e)))
+    let order = Order::enforced(alloc, &chart, queues)?;
+    Ok(held(&order, chart.events(), e, f))
 }
 
+/// Texts, two events, and what the visual order holds of them.
+const SEEN: [(&[u8], Event, Event, (u32, bool, bool)); 2] = [
+    (OVERTAKING, 2, 3, (4, true, false)),
+    (WAITS, 1, 2, (3, true, false)),
+];
+
 #[test]
-fn overtaking_is_drawn_one_way_and_enforced_the_other(rt: HostRuntime) -> Result<(), Fail> {
-    let drawn = held(rt.alloc(), OVERTAKING, None, 2, 3)?;
-    assert_eq!(rt; drawn, (4, true, false));
-    for queues in [Queues::Pair, Queues::Mailbox] {
-        let enforced = held(rt.alloc(), OVERTAKING, Some(queues), 2, 3)?;
-        assert_eq!(rt; enforced, (4, false, true), "{queues:?}");
+fn what_is_drawn_is_in_the_visual_order(rt: HostRuntime) -> Result<(), Fail> {
+    for (text, e, f, wanted) in SEEN {
+        assert_eq!(rt; seen(rt.alloc(), text, e, f)?, wanted, "{text:?}");
     }
     Ok(())
 }
 
+/// Texts, architectures, two events, and what the enforced order holds of them.
+const ENFORCED: [(&[u8], Queues, Event, Event, (u32, bool, bool)); 8] = [
+    (OVERTAKING, Queues::Pair, 2, 3, (4, false, true)),
+    (OVERTAKING, Queues::Mailbox, 2, 3, (4, false, true)),
+    (OVERTAKING, Queues::Single, 2, 3, (4, false, false)),
+    (RELAY, Queues::Pair, 2, 3, (6, false, false)),
+    (RELAY, Queues::Mailbox, 2, 3, (6, true, false)),
+    (RELAY, Queues::Single, 2, 3, (6, false, false)),
+    (WAITS, Queues::Mailbox, 1, 2, (3, false, false)),
+    (LOCAL_EVENTS, Queues::Single, 2, 3, (4, true, false)),
+];
+
 #[test]
-fn a_relay_is_enforced_in_a_mailbox_alone(rt: HostRuntime) -> Result<(), Fail> {
-    for (queues, wanted) in [(Queues::Pair, false), (Queues::Mailbox, true)] {
-        let enforced = held(rt.alloc(), RELAY, Some(queues), 2, 3)?;
-        assert_eq!(rt; enforced, (6, wanted, false), "{queues:?}");
+fn what_an_architecture_enforces(rt: HostRuntime) -> Result<(), Fail> {
+    for (text, queues, e, f, wanted) in ENFORCED {
+        let held = enforced(rt.alloc(), text, queues, e, f)?;
+        assert_eq!(rt; held, wanted, "{queues:?}: {text:?}");
     }
     Ok(())
 }
@@ -72,35 +89,48 @@ fn pairs(alloc: Global, order: &Order, events: u32) -> Result<Vec<(Event, Event)
     Ok(pairs)
 }
 
+/// Whether these are the pairs of the enforced order of a text's chart.
+fn are_enforced(
+    alloc: Global,
+    text: &[u8],
+    queues: Queues,
+    wanted: &[(Event, Event)],
+) -> Result<bool, Fail> {
+    let chart = chart_of(alloc, text)?;
+    let order = Order::enforced(alloc, &chart, queues)?;
+    Ok(pairs(alloc, &order, chart.events())?.as_slice() == wanted)
+}
+
+/// The pairs of `two_mailboxes` that mailboxes enforce.
+const ENFORCED_BY_MAILBOXES: &[(Event, Event)] = &[
+    (0, 1),
+    (0, 4),
+    (0, 7),
+    (1, 7),
+    (2, 3),
+    (2, 5),
+    (2, 6),
+    (3, 5),
+];
+
 #[test]
 fn the_enforced_pairs_of_two_mailboxes(rt: HostRuntime) -> Result<(), Fail> {
-    let alloc = rt.alloc();
-    let chart = chart_of(alloc, TWO_MAILBOXES)?;
-    assert_eq!(rt; chart.events(), 8);
-    let order = Order::enforced(alloc, &chart, Queues::Mailbox)?;
-    let held = pairs(alloc, &order, chart.events())?;
-    let wanted: [(Event, Event); 8] = [
-        (0, 1),
-        (0, 4),
-        (0, 7),
-        (1, 7),
-        (2, 3),
-        (2, 5),
-        (2, 6),
-        (3, 5),
-    ];
-    assert!(rt; held.as_slice() == wanted.as_slice());
+    let queues = Queues::Mailbox;
+    assert!(rt; are_enforced(rt.alloc(), TWO_MAILBOXES, queues, ENFORCED_BY_MAILBOXES)?);
     Ok(())
+}
+
+/// Whether an event's row of the enforced order of a text's chart under `Pair` is this word.
+fn is_row(alloc: Global, text: &[u8], e: Event, wanted: u64) -> Result<bool, Fail> {
+    let chart = chart_of(alloc, text)?;
+    let order = Order::enforced(alloc, &chart, Queues::Pair)?;
+    Ok(e < chart.events() && order.row(e) == [wanted].as_slice())
 }
 
 #[test]
 fn the_rows_of_two_senders(rt: HostRuntime) -> Result<(), Fail> {
-    let alloc = rt.alloc();
-    let chart = chart_of(alloc, TWO_SENDERS)?;
-    assert_eq!(rt; chart.events(), 4);
-    let enforced = Order::enforced(alloc, &chart, Queues::Pair)?;
-    for (e, wanted) in [(0, [2]), (1, [0]), (2, [0]), (3, [4])] {
-        assert!(rt; enforced.row(e) == wanted.as_slice(), "{e}");
+    for (e, wanted) in [(0, 2), (1, 0), (2, 0), (3, 4)] {
+        assert!(rt; is_row(rt.alloc(), TWO_SENDERS, e, wanted)?, "{e}");
     }
     Ok(())
 }

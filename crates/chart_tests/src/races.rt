@@ -1,7 +1,7 @@
-//! Races of charts, and verdicts.
+//! Races of charts, and verdicts. Those of the worked charts are tested as they are printed, in
+//! `program_tests`.
 
 use crate::charts::chart_of;
-use example_charts::{COREGION, CROSSING, NUMBERED, OVERTAKING, RELAY, TWO_MAILBOXES, TWO_SENDERS};
 use msc_chart::{Event, Queues};
 use msc_race::{Verdict, check};
 use std::alloc::{AllocError, Global};
@@ -33,37 +33,6 @@ fn are_races(
     Ok(listed(&verdict) == wanted)
 }
 
-/// A message from an instance to itself.
-const TO_ITSELF: &[u8] = b"msc t; instance a; out m to a; in m from a; endinstance; endmsc;";
-
-/// Texts, and the races of their charts under `Pair` and under `Mailbox`.
-const WORKED: [(&[u8], &[(Event, Event)], &[(Event, Event)]); 8] = [
-    (TWO_SENDERS, &[(1, 2)], &[(1, 2)]),
-    (RELAY, &[(2, 3)], &[]),
-    (OVERTAKING, &[(2, 3)], &[(2, 3)]),
-    (COREGION, &[], &[]),
-    (CROSSING, &[(0, 1), (2, 3)], &[(0, 1), (2, 3)]),
-    (NUMBERED, &[], &[]),
-    (TWO_MAILBOXES, &[(4, 5), (6, 7)], &[(4, 5), (6, 7)]),
-    (TO_ITSELF, &[], &[]),
-];
-
-#[test]
-fn the_race_lists_of_the_worked_charts(rt: HostRuntime) -> Result<(), Fail> {
-    let alloc = rt.alloc();
-    for (text, pair, mailbox) in WORKED {
-        assert!(rt;
-            are_races(alloc, text, Queues::Pair, pair)?,
-            "pair: {text:?}"
-        );
-        assert!(rt;
-            are_races(alloc, text, Queues::Mailbox, mailbox)?,
-            "mailbox: {text:?}"
-        );
-    }
-    Ok(())
-}
-
 #[test]
 fn what_follows_the_queue_rule_is_enforced(rt: HostRuntime) -> Result<(), Fail> {
     assert!(rt; are_races(rt.alloc(), REPLY, Queues::Pair, &[(2, 4), (3, 4)])?);
@@ -85,39 +54,64 @@ fn messages(alloc: Global, count: u32, reversed: bool) -> Result<String, AllocEr
     Ok(text)
 }
 
-/// How many races so many messages in reverse have, with the first and the last.
-fn reversed(
+/// How many races there are, the first and the last.
+type Summary = (usize, Option<(Event, Event)>, Option<(Event, Event)>);
+
+/// The races of so many messages from a to b, in one order or the inputs in reverse.
+fn races_of(
     alloc: Global,
     count: u32,
+    reversed: bool,
     queues: Queues,
-) -> Result<(usize, Option<(Event, Event)>, Option<(Event, Event)>), Fail> {
-    let text = messages(alloc, count, true)?;
+) -> Result<Summary, Fail> {
+    let text = messages(alloc, count, reversed)?;
     let chart = chart_of(alloc, text.as_bytes())?;
     let verdict = check(alloc, &chart, queues)?;
     let list = listed(&verdict);
     Ok((list.len(), list.first().copied(), list.last().copied()))
 }
 
-#[test]
-fn messages_in_reverse(rt: HostRuntime) -> Result<(), Fail> {
-    for queues in [Queues::Pair, Queues::Mailbox] {
-        let few = (496, Some((32, 33)), Some((62, 63)));
-        assert_eq!(rt; reversed(rt.alloc(), 32, queues)?, few);
-        let more = (528, Some((33, 34)), Some((64, 65)));
-        assert_eq!(rt; reversed(rt.alloc(), 33, queues)?, more);
-    }
-    Ok(())
-}
+/// Numbers of messages, whether their inputs are in reverse, architectures, and the races.
+const MANY: [(u32, bool, Queues, Summary); 7] = [
+    (
+        32,
+        true,
+        Queues::Pair,
+        (496, Some((32, 33)), Some((62, 63))),
+    ),
+    (
+        32,
+        true,
+        Queues::Mailbox,
+        (496, Some((32, 33)), Some((62, 63))),
+    ),
+    (
+        33,
+        true,
+        Queues::Pair,
+        (528, Some((33, 34)), Some((64, 65))),
+    ),
+    (
+        33,
+        true,
+        Queues::Mailbox,
+        (528, Some((33, 34)), Some((64, 65))),
+    ),
+    (1_024, false, Queues::Pair, (0, None, None)),
+    (1_024, false, Queues::Mailbox, (0, None, None)),
+    (
+        1_024,
+        false,
+        Queues::Single,
+        (523_776, Some((1_024, 1_025)), Some((2_046, 2_047))),
+    ),
+];
 
 #[test]
-fn a_thousand_messages_in_one_order(rt: HostRuntime) -> Result<(), Fail> {
-    let alloc = rt.alloc();
-    let text = messages(alloc, 1_024, false)?;
-    for queues in [Queues::Pair, Queues::Mailbox] {
-        assert!(rt;
-            are_races(alloc, text.as_bytes(), queues, &[])?,
-            "{queues:?}"
-        );
+fn many_messages(rt: HostRuntime) -> Result<(), Fail> {
+    for (count, reversed, queues, wanted) in MANY {
+        let races = races_of(rt.alloc(), count, reversed, queues)?;
+        assert_eq!(rt; races, wanted, "{count} messages, {queues:?}");
     }
     Ok(())
 }

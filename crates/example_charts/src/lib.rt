@@ -48,3 +48,16 @@ instance c; out m2 to b; out m3 to b; endinstance; instance d; out m4 to b; endi
 /// Kinds, a comment, a note, a message instance name and parameters.
 pub const KINDS_AND_COMMENTS: &[u8] = b"msc t; inst a, b; instance a : process p comment 'it''s'; \
 /* note */ out m, 1(x, y) to b; endinstance; instance b; in m, 1(z) from a; endinstance; endmsc;";
+
+/// Each of two instances does something by itself, before it sends or after it has taken.
+pub const LOCAL_EVENTS: &[u8] = b"msc t; instance a; action 'go'; out m to b; endinstance; \
+instance b; in m from a; action 'done'; endinstance; endmsc;";
+
+/// An action that is drawn before an input, and that does not keep the message from coming.
+pub const WAITS: &[u8] = b"msc t; instance a; out m to b; endinstance; \
+instance b; action 'wait'; in m from a; endinstance; endmsc;";
+
+/// Actions whose texts have apostrophes, bytes that are not printed as they are, and nothing at all.
+pub const TEXTS_OF_ACTIONS: &[u8] = b"msc t; instance a; out m to b; endinstance; \
+instance b; action 'it''s; /* no note */' comment 'it''s a comment'; \
+action 'gr\xc3\xbcn\tund\nrot ~'; action ''; in m from a; endinstance; endmsc;";

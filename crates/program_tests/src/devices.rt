@@ -1,5 +1,6 @@
 //! Readers and writers that fail, for tests.
 
+use std::alloc::Global;
 use std::io;
 use std::io::{ErrorKind, Read, Write};
 
@@ -52,6 +53,16 @@ pub struct Narrow {
     pub step: usize,
     pub calls: u32,
     pub fails_at: u32,
+}
+
+/// A writer that takes a byte at a time and fails at this call, from 1, or at none where it is 0.
+pub fn byte_writer(alloc: Global, fails_at: u32) -> Narrow {
+    Narrow {
+        written: Vec::new(alloc),
+        step: 1,
+        calls: 0,
+        fails_at,
+    }
 }
 
 impl Write for Narrow {

@@ -4,65 +4,147 @@ use msc_chart::ChartFault;
 use msc_lexer::LexFault;
 use msc_parser::ParseFault;
 use msc_tool::{Fault, write_fault};
+use std::alloc::Global;
 use std::test::Fail;
 
-/// A fault of charts of each kind that has a number, in the order of the numbers.
-const CHART_FAULTS: [ChartFault; 9] = [
-    ChartFault::TooManyInstances,
-    ChartFault::TwiceInstance(31),
-    ChartFault::HeaderWithoutBody(2),
-    ChartFault::UnknownAddress(2047),
-    ChartFault::TooManyMessages,
-    ChartFault::TwiceEvent(1),
-    ChartFault::UnmatchedOut(0),
-    ChartFault::UnmatchedIn(10),
-    ChartFault::Cyclic(4294967295),
+/// A fault of charts of each kind that has a number, the number, and its line.
+const CHART_FAULTS: [(ChartFault, u32, &str); 10] = [
+    (
+        ChartFault::TooManyInstances,
+        1,
+        "chart fault 1: more than 32 instances\n",
+    ),
+    (
+        ChartFault::TwiceInstance(31),
+        2,
+        "chart fault 2: section 31 repeats an instance name\n",
+    ),
+    (
+        ChartFault::HeaderWithoutBody(2),
+        3,
+        "chart fault 3: header name 2 has no section\n",
+    ),
+    (
+        ChartFault::UnknownAddress(2047),
+        4,
+        "chart fault 4: event 2047 has an unknown address\n",
+    ),
+    (
+        ChartFault::TooManyMessages,
+        5,
+        "chart fault 5: more than 1024 messages\n",
+    ),
+    (
+        ChartFault::TooManyActions,
+        11,
+        "chart fault 11: more than 1024 actions\n",
+    ),
+    (
+        ChartFault::TwiceEvent(1),
+        6,
+        "chart fault 6: event 1 repeats a message\n",
+    ),
+    (
+        ChartFault::UnmatchedOut(0),
+        7,
+        "chart fault 7: output 0 has no input\n",
+    ),
+    (
+        ChartFault::UnmatchedIn(10),
+        8,
+        "chart fault 8: input 10 has no output\n",
+    ),
+    (
+        ChartFault::Cyclic(4294967295),
+        9,
+        "chart fault 9: event 4294967295 precedes itself\n",
+    ),
 ];
+
+/// Whether the line of a fault is this.
+fn is_line(alloc: Global, fault: Fault, wanted: &str) -> Result<bool, Fail> {
+    let mut line = Vec::new(alloc);
+    write_fault(&mut line, &fault)?;
+    Ok(line.as_slice() == wanted.as_bytes())
+}
+
+/// Whether a fault's number and the message that its type prints are this line.
+fn is_message(alloc: Global, fault: ChartFault, number: u32, wanted: &str) -> Result<bool, Fail> {
+    let line = format!(in alloc; "chart fault {number}: {fault}\n")?;
+    Ok(line.as_str() == wanted)
+}
 
 #[test]
 fn a_chart_fault_is_printed_as_its_number_and_its_message(rt: HostRuntime) -> Result<(), Fail> {
-    let alloc = rt.alloc();
-    let mut number = 0_u32;
-    for fault in CHART_FAULTS {
-        number = number.wrapping_add(1);
-        let mut line = Vec::new(alloc);
-        write_fault(&mut line, &Fault::Chart(fault))?;
-        let wanted = format!(in alloc; "chart fault {number}: {fault}\n")?;
-        assert_eq!(rt; line.as_slice(), wanted.as_bytes(), "{fault}");
+    for (fault, number, wanted) in CHART_FAULTS {
+        let is = is_line(rt.alloc(), Fault::Chart(fault), wanted)?;
+        assert!(rt; is && is_message(rt.alloc(), fault, number, wanted)?, "{wanted}");
     }
     Ok(())
+}
+
+/// A lexical fault of each kind, its number and its place, and its line.
+const LEXICAL_FAULTS: [(LexFault, &str, &str); 5] = [
+    (
+        LexFault::TooLong,
+        "1",
+        "lexical fault 1: text longer than 1048576 bytes\n",
+    ),
+    (
+        LexFault::BadByte(0),
+        "2 at 0",
+        "lexical fault 2 at 0: byte that begins no token\n",
+    ),
+    (
+        LexFault::OpenNote(7),
+        "3 at 7",
+        "lexical fault 3 at 7: note without end\n",
+    ),
+    (
+        LexFault::OpenText(1_048_575),
+        "4 at 1048575",
+        "lexical fault 4 at 1048575: text without end\n",
+    ),
+    (
+        LexFault::LongName(10),
+        "5 at 10",
+        "lexical fault 5 at 10: name longer than 64 bytes\n",
+    ),
+];
+
+/// Whether a fault's number and place and the message that its type prints are this line.
+fn is_lexical_message(
+    alloc: Global,
+    fault: LexFault,
+    head: &str,
+    wanted: &str,
+) -> Result<bool, Fail> {
+    let line = format!(in alloc; "lexical fault {head}: {fault}\n")?;
+    Ok(line.as_str() == wanted)
 }
 
 #[test]
 fn a_lexical_fault_is_printed_as_its_number_its_place_and_its_message(
     rt: HostRuntime,
 ) -> Result<(), Fail> {
-    let alloc = rt.alloc();
-    for (head, fault) in [
-        ("1", LexFault::TooLong),
-        ("2 at 0", LexFault::BadByte(0)),
-        ("3 at 7", LexFault::OpenNote(7)),
-        ("4 at 1048575", LexFault::OpenText(1_048_575)),
-        ("5 at 10", LexFault::LongName(10)),
-    ] {
-        let mut line = Vec::new(alloc);
-        write_fault(&mut line, &Fault::Parse(ParseFault::Lex(fault)))?;
-        let wanted = format!(in alloc; "lexical fault {head}: {fault}\n")?;
-        assert_eq!(rt; line.as_slice(), wanted.as_bytes(), "{fault}");
+    for (fault, head, wanted) in LEXICAL_FAULTS {
+        let is = is_line(rt.alloc(), Fault::Parse(ParseFault::Lex(fault)), wanted)?;
+        assert!(rt; is && is_lexical_message(rt.alloc(), fault, head, wanted)?, "{wanted}");
     }
     Ok(())
 }
 
+/// The faults that have no number, and their lines.
+const OTHER_FAULTS: [(Fault, &str); 3] = [
+    (Fault::Memory, "memory fault\n"),
+    (Fault::Chart(ChartFault::Memory), "memory fault\n"),
+    (Fault::Device, "device fault\n"),
+];
+
 #[test]
 fn faults_without_a_number(rt: HostRuntime) -> Result<(), Fail> {
-    for (fault, wanted) in [
-        (Fault::Memory, b"memory fault\n".as_slice()),
-        (Fault::Chart(ChartFault::Memory), b"memory fault\n"),
-        (Fault::Device, b"device fault\n"),
-    ] {
-        let mut line = Vec::new(rt.alloc());
-        write_fault(&mut line, &fault)?;
-        assert_eq!(rt; line.as_slice(), wanted);
+    for (fault, wanted) in OTHER_FAULTS {
+        assert!(rt; is_line(rt.alloc(), fault, wanted)?, "{wanted}");
     }
     Ok(())
 }

@@ -1,9 +1,10 @@
 //! Reading an input to its end, and writing to devices that fail.
 
-use crate::devices::{Narrow, Unsteady};
+use crate::devices::{Unsteady, byte_writer};
 use example_charts::EMPTY;
 use msc_chart::{ChartFault, Queues};
 use msc_tool::{CALL_LIMIT, Fault, check_text, read_all, read_input, read_text};
+use std::alloc::Global;
 use std::test::Fail;
 
 #[test]
@@ -51,55 +52,50 @@ fn the_first_bytes_of_a_long_input(rt: HostRuntime) -> Result<(), Fail> {
 
 #[test]
 fn a_writer_that_takes_a_byte_at_a_time(rt: HostRuntime) -> Result<(), Fail> {
-    let mut writer = Narrow {
-        written: Vec::new(rt.alloc()),
-        step: 1,
-        calls: 0,
-        fails_at: 0,
-    };
+    let mut writer = byte_writer(rt.alloc(), 0);
     read_text(rt.alloc(), EMPTY, &mut writer)?;
     assert_eq!(rt; writer.written.as_slice(), b"msc t;\nendmsc;\n".as_slice());
     Ok(())
 }
 
+/// The fault of reading a chart without instances, to a writer that fails at this call.
+fn fault_at(alloc: Global, call: u32) -> Option<Fault> {
+    read_text(alloc, EMPTY, &mut byte_writer(alloc, call)).err()
+}
+
 #[test]
 fn failing_writes_are_a_device_fault(rt: HostRuntime) {
     for call in 1..16 {
-        let mut writer = Narrow {
-            written: Vec::new(rt.alloc()),
-            step: 1,
-            calls: 0,
-            fails_at: call,
-        };
-        let outcome = read_text(rt.alloc(), EMPTY, &mut writer).err();
-        assert_eq!(rt; outcome, Some(Fault::Device));
+        assert_eq!(rt; fault_at(rt.alloc(), call), Some(Fault::Device), "{call}");
     }
 }
 
 #[test]
 fn a_refused_text_leaves_the_writer_with_no_call(rt: HostRuntime) {
-    let mut writer = Narrow {
-        written: Vec::new(rt.alloc()),
-        step: 1,
-        calls: 0,
-        fails_at: 0,
-    };
+    let mut writer = byte_writer(rt.alloc(), 0);
     assert!(rt; read_text(rt.alloc(), b"msc t;", &mut writer).is_err());
     assert_eq!(rt; writer.calls, 0);
+}
+
+/// A text of the grammar whose chart is refused, and its canonical text.
+const NO_CHART: &[u8] = b"msc t; instance a; in m from a; out m to a; endinstance; endmsc;";
+const CANONICAL: &[u8] = b"msc t;\ninstance a;\n  in m from a;\n  out m to a;\nendinstance;\n\
+endmsc;\n";
+
+/// Whether both calls that read a text write this.
+fn are_read_as(alloc: Global, text: &[u8], wanted: &[u8]) -> Result<bool, Fault> {
+    let mut of_text = Vec::new(alloc);
+    read_text(alloc, text, &mut of_text)?;
+    let mut of_input = Vec::new(alloc);
+    read_input(alloc, &mut Unsteady::new(text), &mut of_input)?;
+    Ok(of_text.as_slice() == wanted && of_input.as_slice() == wanted)
 }
 
 #[test]
 fn a_text_whose_chart_is_refused_is_read(rt: HostRuntime) -> Result<(), Fail> {
     let alloc = rt.alloc();
-    let text = b"msc t; instance a; in m from a; out m to a; endinstance; endmsc;";
-    let wanted = b"msc t;\ninstance a;\n  in m from a;\n  out m to a;\nendinstance;\nendmsc;\n";
-    let mut of_text = Vec::new(alloc);
-    read_text(alloc, text, &mut of_text)?;
-    assert_eq!(rt; of_text.as_slice(), wanted.as_slice());
-    let mut of_input = Vec::new(alloc);
-    read_input(alloc, &mut Unsteady::new(text), &mut of_input)?;
-    assert_eq!(rt; of_input.as_slice(), wanted.as_slice());
-    let refused = check_text(alloc, text, Queues::Pair, 0, &mut of_text).err();
+    assert!(rt; are_read_as(alloc, NO_CHART, CANONICAL)?);
+    let refused = check_text(alloc, NO_CHART, Queues::Pair, 0, &mut byte_writer(alloc, 0)).err();
     assert_eq!(rt; refused, Some(Fault::Chart(ChartFault::Cyclic(0))));
     Ok(())
 }

@@ -1,7 +1,7 @@
 //! Runs of the program: words, standard input, what it prints, and its exit status.
 
 use crate::devices::{Narrow, Unflushed};
-use example_charts::{EMPTY, KINDS_AND_COMMENTS, ONE_MESSAGE};
+use example_charts::{EMPTY, KINDS_AND_COMMENTS, ONE_MESSAGE, TEXTS_OF_ACTIONS};
 use msc_command::command;
 use std::alloc::{AllocError, Global};
 use std::io::Write;
@@ -52,84 +52,126 @@ fn run_into<O: Write>(
     Ok((status, faults))
 }
 
+/// What a run has to print to standard output and to standard error, and its exit status.
+pub type Answer<'a> = (&'a [u8], &'a [u8], u8);
+
+/// Whether a run over these words and this standard input ends so.
+pub fn answers(
+    rt: &HostRuntime,
+    words: &[&str],
+    stdin: &[u8],
+    wanted: Answer,
+) -> Result<bool, AllocError> {
+    let run = run(rt, words, stdin)?;
+    let (output, faults, status) = wanted;
+    let printed = run.output.as_slice() == output && run.faults.as_slice() == faults;
+    Ok(printed && run.status == status)
+}
+
+/// Whether a run over these words is refused with words of `clap` on standard error alone.
+fn is_wrong(rt: &HostRuntime, words: &[&str]) -> Result<bool, AllocError> {
+    let run = run(rt, words, ONE_MESSAGE)?;
+    Ok(run.output.len() == 0 && run.faults.len() > 0 && run.status == 2)
+}
+
+/// Texts, and what `msc read` prints of them.
+const READ: [(&[u8], &[u8]); 5] = [
+    (EMPTY, b"msc t;\nendmsc;\n"),
+    (b"MSC t; ENDMSC;", b"msc t;\nendmsc;\n"),
+    (
+        KINDS_AND_COMMENTS,
+        b"msc t;\ninst a, b;\ninstance a : process p;\n  out m, 1(x, y) to b;\nendinstance;\n\
+instance b;\n  in m, 1(z) from a;\nendinstance;\nendmsc;\n",
+    ),
+    (
+        ONE_MESSAGE,
+        b"msc t;\ninstance a;\n  out m to b;\nendinstance;\n\
+instance b;\n  in m from a;\nendinstance;\nendmsc;\n",
+    ),
+    (
+        TEXTS_OF_ACTIONS,
+        b"msc t;\ninstance a;\n  out m to b;\nendinstance;\ninstance b;\n  \
+action 'it''s; /* no note */';\n  action 'gr\xc3\xbcn\tund\nrot ~';\n  action '';\n  \
+in m from a;\nendinstance;\nendmsc;\n",
+    ),
+];
+
 #[test]
 fn texts_that_are_read(rt: HostRuntime) -> Result<(), Fail> {
-    for (text, printed) in [
-        (EMPTY, b"msc t;\nendmsc;\n".as_slice()),
-        (b"MSC t; ENDMSC;", b"msc t;\nendmsc;\n"),
-        (
-            KINDS_AND_COMMENTS,
-            b"msc t;\ninst a, b;\ninstance a : process p;\n  out m, 1(x, y) to b;\nendinstance;\n\
-instance b;\n  in m, 1(z) from a;\nendinstance;\nendmsc;\n",
-        ),
-        (
-            ONE_MESSAGE,
-            b"msc t;\ninstance a;\n  out m to b;\nendinstance;\n\
-instance b;\n  in m from a;\nendinstance;\nendmsc;\n",
-        ),
-    ] {
-        let run = run(&rt, &["read", "-"], text)?;
-        assert_eq!(rt; run.output.as_slice(), printed);
-        assert_eq!(rt; run.faults.len(), 0);
-        assert_eq!(rt; run.status, 0);
+    for (text, printed) in READ {
+        let is = answers(&rt, &["read", "-"], text, (printed, b"", 0))?;
+        assert!(rt; is, "{printed:?}");
     }
     Ok(())
 }
 
+/// The words of one run of each command and architecture.
+const RUNS: [&[&str]; 4] = [
+    &["read", "-"],
+    &["check", "--queues", "pair", "-"],
+    &["check", "--queues", "mailbox", "-"],
+    &["check", "--queues", "single", "-"],
+];
+
+/// Texts without a draft, and the line of their fault.
+const REFUSED: [(&[u8], &[u8]); 17] = [
+    (
+        b"msc t; instance a; out m to env; endinstance; endmsc;",
+        b"grammar fault 2 at 28: env is not supported\n",
+    ),
+    (
+        b"msc t; instance a; out m to action; endinstance; endmsc;",
+        b"grammar fault 3 at 28: expected a name\n",
+    ),
+    (b"msc t; /* x", b"lexical fault 3 at 7: note without end\n"),
+    (b"msc t;", b"grammar fault 3 at 6: expected a section\n"),
+    (
+        b"msc t; instance a; out m t",
+        b"grammar fault 3 at 25: expected to\n",
+    ),
+    (
+        b"msc t; endmsc; x",
+        b"grammar fault 3 at 15: expected the end of the text\n",
+    ),
+    (b"", b"grammar fault 3 at 0: expected msc\n"),
+    (b"a.", b"lexical fault 2 at 1: byte that begins no token\n"),
+    (b"'it''", b"lexical fault 4 at 0: text without end\n"),
+    (
+        b"a0123456789012345678901234567890123456789012345678901234567890123456789",
+        b"lexical fault 5 at 0: name longer than 64 bytes\n",
+    ),
+    (b"msc ;", b"grammar fault 3 at 4: expected a name\n"),
+    (
+        b"msc t comment ;",
+        b"grammar fault 3 at 14: expected a text\n",
+    ),
+    (
+        b"msc t; instance a; concurrent; endinstance;",
+        b"grammar fault 3 at 31: expected an event\n",
+    ),
+    (
+        b"msc t; instance a; out m(;",
+        b"grammar fault 3 at 25: expected a parameter list\n",
+    ),
+    (
+        b"msc t",
+        b"grammar fault 3 at 5: expected the end of the statement\n",
+    ),
+    (
+        b"msc t; instance a; x",
+        b"grammar fault 3 at 19: expected an item\n",
+    ),
+    (
+        b"msc t; instance a; in m x",
+        b"grammar fault 3 at 24: expected from\n",
+    ),
+];
+
 #[test]
 fn texts_that_are_refused(rt: HostRuntime) -> Result<(), Fail> {
-    for (text, printed) in [
-        (
-            b"msc t; instance a; out m to env; endinstance; endmsc;".as_slice(),
-            b"grammar fault 2 at 28: env is not supported\n".as_slice(),
-        ),
-        (b"msc t; /* x", b"lexical fault 3 at 7: note without end\n"),
-        (b"msc t;", b"grammar fault 3 at 6: expected a section\n"),
-        (
-            b"msc t; instance a; out m t",
-            b"grammar fault 3 at 25: expected to\n",
-        ),
-        (
-            b"msc t; endmsc; x",
-            b"grammar fault 3 at 15: expected the end of the text\n",
-        ),
-        (b"", b"grammar fault 3 at 0: expected msc\n"),
-        (b"a.", b"lexical fault 2 at 1: byte that begins no token\n"),
-        (b"'it''", b"lexical fault 4 at 0: text without end\n"),
-        (
-            b"a0123456789012345678901234567890123456789012345678901234567890123456789",
-            b"lexical fault 5 at 0: name longer than 64 bytes\n",
-        ),
-        (b"msc ;", b"grammar fault 3 at 4: expected a name\n"),
-        (
-            b"msc t comment ;",
-            b"grammar fault 3 at 14: expected a text\n",
-        ),
-        (
-            b"msc t; instance a; concurrent; endinstance;",
-            b"grammar fault 3 at 31: expected an event\n",
-        ),
-        (
-            b"msc t; instance a; out m(;",
-            b"grammar fault 3 at 25: expected a parameter list\n",
-        ),
-        (
-            b"msc t",
-            b"grammar fault 3 at 5: expected the end of the statement\n",
-        ),
-        (
-            b"msc t; instance a; x",
-            b"grammar fault 3 at 19: expected an item\n",
-        ),
-        (
-            b"msc t; instance a; in m x",
-            b"grammar fault 3 at 24: expected from\n",
-        ),
-    ] {
-        let run = run(&rt, &["read", "-"], text)?;
-        assert_eq!(rt; run.output.len(), 0);
-        assert_eq!(rt; run.faults.as_slice(), printed);
-        assert_eq!(rt; run.status, 2);
+    for (text, line) in REFUSED {
+        let is = answers(&rt, &["read", "-"], text, (b"", line, 2))?;
+        assert!(rt; is, "{line:?}");
     }
     Ok(())
 }
@@ -137,80 +179,79 @@ fn texts_that_are_refused(rt: HostRuntime) -> Result<(), Fail> {
 #[test]
 fn texts_at_the_limit(rt: HostRuntime) -> Result<(), Fail> {
     let spaces = vec![in rt.alloc(); b' '; 1_048_577]?;
-    for (text, printed) in [
-        (
-            spaces.as_slice(),
-            b"lexical fault 1: text longer than 1048576 bytes\n".as_slice(),
-        ),
-        (
-            spaces.get(1..).unwrap_or(b""),
-            b"grammar fault 3 at 1048576: expected msc\n",
-        ),
-    ] {
-        let run = run(&rt, &["read", "-"], text)?;
-        assert_eq!(rt; run.output.len(), 0);
-        assert_eq!(rt; run.faults.as_slice(), printed);
-        assert_eq!(rt; run.status, 2);
-    }
+    let last = spaces.get(1..).unwrap_or(b"");
+    let too_long = b"lexical fault 1: text longer than 1048576 bytes\n";
+    assert!(rt; answers(&rt, RUNS[0], &spaces, (b"", too_long, 2))?);
+    let expected = b"grammar fault 3 at 1048576: expected msc\n";
+    assert!(rt; answers(&rt, RUNS[0], last, (b"", expected, 2))?);
     Ok(())
 }
+
+/// Words that name a file that is not there.
+const NO_FILES: [&[&str]; 2] = [
+    &["read", "no/such/file.msc"],
+    &["check", "--queues", "pair", "no/such/file.msc"],
+];
 
 #[test]
 fn a_file_that_is_not_there(rt: HostRuntime) -> Result<(), Fail> {
-    let run = run(&rt, &["read", "no/such/file.msc"], EMPTY)?;
-    assert_eq!(rt; run.output.len(), 0);
-    assert_eq!(rt; run.faults.as_slice(), b"device fault\n".as_slice());
-    assert_eq!(rt; run.status, 4);
+    for words in NO_FILES {
+        let is = answers(&rt, words, ONE_MESSAGE, (b"", b"device fault\n", 4))?;
+        assert!(rt; is, "{words:?}");
+    }
     Ok(())
 }
+
+/// Words that are no command.
+const WRONG: [&[&str]; 14] = [
+    &[],
+    &["read"],
+    &["read", "-", "-"],
+    &["read", "--no-such-option", "-"],
+    &["write", "-"],
+    &["check", "-"],
+    &["check", "--queues", "-"],
+    &["check", "--queues", "pair"],
+    &["check", "--queues", "bag", "-"],
+    &["check", "--queues", "pair", "-", "-"],
+    &["check", "--queues", "pair", "--show", "4294967296", "-"],
+    &["check", "--queues", "pair", "--show", "x", "-"],
+    &["read", "--show", "0", "-"],
+    &["read", "--queues", "pair", "-"],
+];
 
 #[test]
 fn wrong_usage(rt: HostRuntime) -> Result<(), Fail> {
-    for words in [
-        [].as_slice(),
-        &["read"],
-        &["read", "-", "-"],
-        &["read", "--no-such-option", "-"],
-        &["write", "-"],
-    ] {
-        let run = run(&rt, words, EMPTY)?;
-        assert_eq!(rt; run.output.len(), 0);
-        assert!(rt; run.faults.len() > 0);
-        assert_eq!(rt; run.status, 2);
+    for words in WRONG {
+        assert!(rt; is_wrong(&rt, words)?, "{words:?}");
     }
     Ok(())
 }
 
-#[test]
-fn help(rt: HostRuntime) -> Result<(), Fail> {
-    for words in [["--help"].as_slice(), &["read", "--help"], &["help"]] {
-        let run = run(&rt, words, b"")?;
-        assert!(rt; run.output.len() > 0);
-        assert_eq!(rt; run.faults.len(), 0);
-        assert_eq!(rt; run.status, 0);
-    }
-    Ok(())
+/// Whether a run over these words answers that the first call of its output failed.
+fn fails_at_once(rt: &HostRuntime, words: &[&str]) -> Result<bool, AllocError> {
+    let mut output = Narrow {
+        written: Vec::new(rt.alloc()),
+        step: usize::MAX,
+        calls: 0,
+        fails_at: 1,
+    };
+    let (status, faults) = run_into(rt, words, ONE_MESSAGE, &mut output)?;
+    Ok(faults.as_slice() == b"device fault\n".as_slice() && status == 4)
 }
 
-/// The words of one run of each command.
-const RUNS: [&[&str]; 3] = [
-    &["read", "-"],
-    &["check", "--queues", "pair", "-"],
-    &["check", "--queues", "mailbox", "-"],
-];
+/// Whether a run over these words flushes its output once, and answers that this failed.
+fn fails_when_flushed(rt: &HostRuntime, words: &[&str]) -> Result<bool, AllocError> {
+    let mut output = Unflushed { flushes: 0 };
+    let (status, faults) = run_into(rt, words, ONE_MESSAGE, &mut output)?;
+    let told = faults.as_slice() == b"device fault\n".as_slice() && status == 4;
+    Ok(told && output.flushes == 1)
+}
 
 #[test]
 fn an_output_that_fails_at_its_first_call(rt: HostRuntime) -> Result<(), Fail> {
     for words in RUNS {
-        let mut output = Narrow {
-            written: Vec::new(rt.alloc()),
-            step: usize::MAX,
-            calls: 0,
-            fails_at: 1,
-        };
-        let (status, faults) = run_into(&rt, words, ONE_MESSAGE, &mut output)?;
-        assert_eq!(rt; faults.as_slice(), b"device fault\n".as_slice());
-        assert_eq!(rt; status, 4);
+        assert!(rt; fails_at_once(&rt, words)?, "{words:?}");
     }
     Ok(())
 }
@@ -218,21 +259,14 @@ fn an_output_that_fails_at_its_first_call(rt: HostRuntime) -> Result<(), Fail> {
 #[test]
 fn an_output_that_fails_when_it_is_flushed(rt: HostRuntime) -> Result<(), Fail> {
     for words in RUNS {
-        let mut output = Unflushed { flushes: 0 };
-        let (status, faults) = run_into(&rt, words, ONE_MESSAGE, &mut output)?;
-        assert_eq!(rt; faults.as_slice(), b"device fault\n".as_slice());
-        assert_eq!(rt; status, 4);
-        assert_eq!(rt; output.flushes, 1);
+        assert!(rt; fails_when_flushed(&rt, words)?, "{words:?}");
     }
     Ok(())
 }
 
 #[test]
 fn version(rt: HostRuntime) -> Result<(), Fail> {
-    let run = run(&rt, &["--version"], b"")?;
-    assert_eq!(rt; run.output.as_slice(), b"msc 0.1.0\n".as_slice());
-    assert_eq!(rt; run.faults.len(), 0);
-    assert_eq!(rt; run.status, 0);
+    assert!(rt; answers(&rt, &["--version"], b"", (b"msc 0.1.0\n", b"", 0))?);
     Ok(())
 }
 
@@ -246,33 +280,43 @@ fn has(text: &[u8], part: &str) -> bool {
     false
 }
 
+/// Whether a run over these words prints help that has this part, and nothing else.
+fn helps(rt: &HostRuntime, words: &[&str], part: &str) -> Result<bool, AllocError> {
+    let run = run(rt, words, b"")?;
+    let is_help = run.faults.len() == 0 && run.status == 0;
+    Ok(is_help && has(run.output.as_slice(), part))
+}
+
+/// Words that ask for help, and a part of it.
+const HELP: [(&[&str], &str); 10] = [
+    (&["--help"], "Usage: msc"),
+    (&["help"], "Usage: msc"),
+    (&["read", "--help"], "Usage: msc read <FILE>\n"),
+    (
+        &["read", "--help"],
+        "  0  the canonical text was written\n",
+    ),
+    (&["read", "--help"], "  4  memory ran out"),
+    (
+        &["read", "--help"],
+        "Example:\n  msc read relay.msc\n",
+    ),
+    (
+        &["check", "--help"],
+        "Usage: msc check [OPTIONS] --queues <pair|mailbox|single> <FILE>\n",
+    ),
+    (&["check", "--help"], "  1  the chart has races"),
+    (&["check", "--help"], "  2  the text was refused"),
+    (
+        &["check", "--help"],
+        "Example:\n  msc check --queues pair --show 1 relay.msc\n",
+    ),
+];
+
 #[test]
-fn help_of_each_command(rt: HostRuntime) -> Result<(), Fail> {
-    for (command, parts) in [
-        (
-            "read",
-            [
-                "Usage: msc read <FILE>\n",
-                "  0  the canonical text was written\n",
-                "  4  memory ran out",
-                "Example:\n  msc read relay.msc\n",
-            ],
-        ),
-        (
-            "check",
-            [
-                "Usage: msc check [OPTIONS] --queues <pair|mailbox> <FILE>\n",
-                "  1  the chart has races",
-                "  2  the text was refused",
-                "Example:\n  msc check --queues pair --show 1 relay.msc\n",
-            ],
-        ),
-    ] {
-        let run = run(&rt, &[command, "--help"], b"")?;
-        for part in parts {
-            assert!(rt; has(run.output.as_slice(), part), "{command}: {part}");
-        }
-        assert_eq!(rt; run.status, 0);
+fn help(rt: HostRuntime) -> Result<(), Fail> {
+    for (words, part) in HELP {
+        assert!(rt; helps(&rt, words, part)?, "{words:?}: {part}");
     }
     Ok(())
 }
@@ -280,8 +324,7 @@ fn help_of_each_command(rt: HostRuntime) -> Result<(), Fail> {
 #[test]
 fn wrong_words_are_told_under_the_name_of_the_program(rt: HostRuntime) -> Result<(), Fail> {
     let run = run(&rt, &["check", "-"], b"")?;
-    let usage = "Usage: msc check --queues <pair|mailbox> <FILE>\n";
+    let usage = "Usage: msc check --queues <pair|mailbox|single> <FILE>\n";
     assert!(rt; has(run.faults.as_slice(), usage));
-    assert_eq!(rt; run.status, 2);
     Ok(())
 }
