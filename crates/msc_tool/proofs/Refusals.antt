@@ -92,6 +92,7 @@ no_chart {A} text d (charts.TwiceInstance i) is first = first_fault text d _ is 
 no_chart {A} text d (charts.HeaderWithoutBody k) is first = first_fault text d _ is (first (λ e. cc))
 no_chart {A} text d (charts.UnknownAddress e) is first = first_fault text d _ is (first (λ e. cc))
 no_chart {A} text d charts.TooManyMessages is first = first_fault text d _ is (first (λ e. cc))
+no_chart {A} text d charts.TooManyActions is first = first_fault text d _ is (first (λ e. cc))
 no_chart {A} text d (charts.TwiceEvent e) is first = first_fault text d _ is (first (λ e. cc))
 no_chart {A} text d (charts.UnmatchedOut e) is first = first_fault text d _ is (first (λ e. cc))
 no_chart {A} text d (charts.UnmatchedIn e) is first = first_fault text d _ is (first (λ e. cc))
