@@ -20,23 +20,23 @@ use std::{env, thread};
 const MOST_MESSAGES: u32 = 1024;
 
 /// Puts what the quotas allow, and closes.
-fn send_all<R: Wait>(rt: &R, outlets: Vec<Outlet>) {
+fn send_all(outlets: Vec<Outlet>) {
     for mut outlet in outlets {
         for m in 0..outlet.left() {
-            let _ = outlet.send(rt, m);
+            let _ = outlet.send(m, 0);
         }
-        outlet.close(rt);
+        outlet.close();
     }
 }
 
 /// Takes all messages of a queue, and answers how many there were.
-fn take_all<R: Wait>(rt: &R, inlet: &mut Inlet) -> u64 {
+fn take_all(mut inlet: Inlet) -> u64 {
     let mut taken = 0u64;
     for _ in 0..u64::MAX {
         if inlet.unended() == 0 {
             break;
         }
-        match inlet.take(rt) {
+        match inlet.take(0) {
             Taken::Message(..) => taken = taken.wrapping_add(1),
             Taken::Ended(_) => {}
             Taken::Nothing => thread::yield_now(),
@@ -46,40 +46,35 @@ fn take_all<R: Wait>(rt: &R, inlet: &mut Inlet) -> u64 {
 }
 
 /// Sends and takes, each sender in a thread; answers how many messages were taken, where all
-/// threads could be started. The inlets are lent: a sender whose inlet was dropped would not end.
+/// threads could be started.
 fn run<R: Threads + Wait + Sync>(
     rt: &R,
     senders: Vec<Vec<Outlet>>,
-    inlets: &mut [Inlet],
+    inlets: Vec<Inlet>,
 ) -> Option<u64> {
     thread::scope(thread::scope_env(), rt, |scope| {
         for outlets in senders {
-            if scope.spawn(move || send_all(rt, outlets)).is_err() {
+            if scope.spawn(move || send_all(outlets)).is_err() {
                 return None;
             }
         }
         let mut taken = 0u64;
-        for inlet in inlets.iter_mut() {
-            taken = taken.wrapping_add(take_all(rt, inlet));
+        for inlet in inlets {
+            taken = taken.wrapping_add(take_all(inlet));
         }
         Some(taken)
     })
 }
 
 /// The ends of so many queues with these quotas: for each sender its outlets, and all inlets.
-fn ends<R: Wait>(
-    rt: &R,
-    alloc: Global,
-    quotas: &[u32],
-    queues: u32,
-) -> Result<(Vec<Vec<Outlet>>, Vec<Inlet>)> {
+fn ends(alloc: Global, quotas: &[u32], queues: u32) -> Result<(Vec<Vec<Outlet>>, Vec<Inlet>)> {
     let mut senders = Vec::new(alloc);
     for _ in quotas {
         senders.push(Vec::new(alloc))?;
     }
     let mut inlets = Vec::new(alloc);
     for _ in 0..queues {
-        let (outlets, inlet) = queue(rt, alloc, quotas)?;
+        let (outlets, inlet) = queue(alloc, quotas)?;
         for (own, outlet) in senders.iter_mut().zip(outlets) {
             own.push(outlet)?;
         }
@@ -97,9 +92,9 @@ fn main(rt: HostRuntime) -> Result<()> {
         bail!("no sender");
     }
     let quotas = vec![in alloc; MOST_MESSAGES / count; count as usize]?;
-    let (senders, mut inlets) = ends(&rt, alloc, &quotas, queues)?;
+    let (senders, inlets) = ends(alloc, &quotas, queues)?;
     let start = Instant::now(&rt)?;
-    let taken = run(&rt, senders, &mut inlets).context("a thread could not be started")?;
+    let taken = run(&rt, senders, inlets).context("a thread could not be started")?;
     let time = start.elapsed(&rt)?.as_nanos();
     println!(rt; "{taken} messages")?;
     eprintln!(rt; "{time} nanoseconds")?;

@@ -101,7 +101,7 @@ module _ (lines : ℕ) (events : List ChartEvent) (e : ℕ) (low : List ℕ) (ma
       }
 
   -- at first e alone is reached
-  pub begun_sound : e < length events → length events ≤ 2048 → length low ≡ lines → ((k : ℕ) → k < length low → get_or low k 0 ≡ 4294967295)
+  pub begun_sound : e < length events → length events ≤ 3072 → length low ≡ lines → ((k : ℕ) → k < length low → get_or low k 0 ≡ 4294967295)
       → AreReached events e (set low (at events e).line (at events e).segment)
   unfolding line segment
   begun_sound within few len none =

@@ -8,7 +8,7 @@ use Rattle.msc_parser.specs.declared.tree.Item.{Item}
 use Rattle.msc_parser.specs.declared.tree.Item.TheVariants.{Single, Coregion}
 use Rattle.msc_parser.specs.declared.tree.Section.{Section}
 use Rattle.msc_parser.specs.Grammar.{Tree}
-use Rattle.msc_parser.specs.Drafts.{signals_in, signals_of}
+use Rattle.msc_parser.specs.Drafts.{statements_in, statements_of}
 use Rattle.msc_chart.specs.Events.{DraftEvent, drawn, events_of, events_of_item, events_of_items, events_of_sections, next_segment}
 use Rattle.msc_chart.specs.Lists.{StandsAt, Occurs}
 use Rattle.msc_chart.proofs.Places.{map-place}
@@ -55,8 +55,8 @@ module _ (line : ℕ) (own : List ℕ) where
             (r.0, simp length-append (omega (arith, r.1, room)), omega (arith, r.2, next_up segment i))
       ]
 
-  -- an event for each statement of an event
-  items_count : (segment : ℕ) (is : List Item) → length (events_of_items line own segment is) ≡ length (flat_map signals_in is)
+  -- an event for each statement
+  items_count : (segment : ℕ) (is : List Item) → length (events_of_items line own segment is) ≡ length (flat_map statements_in is)
   items_count segment [] = refl
   items_count segment (Single s ∷ is) = ap suc (items_count (segment + 1) is)
   items_count segment (Coregion ss ∷ is) = simp (length-append, length-map) (ap (λ n. length ss + n) (items_count (next_segment segment (Coregion ss)) is))
@@ -71,16 +71,16 @@ of_sections line (s ∷ ss) x h =
       | inr there ↦ let r = of_sections (line + 1) ss x there in (omega (arith, r.0), simp length-append (omega (arith, r.1)), omega (arith, r.2))
     ]
 
--- the sections have an event for each statement of an event in them
-sections_count : (line : ℕ) (ss : List Section) → length (events_of_sections line ss) ≡ length (signals_of ss)
+-- the sections have an event for each statement in them
+sections_count : (line : ℕ) (ss : List Section) → length (events_of_sections line ss) ≡ length (statements_of ss)
 sections_count line [] = refl
 sections_count line (s ∷ ss) =
     simp length-append
     (ap (λ n. n + length (events_of_sections (line + 1) ss)) (items_count line s.decl.name 0 s.items)
-    ∙ ap (λ n. length (flat_map signals_in s.items) + n) (sections_count (line + 1) ss))
+    ∙ ap (λ n. length (flat_map statements_in s.items) + n) (sections_count (line + 1) ss))
 
--- a draft has as many events as its text has statements of them
-pub events_count : (d : Tree) → length (events_of d) ≡ length (signals_of d.sections)
+-- a draft has as many events as its text has statements
+pub events_count : (d : Tree) → length (events_of d) ≡ length (statements_of d.sections)
 unfolding events_of
 events_count d = sections_count 0 d.sections
 

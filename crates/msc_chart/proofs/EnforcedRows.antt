@@ -5,12 +5,12 @@ use Rattle.std.specs.List.{list_any}
 use Rattle.std.proofs.lemmas.Bool.{ltb-true, eqb-true, eq-eqb, and_parts, and_from, or_parts, not_from_false}
 use Rattle.msc_chart.specs.declared.queue.Queues.TheVariants.{Mailbox}
 use Rattle.msc_chart.specs.Charts.{line, segment, kind, partner, message, is_output, is_controlled, before}
-use Rattle.msc_chart.specs.Events.{events_of, ends_of, instances_of}
+use Rattle.msc_chart.specs.Events.{events_of, acts_of, instances_of}
 use Rattle.msc_chart.specs.Drawings.{chart_events, chart_of}
 use Rattle.msc_chart.specs.Orders.{WiredChart, wired, queue, queue_number, sender_at, receiver_at, Enforced}
 use Rattle.msc_chart.specs.Orders.Enforced.{drawn, sent, joined, queued}
 use Rattle.msc_chart.specs.Lists.{Occurs}
-use Rattle.msc_chart.specs.Samples.{two_mailboxes, two_mailboxes_pairs, AreEnforcedPairs}
+use Rattle.msc_chart.specs.Samples.{actions, actions_pairs, two_mailboxes, two_mailboxes_pairs, AreEnforcedPairs}
 use Rattle.msc_chart.proofs.ListLemmas.{by_test, clash}
 use Rattle.msc_chart.proofs.Places.{any-place}
 use Rattle.msc_chart.proofs.Numbers.{any_below, none_of_any}
@@ -94,10 +94,21 @@ occurs_from pairs n e f h =
 
 -- the enforced order of two_mailboxes under Mailbox
 pub two_mailboxes_enforced : AreEnforcedPairs (wired Mailbox (chart_of two_mailboxes)) two_mailboxes_pairs
-unfolding chart_events events_of ends_of instances_of is_output is_controlled before line segment kind partner message queue queue_number sender_at receiver_at
+unfolding chart_events events_of acts_of instances_of is_output is_controlled before line segment kind partner message queue queue_number sender_at receiver_at
 two_mailboxes_enforced e f = (
   λ h. occurs_from two_mailboxes_pairs 8 e f (enforced_in (wired Mailbox (chart_of two_mailboxes)) two_mailboxes_pairs 8 refl refl refl h),
   enforced_from (wired Mailbox (chart_of two_mailboxes)) two_mailboxes_pairs
       (drawn refl refl, (sent refl refl, (joined {y = 1} (drawn refl refl) (sent refl refl), (sent refl refl, (drawn refl refl, (joined {y = 3} (drawn refl refl) (sent refl refl), (sent refl refl, (sent refl refl, tt))))))))
+      e f,
+)
+
+-- the enforced order of the chart with actions under Mailbox: what is drawn before an action is
+-- enforced, and what precedes it
+pub actions_enforced : AreEnforcedPairs (wired Mailbox (chart_of actions)) actions_pairs
+unfolding chart_events events_of acts_of instances_of is_output is_controlled before line segment kind partner message queue queue_number sender_at receiver_at
+actions_enforced e f = (
+  λ h. occurs_from actions_pairs 4 e f (enforced_in (wired Mailbox (chart_of actions)) actions_pairs 4 refl refl refl h),
+  enforced_from (wired Mailbox (chart_of actions)) actions_pairs
+      (drawn refl refl, (joined {y = 1} (drawn refl refl) (sent refl refl), (joined {y = 1} (drawn refl refl) (joined {y = 2} (sent refl refl) (drawn refl refl)), (sent refl refl, (joined {y = 2} (sent refl refl) (drawn refl refl), (drawn refl refl, tt))))))
       e f,
 )

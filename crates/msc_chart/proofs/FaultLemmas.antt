@@ -3,14 +3,14 @@ use Rattle.std.proofs.Common.{◌≡◌, ℕ, ◌+◌, ◌≤◌, inl, inr, refl
 use Rattle.std.proofs.lemmas.Bool.{cases_eq}
 use Rattle.msc_parser.specs.Grammar.{Tree}
 use Rattle.msc_chart.specs.declared.fault.ChartFault.{ChartFault}
-use Rattle.msc_chart.specs.declared.fault.ChartFault.TheVariants.{TooManyInstances, TwiceInstance, HeaderWithoutBody, UnknownAddress, TooManyMessages, TwiceEvent, UnmatchedOut, UnmatchedIn, Cyclic, Memory}
+use Rattle.msc_chart.specs.declared.fault.ChartFault.TheVariants.{TooManyInstances, TwiceInstance, HeaderWithoutBody, UnknownAddress, TooManyMessages, TooManyActions, TwiceEvent, UnmatchedOut, UnmatchedIn, Cyclic, Memory}
 use Rattle.msc_chart.specs.Faults.{Stands, rank, place, IsFirstFault, IsFaultless, IsClearBelow}
 
 -- the fault of a rank at a place
 abbrev pub fault_at : ℕ → ℕ → ChartFault
 fault_at k p =
-    get_or (Memory ∷ TooManyInstances ∷ TwiceInstance p ∷ HeaderWithoutBody p ∷ UnknownAddress p ∷ TooManyMessages ∷ TwiceEvent p
-    ∷ UnmatchedOut p ∷ UnmatchedIn p ∷ Cyclic p ∷ []) k Memory
+    get_or (Memory ∷ TooManyInstances ∷ TwiceInstance p ∷ HeaderWithoutBody p ∷ UnknownAddress p ∷ TooManyMessages ∷ TooManyActions
+    ∷ TwiceEvent p ∷ UnmatchedOut p ∷ UnmatchedIn p ∷ Cyclic p ∷ []) k Memory
 
 -- a fault is the one of its rank at its place
 fault_at-rank : (f : ChartFault) → fault_at (rank f) (place f) ≡ f
@@ -19,6 +19,7 @@ fault_at-rank (TwiceInstance i) = refl
 fault_at-rank (HeaderWithoutBody k) = refl
 fault_at-rank (UnknownAddress e) = refl
 fault_at-rank TooManyMessages = refl
+fault_at-rank TooManyActions = refl
 fault_at-rank (TwiceEvent e) = refl
 fault_at-rank (UnmatchedOut e) = refl
 fault_at-rank (UnmatchedIn e) = refl
@@ -57,6 +58,7 @@ rank-positive (TwiceInstance i) = omega arith
 rank-positive (HeaderWithoutBody k) = omega arith
 rank-positive (UnknownAddress e) = omega arith
 rank-positive TooManyMessages = omega arith
+rank-positive TooManyActions = omega arith
 rank-positive (TwiceEvent e) = omega arith
 rank-positive (UnmatchedOut e) = omega arith
 rank-positive (UnmatchedIn e) = omega arith
@@ -68,13 +70,14 @@ pub clear_first : (d : Tree) → IsClearBelow d 1
 clear_first d f h = rank-positive f
 
 -- and where none of the ranks up to cycles stands, none does: want of memory stands in no draft
-pub faultless : (d : Tree) → IsClearBelow d 10 → IsFaultless d
+pub faultless : (d : Tree) → IsClearBelow d 11 → IsFaultless d
 unfolding Stands
 faultless d clear TooManyInstances h = absurd (let l = clear TooManyInstances h in omega arith)
 faultless d clear (TwiceInstance i) h = absurd (let l = clear (TwiceInstance i) h in omega arith)
 faultless d clear (HeaderWithoutBody k) h = absurd (let l = clear (HeaderWithoutBody k) h in omega arith)
 faultless d clear (UnknownAddress e) h = absurd (let l = clear (UnknownAddress e) h in omega arith)
 faultless d clear TooManyMessages h = absurd (let l = clear TooManyMessages h in omega arith)
+faultless d clear TooManyActions h = absurd (let l = clear TooManyActions h in omega arith)
 faultless d clear (TwiceEvent e) h = absurd (let l = clear (TwiceEvent e) h in omega arith)
 faultless d clear (UnmatchedOut e) h = absurd (let l = clear (UnmatchedOut e) h in omega arith)
 faultless d clear (UnmatchedIn e) h = absurd (let l = clear (UnmatchedIn e) h in omega arith)

@@ -1,4 +1,4 @@
--- The places of a draft's outputs and inputs tell the drawn order of its chart.
+-- The places of a draft's events tell the drawn order of its chart.
 use Rattle.std.proofs.Common.{◌≡◌, ℕ, ◌+◌, ◌<◌, ◌≤◌, ◌↔◌, List, [], ◌∷◌, ◌++◌, length, map, suc, zero, refl, sym, ap, ◌∙◌, subst, arith, inl, inr}
 use Rattle.std.proofs.lemmas.Option.{slice_get_within, get_or_from_slice_get}
 use Rattle.std.proofs.lemmas.List.{length-map, map-append}
@@ -8,12 +8,13 @@ use Rattle.msc_parser.specs.declared.tree.Section.{Section}
 use Rattle.msc_parser.specs.Grammar.{Tree}
 use Rattle.msc_chart.specs.declared.event.ChartEvent.{ChartEvent}
 use Rattle.msc_chart.specs.Lists.{StandsAt, Occurs}
-use Rattle.msc_chart.specs.Events.{DraftEvent, drawn, ends_of, events_of, events_of_item, events_of_items, events_of_sections, next_segment}
+use Rattle.msc_chart.specs.Events.{DraftEvent, drawn, acts_of, events_of, events_of_item, events_of_items, events_of_sections, next_segment}
 use Rattle.msc_chart.specs.Charts.{at, line, segment, no_event}
 use Rattle.msc_chart.specs.Drawings.{chart_events, event_of}
 use Rattle.msc_chart.specs.Items.{Place, place, places_of, places_of_item, places_of_items, places_of_sections, ItemsAreDrawnInOrder}
 use Rattle.msc_chart.proofs.Places.{map-place, place-map}
 use Rattle.msc_chart.proofs.DraftEvents.{joined}
+use Rattle.msc_chart.proofs.Matched.{chart_count, chart-place}
 use Rattle.msc_chart.proofs.Drawn.{before_from, before_parts}
 
 -- an event of a draft with its place
@@ -179,11 +180,11 @@ sections_agree i (s ∷ ss) a b h m one_line =
 
 -- as many events as places
 pub each_has_an_event : (d : Tree) → length (places_of d) ≡ length (chart_events d)
-unfolding chart_events events_of
+unfolding events_of
 each_has_an_event d =
     ap length (sym (sections_places 0 d.sections)) ∙ length-map (placed_of_sections 0 d.sections) (λ b. b.1)
     ∙ sym (length-map (placed_of_sections 0 d.sections) (λ b. b.0)) ∙ ap length (sections_events 0 d.sections)
-    ∙ sym (length-map (events_of d) (event_of (ends_of d)))
+    ∙ sym (chart_count d)
 
 module _ (d : Tree) where
   -- the event that stands at a place of the text
@@ -191,15 +192,15 @@ module _ (d : Tree) where
     both : Placed
     occurs : Occurs (placed_of_sections 0 d.sections) both
     placed : both.1 ≡ p
-    stands : StandsAt (chart_events d) e (event_of (ends_of d) both.0)
+    stands : StandsAt (chart_events d) e (event_of (acts_of d) e both.0)
 
   event_at : (e : ℕ) (p : Place) → StandsAt (places_of d) e p → IsEventAt e p
-  unfolding chart_events events_of
+  unfolding events_of
   event_at e p h =
       let placed = placed_of_sections 0 d.sections in
       let r = map-place (λ b. b.1) placed e p (subst (λ l. StandsAt l e p) (sym (sections_places 0 d.sections)) h) in
       let here = subst (λ l. StandsAt l e r.0.0) (sections_events 0 d.sections) (place-map (λ b. b.0) placed e r.0 r.1) in
-      record { both = r.0; occurs = (e, r.1); placed = r.2; stands = place-map (event_of (ends_of d)) (events_of_sections 0 d.sections) e r.0.0 here }
+      record { both = r.0; occurs = (e, r.1); placed = r.2; stands = chart-place d e r.0.0 here }
 
   -- what is read of it
   read : (e : ℕ) (x : ChartEvent) → StandsAt (chart_events d) e x → at (chart_events d) e ≡ x

@@ -6,12 +6,14 @@ pub mod NumberingLemmas
 pub mod CycleLemmas
 pub mod EndLemmas
 pub mod DraftEvents
-pub mod ItemLemmas
 pub mod MatchingLemmas
 pub mod Places
+pub mod TwiceLemmas
 pub mod FaultLemmas
 pub mod Stages
 pub mod Matched
+pub mod ItemLemmas
+pub mod ActionLemmas
 pub mod Messages
 pub mod ChartingLemmas
 pub mod SortingLemmas

@@ -13,8 +13,12 @@ use Rattle.msc_chart.proofs.ListLemmas.{by_test, clash}
 use Rattle.msc_chart.proofs.Places.{any_from, occurs_from}
 use Rattle.std.specs.Prelude.{nat_eq}
 use Rattle.msc_chart.specs.declared.end.MessageEnd as code
-use Rattle.msc_chart.specs.Events.{MessageEnd, same_end, same_name, same_number, other_end}
-use Rattle.msc_chart.specs.Views.{end_view}
+use Rattle.msc_chart.specs.declared.end.Mark as coded
+use Rattle.msc_chart.specs.declared.end.Mark.TheVariants as marks
+use Rattle.msc_chart.specs.contracts.end.MarkPartialEq.TheImpl as derived
+use Rattle.msc_chart.specs.Events.{MessageEnd, Act, same_end, same_name, same_number, other_end, is_end}
+use Rattle.msc_chart.specs.Events.Act.{End, Action}
+use Rattle.msc_chart.specs.Views.{end_view, mark_view}
 
 -- the code compares ends as their names compare
 pub number_view : (a b : code.MessageEnd) → option_eq (λ x y. pointwise nat_eq x.now y.now) a.number b.number ≡ same_number (option_copied a.number) (option_copied b.number)
@@ -93,7 +97,30 @@ code_same-true a b h = same_end-true _ _ (sym (code_same-view a b) ∙ h)
 pub code_same-from : (a b : code.MessageEnd) → end_view a ≡ end_view b → code_same a b ≡ true
 code_same-from a b h = code_same-view a b ∙ ap (same_end (end_view a)) (sym h) ∙ same_end-refl (end_view a)
 
--- the tests of the two look-ups
+-- an act that is an end is that end
+pub is_end-true : (x : MessageEnd) (a : Act) → is_end x a ≡ true → a ≡ End x
+is_end-true x (End y) h = ap End (sym (same_end-true x y h))
+is_end-true x (Action text) h = absurd (true≢false (sym h))
+
+-- what the code computes for `==` of two marks
+abbrev pub mark_same : coded.Mark → coded.Mark → Bool
+mark_same = derived.eq-value.it
+
+-- the code finds the mark of an end where the definition finds the end
+pub mark_same-view : (e : code.MessageEnd) (m : coded.Mark) → mark_same (marks.End e) m ≡ is_end (end_view e) (mark_view m)
+mark_same-view e (marks.End x) = code_same-view e x
+mark_same-view e (marks.Action n t) = refl
+
+-- marks that show one end are found equal
+pub mark_same-from : (a b : coded.Mark) (x : MessageEnd) → mark_view a ≡ End x → mark_view b ≡ End x → mark_same a b ≡ true
+mark_same-from (marks.End a) (marks.End b) x p q =
+    let here : end_view a ≡ x = cc in
+    let there : end_view b ≡ x = cc in
+    code_same-from a b (here ∙ sym there)
+mark_same-from (marks.End a) (marks.Action n t) x p q = cc
+mark_same-from (marks.Action n t) b x p q = cc
+
+-- the tests of the two look-ups: a name is not found exactly where it does not occur
 pub unknown_test : (keys : List (Bor (List ℕ))) (n : List ℕ) (r : Bool) → r ≡ list_any (λ k. pointwise nat_eq n k.now) keys
     → (not r ≡ true → IsUnknown (map deref keys) n) × (IsUnknown (map deref keys) n → not r ≡ true)
 unknown_test keys n r is = (
@@ -104,11 +131,14 @@ unknown_test keys n r is = (
 )
 
 -- the other end is not found exactly where it does not occur
-pub unmatched_test : (keys : List code.MessageEnd) (x other : code.MessageEnd) (r : Bool) → end_view other ≡ other_end (end_view x) → r ≡ list_any (code_same other) keys
-    → (not r ≡ true → Occurs (map end_view keys) (other_end (end_view x)) → ⊥) × ((Occurs (map end_view keys) (other_end (end_view x)) → ⊥) → not r ≡ true)
-unmatched_test keys x other r same is = (
-  λ h there. clash (is ∙ any_from end_view (code_same other) (other_end (end_view x)) (λ k e. code_same-from other k (same ∙ sym e)) keys there) (not-true r h),
-  λ alone. by_test r
-      (λ yes. absurd (alone (occurs_from end_view (code_same other) (other_end (end_view x)) (λ k e. sym (code_same-true other k e) ∙ same) keys (sym is ∙ yes))))
-      (λ no. not_from_false r no),
-)
+pub unmatched_test : (keys : List coded.Mark) (x other : code.MessageEnd) (r : Bool) → end_view other ≡ other_end (end_view x) → r ≡ list_any (mark_same (marks.End other)) keys
+    → (not r ≡ true → Occurs (map mark_view keys) (End (other_end (end_view x))) → ⊥) × ((Occurs (map mark_view keys) (End (other_end (end_view x))) → ⊥) → not r ≡ true)
+unmatched_test keys x other r same is =
+    let y : Act = End (other_end (end_view x)) in
+    let passes : (k : coded.Mark) → mark_view k ≡ y → mark_same (marks.End other) k ≡ true = λ k e. mark_same-view other k ∙ ap (is_end (end_view other)) (e ∙ ap End (sym same)) ∙ same_end-refl (end_view other) in
+    let shows : (k : coded.Mark) → mark_same (marks.End other) k ≡ true → mark_view k ≡ y = λ k e. is_end-true (end_view other) (mark_view k) (sym (mark_same-view other k) ∙ e) ∙ ap End same in (
+      λ h there. clash (is ∙ any_from mark_view (mark_same (marks.End other)) y passes keys there) (not-true r h),
+      λ alone. by_test r
+          (λ yes. absurd (alone (occurs_from mark_view (mark_same (marks.End other)) y shows keys (sym is ∙ yes))))
+          (λ no. not_from_false r no),
+    )

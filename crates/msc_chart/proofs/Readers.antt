@@ -1,5 +1,5 @@
 -- What the readers of a chart read.
-use Rattle.std.proofs.Common.{◌≡◌, ℕ, suc, ◌+◌, ◌*◌, ◌<◌, ◌≤◌, List, length, get_or, refl, sym, ap, ◌∙◌, subst, arith}
+use Rattle.std.proofs.Common.{◌≡◌, ℕ, suc, ◌+◌, ◌*◌, ◌<◌, ◌≤◌, List, [], length, get_or, refl, sym, ap, ◌∙◌, subst, arith}
 use Rattle.std.proofs.Math.Nat.{mul-le-mul_right, suc-mul}
 use Rattle.std.proofs.lemmas.Option.{get_or_from_slice_get, slice_get_read}
 use Rattle.msc_chart.specs.declared.event.ChartEvent.{ChartEvent}
@@ -57,6 +57,14 @@ seen_message inside now view slice same m x below here =
     let messages : slice ≡ now.messages = same ∙ ap (λ (d : Drawing). d.messages) view in
     let e : x ≡ get_or now.messages m x = here ∙ ap (λ (l : List Message). get_or l m x) messages in
     sym (get_or_from_slice_get now.messages m x no_message (slice_get_read now.messages (length now.messages) m x refl below e))
+
+-- the same of its texts
+pub seen_text : (inside now : Drawing) → inside ≡ now → (slice : List (List ℕ)) → slice ≡ inside.actions
+    → (i k : ℕ) (x : List ℕ) → i ≡ k → k < length now.actions → x ≡ get_or slice i x → x ≡ get_or now.actions k []
+seen_text inside now view slice same i k x number below here =
+    let texts : slice ≡ now.actions = same ∙ ap (λ (d : Drawing). d.actions) view in
+    let e : x ≡ get_or now.actions k x = here ∙ ap (λ (l : List (List ℕ)). get_or l i x) texts ∙ ap (λ (j : ℕ). get_or now.actions j x) number in
+    sym (get_or_from_slice_get now.actions k x [] (slice_get_read now.actions (length now.actions) k x refl below e))
 
 -- queue numbers are small
 pub small_queue : (s n r : ℕ) → s < n → r < n → n ≤ 32 → s * n + r < 1024

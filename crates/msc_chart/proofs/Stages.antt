@@ -1,23 +1,27 @@
 -- The faults in their order: what each stage of the building has found.
 use Rattle.std.proofs.lemmas.Bool.{cases_lt}
-use Rattle.std.proofs.Common.{inl, inr, ◌≡◌, ℕ, ◌<◌, ◌≤◌, Bool, true, false, List, [], ◌∷◌, length, map, Bor, refl, sym, ap, ◌∙◌, subst, arith}
+use Rattle.std.proofs.Common.{inl, inr, ◌≡◌, ℕ, ◌+◌, ◌<◌, ◌≤◌, Bool, true, false, List, [], ◌∷◌, length, map, Bor, refl, sym, ap, ◌∙◌, subst, arith}
 use Rattle.std.specs.Map.Iter.{deref}
 use Rattle.std.specs.Cmp.Lexicographic.{pointwise, bytes_decides}
-use Rattle.std.specs.Prelude.{nat_eq}
+use Rattle.std.specs.Prelude.{nat_eq, count_by}
 use Rattle.std.proofs.lemmas.List.{length-map}
 use Rattle.std.proofs.lemmas.Option.{slice_get_within}
 use Rattle.msc_parser.specs.Grammar.{Tree}
-use Rattle.msc_chart.specs.declared.fault.ChartFault.TheVariants.{TooManyInstances, TwiceInstance, HeaderWithoutBody, UnknownAddress, TooManyMessages, TwiceEvent, UnmatchedOut, UnmatchedIn}
-use Rattle.msc_chart.specs.declared.end.MessageEnd as code
+use Rattle.msc_chart.specs.declared.fault.ChartFault.TheVariants.{TooManyInstances, TwiceInstance, HeaderWithoutBody, UnknownAddress, TooManyMessages, TooManyActions, TwiceEvent, UnmatchedOut, UnmatchedIn}
+use Rattle.msc_chart.specs.declared.end.Mark as code
 use Rattle.msc_chart.specs.declared.end.DraftEvent as coded
-use Rattle.msc_chart.specs.Events.{MessageEnd, instances_of, header_of, ends_of, events_of, address_of}
-use Rattle.msc_chart.specs.Views.{end_view, event_view}
+use Rattle.msc_chart.specs.declared.end.Act as code_act
+use Rattle.msc_chart.specs.declared.end.Act.TheVariants as code_acts
+use Rattle.msc_chart.specs.Events.{Act, instances_of, header_of, acts_of, events_of, address_of, is_action}
+use Rattle.msc_chart.specs.Events.Act.{End}
+use Rattle.msc_chart.specs.Views.{act_view, event_view, mark_view, mark_of, marks_from}
 use Rattle.msc_chart.specs.Numbering.{AreNewBelow, IsFirstRepeat, AreNumbered}
 use Rattle.msc_chart.specs.Lists.{IsLeast}
-use Rattle.msc_chart.specs.Faults.{Stands, HoldsAt, IsRepeat, IsUnknown, IsUnmatched, AreTooMany, IsFirstFault, IsClearBelow}
+use Rattle.msc_chart.specs.Faults.{Stands, HoldsAt, IsRepeat, IsTwice, IsUnknown, IsUnmatched, OfEnd, AreTooMany, IsFirstFault, IsClearBelow}
 use Rattle.msc_chart.proofs.FaultLemmas.{first_of, clear_next, clear_first}
 use Rattle.msc_chart.proofs.Places.{repeat_from, no_repeat}
-use Rattle.msc_chart.proofs.MatchingLemmas.{code_same, code_same-true, code_same-from}
+use Rattle.msc_chart.proofs.MatchingLemmas.{mark_same}
+use Rattle.msc_chart.proofs.TwiceLemmas.{AreOwn, twice_from, none_twice}
 
 -- what the code computes for `==` of two names
 abbrev pub same_bytes : Bor (List ℕ) → Bor (List ℕ) → Bool
@@ -76,10 +80,10 @@ module _ (d : Tree) where
   unfolding instances_of
   names_count names seen = simp length-map at (ap length seen)
 
-  -- there are as many ends as events
-  pub ends_count : (ends : List code.MessageEnd) → map end_view ends ≡ ends_of d → length ends ≡ length (events_of d)
-  unfolding ends_of
-  ends_count ends drawn = simp length-map at (ap length drawn)
+  -- there are as many marks as events
+  pub marks_count : (marks : List code.Mark) → map mark_view marks ≡ acts_of d → length marks ≡ length (events_of d)
+  unfolding acts_of
+  marks_count marks drawn = simp length-map at (ap length drawn)
 
   -- faults of the instance names
   module _ (names : List (Bor (List ℕ))) (seen : map deref names ≡ instances_of d) where
@@ -106,114 +110,145 @@ module _ (d : Tree) where
     unfolding Stands header_of
     known_headers_clear clear none = clear_next d 3 clear (λ p s. none p (subst (λ ns. HoldsAt (IsUnknown ns) (header_of d) p) (sym seen) s))
 
-    module _ (ends : List code.MessageEnd) (drawn : map end_view ends ≡ ends_of d) where
+    module _ (marks : List code.Mark) (drawn : map mark_view marks ≡ acts_of d) where
       -- the end at place k has the address of no section
-      abbrev Away : List (List ℕ) → List MessageEnd → ℕ → Type 0
-      Away ns es k = HoldsAt (λ x. IsUnknown ns (address_of x)) es k
+      abbrev Away : List (List ℕ) → List Act → ℕ → Type 0
+      Away ns ys k = HoldsAt (OfEnd (λ x. IsUnknown ns (address_of x))) ys k
 
       -- what is away for the code is away in the draft
-      there : (k : ℕ) → Away (map deref names) (map end_view ends) k → Away (instances_of d) (ends_of d) k
-      there k h = subst (λ ns. Away ns (ends_of d) k) seen (subst (λ es. Away (map deref names) es k) drawn h)
+      there : (k : ℕ) → Away (map deref names) (map mark_view marks) k → Away (instances_of d) (acts_of d) k
+      there k h = subst (λ ns. Away ns (acts_of d) k) seen (subst (λ ys. Away (map deref names) ys k) drawn h)
 
       -- and the other way round
-      back : (k : ℕ) → Away (instances_of d) (ends_of d) k → Away (map deref names) (map end_view ends) k
-      back k h = subst (λ ns. Away ns (map end_view ends) k) (sym seen) (subst (λ es. Away (instances_of d) es k) (sym drawn) h)
+      back : (k : ℕ) → Away (instances_of d) (acts_of d) k → Away (map deref names) (map mark_view marks) k
+      back k h = subst (λ ns. Away ns (map mark_view marks) k) (sym seen) (subst (λ ys. Away (instances_of d) ys k) (sym drawn) h)
 
       -- the first end with such an address is the first fault, where no lower one stands
-      pub unknown_address_first : IsClearBelow d 4 → (e : ℕ) → IsLeast (HoldsAt (λ x. IsUnknown (map deref names) (address_of x)) (map end_view ends)) e → IsFirstFault d (UnknownAddress e)
+      pub unknown_address_first : IsClearBelow d 4 → (e : ℕ) → IsLeast (HoldsAt (OfEnd (λ x. IsUnknown (map deref names) (address_of x))) (map mark_view marks)) e → IsFirstFault d (UnknownAddress e)
       unfolding Stands
       unknown_address_first clear e h =
           first_of d 4 e clear (UnknownAddress e) refl refl (there e h.itself) (λ p s. least_le h p (back p s))
 
       -- where each address has its section, no fault of that rank stands
-      pub known_addresses_clear : IsClearBelow d 4 → ((k : ℕ) → HoldsAt (λ x. IsUnknown (map deref names) (address_of x)) (map end_view ends) k → ⊥) → IsClearBelow d 5
+      pub known_addresses_clear : IsClearBelow d 4 → ((k : ℕ) → HoldsAt (OfEnd (λ x. IsUnknown (map deref names) (address_of x))) (map mark_view marks) k → ⊥) → IsClearBelow d 5
       unfolding Stands
       known_addresses_clear clear none = clear_next d 4 clear (λ p s. none p (back p s))
 
-  -- faults of the ends
-  module _ (ends : List code.MessageEnd) (drawn : map end_view ends ≡ ends_of d) where
+  -- faults of the messages and actions
+  module _ (marks : List code.Mark) (drawn : map mark_view marks ≡ acts_of d) where
     -- more than 1,024 outputs or inputs are the first fault, where no lower one stands
-    pub many_messages_first : IsClearBelow d 5 → AreTooMany (map end_view ends) → IsFirstFault d TooManyMessages
+    pub many_messages_first : IsClearBelow d 5 → AreTooMany (map mark_view marks) → IsFirstFault d TooManyMessages
     unfolding Stands
     many_messages_first clear many = first_of d 5 0 clear TooManyMessages refl refl (subst AreTooMany drawn many) (λ p h. omega arith)
 
     -- with at most so many no fault of that rank stands
-    pub few_messages_clear : IsClearBelow d 5 → (AreTooMany (map end_view ends) → ⊥) → IsClearBelow d 6
+    pub few_messages_clear : IsClearBelow d 5 → (AreTooMany (map mark_view marks) → ⊥) → IsClearBelow d 6
     unfolding Stands
     few_messages_clear clear few = clear_next d 5 clear (λ p h. few (subst AreTooMany (sym drawn) h))
 
-    -- the first end that repeats an earlier one is the first fault, where no lower one stands
-    pub repeated_end_first : IsClearBelow d 6 → (e : ℕ) → IsFirstRepeat code_same ends e → IsFirstFault d (TwiceEvent e)
+    -- more than 1,024 actions are the first fault, where no lower one stands
+    pub many_actions_first : IsClearBelow d 6 → 1024 < count_by is_action (map mark_view marks) → IsFirstFault d TooManyActions
     unfolding Stands
-    repeated_end_first clear e h =
-        let l = least_repeat end_view code_same ends code_same-true code_same-from (ends_of d) drawn e h in
-        first_of d 6 e clear (TwiceEvent e) refl refl l.itself (least_le l)
+    many_actions_first clear many = first_of d 6 0 clear TooManyActions refl refl (subst (λ ys. 1024 < count_by is_action ys) drawn many) (λ p h. omega arith)
 
-    -- where all ends differ, no event repeats one
-    pub distinct_ends_clear : IsClearBelow d 6 → AreNewBelow code_same ends (length ends) → IsClearBelow d 7
+    -- with at most so many no fault of that rank stands
+    pub few_actions_clear : IsClearBelow d 6 → (1024 < count_by is_action (map mark_view marks) → ⊥) → IsClearBelow d 7
     unfolding Stands
-    distinct_ends_clear clear new = clear_next d 6 clear (none_repeats end_view code_same ends code_same-from (ends_of d) drawn new)
+    few_actions_clear clear few = clear_next d 6 clear (λ p h. few (subst (λ ys. 1024 < count_by is_action ys) (sym drawn) h))
+
+    -- the first end that repeats an earlier one is the first fault, where no lower one stands
+    pub repeated_end_first : IsClearBelow d 7 → AreOwn marks → (e : ℕ) → IsFirstRepeat mark_same marks e → IsFirstFault d (TwiceEvent e)
+    unfolding Stands
+    repeated_end_first clear own e h =
+        first_of d 7 e clear (TwiceEvent e) refl refl (subst (λ ys. IsTwice ys e) drawn (twice_from marks own e h)) (λ p s. none_twice marks e p h.earlier (subst (λ ys. IsTwice ys p) (sym drawn) s))
+
+    -- where all marks differ, no event repeats one
+    pub distinct_ends_clear : IsClearBelow d 7 → AreNewBelow mark_same marks (length marks) → IsClearBelow d 8
+    unfolding Stands
+    distinct_ends_clear clear new =
+        clear_next d 7 clear (λ p h.
+        let here : IsTwice (map mark_view marks) p = subst (λ ys. IsTwice ys p) (sym drawn) h in
+        let past : length marks ≤ p = none_twice marks (length marks) p new here in
+        let within : p < length (map mark_view marks) = slice_get_within (map mark_view marks) p (End here.0) here.1 in
+        omega (arith, length-map marks mark_view))
 
     -- the end at place k is alone
-    Alone : Bool → List MessageEnd → ℕ → Type 0
-    Alone sends es k = HoldsAt (IsUnmatched sends es) es k
+    Alone : Bool → List Act → ℕ → Type 0
+    Alone sends ys k = HoldsAt (OfEnd (IsUnmatched sends ys)) ys k
 
     -- the first output without an input is the first fault, where no lower one stands
-    pub unmatched_output_first : IsClearBelow d 7 → (e : ℕ) → IsLeast (HoldsAt (IsUnmatched true (map end_view ends)) (map end_view ends)) e → IsFirstFault d (UnmatchedOut e)
+    pub unmatched_output_first : IsClearBelow d 8 → (e : ℕ) → IsLeast (HoldsAt (OfEnd (IsUnmatched true (map mark_view marks))) (map mark_view marks)) e → IsFirstFault d (UnmatchedOut e)
     unfolding Stands Alone
     unmatched_output_first clear e h =
-        first_of d 7 e clear (UnmatchedOut e) refl refl (subst (λ es. Alone true es e) drawn h.itself) (λ p s. least_le h p (subst (λ es. Alone true es p) (sym drawn) s))
+        first_of d 8 e clear (UnmatchedOut e) refl refl (subst (λ ys. Alone true ys e) drawn h.itself) (λ p s. least_le h p (subst (λ ys. Alone true ys p) (sym drawn) s))
 
     -- where each output has its input, no fault of that rank stands
-    pub matched_outputs_clear : IsClearBelow d 7 → ((k : ℕ) → HoldsAt (IsUnmatched true (map end_view ends)) (map end_view ends) k → ⊥) → IsClearBelow d 8
+    pub matched_outputs_clear : IsClearBelow d 8 → ((k : ℕ) → HoldsAt (OfEnd (IsUnmatched true (map mark_view marks))) (map mark_view marks) k → ⊥) → IsClearBelow d 9
     unfolding Stands Alone
-    matched_outputs_clear clear none = clear_next d 7 clear (λ p s. none p (subst (λ es. Alone true es p) (sym drawn) s))
+    matched_outputs_clear clear none = clear_next d 8 clear (λ p s. none p (subst (λ ys. Alone true ys p) (sym drawn) s))
 
     -- the first input without an output is the first fault, where no lower one stands
-    pub unmatched_input_first : IsClearBelow d 8 → (e : ℕ) → IsLeast (HoldsAt (IsUnmatched false (map end_view ends)) (map end_view ends)) e → IsFirstFault d (UnmatchedIn e)
+    pub unmatched_input_first : IsClearBelow d 9 → (e : ℕ) → IsLeast (HoldsAt (OfEnd (IsUnmatched false (map mark_view marks))) (map mark_view marks)) e → IsFirstFault d (UnmatchedIn e)
     unfolding Stands Alone
     unmatched_input_first clear e h =
-        first_of d 8 e clear (UnmatchedIn e) refl refl (subst (λ es. Alone false es e) drawn h.itself) (λ p s. least_le h p (subst (λ es. Alone false es p) (sym drawn) s))
+        first_of d 9 e clear (UnmatchedIn e) refl refl (subst (λ ys. Alone false ys e) drawn h.itself) (λ p s. least_le h p (subst (λ ys. Alone false ys p) (sym drawn) s))
 
     -- where each input has its output, no fault of that rank stands
-    pub matched_inputs_clear : IsClearBelow d 8 → ((k : ℕ) → HoldsAt (IsUnmatched false (map end_view ends)) (map end_view ends) k → ⊥) → IsClearBelow d 9
+    pub matched_inputs_clear : IsClearBelow d 9 → ((k : ℕ) → HoldsAt (OfEnd (IsUnmatched false (map mark_view marks))) (map mark_view marks) k → ⊥) → IsClearBelow d 10
     unfolding Stands Alone
-    matched_inputs_clear clear none = clear_next d 8 clear (λ p s. none p (subst (λ es. Alone false es p) (sym drawn) s))
+    matched_inputs_clear clear none = clear_next d 9 clear (λ p s. none p (subst (λ ys. Alone false ys p) (sym drawn) s))
 
 -- the same in one go, as far as the look-ups went: no fault of a lower rank than the next stands
-module _ (d : Tree) (names : List (Bor (List ℕ))) (seen : map deref names ≡ instances_of d) (ends : List code.MessageEnd) (drawn : map end_view ends ≡ ends_of d) (clear : IsClearBelow d 4)
-    (known : (k : ℕ) → HoldsAt (λ x. IsUnknown (map deref names) (address_of x)) (map end_view ends) k → ⊥) (few : AreTooMany (map end_view ends) → ⊥) where
+module _ (d : Tree) (names : List (Bor (List ℕ))) (seen : map deref names ≡ instances_of d) (marks : List code.Mark) (drawn : map mark_view marks ≡ acts_of d) (clear : IsClearBelow d 4)
+    (known : (k : ℕ) → HoldsAt (OfEnd (λ x. IsUnknown (map deref names) (address_of x))) (map mark_view marks) k → ⊥) (few : AreTooMany (map mark_view marks) → ⊥) where
   -- where the addresses are known and the messages few enough
   pub clear_with_few_messages : IsClearBelow d 6
-  clear_with_few_messages = few_messages_clear d ends drawn (known_addresses_clear d names seen ends drawn clear known) few
+  clear_with_few_messages = few_messages_clear d marks drawn (known_addresses_clear d names seen marks drawn clear known) few
 
-  module _ (keys : List code.MessageEnd) (n : AreNumbered code_same ends keys) where
-    -- where also the ends differ, so that each has its number
-    pub clear_with_distinct_ends : IsClearBelow d 7
-    clear_with_distinct_ends = distinct_ends_clear d ends drawn clear_with_few_messages n.new
+  module _ (fewer : 1024 < count_by is_action (map mark_view marks) → ⊥) where
+    -- where also the actions are few enough
+    pub clear_with_few_actions : IsClearBelow d 7
+    clear_with_few_actions = few_actions_clear d marks drawn clear_with_few_messages fewer
 
-    -- an output that is not found among the numbered ends is the first fault
-    pub lone_output_first : (e : ℕ) → IsLeast (HoldsAt (IsUnmatched true (map end_view keys)) (map end_view ends)) e → IsFirstFault d (UnmatchedOut e)
-    lone_output_first e h = unmatched_output_first d ends drawn clear_with_distinct_ends e (subst (λ ks. IsLeast (HoldsAt (IsUnmatched true (map end_view ks)) (map end_view ends)) e) n.same h)
+    module _ (keys : List code.Mark) (n : AreNumbered mark_same marks keys) where
+      -- where also the ends differ, so that each has its number
+      pub clear_with_distinct_ends : IsClearBelow d 8
+      clear_with_distinct_ends = distinct_ends_clear d marks drawn clear_with_few_actions n.new
 
-    module _ (paired : (k : ℕ) → HoldsAt (IsUnmatched true (map end_view keys)) (map end_view ends) k → ⊥) where
-      -- where each output is found so
-      pub clear_with_matched_outputs : IsClearBelow d 8
-      clear_with_matched_outputs = matched_outputs_clear d ends drawn clear_with_distinct_ends (subst (λ ks. (k : ℕ) → HoldsAt (IsUnmatched true (map end_view ks)) (map end_view ends) k → ⊥) n.same paired)
+      -- what is alone among the numbered marks
+      Lone : Bool → List code.Mark → ℕ → Type 0
+      Lone sends ks e = HoldsAt (OfEnd (IsUnmatched sends (map mark_view ks))) (map mark_view marks) e
 
-      -- an input that is not found among the numbered ends is the first fault
-      pub lone_input_first : (e : ℕ) → IsLeast (HoldsAt (IsUnmatched false (map end_view keys)) (map end_view ends)) e → IsFirstFault d (UnmatchedIn e)
-      lone_input_first e h = unmatched_input_first d ends drawn clear_with_matched_outputs e (subst (λ ks. IsLeast (HoldsAt (IsUnmatched false (map end_view ks)) (map end_view ends)) e) n.same h)
+      -- an output that is not found among the numbered marks is the first fault
+      pub lone_output_first : (e : ℕ) → IsLeast (HoldsAt (OfEnd (IsUnmatched true (map mark_view keys))) (map mark_view marks)) e → IsFirstFault d (UnmatchedOut e)
+      unfolding Lone
+      lone_output_first e h = unmatched_output_first d marks drawn clear_with_distinct_ends e (subst (λ ks. IsLeast (Lone true ks) e) n.same h)
 
-      -- where each input is found too, no fault is left but a cycle
-      pub clear_with_matched_inputs : ((k : ℕ) → HoldsAt (IsUnmatched false (map end_view keys)) (map end_view ends) k → ⊥) → IsClearBelow d 9
-      clear_with_matched_inputs back = matched_inputs_clear d ends drawn clear_with_matched_outputs (subst (λ ks. (k : ℕ) → HoldsAt (IsUnmatched false (map end_view ks)) (map end_view ends) k → ⊥) n.same back)
+      module _ (paired : (k : ℕ) → HoldsAt (OfEnd (IsUnmatched true (map mark_view keys))) (map mark_view marks) k → ⊥) where
+        -- where each output is found so
+        pub clear_with_matched_outputs : IsClearBelow d 9
+        unfolding Lone
+        clear_with_matched_outputs = matched_outputs_clear d marks drawn clear_with_distinct_ends (subst (λ ks. (k : ℕ) → Lone true ks k → ⊥) n.same paired)
 
--- the ends of the code's events are those of the draft
-pub ends_seen : (d : Tree) (events : List coded.DraftEvent) (ends : List code.MessageEnd) → ends ≡ map (λ e. e.end) events → map event_view events ≡ events_of d → map end_view ends ≡ ends_of d
-unfolding ends_of
-ends_seen d events ends same seen = ap (map end_view) same ∙ by events ∙ ap (map (λ e. e.end)) seen
+        -- an input that is not found among the numbered marks is the first fault
+        pub lone_input_first : (e : ℕ) → IsLeast (HoldsAt (OfEnd (IsUnmatched false (map mark_view keys))) (map mark_view marks)) e → IsFirstFault d (UnmatchedIn e)
+        unfolding Lone
+        lone_input_first e h = unmatched_input_first d marks drawn clear_with_matched_outputs e (subst (λ ks. IsLeast (Lone false ks) e) n.same h)
+
+        -- where each input is found too, no fault is left but a cycle
+        pub clear_with_matched_inputs : ((k : ℕ) → HoldsAt (OfEnd (IsUnmatched false (map mark_view keys))) (map mark_view marks) k → ⊥) → IsClearBelow d 10
+        unfolding Lone
+        clear_with_matched_inputs back = matched_inputs_clear d marks drawn clear_with_matched_outputs (subst (λ ks. (k : ℕ) → Lone false ks k → ⊥) n.same back)
+
+-- the marks of the code's events show the draft's acts
+pub marks_seen : (d : Tree) (events : List coded.DraftEvent) (marks : List code.Mark) → marks ≡ marks_from 0 events → map event_view events ≡ events_of d → map mark_view marks ≡ acts_of d
+unfolding acts_of
+marks_seen d events marks same seen = ap (map mark_view) same ∙ by 0 events ∙ ap (map (λ e. e.act)) seen
   where
-    by : (es : List coded.DraftEvent) → map end_view (map (λ e. e.end) es) ≡ map (λ e. e.end) (map event_view es)
-    by [] = refl
-    by (e ∷ es) = ap (λ l. end_view e.end ∷ l) (by es)
+    one : (k : ℕ) (a : code_act.Act) → mark_view (mark_of k a) ≡ act_view a
+    one k (code_acts.End e) = refl
+    one k (code_acts.Action text) = refl
+
+    by : (k : ℕ) (es : List coded.DraftEvent) → map mark_view (marks_from k es) ≡ map (λ e. e.act) (map event_view es)
+    by k [] = refl
+    by k (e ∷ es) = ap (λ a. a ∷ map mark_view (marks_from (k + 1) es)) (one k e.act) ∙ ap (λ l. act_view e.act ∷ l) (by (k + 1) es)

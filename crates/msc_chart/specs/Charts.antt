@@ -7,7 +7,7 @@ use Rattle.msc_chart.specs.Lists.{occurs, Steps}
 
 -- what stands at a number past the last event; no rule speaks of it
 abbrev pub no_event : ChartEvent
-no_event = record { line = 0; segment = 0; kind = Output; partner = 0; message = 0 }
+no_event = record { line = 0; segment = 0; kind = Output; partner = 0; subject = 0 }
 
 abbrev pub at : List ChartEvent → ℕ → ChartEvent
 at events e = get_or events e no_event
@@ -28,9 +28,13 @@ kind events e = (at events e).kind
 unfoldable pub partner : List ChartEvent → ℕ → ℕ
 partner events e = (at events e).partner
 
--- the message of event e
+-- the message of event e, an output or an input
 unfoldable pub message : List ChartEvent → ℕ → ℕ
-message events e = (at events e).message
+message events e = (at events e).subject
+
+-- the action of event e, a local event
+unfoldable pub action : List ChartEvent → ℕ → ℕ
+action events e = (at events e).subject
 
 abbrev pub sends : EventKind → Bool
 sends Output = true

@@ -1,60 +1,93 @@
 -- The chart of a draft.
-use Rattle.std.specs.Prelude.{◌≡◌, ℕ, ◌+◌, ◌<◌, ◌≤◌, true, cond, List, [], ◌∷◌, length, get_or, false, map, take, count_by, None, IsTrue, ◌↔◌}
-use Rattle.msc_chart.specs.declared.TheConstants.{EVENT_LIMIT, INSTANCE_LIMIT, MESSAGE_LIMIT}
+use Rattle.std.specs.Prelude.{◌≡◌, ℕ, ◌+◌, ◌<◌, ◌≤◌, true, cond, List, [], ◌∷◌, length, get_or, false, take, count_by, None, IsTrue, ◌↔◌}
+use Rattle.msc_chart.specs.declared.TheConstants.{ACTION_LIMIT, EVENT_LIMIT, INSTANCE_LIMIT, MESSAGE_LIMIT}
 use Rattle.std.specs.List.{position_or_len}
-use Rattle.msc_chart.specs.declared.event.EventKind.TheVariants.{Output, Input}
+use Rattle.msc_chart.specs.declared.event.EventKind.{EventKind}
+use Rattle.msc_chart.specs.declared.event.EventKind.TheVariants.{Output, Input, Local}
 use Rattle.msc_chart.specs.declared.event.ChartEvent.{ChartEvent}
 use Rattle.msc_chart.specs.declared.message.Message.{Message}
-use Rattle.msc_chart.specs.Events.{instances_of, DraftEvent, MessageEnd, other_end, same_end, ends_of, events_of}
-use Rattle.msc_chart.specs.Charts.{line, partner, message, is_output, is_local, IsMatched, IsInTextOrder, AreOnLines, IsAcyclic, IsLinearOrder}
+use Rattle.msc_chart.specs.Events.{instances_of, DraftEvent, MessageEnd, Act, other_end, is_end, is_sent, is_action, acts_of, events_of}
+use Rattle.msc_chart.specs.Events.Act.{End, Action}
+use Rattle.msc_chart.specs.Charts.{line, partner, message, action, acts, is_output, is_local, IsMatched, IsInTextOrder, AreOnLines, IsAcyclic, IsLinearOrder}
 use Rattle.msc_parser.specs.Grammar.{Tree}
 
--- the place of the first end that is equal to this one, or the number of ends
-abbrev pub place_of : List MessageEnd → MessageEnd → ℕ
-place_of ends e = position_or_len (same_end e) ends
+-- the place of the first act that is this end, or the number of acts
+abbrev pub place_of : List Act → MessageEnd → ℕ
+place_of acts e = position_or_len (is_end e) acts
 
 -- the output of the message of an end
 abbrev pub output_end : MessageEnd → MessageEnd
 output_end e = record { sends = true; key = e.key }
 
 -- how many outputs stand before a place
-abbrev pub outputs_before : List MessageEnd → ℕ → ℕ
-outputs_before ends e = count_by (λ x. x.sends) (take e ends)
+abbrev pub outputs_before : List Act → ℕ → ℕ
+outputs_before acts e = count_by is_sent (take e acts)
 
--- An event's partner is the other end of its message. Messages are numbered by their outputs, in the
--- order of the text.
-abbrev pub event_of : List MessageEnd → DraftEvent → ChartEvent
-event_of ends e = record {
-  line = e.line;
-  segment = e.segment;
-  kind = cond e.end.sends Output Input;
-  partner = place_of ends (other_end e.end);
-  message = outputs_before ends (place_of ends (output_end e.end));
+-- how many actions stand before a place
+abbrev pub actions_before : List Act → ℕ → ℕ
+actions_before acts e = count_by is_action (take e acts)
+
+abbrev pub kind_of : Act → EventKind
+kind_of (End x) = cond x.sends Output Input
+kind_of (Action text) = Local
+
+-- the event at the other end of its message; an action is its own
+abbrev pub partner_of : List Act → ℕ → Act → ℕ
+partner_of acts e (End x) = place_of acts (other_end x)
+partner_of acts e (Action text) = e
+
+-- Messages are numbered by their outputs, and actions by themselves, in the order of the text.
+abbrev pub subject_of : List Act → ℕ → Act → ℕ
+subject_of acts e (End x) = outputs_before acts (place_of acts (output_end x))
+subject_of acts e (Action text) = actions_before acts e
+
+-- event e of a chart, of a draft with these acts
+abbrev pub event_of : List Act → ℕ → DraftEvent → ChartEvent
+event_of acts e x = record {
+  line = x.line;
+  segment = x.segment;
+  kind = kind_of x.act;
+  partner = partner_of acts e x.act;
+  subject = subject_of acts e x.act;
 }
+
+-- the events from number e on
+abbrev pub events_from : List Act → ℕ → List DraftEvent → List ChartEvent
+events_from acts e [] = []
+events_from acts e (x ∷ xs) = event_of acts e x ∷ events_from acts (e + 1) xs
 
 -- the events of the chart of a draft, in the order of the text
 unfoldable pub chart_events : Tree → List ChartEvent
-chart_events draft = map (event_of (ends_of draft)) (events_of draft)
+chart_events draft = events_from (acts_of draft) 0 (events_of draft)
 
--- the messages of the ends from this place on, by their outputs
-abbrev pub messages_from : ℕ → List MessageEnd → List Message
+-- the messages of the acts from this place on, by their outputs
+abbrev pub messages_from : ℕ → List Act → List Message
 messages_from e [] = []
-messages_from e (x ∷ xs) =
+messages_from e (End x ∷ xs) =
     cond x.sends
     (record { name = x.key.name; number = x.key.number; output = e } ∷ messages_from (e + 1) xs)
     (messages_from (e + 1) xs)
+messages_from e (Action text ∷ xs) = messages_from (e + 1) xs
 
--- what a contract sees of a chart: its name, the names of its instances, its events and its messages
+-- the texts of the actions
+abbrev pub texts_of : List Act → List (List ℕ)
+texts_of [] = []
+texts_of (End x ∷ xs) = texts_of xs
+texts_of (Action text ∷ xs) = text ∷ texts_of xs
+
+-- what a contract sees of a chart: its name, the names of its instances, its events, its messages and
+-- the texts of its actions
 pub record Drawing : Type 0 where
   pub name : List ℕ
   pub instances : List (List ℕ)
   pub events : List ChartEvent
   pub messages : List Message
+  pub actions : List (List ℕ)
 
 -- a chart of these parts
-abbrev pub drawing : List ℕ → List (List ℕ) → List ChartEvent → List Message → Drawing
-drawing name instances events messages =
-    record { name = name; instances = instances; events = events; messages = messages }
+abbrev pub drawing : List ℕ → List (List ℕ) → List ChartEvent → List Message → List (List ℕ) → Drawing
+drawing name instances events messages actions =
+    record { name = name; instances = instances; events = events; messages = messages; actions = actions }
 
 -- the chart of a draft
 abbrev pub chart_of : Tree → Drawing
@@ -62,7 +95,8 @@ chart_of draft = record {
   name = draft.name;
   instances = instances_of draft;
   events = chart_events draft;
-  messages = messages_from 0 (ends_of draft);
+  messages = messages_from 0 (acts_of draft);
+  actions = texts_of (acts_of draft);
 }
 
 abbrev pub no_message : Message
@@ -70,6 +104,10 @@ no_message = record { name = []; number = None; output = 0 }
 
 abbrev pub message_at : Drawing → ℕ → Message
 message_at d m = get_or d.messages m no_message
+
+-- the text of event e, a local event
+unfoldable pub label_of : Drawing → ℕ → List ℕ
+label_of d e = get_or d.actions (action d.events e) []
 
 -- the output of message m
 unfoldable pub output_of : Drawing → ℕ → ℕ
@@ -95,16 +133,24 @@ pub record HasMessages (d : Drawing) : Type 0 where
   pub back : (e : ℕ) → IsTrue (is_output d.events e) → output_of d (message d.events e) ≡ e
   pub shared : (e : ℕ) → e < length d.events → message d.events (partner d.events e) ≡ message d.events e
 
+-- the local events are numbered by the actions, in the order of the text
+pub record HasActions (d : Drawing) : Type 0 where
+  pub each : length d.actions ≡ count_by (λ x. acts x.kind) d.events
+  pub own : (e : ℕ) → IsTrue (is_local d.events e) → action d.events e ≡ count_by (λ x. acts x.kind) (take e d.events)
+  pub known : (e : ℕ) → IsTrue (is_local d.events e) → action d.events e < length d.actions
+
 -- what holds of every chart that was built
 pub record IsAccepted (d : Drawing) : Type 0 where
   pub few_instances : length d.instances ≤ INSTANCE_LIMIT
   pub few_messages : length d.messages ≤ MESSAGE_LIMIT
+  pub few_actions : length d.actions ≤ ACTION_LIMIT
   pub few_events : length d.events ≤ EVENT_LIMIT
   pub on_lines : AreOnLines (length d.instances) d.events
   pub in_text_order : IsInTextOrder d.events
   pub matched : IsMatched d.events
   pub acyclic : IsAcyclic d.events
   pub has_messages : HasMessages d
+  pub has_actions : HasActions d
 
 -- the same, with a linear order of the events
 pub record IsBuilt (d : Drawing) (order : List ℕ) : Type 0 where

@@ -5,6 +5,8 @@ use Rattle.std.specs.Cmp.Lexicographic.{pointwise}
 use Rattle.msc_parser.specs.declared.tree.Way.{Way}
 use Rattle.msc_parser.specs.declared.tree.Way.TheVariants.{Output, Input}
 use Rattle.msc_parser.specs.declared.tree.Signal.{Signal}
+use Rattle.msc_parser.specs.declared.tree.Statement.{Statement}
+use Rattle.msc_parser.specs.declared.tree.Statement.TheVariants as statements
 use Rattle.msc_parser.specs.declared.tree.Item.{Item}
 use Rattle.msc_parser.specs.declared.tree.Item.TheVariants.{Single, Coregion}
 use Rattle.msc_parser.specs.declared.tree.Section.{Section}
@@ -22,10 +24,15 @@ pub record MessageEnd : Type 0 where
   pub sends : Bool
   pub key : Key
 
+-- what an event does: it is an end of a message, or an action (Z.120) with its text
+pub data Act : Type 0 where
+  End : MessageEnd → Act
+  Action : List ℕ → Act
+
 pub record DraftEvent : Type 0 where
   pub line : ℕ
   pub segment : ℕ
-  pub end : MessageEnd
+  pub act : Act
 
 -- the end of a message that a statement of an instance of this name draws
 abbrev pub end_by : Way → List ℕ → Signal → MessageEnd
@@ -37,8 +44,13 @@ end_by Input own s =
 abbrev pub end_of : List ℕ → Signal → MessageEnd
 end_of own s = end_by s.way own s
 
-abbrev pub drawn : ℕ → List ℕ → ℕ → Signal → DraftEvent
-drawn line own segment s = record { line = line; segment = segment; end = end_of own s }
+-- what a statement of an instance of this name does
+abbrev pub act_of : List ℕ → Statement → Act
+act_of own (statements.Message s) = End (end_of own s)
+act_of own (statements.Action text) = Action text
+
+abbrev pub drawn : ℕ → List ℕ → ℕ → Statement → DraftEvent
+drawn line own segment s = record { line = line; segment = segment; act = act_of own s }
 
 -- the events of an item whose segment, if it has one, is this
 abbrev pub events_of_item : ℕ → List ℕ → ℕ → Item → List DraftEvent
@@ -81,8 +93,23 @@ address_of e = cond e.sends e.key.receiver e.key.sender
 abbrev pub other_end : MessageEnd → MessageEnd
 other_end e = record { sends = not e.sends; key = e.key }
 
-unfoldable pub ends_of : Tree → List MessageEnd
-ends_of draft = map (λ e. e.end) (events_of draft)
+unfoldable pub acts_of : Tree → List Act
+acts_of draft = map (λ e. e.act) (events_of draft)
+
+-- it is an output
+abbrev pub is_sent : Act → Bool
+is_sent (End e) = e.sends
+is_sent (Action text) = false
+
+-- it is an input
+abbrev pub is_taken : Act → Bool
+is_taken (End e) = not e.sends
+is_taken (Action text) = false
+
+-- it is an action
+abbrev pub is_action : Act → Bool
+is_action (End e) = false
+is_action (Action text) = true
 
 -- names are compared byte by byte
 abbrev pub same_name : List ℕ → List ℕ → Bool
@@ -101,3 +128,8 @@ same_end a b =
     && (same_name a.key.sender b.key.sender
     && (same_name a.key.receiver b.key.receiver
     && (same_name a.key.name b.key.name && same_number a.key.number b.key.number)))
+
+-- whether an act is this end
+abbrev pub is_end : MessageEnd → Act → Bool
+is_end e (End x) = same_end e x
+is_end e (Action text) = false

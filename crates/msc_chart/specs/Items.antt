@@ -1,4 +1,4 @@
--- Where the outputs and inputs of a draft stand: in which section, and in which of its items.
+-- Where the events of a draft stand: in which section, and in which of its items.
 use Rattle.std.specs.Prelude.{◌≡◌, ℕ, ◌+◌, ◌<◌, ◌↔◌, List, [], ◌∷◌, ◌++◌, map, length, IsTrue}
 use Rattle.msc_parser.specs.declared.tree.Item.{Item}
 use Rattle.msc_parser.specs.declared.tree.Item.TheVariants.{Single, Coregion}
@@ -16,7 +16,7 @@ pub record Place : Type 0 where
 abbrev pub place : ℕ → ℕ → Place
 place section item = record { section = section; item = item }
 
--- the places of the outputs and inputs of an item
+-- the places of the events of an item
 abbrev pub places_of_item : ℕ → ℕ → Item → List Place
 places_of_item i k (Single s) = place i k ∷ []
 places_of_item i k (Coregion ss) = map (λ s. place i k) ss
@@ -35,10 +35,10 @@ places_of_sections i (s ∷ ss) = places_of_items i 0 s.items ++ places_of_secti
 abbrev pub places_of : Tree → List Place
 places_of draft = places_of_sections 0 draft.sections
 
--- Each output and input of a draft is an event of its chart, and of two of them the first is drawn
--- before the second exactly where they stand in one section, the first in an earlier item. So what
--- stands above a coregion comes before all of it, what stands below comes after all of it, and the
--- events of one coregion are unordered.
+-- Each output, input and action of a draft is an event of its chart, and of two of them the first is
+-- drawn before the second exactly where they stand in one section, the first in an earlier item. So
+-- what stands above a coregion comes before all of it, what stands below comes after all of it, and
+-- the events of one coregion are unordered.
 abbrev pub ItemsAreDrawnInOrder : Type 0
 ItemsAreDrawnInOrder =
     (draft : Tree) (e f : ℕ) (p r : Place) → StandsAt (places_of draft) e p → StandsAt (places_of draft) f r

@@ -2,7 +2,8 @@
 use Rattle.std.specs.Prelude.{ℕ, List, [], ◌∷◌, length, map, None, ◌↔◌}
 use Rattle.std.specs.List.{range_with_len}
 use Rattle.msc_parser.specs.declared.tree.Way.TheVariants.{Output, Input}
-use Rattle.msc_parser.specs.declared.tree.Signal.{Signal}
+use Rattle.msc_parser.specs.declared.tree.Statement.{Statement}
+use Rattle.msc_parser.specs.declared.tree.Statement.TheVariants.{Message, Action}
 use Rattle.msc_parser.specs.declared.tree.Item.{Item}
 use Rattle.msc_parser.specs.declared.tree.Item.TheVariants.{Single, Coregion}
 use Rattle.msc_parser.specs.declared.tree.Section.{Section}
@@ -49,13 +50,24 @@ q = 113 ∷ []
 abbrev pub z : List ℕ
 z = 122 ∷ []
 
+-- the texts of actions
+abbrev pub go : List ℕ
+go = 103 ∷ 111 ∷ []
+
+abbrev pub done : List ℕ
+done = 100 ∷ 111 ∷ 110 ∷ 101 ∷ []
+
 -- `out NAME to ADDRESS;`
-abbrev pub out_to : List ℕ → List ℕ → Signal
-out_to name address = record { way = Output; name = name; number = None; parameters = []; address = address }
+abbrev pub out_to : List ℕ → List ℕ → Statement
+out_to name address = Message (record { way = Output; name = name; number = None; parameters = []; address = address })
 
 -- `in NAME from ADDRESS;`
-abbrev pub in_from : List ℕ → List ℕ → Signal
-in_from name address = record { way = Input; name = name; number = None; parameters = []; address = address }
+abbrev pub in_from : List ℕ → List ℕ → Statement
+in_from name address = Message (record { way = Input; name = name; number = None; parameters = []; address = address })
+
+-- `action 'TEXT';`
+abbrev pub action : List ℕ → Statement
+action text = Action text
 
 abbrev pub instance_of : List ℕ → List Item → Section
 instance_of name items = record { decl = record { name = name; kind = [] }; items = items }
@@ -88,10 +100,16 @@ relay =
 abbrev pub empty_coregion : Tree
 empty_coregion = draft_of (instance_of a (Single (out_to m1 a) ∷ Coregion [] ∷ Single (in_from m1 a) ∷ []) ∷ [])
 
--- an event of a chart: its line, segment, kind, partner and message
+-- a: action go, out m1; b: in m1 from a, action done
+abbrev pub actions : Tree
+actions =
+    draft_of (instance_of a (Single (action go) ∷ Single (out_to m1 b) ∷ [])
+    ∷ instance_of b (Single (in_from m1 a) ∷ Single (action done) ∷ []) ∷ [])
+
+-- an event of a chart: its line, segment, kind, partner, and its message or action
 abbrev pub event : ℕ → ℕ → EventKind → ℕ → ℕ → ChartEvent
-event line segment kind partner message =
-    record { line = line; segment = segment; kind = kind; partner = partner; message = message }
+event line segment kind partner subject =
+    record { line = line; segment = segment; kind = kind; partner = partner; subject = subject }
 
 -- a: out m1, out m3; b: out m4, out m2; q: in m1, in m2; z: in m4, in m3
 abbrev pub two_mailboxes : Tree
@@ -120,6 +138,10 @@ queue_numbers queues d = map (queue_of queues d) (range_with_len 0 (length d.mes
 -- the enforced order of two_mailboxes under Mailbox, pair by pair
 abbrev pub two_mailboxes_pairs : List (ℕ × ℕ)
 two_mailboxes_pairs = (0, 1) ∷ (0, 4) ∷ (0, 7) ∷ (1, 7) ∷ (2, 3) ∷ (2, 5) ∷ (2, 6) ∷ (3, 5) ∷ []
+
+-- the enforced order of the chart with actions, under each architecture
+abbrev pub actions_pairs : List (ℕ × ℕ)
+actions_pairs = (0, 1) ∷ (0, 2) ∷ (0, 3) ∷ (1, 2) ∷ (1, 3) ∷ (2, 3) ∷ []
 
 -- a pair of the list is enforced, and no other
 abbrev pub AreEnforcedPairs : WiredChart → List (ℕ × ℕ) → Type 0

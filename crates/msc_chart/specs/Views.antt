@@ -1,8 +1,14 @@
 -- What the code's borrowed names show.
+use Rattle.std.specs.Prelude.{ℕ, ◌+◌, List, [], ◌∷◌}
 use Rattle.std.specs.Option.{option_copied}
 use Rattle.msc_chart.specs.declared.end.MessageEnd as code
 use Rattle.msc_chart.specs.declared.end.DraftEvent as coded
-use Rattle.msc_chart.specs.Events.{MessageEnd, DraftEvent}
+use Rattle.msc_chart.specs.declared.end.Act as coded_act
+use Rattle.msc_chart.specs.declared.end.Act.TheVariants as coded_acts
+use Rattle.msc_chart.specs.declared.end.Mark as coded_mark
+use Rattle.msc_chart.specs.declared.end.Mark.TheVariants as coded_marks
+use Rattle.msc_chart.specs.Events.{MessageEnd, Act, DraftEvent}
+use Rattle.msc_chart.specs.Events.Act.{End, Action}
 
 abbrev pub end_view : code.MessageEnd → MessageEnd
 end_view e = record {
@@ -10,5 +16,24 @@ end_view e = record {
   key = record { sender = e.sender.now; receiver = e.receiver.now; name = e.name.now; number = option_copied e.number };
 }
 
+abbrev pub act_view : coded_act.Act → Act
+act_view (coded_acts.End e) = End (end_view e)
+act_view (coded_acts.Action text) = Action text.now
+
 abbrev pub event_view : coded.DraftEvent → DraftEvent
-event_view e = record { line = e.line; segment = e.segment; end = end_view e.end }
+event_view e = record { line = e.line; segment = e.segment; act = act_view e.act }
+
+-- a mark tells actions apart, and shows the text alone
+abbrev pub mark_view : coded_mark.Mark → Act
+mark_view (coded_marks.End e) = End (end_view e)
+mark_view (coded_marks.Action n text) = Action text.now
+
+-- the mark of event e, which does this
+abbrev pub mark_of : ℕ → coded_act.Act → coded_mark.Mark
+mark_of e (coded_acts.End x) = coded_marks.End x
+mark_of e (coded_acts.Action text) = coded_marks.Action e text
+
+-- the marks of events from e on
+abbrev pub marks_from : ℕ → List coded.DraftEvent → List coded_mark.Mark
+marks_from e [] = []
+marks_from e (x ∷ xs) = mark_of e x.act ∷ marks_from (e + 1) xs

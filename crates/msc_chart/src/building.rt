@@ -2,21 +2,24 @@
 
 ghost use Rattle.std.specs.Prelude.{◌≡◌, ◌≤◌, map, length, IfOk, IfErr, OnOk};
 ghost use Rattle.std.specs.Map.Iter.{deref};
-ghost use Rattle.msc_chart.specs.Events.{instances_of, ends_of, events_of};
+ghost use Rattle.msc_chart.specs.Events.{instances_of, acts_of, events_of};
 ghost use Rattle.msc_chart.specs.Charts.{IsLinearOrder};
 ghost use Rattle.msc_chart.specs.Drawings.{chart_events};
-ghost use Rattle.msc_chart.specs.Views.{end_view, event_view};
+ghost use Rattle.msc_chart.specs.Views.{event_view, mark_view, marks_from};
 ghost use Rattle.msc_chart.specs.Faults.{IsClearBelow, IsFaultless, IsFirstOrMemory};
 
 use crate::charting::chart_events;
-use crate::check::{are_too_many, unknown_address, unknown_header, unmatched};
-use crate::end::{DraftEvent, MessageEnd, events_of};
+use crate::check::{
+    are_too_many, are_too_many_actions, unknown_address, unknown_header, unmatched,
+};
+use crate::end::{DraftEvent, Mark, events_of};
 use crate::event::{ChartEvent, Event};
 use crate::fault::ChartFault;
 use crate::linear::linear_order;
 use crate::numbering::numbered;
 use crate::{EVENT_LIMIT, INSTANCE_LIMIT};
 use indexmap::IndexSet;
+use msc_lexer::TEXT_LIMIT;
 use msc_parser::Draft;
 use std::alloc::{AllocError, Global};
 
@@ -31,15 +34,17 @@ fn section_names<'d>(alloc: Global, draft: &'d Draft) -> Result<Vec<&'d [u8]>, A
     Ok(names)
 }
 
-/// The ends of the events.
-fn ends_of<'d>(alloc: Global, events: &[DraftEvent<'d>]) -> Result<Vec<MessageEnd<'d>>, AllocError>
-    ensures { IfOk result (λ ends. ends.items ≡ map (λ e. e.end) events.now) }
+/// The marks of the events.
+fn marks_of<'d>(alloc: Global, events: &[DraftEvent<'d>]) -> Result<Vec<Mark<'d>>, AllocError>
+    requires { length events.now ≤ TEXT_LIMIT }
+    ensures value { IfOk result (λ marks. marks.items ≡ marks_from 0 events.now) }
+    ensures each { IfOk result (λ marks. length marks.items ≡ length events.now) }
 {
-    let mut ends = Vec::new(alloc);
-    for event in events {
-        ends.push(event.end)?;
+    let mut marks = Vec::new(alloc);
+    for (e, event) in events.iter().enumerate() {
+        marks.push(event.act.mark(e as u32))?;
     }
-    Ok(ends)
+    Ok(marks)
 }
 
 /// The instances by number, where the draft has none of the faults that concern their names.
@@ -63,52 +68,56 @@ fn instances<'d>(alloc: Global, draft: &'d Draft) -> Result<IndexSet<&'d [u8]>, 
     Ok(numbers)
 }
 
-/// The events of a draft, and their ends by place, where no fault stands that concerns messages.
+/// The events of a draft, and their marks by place, where no fault stands that concerns messages or
+/// actions.
 fn matched_events<'d>(
     alloc: Global,
     draft: &'d Draft,
     instances: &IndexSet<&'d [u8]>,
-) -> Result<(Vec<DraftEvent<'d>>, IndexSet<MessageEnd<'d>>), ChartFault>
+) -> Result<(Vec<DraftEvent<'d>>, IndexSet<Mark<'d>>), ChartFault>
     requires names { map deref instances.now.keys ≡ instances_of draft.now }
     requires few { length draft.now.sections ≤ INSTANCE_LIMIT }
     requires clear { IsClearBelow draft.now 4 }
     ensures events { IfOk result (λ r. map event_view r.0.items ≡ events_of draft.entry.now) }
-    ensures ends { IfOk result (λ r. map end_view r.1.keys ≡ ends_of draft.entry.now) }
+    ensures acts { IfOk result (λ r. map mark_view r.1.keys ≡ acts_of draft.entry.now) }
     ensures few { IfOk result (λ r. length r.1.keys ≤ EVENT_LIMIT) }
-    ensures clear { OnOk result (IsClearBelow draft.entry.now 9) }
+    ensures clear { OnOk result (IsClearBelow draft.entry.now 10) }
     ensures fault { IfErr result (IsFirstOrMemory draft.entry.now) }
 {
     let events = events_of(alloc, draft)?;
-    let kept = ends_of(alloc, events.as_slice())?;
-    let ends = kept.as_slice();
-    if let Some(e) = unknown_address(ends, instances) {
+    let kept = marks_of(alloc, events.as_slice())?;
+    let marks = kept.as_slice();
+    if let Some(e) = unknown_address(marks, instances) {
         return Err(ChartFault::UnknownAddress(e as u32));
     }
-    if are_too_many(ends) {
+    if are_too_many(marks) {
         return Err(ChartFault::TooManyMessages);
     }
-    let (places, repeat) = numbered(alloc, ends)?;
+    if are_too_many_actions(marks) {
+        return Err(ChartFault::TooManyActions);
+    }
+    let (places, repeat) = numbered(alloc, marks)?;
     if let Some(e) = repeat {
         return Err(ChartFault::TwiceEvent(e as u32));
     }
-    if let Some(e) = unmatched(ends, &places, true) {
+    if let Some(e) = unmatched(marks, &places, true) {
         return Err(ChartFault::UnmatchedOut(e as u32));
     }
-    if let Some(e) = unmatched(ends, &places, false) {
+    if let Some(e) = unmatched(marks, &places, false) {
         return Err(ChartFault::UnmatchedIn(e as u32));
     }
     Ok((events, places))
 }
 
-/// The events of the chart, a linear order of them, and the draft's ends by place, where no fault
-/// stands.
+/// The events of the chart, a linear order of them, and the marks of the draft's events by place,
+/// where no fault stands.
 pub(crate) fn lawful_events<'d>(
     alloc: Global,
     draft: &'d Draft,
-) -> Result<(Vec<ChartEvent>, Vec<Event>, IndexSet<MessageEnd<'d>>), ChartFault>
+) -> Result<(Vec<ChartEvent>, Vec<Event>, IndexSet<Mark<'d>>), ChartFault>
     ensures events { IfOk result (λ r. r.0.items ≡ chart_events draft.entry.now) }
     ensures order { IfOk result (λ r. IsLinearOrder r.0.items r.1.items) }
-    ensures ends { IfOk result (λ r. map end_view r.2.keys ≡ ends_of draft.entry.now) }
+    ensures acts { IfOk result (λ r. map mark_view r.2.keys ≡ acts_of draft.entry.now) }
     ensures few { IfOk result (λ r. length r.2.keys ≤ EVENT_LIMIT) }
     ensures faultless { OnOk result (IsFaultless draft.entry.now) }
     ensures fault { IfErr result (IsFirstOrMemory draft.entry.now) }

@@ -1,18 +1,19 @@
 //! Charts: instances, events and messages by number.
 //!
 //! Instances, events and messages are numbered from 0: instances by their sections, events in the
-//! order of the text, messages by their outputs. Contracts see the lists of all three. The words are
+//! order of the text, messages by their outputs. Contracts see the lists of all three, and the texts
+//! of the actions. The words are
 //! those of Z.120; the visual order is that of Alur, Holzmann and Peled (1996).
 
 ghost use Rattle.std.specs.Prelude.{◌≡◌, ◌≢◌, ◌<◌, ◌≤◌, ◌+◌, ◌↔◌, IsTrue, false, cond, None, Some, length, IfOk, IfErr, OnOk, slice_get};
 ghost use Rattle.std.specs.Option.{option_copied};
 ghost use Rattle.msc_chart.specs.Charts.{before, IsLineEnd, IsLinearOrder, IsSegmentEnd, ShareSegment, is_controlled, is_local, is_output, kind, line, line_start, message, partner, segment};
-ghost use Rattle.msc_chart.specs.Drawings.{Drawing, IsAccepted, IsBuilt, IsLine, chart_of, drawing, input_of, message_at, output_of, receiver_of, sender_of};
+ghost use Rattle.msc_chart.specs.Drawings.{Drawing, IsAccepted, IsBuilt, IsLine, chart_of, drawing, input_of, label_of, message_at, output_of, receiver_of, sender_of};
 ghost use Rattle.msc_chart.specs.Orders.{queue_of};
 ghost use Rattle.msc_chart.specs.Faults.{IsFaultless, IsFirstFault};
 
 use crate::building::lawful_events;
-use crate::charting::{instance_names, messages, owned};
+use crate::charting::{instance_names, messages, owned, texts};
 use crate::event::{ChartEvent, Event, EventKind};
 use crate::fault::ChartFault;
 use crate::message::Message;
@@ -20,7 +21,7 @@ use crate::queue::Queues;
 use crate::wiring::queue_number;
 use crate::{INSTANCE_LIMIT, MESSAGE_LIMIT};
 use listed::Listed;
-use msc_parser::{Draft, Name};
+use msc_parser::{Draft, Label, Name};
 use std::alloc::Global;
 use std::marker::Model;
 
@@ -31,17 +32,18 @@ pub struct Chart {
     instances: Listed<Name>,
     events: Vec<ChartEvent>,
     messages: Listed<Message>,
+    actions: Listed<Label>,
     order: Vec<Event>,
 }
 
 impl Model for Chart {
     ghost Value = { Drawing };
 
-    ghost view = { λ c. drawing c.name c.instances c.events.items c.messages };
+    ghost view = { λ c. drawing c.name c.instances c.events.items c.messages c.actions };
 
     // What holds of every chart that was built.
     ghost invariant = { λ c.
-        IsBuilt (drawing c.name c.instances c.events.items c.messages) c.order.items };
+        IsBuilt (drawing c.name c.instances c.events.items c.messages c.actions) c.order.items };
 }
 
 impl Chart {
@@ -60,6 +62,7 @@ impl Chart {
             instances: instance_names(alloc, draft)?,
             events,
             messages: messages(alloc, places.as_slice())?,
+            actions: texts(alloc, places.as_slice())?,
             order,
         })
     }
@@ -231,7 +234,7 @@ impl Chart {
         if self.is_local(e) {
             return None;
         }
-        Some(self.events[e as usize].message)
+        Some(self.events[e as usize].subject)
     }
 
     /// The event at the other end of the message of event `e`: some for every output and input, none
@@ -253,7 +256,21 @@ impl Chart {
         ensures value { result ≡ message self.now.events e }
         ensures known { result < length self.now.messages }
     {
-        self.events[e as usize].message
+        self.events[e as usize].subject
+    }
+
+    /// The text of event `e`: some for every local event, none for an output or an input. It takes no
+    /// memory.
+    pub fn label(&self, e: Event) -> Option<&[u8]>
+        requires { e < length self.now.events }
+        ensures { option_copied result
+            ≡ cond (is_local self.now.events e) (Some (label_of self.now e)) None }
+    {
+        if !self.is_local(e) {
+            return None;
+        }
+        let label = &self.actions.as_slice()[self.events[e as usize].subject as usize];
+        Some(label.as_slice())
     }
 
     /// The event at the other end of the message of event `e`; of a local event itself. It takes no
@@ -350,6 +367,12 @@ impl Chart {
         requires { m < length self.now.messages }
         ensures { result ≡ queue_of queues self.now m }
     {
-        queue_number(queues, self.instances(), self.sender(m), self.receiver(m), m)
+        queue_number(
+            queues,
+            self.instances(),
+            self.sender(m),
+            self.receiver(m),
+            m,
+        )
     }
 }

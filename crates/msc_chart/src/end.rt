@@ -1,13 +1,13 @@
 //! The events of a draft, with borrowed names.
 
 ghost use Rattle.std.specs.Prelude.{◌≡◌, ◌+◌, ◌<◌, ◌≤◌, ◌++◌, map, length, IfOk, OnOk};
-ghost use Rattle.msc_chart.specs.Events.{events_of, events_of_item, events_of_items, next_segment, drawn, end_of, other_end, address_of};
+ghost use Rattle.msc_chart.specs.Events.{events_of, events_of_item, events_of_items, next_segment, act_of, drawn, end_of, is_action, is_sent, is_taken, other_end, address_of};
 ghost use Rattle.msc_chart.specs.Drawings.{output_end};
-ghost use Rattle.msc_chart.specs.Views.{end_view, event_view};
+ghost use Rattle.msc_chart.specs.Views.{act_view, end_view, event_view, mark_of, mark_view};
 
 use crate::INSTANCE_LIMIT;
 use msc_lexer::TEXT_LIMIT;
-use msc_parser::{Draft, Item, Section, Signal, Way};
+use msc_parser::{Draft, Item, Section, Signal, Statement, Way};
 use std::alloc::{AllocError, Global};
 
 /// An end of a message, with its names in the draft.
@@ -53,12 +53,71 @@ impl<'d> MessageEnd<'d> {
     }
 }
 
+/// What an event of a draft does: it is an end of a message, or an action with its text.
+#[derive(Clone, Copy)]
+pub(crate) enum Act<'d> {
+    End(MessageEnd<'d>),
+    Action(&'d [u8]),
+}
+
+impl<'d> Act<'d> {
+    /// The mark of event `e`, which does this.
+    pub fn mark(self, e: u32) -> Mark<'d>
+        ensures { result ≡ mark_of e self.entry }
+    {
+        match self {
+            Act::End(end) => Mark::End(end),
+            Act::Action(text) => Mark::Action(e, text),
+        }
+    }
+}
+
 /// An event of a draft.
 #[derive(Clone, Copy)]
 pub(crate) struct DraftEvent<'d> {
     pub line: u32,
     pub segment: u32,
-    pub end: MessageEnd<'d>,
+    pub act: Act<'d>,
+}
+
+/// What tells the events of a draft apart: an end of a message does by itself, an action by the
+/// number of its event. So no two actions are equal.
+#[derive(Clone, Copy, PartialEq, Eq, Hash)]
+pub(crate) enum Mark<'d> {
+    End(MessageEnd<'d>),
+    Action(u32, &'d [u8]),
+}
+
+impl<'d> Mark<'d> {
+    /// Whether it is an output.
+    pub fn is_output(&self) -> bool
+        ensures { result ≡ is_sent (mark_view self.entry.now) }
+    {
+        match self {
+            Mark::End(end) => end.sends,
+            Mark::Action(_, _) => false,
+        }
+    }
+
+    /// Whether it is an input.
+    pub fn is_input(&self) -> bool
+        ensures { result ≡ is_taken (mark_view self.entry.now) }
+    {
+        match self {
+            Mark::End(end) => !end.sends,
+            Mark::Action(_, _) => false,
+        }
+    }
+
+    /// Whether it is an action.
+    pub fn is_action(&self) -> bool
+        ensures { result ≡ is_action (mark_view self.entry.now) }
+    {
+        match self {
+            Mark::End(_) => false,
+            Mark::Action(_, _) => true,
+        }
+    }
 }
 
 /// The end of a message that a statement of the instance `own` draws.
@@ -89,23 +148,33 @@ fn end_of<'d>(own: &'d [u8], signal: &'d Signal) -> MessageEnd<'d>
     }
 }
 
+/// What a statement of the instance `own` does.
+fn act_of<'d>(own: &'d [u8], statement: &'d Statement) -> Act<'d>
+    ensures { act_view result ≡ act_of own.entry.now statement.entry.now }
+{
+    match statement {
+        Statement::Message(signal) => Act::End(end_of(own, signal)),
+        Statement::Action(text) => Act::Action(text.as_slice()),
+    }
+}
+
 /// Puts the events of a coregion at the back, all in one segment.
 fn push_coregion<'d>(
     events: &mut Vec<DraftEvent<'d>>,
     line: u32,
     own: &'d [u8],
     segment: u32,
-    signals: &'d [Signal],
+    statements: &'d [Statement],
 ) -> Result<(), AllocError>
     ensures { OnOk result (map event_view events.new.items
         ≡ map event_view events.old.items
-        ++ map (drawn line own.entry.now segment) signals.entry.now) }
+        ++ map (drawn line own.entry.now segment) statements.entry.now) }
 {
-    for signal in signals {
+    for statement in statements {
         events.push(DraftEvent {
             line,
             segment,
-            end: end_of(own, signal),
+            act: act_of(own, statement),
         })?;
     }
     Ok(())
@@ -126,18 +195,18 @@ fn push_item<'d>(
     ensures next { IfOk result (λ next. next ≡ next_segment segment item.entry.now) }
 {
     match item {
-        Item::Single(signal) => {
+        Item::Single(statement) => {
             events.push(DraftEvent {
                 line,
                 segment,
-                end: end_of(own, signal),
+                act: act_of(own, statement),
             })?;
             Ok(segment + 1)
         }
-        Item::Coregion(signals) => {
-            let signals = signals.as_slice();
-            push_coregion(events, line, own, segment, signals)?;
-            if signals.is_empty() {
+        Item::Coregion(statements) => {
+            let statements = statements.as_slice();
+            push_coregion(events, line, own, segment, statements)?;
+            if statements.is_empty() {
                 Ok(segment)
             } else {
                 Ok(segment + 1)

@@ -47,12 +47,13 @@ impl EventKind {
 }
 
 /// What a chart keeps of one event: its line, its segment on that line, both from 0, its kind, the
-/// event at the other end of its message, and that message. A local event is its own partner.
+/// event at the other end of its message, and what it is about: that message. A local event is its
+/// own partner, and is about its action.
 #[derive(Clone, Copy)]
 pub(crate) struct ChartEvent {
     pub line: u32,
     pub segment: u32,
     pub kind: EventKind,
     pub partner: Event,
-    pub message: u32,
+    pub subject: u32,
 }

@@ -3,11 +3,12 @@
 
 ghost use Rattle.std.specs.Prelude.{◌≡◌, ◌∷◌, [], map};
 ghost use Rattle.msc_chart.specs.declared.queue.Queues.TheVariants.{Pair, Mailbox, Single};
+ghost use Rattle.msc_chart.specs.declared.event.EventKind.TheVariants.{Output, Input, Local};
 ghost use Rattle.msc_chart.specs.Drawings.{chart_events, chart_of};
 ghost use Rattle.msc_chart.specs.Items.{EachHasAnEvent, ItemsAreDrawnInOrder};
 ghost use Rattle.msc_chart.specs.Orders.{wired};
 ghost use Rattle.msc_chart.specs.Laws.{EndsShareQueues, EventsHaveQueues, InputsShareLines, LinesAreRanges, PairsHaveQueuesOfTheirOwn, QueueBoundsAreSmall, QueueNumbersAreBounded, QueuesAreBounded, SegmentsRise};
-ghost use Rattle.msc_chart.specs.Samples.{AreEnforcedPairs, below_coregion, coregion, drawn_pairs, empty_coregion, queue_numbers, relay, two_mailboxes, two_mailboxes_pairs, two_senders};
+ghost use Rattle.msc_chart.specs.Samples.{AreEnforcedPairs, actions, actions_pairs, below_coregion, coregion, done, drawn_pairs, empty_coregion, event, go, queue_numbers, relay, two_mailboxes, two_mailboxes_pairs, two_senders};
 
 /// Under each architecture a queue with a message has from 1 to 32 senders, one receiver, and at
 /// most 1,024 messages.
@@ -56,7 +57,7 @@ pub fn items_are_drawn_in_order()
 {}
 
 /// What the definitions say of small charts: the drawn order, the segments around an empty coregion,
-/// the queue numbers, and an enforced order pair by pair.
+/// the actions, the queue numbers, and two enforced orders pair by pair.
 pub fn worked_charts()
     ensures drawn { drawn_pairs (chart_of two_senders) ≡ (1, 2) ∷ [] }
     ensures coregion { drawn_pairs (chart_of coregion) ≡ [] }
@@ -64,10 +65,15 @@ pub fn worked_charts()
     ensures below { drawn_pairs (chart_of below_coregion)
         ≡ (1, 2) ∷ (1, 3) ∷ (1, 4) ∷ (2, 4) ∷ (3, 4) ∷ (5, 6) ∷ [] }
     ensures segments { map (λ e. e.segment) (chart_events empty_coregion) ≡ 0 ∷ 1 ∷ [] }
+    ensures actions { chart_events actions
+        ≡ event 0 0 Local 0 0 ∷ event 0 1 Output 2 0 ∷ event 1 0 Input 1 0 ∷ event 1 1 Local 3 1 ∷ [] }
+    ensures texts { (chart_of actions).actions ≡ go ∷ done ∷ [] }
+    ensures action { drawn_pairs (chart_of actions) ≡ (0, 1) ∷ (2, 3) ∷ [] }
     ensures pair { queue_numbers Pair (chart_of relay) ≡ 1 ∷ 2 ∷ 7 ∷ [] }
     ensures mailbox { queue_numbers Mailbox (chart_of relay) ≡ 1 ∷ 2 ∷ 1 ∷ [] }
     ensures single { queue_numbers Single (chart_of relay) ≡ 0 ∷ 1 ∷ 2 ∷ [] }
     ensures senders { queue_numbers Pair (chart_of two_senders) ≡ 1 ∷ 7 ∷ [] }
     ensures one { queue_numbers Mailbox (chart_of coregion) ≡ 1 ∷ 1 ∷ [] }
     ensures enforced { AreEnforcedPairs (wired Mailbox (chart_of two_mailboxes)) two_mailboxes_pairs }
+    ensures controlled { AreEnforcedPairs (wired Mailbox (chart_of actions)) actions_pairs }
 {}

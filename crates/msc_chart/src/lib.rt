@@ -1,4 +1,4 @@
-//! From a draft to its chart: instances, events and messages by number (a basic message sequence
+//! From a draft to its chart: instances, events, messages and actions by number (a basic message sequence
 //! chart, ITU-T Z.120).
 //!
 //! [`Chart::build`] answers the chart of a draft or the draft's first fault, and the readers of
@@ -7,7 +7,7 @@
 //! order is that of Alur, Holzmann and Peled (1996); the enforced order, runs and races of an
 //! architecture are defined beside it, for the crates that rest on this one.
 //!
-//! Limits: [`INSTANCE_LIMIT`] instances and [`MESSAGE_LIMIT`] messages.
+//! Limits: [`INSTANCE_LIMIT`] instances, [`MESSAGE_LIMIT`] messages and [`ACTION_LIMIT`] actions.
 #![tactic(auto)]
 
 mod building;
@@ -37,5 +37,8 @@ pub const INSTANCE_LIMIT: u32 = 32;
 /// The greatest number of messages of a chart.
 pub const MESSAGE_LIMIT: u32 = 1_024;
 
-/// The greatest number of events of a chart: two for each message.
-pub const EVENT_LIMIT: u32 = 2 * MESSAGE_LIMIT;
+/// The greatest number of actions of a chart.
+pub const ACTION_LIMIT: u32 = 1_024;
+
+/// The greatest number of events of a chart: two for each message, and one for each action.
+pub const EVENT_LIMIT: u32 = 2 * MESSAGE_LIMIT + ACTION_LIMIT;

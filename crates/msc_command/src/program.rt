@@ -116,7 +116,7 @@ fn grammar<'a>(
     let queues = Arg::new(alloc, "queues")
         .long("queues")
         .value_name(shown)
-        .help("A queue for each sender and receiver, or one for each receiver")
+        .help("A queue for each sender and receiver, for each receiver, or for each message")
         .value_parser(words)
         .required(true);
     let show = Arg::new(alloc, "show")
@@ -298,8 +298,8 @@ pub fn refuse_words<E: Write>(faults: &mut E, error: &io::Error) -> u8
 
 /// The program `msc` over its words, the program's name first; answers the exit status.
 ///
-/// `msc read FILE` writes the canonical text of FILE to `output`, `msc check --queues pair|mailbox
-/// [--show N] FILE` the verdict on its chart and each race, the first N with a run that shows it. N is
+/// `msc read FILE` writes the canonical text of FILE to `output`, `msc check --queues QUEUES [--show
+/// N] FILE`, where QUEUES is `pair`, `mailbox` or `single`, the verdict on its chart and each race, the first N with a run that shows it. N is
 /// from 0 to 4294967295, by default 4294967295. FILE `-` is `input`, any other FILE is opened
 /// through `rt`. What goes wrong is found in the order: the words, opening FILE, reading it, its
 /// text. A fault's line, and what `clap` says of wrong words, go to `faults`; where that writing

@@ -1,6 +1,7 @@
 -- The ends of a new queue.
-use Rattle.std.proofs.Common.{◌≡◌, ℕ, ◌+◌, ◌<◌, List, [], ◌∷◌, ◌++◌, length, take, get_or, sym, refl, ap, ◌∙◌, arith, length-take}
+use Rattle.std.proofs.Common.{◌≡◌, ℕ, ◌+◌, ◌-◌, ◌<◌, sum, drop, take-append-drop, List, [], ◌∷◌, ◌++◌, length, take, get_or, sym, refl, ap, ◌∙◌, arith, length-take}
 use Rattle.std.proofs.lemmas.List.{take_more}
+use Rattle.std.proofs.lemmas.List.Sums.{sum_by-append, sum_by-cons}
 use Rattle.std.proofs.lemmas.List.Elements.{All-cons, All-nil}
 use Rattle.std.specs.Prelude.{All}
 use Rattle.msc_fifo.specs.Identity.{QueueId}
@@ -20,6 +21,7 @@ length-new_outlets : (q : QueueId) (k : ℕ) (xs : List ℕ) → length (new_out
 length-new_outlets q k [] = refl
 length-new_outlets q k (x ∷ xs) = let h = length-new_outlets q (k + 1) xs in omega arith
 
+-- the first i numbers are i numbers
 length_take : (i : ℕ) (xs : List ℕ) → i < length xs → length (take i xs) ≡ i
 length_take i xs lt = let h = length-take i xs in grind (arith, length-take)
 
@@ -54,3 +56,12 @@ pub new_ends_whole : (inlet : InletState) (outlets : List OutletState) (q : Queu
     → inlet ≡ new_inlet q (length xs) → outlets ≡ new_outlets q 0 xs → AreOutletsOf inlet outlets
 new_ends_whole inlet outlets q xs made all = rw (made, all)
     (numbered_whole (new_inlet q (length xs)) (new_outlets q 0 xs) (new_outlets-queue q 0 xs) (new_outlets-numbered q 0 xs) (length-new_outlets q 0 xs))
+
+-- one quota more is summed
+sum_more : (xs : List ℕ) (k d : ℕ) → k < length xs → sum (take (k + 1) xs) ≡ sum (take k xs) + get_or xs k d
+sum_more xs k d lt = ap sum (take_more xs k d lt) ∙ sum_by-append (λ (x : ℕ). x) (take k xs) (get_or xs k d ∷ []) ∙ (let one : sum (get_or xs k d ∷ []) ≡ get_or xs k d = sum_by-cons (λ (x : ℕ). x) (get_or xs k d) [] ∙ omega arith in ap (λ n. sum (take k xs) + n) one)
+
+-- what the first outlets may claim is as much as the ticket has given away
+pub room_left : (xs : List ℕ) (k n d room after : ℕ) → k < length xs → after ≡ room - (get_or xs k d + 1) → n ≡ k → (room + n) + sum (take k xs) ≡ sum xs + length xs → (after + (n + 1)) + sum (take (k + 1) xs) ≡ sum xs + length xs
+room_left xs k n d room after lt is same whole = let more = sum_more xs k d lt in
+    let split : sum xs ≡ sum (take (k + 1) xs) + sum (drop (k + 1) xs) = ap sum (sym (take-append-drop (k + 1) xs)) ∙ sum_by-append (λ (x : ℕ). x) (take (k + 1) xs) (drop (k + 1) xs) in omega arith

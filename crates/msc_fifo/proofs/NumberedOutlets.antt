@@ -9,10 +9,12 @@ use Rattle.msc_fifo.specs.Laws.AreNumberedFrom.{none_left, one_more}
 abbrev one_of : ℕ → OutletState → ℕ
 one_of i o = cond (o.sender == i) 1 0
 
+-- a choice that is true counts 1
 cond-one : (b : Bool) → b ≡ true → cond {A = ℕ} b 1 0 ≡ 1
 cond-one true e = refl
 cond-one false e = absurd (true≢false (sym e))
 
+-- a choice that is false counts 0
 cond-none : (b : Bool) → b ≡ false → cond {A = ℕ} b 1 0 ≡ 0
 cond-none true e = absurd (true≢false e)
 cond-none false e = refl

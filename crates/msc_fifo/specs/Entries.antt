@@ -42,25 +42,20 @@ abbrev pub IsOrderly : ℕ → List Entry → Type 0
 IsOrderly n [] = Unit {0}
 IsOrderly n (e ∷ es) = (sender_of e < n) × IsFollowed e es × IsOrderly n es
 
--- how many senders end with an entry
-abbrev pub ends_of : Entry → ℕ
-ends_of (Message i m) = 0
-ends_of (Ended i) = 1
-
 -- what a take adds to what was got
 abbrev pub entries_of : Taken → List Entry
-entries_of (took.Message i m) = Message i m ∷ []
+entries_of (took.Message i m place clock) = Message i m ∷ []
 entries_of (took.Ended i) = Ended i ∷ []
 entries_of took.Nothing = []
 
 -- how many takes in a row have found nothing, after one more take; counted up to 4,294,967,295
 abbrev pub idle_after : ℕ → Taken → ℕ
-idle_after idle (took.Message i m) = 0
+idle_after idle (took.Message i m place clock) = 0
 idle_after idle (took.Ended i) = 0
 idle_after idle took.Nothing = min (idle + 1) 4294967295
 
 -- how many senders end with a take
 abbrev pub ends_in : Taken → ℕ
-ends_in (took.Message i m) = 0
+ends_in (took.Message i m place clock) = 0
 ends_in (took.Ended i) = 1
 ends_in took.Nothing = 0

@@ -1,8 +1,13 @@
 -- what is promised
 pub mod Entries
 pub mod Identity
+pub mod Claims
 pub mod Ends
 pub mod Settlement
 pub mod Laws
 -- what the code keeps
-pub mod Rule
+pub mod World
+pub mod Views
+pub mod Moves
+pub mod Settling
+pub mod Parts

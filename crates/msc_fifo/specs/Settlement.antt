@@ -1,9 +1,13 @@
 -- What is known of a queue once its ends are settled.
-use Rattle.std.specs.Prelude.{◌≡◌, true, List, [], ◌++◌, Some, slice_get}
+use Rattle.std.specs.Prelude.{◌≡◌, ℕ, ◌<◌, ◌≤◌, ◌==◌, true, if◌then◌else◌, List, [], ◌∷◌, ◌++◌, map, length, Option, Some, None, slice_get, slice_index}
 use Rattle.msc_fifo.specs.declared.entry.Entry.{Entry}
+use Rattle.msc_fifo.specs.declared.entry.Entry.TheVariants.{Message, Ended}
+use Rattle.msc_fifo.specs.declared.claim.Claim.{Claim}
 use Rattle.msc_fifo.specs.declared.accounts.Account.{Account}
-use Rattle.msc_fifo.specs.Entries.{messages_of, has_ended}
-use Rattle.msc_fifo.specs.Ends.{OutletState}
+use Rattle.msc_fifo.specs.declared.places.Place.{Place}
+use Rattle.msc_fifo.specs.Claims.{is_message}
+use Rattle.msc_fifo.specs.Entries.{sender_of, messages_of, has_ended, IsOrderly}
+use Rattle.msc_fifo.specs.Ends.{OutletState, InletState}
 
 -- The account of an outlet, where the inlet got these entries: what was put is what was taken and
 -- then what is left. Where the sender's end mark was taken, it had closed and nothing is left
@@ -17,3 +21,50 @@ pub record IsAccountOf (got : List Entry) (o : OutletState) (a : Account) : Type
 -- the account of an outlet stands at its sender's number
 abbrev pub HasAccount : List Account → List Entry → OutletState → Type 0
 HasAccount accounts got o = (a : Account) × (slice_get accounts o.sender ≡ Some a) × IsAccountOf got o a
+
+-- what was claimed, by places
+abbrev pub entries_at : List Claim → List Entry
+entries_at log = map (λ (c : Claim). c.entry) log
+
+-- what an outlet has put, and then its end mark where it is closed
+abbrev pub items_of : OutletState → List Entry
+items_of o = map (λ (m : ℕ). Message o.sender m) o.put ++ (if o.closed then (Ended o.sender ∷ []) else [])
+
+-- the claims of sender i, in order
+abbrev pub claims_of : ℕ → List Claim → List Claim
+claims_of i [] = []
+claims_of i (c ∷ cs) = if sender_of c.entry == i then (c ∷ claims_of i cs) else claims_of i cs
+
+-- the message of an entry; an end mark has none
+abbrev pub message_of : Entry → Option ℕ
+message_of (Message i m) = Some m
+message_of (Ended i) = None
+
+-- what is answered of a place that was claimed
+abbrev pub place_of : Claim → Place
+place_of c = record { sender = sender_of c.entry; message = message_of c.entry; clock = c.clock }
+
+-- x stands in a list
+abbrev pub IsAmong : {A : Type 0} → A → List A → Type 0
+IsAmong x xs = (k : ℕ) × (slice_get xs k ≡ Some x)
+
+-- The places of a queue that were claimed, in order and without gaps. Each outlet's claims are its
+-- part of them, for what it put and then its end mark; what was got is the items of the first places,
+-- and the clocks that were read are theirs. The clock of a message's place is at least each offer
+-- made for it or a place before it, and is the offer of some message
+pub record IsPlaced (inlet : InletState) (outlets : List OutletState) (log : List Claim) : Type 0 where
+  pub numbered : (k : ℕ) (c : Claim) → slice_get log k ≡ Some c → c.place ≡ k
+  pub orderly : IsOrderly inlet.senders (entries_at log)
+  pub claims : (o : OutletState) → IsAmong o outlets → o.claims ≡ claims_of o.sender log
+  pub items : (o : OutletState) → IsAmong o outlets → entries_at o.claims ≡ items_of o
+  pub got : (rest : List Entry) × (entries_at log ≡ inlet.got ++ rest)
+  pub clocks : (k : ℕ) (c : Claim) → k < length inlet.clocks → slice_get log k ≡ Some c → c.clock ≡ slice_index inlet.clocks k
+  pub covers : (c d : Claim) → IsAmong c log → is_message c.entry ≡ true → IsAmong d log → d.place ≤ c.place → d.offer ≤ c.clock
+  pub offered : (c : Claim) → IsAmong c log → is_message c.entry ≡ true
+      → (d : Claim) × IsAmong d log × (is_message d.entry ≡ true) × (d.offer ≡ c.clock)
+
+-- these are the places of the queue whose ends were these
+pub record IsSettled (inlet : InletState) (outlets : List OutletState) (places : List Place) : Type 0 where
+  pub log : List Claim
+  pub is_log : IsPlaced inlet outlets log
+  pub places_are : places ≡ map place_of log

@@ -4,6 +4,7 @@ ghost use Rattle.std.specs.Prelude.{◌≡◌, ◌≤◌, ◌++◌, [], ℕ, Lis
 ghost use Rattle.msc_fifo.specs.Entries.{messages_of};
 
 use crate::entry::Entry;
+use crate::places::Place;
 use listed::Listed;
 use std::alloc::{AllocError, Global};
 use std::marker::Model;
@@ -38,6 +39,8 @@ impl Account {
 pub struct Settled {
     /// The account of each sender, by its number.
     pub senders: Vec<Account>,
+    /// What stands at the places 0, 1 and so on that were claimed.
+    pub places: Vec<Place>,
 }
 
 /// Room for the account of a sender that put so many messages. Contracts see that number.

@@ -27,4 +27,7 @@ pub enum SendFault {
     /// The outlet is open and has put its quota.
     #[error("message {0} was not sent: the outlet has put its quota")]
     Full(u32),
+    /// The outlet is open and below its quota, and the clock handed in is the greatest.
+    #[error("message {0} was not sent: the clock is spent")]
+    ClockSpent(u32),
 }

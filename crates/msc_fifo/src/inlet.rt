@@ -1,27 +1,28 @@
 //! The end of the one receiver.
 //!
-//! It keeps the list of what it has got beside the channel, and a ticket whose view is that list.
-//! Contracts see an `InletState`.
+//! It keeps the list of what it has got beside the queue's words, and a ticket whose view is that
+//! list with the clocks that it read. Contracts see an `InletState`.
 
-ghost use Rattle.std.specs.Prelude.{◌≡◌, ◌<◌, ◌≤◌, ◌+◌, ◌++◌, ◌∷◌, [], length};
-ghost use Rattle.crossbeam_channel.specs.Claims.{view as knows, IsSeatAt};
-ghost use Rattle.crossbeam_channel.specs.Ends.{receives_on};
-ghost use Rattle.msc_fifo.specs.Rule.{receives};
-ghost use Rattle.msc_fifo.specs.Ends.{new_inlet, unended_in, IsSameInlet};
-ghost use Rattle.msc_fifo.specs.Settlement.{IsAccountOf};
+ghost use Rattle.std.specs.Prelude.{◌≡◌, ◌<◌, ◌≤◌, ◌+◌, ◌++◌, [], ℕ, All, map, max, length, vec_len, vec_capacity};
+ghost use Rattle.std.specs.Arc.{arc_value};
 ghost use Rattle.msc_fifo.specs.Entries.{ends_in, entries_of, idle_after, IsOrderly};
+ghost use Rattle.msc_fifo.specs.Ends.{new_inlet, unended_in, AreOutletsOf, Clocked, IsSameInlet};
+ghost use Rattle.msc_fifo.specs.Settlement.{HasAccount, IsSettled};
+ghost use Rattle.msc_fifo.specs.Views.{receives, IsTicketOf, knows};
 
-use crate::accounts::{Account, Room};
+use crate::accounts::{Account, Room, Settled};
 use crate::entry::{Entry, Taken};
 use crate::outlet::Outlet;
-use crate::rule::{Gettable, Ticket, get};
+use crate::parts::{Part, gather};
+use crate::places::{Place, read_all};
+use crate::rule::{Shelf, Ticket};
+use crate::steps::{count, learn, look};
 use std::marker::Model;
-use std::sync::Wait;
 
 /// The end of the one receiver of a queue. It is made by [`queue`](crate::queue) alone.
 #[derive(Drop)]
 pub struct Inlet {
-    channel: Gettable,
+    row: Shelf,
     ticket: Ticket,
     /// How many senders the queue has.
     senders: u32,
@@ -34,41 +35,44 @@ pub struct Inlet {
 }
 
 impl Model for Inlet {
-    ghost use Rattle.std.specs.Prelude.{◌≡◌, ◌<◌};
-    ghost use Rattle.crossbeam_channel.specs.Claims.{view as knows, IsSeatAt};
-    ghost use Rattle.crossbeam_channel.specs.Ends.{receives_on};
-    ghost use Rattle.msc_fifo.specs.Rule.{Receives};
+    ghost use Rattle.std.specs.Prelude.{◌≡◌, ◌<◌, ◌≤◌, vec_capacity};
+    ghost use Rattle.std.specs.Arc.{arc_value};
+    ghost use Rattle.msc_fifo.specs.Views.{Receives, IsTicketOf, knows};
     ghost use Rattle.msc_fifo.specs.Entries.{unended_of, IsOrderly};
     ghost use Rattle.msc_fifo.specs.Ends.{InletState};
 
     ghost Value = { InletState };
 
     ghost view = { λ e. record {
-      queue = record { table = e.ticket.table_id; key = e.ticket.me.0.of };
+      queue = record { table = e.ticket.table_id };
       senders = e.senders;
       got = e.got.items;
+      clocks = e.ticket.me.0.clocks;
       idle = e.idle;
     } };
 
     ghost invariant = { λ e.
-        IsSeatAt (receives_on e.channel) e.ticket
-        × Receives (knows e.ticket) e.senders e.got.items
+        IsTicketOf (arc_value e.row) e.ticket
+        × Receives (knows e.ticket) (arc_value e.row).shared.key e.senders e.got.items
         × IsOrderly e.senders e.got.items
         × (e.unended ≡ unended_of e.senders e.got.items)
-        × (0 < e.senders) };
+        × (0 < e.senders)
+        × ((arc_value e.row).shared.key ≤ vec_capacity e.got) };
 }
 
 impl Inlet {
     /// A new inlet, whose list has the room that `got` has.
-    pub(crate) fn new(channel: Gettable, ticket: Ticket, senders: u32, got: Vec<Entry>) -> Inlet
-        requires seat { IsSeatAt (receives_on channel) ticket }
-        requires view { knows ticket ≡ receives senders [] }
+    pub(crate) fn new(row: Shelf, ticket: Ticket, senders: u32, got: Vec<Entry>) -> Inlet
+        requires seat { IsTicketOf (arc_value row) ticket }
+        requires view { (room : ℕ)
+            × (knows ticket ≡ receives (arc_value row).shared.key room senders [] []) }
+        requires room { (arc_value row).shared.key ≤ vec_capacity got }
         requires empty { got.items ≡ [] }
         requires some { 0 < senders }
-        ensures { result ≡ new_inlet (record { table = ticket.table_id; key = ticket.me.0.of }) senders }
+        ensures { result ≡ new_inlet (record { table = ticket.table_id }) senders }
     {
         Inlet {
-            channel,
+            row,
             ticket,
             senders,
             got,
@@ -77,52 +81,92 @@ impl Inlet {
         }
     }
 
-    /// Takes in an outlet of this queue, and answers its account. It takes no memory.
-    pub(crate) fn take_in(&mut self, outlet: Outlet, room: Room) -> Account
-        requires queue { outlet.queue ≡ self.old.queue }
-        requires room { length outlet.put ≤ room }
-        ensures same { self.new ≡ self.old }
-        ensures number { outlet.sender < self.old.senders }
-        ensures account { IsAccountOf self.old.got outlet result }
+    /// Settles the queue, in the room that was made: takes in the outlets' tickets, reads the claim
+    /// word and the places, and answers the accounts from the lists of the ends.
+    pub(crate) fn settle(
+        self,
+        outlets: Vec<Outlet>,
+        rooms: Vec<Room>,
+        mut parts: Vec<Part>,
+        mut senders: Vec<Account>,
+        places: Vec<Place>,
+    ) -> Settled
+        requires outlets { AreOutletsOf self outlets.items }
+        requires rooms { rooms.items ≡ map (λ o. length o.put) outlets.items }
+        requires parts { (parts.items ≡ []) × (length outlets.items ≤ vec_capacity parts) }
+        requires senders { vec_len senders ≡ length outlets.items }
+        requires places { (places.items ≡ []) × (1056 ≤ vec_capacity places) }
+        ensures count { vec_len result.senders ≡ self.senders }
+        ensures accounts { All (HasAccount result.senders.items self.got) outlets.items }
+        ensures places { IsSettled self outlets.items result.places.items }
+        ensures orderly { IsOrderly self.senders self.got }
     {
-        outlet.account(&mut self.ticket, self.got.as_slice(), room)
+        let Inlet {
+            row,
+            mut ticket,
+            got,
+            ..
+        } = self;
+        gather(&row, &mut ticket, outlets, rooms, &mut parts);
+        let claimed = count(&row, &mut ticket);
+        let places = read_all(&row, &mut ticket, claimed, places);
+        while let Some(part) = parts.pop() {
+            let Part {
+                sender,
+                put,
+                closed,
+                room,
+            } = part;
+            senders[sender as usize] = room.account(got.as_slice(), sender, put, closed);
+        }
+        Settled { senders, places }
     }
 
     /// Takes what is first in the queue: a message or an end mark, each with its sender, or
-    /// nothing. It takes no memory. It may wait, but not for something to come.
-    pub fn take<R: Wait>(&mut self, rt: &R) -> Taken
+    /// nothing. A message raises the clock that is handed in to that of its place. It takes no
+    /// memory, and does not wait for something to come.
+    pub fn take(&mut self, clock: u64) -> Taken
         ensures got { self.new.got ≡ self.old.got ++ entries_of result }
+        ensures clocks { Clocked self.old clock result self.new }
+        ensures even { length self.old.clocks ≡ length self.old.got }
         ensures idle { self.new.idle ≡ idle_after self.old.idle result }
         ensures same { IsSameInlet self.old self.new }
         ensures orderly { IsOrderly self.new.senders self.new.got }
         ensures unended { unended_in self.new + ends_in result ≡ unended_in self.old }
     {
-        // The list has room for all that the outlets may put: where it is full, nothing is left.
-        if self.got.len() == self.got.capacity() {
+        let place = self.got.len();
+        if place >= (self.row.word_count() - 2) / 2 {
             return self.nothing();
         }
-        let Some(entry) = get(rt, &self.channel, &mut self.ticket) else {
-            return self.nothing();
-        };
-        self.got.push_reserved(entry);
-        self.unended -= entry.ends();
-        self.idle = 0;
-        entry.taken()
+        match look(&self.row, &mut self.ticket, place) {
+            Some(Entry::Message(sender, m)) => {
+                let found = learn(&self.row, &mut self.ticket, place);
+                self.got.push_reserved(Entry::Message(sender, m));
+                self.idle = 0;
+                Taken::Message(sender, m, place as u32, later(clock, found))
+            }
+            Some(Entry::Ended(sender)) => {
+                self.got.push_reserved(Entry::Ended(sender));
+                self.unended -= 1;
+                self.idle = 0;
+                Taken::Ended(sender)
+            }
+            None => self.nothing(),
+        }
     }
 
     /// Counts a take that found nothing.
     fn nothing(&mut self) -> Taken
         ensures answer { result ≡ Taken.Nothing }
-        ensures got { self.new.got ≡ self.old.got }
-        ensures idle { self.new.idle ≡ idle_after self.old.idle Taken.Nothing }
-        ensures same { IsSameInlet self.old self.new }
+        ensures state { self.new
+            ≡ record self.old { idle = idle_after self.old.idle Taken.Nothing } }
         ensures orderly { IsOrderly self.new.senders self.new.got }
     {
         self.idle = self.idle.saturating_add(1);
         Taken::Nothing
     }
 
-    /// How many senders have no end mark among what was got. It takes no memory and does not wait.
+    /// How many senders have no end mark among what was got. It takes no memory.
     pub fn unended(&self) -> u32
         ensures count { result ≡ unended_in self.now }
         ensures orderly { IsOrderly self.now.senders self.now.got }
@@ -130,4 +174,11 @@ impl Inlet {
     {
         self.unended
     }
+}
+
+/// The later of two clocks.
+fn later(one: u64, other: u64) -> u64
+    ensures { result ≡ max one other }
+{
+    if one < other { other } else { one }
 }

@@ -1,29 +1,24 @@
 //! Making a queue: all its ends, with all the room that they will ever need.
 
-ghost use Rattle.std.specs.Prelude.{◌≡◌, ◌↔◌, ◌<◌, ◌≤◌, ◌+◌, [], length, sum, Err, IfOk, OnOk, MatchOption};
-ghost use Rattle.crossbeam_channel.specs.Claims.{view as knows, IsSeatAt};
-ghost use Rattle.crossbeam_channel.specs.Ends.{sends_on};
-ghost use Rattle.msc_fifo.specs.Rule.{queue_of, receives};
+ghost use Rattle.std.specs.Prelude.{◌≡◌, ◌↔◌, ◌<◌, ◌≤◌, ◌+◌, ◌-◌, [], length, sum, Err, IfOk, OnOk, MatchOption};
+ghost use Rattle.std.specs.Arc.{arc_value};
+ghost use Rattle.msc_fifo.specs.Views.{receives, queue_of, IsTicketOf, knows};
 ghost use Rattle.msc_fifo.specs.Ends.{new_outlet, new_outlets, new_inlet, AreOutletsOf, IsTooLarge};
 
-use crate::entry::Entry;
 use crate::fault::QueueFault;
 use crate::inlet::Inlet;
 use crate::outlet::Outlet;
-use crate::rule::{InOrder, NextSender, Puttable, Ticket, View};
+use crate::rule::{Due, Row, Shelf, Ticket};
+use crate::steps::deal;
 use crate::{QUOTA_LIMIT, SENDER_LIMIT};
-use crossbeam_channel::bounded_with;
 use std::alloc::{AllocError, Global};
-use std::sync::Wait;
+use std::marker::Brand;
+use std::sync::Arc;
 
 /// A new queue: an outlet for each quota, in order, of the senders 0, 1 and so on, and one inlet. A
 /// quota is the number of messages that its sender may put, and may be 0; the end mark has a place
-/// of its own beside it. All room that the ends need is made here. It may wait.
-pub fn queue<R: Wait>(
-    _rt: &R,
-    alloc: Global,
-    quotas: &[u32],
-) -> Result<(Vec<Outlet>, Inlet), QueueFault>
+/// of its own beside it. All room that the ends need is made here.
+pub fn queue(alloc: Global, quotas: &[u32]) -> Result<(Vec<Outlet>, Inlet), QueueFault>
     ensures no_sender { (result ≡ Err QueueFault.NoSender) ↔ (quotas.now ≡ []) }
     ensures too_large { (result ≡ Err QueueFault.TooLarge) ↔ IsTooLarge quotas.now }
     ensures inlet { IfOk result (λ r. r.1 ≡ new_inlet r.1.queue (length quotas.now)) }
@@ -65,39 +60,60 @@ fn total(quotas: &[u32]) -> Option<usize>
 fn ends(alloc: Global, quotas: &[u32], messages: usize) -> Result<(Vec<Outlet>, Inlet), AllocError>
     requires some { 0 < length quotas.now }
     requires few { length quotas.now ≤ SENDER_LIMIT }
+    requires sum { messages ≡ sum quotas.now }
     requires room { messages ≤ QUOTA_LIMIT }
     ensures inlet { IfOk result (λ r. r.1 ≡ new_inlet r.1.queue (length quotas.now)) }
     ensures outlets { IfOk result (λ r. r.0.items ≡ new_outlets r.1.queue 0 quotas.now) }
 {
-    let room = messages + quotas.len();
+    let places = messages + quotas.len();
     let mut outlets = Vec::with_capacity(alloc, quotas.len())?;
-    let got = Vec::with_capacity(alloc, room)?;
-    let (sender, receiver, mut ticket) = bounded_with::<Entry, View, InOrder, Global>(alloc, room)?;
+    let got = Vec::with_capacity(alloc, places)?;
+    let (row, mut ticket) = row(alloc, places)?;
     let mut number = 0;
     for quota in quotas {
-        outlets.push_reserved(outlet(alloc, &sender, &mut ticket, number, *quota)?);
+        outlets.push_reserved(outlet::<Brand>(alloc, &row, &mut ticket, number, *quota)?);
         number += 1;
     }
-    let inlet = Inlet::new(receiver, ticket, number, got);
+    let inlet = Inlet::new(row, ticket, number, got);
     Ok((outlets, inlet))
 }
 
+/// The words of a queue with so many places, all empty, and the inlet's ticket.
+fn row(alloc: Global, places: usize) -> Result<(Shelf, Ticket), AllocError>
+    requires { places ≤ 1056 }
+    ensures seat { IfOk result (λ r. IsTicketOf (arc_value r.0) r.1) }
+    ensures places { IfOk result (λ r. (arc_value r.0).shared.key ≡ places) }
+    ensures view { IfOk result (λ r. knows r.1 ≡ receives places places 0 [] []) }
+{
+    let words = Vec::from_elem(alloc, 0u64, places + places + 2)?;
+    let (row, ticket) = Row::of_words(alloc, words.as_slice(), &places)?;
+    let Ok(shelf) = Arc::new(alloc, row) else {
+        return Err(AllocError);
+    };
+    Ok((shelf, ticket))
+}
+
 /// The outlet of the next sender, with room for its quota. Its ticket is cut from the inlet's.
-fn outlet(
+fn outlet<D: Due>(
     alloc: Global,
-    sender: &Puttable,
+    row: &Shelf,
     ticket: &mut Ticket,
     number: u32,
     quota: u32,
 ) -> Result<Outlet, AllocError>
-    requires seat { IsSeatAt (sends_on sender.now) ticket.old }
-    requires view { knows ticket.old ≡ receives number [] }
-    ensures seat { IsSeatAt (sends_on sender.now) ticket.new }
-    ensures view { OnOk result (knows ticket.new ≡ receives (number + 1) []) }
-    ensures outlet { IfOk result (λ o. o ≡ new_outlet (queue_of (sends_on sender.now)) number quota) }
+    requires due { D.room ≡ quota + 1 }
+    requires seat { IsTicketOf (arc_value row.now) ticket.old }
+    requires view { knows ticket.old
+        ≡ receives (arc_value row.now).shared.key (knows ticket.old).room number [] [] }
+    requires enough { quota + 1 ≤ (knows ticket.old).room }
+    requires number { number < 32 }
+    ensures seat { IsTicketOf (arc_value row.now) ticket.new }
+    ensures view { OnOk result (knows ticket.new ≡ receives (arc_value row.now).shared.key
+        ((knows ticket.old).room - (quota + 1)) (number + 1) [] []) }
+    ensures outlet { IfOk result (λ o. o ≡ new_outlet (queue_of (arc_value row.now)) number quota) }
 {
-    let channel = sender.try_clone()?;
+    let own = Arc::try_clone(row)?;
     let put = Vec::with_capacity(alloc, quota as usize)?;
-    let own = channel.another::<NextSender>(ticket);
-    Ok(Outlet::new(channel, own, number, quota, put))
+    let seat = deal::<D>(row, ticket);
+    Ok(Outlet::new(own, seat, number, quota, put))
 }

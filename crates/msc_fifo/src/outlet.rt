@@ -1,27 +1,39 @@
 //! The end of a sender.
 //!
-//! It keeps the list of what it has put beside the channel, and a ticket whose view is that list:
-//! so the channel's rule says what of it is still on its way (`specs/Rule`). Contracts see an
-//! `OutletState`.
+//! It keeps the list of what it has put beside the queue's words, and a ticket whose view is that
+//! list and its claims: so the rule of the words says what of it is still on its way
+//! (`specs/Views`). Contracts see an `OutletState`.
 
-ghost use Rattle.std.specs.Prelude.{◌≡◌, ◌↔◌, ◌+◌, ◌<◌, ◌≤◌, [], ◌∷◌, ◌++◌, true, false, length, Err, OnOk, OnErr, IsOk, IsTrue, vec_capacity};
-ghost use Rattle.crossbeam_channel.specs.Claims.{view as knows, IsSeatAt};
-ghost use Rattle.crossbeam_channel.specs.Ends.{sends_on};
-ghost use Rattle.msc_fifo.specs.Rule.{sends, Receives};
+ghost use Rattle.std.specs.Prelude.{◌≡◌, ◌↔◌, ◌+◌, ◌<◌, ◌≤◌, [], ◌∷◌, ◌++◌, ℕ, true, false, length, Err, OnOk, OnErr, IfOk, IsOk, IsTrue, vec_capacity};
+ghost use Rattle.std.specs.Arc.{arc_value};
+ghost use Rattle.msc_fifo.specs.declared.entry.Entry.TheVariants as entry;
+ghost use Rattle.msc_fifo.specs.Claims.{claim};
 ghost use Rattle.msc_fifo.specs.Ends.{new_outlet, HasRoom, IsSameOutlet, IsSpent};
-ghost use Rattle.msc_fifo.specs.Settlement.{IsAccountOf};
+ghost use Rattle.msc_fifo.specs.Views.{sends, new_sender, IsTicketOf, knows};
+ghost use Rattle.msc_fifo.specs.Settling.{HandsOver};
+ghost use Rattle.msc_fifo.specs.Parts.{IsPartOf};
 
-use crate::accounts::{Account, Room};
+use crate::accounts::Room;
 use crate::entry::Entry;
 use crate::fault::SendFault;
-use crate::rule::{Puttable, Settling, TakesIn, Ticket, put};
-use std::marker::Model;
-use std::sync::Wait;
+use crate::parts::Part;
+use crate::rule::{Row, Shelf, Ticket};
+use crate::steps::{join, put, put_mark};
+use std::marker::{Brand, Model};
+
+/// Where a message was put.
+#[derive(Clone, Copy, Debug, PartialEq, Eq)]
+pub struct Sent {
+    /// Its place in the queue, from 0, in the order of all senders.
+    pub place: u32,
+    /// The clock of the place: above the one that was handed in.
+    pub clock: u64,
+}
 
 /// The end of one sender of a queue. It is made by [`queue`](crate::queue) alone.
 #[derive(Drop)]
 pub struct Outlet {
-    channel: Puttable,
+    row: Shelf,
     ticket: Ticket,
     /// The number of the sender, from 0.
     sender: u32,
@@ -34,59 +46,53 @@ pub struct Outlet {
 }
 
 impl Model for Outlet {
-    ghost use Rattle.std.specs.Prelude.{◌≡◌, ◌≤◌, vec_len, vec_capacity};
-    ghost use Rattle.crossbeam_channel.specs.Claims.{view as knows, IsSeatAt};
-    ghost use Rattle.crossbeam_channel.specs.Ends.{sends_on};
-    ghost use Rattle.msc_fifo.specs.Rule.{sends};
+    ghost use Rattle.std.specs.Prelude.{◌≡◌, ◌<◌, ◌≤◌, vec_len, vec_capacity};
+    ghost use Rattle.std.specs.Arc.{arc_value};
+    ghost use Rattle.msc_fifo.specs.World.{Each};
+    ghost use Rattle.msc_fifo.specs.Views.{claims_in, sends, resting, IsProper, IsTicketOf, knows, left_of};
     ghost use Rattle.msc_fifo.specs.Ends.{OutletState};
 
     ghost Value = { OutletState };
 
     ghost view = { λ o. record {
-      queue = record { table = o.ticket.table_id; key = o.ticket.me.0.of };
+      queue = record { table = o.ticket.table_id };
       sender = o.sender;
       quota = o.quota;
       put = o.put.items;
       closed = o.closed;
+      claims = claims_in o.ticket.me.0.senders;
     } };
 
     ghost invariant = { λ o.
-        IsSeatAt (sends_on o.channel) o.ticket
-        × (knows o.ticket ≡ sends o.sender o.put.items o.closed)
+        IsTicketOf (arc_value o.row) o.ticket
+        × (knows o.ticket ≡ sends (left_of o.quota o.put.items o.closed) (resting
+        (arc_value o.row).shared.key o.sender o.put.items o.closed
+        (claims_in (knows o.ticket).senders)))
         × (vec_len o.put ≤ o.quota)
-        × (o.quota ≤ vec_capacity o.put) };
+        × (o.quota ≤ vec_capacity o.put)
+        × Each IsProper (claims_in (knows o.ticket).senders)
+        × (o.sender < 32) };
 }
 
 impl Outlet {
     /// A new outlet, with room for its quota.
-    pub(crate) fn new(
-        channel: Puttable,
-        ticket: Ticket,
-        sender: u32,
-        quota: u32,
-        put: Vec<u32>,
-    ) -> Outlet
-        requires seat { IsSeatAt (sends_on channel) ticket }
-        requires view { knows ticket ≡ sends sender [] false }
+    pub(crate) fn new(row: Shelf, ticket: Ticket, sender: u32, quota: u32, put: Vec<u32>) -> Outlet
+        requires seat { IsTicketOf (arc_value row) ticket }
+        requires view { knows ticket
+            ≡ sends (quota + 1) (new_sender (arc_value row).shared.key sender) }
+        requires sender { sender < 32 }
         requires empty { put.items ≡ [] }
         requires room { quota ≤ vec_capacity put }
-        ensures { result ≡ new_outlet (record { table = ticket.table_id; key = ticket.me.0.of }) sender quota }
+        ensures { result ≡ new_outlet (record { table = ticket.table_id }) sender quota }
     {
         Outlet {
-            channel,
+            row,
             ticket,
             sender,
             quota,
             put,
             closed: false,
         }
-    }
-
-    /// The number of the sender, from 0.
-    pub(crate) fn number(&self) -> usize
-        ensures { result ≡ self.now.sender }
-    {
-        self.sender as usize
     }
 
     /// How many messages were put.
@@ -96,44 +102,50 @@ impl Outlet {
         self.put.len()
     }
 
-    /// The account of this outlet, where `ticket` is the inlet's and `got` what it got. The ticket
-    /// stays the inlet's, and it takes no memory.
-    pub(crate) fn account(self, ticket: &mut Ticket, got: &[Entry], room: Room) -> Account
-        requires table { ticket.old.table_id ≡ self.queue.table }
-        requires key { ticket.old.me.0.of ≡ self.queue.key }
-        requires idle { ticket.old.me.1 ≡ [] }
-        requires inlet { ((knows ticket.old).gets ≡ true) × ((knows ticket.old).got ≡ got.now) }
+    /// Hands its ticket over to the inlet's, and keeps the rest.
+    pub(crate) fn part(self, row: &Row, ticket: &mut Ticket, room: Room) -> Part
+        requires seat { IsTicketOf row.now ticket.old }
+        requires queue { self.queue.table ≡ ticket.old.table_id }
+        requires inlet { (knows ticket.old).gets ≡ true }
         requires room { length self.put ≤ room }
-        ensures table { ticket.new.table_id ≡ ticket.old.table_id }
-        ensures key { ticket.new.me.0.of ≡ ticket.old.me.0.of }
-        ensures idle { ticket.new.me.1 ≡ [] }
-        ensures inlet { Receives (knows ticket.new) (knows ticket.old).made got.now }
-        ensures number { self.sender < (knows ticket.old).made }
-        ensures account { IsAccountOf got.now self result }
+        ensures seat { IsTicketOf row.now ticket.new }
+        ensures view { HandsOver self (knows ticket.old) (knows ticket.new) }
+        ensures part { IsPartOf self result }
     {
         let Outlet {
-            channel,
+            row: _,
             ticket: own,
             sender,
             put,
             closed,
             ..
         } = self;
-        channel.absorb::<TakesIn>(ticket, own);
-        channel.learn_as::<Settling>(ticket);
-        room.account(got, sender, put, closed)
+        join(row, ticket, own);
+        Part {
+            sender,
+            put,
+            closed,
+            room,
+        }
     }
 
-    /// Puts message `m` at the back of the queue, unless the outlet is closed or has put its quota.
-    /// A refusal hands the message back and changes nothing. It takes no memory. It may wait; where
-    /// the inlet was dropped it does not return.
-    pub fn send<R: Wait>(&mut self, rt: &R, m: u32) -> Result<(), SendFault>
+    /// Puts message `m` at the back of the queue, unless the outlet is closed, has put its quota or
+    /// is handed the greatest clock. It offers the clock handed in and one; the place's clock is at
+    /// least every offer that was made for it or a place before it. A refusal hands the message
+    /// back and changes nothing. It takes no memory.
+    pub fn send(&mut self, m: u32, clock: u64) -> Result<Sent, SendFault>
         ensures accepted { IsOk result → HasRoom self.old }
-        ensures room { HasRoom self.old → IsOk result }
-        // A closed outlet is reported as such, even where its quota is spent.
+        ensures going { IsOk result → clock < 18446744073709551615 }
+        ensures room { HasRoom self.old → clock < 18446744073709551615 → IsOk result }
+        // A closed outlet is reported as such, even where its quota or the clock is spent.
         ensures closed { (result ≡ Err (SendFault.Closed m)) ↔ IsTrue self.old.closed }
         ensures full { (result ≡ Err (SendFault.Full m)) ↔ IsSpent self.old }
+        ensures spent { (result ≡ Err (SendFault.ClockSpent m))
+            ↔ (HasRoom self.old × (clock ≡ 18446744073709551615)) }
         ensures put { OnOk result (self.new.put ≡ self.old.put ++ m ∷ []) }
+        ensures claims { IfOk result (λ s. self.new.claims ≡ self.old.claims
+            ++ claim s.place (entry.Message self.old.sender m) (clock + 1) s.clock ∷ []) }
+        ensures above { IfOk result (λ s. clock < s.clock) }
         ensures opened { OnOk result (self.new.closed ≡ false) }
         ensures err { OnErr result (self.new ≡ self.old) }
         ensures same { IsSameOutlet self.old self.new }
@@ -145,44 +157,45 @@ impl Outlet {
         if self.put.len() == self.quota as usize {
             return Err(SendFault::Full(m));
         }
-        put(
-            rt,
-            &self.channel,
-            &mut self.ticket,
-            Entry::Message(self.sender, m),
-        );
+        if clock == u64::MAX {
+            return Err(SendFault::ClockSpent(m));
+        }
+        let entry = Entry::Message(self.sender, m);
+        let offer = clock + 1;
+        let (place, clock) = put::<Brand>(&self.row, &mut self.ticket, entry, offer);
         self.put.push_reserved(m);
-        Ok(())
+        Ok(Sent {
+            place: place as u32,
+            clock,
+        })
     }
 
     /// Puts the end mark at the back of the queue, unless that is done: a second close changes
-    /// nothing. It takes no memory. It may wait; where the inlet was dropped it does not return.
-    pub fn close<R: Wait>(&mut self, rt: &R)
+    /// nothing. It takes no memory.
+    pub fn close(&mut self)
         ensures closed { IsTrue self.new.closed }
         ensures put { self.new.put ≡ self.old.put }
+        ensures claims { self.old.closed ≡ false → (place : ℕ) × (self.new.claims
+            ≡ self.old.claims ++ claim place (entry.Ended self.old.sender) 0 0 ∷ []) }
         ensures again { IsTrue self.old.closed → self.new ≡ self.old }
         ensures same { IsSameOutlet self.old self.new }
     {
         if self.closed {
             return;
         }
-        put(
-            rt,
-            &self.channel,
-            &mut self.ticket,
-            Entry::Ended(self.sender),
-        );
+        let entry = Entry::Ended(self.sender);
+        put_mark::<Brand>(&self.row, &mut self.ticket, entry);
         self.closed = true;
     }
 
-    /// How many messages of the quota were not yet put. It takes no memory and does not wait.
+    /// How many messages of the quota were not yet put. It takes no memory.
     pub fn left(&self) -> u32
         ensures { length self.now.put + result ≡ self.now.quota }
     {
         self.quota - self.put.len() as u32
     }
 
-    /// Whether the outlet is closed. It takes no memory and does not wait.
+    /// Whether the outlet is closed. It takes no memory.
     pub fn is_closed(&self) -> bool
         ensures { result ≡ self.now.closed }
     {

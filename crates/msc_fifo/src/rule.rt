@@ -1,145 +1,219 @@
-//! How a queue is held: a bounded channel under a rule of this crate's own (`specs/Rule`).
+//! How a queue is held: a row of shared words under a rule of this crate's own.
 //!
-//! Each end holds a pass of the channel, a token of no bytes; its view is what that end knows. The
-//! rule says of the views and of what stands in the channel that nothing is lost, repeated or
-//! reordered. Each step of the channel is one push, one removal from the front, or a cut, a join or
-//! a reading of passes, and each keeps the rule whatever the other threads did before
-//! (`proofs/RuleSteps`). Nothing outside this file, `outlet`, `inlet` and `making` knows of it.
+//! Word 0, the claim word, counts the places that were claimed; word 1, the clock word, is the
+//! greatest offer; words 2k + 2 and 2k + 3 are the entry and the clock of place k, 0 while it has
+//! none. Each end holds a ticket, a token of no bytes, whose view is what that end knows. The rule
+//! (`specs/World`, `specs/Views`) says of the words and of all views that nothing is lost, repeated
+//! or reordered, and that a clock is at least each offer up to its place. What each step tells is
+//! in `specs/Moves`; each keeps the rule whatever the other threads did before
+//! (`proofs/OutletSteps`, `proofs/InletSteps`). The steps themselves are in `steps`.
 
-ghost use Rattle.std.specs.Prelude.{◌≡◌, true};
-ghost use Rattle.crossbeam_channel.specs.Claims.{view, IsSeatAt};
-ghost use Rattle.crossbeam_channel.specs.Ends.{sends_on, receives_on};
-ghost use Rattle.msc_fifo.specs.Rule.{HasLooked, MayPut, after_put};
+ghost use Rattle.std.specs.Prelude.{ℕ};
 
+use crate::claim::Claim;
 use crate::entry::Entry;
-use crossbeam_channel::protocol::{Join, Lesson, Outcome, Protocol, Split};
-use crossbeam_channel::{Pass, RuledReceiver, RuledSender};
+use atomic_table::{Join, Play, Seat, Split, Table, TableRule};
+use std::alloc::Global;
 use std::collections::LinkedList;
-use std::sync::Wait;
+use std::marker::{Brand, PhantomData};
+use std::sync::Arc;
 
-/// What a pass knows. No value of it is made: it is seen by the rule alone.
+/// What is known of a sender. No value of it is made: it is seen by the rule alone.
+pub struct Sender {
+    /// Its number.
+    pub from: u64,
+    /// How many places the queue has.
+    pub places: u64,
+    /// What it has put.
+    pub put: LinkedList<u64>,
+    /// Whether it has put its end mark.
+    pub closed: bool,
+    /// Its claims whose entries are stored.
+    pub claims: LinkedList<Claim>,
+    /// The claim whose entry is not stored yet, if there is one.
+    pub pending: LinkedList<Claim>,
+    /// All its offers.
+    pub offers: LinkedList<u64>,
+    /// The offer for the next place that it claims.
+    pub ready: u64,
+    /// What it has stored as the clock of the place whose entry is not stored yet.
+    pub shown: u64,
+}
+
+/// What a ticket knows. No value of it is made: it is seen by the rule alone.
 pub struct View {
     /// Whether it is the inlet's.
     pub gets: bool,
     /// The inlet: how many senders it has made.
     pub made: u64,
+    /// The inlet: how many places the queue has.
+    pub places: u64,
     /// The inlet: what it has got.
     pub got: LinkedList<Entry>,
-    /// Whether it is an outlet's, or the inlet's that has taken in an outlet's.
-    pub sends: bool,
-    /// The outlet: its sender.
-    pub from: u64,
-    /// The outlet: what it has put.
-    pub put: LinkedList<u64>,
-    /// The outlet: whether it has put its end mark.
-    pub closed: bool,
+    /// The inlet: the clocks of these places.
+    pub clocks: LinkedList<u64>,
+    /// How many places may still be claimed with it.
+    pub room: u64,
+    /// Of an outlet its sender; of the inlet the senders whose tickets it has taken in.
+    pub senders: LinkedList<Sender>,
 }
 
-/// The rule of the channel.
+/// The rule of the row, for so many places.
 pub struct InOrder;
 
-impl Protocol<Entry, View> for InOrder {
+impl TableRule<(), View, usize> for InOrder {
     ghost use Rattle.std.specs.Prelude.{[]};
-    ghost use Rattle.msc_fifo.specs.Rule.{Kept, receives};
+    ghost use Rattle.msc_fifo.specs.Views.{Kept, receives};
 
     ghost holds = { Kept };
 
-    ghost first = { receives 0 [] };
+    ghost first = { λ places. receives places places 0 [] [] };
 }
 
-/// An outlet puts an entry.
-pub struct Puts;
+/// What a claim is for, in proofs alone. A call at `Brand` picks it.
+pub trait Said {
+    ghost use Rattle.msc_fifo.specs.declared.entry.Entry.{Entry};
 
-impl Outcome<Entry, View> for Puts {
-    ghost use Rattle.std.specs.Prelude.{◌≡◌};
-    ghost use Rattle.msc_fifo.specs.Rule.{after_put};
-
-    ghost then = { λ v e w. w ≡ after_put v e };
+    ghost item: { Entry };
 }
 
-impl Lesson<Entry, View> for Puts {
-    ghost use Rattle.std.specs.Prelude.{⊤};
+impl Said for Brand {
+    ghost use Rattle.msc_fifo.specs.declared.entry.Entry.TheVariants.{Ended};
 
-    ghost fact = { λ v items. ⊤ };
+    ghost item = { Ended 0 };
 }
 
-/// The inlet takes an entry.
-pub struct Gets;
-
-impl Outcome<Entry, View> for Gets {
-    ghost use Rattle.msc_fifo.specs.Rule.{Takes};
-
-    ghost then = { Takes };
+/// How many places an outlet may claim, in proofs alone. A call at `Brand` picks it.
+pub trait Due {
+    ghost room: { ℕ };
 }
 
-impl Lesson<Entry, View> for Gets {
-    ghost use Rattle.std.specs.Prelude.{⊤};
-
-    ghost fact = { λ v items. ⊤ };
+impl Due for Brand {
+    ghost room = { 0 };
 }
 
-/// The inlet makes the next sender.
-pub struct NextSender;
+/// An outlet raises the clock word to its offer.
+pub struct Offers;
 
-impl Split<View> for NextSender {
-    ghost use Rattle.std.specs.Prelude.{false, [], ◌+◌};
-    ghost use Rattle.msc_fifo.specs.Rule.{sends, receives};
+impl Play<(), View> for Offers {
+    ghost use Rattle.msc_fifo.specs.Moves.{OffersIt};
 
-    ghost left = { λ v. receives (v.made + 1) v.got };
+    ghost then = { OffersIt };
+}
 
-    ghost right = { λ v. sends v.made [] false };
+/// An outlet claims the next place.
+pub struct Claims<W> {
+    said: PhantomData<W>,
+}
+
+impl<W: Said> Play<(), View> for Claims<W> {
+    ghost use Rattle.msc_fifo.specs.Moves.{ClaimsIt};
+
+    ghost then = { ClaimsIt W.item };
+}
+
+/// An outlet reads the clock word for the place that it claimed.
+pub struct Dates;
+
+impl Play<(), View> for Dates {
+    ghost use Rattle.msc_fifo.specs.Moves.{DatesIt};
+
+    ghost then = { DatesIt };
+}
+
+/// An outlet stores the clock of its place.
+pub struct Shows;
+
+impl Play<(), View> for Shows {
+    ghost use Rattle.msc_fifo.specs.Moves.{ShowsIt};
+
+    ghost then = { ShowsIt };
+}
+
+/// An outlet stores the entry of its place.
+pub struct Stores;
+
+impl Play<(), View> for Stores {
+    ghost use Rattle.msc_fifo.specs.Moves.{StoresIt};
+
+    ghost then = { StoresIt };
+}
+
+/// The inlet reads the next place.
+pub struct Looks;
+
+impl Play<(), View> for Looks {
+    ghost use Rattle.msc_fifo.specs.Moves.{LooksAt};
+
+    ghost then = { LooksAt };
+}
+
+/// The inlet reads the clock of the place whose message it took.
+pub struct Learns;
+
+impl Play<(), View> for Learns {
+    ghost use Rattle.msc_fifo.specs.Moves.{LearnsIt};
+
+    ghost then = { LearnsIt };
+}
+
+/// The inlet reads the entry of a place, once it has taken in the outlets' tickets.
+pub struct ReadsEntry;
+
+impl Play<(), View> for ReadsEntry {
+    ghost use Rattle.msc_fifo.specs.Moves.{ReadsItsEntry};
+
+    ghost then = { ReadsItsEntry };
+}
+
+/// The inlet reads the clock of a place, once it has taken in the outlets' tickets.
+pub struct ReadsClock;
+
+impl Play<(), View> for ReadsClock {
+    ghost use Rattle.msc_fifo.specs.Moves.{ReadsItsClock};
+
+    ghost then = { ReadsItsClock };
+}
+
+/// The inlet reads the claim word, once it has taken in the outlets' tickets.
+pub struct Settles;
+
+impl Play<(), View> for Settles {
+    ghost use Rattle.msc_fifo.specs.Moves.{SettlesIt};
+
+    ghost then = { SettlesIt };
+}
+
+/// The inlet makes the next sender, which may claim so many places.
+pub struct NextSender<D> {
+    due: PhantomData<D>,
+}
+
+impl<D: Due> Split<View> for NextSender<D> {
+    ghost use Rattle.std.specs.Prelude.{◌+◌, ◌-◌};
+    ghost use Rattle.msc_fifo.specs.Views.{sends, new_sender, receives};
+
+    ghost left = { λ v. receives v.places (v.room - D.room) (v.made + 1) v.got v.clocks };
+
+    ghost right = { λ v. sends D.room (new_sender v.places v.made) };
 }
 
 /// The inlet takes in what an outlet knows.
 pub struct TakesIn;
 
 impl Join<View> for TakesIn {
-    ghost use Rattle.msc_fifo.specs.Rule.{beside, nobody};
+    ghost use Rattle.msc_fifo.specs.Views.{beside, nobody};
 
     ghost both = { beside };
 
     ghost spent = { nobody };
 }
 
-/// What the outlet that was taken in has put, beside what the inlet got.
-pub struct Settling;
-
-impl Lesson<Entry, View> for Settling {
-    ghost use Rattle.msc_fifo.specs.Rule.{Settles};
-
-    ghost fact = { Settles };
-}
-
 /// What an end of a queue holds of the rule.
-pub type Ticket = Pass<Entry, View>;
+pub type Ticket = Seat<(), View>;
 
-/// The channel, as an outlet holds it.
-pub type Puttable = RuledSender<Entry, View, InOrder>;
+/// The words of a queue.
+pub type Row = Table<(), View, usize, InOrder, Global>;
 
-/// The channel, as the inlet holds it.
-pub type Gettable = RuledReceiver<Entry, View, InOrder>;
-
-/// Puts an entry at the back, again and again while the channel gives it back.
-pub fn put<R: Wait>(rt: &R, channel: &Puttable, pass: &mut Ticket, entry: Entry)
-    requires seat { IsSeatAt (sends_on channel.now) pass.old }
-    requires may { MayPut (view pass.old) entry }
-    ensures seat { IsSeatAt (sends_on channel.now) pass.new }
-    ensures view { view pass.new ≡ after_put (view pass.old) entry }
-{
-    for _ in rt.forever() {
-        if channel.send_as::<Puts, R>(rt, pass, entry).is_ok() {
-            return;
-        }
-    }
-    unreachable!()
-}
-
-/// Takes the entry at the front, if the channel is not empty.
-pub fn get<R: Wait>(rt: &R, channel: &Gettable, pass: &mut Ticket) -> Option<Entry>
-    requires seat { IsSeatAt (receives_on channel.now) pass.old }
-    requires may { (view pass.old).gets ≡ true }
-    ensures seat { IsSeatAt (receives_on channel.now) pass.new }
-    ensures view { HasLooked (view pass.old) result (view pass.new) }
-{
-    channel.try_recv_as::<Gets, R>(rt, pass).ok()
-}
+/// The words, as each end holds them.
+pub type Shelf = Arc<Row, Global>;

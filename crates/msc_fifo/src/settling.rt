@@ -1,21 +1,22 @@
 //! Settling a queue, once its ends are together again: what each sender put, what of it was taken
-//! and what is left.
+//! and what is left, and what stands at each place.
 
 ghost use Rattle.std.specs.Prelude.{◌≡◌, length, map, vec_len, All, IfOk, IfErr};
 ghost use Rattle.msc_fifo.specs.Ends.{AreOutletsOf};
-ghost use Rattle.msc_fifo.specs.Settlement.{HasAccount};
+ghost use Rattle.msc_fifo.specs.Entries.{IsOrderly};
+ghost use Rattle.msc_fifo.specs.Settlement.{HasAccount, IsSettled};
 
+use crate::PLACE_LIMIT;
 use crate::accounts::{Account, Room, Settled};
 use crate::inlet::Inlet;
 use crate::outlet::Outlet;
 use std::alloc::{AllocError, Global};
-use std::sync::Wait;
 
-/// Settles a queue: an account for each sender, by its number. The list holds each outlet of the
-/// inlet's queue once and no other, in any order, open or closed. All room is made before anything
-/// is touched: where memory is refused, all ends come back as they were. It may wait.
-pub fn settle<R: Wait>(
-    _rt: &R,
+/// Settles a queue: an account for each sender, by its number, and the places that were claimed.
+/// The list holds each outlet of the inlet's queue once and no other, in any order, open or closed.
+/// All room is made before anything is touched: where memory is refused, all ends come back as they
+/// were.
+pub fn settle(
     alloc: Global,
     inlet: Inlet,
     outlets: Vec<Outlet>,
@@ -23,17 +24,24 @@ pub fn settle<R: Wait>(
     requires { AreOutletsOf inlet outlets.items }
     ensures count { IfOk result (λ s. vec_len s.senders ≡ inlet.senders) }
     ensures accounts { IfOk result (λ s. All (HasAccount s.senders.items inlet.got) outlets.items) }
+    ensures places { IfOk result (λ s. IsSettled inlet outlets.items s.places.items) }
+    ensures orderly { IfOk result (λ _. IsOrderly inlet.senders inlet.got) }
     ensures inlet { IfErr result (λ e. e.1 ≡ inlet) }
     ensures outlets { IfErr result (λ e. e.2.items ≡ outlets.items) }
 {
     let Ok(rooms) = rooms(alloc, outlets.as_slice()) else {
         return Err((AllocError, inlet, outlets));
     };
+    let Ok(parts) = Vec::with_capacity(alloc, outlets.len()) else {
+        return Err((AllocError, inlet, outlets));
+    };
     let Ok(blanks) = blanks(alloc, outlets.len()) else {
         return Err((AllocError, inlet, outlets));
     };
-    let senders = fill(inlet, outlets, rooms, blanks);
-    Ok(Settled { senders })
+    let Ok(places) = Vec::with_capacity(alloc, PLACE_LIMIT) else {
+        return Err((AllocError, inlet, outlets));
+    };
+    Ok(inlet.settle(outlets, rooms, parts, blanks, places))
 }
 
 /// Room for the account of each outlet.
@@ -56,27 +64,4 @@ fn blanks(alloc: Global, count: usize) -> Result<Vec<Account>, AllocError>
         blanks.push_reserved(Account::blank(alloc));
     }
     Ok(blanks)
-}
-
-/// The accounts, by the numbers of the senders: the inlet takes in the outlets, from the last to
-/// the first, and each account takes the place of an empty one.
-fn fill(
-    mut inlet: Inlet,
-    mut outlets: Vec<Outlet>,
-    mut rooms: Vec<Room>,
-    mut senders: Vec<Account>,
-) -> Vec<Account>
-    requires outlets { AreOutletsOf inlet outlets.items }
-    requires rooms { rooms.items ≡ map (λ o. length o.put) outlets.items }
-    requires senders { vec_len senders ≡ length outlets.items }
-    ensures count { vec_len result ≡ inlet.senders }
-    ensures accounts { All (HasAccount result.items inlet.got) outlets.items }
-{
-    while let Some(outlet) = outlets.pop() {
-        let room = rooms.pop().unwrap();
-        let number = outlet.number();
-        let account = inlet.take_in(outlet, room);
-        senders[number] = account;
-    }
-    senders
 }

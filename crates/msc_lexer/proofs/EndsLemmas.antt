@@ -1,11 +1,12 @@
 -- Where a note, a text and a run end.
-use Rattle.std.proofs.Common.{◌≡◌, ◌≢◌, ℕ, ◌+◌, ◌-◌, ◌<◌, ◌≤◌, true, false, cond, eqb, nat_eq, List, [], ◌∷◌, ◌++◌, length, get_or, take, drop, refl, sym, ap, ◌∙◌, append_assoc, one-add, inl, inr, arith}
+use Rattle.std.proofs.Common.{◌≡◌, ◌≢◌, ℕ, ◌+◌, ◌-◌, ◌<◌, ◌≤◌, true, false, nat_eq, List, [], ◌∷◌, ◌++◌, length, get_or, take, drop, refl, sym, ap, ◌∙◌, append_assoc, one-add, inl, inr, arith}
 use Rattle.std.specs.List.{prefix_len}
 use Rattle.std.proofs.lemmas.Bool.{cases_lt, ne_eqb}
 use Rattle.std.proofs.lemmas.List.{take-append-drop, get_or-take, get_or_past, length-take, take_more, drop_more, drop_all}
 use Rattle.msc_lexer.specs.Bytes.{begins, is_run_byte}
 use Rattle.msc_lexer.specs.Pieces.{NeverCloses, doubled, IsRun}
 use Rattle.msc_lexer.specs.Scanning.{ClosesAt, IsDoubled}
+use Rattle.msc_lexer.proofs.Quotes.{doubled-append}
 
 -- ---- notes
 
@@ -45,15 +46,6 @@ never_closes body at high none k a b =
     ]
 
 -- ---- texts
-
--- doubling goes through joining
-pub doubled-append : (xs ys : List ℕ) → doubled (xs ++ ys) ≡ doubled xs ++ doubled ys
-doubled-append [] ys = refl
-doubled-append (x ∷ xs) ys =
-    elim (eqb x 39) as (λ t. cond t (39 ∷ 39 ∷ doubled (xs ++ ys)) (x ∷ doubled (xs ++ ys)) ≡ cond t (39 ∷ 39 ∷ doubled xs) (x ∷ doubled xs) ++ doubled ys) [
-      | true ↦ ap (λ (l : List ℕ). 39 ∷ 39 ∷ l) (doubled-append xs ys)
-      | false ↦ ap (λ (l : List ℕ). x ∷ l) (doubled-append xs ys)
-    ]
 
 -- a byte that is no apostrophe goes on what is doubled
 pub doubled-plain : (bytes : List ℕ) (at : ℕ) → at < length bytes → (get_or bytes at 0 ≡ 39 → ⊥)

@@ -1,3 +1,5 @@
+-- what a text between apostrophes holds
+pub mod Quotes
 -- what the functions read
 pub mod Spellings
 pub mod EndsLemmas
@@ -11,7 +13,5 @@ pub mod OneFlaw
 pub mod OneReading
 -- what the tokens of every text keep
 pub mod Placed
--- what a text holds
-pub mod Quotes
 -- what is printed is read again
 pub mod Printed

@@ -1,11 +1,21 @@
 -- What a text between apostrophes holds: each doubled apostrophe halved.
-use Rattle.std.proofs.Common.{◌≡◌, ◌≢◌, ℕ, ◌+◌, ◌-◌, ◌<◌, ◌≤◌, false, eqb, List, [], ◌∷◌, ◌++◌, length, get_or, refl, sym, ap, ◌∙◌, append_assoc, inl, inr, arith}
+use Rattle.std.proofs.Common.{◌≡◌, ◌≢◌, ℕ, ◌+◌, ◌-◌, ◌<◌, ◌≤◌, true, false, cond, eqb, List, [], ◌∷◌, ◌++◌, length, get_or, refl, sym, ap, ◌∙◌, append_assoc, inl, inr, arith}
 use Rattle.std.proofs.lemmas.Bool.{cases_Bool, eqb-true, eq-eqb, ne_eqb}
 use Rattle.std.specs.List.{slice_range}
 use Rattle.std.proofs.lemmas.List.{length-append, append-nil, take_at, get_or-append_right}
 use Rattle.msc_lexer.specs.Pieces.{doubled, quoted}
 use Rattle.msc_lexer.specs.Lexemes.{halved, unquoted}
-use Rattle.msc_lexer.proofs.EndsLemmas.{doubled-append}
+
+-- ---- doubling
+
+-- doubling goes through joining
+pub doubled-append : (xs ys : List ℕ) → doubled (xs ++ ys) ≡ doubled xs ++ doubled ys
+doubled-append [] ys = refl
+doubled-append (x ∷ xs) ys =
+    elim (eqb x 39) as (λ t. cond t (39 ∷ 39 ∷ doubled (xs ++ ys)) (x ∷ doubled (xs ++ ys)) ≡ cond t (39 ∷ 39 ∷ doubled xs) (x ∷ doubled xs) ++ doubled ys) [
+      | true ↦ ap (λ (l : List ℕ). 39 ∷ 39 ∷ l) (doubled-append xs ys)
+      | false ↦ ap (λ (l : List ℕ). x ∷ l) (doubled-append xs ys)
+    ]
 
 -- ---- what is quoted is what was there
 

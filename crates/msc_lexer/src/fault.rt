@@ -26,7 +26,7 @@ pub enum LexFault {
     #[error("name longer than 64 bytes")]
     LongName(usize),
     /// A growth of memory was refused.
-    #[error("out of memory")]
+    #[error("memory fault")]
     Memory,
 }
 

@@ -5,7 +5,7 @@ use Rattle.std.proofs.lemmas.List.Concat.{flat_map-append}
 use Rattle.std.proofs.lemmas.Bool.{ne_eqb}
 use Rattle.std.proofs.lemmas.List.{take_more}
 use Rattle.msc_lexer.specs.Pieces.{Piece, doubled, spelled, text_of}
-use Rattle.msc_lexer.proofs.EndsLemmas.{doubled-append}
+use Rattle.msc_lexer.proofs.Quotes.{doubled-append}
 
 -- the text of pieces that stand between others
 pub between : (front mid back : List Piece) (o a b c : List ℕ) → a ≡ o ++ text_of front

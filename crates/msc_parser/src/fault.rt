@@ -81,7 +81,7 @@ pub enum ParseFault {
     #[error("expected {1}")]
     Expected(usize, What),
     /// A growth of memory was refused.
-    #[error("out of memory")]
+    #[error("memory fault")]
     Memory,
 }
 

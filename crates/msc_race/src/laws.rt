@@ -1,6 +1,6 @@
 //! Laws of the runs of a chart, over the definitions alone. The functions do nothing when they run:
 //! a caller calls one to rest its own proof on the law. Each law holds of every accepted chart
-//! under either architecture.
+//! under each architecture.
 
 ghost use Rattle.std.specs.Prelude.{[], ◌∷◌};
 ghost use Rattle.msc_chart.specs.declared.queue.Queues.{Queues};

@@ -8,11 +8,3 @@ Appends-append None mid new xs ys a b = tt
 Appends-append (Some o) None new xs ys a b = absurd a
 Appends-append (Some o) (Some m) None xs ys a b = absurd b
 Appends-append (Some o) (Some m) (Some n) xs ys a b = b ∙ ap (λ (t : List ℕ). t ++ ys) a ∙ append_assoc o xs ys
-
--- a head, a number and a mark, then a word, then the rest of the line
-pub Appends-word : (old one two new : Option (List ℕ)) (head number mark word tail : List ℕ) → Appends old one (head ++ (number ++ mark)) → Appends one two word → Appends two new tail
-    → Appends old new (head ++ (number ++ (mark ++ (word ++ tail))))
-Appends-word old one two new head number mark word tail a b c =
-    let whole : (head ++ (number ++ mark)) ++ (word ++ tail) ≡ head ++ (number ++ (mark ++ (word ++ tail))) =
-    append_assoc head (number ++ mark) (word ++ tail) ∙ ap (λ (t : List ℕ). head ++ t) (append_assoc number mark (word ++ tail)) in
-    subst (Appends old new) whole (Appends-append old one new (head ++ (number ++ mark)) (word ++ tail) a (Appends-append one two new word tail b c))

@@ -4,28 +4,13 @@ use Rattle.std.specs.Fmt.{decimal}
 use Rattle.msc_lexer.specs.declared.fault.LexFault.{LexFault}
 use Rattle.msc_lexer.specs.declared.fault.LexFault.TheVariants as lexical
 use Rattle.msc_lexer.specs.Words.{spelling}
-use Rattle.msc_parser.specs.declared.fault.What.{What}
-use Rattle.msc_parser.specs.declared.fault.What.TheVariants as whats
+use Rattle.msc_parser.specs.Expectations.{expectation}
 use Rattle.msc_parser.specs.declared.fault.ParseFault.{ParseFault}
 use Rattle.msc_parser.specs.declared.fault.ParseFault.TheVariants as grammar
 use Rattle.msc_chart.specs.declared.fault.ChartFault.{ChartFault}
 use Rattle.msc_chart.specs.declared.fault.ChartFault.TheVariants as charts
 use Rattle.msc_report.specs.declared.fault.Fault.{Fault}
 use Rattle.msc_report.specs.declared.fault.Fault.TheVariants.{Parse, Chart, Memory, Device}
-
--- what was expected at a place
-abbrev pub what_text : What → List ℕ
-what_text whats.Msc = codes "msc"
-what_text whats.Name = codes "a name"
-what_text whats.Text = codes "a text"
-what_text whats.End = codes "the end of the statement"
-what_text whats.Section = codes "a section"
-what_text whats.Item = codes "an item"
-what_text whats.Event = codes "an event"
-what_text whats.To = codes "to"
-what_text whats.From = codes "from"
-what_text whats.Parameter = codes "a parameter list"
-what_text whats.Nothing = codes "the end of the text"
 
 -- one line of words
 abbrev pub line : List ℕ → List ℕ
@@ -48,7 +33,7 @@ lexical_line lexical.Memory = line (codes "memory fault")
 abbrev pub grammar_line : ParseFault → List ℕ
 grammar_line (grammar.Lex f) = lexical_line f
 grammar_line (grammar.Unsupported at word) = codes "grammar fault 2 at " ++ (decimal at ++ (codes ": " ++ (spelling word ++ line (codes " is not supported"))))
-grammar_line (grammar.Expected at w) = codes "grammar fault 3 at " ++ (decimal at ++ (codes ": expected " ++ line (what_text w)))
+grammar_line (grammar.Expected at w) = codes "grammar fault 3 at " ++ (decimal at ++ (codes ": expected " ++ line (expectation w)))
 grammar_line grammar.Memory = line (codes "memory fault")
 
 -- the line of a chart's fault by its number, what stands before its place, its place where it has
@@ -64,6 +49,7 @@ chart_fault_line (charts.TwiceInstance i) = numbered 2 (codes "section ") (Some 
 chart_fault_line (charts.HeaderWithoutBody k) = numbered 3 (codes "header name ") (Some k) (codes " has no section")
 chart_fault_line (charts.UnknownAddress e) = numbered 4 (codes "event ") (Some e) (codes " has an unknown address")
 chart_fault_line charts.TooManyMessages = numbered 5 (codes "more than 1024 messages") None []
+chart_fault_line charts.TooManyActions = numbered 11 (codes "more than 1024 actions") None []
 chart_fault_line (charts.TwiceEvent e) = numbered 6 (codes "event ") (Some e) (codes " repeats a message")
 chart_fault_line (charts.UnmatchedOut e) = numbered 7 (codes "output ") (Some e) (codes " has no input")
 chart_fault_line (charts.UnmatchedIn e) = numbered 8 (codes "input ") (Some e) (codes " has no output")

@@ -1,14 +1,14 @@
 -- The texts that verdicts and races are printed as. This project's own formats.
-use Rattle.std.specs.Prelude.{ℕ, List, [], ◌++◌, Option, None, Some, codes, get_or, length}
+use Rattle.std.specs.Prelude.{ℕ, ◌||◌, cond, List, [], ◌∷◌, ◌++◌, Option, None, Some, codes, get_or, length, nat_eq, nat_lt}
 use Rattle.std.specs.Fmt.{decimal}
 use Rattle.std.specs.List.{flat_map}
 use Rattle.msc_chart.specs.declared.event.EventKind.{EventKind}
-use Rattle.msc_chart.specs.declared.event.EventKind.TheVariants.{Output, Input}
+use Rattle.msc_chart.specs.declared.event.EventKind.TheVariants.{Output, Input, Local}
 use Rattle.msc_chart.specs.declared.message.Message.{Message}
 use Rattle.msc_chart.specs.declared.queue.Queues.{Queues}
 use Rattle.msc_chart.specs.Architectures.{queues_word}
 use Rattle.msc_chart.specs.Charts as charts
-use Rattle.msc_chart.specs.Drawings.{Drawing, message_at}
+use Rattle.msc_chart.specs.Drawings.{Drawing, label_of, message_at}
 use Rattle.msc_race.specs.declared.verdict.Verdict.{Verdict}
 use Rattle.msc_race.specs.declared.verdict.Verdict.TheVariants.{Pass, Races}
 use Rattle.msc_report.specs.Texts.{line}
@@ -44,17 +44,28 @@ number_text (Some number) = codes ", " ++ number
 abbrev pub message_text : Message → List ℕ
 message_text m = m.name ++ number_text m.number
 
--- the words of an output or an input, with the name of the instance at the other end
-abbrev pub signal_text : EventKind → List ℕ → List ℕ → List ℕ
-signal_text Output message address = codes "out " ++ (message ++ (codes " to " ++ address))
-signal_text Input message address = codes "in " ++ (message ++ (codes " from " ++ address))
+-- a byte of an action's text in one line: an apostrophe is doubled, and what is no visible character
+-- of ASCII and no space is a question mark
+abbrev pub shown_byte : ℕ → List ℕ
+shown_byte b = cond (nat_eq b 39) (codes "''") (cond (nat_lt b 32 || nat_lt 126 b) (codes "?") (b ∷ []))
+
+-- an action by its text
+abbrev pub action_text : List ℕ → List ℕ
+action_text label = codes "action '" ++ (flat_map shown_byte label ++ codes "'")
+
+-- the words of an event of this kind: an output or an input of a message, with the name of the
+-- instance at the other end, or an action by its text
+abbrev pub statement_text : EventKind → List ℕ → List ℕ → List ℕ → List ℕ
+statement_text Output message address label = codes "out " ++ (message ++ (codes " to " ++ address))
+statement_text Input message address label = codes "in " ++ (message ++ (codes " from " ++ address))
+statement_text Local message address label = action_text label
 
 -- event e, as its statement says it
 abbrev pub event_text : Drawing → ℕ → List ℕ
 event_text d e =
     let message = message_text (message_at d (charts.message d.events e)) in
     let address = instance_text d (charts.line d.events (charts.partner d.events e)) in
-    signal_text (charts.kind d.events e) message address
+    statement_text (charts.kind d.events e) message address (label_of d e)
 
 -- which events race, and on which line
 abbrev pub race_place : Drawing → ℕ → ℕ → List ℕ

@@ -1,15 +1,15 @@
 //! The text of one race.
 
-ghost use Rattle.std.specs.Prelude.{◌≡◌, ◌<◌, ◌++◌, IfOk, OnOk, Some, length};
+ghost use Rattle.std.specs.Prelude.{◌≡◌, ◌<◌, ◌++◌, false, IfOk, OnOk, Some, length};
 ghost use Rattle.std.specs.Io.KnownBytes.{Appends};
 ghost use Rattle.std.specs.List.{flat_map};
 ghost use Rattle.std.specs.Option.{option_copied};
-ghost use Rattle.msc_chart.specs.Charts.{line, message, partner};
+ghost use Rattle.msc_chart.specs.Charts.{is_local, line, message, partner};
 ghost use Rattle.msc_chart.specs.Drawings.{message_at};
-ghost use Rattle.msc_report.specs.Verdicts.{event_text, instance_text, message_text, number_text, race_events, race_place, race_text, run_line, spaced};
+ghost use Rattle.msc_report.specs.Verdicts.{action_text, event_text, instance_text, message_text, number_text, race_events, race_place, race_text, run_line, shown_byte, spaced};
 
 use itoa::Buffer;
-use msc_chart::{Chart, Event, EventKind};
+use msc_chart::{Chart, Event};
 use std::alloc::{AllocError, Global};
 use std::io;
 use std::io::Write;
@@ -65,7 +65,8 @@ fn write_signal<W: Write>(
     way: &[u8],
     preposition: &[u8],
 ) -> io::Result<()>
-    requires { e < length chart.now.events }
+    requires known { e < length chart.now.events }
+    requires message { is_local chart.now.events e ≡ false }
     ensures { OnOk result (Appends (W.contents writer.old) (W.contents writer.new)
         (way.now ++ (message_text (message_at chart.now (message chart.now.events e)) ++ (preposition.now
         ++ instance_text chart.now (line chart.now.events (partner chart.now.events e)))))) }
@@ -76,15 +77,64 @@ fn write_signal<W: Write>(
     write_instance(writer, chart, address_of(chart, e))
 }
 
+/// Writes an output or an input in the words of its statement.
+fn write_end<W: Write>(writer: &mut W, chart: &Chart, e: Event) -> io::Result<()>
+    requires known { e < length chart.now.events }
+    requires message { is_local chart.now.events e ≡ false }
+    ensures { OnOk result (Appends (W.contents writer.old) (W.contents writer.new)
+        (event_text chart.now e)) }
+{
+    if chart.is_output(e) {
+        write_signal(writer, chart, e, b"out ", b" to ")
+    } else {
+        write_signal(writer, chart, e, b"in ", b" from ")
+    }
+}
+
+/// Writes a byte of an action's text: an apostrophe doubled, and a question mark for what is no
+/// visible character of ASCII and no space.
+fn write_byte<W: Write>(writer: &mut W, byte: u8) -> io::Result<()>
+    ensures { OnOk result (Appends (W.contents writer.old) (W.contents writer.new) (shown_byte byte)) }
+{
+    if byte == b'\'' {
+        return writer.write_all(b"''");
+    }
+    if byte < 32 || byte > 126 {
+        return writer.write_all(b"?");
+    }
+    writer.write_all(&[byte])
+}
+
+/// Writes the bytes of an action's text.
+fn write_label<W: Write>(writer: &mut W, label: &[u8]) -> io::Result<()>
+    ensures { OnOk result (Appends (W.contents writer.old) (W.contents writer.new)
+        (flat_map shown_byte label.now)) }
+{
+    for byte in label {
+        write_byte(writer, *byte)?;
+    }
+    Ok(())
+}
+
+/// Writes an action by its text.
+fn write_action<W: Write>(writer: &mut W, label: &[u8]) -> io::Result<()>
+    ensures { OnOk result (Appends (W.contents writer.old) (W.contents writer.new)
+        (action_text label.now)) }
+{
+    writer.write_all(b"action '")?;
+    write_label(writer, label)?;
+    writer.write_all(b"'")
+}
+
 /// Writes what event `e` does, in the words of its statement.
 fn write_event<W: Write>(writer: &mut W, chart: &Chart, e: Event) -> io::Result<()>
     requires { e < length chart.now.events }
     ensures { OnOk result (Appends (W.contents writer.old) (W.contents writer.new)
         (event_text chart.now e)) }
 {
-    match chart.kind(e) {
-        EventKind::Output => write_signal(writer, chart, e, b"out ", b" to "),
-        EventKind::Input => write_signal(writer, chart, e, b"in ", b" from "),
+    match chart.label(e) {
+        Some(label) => write_action(writer, label),
+        None => write_end(writer, chart, e),
     }
 }
 

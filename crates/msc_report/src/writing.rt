@@ -5,7 +5,7 @@
 
 ghost use Rattle.std.specs.Prelude.{◌≡◌, IfNone, IfSome, OnOk};
 ghost use Rattle.std.specs.Io.KnownBytes.{Appends};
-ghost use Rattle.msc_report.specs.Texts.{chart_fault_line, fault_line, grammar_line, lexical_line, line, numbered, placed, what_text};
+ghost use Rattle.msc_report.specs.Texts.{chart_fault_line, fault_line, grammar_line, lexical_line, line, numbered, placed};
 
 use crate::fault::Fault;
 use msc_chart::ChartFault;
@@ -19,25 +19,6 @@ pub fn write_draft<W: Write>(writer: &mut W, text: &[u8]) -> io::Result<()>
     ensures { OnOk result (Appends (W.contents writer.old) (W.contents writer.new) text.now) }
 {
     writer.write_all(text)
-}
-
-/// The words for what was expected at a place.
-fn what_text(what: What) -> &'static str
-    ensures { result.now ≡ what_text what }
-{
-    match what {
-        What::Msc => "msc",
-        What::Name => "a name",
-        What::Text => "a text",
-        What::End => "the end of the statement",
-        What::Section => "a section",
-        What::Item => "an item",
-        What::Event => "an event",
-        What::To => "to",
-        What::From => "from",
-        What::Parameter => "a parameter list",
-        What::Nothing => "the end of the text",
-    }
 }
 
 /// Writes one line of words.
@@ -96,9 +77,7 @@ fn write_unsupported<W: Write>(writer: &mut W, at: usize, word: Word) -> io::Res
     ensures { OnOk result (Appends (W.contents writer.old) (W.contents writer.new)
         (grammar_line (ParseFault.Unsupported at word))) }
 {
-    write!(writer, "grammar fault 2 at {at}: ")?;
-    writer.write_all(word.spelling())?;
-    write_line(writer, " is not supported")
+    writeln!(writer, "grammar fault 2 at {at}: {word} is not supported")
 }
 
 /// Writes the line for what was expected at a place.
@@ -106,8 +85,7 @@ fn write_expected<W: Write>(writer: &mut W, at: usize, what: What) -> io::Result
     ensures { OnOk result (Appends (W.contents writer.old) (W.contents writer.new)
         (grammar_line (ParseFault.Expected at what))) }
 {
-    let expected = what_text(what);
-    writeln!(writer, "grammar fault 3 at {at}: expected {expected}")
+    writeln!(writer, "grammar fault 3 at {at}: expected {what}")
 }
 
 /// A chart's fault in words: its number, what stands before its place, its place where it has one,
@@ -125,6 +103,7 @@ fn chart_words(fault: ChartFault) -> Option<(u32, &'static str, Option<u32>, &'s
         ChartFault::HeaderWithoutBody(k) => Some((3, "header name ", Some(k), " has no section")),
         ChartFault::UnknownAddress(e) => Some((4, "event ", Some(e), " has an unknown address")),
         ChartFault::TooManyMessages => Some((5, "more than 1024 messages", None, "")),
+        ChartFault::TooManyActions => Some((11, "more than 1024 actions", None, "")),
         ChartFault::TwiceEvent(e) => Some((6, "event ", Some(e), " repeats a message")),
         ChartFault::UnmatchedOut(e) => Some((7, "output ", Some(e), " has no input")),
         ChartFault::UnmatchedIn(e) => Some((8, "input ", Some(e), " has no output")),

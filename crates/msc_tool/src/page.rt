@@ -1,7 +1,8 @@
 //! A page of an answer: what has not gone out yet.
 
-ghost use Rattle.std.specs.Prelude.{◌≡◌, ◌++◌, length, IfOk, IsOk, OnErr, OnOk, Some};
-ghost use Rattle.std.specs.Io.KnownBytes.{Appends, Keeps, WriteAppends, WritesAtMost};
+ghost use Rattle.std.specs.Prelude.{◌≡◌, [], OnOk, Some};
+ghost use Rattle.std.specs.Io.{WritesAtMost};
+ghost use Rattle.std.specs.Io.KnownBytes.{Appends, Keeps, WriteAppends};
 
 use std::alloc::Global;
 use std::io;

@@ -37,7 +37,10 @@ fn refused_texts(rt: HostRuntime) {
 #[test]
 fn messages_are_the_printed_words(rt: HostRuntime) -> Result<(), Fail> {
     for (fault, wanted) in [
-        (ParseFault::Unsupported(28, Word::Env), "env is not supported"),
+        (
+            ParseFault::Unsupported(28, Word::Env),
+            "env is not supported",
+        ),
         (ParseFault::Expected(26, What::Text), "expected a text"),
         (
             ParseFault::Expected(6, What::End),

@@ -66,7 +66,7 @@ unfolding is_masked
 picks_none a b mask y out = rw out (and-false (has a y || has b y))
 
 -- so many words are a row of few numbers
-pub row_from : (n : ℕ) (row : List ℕ) → length row ≡ word_count n → n ≤ 2048 → IsRow n row
+pub row_from : (n : ℕ) (row : List ℕ) → length row ≡ word_count n → n ≤ 3072 → IsRow n row
 row_from n row size small =
     let enough = words_enough n in
     let few = words_few n in

@@ -4,7 +4,7 @@ use Rattle.std.proofs.lemmas.Bool.{eqb-false, false_from_ne_true}
 use Rattle.msc_chart.specs.declared.queue.Queues.{Queues}
 use Rattle.msc_chart.specs.declared.queue.Queues.TheVariants.{Pair, Mailbox, Single}
 use Rattle.msc_chart.specs.Lists.{occurs, until, IsFirst}
-use Rattle.msc_chart.specs.Events.{events_of, ends_of, instances_of}
+use Rattle.msc_chart.specs.Events.{events_of, acts_of, instances_of}
 use Rattle.msc_chart.specs.Charts.{line, segment, kind, partner, message, is_output, is_input, is_local, is_controlled, before}
 use Rattle.msc_chart.specs.Drawings.{chart_events}
 use Rattle.msc_chart.specs.Orders.{WiredChart, IsWired, queue_number, sender_at, receiver_at, queue}
@@ -55,7 +55,7 @@ module _ (chart : WiredChart) (is_wired : IsWired chart) (events : List ℕ) (ru
 
 -- two messages that cross are not both taken before the other is sent
 pub crossing_one : (queues : Queues) → NoRunReversesBoth (crossed queues) (0, 1) (2, 3)
-unfolding is_output is_input is_local is_controlled before line segment kind partner message queue queue_number sender_at receiver_at chart_events events_of ends_of instances_of
+unfolding is_output is_input is_local is_controlled before line segment kind partner message queue queue_number sender_at receiver_at chart_events events_of acts_of instances_of
 crossing_one queues events run first second =
     let is_wired : IsWired (crossed queues) = crossing_wired queues in
     no_ring events 0 1 2 3 (eqb-false 1 0 refl) (eqb-false 3 2 refl) first second
@@ -69,7 +69,7 @@ crossing_one queues events run first second =
 
 -- the messages of two mailboxes do not both come in the other order
 pub mailboxes_one : NoRunReversesBoth mailboxes (4, 5) (6, 7)
-unfolding is_output is_input is_local is_controlled before line segment kind partner message queue queue_number sender_at receiver_at chart_events events_of ends_of instances_of
+unfolding is_output is_input is_local is_controlled before line segment kind partner message queue queue_number sender_at receiver_at chart_events events_of acts_of instances_of
 mailboxes_one events run first second =
     let is_wired : IsWired mailboxes = wired_from _ refl in
     let sent_q = outputs_reversed mailboxes is_wired events run 0 3 refl refl refl first in

@@ -1,7 +1,9 @@
-use Rattle.std.proofs.Common.{◌≡◌, map, take}
-use Rattle.msc_chart.specs.Drawings.{event_of}
-use Rattle.msc_chart.specs.Views.{end_view, event_view}
+use Rattle.std.proofs.Common.{◌≡◌, ◌++◌, map, drop}
+use Rattle.msc_chart.specs.Drawings.{events_from}
+use Rattle.msc_chart.specs.Views.{event_view, mark_view}
 use Rattle.msc_chart.proofs.charting.chart_events.Given as goal
 
-abbrev pub invariant-loop-event : goal.invariant-loop-event
-invariant-loop-event l = l.chart.items ≡ map (event_of (map end_view l.places.keys)) (map event_view (take l.event-index l.events))
+abbrev pub invariant-loop-e : goal.invariant-loop-e
+invariant-loop-e l =
+    l.chart.items ++ events_from (map mark_view l.places.keys) l.e (map event_view (drop l.e l.events))
+    ≡ events_from (map mark_view l.places.keys) 0 (map event_view l.events)

@@ -1,4 +1,4 @@
-use Rattle.std.proofs.Common.{Bool, Option, ℕ, None, Some, cond, refl, sym, ap, ◌∙◌}
+use Rattle.std.proofs.Common.{Some, refl, sym, ap, ◌∙◌}
 use Rattle.msc_chart.specs.Charts.{message}
 use Rattle.msc_chart.proofs.Readers.{seen_at}
 use Rattle.msc_chart.proofs.chart.Chart.message.Goals as goal
@@ -10,4 +10,4 @@ pub returns : goal.returns
 unfolding message
 returns c =
     rw (sym c.is_local.ensures ∙ c.if-is_local.false)
-    (ap (λ v. Some v.message) (seen_at _ _ c.self.view_is _ c.args.e _ refl c.requires c.index.ensures))
+    (ap (λ v. Some v.subject) (seen_at _ _ c.self.view_is _ c.args.e _ refl c.requires c.index.ensures))

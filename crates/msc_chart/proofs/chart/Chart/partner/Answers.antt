@@ -1,4 +1,4 @@
-use Rattle.std.proofs.Common.{Bool, Option, ℕ, None, Some, cond, refl, sym, ap, ◌∙◌}
+use Rattle.std.proofs.Common.{Some, refl, sym, ap, ◌∙◌}
 use Rattle.msc_chart.specs.Charts.{partner}
 use Rattle.msc_chart.proofs.Readers.{seen_at}
 use Rattle.msc_chart.proofs.chart.Chart.partner.Goals as goal

@@ -1,0 +1,447 @@
+-- Each step of an outlet keeps the rule of the table.
+use Rattle.std.proofs.Common.{◌≡◌, ◌≢◌, ◌⊎◌, ℕ, zero, suc, ◌+◌, ◌-◌, ◌^◌, ◌%◌, ◌<◌, ◌≤◌, ◌==◌, max, Bool, true, false, cond, List, [], ◌∷◌, ◌++◌, map, length, set, Some, slice_get, slice_index, sym, refl, ap, ◌∙◌, subst, inl, inr, ⊎_elim, append-nil, arith, length-append, mod-eq_of_lt, eq-eqb, ne_eqb, lt_of_not-le}
+use mathlib.Core.Option.{none}
+use native.Mathlib.Decide.{dec_le}
+use Rattle.atomic_table.specs.Table.{step, keeps, Allows}
+use Rattle.msc_fifo.specs.declared.entry.Entry.{Entry}
+use Rattle.msc_fifo.specs.declared.entry.Entry.TheVariants.{Message, Ended}
+use Rattle.msc_fifo.specs.declared.claim.Claim.{Claim}
+use Rattle.msc_fifo.specs.declared.rule.Sender.{Sender}
+use Rattle.msc_fifo.specs.declared.rule.View.{View}
+use Rattle.msc_fifo.specs.Claims.{claim, is_message}
+use Rattle.msc_fifo.specs.Entries.{sender_of, messages_of, has_ended, IsOrderly}
+use Rattle.msc_fifo.specs.World.{Each, Slot, slot, spot_of, entries, own, code, IsSmall, World, Offered, Holds, IsDated, IsStored}
+use Rattle.msc_fifo.specs.Views.{IsPending, IsSender, Sound, Kept}
+use Rattle.msc_fifo.specs.Moves.{Seated, OffersIt, ClaimsIt, DatesIt, ShowsIt, StoresIt, with_senders, after_offer, after_claim, after_date, after_show, after_store}
+use Rattle.msc_fifo.proofs.EntryLemmas.{orderly-push, has_ended-message, has_ended-ended, messages_of-message, messages_of-ended, untouched}
+use Rattle.msc_fifo.proofs.LogLemmas.{entries-append, cond-true, cond-false, get_front, get_last, get_inside, own-mine, own-other, each-map, each-append}
+use Rattle.msc_fifo.proofs.Worlds.{Grows, Spares, dated_stays, stored_stays}
+use Rattle.msc_fifo.proofs.Frames.{outlet_keeps, room_within, this_word, other_word, set_same, now, next}
+
+-- a step of one sender, seen from a world in which only the offers are others
+sound_same : (places : ℕ) (w w' : World) → Grows w w' → w'.made ≡ w.made → w'.log ≡ w.log → ((k : ℕ) → w'.item k ≡ w.item k) → ((k : ℕ) → w'.clk k ≡ w.clk k) → (w'.clock ≡ 0) ⊎ Offered w' w'.clock → Sound places w → Sound places w'
+sound_same places w w' g made log item clk clock h = record {
+  orderly = subst (λ (n : ℕ). IsOrderly n (entries w'.log)) (sym made) (subst (λ (l : List Slot). IsOrderly w.made (entries l)) (sym log) h.orderly);
+  cells = λ k lt. subst (λ (l : List Slot). Holds l k (w'.item k)) (sym log) (subst (Holds w.log k) (sym (item k)) (h.cells k lt));
+  dated = λ k lt. subst (IsDated w' k) (sym (clk k)) (dated_stays w w' k (w.clk k) g (h.dated k lt));
+  above = λ k x at. (let a = h.above k x (subst (λ (l : List Slot). slice_get l k ≡ Some x) log at) in let b = g.clock in omega arith);
+  clock = clock;
+}
+
+-- the greater of two is at least the second
+max_right : (n o : ℕ) → o ≤ max n o
+max_right n o = omega arith
+
+-- and at least the first
+max_left : (n o : ℕ) → n ≤ max n o
+max_left n o = omega arith
+
+-- and one of them, where it is known which is at most the other
+max_either : (n o : ℕ) → Dec (o ≤ n) → (max n o ≡ n) ⊎ (max n o ≡ o)
+max_either n o (yes le) = inl (omega arith)
+max_either n o (no not) = let lt = lt_of_not-le not in inr (omega arith)
+
+-- and one of them
+max_cases : (n o : ℕ) → (max n o ≡ n) ⊎ (max n o ≡ o)
+max_cases n o = max_either n o (dec_le o n)
+
+-- the offers of the sender i are one more
+abbrev more_offers : (ℕ → List ℕ) → ℕ → ℕ → ℕ → List ℕ
+more_offers offered i o p = cond (p == i) (offered p ++ o ∷ []) (offered p)
+
+-- what was offered before is still offered
+offered_more : (offered : ℕ → List ℕ) (i o p k n : ℕ) → slice_get (offered p) k ≡ Some n → slice_get (more_offers offered i o p) k ≡ Some n
+offered_more offered i o p k n at = both (p == i)
+  where
+    both : (b : Bool) → slice_get (cond b (offered p ++ o ∷ []) (offered p)) k ≡ Some n
+    both true = get_front (offered p) (o ∷ []) k n at
+    both false = at
+
+-- an offer keeps the rule: the clock word is as before, or is the offer
+pub offers_keep : (places slots id o : ℕ) (me : Seated) (x : Sender) → me.0.gets ≡ false → me.0.senders ≡ x ∷ [] → x.pending ≡ [] → Allows (Kept places) slots id me 1 (λ n. max n o) (OffersIt (step slots 1 o 0 none) me)
+offers_keep places slots id o me x quiet only rest s h same at lt =
+    let v : View = me.0 in let y : Sender = after_offer o x in let w : View = with_senders (after_offer o) v in
+    let n : ℕ = slice_index s.words 1 in let n' : ℕ = max n o in
+    let i : ℕ = x.from in
+    let offered : ℕ → List ℕ = more_offers h.offered i o in
+    let words : List ℕ = set s.words 1 n' in
+    let old = now h in let new = next h offered h.log words in
+    let mine = (subst (Each (IsSender places old id)) only (h.each id v at).1).0 in
+    let wide = h.wide in
+    let inside : 1 < length s.words = omega arith in
+    let clock : new.clock ≡ n' = this_word s.words 1 n' inside in
+    let item : (k : ℕ) → new.item k ≡ old.item k = λ k. other_word s.words 1 (k + k + 2) n' (λ e. omega arith) in
+    let clk : (k : ℕ) → new.clk k ≡ old.clk k = λ k. other_word s.words 1 (k + k + 3) n' (λ e. omega arith) in
+    let here : offered i ≡ h.offered i ++ o ∷ [] = cond-true (i == i) (h.offered i ++ o ∷ []) (h.offered i) (eq-eqb i i refl) in
+    let grows : Grows old new = record {
+      made = omega arith;
+      log = ([], sym (append-nil h.log));
+      frozen = λ k _. (item k, clk k);
+      clock = (let m = max_left n o in omega arith);
+      offered = λ m f. (f.0, f.1, (f.2.0, offered_more h.offered i o f.0 f.2.0 m f.2.1));
+    } in
+    let spares : (j : ℕ) → j ≢ i → Spares old new j = λ j other. record {
+      put = refl;
+      closed = refl;
+      claims = refl;
+      offers = cond-false (j == i) (h.offered j ++ o ∷ []) (h.offered j) (ne_eqb j i other);
+      places = λ k z at' is. (item k, clk k);
+    } in
+    let offered_o : Offered new o = (i, mine.made, (length (h.offered i), subst (λ (l : List ℕ). slice_get l (length (h.offered i)) ≡ Some o) (sym here) (get_last (h.offered i) o (length (h.offered i)) refl))) in
+    let topped : (new.clock ≡ 0) ⊎ Offered new new.clock = ⊎_elim
+    (λ (e : n' ≡ n). ⊎_elim (λ (z : n ≡ 0). inl (clock ∙ e ∙ z)) (λ f. inr (subst (Offered new) (sym (clock ∙ e)) (grows.offered n f))) h.sound.clock)
+    (λ (e : n' ≡ o). inr (subst (Offered new) (sym (clock ∙ e)) offered_o)) (max_cases n o) in
+    let sender : IsSender places new id y = record {
+      seat = mine.seat;
+      made = mine.made;
+      places_are = mine.places_are;
+      put = mine.put;
+      closed = mine.closed;
+      claims = mine.claims;
+      offers = ap (λ l. l ++ o ∷ []) mine.offers ∙ sym here;
+      ready = (let m = max_right n o in omega arith);
+      stored = each-map (IsStored old) (IsStored new) x.claims (λ c. stored_stays old new c grows) mine.stored;
+      pending = subst (Each (IsPending new y)) (sym rest) tt;
+    } in (
+      w,
+      keeps,
+      tt,
+      outlet_keeps places 1 n' id s me.1 v w x y h offered h.log words refl at only quiet (ap (map (after_offer o)) only) grows spares sender
+          (sound_same places old new grows refl refl item clk topped h.sound) (other_word s.words 1 0 n' (λ e. omega arith) ∙ h.claimed) refl,
+      (refl, refl),
+    )
+
+-- the offer for an entry
+abbrev offer_for : Sender → Entry → ℕ
+offer_for x (Message i m) = x.ready
+offer_for x (Ended i) = 0
+
+-- a place that was not claimed holds nothing
+item_blank : (places : ℕ) (w : World) (k : ℕ) → Sound places w → k < places → k ≡ length w.log → w.item k ≡ 0
+item_blank places w k h lt last = blank (h.cells k lt)
+  where
+    blank : Holds w.log k (w.item k) → w.item k ≡ 0
+    blank (inl z) = z
+    blank (inr x) = let i = get_inside w.log k x.0 x.1 in absurd (omega arith)
+
+-- a place that was not claimed has no clock
+clk_blank : (places : ℕ) (w : World) (k : ℕ) → Sound places w → k < places → k ≡ length w.log → w.clk k ≡ 0
+clk_blank places w k h lt last = blank (h.dated k lt)
+  where
+    blank : IsDated w k (w.clk k) → w.clk k ≡ 0
+    blank (inl z) = z
+    blank (inr x) = let i = get_inside w.log k x.0 x.1 in absurd (omega arith)
+
+-- one claim more without its clock
+map-append : (cs : List Claim) (c : Claim) → map spot_of (cs ++ c ∷ []) ≡ map spot_of cs ++ spot_of c ∷ []
+map-append [] c = refl
+map-append (d ∷ cs) c = ap (λ l. spot_of d ∷ l) (map-append cs c)
+
+-- one claim more is the sender's last
+claims_more : (x : Sender) (c : Claim) (log : List Slot) → x.pending ≡ [] → map spot_of (x.claims ++ x.pending) ≡ own x.from 0 log → sender_of c.entry ≡ x.from → c.place ≡ length log
+    → map spot_of (x.claims ++ c ∷ []) ≡ own x.from 0 (log ++ slot c.entry c.offer ∷ [])
+claims_more x c log rest was mine at = map-append x.claims c ∙ ap (λ l. l ++ spot_of c ∷ []) (ap (map spot_of) (sym (append-nil x.claims) ∙ ap (λ l. x.claims ++ l) (sym rest)) ∙ was)
+    ∙ sym (own-mine x.from 0 c.place log (slot c.entry c.offer) mine (omega arith))
+
+-- the claim that was just made is not stored
+pending_claim : (places k : ℕ) (old new : World) (x y : Sender) (e : Entry) (o : ℕ) → k ≡ length old.log → k < places → x.places ≡ places → y.places ≡ x.places → y.from ≡ x.from → y.shown ≡ 0 → sender_of e ≡ x.from
+    → new.log ≡ old.log ++ slot e o ∷ [] → new.item k ≡ 0 → new.clk k ≡ 0 → IsPending new y (claim k e o 0)
+pending_claim places k old new x y e o last fits places_are same_places same_from shown mine log item clk = record {
+  at = subst (λ (l : List Slot). slice_get l k ≡ Some (slot e o)) (sym log) (get_last old.log (slot e o) k last);
+  mine = mine ∙ sym same_from;
+  inside = (let a : y.places ≡ places = same_places ∙ places_are in omega arith);
+  empty = item;
+  shown = clk ∙ sym shown;
+  dated = inl refl;
+}
+
+-- what a sender knows after its claim is so
+grown : (places id k : ℕ) (old new : World) (x : Sender) (e : Entry) → x.pending ≡ [] → sender_of e ≡ x.from → k ≡ length old.log → k < places
+    → new.log ≡ old.log ++ slot e (offer_for x e) ∷ [] → new.item k ≡ 0 → new.clk k ≡ 0 → new.seat x.from ≡ old.seat x.from → new.offered x.from ≡ old.offered x.from → Grows old new
+    → IsSender places old id x → IsSender places new id (after_claim k e x)
+grown places id k old new x (Message i m) rest is last fits log item clk seat offered g h =
+    let es : List Entry = entries old.log in
+    let more : entries new.log ≡ es ++ Message i m ∷ [] = ap entries log ∙ entries-append old.log (slot (Message i m) x.ready ∷ []) in
+    record {
+      seat = seat ∙ h.seat;
+      made = (let a = h.made in let b = g.made in omega arith);
+      places_are = h.places_are;
+      put = ap (λ l. l ++ m ∷ []) h.put ∙ subst (λ (j : ℕ). messages_of x.from es ++ m ∷ [] ≡ messages_of x.from (es ++ Message j m ∷ [])) (sym is) (sym (messages_of-message x.from m es)) ∙ ap (messages_of x.from) (sym more);
+      closed = h.closed ∙ sym (has_ended-message x.from i m es) ∙ ap (has_ended x.from) (sym more);
+      claims = claims_more x (claim k (Message i m) x.ready 0) old.log rest h.claims is last ∙ ap (own x.from 0) (sym log);
+      offers = h.offers ∙ sym offered;
+      ready = (let a = h.ready in let b = g.clock in omega arith);
+      stored = each-map (IsStored old) (IsStored new) x.claims (λ c. stored_stays old new c g) h.stored;
+      pending = (pending_claim places k old new x (after_claim k (Message i m) x) (Message i m) x.ready last fits h.places_are refl refl refl is log item clk, tt);
+    }
+grown places id k old new x (Ended i) rest is last fits log item clk seat offered g h =
+    let es : List Entry = entries old.log in
+    let more : entries new.log ≡ es ++ Ended i ∷ [] = ap entries log ∙ entries-append old.log (slot (Ended i) 0 ∷ []) in
+    record {
+      seat = seat ∙ h.seat;
+      made = (let a = h.made in let b = g.made in omega arith);
+      places_are = h.places_are;
+      put = h.put ∙ sym (messages_of-ended x.from i es) ∙ ap (messages_of x.from) (sym more);
+      closed = subst (λ (j : ℕ). true ≡ has_ended x.from (es ++ Ended j ∷ [])) (sym is) (sym (has_ended-ended x.from es)) ∙ ap (has_ended x.from) (sym more);
+      claims = claims_more x (claim k (Ended i) 0 0) old.log rest h.claims is last ∙ ap (own x.from 0) (sym log);
+      offers = h.offers ∙ sym offered;
+      ready = (let a = h.ready in let b = g.clock in omega arith);
+      stored = each-map (IsStored old) (IsStored new) x.claims (λ c. stored_stays old new c g) h.stored;
+      pending = (pending_claim places k old new x (after_claim k (Ended i) x) (Ended i) 0 last fits h.places_are refl refl refl is log item clk, tt);
+    }
+
+-- the offer for an entry is at most the clock word
+offer_below : (x : Sender) (e : Entry) (n : ℕ) → x.ready ≤ n → offer_for x e ≤ n
+offer_below x (Message i m) n le = le
+offer_below x (Ended i) n le = omega arith
+
+-- what stands in a list that is one longer
+snoc_get : (log : List Slot) (x y : Slot) (k : ℕ) → slice_get (log ++ x ∷ []) k ≡ Some y → (slice_get log k ≡ Some y) ⊎ (x ≡ y)
+snoc_get [] x y zero h = inr cc
+snoc_get [] x y (suc k) h = cc
+snoc_get (z ∷ log) x y zero h = inl h
+snoc_get (z ∷ log) x y (suc k) h = snoc_get log x y k h
+
+-- a claim keeps the rule: the entry is the sender's next one, and nobody else's
+pub claims_keep : (places slots id : ℕ) (me : Seated) (x : Sender) (e : Entry) → me.0.gets ≡ false → me.0.senders ≡ x ∷ [] → x.pending ≡ [] → x.closed ≡ false → sender_of e ≡ x.from → 0 < me.0.room
+    → Allows (Kept places) slots id me 0 (λ n. (n + 1) % 2 ^ 64) (ClaimsIt e (step slots 0 1 0 none) me)
+claims_keep places slots id me x e quiet only rest opened is room s h same at lt =
+    let v : View = me.0 in let n : ℕ = slice_index s.words 0 in let n' : ℕ = (n + 1) % 2 ^ 64 in
+    let y : Sender = after_claim n e x in let w : View = record (with_senders (after_claim n e) v) { room = v.room - 1 } in
+    let o : ℕ = offer_for x e in
+    let log : List Slot = h.log ++ slot e o ∷ [] in
+    let words : List ℕ = set s.words 0 n' in
+    let old = now h in let new = next h h.offered log words in
+    let mine = (subst (Each (IsSender places old id)) only (h.each id v at).1).0 in
+    let count : n ≡ length h.log = h.claimed in
+    let within = room_within s.views id v at in
+    let total = h.rooms in
+    let fits : n < places = omega arith in
+    let small = h.small in
+    let next_is : n' ≡ n + 1 = let small' : n + 1 < 2 ^ 64 = omega arith in mod-eq_of_lt small' in
+    let wide = h.wide in
+    let inside : 0 < length s.words = omega arith in
+    let one : length log ≡ length h.log + 1 = length-append h.log (slot e o ∷ []) in
+    let item : (k : ℕ) → new.item k ≡ old.item k = λ k. other_word s.words 0 (k + k + 2) n' (λ e. omega arith) in
+    let clk : (k : ℕ) → new.clk k ≡ old.clk k = λ k. other_word s.words 0 (k + k + 3) n' (λ e. omega arith) in
+    let clock : new.clock ≡ old.clock = other_word s.words 0 1 n' (λ e. omega arith) in
+    let more : entries log ≡ entries h.log ++ e ∷ [] = entries-append h.log (slot e o ∷ []) in
+    let grows : Grows old new = record {
+      made = omega arith;
+      log = (slot e o ∷ [], refl);
+      frozen = λ k _. (item k, clk k);
+      clock = omega arith;
+      offered = λ m f. f;
+    } in
+    let spares : (j : ℕ) → j ≢ x.from → Spares old new j = λ j other. let away : sender_of e ≢ j = (λ z. other (sym z ∙ is)) in let u = untouched j e (entries h.log) away in record {
+      put = ap (messages_of j) more ∙ u.0;
+      closed = ap (has_ended j) more ∙ u.1;
+      claims = own-other j 0 h.log (slot e o) away;
+      offers = refl;
+      places = λ k z at' is'. (item k, clk k);
+    } in
+    let lt' : sender_of e < h.made = subst (λ (k : ℕ). k < h.made) (sym is) mine.made in
+    let going : has_ended (sender_of e) (entries h.log) ≡ false = subst (λ (k : ℕ). has_ended k (entries h.log) ≡ false) (sym is) (sym mine.closed ∙ opened) in
+    let low = offer_below x e old.clock mine.ready in
+    let sound : Sound places new = record {
+      orderly = subst (IsOrderly h.made) (sym more) (orderly-push h.made (entries h.log) e h.sound.orderly lt' going);
+      cells = λ k lt. subst (Holds log k) (sym (item k)) (⊎_elim (λ (z : old.item k ≡ 0). inl z) (λ z. inr (z.0, get_front h.log (slot e o ∷ []) k z.0 z.1, z.2, z.3)) (h.sound.cells k lt));
+      dated = λ k lt. subst (IsDated new k) (sym (clk k)) (dated_stays old new k (old.clk k) grows (h.sound.dated k lt));
+      above = λ k z at'. (let le : z.offer ≤ old.clock = ⊎_elim (λ was. h.sound.above k z was) (λ (is' : slot e o ≡ z). subst (λ (t : Slot). t.offer ≤ old.clock) is' low) (snoc_get h.log (slot e o) z k at') in omega arith);
+      clock = ⊎_elim (λ (z : old.clock ≡ 0). inl (clock ∙ z)) (λ f. inr (subst (Offered new) (sym clock) f)) h.sound.clock;
+    } in
+    let blank = item n ∙ item_blank places old n h.sound fits count in
+    let blank' = clk n ∙ clk_blank places old n h.sound fits count in (
+      w,
+      keeps,
+      tt,
+      outlet_keeps places 0 n' id s me.1 v w x y h h.offered log words refl at only quiet (ap (map (after_claim n e)) only) grows spares
+          (grown places id n old new x e rest is count fits refl blank blank' refl refl grows mine) sound
+          (this_word s.words 0 n' inside ∙ next_is ∙ ap (λ (k : ℕ). k + 1) count ∙ sym one) (omega arith),
+      (refl, refl, subst (Each (λ (z : Sender). n < z.places)) (sym only) ((let p = mine.places_are in omega arith), tt)),
+    )
+
+-- nothing changes: the words grow
+grows_same : (w : World) → Grows w w
+grows_same w = record { made = omega arith; log = ([], sym (append-nil w.log)); frozen = λ k _. (refl, refl); clock = omega arith; offered = λ n f. f }
+
+-- nothing changes: each sender is spared
+spares_same : (w : World) (j : ℕ) → Spares w w j
+spares_same w j = record { put = refl; closed = refl; claims = refl; offers = refl; places = λ k x at is. (refl, refl) }
+
+-- reading the clock word keeps the rule: it covers the place that was claimed
+pub dates_keep : (places slots id : ℕ) (me : Seated) (x : Sender) (c : Claim) → me.0.gets ≡ false → me.0.senders ≡ x ∷ [] → x.pending ≡ c ∷ [] → is_message c.entry ≡ true
+    → Allows (Kept places) slots id me 1 (λ n. n) (DatesIt (step slots 1 0 0 none) me)
+dates_keep places slots id me x c quiet only waits message s h same at lt =
+    let v : View = me.0 in let n : ℕ = slice_index s.words 1 in
+    let y : Sender = after_date n x in let w : View = with_senders (after_date n) v in
+    let old = now h in
+    let mine = (subst (Each (IsSender places old id)) only (h.each id v at).1).0 in
+    let p = (subst (Each (IsPending old x)) waits mine.pending).0 in
+    let c' : Claim = claim c.place c.entry c.offer n in
+    let pending : IsPending old y c' = record {
+      at = p.at;
+      mine = p.mine;
+      inside = p.inside;
+      empty = p.empty;
+      shown = p.shown;
+      dated = ⊎_elim (λ (z : n ≡ 0). inl z) (λ f. inr (slot c.entry c.offer, p.at, message, (λ j z le at'. h.sound.above j z at'), f)) h.sound.clock;
+    } in
+    let sender : IsSender places old id y = record {
+      seat = mine.seat;
+      made = mine.made;
+      places_are = mine.places_are;
+      put = mine.put;
+      closed = mine.closed;
+      claims = ap (λ l. map spot_of (x.claims ++ map (λ (d : Claim). claim d.place d.entry d.offer n) l)) waits ∙ map-append x.claims c' ∙ sym (map-append x.claims c) ∙ ap (λ l. map spot_of (x.claims ++ l)) (sym waits) ∙ mine.claims;
+      offers = mine.offers;
+      ready = mine.ready;
+      stored = mine.stored;
+      pending = subst (λ l. Each (IsPending old y) (map (λ (d : Claim). claim d.place d.entry d.offer n) l)) (sym waits) (pending, tt);
+    } in (
+      w,
+      keeps,
+      tt,
+      outlet_keeps places 1 n id s me.1 v w x y h h.offered h.log s.words (set_same s.words 1) at only quiet (ap (map (after_date n)) only) (grows_same old) (λ j _. spares_same old j) sender h.sound h.claimed refl,
+      (refl, refl, subst (Each (λ (z : Sender). z.ready ≤ n)) (sym only) (mine.ready, tt)),
+    )
+
+-- the place of a claim that isn't stored is no other sender's
+apart : (w : World) (x : Sender) (c : Claim) (j k : ℕ) (z : Slot) → IsPending w x c → j ≢ x.from → slice_get w.log k ≡ Some z → sender_of z.entry ≡ j → k ≢ c.place
+apart w x c j k z p other at is same = let both : Some z ≡ Some (slot c.entry c.offer) = sym at ∙ ap (slice_get w.log) same ∙ p.at in
+    let z_is : z ≡ slot c.entry c.offer = cc in other (sym is ∙ ap (λ (t : Slot). sender_of t.entry) z_is ∙ p.mine)
+
+-- two numbers are equal or not
+same_or_not : (j k : ℕ) → (j ≡ k) ⊎ (j ≢ k)
+same_or_not zero zero = inl refl
+same_or_not zero (suc k) = inr (λ e. omega arith)
+same_or_not (suc j) zero = inr (λ e. omega arith)
+same_or_not (suc j) (suc k) = ⊎_elim (λ e. inl (ap suc e)) (λ n. inr (λ e. n (omega arith))) (same_or_not j k)
+
+-- storing the clock of the place keeps the rule
+pub shows_keep : (places slots id i n : ℕ) (me : Seated) (x : Sender) (c : Claim) → me.0.gets ≡ false → me.0.senders ≡ x ∷ [] → x.pending ≡ c ∷ [] → i ≡ c.place + c.place + 3 → n ≡ c.clock
+    → Allows (Kept places) slots id me i (λ _. n) (λ _. ShowsIt (step slots i n 0 none) me n)
+shows_keep places slots id i n me x c quiet only waits word value s h same at lt =
+    let v : View = me.0 in
+    let y : Sender = after_show n x in let w : View = with_senders (after_show n) v in
+    let words : List ℕ = set s.words i n in
+    let old = now h in let new = next h h.offered h.log words in
+    let mine = (subst (Each (IsSender places old id)) only (h.each id v at).1).0 in
+    let p = (subst (Each (IsPending old x)) waits mine.pending).0 in
+    let wide = h.wide in let fits = p.inside in let are = mine.places_are in
+    let inside : i < length s.words = omega arith in
+    let item : (k : ℕ) → new.item k ≡ old.item k = λ k. other_word s.words i (k + k + 2) n (λ e. omega arith) in
+    let clk : (k : ℕ) → k ≢ c.place → new.clk k ≡ old.clk k = λ k other. other_word s.words i (k + k + 3) n (λ e. other (omega arith)) in
+    let here : new.clk c.place ≡ n = ap (λ (j : ℕ). slice_index words j) (sym word) ∙ this_word s.words i n inside in
+    let clock : new.clock ≡ old.clock = other_word s.words i 1 n (λ e. omega arith) in
+    let grows : Grows old new = record {
+      made = omega arith;
+      log = ([], sym (append-nil h.log));
+      frozen = λ k full. (item k, clk k (λ is. full (ap old.item is ∙ p.empty)));
+      clock = omega arith;
+      offered = λ m f. f;
+    } in
+    let spares : (j : ℕ) → j ≢ x.from → Spares old new j = λ j other. record {
+      put = refl;
+      closed = refl;
+      claims = refl;
+      offers = refl;
+      places = λ k z at' is. (item k, clk k (apart old x c j k z p other at' is));
+    } in
+    let sound : Sound places new = record {
+      orderly = h.sound.orderly;
+      cells = λ k lt. subst (Holds h.log k) (sym (item k)) (h.sound.cells k lt);
+      dated = λ k lt. ⊎_elim (λ (is : k ≡ c.place). subst (λ (j : ℕ). IsDated new j (new.clk j)) (sym is) (subst (IsDated new c.place) (sym (here ∙ value)) (dated_stays old new c.place c.clock grows p.dated)))
+          (λ other. subst (IsDated new k) (sym (clk k other)) (dated_stays old new k (old.clk k) grows (h.sound.dated k lt))) (same_or_not k c.place);
+      above = λ k z at'. (let a = h.sound.above k z at' in omega arith);
+      clock = ⊎_elim (λ (z : old.clock ≡ 0). inl (clock ∙ z)) (λ f. inr (subst (Offered new) (sym clock) f)) h.sound.clock;
+    } in
+    let pending : IsPending new y c = record {
+      at = p.at;
+      mine = p.mine;
+      inside = p.inside;
+      empty = item c.place ∙ p.empty;
+      shown = here;
+      dated = dated_stays old new c.place c.clock grows p.dated;
+    } in
+    let sender : IsSender places new id y = record {
+      seat = mine.seat;
+      made = mine.made;
+      places_are = mine.places_are;
+      put = mine.put;
+      closed = mine.closed;
+      claims = mine.claims;
+      offers = mine.offers;
+      ready = (let a = mine.ready in omega arith);
+      stored = each-map (IsStored old) (IsStored new) x.claims (λ d. stored_stays old new d grows) mine.stored;
+      pending = subst (Each (IsPending new y)) (sym waits) (pending, tt);
+    } in (
+      w,
+      keeps,
+      tt,
+      outlet_keeps places i n id s me.1 v w x y h h.offered h.log words refl at only quiet (ap (map (after_show n)) only) grows spares sender sound (other_word s.words i 0 n (λ e. omega arith) ∙ h.claimed) refl,
+      (refl, refl),
+    )
+
+-- the word of an entry is not 0
+code_some : (e : Entry) → code e ≢ 0
+code_some (Message i m) z = omega arith
+code_some (Ended i) z = omega arith
+
+-- storing the entry of the place keeps the rule: the claim is stored from now on
+pub stores_keep : (places slots id i n : ℕ) (me : Seated) (x : Sender) (c : Claim) → me.0.gets ≡ false → me.0.senders ≡ x ∷ [] → x.pending ≡ c ∷ [] → i ≡ c.place + c.place + 2 → n ≡ code c.entry → IsSmall c.entry → x.shown ≡ c.clock
+    → Allows (Kept places) slots id me i (λ _. n) (λ _. StoresIt (step slots i n 0 none) me n)
+stores_keep places slots id i n me x c quiet only waits word value small shown s h same at lt =
+    let v : View = me.0 in
+    let y : Sender = after_store x in let w : View = with_senders after_store v in
+    let words : List ℕ = set s.words i n in
+    let old = now h in let new = next h h.offered h.log words in
+    let mine = (subst (Each (IsSender places old id)) only (h.each id v at).1).0 in
+    let p = (subst (Each (IsPending old x)) waits mine.pending).0 in
+    let wide = h.wide in let fits = p.inside in let are = mine.places_are in
+    let inside : i < length s.words = omega arith in
+    let clk : (k : ℕ) → new.clk k ≡ old.clk k = λ k. other_word s.words i (k + k + 3) n (λ e. omega arith) in
+    let item : (k : ℕ) → k ≢ c.place → new.item k ≡ old.item k = λ k other. other_word s.words i (k + k + 2) n (λ e. other (omega arith)) in
+    let here : new.item c.place ≡ n = ap (λ (j : ℕ). slice_index words j) (sym word) ∙ this_word s.words i n inside in
+    let clock : new.clock ≡ old.clock = other_word s.words i 1 n (λ e. omega arith) in
+    let grows : Grows old new = record {
+      made = omega arith;
+      log = ([], sym (append-nil h.log));
+      frozen = λ k full. (item k (λ is. full (ap old.item is ∙ p.empty)), clk k);
+      clock = omega arith;
+      offered = λ m f. f;
+    } in
+    let spares : (j : ℕ) → j ≢ x.from → Spares old new j = λ j other. record {
+      put = refl;
+      closed = refl;
+      claims = refl;
+      offers = refl;
+      places = λ k z at' is. (item k (apart old x c j k z p other at' is), clk k);
+    } in
+    let sound : Sound places new = record {
+      orderly = h.sound.orderly;
+      cells = λ k lt. ⊎_elim (λ (is : k ≡ c.place). inr (slot c.entry c.offer, ap (slice_get h.log) is ∙ p.at, ap new.item is ∙ here ∙ value, small))
+          (λ other. subst (Holds h.log k) (sym (item k other)) (h.sound.cells k lt)) (same_or_not k c.place);
+      dated = λ k lt. subst (IsDated new k) (sym (clk k)) (dated_stays old new k (old.clk k) grows (h.sound.dated k lt));
+      above = λ k z at'. (let a = h.sound.above k z at' in omega arith);
+      clock = ⊎_elim (λ (z : old.clock ≡ 0). inl (clock ∙ z)) (λ f. inr (subst (Offered new) (sym clock) f)) h.sound.clock;
+    } in
+    let stored : IsStored new c = ((λ z. code_some c.entry (sym value ∙ sym here ∙ z)), clk c.place ∙ p.shown ∙ shown) in
+    let sender : IsSender places new id y = record {
+      seat = mine.seat;
+      made = mine.made;
+      places_are = mine.places_are;
+      put = mine.put;
+      closed = mine.closed;
+      claims = ap (map spot_of) (append-nil (x.claims ++ x.pending)) ∙ mine.claims;
+      offers = mine.offers;
+      ready = omega arith;
+      stored = each-append (IsStored new) x.claims x.pending (each-map (IsStored old) (IsStored new) x.claims (λ d. stored_stays old new d grows) mine.stored) (subst (Each (IsStored new)) (sym waits) (stored, tt));
+      pending = tt;
+    } in (
+      w,
+      keeps,
+      tt,
+      outlet_keeps places i n id s me.1 v w x y h h.offered h.log words refl at only quiet (ap (map after_store) only) grows spares sender sound (other_word s.words i 0 n (λ e. omega arith) ∙ h.claimed) refl,
+      (refl, refl),
+    )
