@@ -74,8 +74,8 @@ fn drafts_and_their_faults(rt: HostRuntime) {
     }
 }
 
-/// A part of a text: what stands there once, and behind it so many statements, each of which has its
-/// number, from 0, between these two.
+/// A part of a text: what stands there once, and behind it so many statements, each of which has
+/// its number, from 0, between these two.
 type Part = (&'static str, u32, &'static str, &'static str);
 
 /// Adds a part to a text.
