@@ -1,16 +1,17 @@
 #!/usr/bin/env python3
 """Compares what a program prints for random charts with what verdict.py prints.
 
-    compare.py [--charts N] [--messages M] [--seed S] PROGRAM WORD ..
+    compare.py [--charts N] [--messages M] [--seed S] [--plain] PROGRAM WORD ..
 
 Of the words, QUEUES stands for the architecture and SHOW for the number of races that get a run; the
 chart is given on standard input. For instance
 
     compare.py crates/msc/out/msc check --queues QUEUES --show SHOW -
-    compare.py bench/plain/out/release/checks QUEUES SHOW
+    compare.py --plain bench/plain/out/release/checks QUEUES SHOW
 
 Each chart is drawn as a list of events in which an output comes before its input, with up to 8 lines, up
-to M messages, actions, and coregions; each is compared under each architecture. Prints how many outputs
+to M messages, actions, and coregions; each is compared under each architecture. With --plain there are
+no actions, and `single` is left out: the plain programs of bench/ know neither. Prints how many outputs
 were compared and how many races they had. The exit status is 1 at the first difference, whose chart is
 printed.
 """
@@ -31,11 +32,10 @@ def action(pick):
     return "action '" + some.replace("'", "''") + f"'{comment};"
 
 
-def events(pick, lines, messages):
-    """For each line its events, from a list in which each output comes before its input; in some charts
-    many are actions."""
+def events(pick, lines, messages, acting):
+    """For each line its events, from a list in which each output comes before its input; such a share of
+    them are actions."""
     drawn = [[] for _ in range(lines)]
-    acting = pick.choice([0, 0.1, 0.3])
     sent, number = [], 0
     while number < messages or sent:
         if pick.random() < acting:
@@ -52,11 +52,11 @@ def events(pick, lines, messages):
     return drawn
 
 
-def chart(pick, most):
-    """The text of a random chart; at some of them many events are in coregions."""
-    share = pick.choice([0, 0, 0.1, 0.4])
+def chart(pick, most, has_actions):
+    """The text of a random chart; at some of them many events are in coregions, or are actions."""
+    share, acting = pick.choice([0, 0, 0.1, 0.4]), pick.choice([0, 0.1, 0.3]) if has_actions else 0
     text = "msc t;"
-    for name, line in enumerate(events(pick, pick.randint(1, 8), pick.randint(0, most))):
+    for name, line in enumerate(events(pick, pick.randint(1, 8), pick.randint(0, most), acting)):
         text += f"instance i{name};"
         while line:
             size = pick.randint(1, 4) if pick.random() < share else 0
@@ -72,13 +72,14 @@ def main():
     words.add_argument("--charts", type=int, default=200, metavar="N")
     words.add_argument("--messages", type=int, default=12, metavar="M")
     words.add_argument("--seed", type=int, default=1, metavar="S")
+    words.add_argument("--plain", action="store_true")
     words.add_argument("program", nargs=argparse.REMAINDER)
     options = words.parse_args()
     pick = random.Random(options.seed)
     compared = races = 0
     for _ in range(options.charts):
-        text = chart(pick, options.messages)
-        for queues in ("pair", "mailbox", "single"):
+        text = chart(pick, options.messages, not options.plain)
+        for queues in ("pair", "mailbox", "single")[:2 if options.plain else 3]:
             show = pick.choice([0, 1, 3, 2 ** 32 - 1])
             drawn = Chart(text, queues)
             wanted = "".join(line + "\n" for line in drawn.verdict(show))

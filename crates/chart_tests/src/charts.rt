@@ -74,8 +74,8 @@ fn drafts_and_their_faults(rt: HostRuntime) {
     }
 }
 
-/// A part of a text: what stands there once, and behind it so many statements, each of which has its
-/// number, from 0, between these two.
+/// A part of a text: what stands there once, and behind it so many statements, each of which has
+/// its number, from 0, between these two.
 type Part = (&'static str, u32, &'static str, &'static str);
 
 /// Adds a part to a text.
@@ -97,9 +97,13 @@ fn fault_of(alloc: Global, parts: &[Part]) -> Result<Option<ChartFault>, AllocEr
     Ok(fault(alloc, text.as_bytes()))
 }
 
-/// The beginning of a text's first section, its second one, and its end.
+/// The beginning of a text, with its first section.
 const FIRST: &str = "msc t; instance a;";
+
+/// The beginning of a second section.
 const SECOND: &str = "endinstance; instance b;";
+
+/// The end of a text.
 const END: Part = ("endinstance; endmsc;", 0, "", "");
 
 /// Charts as large as they may be, and drafts that are too large.
@@ -137,11 +141,7 @@ const LIMITS: [(&[Part], Option<ChartFault>); 7] = [
         Some(ChartFault::TooManyMessages),
     ),
     (
-        &[
-            (FIRST, 1_025, "out m", " to b;"),
-            (SECOND, 0, "", ""),
-            END,
-        ],
+        &[(FIRST, 1_025, "out m", " to b;"), (SECOND, 0, "", ""), END],
         Some(ChartFault::TooManyMessages),
     ),
     (&[(FIRST, 1_024, "action '", "';"), END], None),
@@ -267,7 +267,11 @@ const EVENTS: [(&[u8], Event, (u32, EventKind, Option<Event>, Option<u32>)); 6] 
 #[test]
 fn events_of_charts(rt: HostRuntime) -> Result<(), Fail> {
     for (text, e, wanted) in EVENTS {
-        assert_eq!(rt; event_of(rt.alloc(), text, e)?, Some(wanted), "{e}: {text:?}");
+        assert_eq!(rt;
+            event_of(rt.alloc(), text, e)?,
+            Some(wanted),
+            "{e}: {text:?}"
+        );
     }
     Ok(())
 }

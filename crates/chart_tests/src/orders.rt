@@ -9,7 +9,8 @@ use msc_order::Order;
 use std::alloc::{AllocError, Global};
 use std::test::Fail;
 
-/// How many events an order is of, and whether it holds two of them in this order, and in the other.
+/// How many events an order is of, and whether it holds two of them in this order, and in the
+/// other.
 fn held(order: &Order, events: u32, e: Event, f: Event) -> (u32, bool, bool)
     requires { events ≡ length order.now }
 {

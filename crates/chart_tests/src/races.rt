@@ -58,12 +58,7 @@ fn messages(alloc: Global, count: u32, reversed: bool) -> Result<String, AllocEr
 type Summary = (usize, Option<(Event, Event)>, Option<(Event, Event)>);
 
 /// The races of so many messages from a to b, in one order or the inputs in reverse.
-fn races_of(
-    alloc: Global,
-    count: u32,
-    reversed: bool,
-    queues: Queues,
-) -> Result<Summary, Fail> {
+fn races_of(alloc: Global, count: u32, reversed: bool, queues: Queues) -> Result<Summary, Fail> {
     let text = messages(alloc, count, reversed)?;
     let chart = chart_of(alloc, text.as_bytes())?;
     let verdict = check(alloc, &chart, queues)?;

@@ -1,5 +1,5 @@
-//! Runs that reverse pairs of events. Those of the races of the worked charts are tested as they are
-//! printed, in `program_tests`.
+//! Runs that reverse pairs of events. Those of the races of the worked charts are tested as they
+//! are printed, in `program_tests`.
 
 ghost use Rattle.std.specs.Prelude.{◌<◌, length};
 

@@ -57,7 +57,7 @@ instance b; in m from a; action 'done'; endinstance; endmsc;";
 pub const WAITS: &[u8] = b"msc t; instance a; out m to b; endinstance; \
 instance b; action 'wait'; in m from a; endinstance; endmsc;";
 
-/// Actions whose texts have apostrophes, bytes that are not printed as they are, and nothing at all.
+/// Actions whose texts have apostrophes, bytes that are not printed as they are, and nothing.
 pub const TEXTS_OF_ACTIONS: &[u8] = b"msc t; instance a; out m to b; endinstance; \
 instance b; action 'it''s; /* no note */' comment 'it''s a comment'; \
 action 'gr\xc3\xbcn\tund\nrot ~'; action ''; in m from a; endinstance; endmsc;";

@@ -27,7 +27,8 @@ instance b; in m, 1(y, z) from a; in m() from c; endinstance; \
 instance c; out m to b; endinstance; endmsc;";
 
 /// What is printed of `overtaking` under each architecture.
-const OVERTAKING_RACES: &[u8] = b"races 1\nrace 2 3 on b: in m2 from a; in m1 from a\nrun 0 1 3 2\n";
+const OVERTAKING_RACES: &[u8] = b"races 1\n\
+race 2 3 on b: in m2 from a; in m1 from a\nrun 0 1 3 2\n";
 
 /// What is printed of `crossing` under each architecture.
 const CROSSING_RACES: &[u8] = b"races 2\nrace 0 1 on a: out p to b; in q from b\nrun 2 1 0 3\n\
@@ -101,8 +102,8 @@ race 6 7 on z: in m4 from b; in m3 from a\nrun 0 1 2 3 4 5 7 6\n",
     ),
 ];
 
-/// Whether `msc check` prints of a text under an architecture a verdict on a chart named `t`, with this
-/// behind its first two lines, and ends with the status of that verdict.
+/// Whether `msc check` prints of a text under an architecture a verdict on a chart named `t`, with
+/// this behind its first two lines, and ends with the status of that verdict.
 fn prints(rt: &HostRuntime, text: &[u8], queues: &str, rest: &[u8]) -> Result<bool, AllocError> {
     let run = run(rt, &["check", "--queues", queues, "-"], text)?;
     let head = format!(in rt.alloc(); "chart t\nqueues {queues}\n")?;

@@ -78,7 +78,10 @@ fn is_message(alloc: Global, fault: ChartFault, number: u32, wanted: &str) -> Re
 fn a_chart_fault_is_printed_as_its_number_and_its_message(rt: HostRuntime) -> Result<(), Fail> {
     for (fault, number, wanted) in CHART_FAULTS {
         let is = is_line(rt.alloc(), Fault::Chart(fault), wanted)?;
-        assert!(rt; is && is_message(rt.alloc(), fault, number, wanted)?, "{wanted}");
+        assert!(rt;
+            is && is_message(rt.alloc(), fault, number, wanted)?,
+            "{wanted}"
+        );
     }
     Ok(())
 }
@@ -129,7 +132,10 @@ fn a_lexical_fault_is_printed_as_its_number_its_place_and_its_message(
 ) -> Result<(), Fail> {
     for (fault, head, wanted) in LEXICAL_FAULTS {
         let is = is_line(rt.alloc(), Fault::Parse(ParseFault::Lex(fault)), wanted)?;
-        assert!(rt; is && is_lexical_message(rt.alloc(), fault, head, wanted)?, "{wanted}");
+        assert!(rt;
+            is && is_lexical_message(rt.alloc(), fault, head, wanted)?,
+            "{wanted}"
+        );
     }
     Ok(())
 }

@@ -77,8 +77,10 @@ fn a_refused_text_leaves_the_writer_with_no_call(rt: HostRuntime) {
     assert_eq!(rt; writer.calls, 0);
 }
 
-/// A text of the grammar whose chart is refused, and its canonical text.
+/// A text of the grammar whose chart is refused.
 const NO_CHART: &[u8] = b"msc t; instance a; in m from a; out m to a; endinstance; endmsc;";
+
+/// Its canonical text.
 const CANONICAL: &[u8] = b"msc t;\ninstance a;\n  in m from a;\n  out m to a;\nendinstance;\n\
 endmsc;\n";
 

@@ -292,15 +292,9 @@ const HELP: [(&[&str], &str); 10] = [
     (&["--help"], "Usage: msc"),
     (&["help"], "Usage: msc"),
     (&["read", "--help"], "Usage: msc read <FILE>\n"),
-    (
-        &["read", "--help"],
-        "  0  the canonical text was written\n",
-    ),
+    (&["read", "--help"], "  0  the canonical text was written\n"),
     (&["read", "--help"], "  4  memory ran out"),
-    (
-        &["read", "--help"],
-        "Example:\n  msc read relay.msc\n",
-    ),
+    (&["read", "--help"], "Example:\n  msc read relay.msc\n"),
     (
         &["check", "--help"],
         "Usage: msc check [OPTIONS] --queues <pair|mailbox|single> <FILE>\n",
