@@ -39,6 +39,7 @@ numbered_from k (x ∷ xs) (suc j) m h =
     let number : (k + 1) + j ≡ k + suc j = omega arith in
     subst (λ (n : ℕ). HasNumber n m) number (numbered_from (k + 1) xs j m h)
 
+-- so each action of them has the number of its place
 pub marks_own : (events : List coded.DraftEvent) (ms : List code.Mark) → ms ≡ marks_from 0 events → AreOwn ms
 marks_own events ms same e m h =
     let number : 0 + e ≡ e = omega arith in

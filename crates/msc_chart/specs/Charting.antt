@@ -24,6 +24,7 @@ outputs_before acts e = count_by is_sent (take e acts)
 abbrev pub actions_before : List Act → ℕ → ℕ
 actions_before acts e = count_by is_action (take e acts)
 
+-- an end of a message is an output or an input, an action a local event
 abbrev pub kind_of : Act → EventKind
 kind_of (End x) = cond x.sends Output Input
 kind_of (Action text) = Local

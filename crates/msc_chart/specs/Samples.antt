@@ -139,7 +139,7 @@ queue_numbers queues d = map (queue_of queues d) (range_with_len 0 (length d.mes
 abbrev pub two_mailboxes_pairs : List (ℕ × ℕ)
 two_mailboxes_pairs = (0, 1) ∷ (0, 4) ∷ (0, 7) ∷ (1, 7) ∷ (2, 3) ∷ (2, 5) ∷ (2, 6) ∷ (3, 5) ∷ []
 
--- the enforced order of the chart with actions, under each architecture
+-- the enforced order of the chart with actions under Mailbox, pair by pair
 abbrev pub actions_pairs : List (ℕ × ℕ)
 actions_pairs = (0, 1) ∷ (0, 2) ∷ (0, 3) ∷ (1, 2) ∷ (1, 3) ∷ (2, 3) ∷ []
 

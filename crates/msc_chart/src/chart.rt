@@ -1,9 +1,9 @@
 //! Charts: instances, events and messages by number.
 //!
 //! Instances, events and messages are numbered from 0: instances by their sections, events in the
-//! order of the text, messages by their outputs. Contracts see the lists of all three, and the texts
-//! of the actions. The words are those of Z.120; the visual order is that of Alur, Holzmann and Peled
-//! (1996).
+//! order of the text, messages by their outputs. Contracts see the lists of all three, and the
+//! texts of the actions. The words are those of Z.120; the visual order is that of Alur, Holzmann
+//! and Peled (1996).
 
 ghost use Rattle.std.specs.Prelude.{◌≡◌, ◌≢◌, ◌<◌, ◌≤◌, ◌+◌, ◌↔◌, IsTrue, false, cond, None, Some, length, IfOk, IfErr, OnOk, slice_get};
 ghost use Rattle.std.specs.Option.{option_copied};
@@ -47,8 +47,9 @@ impl Model for Chart {
 }
 
 impl Chart {
-    /// The chart of a draft, or the draft's first fault: of the variants of [`ChartFault`] the first
-    /// that stands in it, at its least place. `Memory` is answered where a growth of memory was refused.
+    /// The chart of a draft, or the draft's first fault: of the variants of [`ChartFault`] the
+    /// first that stands in it, at its least place. `Memory` is answered where a growth of memory
+    /// was refused.
     pub fn build(alloc: Global, draft: &Draft) -> Result<Chart, ChartFault>
         ensures chart { IfOk result (λ chart. chart ≡ chart_of draft.now) }
 
@@ -259,8 +260,8 @@ impl Chart {
         self.events[e as usize].subject
     }
 
-    /// The text of event `e`: some for every local event, none for an output or an input. It takes no
-    /// memory.
+    /// The text of the action of event `e`: some for every local event, none for an output or an
+    /// input. It takes no memory.
     pub fn label(&self, e: Event) -> Option<&[u8]>
         requires { e < length self.now.events }
         ensures { option_copied result

@@ -77,7 +77,8 @@ pub(crate) fn unmatched<'d>(
     sends: bool,
 ) -> Option<usize>
     ensures { AnswersLeast (HoldsAt
-        (OfEnd (IsUnmatched sends (map mark_view places.now.keys))) (map mark_view marks.now)) result }
+        (OfEnd (IsUnmatched sends (map mark_view places.now.keys)))
+        (map mark_view marks.now)) result }
 {
     for (e, mark) in marks.iter().enumerate() {
         if is_unmatched(places, mark, sends) {

@@ -66,7 +66,8 @@ pub fn worked_charts()
         ≡ (1, 2) ∷ (1, 3) ∷ (1, 4) ∷ (2, 4) ∷ (3, 4) ∷ (5, 6) ∷ [] }
     ensures segments { map (λ e. e.segment) (chart_events empty_coregion) ≡ 0 ∷ 1 ∷ [] }
     ensures actions { chart_events actions
-        ≡ event 0 0 Local 0 0 ∷ event 0 1 Output 2 0 ∷ event 1 0 Input 1 0 ∷ event 1 1 Local 3 1 ∷ [] }
+        ≡ event 0 0 Local 0 0 ∷ event 0 1 Output 2 0
+        ∷ event 1 0 Input 1 0 ∷ event 1 1 Local 3 1 ∷ [] }
     ensures texts { (chart_of actions).actions ≡ go ∷ done ∷ [] }
     ensures action { drawn_pairs (chart_of actions) ≡ (0, 1) ∷ (2, 3) ∷ [] }
     ensures pair { queue_numbers Pair (chart_of relay) ≡ 1 ∷ 2 ∷ 7 ∷ [] }

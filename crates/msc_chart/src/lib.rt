@@ -3,9 +3,9 @@
 //!
 //! [`Chart::build`] answers the chart of a draft or the draft's first fault, and the readers of
 //! [`Chart`] show it. Everything is numbered from 0: instances by their sections, events in the
-//! order of the text, messages by their outputs, actions among themselves. Contracts see the lists of
-//! all four. The visual order is that of Alur, Holzmann and Peled (1996); the enforced order, runs and
-//! races of an architecture are defined beside it, for the crates that rest on this one.
+//! order of the text, messages by their outputs, actions among themselves. Contracts see the lists
+//! of all four. The visual order is that of Alur, Holzmann and Peled (1996); the enforced order,
+//! runs and races of an architecture are defined beside it, for the crates that rest on this one.
 //!
 //! Limits: [`INSTANCE_LIMIT`] instances, [`MESSAGE_LIMIT`] messages and [`ACTION_LIMIT`] actions.
 #![tactic(auto)]
