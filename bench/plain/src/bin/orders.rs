@@ -1,4 +1,4 @@
-//! Does what `order_bench` does, in plain Rust: makes a chart's orders and races, rows of bits
+//! Does what `msc_bench` does, in plain Rust: makes a chart's orders and races, rows of bits
 //! closed along a linear order of the events. It is the yardstick of `bench/orders`.
 //!
 //! Words: a phase and a count. What stands before the phase is done once, the phase as often as the

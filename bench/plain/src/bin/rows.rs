@@ -1,4 +1,4 @@
-//! Does what `fifo_bench` does, in plain Rust with the same atomic steps: a queue is a row of
+//! Does what `msc_bench queues` does, in plain Rust with the same atomic steps: a queue is a row of
 //! sequentially consistent words, a claim word, a clock word, and for each place an entry and a
 //! clock. Senders go through queues one after the other, each in a thread of its own, and put their
 //! shares of 1,024 messages and an end mark; one thread takes, queue by queue, until all senders have

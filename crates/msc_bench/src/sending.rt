@@ -1,20 +1,16 @@
-//! Sends messages through queues from threads, so that their speed can be measured
-//! (`bench/queues`).
+//! Messages that go through queues from threads.
 //!
-//! Words: how many senders, from 1 to 32, and how many queues. Each sender has a thread of its own
-//! and goes through the queues one after the other: in each it puts its share of the 1,024 messages
-//! that a queue may have, and the end mark. One thread takes, queue by queue, until all senders
-//! have ended. All queues are made before. How many messages were taken goes to standard output,
-//! how many nanoseconds sending and taking took to standard error.
-#![tactic(auto)]
+//! Each sender has a thread of its own and goes through the queues one after the other: in each it
+//! puts its share of the 1,024 messages that a queue may have, and the end mark. One thread takes,
+//! queue by queue, until all senders have ended. All queues are made before.
 
 use anyhow::{Context, Result, bail};
 use msc_fifo::{Inlet, Outlet, Taken, queue};
 use std::alloc::Global;
 use std::sync::Wait;
+use std::thread;
 use std::thread::Threads;
-use std::time::Instant;
-use std::{env, thread};
+use std::time::{Clock, Instant};
 
 /// How many messages a queue may have.
 const MOST_MESSAGES: u32 = 1024;
@@ -83,20 +79,19 @@ fn ends(alloc: Global, quotas: &[u32], queues: u32) -> Result<(Vec<Vec<Outlet>>,
     Ok((senders, inlets))
 }
 
-fn main(rt: HostRuntime) -> Result<()> {
-    let alloc = rt.alloc();
-    let mut words = env::args(&rt)?.skip(1);
-    let count: u32 = words.next().context("how many senders?")?.parse()?;
-    let queues: u32 = words.next().context("how many queues?")?.parse()?;
+/// Sends and takes, and answers how many messages were taken, and in how many nanoseconds.
+pub fn measured<R: Threads + Wait + Clock + Sync>(
+    rt: &R,
+    alloc: Global,
+    count: u32,
+    queues: u32,
+) -> Result<(u64, u128)> {
     if count == 0 {
         bail!("no sender");
     }
     let quotas = vec![in alloc; MOST_MESSAGES / count; count as usize]?;
     let (senders, inlets) = ends(alloc, &quotas, queues)?;
-    let start = Instant::now(&rt)?;
-    let taken = run(&rt, senders, inlets).context("a thread could not be started")?;
-    let time = start.elapsed(&rt)?.as_nanos();
-    println!(rt; "{taken} messages")?;
-    eprintln!(rt; "{time} nanoseconds")?;
-    Ok(())
+    let start = Instant::now(rt)?;
+    let taken = run(rt, senders, inlets).context("a thread could not be started")?;
+    Ok((taken, start.elapsed(rt)?.as_nanos()))
 }

@@ -1,15 +1,20 @@
-//! Makes a chart's orders and races, so that their work can be measured (`bench/orders`).
+//! Does what is to be measured (`bench/charts`, `checks`, `orders`, `queues`).
 //!
-//! Words: a phase and a count. What stands before the phase is done once, the phase as often as the
-//! count says, and at least once. A number that every part of the phase's answer goes into is
-//! printed.
+//! Words: a phase of what is made of the chart on standard input, and a count. What stands before
+//! the phase is done once, the phase as often as the count says, and at least once. A number that
+//! every part of the phase's answer goes into is printed.
+//!
+//! Or the word `queues`, a number of senders from 1 to 32, and a number of queues: how many messages
+//! went through them is printed, and how many nanoseconds they took to standard error.
 #![tactic(auto)]
 
 mod digest;
 mod phase;
+mod sending;
 
 use crate::digest::{built, listed, ordered, parsed};
 use crate::phase::{Phase, phase_of};
+use crate::sending::measured;
 use anyhow::{Context, Result};
 use msc_chart::{Chart, Queues};
 use msc_order::Order;
@@ -81,10 +86,17 @@ fn go_through(alloc: Global, text: &[u8], phase: Phase, count: u32) -> Result<u6
 fn main(rt: HostRuntime) -> Result<()> {
     let alloc = rt.alloc();
     let mut words = env::args(&rt)?.skip(1);
-    let word = words.next().context("which phase?")?;
+    let word = words.next().context("what?")?;
+    let first: u32 = words.next().context("how many?")?.parse()?;
+    if word.as_str() == "queues" {
+        let queues: u32 = words.next().context("how many queues?")?.parse()?;
+        let (taken, time) = measured(&rt, alloc, first, queues)?;
+        println!(rt; "{taken} messages")?;
+        eprintln!(rt; "{time} nanoseconds")?;
+        return Ok(());
+    }
     let phase = phase_of(&word).context("no such phase")?;
-    let count: u32 = words.next().context("how often?")?.parse()?;
     let text = read_all(alloc, &mut rt.stdin())?;
-    println!(rt; "{}", go_through(alloc, &text, phase, count)?)?;
+    println!(rt; "{}", go_through(alloc, &text, phase, first)?)?;
     Ok(())
 }
