@@ -21,10 +21,10 @@ pub enum Fault {
     #[error("{0}")]
     Chart(ChartFault),
     /// A growth of memory was refused.
-    #[error("out of memory")]
+    #[error("memory fault")]
     Memory,
     /// A read or a write failed, or an input did not end in time.
-    #[error("the device failed")]
+    #[error("device fault")]
     Device,
 }
 

@@ -140,7 +140,7 @@ fn a_lexical_fault_is_printed_as_its_number_its_place_and_its_message(
     Ok(())
 }
 
-/// The faults that have no number, and their lines.
+/// The faults that have no number, and their lines, which are their messages.
 const OTHER_FAULTS: [(Fault, &str); 3] = [
     (Fault::Memory, "memory fault\n"),
     (Fault::Chart(ChartFault::Memory), "memory fault\n"),
@@ -148,9 +148,13 @@ const OTHER_FAULTS: [(Fault, &str); 3] = [
 ];
 
 #[test]
-fn faults_without_a_number(rt: HostRuntime) -> Result<(), Fail> {
+fn a_fault_without_a_number_is_printed_as_its_message(rt: HostRuntime) -> Result<(), Fail> {
     for (fault, wanted) in OTHER_FAULTS {
-        assert!(rt; is_line(rt.alloc(), fault, wanted)?, "{wanted}");
+        let message = format!(in rt.alloc(); "{fault}\n")?;
+        assert!(rt;
+            is_line(rt.alloc(), fault, wanted)? && message.as_str() == wanted,
+            "{wanted}"
+        );
     }
     Ok(())
 }
