@@ -61,6 +61,12 @@ def at_random(messages, instances=32):
     return one_by_one(names, [pick.sample(sorted(names), 2) for _ in range(messages)])
 
 
+def relay(messages, instances=32):
+    """Messages round a ring of instances, each sent once the one before it has come."""
+    names = [f"i{k}" for k in range(instances)]
+    return one_by_one(names, [(names[m % instances], names[(m + 1) % instances]) for m in range(messages)])
+
+
 def to_one(messages, senders=31):
     """Messages from the senders in turn to one receiver."""
     names = [f"i{k}" for k in range(senders)]

@@ -4,5 +4,6 @@
 pub mod chart;
 pub mod draft;
 pub mod order;
+pub mod rows;
 pub mod run;
 mod writing;
