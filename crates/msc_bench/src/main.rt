@@ -4,8 +4,8 @@
 //! the phase is done once, the phase as often as the count says, and at least once. A number that
 //! every part of the phase's answer goes into is printed.
 //!
-//! Or the word `queues`, a number of senders from 1 to 32, and a number of queues: how many messages
-//! went through them is printed, and how many nanoseconds they took to standard error.
+//! Or the word `queues`, a number of senders from 1 to 32, and a number of queues: how many
+//! messages went through them is printed, and how many nanoseconds they took to standard error.
 #![tactic(auto)]
 
 mod digest;
