@@ -1,0 +1,8 @@
+-- what is promised
+pub mod Roles
+pub mod Logs
+pub mod Growth
+pub mod Running
+pub mod Executions
+-- what the code keeps
+pub mod Fits
