@@ -37,14 +37,15 @@ pub record IsTrafficOf (queues : Queues) (d : Drawing) (o : Outcome) (q i : ℕ)
   pub left : a.put ≡ a.taken ++ a.left
   pub closed : a.closed ≡ true
 
+-- a message, where there is one, before others
+abbrev pub message_and : Option ℕ → List ℕ → List ℕ
+message_and (Some m) ms = m ∷ ms
+message_and None ms = ms
+
 -- the messages at these places, in order
 abbrev pub placed_messages : List Place → List ℕ
 placed_messages [] = []
 placed_messages (p ∷ ps) = message_and p.message (placed_messages ps)
-  where
-    message_and : Option ℕ → List ℕ → List ℕ
-    message_and (Some m) ms = m ∷ ms
-    message_and None ms = ms
 
 -- A settled queue: an account for each sender, ascending; and what the receiver logged, of all
 -- senders in order, are the messages of the queue's first places.

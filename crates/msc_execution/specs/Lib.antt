@@ -4,5 +4,6 @@ pub mod Logs
 pub mod Growth
 pub mod Running
 pub mod Executions
+pub mod Settling
 -- what the code keeps
 pub mod Fits

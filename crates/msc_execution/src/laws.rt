@@ -4,6 +4,8 @@
 
 ghost use Rattle.msc_execution.specs.Fits.{InletsBringOwn, LogsKeepQuotas, OutputsHaveOutlets};
 ghost use Rattle.msc_execution.specs.Fits.{SendersAreRanked, WiringGrows, WiringsFit};
+ghost use Rattle.msc_execution.specs.Settling.{FinishedExecutionsLeaveNothing, RunsHoldQueues};
+ghost use Rattle.msc_execution.specs.Settling.{SettledRunsAreExecutions};
 
 /// Fresh ends fit their instance.
 pub fn wirings_fit()
@@ -33,4 +35,21 @@ pub fn wiring_grows()
 /// The k-th sender of a queue is of rank k.
 pub fn senders_are_ranked()
     ensures { SendersAreRanked }
+{}
+
+/// Before settling: among all that came back each queue with a message has one inlet and all its
+/// outlets.
+pub fn runs_hold_queues()
+    ensures { RunsHoldQueues }
+{}
+
+/// After settling: the runs of all instances from fresh ends and the settled queues are an
+/// execution.
+pub fn settled_runs_are_executions()
+    ensures { SettledRunsAreExecutions }
+{}
+
+/// Where all instances have finished, all logs are whole and nothing is left in a queue.
+pub fn finished_executions_leave_nothing()
+    ensures { FinishedExecutionsLeaveNothing }
 {}
