@@ -1,0 +1,6 @@
+pub mod Base
+pub mod Once
+pub mod ScheduleLemmas
+pub mod Gathers
+pub mod HeadLemmas
+pub mod Wholes
