@@ -1,0 +1,4 @@
+-- what is promised
+pub mod Clocks
+pub mod Timed
+pub mod ClockLaws
