@@ -5,7 +5,6 @@
 ghost use Rattle.msc_execution.specs.ClockLaws.{ClocksAreBounded, EveryExecutionHasAMerge};
 ghost use Rattle.msc_execution.specs.ClockLaws.{EveryExecutionIsARun, PlaceClocksAreBounded};
 
-use msc_chart::laws::ends_share_queues;
 use msc_gather::laws::charts_are_seated;
 
 /// The logs of an execution, sorted by the keys of their events, are a run whose lines are the logs.
@@ -13,7 +12,6 @@ pub fn every_execution_is_a_run()
     ensures run { EveryExecutionIsARun }
     ensures merge { EveryExecutionHasAMerge }
 {
-    ends_share_queues();
     charts_are_seated();
 }
 
@@ -22,6 +20,5 @@ pub fn no_clock_is_spent()
     ensures instances { ClocksAreBounded }
     ensures queues { PlaceClocksAreBounded }
 {
-    ends_share_queues();
     charts_are_seated();
 }

@@ -10,7 +10,7 @@ use Rattle.msc_gather.specs.Gathering.{IsGathered}
 use Rattle.msc_gather.specs.Schedule.{log_of, AreLogs, IsSchedule, IsSeated, MayFollow, FollowsLeast, HasAll, SomeMissing}
 use Rattle.msc_gather.specs.Heads.{IsLink, IsBehind, IsFront}
 
--- events are on the lines of the instances, and a queue has one receiver
+-- partners share queues, events are on the lines of the instances, and a queue has one receiver
 abbrev pub ChartsAreSeated : Type 0
 ChartsAreSeated =
     (queues : Queues) (d : Drawing) → IsAccepted d → IsSeated (wired queues d) (length d.instances)

@@ -1,6 +1,6 @@
 -- What logs have to satisfy to be the lines of a run, and what comes first in such a run.
 use Rattle.std.specs.Prelude.{◌≡◌, ℕ, ◌<◌, Bool, false, ◌&&◌, ◌||◌, List, [], length, get_or, nat_eq, IsTrue}
-use Rattle.msc_chart.specs.Orders.{WiredChart, queue}
+use Rattle.msc_chart.specs.Orders.{WiredChart, IsWired, queue}
 use Rattle.msc_chart.specs.Charts.{line, partner, is_output, is_input, is_controlled, before}
 use Rattle.msc_chart.specs.Lists.{occurs, until, Steps, IsOnce}
 
@@ -69,8 +69,10 @@ abbrev pub SomeMissing : WiredChart → List (List ℕ) → List ℕ → Type 0
 SomeMissing chart logs past =
     (e : ℕ) × (e < length chart.events) × IsTrue (is_logged chart logs e) × (occurs past e ≡ false)
 
--- each event is on the line of an instance, and the inputs of a queue are on one line
+-- partners share queues, each event is on the line of an instance, and the inputs of a queue are on
+-- one line
 pub record IsSeated (chart : WiredChart) (instances : ℕ) : Type 0 where
+  pub is_wired : IsWired chart
   pub on_lines : (e : ℕ) → e < length chart.events → line chart.events e < instances
   pub one_receiver : (r u : ℕ) → IsTrue (is_input chart.events r) → IsTrue (is_input chart.events u)
       → queue chart r ≡ queue chart u → line chart.events r ≡ line chart.events u

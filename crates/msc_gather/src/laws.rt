@@ -10,10 +10,12 @@ ghost use Rattle.msc_gather.specs.Laws.{WholeLogsGiveWholeTraces};
 
 use msc_chart::laws::{ends_share_queues, inputs_share_lines};
 
-/// Each event is on the line of an instance, and the inputs of a queue are on one line.
+/// Both ends of a message have one queue, each event is on the line of an instance, and the inputs
+/// of a queue are on one line.
 pub fn charts_are_seated()
     ensures { ChartsAreSeated }
 {
+    ends_share_queues();
     inputs_share_lines();
 }
 
@@ -22,7 +24,6 @@ pub fn charts_are_seated()
 pub fn runs_with_these_lines_are_schedules()
     ensures { RunsWithTheseLinesAreSchedules }
 {
-    ends_share_queues();
     charts_are_seated();
 }
 
@@ -33,7 +34,6 @@ pub fn the_least_events_gather()
     ensures stuck { StuckLogsHaveNoMerge }
     ensures strange { StrangeLogsHaveNoMerge }
 {
-    ends_share_queues();
     charts_are_seated();
 }
 
@@ -42,7 +42,6 @@ pub fn logs_are_gathered_or_none()
     ensures either { LogsAreGatheredOrNone }
     ensures unique { OneRunGathers }
 {
-    ends_share_queues();
     charts_are_seated();
 }
 

@@ -5,12 +5,8 @@ use Rattle.msc_execution.proofs.laws.every_execution_is_a_run.Goals as goal
 
 pub returns : goal.returns
 returns c = record {
-  run = λ queues d accepted logs places.
-      trace_is_run (wired queues d) _ logs places (c.ends_share_queues.ensures queues d accepted)
-      (c.charts_are_seated.ensures queues d accepted);
+  run = λ queues d accepted logs places. trace_is_run (c.charts_are_seated.ensures queues d accepted);
   merge = λ queues d accepted logs places timed none.
-      let is_wired = c.ends_share_queues.ensures queues d accepted in
-      let seated = c.charts_are_seated.ensures queues d accepted in
-      let trace = trace_is_run (wired queues d) _ logs places is_wired seated timed in
+      let trace = trace_is_run (c.charts_are_seated.ensures queues d accepted) timed in
       none (trace_of (wired queues d) logs places) trace.0 trace.1;
 }

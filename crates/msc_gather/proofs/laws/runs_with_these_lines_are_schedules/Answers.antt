@@ -4,5 +4,4 @@ use Rattle.msc_gather.proofs.laws.runs_with_these_lines_are_schedules.Goals as g
 
 pub returns : goal.returns
 returns c = λ queues d accepted logs events.
-    exactly (wired queues d) _ logs events (c.ends_share_queues.ensures queues d accepted)
-    (c.charts_are_seated.ensures queues d accepted)
+    exactly (wired queues d) _ logs events (c.charts_are_seated.ensures queues d accepted)
