@@ -5,5 +5,8 @@ pub mod Growth
 pub mod Running
 pub mod Executions
 pub mod Settling
+pub mod Clocks
+pub mod Timed
+pub mod ClockLaws
 -- what the code keeps
 pub mod Fits

@@ -2,10 +2,14 @@
 //! calls one to rest its own proof on the law. Each law holds under each architecture, and those
 //! that speak of what is in a chart hold of every accepted chart.
 
+ghost use Rattle.msc_execution.specs.ClockLaws.{ClocksAreBounded, EveryExecutionHasAMerge};
+ghost use Rattle.msc_execution.specs.ClockLaws.{EveryExecutionIsARun, PlaceClocksAreBounded};
 ghost use Rattle.msc_execution.specs.Fits.{InletsBringOwn, LogsKeepQuotas, OutputsHaveOutlets};
 ghost use Rattle.msc_execution.specs.Fits.{SendersAreRanked, WiringGrows, WiringsFit};
 ghost use Rattle.msc_execution.specs.Settling.{FinishedExecutionsLeaveNothing, RunsHoldQueues};
 ghost use Rattle.msc_execution.specs.Settling.{SettledRunsAreExecutions};
+
+use msc_gather::laws::charts_are_seated;
 
 /// Fresh ends fit their instance.
 pub fn wirings_fit()
@@ -53,3 +57,19 @@ pub fn settled_runs_are_executions()
 pub fn finished_executions_leave_nothing()
     ensures { FinishedExecutionsLeaveNothing }
 {}
+
+/// Timed logs, sorted by the keys of their events, are a run whose lines are the logs.
+pub fn every_execution_is_a_run()
+    ensures run { EveryExecutionIsARun }
+    ensures merge { EveryExecutionHasAMerge }
+{
+    charts_are_seated();
+}
+
+/// No clock of timed logs is greater than the number of messages put.
+pub fn clocks_are_bounded()
+    ensures instances { ClocksAreBounded }
+    ensures queues { PlaceClocksAreBounded }
+{
+    charts_are_seated();
+}
