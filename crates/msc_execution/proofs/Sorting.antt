@@ -6,6 +6,7 @@ use Rattle.msc_chart.specs.Lists.{occurs, until, Steps}
 use Rattle.msc_chart.proofs.ListLemmas.{clash, occurs-append, occurs-left, occurs-push}
 use Rattle.msc_gather.proofs.Once.{IsNew, occurs-head, occurs-tail, occurs-right, occurs-cases}
 use Rattle.msc_execution.specs.Clocks.{is_below, put_in, sorted}
+use Rattle.msc_execution.proofs.Lists.Words.{Apart}
 
 -- comparing keys
 pub below_first : (x y : ℕ) (xs ys : List ℕ) → x < y → is_below (x ∷ xs) (y ∷ ys) ≡ true
@@ -60,11 +61,6 @@ below_trans (x ∷ xs) (y ∷ ys) (z ∷ zs) h k =
                 (below_trans xs ys zs p.1 q.1))
           ]
     ]
-
--- nothing in the list is there twice, from its head
-abbrev pub Apart : List ℕ → Type 0
-Apart [] = Unit {0}
-Apart (x ∷ xs) = (occurs xs x ≡ false) × Apart xs
 
 -- a list that holds nothing twice, told from its front, holds nothing twice from its head
 pub apart_of_once : (past xs : List ℕ) → Steps IsNew past xs

@@ -8,5 +8,6 @@ pub mod Settling
 pub mod Clocks
 pub mod Timed
 pub mod ClockLaws
+pub mod Shown
 -- what the code keeps
 pub mod Fits

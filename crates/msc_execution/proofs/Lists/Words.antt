@@ -6,10 +6,10 @@ use Rattle.msc_chart.specs.Drawings.{Drawing}
 use Rattle.msc_chart.proofs.ListLemmas.{by_test, clash, occurs-append, occurs-left, occurs-push}
 use Rattle.msc_execution.specs.Logs.{MayBeLogged}
 
--- no number stands twice
-abbrev pub IsOnce : List ℕ → Type 0
-IsOnce [] = Unit {0}
-IsOnce (x ∷ xs) = (occurs xs x ≡ false) × IsOnce xs
+-- no number stands twice, told from the head
+abbrev pub Apart : List ℕ → Type 0
+Apart [] = Unit {0}
+Apart (x ∷ xs) = (occurs xs x ≡ false) × Apart xs
 
 -- what occurs is the head or in the tail
 pub head_or_tail : (x : ℕ) (xs : List ℕ) (e : ℕ) → occurs (x ∷ xs) e ≡ true → (x ≡ e) ⊎ (occurs xs e ≡ true)
@@ -86,18 +86,18 @@ pub fails : (b : Bool) → (b ≡ true → ⊥) → b ≡ false
 fails true f = absurd (f refl)
 fails false f = refl
 
-pub once_filter : (p : ℕ → Bool) (xs : List ℕ) → IsOnce xs → IsOnce (filter p xs)
+pub once_filter : (p : ℕ → Bool) (xs : List ℕ) → Apart xs → Apart (filter p xs)
 once_filter p [] h = tt
 once_filter p (x ∷ xs) h =
     let r = once_filter p xs h.1 in
     by_test (p x)
     (λ yes.
     let new : occurs (filter p xs) x ≡ false = fails (occurs (filter p xs) x) (λ there. clash (passes p xs x there).0 h.0) in
-    subst IsOnce (sym (filter_yes p x xs yes)) (new, r))
-    (λ no. subst IsOnce (sym (filter_no p x xs no)) r)
+    subst Apart (sym (filter_yes p x xs yes)) (new, r))
+    (λ no. subst Apart (sym (filter_no p x xs no)) r)
 
 pub once_map : (f : ℕ → ℕ) (xs : List ℕ)
-    → ((e g : ℕ) → occurs xs e ≡ true → occurs xs g ≡ true → f e ≡ f g → e ≡ g) → IsOnce xs → IsOnce (map f xs)
+    → ((e g : ℕ) → occurs xs e ≡ true → occurs xs g ≡ true → f e ≡ f g → e ≡ g) → Apart xs → Apart (map f xs)
 once_map f [] apart h = tt
 once_map f (x ∷ xs) apart h = (
   fails (occurs (map f xs) (f x)) (λ there.
@@ -107,13 +107,13 @@ once_map f (x ∷ xs) apart h = (
   once_map f xs (λ e g in_e in_g. apart e g (in_tail x xs e in_e) (in_tail x xs g in_g)) h.1,
 )
 
-pub once_left : (xs ys : List ℕ) → IsOnce (xs ++ ys) → IsOnce xs
+pub once_left : (xs ys : List ℕ) → Apart (xs ++ ys) → Apart xs
 once_left [] ys h = tt
 once_left (x ∷ xs) ys h =
     (fails (occurs xs x) (λ there. clash (occurs-left xs ys x there) h.0), once_left xs ys h.1)
 
 -- what stands once in two joined lists stands in one of them alone
-pub once_apart : (xs ys : List ℕ) (e : ℕ) → IsOnce (xs ++ ys) → occurs xs e ≡ true → occurs ys e ≡ true → ⊥
+pub once_apart : (xs ys : List ℕ) (e : ℕ) → Apart (xs ++ ys) → occurs xs e ≡ true → occurs ys e ≡ true → ⊥
 once_apart [] ys e h a b = in_none e a
 once_apart (x ∷ xs) ys e h a b = elim (head_or_tail x xs e a) [
   | inl is ↦ clash (in_right xs ys x (subst (λ (y : ℕ). occurs ys y ≡ true) (sym is) b)) h.0
@@ -122,7 +122,7 @@ once_apart (x ∷ xs) ys e h a b = elim (head_or_tail x xs e a) [
 
 -- a log has each event once
 pub steps_once : (d : Drawing) (past xs : List ℕ) → Steps (MayBeLogged d) past xs
-    → IsOnce xs × ((e : ℕ) → occurs past e ≡ true → occurs xs e ≡ true → ⊥)
+    → Apart xs × ((e : ℕ) → occurs past e ≡ true → occurs xs e ≡ true → ⊥)
 steps_once d past [] h = (tt, λ e a b. in_none e b)
 steps_once d past (x ∷ xs) h =
     let r = steps_once d (past ++ x ∷ []) xs h.1 in (

@@ -23,7 +23,7 @@ use Rattle.msc_execution.specs.Logs.{Begins, IsWholeLog, sent, received, receive
 use Rattle.msc_execution.specs.Running.{EndsAs}
 use Rattle.msc_execution.specs.Executions.{Outcome, log_at, end_at, placed_messages, AreAccounts, IsSettledFrom, IsExecution, AreFinished, IsFinished}
 use Rattle.msc_execution.specs.Settling.{of_queue, FinishedExecutionsLeaveNothing}
-use Rattle.msc_execution.proofs.Lists.Words.{IsOnce, at_head, in_right, kept, once_apart}
+use Rattle.msc_execution.proofs.Lists.Words.{Apart, at_head, in_right, kept, once_apart}
 use Rattle.msc_execution.proofs.Wiring.Receivers.{the_receiver}
 use Rattle.msc_execution.proofs.Wiring.Logged.{sent_is, sent_once, taken_by}
 use Rattle.msc_execution.proofs.Settling.Came.{came_of, all_outlets, all_inlets, HaveRun, HaveEnded, AreSettled}
@@ -157,7 +157,7 @@ module _ (queues : Queues) (d : Drawing) (open' : Bool) (patience : ℕ) (o : Ou
       let log = (x.runs i i_in.0).run.log in
       let (r, receiver) = the_receiver queues d q accepted here in
       let parts : sent queues d q (log_at o i) ≡ b.taken ++ b.left = sym traffic.put ∙ traffic.left in
-      let once : IsOnce (b.taken ++ b.left) = subst IsOnce parts (sent_once queues d accepted q i (log_at o i) log) in
+      let once : Apart (b.taken ++ b.left) = subst Apart parts (sent_once queues d accepted q i (log_at o i) log) in
       let none : b.left ≡ [] = no_member b.left (λ m m_left.
       let m_sent : occurs (sent queues d q (log_at o i)) m ≡ true = ap (λ (l : List ℕ). occurs l m) parts ∙ in_right b.taken b.left m m_left in
       let m_is = sent_is queues d accepted q i (log_at o i) m log m_sent in

@@ -9,7 +9,7 @@ use Rattle.msc_fifo.specs.declared.entry.Entry.{Entry}
 use Rattle.msc_fifo.specs.declared.entry.Entry.TheVariants.{Message, Ended}
 use Rattle.msc_fifo.specs.Entries.{messages_of}
 use Rattle.msc_execution.specs.Growth.{all_messages}
-use Rattle.msc_execution.proofs.Lists.Words.{IsOnce, head_or_tail, at_head, in_tail, in_none, fails}
+use Rattle.msc_execution.proofs.Lists.Words.{Apart, head_or_tail, at_head, in_tail, in_none, fails}
 use Rattle.msc_execution.proofs.Lists.Ranges.{count_more}
 
 part_yes : (i n s : ℕ) (es : List Entry) → eqb i s ≡ true → messages_of s (Message i n ∷ es) ≡ n ∷ messages_of s es
@@ -36,21 +36,21 @@ in_a_part (Message i n ∷ es) m h = elim (head_or_tail n (all_messages es) m h)
 ]
 in_a_part (Ended i ∷ es) m h = in_a_part es m h
 
-part_once : (i n s : ℕ) (es : List Entry) → IsOnce (messages_of s (Message i n ∷ es)) → IsOnce (messages_of s es)
+part_once : (i n s : ℕ) (es : List Entry) → Apart (messages_of s (Message i n ∷ es)) → Apart (messages_of s es)
 part_once i n s es h =
     by_test (eqb i s)
-    (λ yes. (let k : IsOnce (n ∷ messages_of s es) = subst IsOnce (part_yes i n s es yes) h in k.1))
-    (λ no. subst IsOnce (part_no i n s es no) h)
+    (λ yes. (let k : Apart (n ∷ messages_of s es) = subst Apart (part_yes i n s es yes) h in k.1))
+    (λ no. subst Apart (part_no i n s es no) h)
 
 -- where each sender's messages stand once, and no two senders share one, all stand once
-pub once_of_parts : (es : List Entry) → ((s : ℕ) → IsOnce (messages_of s es))
+pub once_of_parts : (es : List Entry) → ((s : ℕ) → Apart (messages_of s es))
     → ((m s t : ℕ) → occurs (messages_of s es) m ≡ true → occurs (messages_of t es) m ≡ true → s ≡ t)
-    → IsOnce (all_messages es)
+    → Apart (all_messages es)
 once_of_parts [] once apart = tt
 once_of_parts (Message i n ∷ es) once apart =
     let rest = once_of_parts es (λ s. part_once i n s es (once s))
     (λ m s t a b. apart m s t (part_later i n s es m a) (part_later i n t es m b)) in
-    let mine : IsOnce (n ∷ messages_of i es) = subst IsOnce (part_yes i n i es (eq-eqb i i refl)) (once i) in (
+    let mine : Apart (n ∷ messages_of i es) = subst Apart (part_yes i n i es (eq-eqb i i refl)) (once i) in (
       fails (occurs (all_messages es) n) (λ there.
           let p = in_a_part es n there in
           let same : p.0 ≡ i = apart n p.0 i (part_later i n p.0 es n p.1) (part_here i n es) in

@@ -22,7 +22,7 @@ use Rattle.msc_execution.specs.Logs.{IsLogOf, Reading, sent, received}
 use Rattle.msc_execution.specs.Growth.{IsLeftBy, HasTaken, all_messages}
 use Rattle.msc_execution.specs.Running.{Left, EndsAs, IsNothingStrange, IsStrangeAlone}
 use Rattle.msc_execution.specs.Settling.{of_queue, IsSettledOf}
-use Rattle.msc_execution.proofs.Lists.Words.{IsOnce, head_or_tail, at_head, in_tail, in_none, passes, fails, once_left, once_apart}
+use Rattle.msc_execution.proofs.Lists.Words.{Apart, head_or_tail, at_head, in_tail, in_none, passes, fails, once_left, once_apart}
 use Rattle.msc_execution.proofs.Lists.Ranges.{in_range}
 use Rattle.msc_execution.proofs.Wiring.Logged.{IsOf, sent_is, sent_once, taken_by}
 use Rattle.msc_execution.proofs.Settling.Came.{Came, left_of, all_outlets, all_inlets, HaveRun, HaveEnded, AreEndsOf, AreAccountsOfLogs, AreSettled, IsTold}
@@ -148,18 +148,18 @@ module _ (queues : Queues) (d : Drawing) (id : ℕ → QueueId) (c : Came) (stra
     | inr le ↦ in_none m (ap (λ (l : List ℕ). occurs l m) (sym (told.none j le)) ∙ h)
   ]
 
-  part_once : (j : ℕ) → IsOnce (messages_of j got)
+  part_once : (j : ℕ) → Apart (messages_of j got)
   part_once j = elim (cases_lt j (length (senders_in queues d q))) [
     | inl lt ↦
         let i : ℕ = get_or (senders_in queues d q) j 0 in
         let at = slice_get-get_or (senders_in queues d q) j 0 lt in
         let w = in_senders queues d q i (occurs_at (senders_in queues d q) j lt) in
         let b = begins j i at in
-        once_left (messages_of j got) b.0 (subst IsOnce b.1 (sent_once queues d accepted q i (c.logs i) (logs i w.0)))
-    | inr le ↦ subst IsOnce (sym (told.none j le)) tt
+        once_left (messages_of j got) b.0 (subst Apart b.1 (sent_once queues d accepted q i (c.logs i) (logs i w.0)))
+    | inr le ↦ subst Apart (sym (told.none j le)) tt
   ]
 
-  pub got_once : IsOnce (all_messages got)
+  pub got_once : Apart (all_messages got)
   got_once = once_of_parts got part_once (λ m s' t a b.
       let x = part s' m a in
       let y = part t m b in
@@ -211,7 +211,7 @@ module _ (queues : Queues) (d : Drawing) (open' : Bool) (patience : ℕ) (id : �
       ends.is_inlet.got
       ∙ ap (λ (r : ℕ). received queues d q (c.logs r) ++ ended.grown.strange r q) (sym same)
       ∙ ap (λ (l : List ℕ). mine ++ l) st.last in
-      let once : IsOnce (mine ++ m ∷ []) = subst IsOnce is (got_once queues d id c ended.grown.strange q t.0 accepted ended.logs ends t.1) in
+      let once : Apart (mine ++ m ∷ []) = subst Apart is (got_once queues d id c ended.grown.strange q t.0 accepted ended.logs ends t.1) in
       let p = in_a_part ends.inlet.got m (ap (λ (l : List ℕ). occurs l m) is ∙ occurs-push mine m) in
       let x = part queues d id c ended.grown.strange q t.0 accepted ended.logs ends t.1 p.0 m p.1 in
       let logged : occurs (c.logs i) (input_of d m) ≡ true = st.is_strange (x.is.known, x.is.queue) in

@@ -15,7 +15,7 @@ use Rattle.msc_fifo.specs.Ends.{new_outlet, new_inlet}
 use Rattle.msc_execution.specs.Roles.{NumberedOutlet, EndLists, role, wired_ends, queues_in, takes_from, sent_queues, taken_queues, rank_of, quota_of, IsFit}
 use Rattle.msc_execution.specs.Logs.{sent}
 use Rattle.msc_execution.specs.Fits.{WiringsFit, OutputsHaveOutlets, LogsKeepQuotas, InletsBringOwn}
-use Rattle.msc_execution.proofs.Lists.Words.{IsOnce, head_or_tail, at_head, in_tail, in_right, passes, kept}
+use Rattle.msc_execution.proofs.Lists.Words.{Apart, head_or_tail, at_head, in_tail, in_right, passes, kept}
 use Rattle.msc_execution.proofs.Wiring.Receivers.{messages_has, sent_has, the_receiver}
 use Rattle.msc_execution.proofs.Wiring.Logged.{sent_is, sent_once}
 
@@ -51,7 +51,7 @@ have_outlets queues d i e accepted output on =
     (ap (line d.events) (accepted.has_messages.back e output) ∙ on)
 
 -- a list without repetition whose members are in another list is no longer
-pub pigeons : (xs ys : List ℕ) → IsOnce xs → ((x : ℕ) → occurs xs x ≡ true → occurs ys x ≡ true) → length xs ≤ length ys
+pub pigeons : (xs ys : List ℕ) → Apart xs → ((x : ℕ) → occurs xs x ≡ true → occurs ys x ≡ true) → length xs ≤ length ys
 pigeons [] ys once h = omega arith
 pigeons (x ∷ xs) ys once h =
     let p = parts ys x (h x (at_head x xs)) in

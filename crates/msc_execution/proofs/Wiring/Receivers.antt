@@ -92,6 +92,14 @@ messages_has queues d m lt =
     kept (λ k. eqb (queue_of queues d k) (queue_of queues d m)) (range_with_len 0 (length d.messages)) m
     (range_has 0 (length d.messages) m (omega arith) (omega arith)) (eq-eqb (queue_of queues d m) (queue_of queues d m) refl)
 
+-- the queue of a message is one of the chart's
+pub queues_have : (queues : Queues) (d : Drawing) (q m : ℕ) → IsAccepted d → m < length d.messages → queue_of queues d m ≡ q
+    → occurs (queues_in queues d) q ≡ true
+queues_have queues d q m accepted lt at =
+    subst (λ (k : ℕ). occurs (queues_in queues d) k ≡ true) at
+    (below_has queues d (queue_bound queues d) (queue_of queues d m) (number_below queues d m accepted lt)
+    (some (messages_in queues d (queue_of queues d m)) m (messages_has queues d m lt)))
+
 -- the queue of a message is one to which its sender sends
 pub sent_has : (queues : Queues) (d : Drawing) (i m : ℕ) → IsAccepted d → m < length d.messages → sender_of d m ≡ i
     → occurs (sent_queues (role queues d i)) (queue_of queues d m) ≡ true
@@ -100,7 +108,7 @@ sent_has queues d i m accepted lt from =
     let q : ℕ = queue_of queues d m in
     let there = messages_has queues d m lt in
     kept (λ k. sends_to queues d k i) (queues_in queues d) q
-    (below_has queues d (queue_bound queues d) q (number_below queues d m accepted lt) (some (messages_in queues d q) m there))
+    (queues_have queues d q m accepted lt refl)
     (any_true (λ k. eqb (sender_of d k) i) (messages_in queues d q) m there (eq-eqb (sender_of d m) i from))
 
 -- the one instance that takes from a queue

@@ -1,0 +1,6 @@
+pub mod Along
+pub mod Claims
+pub mod Standing
+pub mod Shown
+pub mod Sources
+pub mod Premises
