@@ -4,3 +4,5 @@ pub mod Standing
 pub mod Shown
 pub mod Sources
 pub mod Premises
+pub mod Few
+pub mod Readings

@@ -8,6 +8,9 @@ ghost use Rattle.msc_execution.specs.Fits.{InletsBringOwn, LogsKeepQuotas, Outpu
 ghost use Rattle.msc_execution.specs.Fits.{SendersAreRanked, WiringGrows, WiringsFit};
 ghost use Rattle.msc_execution.specs.Settling.{FinishedExecutionsLeaveNothing, RunsHoldQueues};
 ghost use Rattle.msc_execution.specs.Settling.{SettledRunsAreExecutions};
+ghost use Rattle.msc_execution.specs.Shown.{ExecutionsAreRuns, ExecutionsAreTimed};
+ghost use Rattle.msc_execution.specs.Shown.{ExecutionsHaveAMerge, NobodyIsStopped, NoClockIsSpent};
+ghost use Rattle.msc_execution.specs.Shown.{NoPlaceClockIsSpent};
 
 use msc_gather::laws::charts_are_seated;
 
@@ -70,6 +73,32 @@ pub fn every_execution_is_a_run()
 pub fn clocks_are_bounded()
     ensures instances { ClocksAreBounded }
     ensures queues { PlaceClocksAreBounded }
+{
+    charts_are_seated();
+}
+
+/// The logs and the settled places of an execution fit one another, with their clocks.
+pub fn executions_are_timed()
+    ensures { ExecutionsAreTimed }
+{
+    charts_are_seated();
+}
+
+/// The events of an execution, sorted by their keys, are a run of the chart whose lines are the
+/// logs; so some run has the logs as its lines.
+pub fn executions_are_runs()
+    ensures run { ExecutionsAreRuns }
+    ensures merge { ExecutionsHaveAMerge }
+{
+    charts_are_seated();
+}
+
+/// No clock of an execution is greater than the number of messages; so with an open gate no
+/// instance is stopped.
+pub fn no_clock_is_spent()
+    ensures clocks { NoClockIsSpent }
+    ensures places { NoPlaceClockIsSpent }
+    ensures stopped { NobodyIsStopped }
 {
     charts_are_seated();
 }

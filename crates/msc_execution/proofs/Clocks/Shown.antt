@@ -133,4 +133,3 @@ module _ (queues : Queues) (d : Drawing) (accepted : IsAccepted d) where
       let own : nat_eq (queue (wired queues d) e) q ≡ false = ap (λ (z : ℕ). nat_eq z q) same ∙ other in
       rw (input, own, other) rest))
       (λ output. rw output rest)
-
