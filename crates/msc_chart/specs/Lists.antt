@@ -42,3 +42,7 @@ IsFirst (x ∷ xs) s = x ≡ s
 abbrev pub Steps : (List ℕ → ℕ → Type 0) → List ℕ → List ℕ → Type 0
 Steps May past [] = Unit {0}
 Steps May past (x ∷ xs) = May past x × Steps May (past ++ x ∷ []) xs
+
+-- a list that holds nothing twice
+abbrev pub IsOnce : List ℕ → Type 0
+IsOnce xs = Steps (λ past x. occurs past x ≡ false) [] xs

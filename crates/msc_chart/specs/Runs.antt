@@ -1,5 +1,5 @@
 -- The runs of a chart under an architecture.
-use Rattle.std.specs.Prelude.{◌≡◌, ℕ, ◌<◌, Bool, false, ◌&&◌, not, List, [], length, filter, IsTrue, nat_eq}
+use Rattle.std.specs.Prelude.{◌≡◌, ℕ, ◌<◌, Bool, false, ◌&&◌, not, List, [], length, get_or, filter, IsTrue, nat_eq}
 use Rattle.msc_chart.specs.Lists.{occurs, until, IsFirst, Steps}
 use Rattle.msc_chart.specs.Charts.{line, partner, is_output, is_input, is_controlled, before}
 use Rattle.msc_chart.specs.Orders.{WiredChart, queue}
@@ -41,3 +41,13 @@ Reverses events e f = IsTrue (occurs events f) × (occurs (until events f) e ≡
 -- the events of a list that are on a line, in their order
 unfoldable pub on_line : WiredChart → List ℕ → ℕ → List ℕ
 on_line chart events i = filter (λ e. nat_eq (line chart.events e) i) events
+
+-- there is a log for each of so many instances, and it is what the list has on that instance's line
+pub record HasLines (chart : WiredChart) (instances : ℕ) (logs : List (List ℕ)) (events : List ℕ) : Type 0 where
+  pub as_many : length logs ≡ instances
+  pub each : (i : ℕ) → i < instances → on_line chart events i ≡ get_or logs i []
+
+-- no run has the logs as its lines
+abbrev pub HasNoMerge : WiredChart → ℕ → List (List ℕ) → Type 0
+HasNoMerge chart instances logs =
+    (events : List ℕ) → Run chart events → HasLines chart instances logs events → ⊥

@@ -1,0 +1,10 @@
+pub mod Came
+pub mod Buckets
+pub mod FlatLists
+pub mod Accounts
+pub mod Parts
+pub mod Told
+pub mod Backs
+pub mod Placed
+pub mod Executed
+pub mod InHand

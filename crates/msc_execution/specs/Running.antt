@@ -1,0 +1,78 @@
+-- The run of an instance: what it leaves, however it ends.
+use Rattle.std.specs.Prelude.{◌≡◌, ◌≢◌, ℕ, ◌<◌, ◌≤◌, Bool, true, false, List, [], ◌∷◌, map, All, IsTrue}
+use Rattle.std.specs.List.{AllZip}
+use Rattle.msc_chart.specs.Lists.{occurs}
+use Rattle.msc_chart.specs.Charts.{line, is_controlled, before}
+use Rattle.msc_chart.specs.Drawings.{Drawing}
+use Rattle.msc_fifo.specs.Ends.{unended_in}
+use Rattle.msc_execution.specs.declared.end.End.{End}
+use Rattle.msc_execution.specs.declared.end.End.TheVariants.{Finished, Starved, Impatient, Stopped, Foreign}
+use Rattle.msc_execution.specs.Roles.{Role, EndLists, NumberedInlet}
+use Rattle.msc_execution.specs.Logs.{IsLogOf, IsWholeLog, Reading, clock_along}
+use Rattle.msc_execution.specs.Growth.{IsLeftBy, HasTaken, IsStrange}
+
+-- what an instance leaves: its log, its ends and how it ended
+pub record Left : Type 0 where
+  pub log : List ℕ
+  pub ends : EndLists
+  pub end : End
+
+-- the first output or local event of line i that is not in the log
+pub record IsFirstDue (d : Drawing) (i : ℕ) (log : List ℕ) (s : ℕ) : Type 0 where
+  pub controlled : IsTrue (is_controlled d.events s)
+  pub on_line : line d.events s ≡ i
+  pub missing : occurs log s ≡ false
+  pub first : (t : ℕ) → t < s → IsTrue (is_controlled d.events t) → line d.events t ≡ i → IsTrue (occurs log t)
+
+-- the log is not whole, and its line's first output or local event outside it, if there is one, lacks
+-- something that is drawn before it
+pub record IsHungry (r : Role) (log : List ℕ) : Type 0 where
+  pub part : IsWholeLog r.chart r.number log → ⊥
+  pub blocked : (s : ℕ) → IsFirstDue r.chart r.number log s
+      → (x : ℕ) × IsTrue (before r.chart.events x s) × (occurs log x ≡ false)
+
+-- every sender of every inlet has ended
+abbrev pub AllHaveEnded : List NumberedInlet → Type 0
+AllHaveEnded inlets = All (λ (n : NumberedInlet). unended_in n.1 ≡ 0) inlets
+
+-- nothing strange came in any queue
+abbrev pub IsNothingStrange : (ℕ → List ℕ) → Type 0
+IsNothingStrange strange = (q : ℕ) → strange q ≡ []
+
+-- one message is strange, in one of the queues from which the instance takes
+pub record IsStrangeAlone (r : Role) (left : Left) (strange : ℕ → List ℕ) (m : ℕ) : Type 0 where
+  pub queue : ℕ
+  pub own : IsTrue (occurs (map (λ (n : NumberedInlet). n.0) left.ends.inlets) queue)
+  pub last : strange queue ≡ m ∷ []
+  pub others : (q : ℕ) → q ≢ queue → strange q ≡ []
+  pub is_strange : IsStrange r queue left.log m
+
+-- a clock from which nothing can be offered any more
+abbrev pub IsSpentClock : ℕ → Type 0
+IsSpentClock clock = clock ≡ 18446744073709551615
+
+-- What each way to end says. With a gate that is known to be open only a spent clock stops an
+-- instance.
+abbrev pub EndsAs : Role → Bool → ℕ → Reading → Left → (ℕ → List ℕ) → End → Type 0
+EndsAs r open' patience reading left strange Finished = IsNothingStrange strange × IsWholeLog r.chart r.number left.log
+EndsAs r open' patience reading left strange Starved =
+    IsNothingStrange strange × IsHungry r left.log × AllHaveEnded left.ends.inlets
+EndsAs r open' patience reading left strange Impatient =
+    IsNothingStrange strange × IsHungry r left.log × (AllHaveEnded left.ends.inlets → ⊥)
+    × All (λ (n : NumberedInlet). patience ≤ n.1.idle) left.ends.inlets
+EndsAs r open' patience reading left strange Stopped =
+    IsNothingStrange strange × (open' ≡ true → IsSpentClock (clock_along r.chart reading.read_at left.log))
+EndsAs r open' patience reading left strange (Foreign m) = IsStrangeAlone r left strange m
+
+-- The run of an instance from these ends, that read these clocks and places.
+pub record IsRunBy (r : Role) (open' : Bool) (patience : ℕ) (reading : Reading) (before : EndLists) (left : Left) : Type 0 where
+  pub log : IsLogOf r.chart r.number left.log
+  pub put : AllZip (IsLeftBy r left.log reading) before.outlets left.ends.outlets
+  pub strange : ℕ → List ℕ
+  pub got : AllZip (HasTaken r left.log reading strange) before.inlets left.ends.inlets
+  pub ended : EndsAs r open' patience reading left strange left.end
+
+-- The run of an instance from these ends, with a gate that is known to be open or is not.
+pub record HasRun (r : Role) (open' : Bool) (patience : ℕ) (before : EndLists) (left : Left) : Type 0 where
+  pub reading : Reading
+  pub run : IsRunBy r open' patience reading before left

@@ -1,0 +1,16 @@
+//! How the run of an instance ends.
+
+/// How the run of an instance ended.
+#[derive(Clone, Copy, Debug, PartialEq, Eq)]
+pub enum End {
+    /// All events of its line are logged.
+    Finished,
+    /// Some event is not logged, and every sender of its queues has ended.
+    Starved,
+    /// Some event is not logged, and so many rounds of takes in a row have found nothing.
+    Impatient,
+    /// The gate said no, or the instance's clock was spent.
+    Stopped,
+    /// A message came that is not of the chart in its queue, or that was taken before.
+    Foreign(u32),
+}

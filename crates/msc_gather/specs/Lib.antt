@@ -1,0 +1,6 @@
+-- what is promised
+pub mod Gathering
+pub mod Schedule
+pub mod Laws
+-- what the code keeps
+pub mod Heads
