@@ -9,7 +9,7 @@ import sys
 TOP = pathlib.Path(__file__).resolve().parent.parent
 CRATES = TOP / "crates"
 # a name, and behind it the file that it stands in, of this crate or another
-NAMED = re.compile(r"`([^`]+)`(?: \((?:`(\w+)`, )?`((?:specs|proofs)/\w+)`\))?")
+NAMED = re.compile(r"`([^`]+)`(?: \((?:`(\w+)`, )?`((?:specs|proofs)/[\w/]+)`\))?")
 EDIT = re.compile(r"`(\w+)`(?: \(of `(\w+)`\))?")
 WORDS = r"(?m)^\s*(?:(?:pub|abbrev|unfoldable|opaque|data|record)\s+)*{}(?=[\s:(])"
 
@@ -24,7 +24,7 @@ def missing_words(crate, cell):
     """The names of a cell that do not stand in the file behind them."""
     waiting = []
     for name, other, place in NAMED.findall(cell):
-        if re.fullmatch(r"(specs|proofs)/\w+", name):
+        if re.fullmatch(r"(specs|proofs)/[\w/]+", name):
             if not (CRATES / crate / f"{name}.antt").is_file():
                 yield name
             continue
