@@ -1,0 +1,9 @@
+//! Tests of instances, alone and on threads.
+#![tactic(auto)]
+
+#[cfg(test)]
+mod alone;
+#[cfg(test)]
+mod gates;
+#[cfg(test)]
+mod together;
