@@ -151,13 +151,7 @@ pub(crate) fn chart_events<'d>(
     let numbers = numbers(alloc, marks)?;
     let mut chart = Vec::with_capacity(alloc, marks.len())?;
     for (e, event) in events.iter().enumerate() {
-        chart.push(charted(
-            e as u32,
-            event,
-            marks,
-            partners,
-            numbers.as_slice(),
-        ))?;
+        chart.push(charted(e as u32, event, marks, partners, numbers.as_slice()))?;
     }
     Ok(chart)
 }

@@ -21,13 +21,15 @@ returns-then-end-sends c =
 pub returns-else-end-sends : goal.returns-else-end-sends
 returns-else-end-sends c =
     let marks = c.args.marks.now in
-    let here = mark-at marks c.args.e _ (End c.in-End.end) c.requires.event c.in-End.is in
-    (λ t. clash t c.if-end-sends.false,
-    λ u. absurd (other-kind (map mark_view marks) c.args.sends c.args.e (end_view c.in-End.end) here c.if-end-sends.false u))
+    let here = mark-at marks c.args.e _ (End c.in-End.end) c.requires.event c.in-End.is in (
+      λ t. clash t c.if-end-sends.false,
+      λ u. absurd (other-kind (map mark_view marks) c.args.sends c.args.e (end_view c.in-End.end) here c.if-end-sends.false u),
+    )
 
 pub returns-in-Action : goal.returns-in-Action
 returns-in-Action c =
     let marks = c.args.marks.now in
-    let here = mark-at marks c.args.e _ (Action c.in-Action.field-0 c.in-Action.field-1) c.requires.event c.in-Action.is in
-    (λ t. absurd (true≢false (sym t)),
-    λ u. absurd (action-matched (map mark_view marks) c.args.sends c.args.e c.in-Action.field-1.now here u))
+    let here = mark-at marks c.args.e _ (Action c.in-Action.field-0 c.in-Action.field-1) c.requires.event c.in-Action.is in (
+      λ t. absurd (true≢false (sym t)),
+      λ u. absurd (action-matched (map mark_view marks) c.args.sends c.args.e c.in-Action.field-1.now here u),
+    )
