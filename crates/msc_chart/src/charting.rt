@@ -211,7 +211,7 @@ pub(crate) fn texts<'d>(alloc: Global, marks: &[Mark<'d>]) -> Result<Listed<Labe
     let mut texts = Vec::new(alloc);
     for mark in marks {
         if let Mark::Action(_, text) = mark {
-            texts.push(owned(alloc, text)?)?;
+            texts.push(owned(alloc, text.bytes)?)?;
         }
     }
     Ok(Listed::from_vec(texts))

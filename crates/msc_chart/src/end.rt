@@ -1,6 +1,7 @@
 //! The events of a draft, with borrowed names.
 
-ghost use Rattle.std.specs.Prelude.{◌≡◌, ◌+◌, ◌<◌, ◌≤◌, ◌++◌, map, length, IfOk, OnOk};
+ghost use Rattle.std.specs.Prelude.{◌≡◌, ◌+◌, ◌<◌, ◌≤◌, ◌++◌, [], map, length, IfOk, OnOk};
+ghost use mathlib.Core.Path.{refl};
 ghost use Rattle.msc_chart.specs.Events.{events_of, events_of_item, events_of_items, next_segment, act_of, drawn, end_of, other_end, address_of};
 ghost use Rattle.msc_chart.specs.Charting.{is_of};
 ghost use Rattle.msc_chart.specs.Views.{act_view, end_view, event_view, mark_of, mark_view};
@@ -10,6 +11,7 @@ use crate::event::EventKind;
 use msc_lexer::TEXT_LIMIT;
 use msc_parser::{Draft, Item, Section, Signal, Statement, Way};
 use std::alloc::{AllocError, Global};
+use std::hash::{Hash, Hasher};
 
 /// An end of a message, with its names in the draft.
 #[derive(Clone, Copy, PartialEq, Eq, Hash)]
@@ -58,7 +60,7 @@ impl<'d> Act<'d> {
     {
         match self {
             Act::End(end) => Mark::End(end),
-            Act::Action(text) => Mark::Action(e, text),
+            Act::Action(bytes) => Mark::Action(e, ActionText { bytes }),
         }
     }
 }
@@ -71,12 +73,26 @@ pub(crate) struct DraftEvent<'d> {
     pub act: Act<'d>,
 }
 
+/// The text of an action. The number of its event tells an action apart, so the text is not hashed.
+#[derive(Clone, Copy, PartialEq, Eq)]
+pub(crate) struct ActionText<'d> {
+    pub bytes: &'d [u8],
+}
+
+impl Hash for ActionText<'_> {
+    ghost hash_input = { λ _. [] };
+
+    ghost respects_eq = { λ x y h. refl };
+
+    fn hash<H: Hasher>(&self, _state: &mut H) {}
+}
+
 /// What tells the events of a draft apart: an end of a message does by itself, an action by the
 /// number of its event. So no two actions are equal.
 #[derive(Clone, Copy, PartialEq, Eq, Hash)]
 pub(crate) enum Mark<'d> {
     End(MessageEnd<'d>),
-    Action(u32, &'d [u8]),
+    Action(u32, ActionText<'d>),
 }
 
 impl<'d> Mark<'d> {

@@ -40,7 +40,7 @@ returns c =
           let subject = ap (λ ns. get_or ns w.output_of.result 0) c.requires.numbers ∙ subject-of_end acts c.requires.once c.args.e x here _ output in
           charted_act acts c.args.e c.args.event.now c.requires.own (End x) _ _ here read (w.kind-is ∙ (λ i. (w.kind_of.ensures i, subject i)))
       | in-Action w ↦
-          let text = w.in-Action.field-1.now in
+          let text = w.in-Action.field-1.bytes.now in
           let here = mark-at c.args.marks.now c.args.e _ (marks.Action w.in-Action.field-0 w.in-Action.field-1) c.requires.within w.in-Action.is in
           let subject = ap (λ ns. get_or ns c.args.e 0) c.requires.numbers ∙ number-of_action acts c.args.e text here in
           charted_act acts c.args.e c.args.event.now c.requires.own (Action text) _ _ here read (w.kind-is ∙ (λ i. (Local, subject i)))

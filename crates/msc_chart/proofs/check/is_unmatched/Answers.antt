@@ -31,5 +31,5 @@ returns-in-Action c =
     let marks = c.args.marks.now in
     let here = mark-at marks c.args.e _ (Action c.in-Action.field-0 c.in-Action.field-1) c.requires.event c.in-Action.is in (
       λ t. absurd (true≢false (sym t)),
-      λ u. absurd (action-matched (map mark_view marks) c.args.sends c.args.e c.in-Action.field-1.now here u),
+      λ u. absurd (action-matched (map mark_view marks) c.args.sends c.args.e c.in-Action.field-1.bytes.now here u),
     )
