@@ -89,11 +89,13 @@ pub place-no_action : (acts : List Act) (x : MessageEnd) (text : List ℕ)
     → StandsAt acts (place_of acts x) (Action text) → ⊥
 place-no_action acts x text h =
     let within = slice_get_within acts (place_of acts x) (Action text) h in
-    let one : Action text ≡ End x = one_at acts (place_of acts x) (Action text) (End x) h (place-found acts x within) in
+    let found = place-found acts x within in
+    let one : Action text ≡ End x = one_at acts (place_of acts x) (Action text) (End x) h found in
     cc
 
 -- as many partners as acts
-partners-length : (acts : List Act) (e : ℕ) (xs : List Act) → length (partners_from acts e xs) ≡ length xs
+partners-length : (acts : List Act) (e : ℕ) (xs : List Act)
+    → length (partners_from acts e xs) ≡ length xs
 partners-length acts e [] = refl
 partners-length acts e (x ∷ xs) = ap suc (partners-length acts (e + 1) xs)
 
@@ -130,7 +132,8 @@ pub numbers-many : (acts : List Act) → length (numbers_of acts) ≡ length act
 numbers-many acts = numbers-length 0 0 acts
 
 -- an act in front is counted where it is such
-more : (p : Act → Bool) (x : Act) (xs : List Act) → count_by p (x ∷ xs) ≡ cond (p x) 1 0 + count_by p xs
+more : (p : Act → Bool) (x : Act) (xs : List Act)
+    → count_by p (x ∷ xs) ≡ cond (p x) 1 0 + count_by p xs
 more p x xs = sum_by-cons (λ (y : Act). cond (p y) 1 0) x xs
 
 -- one more where it is such
@@ -139,7 +142,8 @@ one_more o true = refl
 one_more o false = omega arith
 
 -- where no action stands, the number is that of the outputs before
-outputs-at : (o a : ℕ) (xs : List Act) (k : ℕ) → k ≤ length xs → ((text : List ℕ) → StandsAt xs k (Action text) → ⊥)
+outputs-at : (o a : ℕ) (xs : List Act) (k : ℕ) → k ≤ length xs
+    → ((text : List ℕ) → StandsAt xs k (Action text) → ⊥)
     → get_or (numbers_from o a xs) k 0 ≡ o + outputs_before xs k
 outputs-at o a [] zero le none = omega arith
 outputs-at o a [] (suc k) le none = absurd (omega (arith, le))
@@ -212,7 +216,8 @@ act-at events e d within =
     (place-map event_view events e (get_or events e d) (slice_get-get_or events e d within))
 
 -- an end at a place, and what is unmatched there
-module _ (acts : List Act) (sends : Bool) (e : ℕ) (x : MessageEnd) (here : StandsAt acts e (End x)) where
+module _ (acts : List Act) (sends : Bool) (e : ℕ) (x : MessageEnd)
+    (here : StandsAt acts e (End x)) where
   -- what is unmatched at the place is this end
   unmatched-one : HoldsAt (OfEnd (IsUnmatched sends acts)) acts e → IsUnmatched sends acts x
   unmatched-one u = subst (OfEnd (IsUnmatched sends acts)) (one_at acts e u.0 (End x) u.1 here) u.2
@@ -222,27 +227,32 @@ module _ (acts : List Act) (sends : Bool) (e : ℕ) (x : MessageEnd) (here : Sta
   other-kind differ u = clash ((booleans_Decides x.sends sends).1 (unmatched-one u).kind) differ
 
   -- one of the kind is where the number of acts stands for its partner
-  pub unmatched-test : (p n : ℕ) → p ≡ get_or (partners_of acts) e 0 → n ≡ length acts → beq x.sends sends ≡ true
+  pub unmatched-test : (p n : ℕ) → p ≡ get_or (partners_of acts) e 0 → n ≡ length acts
+      → beq x.sends sends ≡ true
       → IsTrue (nat_eq p n) ↔ HoldsAt (OfEnd (IsUnmatched sends acts)) acts e
   unmatched-test p n read count kind =
       let at : p ≡ place_of acts (other_end x) = read ∙ partner-at acts e (End x) here in (
         λ t.
             let past = sym at ∙ eqb-true p n t ∙ count in
-            (End x, here, record { kind = (booleans_Decides x.sends sends).0 kind; alone = place-none acts (other_end x) past }),
+            let same = (booleans_Decides x.sends sends).0 kind in
+            (End x, here, record { kind = same; alone = place-none acts (other_end x) past }),
         λ u. eq-eqb p n (at ∙ none-place acts (other_end x) (unmatched-one u).alone ∙ sym count),
       )
 
 -- no action is unmatched
-pub action-matched : (acts : List Act) (sends : Bool) (e : ℕ) (text : List ℕ) → StandsAt acts e (Action text)
-    → HoldsAt (OfEnd (IsUnmatched sends acts)) acts e → ⊥
+pub action-matched : (acts : List Act) (sends : Bool) (e : ℕ) (text : List ℕ)
+    → StandsAt acts e (Action text) → HoldsAt (OfEnd (IsUnmatched sends acts)) acts e → ⊥
 action-matched acts sends e text here u =
     subst (OfEnd (IsUnmatched sends acts)) (one_at acts e u.0 (Action text) u.1 here) u.2
 
 -- the number of the output of an end of a message is the subject of that end
 module _ (acts : List Act) (once : (k : ℕ) → IsTwice acts k → ⊥) (e : ℕ) (x : MessageEnd)
-    (here : StandsAt acts e (End x)) (k : ℕ) (output : k ≡ cond x.sends e (get_or (partners_of acts) e 0)) where
+    (here : StandsAt acts e (End x)) (k : ℕ)
+    (output : k ≡ cond x.sends e (get_or (partners_of acts) e 0)) where
   output-here : k ≡ place_of acts (output_end x)
-  output-here = output ∙ ap (cond x.sends e) (partner-at acts e (End x) here) ∙ output-place acts once e x here
+  output-here =
+      output ∙ ap (cond x.sends e) (partner-at acts e (End x) here)
+      ∙ output-place acts once e x here
 
   -- it has one
   pub output-numbered : k < length (numbers_of acts)
@@ -258,9 +268,16 @@ module _ (acts : List Act) (once : (k : ℕ) → IsTwice acts k → ⊥) (e : �
 module _ (acts : List Act) (e : ℕ) (x : DraftEvent) (own : StandsAt acts e (event_view x).act) where
   pub charted_act : (a : Act) (t : EventKind × ℕ) (p : ℕ) → StandsAt acts e a
       → p ≡ get_or (partners_of acts) e 0 → t ≡ (kind_of a, subject_of acts e a)
-      → record { line = x.line; segment = x.segment; kind = t.0; partner = p; subject = t.1 } ≡ event_of acts e (event_view x)
+      → record { line = x.line; segment = x.segment; kind = t.0; partner = p; subject = t.1 }
+      ≡ event_of acts e (event_view x)
   charted_act a t p here read parts =
       let same : a ≡ (event_view x).act = one_at acts e a (event_view x).act here own in
       let partner = read ∙ partner-at acts e a here ∙ ap (partner_of acts e) same in
       let whole = parts ∙ ap (λ (b : Act). (kind_of b, subject_of acts e b)) same in
-      λ i. record { line = x.line; segment = x.segment; kind = (whole i).0; partner = partner i; subject = (whole i).1 }
+      λ i. record {
+        line = x.line;
+        segment = x.segment;
+        kind = (whole i).0;
+        partner = partner i;
+        subject = (whole i).1;
+      }

@@ -11,4 +11,5 @@ charted-requires-clause-own c =
 
 pub charted-requires-clause-once : goal.charted-requires-clause-once
 charted-requires-clause-once c =
-    subst (λ xs. (k : ℕ) → IsTwice xs k → ⊥) (sym (ap (map mark_view) c.as_slice-marks.ensures.keys)) c.requires.once
+    let acts = ap (map mark_view) c.as_slice-marks.ensures.keys in
+    subst (λ xs. (k : ℕ) → IsTwice xs k → ⊥) (sym acts) c.requires.once

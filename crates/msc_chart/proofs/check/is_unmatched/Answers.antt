@@ -9,27 +9,33 @@ use Rattle.msc_chart.proofs.check.is_unmatched.Goals as goal
 pub bounds-partners-e : goal.bounds-partners-e
 bounds-partners-e c =
     let many = partners-many (map mark_view c.args.marks.now) in
-    omega (arith, c.requires.event, ap length c.requires.partners, many, length-map c.args.marks.now mark_view)
+    let marks = length-map c.args.marks.now mark_view in
+    omega (arith, c.requires.event, ap length c.requires.partners, many, marks)
 
 pub returns-then-end-sends : goal.returns-then-end-sends
 returns-then-end-sends c =
     let marks = c.args.marks.now in
     let here = mark-at marks c.args.e _ (End c.in-End.end) c.requires.event c.in-End.is in
+    let read = ap (λ ps. get_or ps c.args.e 0) c.requires.partners in
     unmatched-test (map mark_view marks) c.args.sends c.args.e (end_view c.in-End.end) here _ _
-    (ap (λ ps. get_or ps c.args.e 0) c.requires.partners) (sym (length-map marks mark_view)) c.if-end-sends.true
+    read (sym (length-map marks mark_view)) c.if-end-sends.true
 
 pub returns-else-end-sends : goal.returns-else-end-sends
 returns-else-end-sends c =
-    let marks = c.args.marks.now in
-    let here = mark-at marks c.args.e _ (End c.in-End.end) c.requires.event c.in-End.is in (
-      λ t. clash t c.if-end-sends.false,
-      λ u. absurd (other-kind (map mark_view marks) c.args.sends c.args.e (end_view c.in-End.end) here c.if-end-sends.false u),
+    let acts = map mark_view c.args.marks.now in
+    let x = end_view c.in-End.end in
+    let differ = c.if-end-sends.false in
+    let here = mark-at c.args.marks.now c.args.e _ (End c.in-End.end) c.requires.event c.in-End.is in (
+      λ t. clash t differ,
+      λ u. absurd (other-kind acts c.args.sends c.args.e x here differ u),
     )
 
 pub returns-in-Action : goal.returns-in-Action
 returns-in-Action c =
-    let marks = c.args.marks.now in
-    let here = mark-at marks c.args.e _ (Action c.in-Action.field-0 c.in-Action.field-1) c.requires.event c.in-Action.is in (
+    let acts = map mark_view c.args.marks.now in
+    let action = Action c.in-Action.field-0 c.in-Action.field-1 in
+    let text = c.in-Action.field-1.bytes.now in
+    let here = mark-at c.args.marks.now c.args.e _ action c.requires.event c.in-Action.is in (
       λ t. absurd (true≢false (sym t)),
-      λ u. absurd (action-matched (map mark_view marks) c.args.sends c.args.e c.in-Action.field-1.bytes.now here u),
+      λ u. absurd (action-matched acts c.args.sends c.args.e text here u),
     )

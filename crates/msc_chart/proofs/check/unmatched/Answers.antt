@@ -20,7 +20,8 @@ loop-e-preserved c = λ k below h.
       | inr ge ↦
           let same : k ≡ c.loop-e.e = omega arith in
           let acts = map mark_view c.args.marks.now in
-          clash (c.is_unmatched.ensures.1 (subst (HoldsAt (OfEnd (IsUnmatched c.args.sends acts)) acts) same h)) c.if-is_unmatched.false
+          let here = subst (HoldsAt (OfEnd (IsUnmatched c.args.sends acts)) acts) same h in
+          clash (c.is_unmatched.ensures.1 here) c.if-is_unmatched.false
     ]
 
 pub returns : goal.returns

@@ -4,4 +4,6 @@ use Rattle.msc_chart.specs.Faults.{HoldsAt, IsUnmatched, OfEnd}
 use Rattle.msc_chart.proofs.check.unmatched.Given as goal
 
 abbrev pub invariant-loop-e : goal.invariant-loop-e
-invariant-loop-e l = (k : ℕ) → k < l.e → HoldsAt (OfEnd (IsUnmatched l.sends (map mark_view l.marks))) (map mark_view l.marks) k → ⊥
+invariant-loop-e l =
+    (k : ℕ) → k < l.e
+    → HoldsAt (OfEnd (IsUnmatched l.sends (map mark_view l.marks))) (map mark_view l.marks) k → ⊥
