@@ -8,6 +8,7 @@ pub mod EndLemmas
 pub mod DraftEvents
 pub mod MatchingLemmas
 pub mod Places
+pub mod TableLemmas
 pub mod TwiceLemmas
 pub mod FaultLemmas
 pub mod Stages

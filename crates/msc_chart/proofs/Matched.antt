@@ -1,8 +1,8 @@
 -- Where no fault up to the unmatched inputs stands, the events of the draft's chart have their
 -- partners, and they stand in the order of the text.
-use Rattle.std.proofs.Common.{◌≡◌, ℕ, ◌+◌, ◌<◌, ◌≤◌, Bool, true, false, cond, not, List, [], ◌∷◌, length, get_or, Some, suc, zero, refl, sym, ap, ◌∙◌, subst, true≢false, arith, inl, inr}
+use Rattle.std.proofs.Common.{◌≡◌, ℕ, ◌+◌, ◌<◌, ◌≤◌, Bool, true, false, cond, not, List, [], ◌∷◌, length, get_or, Some, suc, zero, refl, sym, ap, ◌∙◌, subst, true≢false, arith}
 use Rattle.std.specs.List.{list_any}
-use Rattle.std.proofs.lemmas.Bool.{cases_lt, lt-ltb}
+use Rattle.std.proofs.lemmas.Bool.{lt-ltb}
 use Rattle.std.proofs.lemmas.Option.{slice_get_within, slice_get-get_or, get_or_from_slice_get}
 use Rattle.std.proofs.lemmas.List.{length-map}
 use Rattle.msc_parser.specs.Grammar.{Tree}
@@ -16,27 +16,13 @@ use Rattle.msc_chart.specs.Drawings.{chart_events}
 use Rattle.msc_chart.specs.Charting.{place_of, kind_of, partner_of, event_of, events_from}
 use Rattle.msc_chart.specs.Sortings.{AreReady}
 use Rattle.msc_chart.specs.Lists.{StandsAt, Occurs}
-use Rattle.msc_chart.specs.Faults.{Stands, IsClearBelow}
+use Rattle.msc_chart.specs.Faults.{Stands, IsClearBelow, IsTwice}
 use Rattle.msc_chart.proofs.ListLemmas.{by_test, clash}
 use Rattle.msc_chart.proofs.Places.{one_at, any-place, place-any, place-map}
 use Rattle.msc_chart.proofs.MatchingLemmas.{is_end-true, same_end-refl}
+use Rattle.msc_chart.proofs.TableLemmas.{place-stands, place-once}
 use Rattle.msc_chart.proofs.DraftEvents.{of_sections, in_text_order}
 use Rattle.msc_chart.proofs.Drawn.{local_parts}
-
--- an end that stands somewhere stands at its place
-pub place-stands : (acts : List Act) (x : MessageEnd) (j : ℕ) → StandsAt acts j (End x) → StandsAt acts (place_of acts x) (End x) × (place_of acts x ≤ j)
-place-stands [] x j h = cc
-place-stands (y ∷ ys) x zero h =
-    let same : y ≡ End x = cc in
-    let found : is_end x y ≡ true = ap (is_end x) same ∙ same_end-refl x in
-    rw found (h, omega arith)
-place-stands (y ∷ ys) x (suc j) h =
-    by_test (is_end x y)
-    (λ found. rw found (ap Some (is_end-true x y found), omega arith))
-    (λ other.
-    let r = place-stands ys x j h in
-    let step : place_of (y ∷ ys) x ≡ suc (place_of ys x) = rw other (omega arith) in
-    (subst (λ (n : ℕ). StandsAt (y ∷ ys) n (End x)) (sym step) r.0, omega (arith, r.1, step)))
 
 -- the other end of the other end is the end itself
 other-other : (x : MessageEnd) → other_end (other_end x) ≡ x
@@ -137,15 +123,14 @@ module _ (d : Tree) where
   }
 
 module _ (d : Tree) (clear : IsClearBelow d 10) where
-  -- no end stands twice, so each stands at its place
-  pub place-own : (e : ℕ) (x : MessageEnd) → StandsAt (acts_of d) e (End x) → place_of (acts_of d) x ≡ e
+  -- no end stands twice
+  pub none-twice : (e : ℕ) → IsTwice (acts_of d) e → ⊥
   unfolding Stands
-  place-own e x h =
-      let p = place-stands (acts_of d) x e h in
-      elim (cases_lt (place_of (acts_of d) x) e) [
-        | inl below ↦ let low : 10 ≤ 7 = clear (TwiceEvent e) (x, h, (place_of (acts_of d) x, below, p.0)) in absurd (omega arith)
-        | inr ge ↦ omega (arith, p.1)
-      ]
+  none-twice e h = let low : 10 ≤ 7 = clear (TwiceEvent e) h in omega arith
+
+  -- so each stands at its place
+  pub place-own : (e : ℕ) (x : MessageEnd) → StandsAt (acts_of d) e (End x) → place_of (acts_of d) x ≡ e
+  place-own = place-once (acts_of d) none-twice
 
   -- no end is alone
   other-occurs : (e : ℕ) (x : MessageEnd) → StandsAt (acts_of d) e (End x) → Occurs (acts_of d) (End (other_end x))

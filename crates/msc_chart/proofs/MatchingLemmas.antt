@@ -7,7 +7,6 @@ use Rattle.std.proofs.lemmas.Bool.{and_parts, and_from, not-true, not_from_false
 use Rattle.std.proofs.Common.{Bor}
 use Rattle.std.specs.List.{list_any}
 use Rattle.std.specs.Map.Iter.{deref}
-use Rattle.msc_chart.specs.Lists.{Occurs}
 use Rattle.msc_chart.specs.Faults.{IsUnknown}
 use Rattle.msc_chart.proofs.ListLemmas.{by_test, clash}
 use Rattle.msc_chart.proofs.Places.{any_from, occurs_from}
@@ -16,7 +15,7 @@ use Rattle.msc_chart.specs.declared.end.MessageEnd as code
 use Rattle.msc_chart.specs.declared.end.Mark as coded
 use Rattle.msc_chart.specs.declared.end.Mark.TheVariants as marks
 use Rattle.msc_chart.specs.contracts.end.MarkPartialEq.TheImpl as derived
-use Rattle.msc_chart.specs.Events.{MessageEnd, Act, same_end, same_name, same_number, other_end, is_end}
+use Rattle.msc_chart.specs.Events.{MessageEnd, Act, same_end, same_name, same_number, is_end}
 use Rattle.msc_chart.specs.Events.Act.{End, Action}
 use Rattle.msc_chart.specs.Views.{end_view, mark_view}
 
@@ -129,16 +128,3 @@ unknown_test keys n r is = (
       (λ yes. absurd (unknown (occurs_from deref (λ k. pointwise nat_eq n k.now) n (λ x e. sym ((bytes_decides n x.now).0 e)) keys (sym is ∙ yes))))
       (λ no. not_from_false r no),
 )
-
--- the other end is not found exactly where it does not occur
-pub unmatched_test : (keys : List coded.Mark) (x other : code.MessageEnd) (r : Bool) → end_view other ≡ other_end (end_view x) → r ≡ list_any (mark_same (marks.End other)) keys
-    → (not r ≡ true → Occurs (map mark_view keys) (End (other_end (end_view x))) → ⊥) × ((Occurs (map mark_view keys) (End (other_end (end_view x))) → ⊥) → not r ≡ true)
-unmatched_test keys x other r same is =
-    let y : Act = End (other_end (end_view x)) in
-    let passes : (k : coded.Mark) → mark_view k ≡ y → mark_same (marks.End other) k ≡ true = λ k e. mark_same-view other k ∙ ap (is_end (end_view other)) (e ∙ ap End (sym same)) ∙ same_end-refl (end_view other) in
-    let shows : (k : coded.Mark) → mark_same (marks.End other) k ≡ true → mark_view k ≡ y = λ k e. is_end-true (end_view other) (mark_view k) (sym (mark_same-view other k) ∙ e) ∙ ap End same in (
-      λ h there. clash (is ∙ any_from mark_view (mark_same (marks.End other)) y passes keys there) (not-true r h),
-      λ alone. by_test r
-          (λ yes. absurd (alone (occurs_from mark_view (mark_same (marks.End other)) y shows keys (sym is ∙ yes))))
-          (λ no. not_from_false r no),
-    )

@@ -215,30 +215,22 @@ module _ (d : Tree) (names : List (Bor (List ℕ))) (seen : map deref names ≡ 
       pub clear_with_distinct_ends : IsClearBelow d 8
       clear_with_distinct_ends = distinct_ends_clear d marks drawn clear_with_few_actions n.new
 
-      -- what is alone among the numbered marks
-      Lone : Bool → List code.Mark → ℕ → Type 0
-      Lone sends ks e = HoldsAt (OfEnd (IsUnmatched sends (map mark_view ks))) (map mark_view marks) e
+      -- an output whose other end is nowhere is the first fault
+      pub lone_output_first : (e : ℕ) → IsLeast (HoldsAt (OfEnd (IsUnmatched true (map mark_view marks))) (map mark_view marks)) e → IsFirstFault d (UnmatchedOut e)
+      lone_output_first e h = unmatched_output_first d marks drawn clear_with_distinct_ends e h
 
-      -- an output that is not found among the numbered marks is the first fault
-      pub lone_output_first : (e : ℕ) → IsLeast (HoldsAt (OfEnd (IsUnmatched true (map mark_view keys))) (map mark_view marks)) e → IsFirstFault d (UnmatchedOut e)
-      unfolding Lone
-      lone_output_first e h = unmatched_output_first d marks drawn clear_with_distinct_ends e (subst (λ ks. IsLeast (Lone true ks) e) n.same h)
-
-      module _ (paired : (k : ℕ) → HoldsAt (OfEnd (IsUnmatched true (map mark_view keys))) (map mark_view marks) k → ⊥) where
-        -- where each output is found so
+      module _ (paired : (k : ℕ) → HoldsAt (OfEnd (IsUnmatched true (map mark_view marks))) (map mark_view marks) k → ⊥) where
+        -- where each output has its input
         pub clear_with_matched_outputs : IsClearBelow d 9
-        unfolding Lone
-        clear_with_matched_outputs = matched_outputs_clear d marks drawn clear_with_distinct_ends (subst (λ ks. (k : ℕ) → Lone true ks k → ⊥) n.same paired)
+        clear_with_matched_outputs = matched_outputs_clear d marks drawn clear_with_distinct_ends paired
 
-        -- an input that is not found among the numbered marks is the first fault
-        pub lone_input_first : (e : ℕ) → IsLeast (HoldsAt (OfEnd (IsUnmatched false (map mark_view keys))) (map mark_view marks)) e → IsFirstFault d (UnmatchedIn e)
-        unfolding Lone
-        lone_input_first e h = unmatched_input_first d marks drawn clear_with_matched_outputs e (subst (λ ks. IsLeast (Lone false ks) e) n.same h)
+        -- an input whose other end is nowhere is the first fault
+        pub lone_input_first : (e : ℕ) → IsLeast (HoldsAt (OfEnd (IsUnmatched false (map mark_view marks))) (map mark_view marks)) e → IsFirstFault d (UnmatchedIn e)
+        lone_input_first e h = unmatched_input_first d marks drawn clear_with_matched_outputs e h
 
-        -- where each input is found too, no fault is left but a cycle
-        pub clear_with_matched_inputs : ((k : ℕ) → HoldsAt (OfEnd (IsUnmatched false (map mark_view keys))) (map mark_view marks) k → ⊥) → IsClearBelow d 10
-        unfolding Lone
-        clear_with_matched_inputs back = matched_inputs_clear d marks drawn clear_with_matched_outputs (subst (λ ks. (k : ℕ) → Lone false ks k → ⊥) n.same back)
+        -- where each input has its output too, no fault is left but a cycle
+        pub clear_with_matched_inputs : ((k : ℕ) → HoldsAt (OfEnd (IsUnmatched false (map mark_view marks))) (map mark_view marks) k → ⊥) → IsClearBelow d 10
+        clear_with_matched_inputs back = matched_inputs_clear d marks drawn clear_with_matched_outputs back
 
 -- the marks of the code's events show the draft's acts
 pub marks_seen : (d : Tree) (events : List coded.DraftEvent) (marks : List code.Mark) → marks ≡ marks_from 0 events → map event_view events ≡ events_of d → map mark_view marks ≡ acts_of d

@@ -1,11 +1,11 @@
 -- What the events of a draft become in its chart.
-use Rattle.std.specs.Prelude.{ℕ, ◌+◌, true, cond, List, [], ◌∷◌, take, count_by}
+use Rattle.std.specs.Prelude.{ℕ, ◌+◌, Bool, true, cond, List, [], ◌∷◌, take, count_by}
 use Rattle.std.specs.List.{position_or_len}
 use Rattle.msc_chart.specs.declared.event.EventKind.{EventKind}
 use Rattle.msc_chart.specs.declared.event.EventKind.TheVariants.{Output, Input, Local}
 use Rattle.msc_chart.specs.declared.event.ChartEvent.{ChartEvent}
 use Rattle.msc_chart.specs.declared.message.Message.{Message}
-use Rattle.msc_chart.specs.Events.{DraftEvent, MessageEnd, Act, other_end, is_end, is_sent, is_action}
+use Rattle.msc_chart.specs.Events.{DraftEvent, MessageEnd, Act, other_end, is_end, is_sent, is_taken, is_action}
 use Rattle.msc_chart.specs.Events.Act.{End, Action}
 
 -- the place of the first act that is this end, or the number of acts
@@ -28,6 +28,12 @@ actions_before acts e = count_by is_action (take e acts)
 abbrev pub kind_of : Act → EventKind
 kind_of (End x) = cond x.sends Output Input
 kind_of (Action text) = Local
+
+-- whether an act becomes an event of this kind
+abbrev pub is_of : EventKind → Act → Bool
+is_of Output = is_sent
+is_of Input = is_taken
+is_of Local = is_action
 
 -- the event at the other end of its message; an action is its own
 abbrev pub partner_of : List Act → ℕ → Act → ℕ

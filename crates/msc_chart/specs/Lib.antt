@@ -16,5 +16,6 @@ pub mod Samples
 -- what the code keeps
 pub mod Views
 pub mod Numbering
+pub mod Tables
 pub mod Sortings
 pub mod Reach

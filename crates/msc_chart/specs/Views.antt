@@ -26,12 +26,12 @@ event_view e = record { line = e.line; segment = e.segment; act = act_view e.act
 -- a mark tells actions apart, and shows the text alone
 abbrev pub mark_view : coded_mark.Mark → Act
 mark_view (coded_marks.End e) = End (end_view e)
-mark_view (coded_marks.Action n text) = Action text.now
+mark_view (coded_marks.Action n text) = Action text.bytes.now
 
 -- the mark of event e, which does this
 abbrev pub mark_of : ℕ → coded_act.Act → coded_mark.Mark
 mark_of e (coded_acts.End x) = coded_marks.End x
-mark_of e (coded_acts.Action text) = coded_marks.Action e text
+mark_of e (coded_acts.Action text) = coded_marks.Action e (record { bytes = text })
 
 -- the marks of events from e on
 abbrev pub marks_from : ℕ → List coded.DraftEvent → List coded_mark.Mark

@@ -5,10 +5,11 @@ ghost use Rattle.std.specs.Map.Iter.{deref};
 ghost use Rattle.msc_chart.specs.Events.{instances_of, acts_of, events_of};
 ghost use Rattle.msc_chart.specs.Charts.{IsLinearOrder};
 ghost use Rattle.msc_chart.specs.Drawings.{chart_events};
+ghost use Rattle.msc_chart.specs.Tables.{partners_of};
 ghost use Rattle.msc_chart.specs.Views.{event_view, mark_view, marks_from};
 ghost use Rattle.msc_chart.specs.Faults.{IsClearBelow, IsFaultless, IsFirstOrMemory};
 
-use crate::charting::chart_events;
+use crate::charting::{chart_events, partners};
 use crate::check::{
     are_too_many, are_too_many_actions, unknown_address, unknown_header, unmatched,
 };
@@ -40,7 +41,7 @@ fn marks_of<'d>(alloc: Global, events: &[DraftEvent<'d>]) -> Result<Vec<Mark<'d>
     ensures value { IfOk result (λ marks. marks.items ≡ marks_from 0 events.now) }
     ensures each { IfOk result (λ marks. length marks.items ≡ length events.now) }
 {
-    let mut marks = Vec::new(alloc);
+    let mut marks = Vec::with_capacity(alloc, events.len())?;
     for (e, event) in events.iter().enumerate() {
         marks.push(event.act.mark(e as u32))?;
     }
@@ -68,18 +69,19 @@ fn instances<'d>(alloc: Global, draft: &'d Draft) -> Result<IndexSet<&'d [u8]>, 
     Ok(numbers)
 }
 
-/// The events of a draft, and their marks by place, where no fault stands that concerns messages or
-/// actions.
+/// The events of a draft, their marks by place, and their partners, where no fault stands that
+/// concerns messages or actions.
 fn matched_events<'d>(
     alloc: Global,
     draft: &'d Draft,
     instances: &IndexSet<&'d [u8]>,
-) -> Result<(Vec<DraftEvent<'d>>, IndexSet<Mark<'d>>), ChartFault>
+) -> Result<(Vec<DraftEvent<'d>>, IndexSet<Mark<'d>>, Vec<u32>), ChartFault>
     requires names { map deref instances.now.keys ≡ instances_of draft.now }
     requires few { length draft.now.sections ≤ INSTANCE_LIMIT }
     requires clear { IsClearBelow draft.now 4 }
     ensures events { IfOk result (λ r. map event_view r.0.items ≡ events_of draft.entry.now) }
     ensures acts { IfOk result (λ r. map mark_view r.1.keys ≡ acts_of draft.entry.now) }
+    ensures partners { IfOk result (λ r. r.2.items ≡ partners_of (map mark_view r.1.keys)) }
     ensures few { IfOk result (λ r. length r.1.keys ≤ EVENT_LIMIT) }
     ensures clear { OnOk result (IsClearBelow draft.entry.now 10) }
     ensures fault { IfErr result (IsFirstOrMemory draft.entry.now) }
@@ -100,13 +102,14 @@ fn matched_events<'d>(
     if let Some(e) = repeat {
         return Err(ChartFault::TwiceEvent(e as u32));
     }
-    if let Some(e) = unmatched(marks, &places, true) {
+    let partners = partners(alloc, &places)?;
+    if let Some(e) = unmatched(marks, partners.as_slice(), true) {
         return Err(ChartFault::UnmatchedOut(e as u32));
     }
-    if let Some(e) = unmatched(marks, &places, false) {
+    if let Some(e) = unmatched(marks, partners.as_slice(), false) {
         return Err(ChartFault::UnmatchedIn(e as u32));
     }
-    Ok((events, places))
+    Ok((events, places, partners))
 }
 
 /// The events of the chart, a linear order of them, and the marks of the draft's events by place,
@@ -123,8 +126,8 @@ pub(crate) fn lawful_events<'d>(
     ensures fault { IfErr result (IsFirstOrMemory draft.entry.now) }
 {
     let names = instances(alloc, draft)?;
-    let (drawn, places) = matched_events(alloc, draft, &names)?;
-    let events = chart_events(alloc, drawn.as_slice(), &places)?;
+    let (drawn, places, partners) = matched_events(alloc, draft, &names)?;
+    let events = chart_events(alloc, drawn.as_slice(), &places, partners.as_slice())?;
     let order = linear_order(alloc, events.as_slice(), draft.sections().len())?;
     Ok((events, order, places))
 }

@@ -235,7 +235,7 @@ impl Chart {
         if self.is_local(e) {
             return None;
         }
-        Some(self.events[e as usize].subject)
+        Some(self.message_of(e))
     }
 
     /// The event at the other end of the message of event `e`: some for every output and input, none
@@ -247,7 +247,7 @@ impl Chart {
         if self.is_local(e) {
             return None;
         }
-        Some(self.events[e as usize].partner)
+        Some(self.other_end(e))
     }
 
     /// The message of event `e`, an output or an input. It takes no memory.

@@ -1,17 +1,21 @@
 //! The parts of a chart, from the events of a draft without faults.
 
-ghost use Rattle.std.specs.Prelude.{◌≡◌, ◌<◌, ◌≤◌, ◌+◌, ℕ, map, length, get_or, vec_len, cond, IfOk};
+ghost use Rattle.std.specs.Prelude.{◌≡◌, ◌<◌, ◌≤◌, ℕ, map, length, cond, IfOk};
 ghost use Rattle.std.specs.Option.{option_copied};
 ghost use Rattle.msc_chart.specs.Events.{instances_of};
-ghost use Rattle.msc_chart.specs.Charting.{actions_before, place_of, event_of, events_from, outputs_before, messages_from, texts_of};
+ghost use Rattle.msc_chart.specs.Charting.{place_of, partner_of, event_of, events_from, messages_from, texts_of};
+ghost use Rattle.msc_chart.specs.Faults.{IsTwice};
+ghost use Rattle.msc_chart.specs.Lists.{StandsAt};
+ghost use Rattle.msc_chart.specs.Tables.{numbers_of, partners_of};
 ghost use Rattle.msc_chart.specs.Views.{end_view, event_view, mark_view};
 
 use crate::EVENT_LIMIT;
-use crate::end::{Act, DraftEvent, Mark, MessageEnd};
+use crate::end::{DraftEvent, Mark, MessageEnd};
 use crate::event::{ChartEvent, EventKind};
 use crate::message::Message;
 use indexmap::IndexSet;
 use listed::Listed;
+use msc_lexer::TEXT_LIMIT;
 use msc_parser::{Draft, Label, Name};
 use std::alloc::{AllocError, Global};
 
@@ -23,44 +27,60 @@ fn place<'d>(places: &IndexSet<Mark<'d>>, end: MessageEnd<'d>) -> usize
     places.get_index_of(&Mark::End(end)).unwrap_or(places.len())
 }
 
-/// How many outputs stand before each place, the place past the last one too.
-fn outputs_before(alloc: Global, marks: &[Mark]) -> Result<Vec<u32>, AllocError>
-    requires { length marks.now ≤ EVENT_LIMIT }
-    ensures len { IfOk result (λ counts. vec_len counts ≡ length marks.now + 1) }
-    ensures counts { IfOk result (λ counts.
-        (k : ℕ) → k ≤ length marks.now
-        → get_or counts.items k 0 ≡ outputs_before (map mark_view marks.now) k) }
+/// The event at the other end of the message of event `e`, which has this mark, or the number of all
+/// events where there is none. An action is its own.
+fn partner<'d>(places: &IndexSet<Mark<'d>>, e: u32, mark: &Mark<'d>) -> u32
+    requires { length places.now.keys ≤ TEXT_LIMIT }
+    ensures { result ≡ partner_of (map mark_view places.now.keys) e (mark_view mark.entry.now) }
 {
-    let mut counts = Vec::new(alloc);
-    let mut count = 0;
-    for mark in marks {
-        counts.push(count)?;
-        if mark.is_output() {
-            count += 1;
-        }
+    match mark {
+        Mark::End(end) => place(places, end.other()) as u32,
+        Mark::Action(_, _) => e,
     }
-    counts.push(count)?;
-    Ok(counts)
 }
 
-/// How many actions stand before each place, the place past the last one too.
-fn actions_before(alloc: Global, marks: &[Mark]) -> Result<Vec<u32>, AllocError>
-    requires { length marks.now ≤ EVENT_LIMIT }
-    ensures len { IfOk result (λ counts. vec_len counts ≡ length marks.now + 1) }
-    ensures counts { IfOk result (λ counts.
-        (k : ℕ) → k ≤ length marks.now
-        → get_or counts.items k 0 ≡ actions_before (map mark_view marks.now) k) }
+/// The partners of all events.
+pub(crate) fn partners<'d>(
+    alloc: Global,
+    places: &IndexSet<Mark<'d>>,
+) -> Result<Vec<u32>, AllocError>
+    requires { length places.now.keys ≤ TEXT_LIMIT }
+    ensures { IfOk result (λ partners.
+        partners.items ≡ partners_of (map mark_view places.now.keys)) }
 {
-    let mut counts = Vec::new(alloc);
-    let mut count = 0;
+    let marks = places.as_slice();
+    let mut partners = Vec::with_capacity(alloc, marks.len())?;
+    for (e, mark) in marks.iter().enumerate() {
+        partners.push(partner(places, e as u32, mark))?;
+    }
+    Ok(partners)
+}
+
+/// How many outputs stand before each end of a message, how many actions before each action, and
+/// last how many outputs there are.
+fn numbers(alloc: Global, marks: &[Mark]) -> Result<Vec<u32>, AllocError>
+    requires { length marks.now ≤ EVENT_LIMIT }
+    ensures { IfOk result (λ numbers. numbers.items ≡ numbers_of (map mark_view marks.now)) }
+{
+    let mut numbers = Vec::with_capacity(alloc, marks.len() + 1)?;
+    let mut outputs = 0;
+    let mut actions = 0;
     for mark in marks {
-        counts.push(count)?;
-        if mark.is_action() {
-            count += 1;
+        match mark {
+            Mark::End(end) => {
+                numbers.push(outputs)?;
+                if end.sends {
+                    outputs += 1;
+                }
+            }
+            Mark::Action(_, _) => {
+                numbers.push(actions)?;
+                actions += 1;
+            }
         }
     }
-    counts.push(count)?;
-    Ok(counts)
+    numbers.push(outputs)?;
+    Ok(numbers)
 }
 
 /// The kind of an end.
@@ -74,31 +94,35 @@ fn kind_of(sends: bool) -> EventKind
     }
 }
 
+/// The output of the message of event `e`, an end of a message, of this partner.
+fn output_of(sends: bool, e: u32, partner: u32) -> u32
+    ensures { result ≡ cond sends e partner }
+{
+    if sends { e } else { partner }
+}
+
 /// Event `e` of a chart, which this event of a draft becomes.
 fn charted<'d>(
     e: u32,
     event: &DraftEvent<'d>,
-    places: &IndexSet<Mark<'d>>,
-    outputs: &[u32],
-    actions: &[u32],
+    marks: &[Mark<'d>],
+    partners: &[u32],
+    numbers: &[u32],
 ) -> ChartEvent
-    requires small { length places.now.keys ≤ EVENT_LIMIT }
-    requires within { e < length places.now.keys }
-    requires outputs_len { length outputs.now ≡ length places.now.keys + 1 }
-    requires actions_len { length actions.now ≡ length places.now.keys + 1 }
-    requires outputs { (k : ℕ) → k ≤ length places.now.keys
-        → get_or outputs.now k 0 ≡ outputs_before (map mark_view places.now.keys) k }
-    requires actions { (k : ℕ) → k ≤ length places.now.keys
-        → get_or actions.now k 0 ≡ actions_before (map mark_view places.now.keys) k }
-    ensures { result ≡ event_of (map mark_view places.now.keys) e (event_view event.entry.now) }
+    requires within { e < length marks.now }
+    requires own { StandsAt (map mark_view marks.now) e (event_view event.now).act }
+    requires once { (k : ℕ) → IsTwice (map mark_view marks.now) k → ⊥ }
+    requires partners { partners.now ≡ partners_of (map mark_view marks.now) }
+    requires numbers { numbers.now ≡ numbers_of (map mark_view marks.now) }
+    ensures { result ≡ event_of (map mark_view marks.now) e (event_view event.entry.now) }
 {
-    let (kind, partner, subject) = match event.act {
-        Act::End(end) => (
+    let partner = partners[e as usize];
+    let (kind, subject) = match marks[e as usize] {
+        Mark::End(end) => (
             kind_of(end.sends),
-            place(places, end.other()) as u32,
-            outputs[place(places, end.output())],
+            numbers[output_of(end.sends, e, partner) as usize],
         ),
-        Act::Action(_) => (EventKind::Local, e, actions[e as usize]),
+        Mark::Action(_, _) => (EventKind::Local, numbers[e as usize]),
     };
     ChartEvent {
         line: event.line,
@@ -109,29 +133,25 @@ fn charted<'d>(
     }
 }
 
-/// The events of the chart.
+/// The events of the chart, where no end of a message stands twice.
 pub(crate) fn chart_events<'d>(
     alloc: Global,
     events: &[DraftEvent<'d>],
     places: &IndexSet<Mark<'d>>,
+    partners: &[u32],
 ) -> Result<Vec<ChartEvent>, AllocError>
     requires few { length places.now.keys ≤ EVENT_LIMIT }
-    requires each { length events.now ≡ length places.now.keys }
+    requires acts { map mark_view places.now.keys ≡ map (λ x. x.act) (map event_view events.now) }
+    requires once { (e : ℕ) → IsTwice (map mark_view places.now.keys) e → ⊥ }
+    requires partners { partners.now ≡ partners_of (map mark_view places.now.keys) }
     ensures { IfOk result (λ chart.
         chart.items ≡ events_from (map mark_view places.now.keys) 0 (map event_view events.now)) }
 {
-    let outputs = outputs_before(alloc, places.as_slice())?;
-    let actions = actions_before(alloc, places.as_slice())?;
-    let mut chart = Vec::new(alloc);
+    let marks = places.as_slice();
+    let numbers = numbers(alloc, marks)?;
+    let mut chart = Vec::with_capacity(alloc, marks.len())?;
     for (e, event) in events.iter().enumerate() {
-        let charted = charted(
-            e as u32,
-            event,
-            places,
-            outputs.as_slice(),
-            actions.as_slice(),
-        );
-        chart.push(charted)?;
+        chart.push(charted(e as u32, event, marks, partners, numbers.as_slice()))?;
     }
     Ok(chart)
 }
@@ -191,7 +211,7 @@ pub(crate) fn texts<'d>(alloc: Global, marks: &[Mark<'d>]) -> Result<Listed<Labe
     let mut texts = Vec::new(alloc);
     for mark in marks {
         if let Mark::Action(_, text) = mark {
-            texts.push(owned(alloc, text)?)?;
+            texts.push(owned(alloc, text.bytes)?)?;
         }
     }
     Ok(Listed::from_vec(texts))

@@ -1,12 +1,15 @@
 //! The faults of a draft, one by one.
 
-ghost use Rattle.std.specs.Prelude.{◌≡◌, ◌<◌, ◌↔◌, IsTrue, map, count_by};
+ghost use Rattle.std.specs.Prelude.{◌≡◌, ◌<◌, ◌↔◌, IsTrue, map, length, count_by};
 ghost use Rattle.std.specs.Map.Iter.{deref};
-ghost use Rattle.msc_chart.specs.Events.{address_of, is_action, is_sent, is_taken};
+ghost use Rattle.msc_chart.specs.Events.{address_of, is_action};
+ghost use Rattle.msc_chart.specs.Charting.{is_of};
+ghost use Rattle.msc_chart.specs.Tables.{partners_of};
 ghost use Rattle.msc_chart.specs.Views.{mark_view};
 ghost use Rattle.msc_chart.specs.Faults.{AnswersLeast, AreTooMany, HoldsAt, IsUnknown, IsUnmatched, OfEnd};
 
 use crate::end::Mark;
+use crate::event::EventKind;
 use crate::{ACTION_LIMIT, MESSAGE_LIMIT};
 use indexmap::IndexSet;
 use msc_parser::Decl;
@@ -29,13 +32,15 @@ fn is_away<'d>(instances: &IndexSet<&'d [u8]>, mark: &Mark<'d>) -> bool
     }
 }
 
-/// Whether it is an output, or an input, whose other end is at no place.
-fn is_unmatched<'d>(places: &IndexSet<Mark<'d>>, mark: &Mark<'d>, sends: bool) -> bool
-    ensures { IsTrue result ↔ OfEnd
-        (IsUnmatched sends (map mark_view places.now.keys)) (mark_view mark.now) }
+/// Whether the event at place `e` is an output, or an input, whose other end is at no place.
+fn is_unmatched(marks: &[Mark], partners: &[u32], e: usize, sends: bool) -> bool
+    requires event { e < length marks.now }
+    requires partners { partners.now ≡ partners_of (map mark_view marks.now) }
+    ensures { IsTrue result ↔ HoldsAt
+        (OfEnd (IsUnmatched sends (map mark_view marks.now))) (map mark_view marks.now) e }
 {
-    match mark {
-        Mark::End(end) => end.sends == sends && !places.contains(&Mark::End(end.other())),
+    match marks[e] {
+        Mark::End(end) => end.sends == sends && partners[e] as usize == marks.len(),
         Mark::Action(_, _) => false,
     }
 }
@@ -71,42 +76,25 @@ pub(crate) fn unknown_address<'d>(
 }
 
 /// The first output, or the first input, whose other end is at no place.
-pub(crate) fn unmatched<'d>(
-    marks: &[Mark<'d>],
-    places: &IndexSet<Mark<'d>>,
-    sends: bool,
-) -> Option<usize>
+pub(crate) fn unmatched(marks: &[Mark], partners: &[u32], sends: bool) -> Option<usize>
+    requires { partners.now ≡ partners_of (map mark_view marks.now) }
     ensures { AnswersLeast (HoldsAt
-        (OfEnd (IsUnmatched sends (map mark_view places.now.keys)))
+        (OfEnd (IsUnmatched sends (map mark_view marks.now)))
         (map mark_view marks.now)) result }
 {
-    for (e, mark) in marks.iter().enumerate() {
-        if is_unmatched(places, mark, sends) {
+    for e in 0..marks.len() {
+        if is_unmatched(marks, partners, e, sends) {
             return Some(e);
         }
     }
     None
 }
 
-/// How many are outputs.
-fn outputs(marks: &[Mark]) -> usize
-    ensures { result ≡ count_by is_sent (map mark_view marks.now) }
+/// How many are of this kind.
+fn count(marks: &[Mark], kind: EventKind) -> usize
+    ensures { result ≡ count_by (is_of kind) (map mark_view marks.now) }
 {
-    marks.iter().filter(|mark| mark.is_output()).count()
-}
-
-/// How many are inputs.
-fn inputs(marks: &[Mark]) -> usize
-    ensures { result ≡ count_by is_taken (map mark_view marks.now) }
-{
-    marks.iter().filter(|mark| mark.is_input()).count()
-}
-
-/// How many are actions.
-fn actions(marks: &[Mark]) -> usize
-    ensures { result ≡ count_by is_action (map mark_view marks.now) }
-{
-    marks.iter().filter(|mark| mark.is_action()).count()
+    marks.iter().filter(|mark| mark.is_of(kind)).count()
 }
 
 /// Whether there are more outputs, or more inputs, than a chart may have messages.
@@ -114,12 +102,12 @@ pub(crate) fn are_too_many(marks: &[Mark]) -> bool
     ensures { IsTrue result ↔ AreTooMany (map mark_view marks.now) }
 {
     let limit = MESSAGE_LIMIT as usize;
-    outputs(marks) > limit || inputs(marks) > limit
+    count(marks, EventKind::Output) > limit || count(marks, EventKind::Input) > limit
 }
 
 /// Whether there are more actions than a chart may have.
 pub(crate) fn are_too_many_actions(marks: &[Mark]) -> bool
     ensures { IsTrue result ↔ (ACTION_LIMIT < count_by is_action (map mark_view marks.now)) }
 {
-    actions(marks) > ACTION_LIMIT as usize
+    count(marks, EventKind::Local) > ACTION_LIMIT as usize
 }

@@ -1,14 +1,17 @@
 //! The events of a draft, with borrowed names.
 
-ghost use Rattle.std.specs.Prelude.{◌≡◌, ◌+◌, ◌<◌, ◌≤◌, ◌++◌, map, length, IfOk, OnOk};
-ghost use Rattle.msc_chart.specs.Events.{events_of, events_of_item, events_of_items, next_segment, act_of, drawn, end_of, is_action, is_sent, is_taken, other_end, address_of};
-ghost use Rattle.msc_chart.specs.Charting.{output_end};
+ghost use Rattle.std.specs.Prelude.{◌≡◌, ◌+◌, ◌<◌, ◌≤◌, ◌++◌, [], map, length, IfOk, OnOk};
+ghost use mathlib.Core.Path.{refl};
+ghost use Rattle.msc_chart.specs.Events.{events_of, events_of_item, events_of_items, next_segment, act_of, drawn, end_of, other_end, address_of};
+ghost use Rattle.msc_chart.specs.Charting.{is_of};
 ghost use Rattle.msc_chart.specs.Views.{act_view, end_view, event_view, mark_of, mark_view};
 
 use crate::INSTANCE_LIMIT;
+use crate::event::EventKind;
 use msc_lexer::TEXT_LIMIT;
 use msc_parser::{Draft, Item, Section, Signal, Statement, Way};
 use std::alloc::{AllocError, Global};
+use std::hash::{Hash, Hasher};
 
 /// An end of a message, with its names in the draft.
 #[derive(Clone, Copy, PartialEq, Eq, Hash)]
@@ -27,16 +30,6 @@ impl<'d> MessageEnd<'d> {
     {
         MessageEnd {
             sends: !self.sends,
-            ..*self
-        }
-    }
-
-    /// The output of the same message.
-    pub fn output(&self) -> MessageEnd<'d>
-        ensures { end_view result ≡ output_end (end_view self.entry.now) }
-    {
-        MessageEnd {
-            sends: true,
             ..*self
         }
     }
@@ -67,7 +60,7 @@ impl<'d> Act<'d> {
     {
         match self {
             Act::End(end) => Mark::End(end),
-            Act::Action(text) => Mark::Action(e, text),
+            Act::Action(bytes) => Mark::Action(e, ActionText { bytes }),
         }
     }
 }
@@ -80,42 +73,38 @@ pub(crate) struct DraftEvent<'d> {
     pub act: Act<'d>,
 }
 
+/// The text of an action. The number of its event tells an action apart, so the text is not hashed.
+#[derive(Clone, Copy, PartialEq, Eq)]
+pub(crate) struct ActionText<'d> {
+    pub bytes: &'d [u8],
+}
+
+impl Hash for ActionText<'_> {
+    ghost hash_input = { λ _. [] };
+
+    ghost respects_eq = { λ x y h. refl };
+
+    fn hash<H: Hasher>(&self, _state: &mut H) {}
+}
+
 /// What tells the events of a draft apart: an end of a message does by itself, an action by the
 /// number of its event. So no two actions are equal.
 #[derive(Clone, Copy, PartialEq, Eq, Hash)]
 pub(crate) enum Mark<'d> {
     End(MessageEnd<'d>),
-    Action(u32, &'d [u8]),
+    Action(u32, ActionText<'d>),
 }
 
 impl<'d> Mark<'d> {
-    /// Whether it is an output.
-    pub fn is_output(&self) -> bool
-        ensures { result ≡ is_sent (mark_view self.entry.now) }
+    /// Whether it becomes an event of this kind.
+    pub fn is_of(&self, kind: EventKind) -> bool
+        ensures { result ≡ is_of kind (mark_view self.entry.now) }
     {
-        match self {
-            Mark::End(end) => end.sends,
-            Mark::Action(_, _) => false,
-        }
-    }
-
-    /// Whether it is an input.
-    pub fn is_input(&self) -> bool
-        ensures { result ≡ is_taken (mark_view self.entry.now) }
-    {
-        match self {
-            Mark::End(end) => !end.sends,
-            Mark::Action(_, _) => false,
-        }
-    }
-
-    /// Whether it is an action.
-    pub fn is_action(&self) -> bool
-        ensures { result ≡ is_action (mark_view self.entry.now) }
-    {
-        match self {
-            Mark::End(_) => false,
-            Mark::Action(_, _) => true,
+        match (self, kind) {
+            (Mark::End(end), EventKind::Output) => end.sends,
+            (Mark::End(end), EventKind::Input) => !end.sends,
+            (Mark::Action(_, _), EventKind::Local) => true,
+            _ => false,
         }
     }
 }

@@ -9,7 +9,7 @@ use Rattle.msc_chart.proofs.ListLemmas.{clash}
 use Rattle.msc_chart.proofs.Places.{repeat_at, numbered_at}
 use Rattle.msc_chart.proofs.MatchingLemmas.{mark_same}
 use Rattle.msc_chart.proofs.TwiceLemmas.{marks_own}
-use Rattle.msc_chart.proofs.Stages.{marks_seen, unknown_address_first, known_addresses_clear, many_messages_first, many_actions_first, repeated_end_first, clear_with_few_messages, clear_with_few_actions, lone_output_first, lone_input_first, clear_with_matched_inputs}
+use Rattle.msc_chart.proofs.Stages.{least_within, marks_seen, unknown_address_first, known_addresses_clear, many_messages_first, many_actions_first, repeated_end_first, clear_with_few_messages, clear_with_few_actions, lone_output_first, lone_input_first, clear_with_matched_inputs}
 use Rattle.msc_chart.proofs.Lawful.{few_acts}
 use Rattle.msc_chart.proofs.building.matched_events.Goals as goal
 
@@ -98,3 +98,15 @@ returns-clause-few c =
     let n : AreNumbered mark_same marks c.in_ok-places.places.keys = numbered_at mark_same marks c.in_ok-places.places.keys _ c.in_default-repeat.is c.in_ok-places.ensures in
     let few = few_acts (map mark_view marks) (λ m. clash (c.are_too_many.ensures.1 m) c.if-are_too_many.false) (λ m. clash (c.are_too_many_actions.ensures.1 m) c.if-are_too_many_actions.false) in
     omega (arith, ap length n.same, length-map marks mark_view, few)
+
+pub overflow_cast-result-in-Some-unmatched : goal.overflow_cast-result-in-Some-unmatched
+overflow_cast-result-in-Some-unmatched c =
+    let marks = c.as_slice-marks.result.now in
+    let within = least_within (map mark_view marks) c.in-Some-unmatched.e c.in-Some-unmatched.ensures in
+    omega (arith, within, length-map marks mark_view, ap length c.as_slice-marks.ensures.value, c.in_ok-kept.ensures.each, ap length c.as_slice.ensures.value, c.in_ok-events.ensures.few)
+
+pub overflow_cast-result-in-Some-unmatched-2 : goal.overflow_cast-result-in-Some-unmatched-2
+overflow_cast-result-in-Some-unmatched-2 c =
+    let marks = c.as_slice-marks.result.now in
+    let within = least_within (map mark_view marks) c.in-Some-unmatched-2.e c.in-Some-unmatched-2.ensures in
+    omega (arith, within, length-map marks mark_view, ap length c.as_slice-marks.ensures.value, c.in_ok-kept.ensures.each, ap length c.as_slice.ensures.value, c.in_ok-events.ensures.few)

@@ -1,22 +1,58 @@
-use Rattle.std.proofs.Common.{map, ap, ◌∙◌, arith}
+use Rattle.std.proofs.Common.{◌<◌, arith, map, length, get_or, ap, ◌∙◌, cond}
+use Rattle.std.proofs.lemmas.List.{length-map}
+use Rattle.msc_chart.specs.declared.end.Mark.TheVariants as marks
 use Rattle.msc_chart.specs.declared.event.EventKind.TheVariants.{Local}
 use Rattle.msc_chart.specs.Events.Act.{End, Action}
-use Rattle.msc_chart.specs.Charting.{place_of, outputs_before}
-use Rattle.msc_chart.specs.Views.{act_view, end_view, mark_view}
-use Rattle.msc_chart.proofs.ChartingLemmas.{charted_act}
+use Rattle.msc_chart.specs.Tables.{numbers_of}
+use Rattle.msc_chart.specs.Views.{end_view, mark_view}
+use Rattle.msc_chart.proofs.TableLemmas.{charted_act, mark-at, numbers-many, number-of_action, output-numbered, partners-many, subject-of_end}
 use Rattle.msc_chart.proofs.charting.charted.Goals as goal
 use Rattle.msc_chart.proofs.charting.charted.Goals.{in-End, in-Action}
 
+pub bounds-partners-e : goal.bounds-partners-e
+bounds-partners-e c =
+    let many = partners-many (map mark_view c.args.marks.now) in
+    let marks = length-map c.args.marks.now mark_view in
+    omega (arith, c.requires.within, ap length c.requires.partners, many, marks)
+
+pub bounds-numbers-e : goal.bounds-numbers-e
+bounds-numbers-e c =
+    let many = numbers-many (map mark_view c.args.marks.now) in
+    let marks = length-map c.args.marks.now mark_view in
+    omega (arith, c.requires.within, ap length c.requires.numbers, many, marks)
+
+pub bounds-numbers-output_of : goal.bounds-numbers-output_of
+bounds-numbers-output_of c =
+    let acts = map mark_view c.args.marks.now in
+    let x = end_view c.in-End.end in
+    let e = c.args.e in
+    let here = mark-at c.args.marks.now e _ (marks.End c.in-End.end) c.requires.within c.in-End.is in
+    let read = ap (λ ps. get_or ps e 0) c.requires.partners in
+    let output = c.output_of.ensures ∙ ap (cond x.sends e) read in
+    let known : c.output_of.result < length (numbers_of acts) =
+    output-numbered acts c.requires.once e x here _ output in
+    omega (arith, known, ap length c.requires.numbers)
+
 pub returns : goal.returns
 returns c =
-    let acts = map mark_view c.args.places.now.keys in
-    elim c.match-event.branch [
+    let acts = map mark_view c.args.marks.now in
+    let e = c.args.e in
+    let read = ap (λ ps. get_or ps e 0) c.requires.partners in
+    elim c.match-marks-e.branch [
       | in-End w ↦
-          let partner = w.place.ensures.place ∙ ap (place_of acts) w.other.ensures in
-          let output = w.place-in-End.ensures.place ∙ ap (place_of acts) w.output.ensures in
-          let subject = c.requires.outputs _ w.place-in-End.ensures.within ∙ ap (outputs_before acts) output in
-          charted_act acts c.args.e c.args.event.now _ (End (end_view w.in-End.end)) (ap act_view w.in-End.is) (w.kind-is ∙ (λ i. (w.kind_of.ensures i, partner i, subject i)))
+          let x = end_view w.in-End.end in
+          let here = mark-at c.args.marks.now e _ (marks.End w.in-End.end) c.requires.within w.in-End.is in
+          let output = w.output_of.ensures ∙ ap (cond x.sends e) read in
+          let subject =
+          ap (λ ns. get_or ns w.output_of.result 0) c.requires.numbers
+          ∙ subject-of_end acts c.requires.once e x here _ output in
+          charted_act acts e c.args.event.now c.requires.own (End x) _ _ here read
+          (w.kind-is ∙ (λ i. (w.kind_of.ensures i, subject i)))
       | in-Action w ↦
-          let subject = c.requires.actions c.args.e (omega (arith, c.requires.within)) in
-          charted_act acts c.args.e c.args.event.now _ (Action w.in-Action.field-0.now) (ap act_view w.in-Action.is) (w.kind-is ∙ (λ i. (Local, c.args.e, subject i)))
+          let text = w.in-Action.field-1.bytes.now in
+          let mark = marks.Action w.in-Action.field-0 w.in-Action.field-1 in
+          let here = mark-at c.args.marks.now e _ mark c.requires.within w.in-Action.is in
+          let subject = ap (λ ns. get_or ns e 0) c.requires.numbers ∙ number-of_action acts e text here in
+          charted_act acts e c.args.event.now c.requires.own (Action text) _ _ here read
+          (w.kind-is ∙ (λ i. (Local, subject i)))
     ]
