@@ -1,6 +1,5 @@
 -- From the runs of the instances and the settled queues to an execution, over the lists that the
--- code
--- which runs them has in hand.
+-- code which runs them has in hand.
 use Rattle.std.specs.Prelude.{◌≡◌, ℕ, Bool, cond, List, [], ◌∷◌, length, nat_eq, map, All, IsTrue, Some, slice_get, vec_len}
 use Rattle.std.specs.List.{flat_map}
 use Rattle.msc_chart.specs.declared.queue.Queues.{Queues}
@@ -36,7 +35,7 @@ pub record HaveRunFrom (queues : Queues) (d : Drawing) (open' : Bool) (patience 
       → HasRun (role queues d i) open' patience e r
 
 -- A queue was settled from this inlet and these outlets: an account for each sender, and the
--- places.
+-- places that were claimed.
 pub record IsSettledOf (inlet : InletState) (outlets : List OutletState)
     (s : Settled) : Type 0 where
   pub count : vec_len s.senders ≡ inlet.senders

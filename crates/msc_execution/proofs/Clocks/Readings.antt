@@ -36,6 +36,7 @@ module _ {queues : Queues} {d : Drawing} {open' : Bool} {patience : ℕ} {o : Ou
       IsRunBy (role queues d i) open' patience reading (wired_ends exec.id (role queues d i))
       (left i)
 
+  -- what an instance read, nothing past the last one
   read_by : (i : ℕ) → (i < length d.instances) ⊎ (length d.instances ≤ i) → Reading
   read_by i (inl below) = (exec.runs i below).reading
   read_by i (inr past) = record { read_at = λ e. 0; place_at = λ e. 0 }
@@ -44,12 +45,14 @@ module _ {queues : Queues} {d : Drawing} {open' : Bool} {patience : ℕ} {o : Ou
   read : ℕ → Reading
   read i = read_by i (cases_lt i (length d.instances))
 
+  -- its run with that
   run_by : (i : ℕ) (c : (i < length d.instances) ⊎ (length d.instances ≤ i))
       → i < length d.instances → IsRunOf i (read_by i c)
   unfolding read_by
   run_by i (inl b) below = (exec.runs i b).run
   run_by i (inr p) below = absurd (omega arith)
 
+  -- so each instance ran with what it read
   run : (i : ℕ) → i < length d.instances → IsRunOf i (read i)
   unfolding read
   run i below = run_by i (cases_lt i (length d.instances)) below
@@ -58,6 +61,7 @@ module _ {queues : Queues} {d : Drawing} {open' : Bool} {patience : ℕ} {o : Ou
   read_with : ℕ → Reading → ℕ → Reading
   read_with i reading j = cond (eqb j i) reading (read j)
 
+  -- each ran with that
   run_with : (i : ℕ) (reading : Reading) → IsRunOf i reading → (j : ℕ) → j < length d.instances
       → IsRunOf j (read_with i reading j)
   unfolding read_with
@@ -69,11 +73,13 @@ module _ {queues : Queues} {d : Drawing} {open' : Bool} {patience : ℕ} {o : Ou
       (λ other. subst (λ (r : Reading). IsRunOf j r)
       (sym (ap (λ (b : Bool). cond b reading (read j)) other)) (run j below))
 
+  -- the given reading is that instance's
   read_own : (i : ℕ) (reading : Reading) → read_with i reading i ≡ reading
   unfolding read_with
   read_own i reading = ap (λ (b : Bool). cond b reading (read i)) (eq-eqb i i refl)
 
   module _ (accepted : IsAccepted d) (seated : IsSeated (wired queues d) (length d.instances)) where
+    -- an execution with what was read
     told : IsRead queues d open' patience o
     told = record { accepted = accepted; exec = exec; read = read; runs = run }
 

@@ -1,5 +1,5 @@
 -- The places of a settled queue, with messages as outputs, and what a log took from a queue.
-use Rattle.std.proofs.Common.{◌≡◌, ℕ, ◌<◌, true, false, cond, eqb, suc, List, [], ◌∷◌, ◌++◌, map, length, Some, Bool, inl, inr, refl, sym, ap, ◌∙◌, subst}
+use Rattle.std.proofs.Common.{◌≡◌, ℕ, ◌<◌, true, false, cond, eqb, suc, List, [], ◌∷◌, ◌++◌, map, length, Some, Bool, inl, inr, refl, sym, ap, ◌∙◌}
 use Rattle.std.specs.Prelude.{nat_eq}
 use Rattle.std.proofs.lemmas.Bool.{eqb-true, or_cases, or_parts}
 use Rattle.msc_chart.specs.declared.queue.Queues.{Queues}
@@ -33,6 +33,7 @@ use Rattle.msc_execution.proofs.Wiring.Receivers.{in_messages}
 abbrev pub place_of : Drawing → Claim → Place
 place_of d c = as_place d (spot_of c)
 
+-- the places that are answered, by their outputs
 pub places_are : (d : Drawing) (log : List Claim)
     → map (as_place d) (map spot_of log) ≡ map (place_of d) log
 places_are d [] = refl
@@ -49,12 +50,7 @@ place_entry d (Sent j k) n i s m h =
     (k, ap (λ z. Sent z k) a, b, c)
 place_entry d (Ended j) n i s m h = cc
 
-pub entry_place : (d : Drawing) (e : Entry) (n i k : ℕ) → e ≡ Sent i k
-    → place_as d (from_of e) (message_of e) n ≡ Message i (output_of d k) n
-entry_place d e n i k h =
-    subst (λ (z : Entry). place_as d (from_of z) (message_of z) n ≡ Message i (output_of d k) n)
-    (sym h) refl
-
+-- one entry more
 messages_more : (d : Drawing) (e : Entry) (n : ℕ) (ps : List Place) (es : List Entry)
     → messages ps ≡ map (output_of d) (all_messages es)
     → messages (place_as d (from_of e) (message_of e) n ∷ ps)
@@ -71,6 +67,7 @@ messages_are d [] = refl
 messages_are d (c ∷ log) =
     messages_more d c.entry c.clock (map (place_of d) log) (entries_at log) (messages_are d log)
 
+-- a mapped joined list
 pub map-join : (f : ℕ → ℕ) (xs ys : List ℕ) → map f (xs ++ ys) ≡ map f xs ++ map f ys
 map-join f [] ys = refl
 map-join f (x ∷ xs) ys = ap (λ l. f x ∷ l) (map-join f xs ys)

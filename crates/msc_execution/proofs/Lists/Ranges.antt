@@ -25,6 +25,7 @@ twice_yes p q (x ∷ xs) h =
     ap (filter (λ k. eqb k q)) (filter_no p x xs no) ∙ r
     ∙ sym (filter_no (λ k. eqb k q) x xs other))
 
+-- nothing is left of a number that fails
 pub twice_no : (p : ℕ → Bool) (q : ℕ) (xs : List ℕ) → p q ≡ false
     → filter (λ x. eqb x q) (filter p xs) ≡ []
 twice_no p q [] h = refl
@@ -38,12 +39,14 @@ twice_no p q (x ∷ xs) h =
     ∙ filter_no (λ k. eqb k q) x (filter p xs) other ∙ r)
     (λ no. ap (filter (λ k. eqb k q)) (filter_no p x xs no) ∙ r)
 
+-- a number below a range is not in it
 pub none_of_range : (q a n : ℕ) → q < a → filter (λ x. eqb x q) (range_with_len a n) ≡ []
 none_of_range q a zero lt = refl
 none_of_range q a (suc n) lt =
     filter_no (λ x. eqb x q) a (range_with_len (a + 1) n) (ne_eqb a q (λ e. omega arith))
     ∙ none_of_range q (a + 1) n (omega arith)
 
+-- a number of a range stands there once
 pub one_of_range : (q a n : ℕ) → a ≤ q → q < a + n
     → filter (λ x. eqb x q) (range_with_len a n) ≡ q ∷ []
 one_of_range q a zero le lt = absurd (omega arith)
@@ -58,6 +61,7 @@ one_of_range q a (suc n) le lt = elim (cases_lt a q) [
       ∙ ap (λ (k : ℕ). k ∷ []) same
 ]
 
+-- what is in a range is within its bounds
 pub in_range : (a n e : ℕ) → occurs (range_with_len a n) e ≡ true → (a ≤ e) × (e < a + n)
 in_range a zero e h = in_none e h
 in_range a (suc n) e h = elim (head_or_tail a (range_with_len (a + 1) n) e h) [
@@ -65,6 +69,7 @@ in_range a (suc n) e h = elim (head_or_tail a (range_with_len (a + 1) n) e h) [
   | inr later ↦ (let r = in_range (a + 1) n e later in (omega (arith, r.0), omega (arith, r.1)))
 ]
 
+-- and what is within them is in it
 pub range_has : (a n e : ℕ) → a ≤ e → e < a + n → occurs (range_with_len a n) e ≡ true
 range_has a zero e le lt = absurd (omega arith)
 range_has a (suc n) e le lt = elim (cases_lt a e) [
@@ -76,6 +81,7 @@ range_has a (suc n) e le lt = elim (cases_lt a e) [
       (at_head a (range_with_len (a + 1) n))
 ]
 
+-- tests that agree keep the same
 pub same_filter : (p g : ℕ → Bool) → ((x : ℕ) → p x ≡ g x) → (xs : List ℕ)
     → filter p xs ≡ filter g xs
 same_filter p g same [] = refl
@@ -92,6 +98,7 @@ filter_more p n =
     ∙ filter_of_map_range_with_len_more p (λ x. x) 0 n n (omega arith)
     ∙ ap (λ (l : List ℕ). filter p l ++ cond (p n) (n ∷ []) []) (map-id (range_with_len 0 n))
 
+-- the same, counted
 pub count_more : (p : ℕ → Bool) (n : ℕ)
     → count_by p (range_with_len 0 (n + 1)) ≡ count_by p (range_with_len 0 n) + cond (p n) 1 0
 count_more p n =
@@ -110,6 +117,7 @@ any_none f r i (m ∷ ms) all fail =
     ap (λ (b : Bool). b || list_any (λ k. eqb (f k) i) ms) other
     ∙ any_none f r i ms (λ k h. all k (in_tail m ms k h)) fail
 
+-- so a test for some receiver is a test for the one
 pub any_same : (f : ℕ → ℕ) (r i m : ℕ) (ms : List ℕ)
     → ((k : ℕ) → occurs (m ∷ ms) k ≡ true → f k ≡ r)
     → list_any (λ k. eqb (f k) i) (m ∷ ms) ≡ eqb i r
@@ -119,6 +127,7 @@ any_same f r i m ms all =
     (eq-eqb (f m) i (all m (at_head m ms) ∙ sym (eqb-true i r yes))) ∙ sym yes)
     (λ no. any_none f r i (m ∷ ms) all no ∙ sym no)
 
+-- a list that is not empty has a head
 pub some_first : (ms : List ℕ) → nat_lt 0 (length ms) ≡ true
     → (m : ℕ) × (rest : List ℕ) × (ms ≡ m ∷ rest)
 some_first [] h = absurd (true≢false (sym h))

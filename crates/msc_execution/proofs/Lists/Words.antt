@@ -19,25 +19,31 @@ head_or_tail x xs e h =
     elim (or_cases (eqb x e) (occurs xs e) h)
     [ inl is ↦ inl (eqb-true x e is) | inr later ↦ inr later ]
 
+-- the head occurs
 pub at_head : (x : ℕ) (xs : List ℕ) → occurs (x ∷ xs) x ≡ true
 unfolding occurs
 at_head x xs = or_left (eqb x x) (occurs xs x) (eq-eqb x x refl)
 
+-- what is in the tail occurs
 pub in_tail : (x : ℕ) (xs : List ℕ) (e : ℕ) → occurs xs e ≡ true → occurs (x ∷ xs) e ≡ true
 unfolding occurs
 in_tail x xs e h = or_right (eqb x e) (occurs xs e) h
 
+-- nothing occurs in the empty list
 pub in_none : {X : Type 0} (e : ℕ) → occurs [] e ≡ true → X
 unfolding occurs
 in_none e h = cc
 
+-- what is in the second of two joined lists occurs
 pub in_right : (xs ys : List ℕ) (e : ℕ) → occurs ys e ≡ true → occurs (xs ++ ys) e ≡ true
 in_right xs ys e h = occurs-append xs ys e ∙ or_right (occurs xs e) (occurs ys e) h
 
+-- a head that passes is kept
 pub filter_yes : (p : ℕ → Bool) (x : ℕ) (xs : List ℕ) → p x ≡ true
     → filter p (x ∷ xs) ≡ x ∷ filter p xs
 filter_yes p x xs h = ap (λ (b : Bool). cond b (x ∷ filter p xs) (filter p xs)) h
 
+-- a head that fails is not
 pub filter_no : (p : ℕ → Bool) (x : ℕ) (xs : List ℕ) → p x ≡ false → filter p (x ∷ xs) ≡ filter p xs
 filter_no p x xs h = ap (λ (b : Bool). cond b (x ∷ filter p xs) (filter p xs)) h
 
@@ -80,6 +86,7 @@ kept p (x ∷ xs) e h k = elim (head_or_tail x xs e h) [
       (λ no. ap (λ (l : List ℕ). occurs l e) (filter_no p x xs no) ∙ r)
 ]
 
+-- a value of what occurs occurs among the values
 pub mapped : (f : ℕ → ℕ) (xs : List ℕ) (e : ℕ) → occurs xs e ≡ true → occurs (map f xs) (f e) ≡ true
 mapped f [] e h = in_none e h
 mapped f (x ∷ xs) e h = elim (head_or_tail x xs e h) [
@@ -87,6 +94,7 @@ mapped f (x ∷ xs) e h = elim (head_or_tail x xs e h) [
   | inr later ↦ in_tail (f x) (map f xs) (f e) (mapped f xs e later)
 ]
 
+-- and a value that occurs is that of something which occurs
 pub unmapped : (f : ℕ → ℕ) (xs : List ℕ) (m : ℕ) → occurs (map f xs) m ≡ true
     → (e : ℕ) × (occurs xs e ≡ true) × (f e ≡ m)
 unmapped f [] m h = in_none m h
@@ -100,6 +108,7 @@ pub fails : (b : Bool) → (b ≡ true → ⊥) → b ≡ false
 fails true f = absurd (f refl)
 fails false f = refl
 
+-- what stands once stands at most once among what passes
 pub once_filter : (p : ℕ → Bool) (xs : List ℕ) → Apart xs → Apart (filter p xs)
 once_filter p [] h = tt
 once_filter p (x ∷ xs) h =
@@ -111,6 +120,7 @@ once_filter p (x ∷ xs) h =
     subst Apart (sym (filter_yes p x xs yes)) (new, r))
     (λ no. subst Apart (sym (filter_no p x xs no)) r)
 
+-- values that tell their elements apart stand once
 pub once_map : (f : ℕ → ℕ) (xs : List ℕ)
     → ((e g : ℕ) → occurs xs e ≡ true → occurs xs g ≡ true → f e ≡ f g → e ≡ g) → Apart xs
     → Apart (map f xs)
@@ -123,6 +133,7 @@ once_map f (x ∷ xs) apart h = (
   once_map f xs (λ e g in_e in_g. apart e g (in_tail x xs e in_e) (in_tail x xs g in_g)) h.1,
 )
 
+-- the first of two joined lists has each of its elements once
 pub once_left : (xs ys : List ℕ) → Apart (xs ++ ys) → Apart xs
 once_left [] ys h = tt
 once_left (x ∷ xs) ys h =

@@ -34,6 +34,7 @@ zip_at T (x ∷ xs) (o ∷ os) (suc k) i h at =
     let r = zip_at T xs os k i h.1 at in
     (r.0, r.1, omega (arith, r.2), r.3)
 
+-- outlets that are numbered in their order have their places as numbers
 sender_at : (j k : ℕ) (os : List OutletState) (d : OutletState) → AreNumberedFrom j os
     → k < length os → (get_or os k d).sender ≡ j + k
 sender_at j k os d (none_left _) lt = absurd (omega arith)
@@ -54,9 +55,11 @@ module _ (queues : Queues) (d : Drawing) (id : ℕ → QueueId) (c : Came) (stra
     → List ℕ) (q : ℕ) (s : Settled)
     (ends : AreEndsOf queues d id c strange q)
     (settled : IsSettledOf ends.inlet (of_queue q (all_outlets c (length d.instances))) s) where
+  -- the outlets of the queue
   abbrev bucket : List OutletState
   bucket = of_queue q (all_outlets c (length d.instances))
 
+  -- the k-th sender is of rank k
   rank : (k i : ℕ) → slice_get (senders_in queues d q) k ≡ Some i → rank_of queues d q i ≡ k
   rank k i at =
       let z =
@@ -66,6 +69,7 @@ module _ (queues : Queues) (d : Drawing) (id : ℕ → QueueId) (c : Came) (stra
       let f = z.1.sender in
       omega (arith, n, e, f)
 
+  -- its account is the k-th
   each : (k i : ℕ) → slice_get (senders_in queues d q) k ≡ Some i
       → (a : Account) × (slice_get s.senders.items k ≡ Some a)
       × IsAccountOfLog queues d c q ends.inlet.got i a
@@ -85,6 +89,7 @@ module _ (queues : Queues) (d : Drawing) (id : ℕ → QueueId) (c : Came) (stra
         },
       )
 
+  -- all of that together
   told : AreAccountsOfLogs queues d c q ends.inlet.got s
   told = record {
     many = settled.count ∙ ends.is_inlet.senders;

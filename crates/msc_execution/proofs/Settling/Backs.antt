@@ -12,6 +12,7 @@ among_back : {A : Type 0} (xs ys : List A) (y : A) → IsAmong y ys → IsAmong 
 among_back [] ys y h = h
 among_back (x ∷ xs) ys y h = among_more x y (xs ++ ys) (among_back xs ys y h)
 
+-- what is in the list of an instance is in all of them together
 in_all : {A : Type 0} (f : ℕ → List A) (n i : ℕ) (x : A) → i < n → IsAmong x (f i)
     → IsAmong x (together f n)
 in_all f zero i x below h = absurd (omega arith)
@@ -22,6 +23,7 @@ in_all {A} f (suc n) i x below h =
           (r.0, among_front (together f n) (f n) x r.0 r.1)
     ]
 
+-- and what is in all of them is in the list of one
 of_all : {A : Type 0} (f : ℕ → List A) (n : ℕ) (x : A) (k : ℕ) → slice_get (together f n) k ≡ Some x
     → (i : ℕ) × (i < n) × IsAmong x (f i)
 of_all f zero x k h = cc
@@ -31,6 +33,7 @@ of_all f (suc n) x k h =
       | inr late ↦ (n, omega arith, late)
     ]
 
+-- what has number q is of queue q
 in_queue : {A : Type 0} (q : ℕ) (xs : List (ℕ × A)) (o : A) (k : ℕ) → slice_get xs k ≡ Some (q, o)
     → IsAmong o (of_queue q xs)
 in_queue q [] o k h = cc
@@ -42,6 +45,7 @@ in_queue q (x ∷ xs) o (suc k) h =
     let r = in_queue q xs o k h in
     by_test (eqb x.0 q) (λ yes. rw yes (among_more x.1 o (of_queue q xs) r)) (λ no. rw no r)
 
+-- what is of queue q is the head or later
 head_or_later : {A : Type 0} (q : ℕ) (x : ℕ × A) (xs : List (ℕ × A)) (o : A) (k : ℕ)
     → slice_get (x.1 ∷ of_queue q xs) k ≡ Some o → x.0 ≡ q
     → ((j : ℕ) → slice_get (of_queue q xs) j ≡ Some o → IsAmong (q, o) xs) → IsAmong (q, o) (x ∷ xs)
@@ -49,6 +53,7 @@ head_or_later q x xs o zero at number later = let same : x.1 ≡ o = cc in
     (0, (λ j. Some (number j, same j)))
 head_or_later q x xs o (suc k) at number later = among_more x (q, o) xs (later k at)
 
+-- what is of queue q has number q
 of_of_queue : {A : Type 0} (q : ℕ) (xs : List (ℕ × A)) (o : A) (k : ℕ)
     → slice_get (of_queue q xs) k ≡ Some o → IsAmong (q, o) xs
 of_of_queue q [] o k h = cc

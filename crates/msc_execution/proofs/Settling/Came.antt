@@ -31,6 +31,7 @@ pub record Came : Type 0 where
   pub back : ℕ → EndLists
   pub ends : ℕ → End
 
+-- what instance i left
 abbrev pub left_of : Came → ℕ → Left
 left_of c i = record { log = c.logs i; ends = c.back i; end = c.ends i }
 
@@ -38,9 +39,11 @@ left_of c i = record { log = c.logs i; ends = c.back i; end = c.ends i }
 abbrev pub came_of : Outcome → (ℕ → EndLists) → Came
 came_of o back = record { logs = log_at o; back = back; ends = end_at o }
 
+-- the outlets of the first n instances
 abbrev pub all_outlets : Came → ℕ → List NumberedOutlet
 all_outlets c n = together (λ i. (c.back i).outlets) n
 
+-- the inlets of the first n instances
 abbrev pub all_inlets : Came → ℕ → List NumberedInlet
 all_inlets c n = together (λ i. (c.back i).inlets) n
 

@@ -29,7 +29,8 @@ use Rattle.msc_execution.proofs.Wiring.Logged.{sent_is, sent_once, taken_by}
 use Rattle.msc_execution.proofs.Settling.Came.{came_of, all_outlets, all_inlets, HaveRun, HaveEnded, AreSettled}
 use Rattle.msc_execution.proofs.Settling.FlatLists.{flat_lists}
 use Rattle.msc_execution.proofs.Settling.Accounts.{accounts}
-use Rattle.msc_execution.proofs.Settling.Told.{runs_ended, numbered, in_senders, same_inlet, nobody, told}
+use Rattle.msc_execution.proofs.Settling.Ended.{runs_ended}
+use Rattle.msc_execution.proofs.Settling.Told.{numbered, in_senders, same_inlet, nobody, told}
 use Rattle.msc_execution.proofs.Settling.Backs.{bucket_has, bucket_of}
 use Rattle.msc_execution.proofs.Settling.Placed.{got_first}
 
@@ -37,6 +38,7 @@ module _ (queues : Queues) (d : Drawing) (open' : Bool) (patience : ℕ) (id : �
     → QueueId) (o : Outcome) (back : ℕ → EndLists)
     (accepted : IsAccepted d) (ended : HaveEnded queues d open' patience id (came_of o back))
     (all : AreSettled queues d (came_of o back) o.settled) where
+  -- the outlets of a queue
   abbrev bucket : ℕ → List OutletState
   bucket q = of_queue q (all_outlets (came_of o back) (length d.instances))
 
@@ -120,6 +122,7 @@ module _ (queues : Queues) (d : Drawing) (open' : Bool) (patience : ℕ) (id : �
           subst (λ (x : ℕ). occurs (senders_in queues d q) x ≡ true) same
           (occurs_at (senders_in queues d q) k lt)
 
+  -- and got nothing strange
   own : length o.ends ≡ length d.instances → (i m : ℕ) → end_at o i ≢ Foreign m
   own many i m is = elim (cases_lt i (length d.instances)) [
     | inl lt ↦ nobody queues d open' patience id
@@ -149,6 +152,7 @@ executed queues d open' patience id o back accepted logs ends runs all =
       own = own queues d open' patience id o back accepted ended all ends;
     }
 
+-- a list in which nothing occurs is empty
 no_member : (xs : List ℕ) → ((m : ℕ) → occurs xs m ≡ true → ⊥) → xs ≡ []
 no_member [] f = refl
 no_member (x ∷ xs) f = absurd (f x (at_head x xs))
@@ -156,6 +160,7 @@ no_member (x ∷ xs) f = absurd (f x (at_head x xs))
 module _ (queues : Queues) (d : Drawing) (open' : Bool) (patience : ℕ) (o : Outcome)
     (accepted : IsAccepted d) (x : IsExecution queues d open' patience o)
     (finished : AreFinished o.ends) where
+  -- the log of an instance that has finished is whole
   whole_log : (i : ℕ) → i < length d.instances → IsWholeLog d i (log_at o i)
   whole_log i lt =
       let run = x.runs i lt in
@@ -166,6 +171,7 @@ module _ (queues : Queues) (d : Drawing) (open' : Bool) (patience : ℕ) (o : Ou
       run.run.ended in
       r.1
 
+  -- so each event is logged
   whole : (e : ℕ) → e < length d.events → occurs (log_at o (line d.events e)) e ≡ true
   whole e below = whole_log (line d.events e) (accepted.on_lines.on_line e below) e below refl
 
@@ -175,6 +181,7 @@ module _ (queues : Queues) (d : Drawing) (open' : Bool) (patience : ℕ) (o : Ou
   unfolding receiver_of
   input_logged m below = whole (input_of d m) (input_in d accepted m below)
 
+  -- a message that is left was sent and, as its input is logged, taken: it would stand twice
   nothing_left : (q : ℕ) (s : Settled) (k : ℕ) (a : Account) → Occurs o.settled (q, s)
       → slice_get s.senders.items k ≡ Some a → a.left ≡ []
   nothing_left q s k a there at =
@@ -211,6 +218,7 @@ module _ (queues : Queues) (d : Drawing) (open' : Bool) (patience : ℕ) (o : Ou
       once_apart b.taken b.left m once m_taken m_left) in
       ap (λ (y : Account). y.left) (sym same) ∙ none
 
+  -- so nothing is left
   pub is_finished : IsFinished d o
   is_finished = record { whole = whole; empty = nothing_left }
 

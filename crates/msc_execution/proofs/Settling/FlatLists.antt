@@ -21,6 +21,7 @@ use Rattle.msc_execution.proofs.Settling.Buckets.{At, picked, moved, gathered, n
 module _ (queues : Queues) (d : Drawing) (id : ℕ
     → QueueId) (c : Came) (q : ℕ) (grown : HaveGrown queues d id c)
     (here : occurs (queues_in queues d) q ≡ true) where
+  -- what stands behind a fresh outlet of the queue is the instance's outlet
   outlet_is : (i : ℕ) (o : OutletState)
       → At (IsLeftBy (role queues d i) (c.logs i) (grown.readings i))
       (λ k. new_outlet (id k) (rank_of queues d k i) (quota_of queues d k i)) q o
@@ -34,6 +35,7 @@ module _ (queues : Queues) (d : Drawing) (id : ℕ
         closed = ap (λ (s : OutletState). s.closed) same ∙ left.closed;
       }
 
+  -- and behind a fresh inlet its inlet
   inlet_is : (i : ℕ) (o : InletState)
       → At (HasTaken (role queues d i) (c.logs i) (grown.readings i) (grown.strange i))
       (λ k. new_inlet (id k) (length (senders_in queues d k))) q o
@@ -46,6 +48,7 @@ module _ (queues : Queues) (d : Drawing) (id : ℕ
         got = ap (λ (s : InletState). all_messages s.got) same ∙ taken.got;
       }
 
+  -- an instance that sends to the queue has one outlet of it among what came back, another none
   outlet_of : (i : ℕ) → i < length d.instances
       → AllZip (IsOutletOf queues d id c q) (cond (sends_to queues d q i) (i ∷ []) [])
       (of_queue q (c.back i).outlets)
@@ -62,6 +65,7 @@ module _ (queues : Queues) (d : Drawing) (id : ℕ
       (subst (λ (l : List ℕ). AllZip (At R f) l (of_queue q (c.back i).outlets))
       (one_sent queues d i q here) h)
 
+  -- and so with inlets
   inlet_of : (i : ℕ) → i < length d.instances
       → AllZip (IsInletOf queues d id c grown.strange q)
       (cond (takes_from queues d q i) (i ∷ []) []) (of_queue q (c.back i).inlets)
@@ -77,6 +81,7 @@ module _ (queues : Queues) (d : Drawing) (id : ℕ
       (subst (λ (l : List ℕ). AllZip (At R f) l (of_queue q (c.back i).inlets))
       (one_taken queues d i q here) h)
 
+  -- the outlets of all instances
   pub outlets_of : AllZip (IsOutletOf queues d id c q) (senders_in queues d q)
       (of_queue q (all_outlets c (length d.instances)))
   unfolding senders_in
@@ -84,6 +89,7 @@ module _ (queues : Queues) (d : Drawing) (id : ℕ
       gathered (IsOutletOf queues d id c q) (sends_to queues d q) q (λ i. (c.back i).outlets)
       (length d.instances) outlet_of
 
+  -- the inlets of all instances
   pub inlets_of : AllZip (IsInletOf queues d id c grown.strange q)
       (filter (takes_from queues d q) (range_with_len 0 (length d.instances)))
       (of_queue q (all_inlets c (length d.instances)))
@@ -91,6 +97,7 @@ module _ (queues : Queues) (d : Drawing) (id : ℕ
       gathered (IsInletOf queues d id c grown.strange q) (takes_from queues d q) q
       (λ i. (c.back i).inlets) (length d.instances) inlet_of
 
+  -- the outlets are numbered in their order
   pub outlets_numbered : AreNumberedFrom 0 (of_queue q (all_outlets c (length d.instances)))
   unfolding senders_in rank_of
   outlets_numbered =
@@ -98,6 +105,7 @@ module _ (queues : Queues) (d : Drawing) (id : ℕ
       (length d.instances) 0 0
       (of_queue q (all_outlets c (length d.instances))) refl outlets_of
 
+-- what goes with one instance is one thing
 one_inlet : {B : Type 0} (T : ℕ → B → Type 0) (r : ℕ) (os : List B) → AllZip T (r ∷ []) os
     → (o : B) × (os ≡ o ∷ []) × T r o
 one_inlet T r [] h = absurd h

@@ -15,20 +15,23 @@ use Rattle.msc_execution.specs.Fits.{no_ends}
 use Rattle.msc_execution.specs.Settling.{of_queue, IsSettledOf, HaveRunFrom, outlets_back, inlets_back, AreSettledBack, RunsHoldQueues, SettledRunsAreExecutions}
 use Rattle.msc_execution.proofs.Settling.Came.{together, left_of, came_of, all_outlets, all_inlets, HaveRun, AreSettled}
 use Rattle.msc_execution.proofs.Settling.FlatLists.{flat_lists}
-use Rattle.msc_execution.proofs.Settling.Told.{runs_ended}
+use Rattle.msc_execution.proofs.Settling.Ended.{runs_ended}
 use Rattle.msc_execution.proofs.Settling.Executed.{executed}
 
+-- something stands at each place of a list
 stands : {A : Type 0} (xs : List A) (i : ℕ) → i < length xs → (x : A) × (slice_get xs i ≡ Some x)
 stands [] i lt = absurd (omega arith)
 stands (x ∷ xs) zero lt = (x, refl)
 stands (x ∷ xs) (suc i) lt = stands xs i (omega arith)
 
+-- what stands at a place of a mapped list
 read : {A B : Type 0} (f : A → B) (xs : List A) (i : ℕ) (x : A) (d : B) → slice_get xs i ≡ Some x
     → get_or (map f xs) i d ≡ f x
 read f [] i x d at = cc
 read f (y ∷ ys) zero x d at = (let same : y ≡ x = cc in ap f same)
 read f (y ∷ ys) (suc i) x d at = read f ys i x d at
 
+-- the first of the lists comes first
 together_first : {A : Type 0} (f : ℕ → List A) (n : ℕ)
     → together f (suc n) ≡ f zero ++ together (λ i. f (suc i)) n
 together_first f zero = sym (append-nil (f zero))
@@ -36,9 +39,11 @@ together_first f (suc n) =
     ap (λ l. l ++ f (suc n)) (together_first f n)
     ∙ append_assoc (f zero) (together (λ i. f (suc i)) n) (f (suc n))
 
+-- the ends of instance i
 back_of : List Left → ℕ → EndLists
 back_of ran i = get_or (map (λ (r : Left). r.ends) ran) i no_ends
 
+-- the outlets of all instances, one after the other
 flat_outlets : (ran : List Left)
     → together (λ i. (back_of ran i).outlets) (length ran) ≡ outlets_back ran
 unfolding back_of
@@ -47,6 +52,7 @@ flat_outlets (r ∷ ran) =
     together_first (λ i. (back_of (r ∷ ran) i).outlets) (length ran)
     ∙ ap (λ (l : List NumberedOutlet). r.ends.outlets ++ l) (flat_outlets ran)
 
+-- and their inlets
 flat_inlets : (ran : List Left)
     → together (λ i. (back_of ran i).inlets) (length ran) ≡ inlets_back ran
 unfolding back_of
@@ -55,9 +61,11 @@ flat_inlets (r ∷ ran) =
     together_first (λ i. (back_of (r ∷ ran) i).inlets) (length ran)
     ∙ ap (λ (l : List NumberedInlet). r.ends.inlets ++ l) (flat_inlets ran)
 
+-- what an instance leaves, of these parts
 abbrev left_from : List ℕ → EndLists → End → Left
 left_from log ends end = record { log = log; ends = ends; end = end }
 
+-- equal parts make it equal
 same_left : (a x : List ℕ) (b y : EndLists) (c z : End) → a ≡ x → b ≡ y → c ≡ z
     → left_from a b c ≡ left_from x y z
 same_left a x b y c z p q r =
@@ -68,11 +76,13 @@ module _ (queues : Queues) (d : Drawing) (open' : Bool) (patience : ℕ) (fresh 
     (ran : List Left)
     (accepted : IsAccepted d) (wiring : IsWiring queues d fresh)
     (runs : HaveRunFrom queues d open' patience fresh ran) where
+  -- as many came back as there are instances
   many : length ran ≡ length d.instances
   many = runs.many ∙ wiring.many
 
   module _ (o : Outcome) (logs : o.logs ≡ map (λ (r : Left). r.log) ran)
       (ends : o.ends ≡ map (λ (r : Left). r.end) ran) where
+    -- what came back at a place is what the instance of that number left
     left_is : (i : ℕ) (r : Left) → slice_get ran i ≡ Some r
         → r ≡ left_of (came_of o (back_of ran)) i
     unfolding back_of
@@ -86,6 +96,7 @@ module _ (queues : Queues) (d : Drawing) (open' : Bool) (patience : ℕ) (fresh 
         ∙ read (λ (x : Left). x.end) ran i r Finished at) in
         same_left r.log (log_at o i) (r.ends) (back_of ran i) r.end (get_or o.ends i Finished) a b c
 
+    -- each instance ran from its fresh ends
     have_run : HaveRun queues d open' patience wiring.id (came_of o (back_of ran))
     have_run i lt =
         let (e, e_at) = stands fresh i (let m = wiring.many in omega arith) in
@@ -96,14 +107,17 @@ module _ (queues : Queues) (d : Drawing) (open' : Bool) (patience : ℕ) (fresh 
         (wired_ends wiring.id (role queues d i)) l) (left_is i r r_at)
         (subst (λ (b : EndLists). HasRun (role queues d i) open' patience b r) w run)
 
+    -- the outlets in hand are those of all instances
     outlets_same : all_outlets (came_of o (back_of ran)) (length d.instances) ≡ outlets_back ran
     outlets_same =
         ap (λ (n : ℕ). together (λ i. (back_of ran i).outlets) n) (sym many) ∙ flat_outlets ran
 
+    -- so are the inlets
     inlets_same : all_inlets (came_of o (back_of ran)) (length d.instances) ≡ inlets_back ran
     inlets_same =
         ap (λ (n : ℕ). together (λ i. (back_of ran i).inlets) n) (sym many) ∙ flat_inlets ran
 
+    -- a queue with a message has its one inlet and its outlets there
     holds : (q : ℕ) → occurs (queues_in queues d) q ≡ true
         → (inlet : InletState) × (of_queue q (inlets_back ran) ≡ inlet ∷ [])
         × AreOutletsOf inlet (of_queue q (outlets_back ran))
@@ -118,6 +132,7 @@ module _ (queues : Queues) (d : Drawing) (open' : Bool) (patience : ℕ) (fresh 
               h.whole,
         )
 
+    -- settled they are an execution
     right : AreSettledBack queues d ran o.settled → IsExecution queues d open' patience o
     right settled =
         let all : AreSettled queues d (came_of o (back_of ran)) o.settled = record {
@@ -136,6 +151,7 @@ module _ (queues : Queues) (d : Drawing) (open' : Bool) (patience : ℕ) (fresh 
         (ap (λ (l : List End). length l) ends ∙ length-map ran (λ (r : Left). r.end) ∙ many)
         have_run all
 
+-- before settling
 pub hold_queues : RunsHoldQueues
 hold_queues queues d open' patience fresh ran q accepted wiring runs here =
     holds queues d open' patience fresh ran accepted wiring runs
@@ -147,6 +163,7 @@ hold_queues queues d open' patience fresh ran q accepted wiring runs here =
     })
     refl refl q here
 
+-- after settling
 pub settled_runs : SettledRunsAreExecutions
 settled_runs queues d open' patience fresh ran o accepted wiring runs logs ends settled =
     right queues d open' patience fresh ran accepted wiring runs o logs ends settled

@@ -12,14 +12,17 @@ use Rattle.msc_execution.specs.Growth.{all_messages}
 use Rattle.msc_execution.proofs.Lists.Words.{Apart, head_or_tail, at_head, in_tail, in_none, fails}
 use Rattle.msc_execution.proofs.Lists.Ranges.{count_more}
 
+-- a message of the sender is among its messages
 part_yes : (i n s : ℕ) (es : List Entry) → eqb i s ≡ true
     → messages_of s (Message i n ∷ es) ≡ n ∷ messages_of s es
 part_yes i n s es h = ap (λ (b : Bool). cond b (n ∷ messages_of s es) (messages_of s es)) h
 
+-- one of another is not
 part_no : (i n s : ℕ) (es : List Entry) → eqb i s ≡ false
     → messages_of s (Message i n ∷ es) ≡ messages_of s es
 part_no i n s es h = ap (λ (b : Bool). cond b (n ∷ messages_of s es) (messages_of s es)) h
 
+-- what is among later ones is among all
 part_later : (i n s : ℕ) (es : List Entry) (m : ℕ) → occurs (messages_of s es) m ≡ true
     → occurs (messages_of s (Message i n ∷ es)) m ≡ true
 part_later i n s es m h =
@@ -28,6 +31,7 @@ part_later i n s es m h =
     ∙ in_tail n (messages_of s es) m h)
     (λ no. ap (λ (l : List ℕ). occurs l m) (part_no i n s es no) ∙ h)
 
+-- a message is among its sender's
 part_here : (i n : ℕ) (es : List Entry) → occurs (messages_of i (Message i n ∷ es)) n ≡ true
 part_here i n es =
     ap (λ (l : List ℕ). occurs l n) (part_yes i n i es (eq-eqb i i refl))
@@ -47,6 +51,7 @@ in_a_part (Message i n ∷ es) m h = elim (head_or_tail n (all_messages es) m h)
 ]
 in_a_part (Ended i ∷ es) m h = in_a_part es m h
 
+-- later messages of a sender stand once
 part_once : (i n s : ℕ) (es : List Entry) → Apart (messages_of s (Message i n ∷ es))
     → Apart (messages_of s es)
 part_once i n s es h =
@@ -85,6 +90,7 @@ part_is_filter s g (Message i n ∷ es) tells =
     ∙ ap (λ (l : List ℕ). cond (g n) (n ∷ l) l) rest
 part_is_filter s g (Ended i ∷ es) tells = part_is_filter s g es (λ j m h. tells j m h)
 
+-- what does not fall from n to n + 1 does not fall
 rises : (f : ℕ → ℕ) → ((n : ℕ) → f n ≤ f (n + 1)) → (a b : ℕ) → a ≤ b → f a ≤ f b
 rises f step a zero le = (let e : a ≡ 0 = omega arith in let g = ap f e in omega (arith, g))
 rises f step a (suc b) le = elim (cases_lt b a) [
@@ -95,22 +101,27 @@ rises f step a (suc b) le = elim (cases_lt b a) [
 
 -- how many pass before a number that passes tells the number
 module _ (p : ℕ → Bool) where
+  -- how many pass before n
   before : ℕ → ℕ
   before n = count_by p (range_with_len 0 n)
 
+  -- it does not fall
   step : (n : ℕ) → before n ≤ before (n + 1)
   unfolding before
   step n = let m = count_more p n in omega (arith, m)
 
+  -- and rises where n passes
   more : (n : ℕ) → p n ≡ true → before (n + 1) ≡ before n + 1
   unfolding before
   more n h = let m = count_more p n in let one = ap (λ (b : Bool). cond {A = ℕ} b 1 0) h in
       omega (arith, m, one)
 
+  -- so two numbers that pass differ in how many pass before them
   not_less : (i j : ℕ) → p i ≡ true → i < j → before i ≡ before j → ⊥
   not_less i j h lt same = let r = rises before step (i + 1) j (omega arith) in let m = more i h in
       absurd (omega (arith, r, m, same))
 
+  -- which tells the number
   pub rank_tells : (i j : ℕ) → p i ≡ true → p j ≡ true
       → count_by p (range_with_len 0 i) ≡ count_by p (range_with_len 0 j) → i ≡ j
   unfolding before

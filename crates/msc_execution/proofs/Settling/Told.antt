@@ -1,7 +1,7 @@
 -- What a queue's inlet got is what its receiver logged; nobody ended by a strange message.
-use Rattle.std.proofs.Common.{◌≡◌, ◌≢◌, ◌⊎◌, ℕ, zero, suc, ◌<◌, ◌≤◌, Bool, true, eqb, List, [], ◌∷◌, ◌++◌, length, get_or, map, filter, refl, sym, ap, ◌∙◌, inl, inr, arith, subst}
+use Rattle.std.proofs.Common.{◌≡◌, ◌≢◌, ℕ, zero, suc, ◌<◌, Bool, true, eqb, List, [], ◌∷◌, ◌++◌, length, get_or, map, filter, refl, sym, ap, ◌∙◌, inl, inr, arith, subst}
 use Rattle.std.specs.Prelude.{Some, slice_get}
-use Rattle.std.specs.List.{AllZip, range_with_len}
+use Rattle.std.specs.List.{range_with_len}
 use Rattle.std.proofs.lemmas.Bool.{eq-eqb, eqb-true, cases_lt}
 use Rattle.std.proofs.lemmas.List.{append-nil}
 use Rattle.std.proofs.lemmas.Option.{slice_get-get_or}
@@ -17,71 +17,19 @@ use Rattle.msc_fifo.specs.Entries.{messages_of}
 use Rattle.msc_fifo.specs.Ends.{InletState, new_inlet}
 use Rattle.msc_execution.specs.declared.end.End.{End}
 use Rattle.msc_execution.specs.declared.end.End.TheVariants.{Finished, Starved, Impatient, Stopped, Foreign}
-use Rattle.msc_execution.specs.Roles.{Role, role, wired_ends, queues_in, takes_from, taken_queues, rank_of}
+use Rattle.msc_execution.specs.Roles.{Role, role, queues_in, takes_from, taken_queues, rank_of}
 use Rattle.msc_execution.specs.Logs.{IsLogOf, Reading, sent, received}
-use Rattle.msc_execution.specs.Growth.{IsLeftBy, HasTaken, all_messages}
+use Rattle.msc_execution.specs.Growth.{HasTaken, all_messages}
 use Rattle.msc_execution.specs.Running.{Left, EndsAs, IsNothingStrange, IsStrangeAlone}
 use Rattle.msc_execution.specs.Settling.{of_queue, IsSettledOf}
 use Rattle.msc_execution.proofs.Lists.Words.{Apart, head_or_tail, at_head, in_tail, in_none, passes, fails, once_left, once_apart}
 use Rattle.msc_execution.proofs.Lists.Ranges.{in_range}
 use Rattle.msc_execution.proofs.Wiring.Logged.{IsOf, sent_is, sent_once, taken_by}
-use Rattle.msc_execution.proofs.Settling.Came.{Came, left_of, all_outlets, all_inlets, HaveRun, HaveEnded, AreEndsOf, AreAccountsOfLogs, AreSettled, IsTold}
+use Rattle.msc_execution.proofs.Settling.Came.{Came, left_of, all_outlets, all_inlets, HaveEnded, AreEndsOf, AreAccountsOfLogs, AreSettled, IsTold}
 use Rattle.msc_execution.proofs.Settling.Buckets.{numbers_stay}
 use Rattle.msc_execution.proofs.Settling.FlatLists.{flat_lists}
 use Rattle.msc_execution.proofs.Settling.Accounts.{accounts}
 use Rattle.msc_execution.proofs.Settling.Parts.{in_a_part, once_of_parts, part_is_filter, rank_tells}
-
--- what is strange, told for all instances at once
-module _ (queues : Queues) (d : Drawing) (open' : Bool) (patience : ℕ) (id : ℕ
-    → QueueId) (c : Came) (runs : HaveRun queues d open' patience id c) where
-  reading_by : (i : ℕ) → (i < length d.instances) ⊎ (length d.instances ≤ i) → Reading
-  reading_by i (inl lt) = (runs i lt).reading
-  reading_by i (inr ge) = record { read_at = λ e. 0; place_at = λ e. 0 }
-
-  strange_by : (i : ℕ) → (i < length d.instances) ⊎ (length d.instances ≤ i) → ℕ → List ℕ
-  strange_by i (inl lt) = (runs i lt).run.strange
-  strange_by i (inr ge) = λ q. []
-
-  put_by : (i : ℕ) (w : (i < length d.instances) ⊎ (length d.instances ≤ i))
-      → i < length d.instances
-      → AllZip (IsLeftBy (role queues d i) (c.logs i) (reading_by i w))
-      (wired_ends id (role queues d i)).outlets (c.back i).outlets
-  unfolding reading_by
-  put_by i (inl lt) within = (runs i lt).run.put
-  put_by i (inr ge) within = absurd (omega arith)
-
-  got_by : (i : ℕ) (w : (i < length d.instances) ⊎ (length d.instances ≤ i))
-      → i < length d.instances
-      → AllZip (HasTaken (role queues d i) (c.logs i) (reading_by i w) (strange_by i w))
-      (wired_ends id (role queues d i)).inlets (c.back i).inlets
-  unfolding reading_by strange_by
-  got_by i (inl lt) within = (runs i lt).run.got
-  got_by i (inr ge) within = absurd (omega arith)
-
-  ended_by : (i : ℕ) (w : (i < length d.instances) ⊎ (length d.instances ≤ i))
-      → i < length d.instances
-      → EndsAs (role queues d i) open' patience (reading_by i w) (left_of c i) (strange_by i w)
-      (c.ends i)
-  unfolding reading_by strange_by
-  ended_by i (inl lt) within = (runs i lt).run.ended
-  ended_by i (inr ge) within = absurd (omega arith)
-
-  all_ended : HaveEnded queues d open' patience id c
-  all_ended = record {
-    grown = record {
-      readings = λ i. reading_by i (cases_lt i (length d.instances));
-      strange = λ i. strange_by i (cases_lt i (length d.instances));
-      put = λ i lt. put_by i (cases_lt i (length d.instances)) lt;
-      got = λ i lt. got_by i (cases_lt i (length d.instances)) lt;
-    };
-    logs = λ i lt. (runs i lt).run.log;
-    ended = λ i lt. ended_by i (cases_lt i (length d.instances)) lt;
-  }
-
-pub runs_ended : (queues : Queues) (d : Drawing) (open' : Bool) (patience : ℕ) (id : ℕ
-    → QueueId) (c : Came)
-    → HaveRun queues d open' patience id c → HaveEnded queues d open' patience id c
-runs_ended queues d open' patience id c runs = all_ended queues d open' patience id c runs
 
 -- the settled queue with a number
 find : (q : ℕ) (xs : List (ℕ × Settled)) → occurs (map (λ (s : ℕ × Settled). s.0) xs) q ≡ true
@@ -92,6 +40,7 @@ find q (x ∷ xs) h = elim (head_or_tail x.0 (map (λ (s : ℕ × Settled). s.0)
   | inr later ↦ (let r = find q xs later in (r.0, (suc r.1.0, r.1.1)))
 ]
 
+-- a settled queue has one of the numbers
 pub numbered : (q : ℕ) (s : Settled) (xs : List (ℕ × Settled)) (j : ℕ)
     → slice_get xs j ≡ Some (q, s) → occurs (map (λ (s : ℕ × Settled). s.0) xs) q ≡ true
 numbered q s [] j at = cc
@@ -102,6 +51,7 @@ numbered q s (x ∷ xs) zero at =
 numbered q s (x ∷ xs) (suc j) at =
     in_tail x.0 (map (λ (s : ℕ × Settled). s.0) xs) q (numbered q s xs j at)
 
+-- a sender of a queue is an instance that sends to it
 pub in_senders : (queues : Queues) (d : Drawing) (q i : ℕ) → occurs (senders_in queues d q) i ≡ true
     → (i < length d.instances) × (sends_to queues d q i ≡ true)
 unfolding senders_in
@@ -110,6 +60,7 @@ in_senders queues d q i h =
     let w = in_range 0 (length d.instances) i r.0 in
     (omega (arith, w.1), r.1)
 
+-- a queue from which an instance takes is one of the chart
 in_taken : (queues : Queues) (d : Drawing) (i q : ℕ)
     → occurs (taken_queues (role queues d i)) q ≡ true
     → (occurs (queues_in queues d) q ≡ true) × (takes_from queues d q i ≡ true)
@@ -142,6 +93,7 @@ module _ (queues : Queues) (d : Drawing) (id : ℕ → QueueId) (c : Came) (stra
     (accepted : IsAccepted d) (logs : (i : ℕ) → i < length d.instances → IsLogOf d i (c.logs i))
     (ends : AreEndsOf queues d id c strange q)
     (told : AreAccountsOfLogs queues d c q ends.inlet.got s) where
+  -- what the inlet got
   abbrev got : List Entry
   got = ends.inlet.got
 
@@ -156,6 +108,7 @@ module _ (queues : Queues) (d : Drawing) (id : ℕ → QueueId) (c : Came) (stra
             (account.taken ∙ ap (λ (j : ℕ). messages_of j got) (told.rank k i at)),
       )
 
+  -- what was got under a number was sent by the sender of this rank
   pub part : (j m : ℕ) → occurs (messages_of j got) m ≡ true → IsPart queues d q j m
   part j m h = elim (cases_lt j (length (senders_in queues d q))) [
     | inl lt ↦
@@ -173,6 +126,7 @@ module _ (queues : Queues) (d : Drawing) (id : ℕ → QueueId) (c : Came) (stra
     | inr le ↦ in_none m (ap (λ (l : List ℕ). occurs l m) (sym (told.none j le)) ∙ h)
   ]
 
+  -- each message once
   part_once : (j : ℕ) → Apart (messages_of j got)
   part_once j = elim (cases_lt j (length (senders_in queues d q))) [
     | inl lt ↦
@@ -185,6 +139,7 @@ module _ (queues : Queues) (d : Drawing) (id : ℕ → QueueId) (c : Came) (stra
     | inr le ↦ subst Apart (sym (told.none j le)) tt
   ]
 
+  -- so all that was got stands once
   pub got_once : Apart (all_messages got)
   got_once = once_of_parts got part_once (λ m s' t a b.
       let x = part s' m a in
@@ -237,6 +192,7 @@ module _ (queues : Queues) (d : Drawing) (open' : Bool) (patience : ℕ) (id : �
             (same_inlet queues d id c ended.grown.strange q f.0 ends (all.each q f.0 f.1)),
       )
 
+  -- a strange message would be one of the queue whose input is logged: then it was got twice
   alone_is_absurd : (i m : ℕ) → i < length d.instances
       → IsStrangeAlone (role queues d i) (left_of c i) (ended.grown.strange i) m → ⊥
   alone_is_absurd i m lt st =
@@ -266,12 +222,14 @@ module _ (queues : Queues) (d : Drawing) (open' : Bool) (patience : ℕ) (id : �
       once_apart mine (m ∷ []) m once
       (taken_by queues d accepted q (c.logs i) m x.is.known x.is.queue logged) (at_head m [])
 
+  -- so nobody ended by a strange message
   pub nobody : (i m : ℕ) → i < length d.instances → c.ends i ≢ Foreign m
   nobody i m lt is =
       alone_is_absurd i m lt
       (subst (λ (e : End). EndsAs (role queues d i) open' patience (ended.grown.readings i)
       (left_of c i) (ended.grown.strange i) e) is (ended.ended i lt))
 
+  -- and what a queue's inlet got is what its receiver logged
   pub told : (q : ℕ) (ends : AreEndsOf queues d id c ended.grown.strange q)
       → occurs (queues_in queues d) q ≡ true
       → IsTold queues d c q ends.receiver ends.inlet.got

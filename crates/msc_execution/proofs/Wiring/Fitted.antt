@@ -19,21 +19,25 @@ use Rattle.msc_execution.proofs.Lists.Words.{Apart, head_or_tail, at_head, in_ta
 use Rattle.msc_execution.proofs.Wiring.Receivers.{messages_has, sent_has, the_receiver}
 use Rattle.msc_execution.proofs.Wiring.Logged.{sent_is, sent_once}
 
+-- fresh ends have the numbers of their queues
 same_numbers : {A : Type 0} (f : ℕ → A) (qs : List ℕ)
     → map (λ (o : ℕ × A). o.0) (map (λ (q : ℕ). (q, f q)) qs) ≡ qs
 same_numbers f [] = refl
 same_numbers f (q ∷ qs) = ap (λ (l : List ℕ). q ∷ l) (same_numbers f qs)
 
+-- what holds of each fresh end holds at each place
 mapped_at : {A : Type 0} (f : ℕ → A) (P : A → Type 0) → ((q : ℕ) → P (f q))
     → (qs : List ℕ) (k : ℕ) (d : A) → k < length (map f qs) → P (get_or (map f qs) k d)
 mapped_at f P holds [] k d lt = absurd (omega arith)
 mapped_at f P holds (q ∷ qs) zero d lt = holds q
 mapped_at f P holds (q ∷ qs) (suc k) d lt = mapped_at f P holds qs k d (omega arith)
 
+-- and so of all
 all_mapped : {A : Type 0} (f : ℕ → A) (P : A → Type 0) → ((q : ℕ) → P (f q)) → (qs : List ℕ)
     → All P (map f qs)
 all_mapped f P holds qs = λ k d lt. mapped_at f P holds qs k d lt
 
+-- the fresh ends of an instance fit it
 wired_fits : (queues : Queues) (d : Drawing) (id : ℕ → QueueId) (i : ℕ)
     → IsFit (role queues d i) (wired_ends id (role queues d i))
 wired_fits queues d id i = record {
@@ -49,11 +53,13 @@ wired_fits queues d id i = record {
       (λ q. (refl, omega arith)) (sent_queues (role queues d i));
 }
 
+-- so do those that were handed out
 pub fits : WiringsFit
 fits queues d all i e wiring at =
     subst (λ (b : EndLists). IsFit (role queues d i) b) (sym (wiring.each i e at))
     (wired_fits queues d wiring.id i)
 
+-- the queue of an output is one to which its line sends
 pub have_outlets : OutputsHaveOutlets
 unfolding sender_of
 have_outlets queues d i e accepted output on =
@@ -88,6 +94,7 @@ pigeons (x ∷ xs) ys once h =
     let less : length (front ++ rest) ≡ length front + length rest = length-append front rest in
     omega arith
 
+-- what a log sends to a queue are messages of its sender there, each once
 pub keep_quotas : LogsKeepQuotas
 unfolding quota_of
 keep_quotas queues d q i log accepted is =
@@ -103,6 +110,7 @@ keep_quotas queues d q i log accepted is =
     (eq-eqb (sender_of d m) i m_is.sender)) in
     omega (arith, n, short)
 
+-- the messages of a queue from which an instance takes come to it
 pub bring_own : InletsBringOwn
 unfolding taken_queues
 bring_own queues d q i m accepted here below at =

@@ -19,10 +19,12 @@ use Rattle.msc_execution.proofs.Lists.Words.{at_head, in_tail, passes}
 use Rattle.msc_execution.proofs.Lists.Ranges.{filter_more}
 use Rattle.msc_execution.proofs.Wiring.Receivers.{in_below}
 
+-- where some element passes there is an element
 any_has : (g : ℕ → Bool) (ms : List ℕ) → list_any g ms ≡ true → nat_lt 0 (length ms) ≡ true
 any_has g [] h = absurd (true≢false (sym h))
 any_has g (m ∷ ms) h = lt-ltb 0 (length (m ∷ ms)) (omega arith)
 
+-- the queues below one number more
 queues_more : (queues : Queues) (d : Drawing) (n : ℕ)
     → queues_below queues d (n + 1)
     ≡ queues_below queues d n ++ cond (nat_lt 0 (length (messages_in queues d n))) (n ∷ []) []
@@ -40,6 +42,7 @@ one_number p true n h = refl
 one_number p false n h =
     by_test (p n) (λ t. clash (h t) refl) (λ f. sym (ap (λ (c : Bool). cond c (n ∷ []) []) f))
 
+-- of those the ones that pass
 below_more : (queues : Queues) (d : Drawing) (p : ℕ → Bool) (n : ℕ)
     → (p n ≡ true → nat_lt 0 (length (messages_in queues d n)) ≡ true)
     → filter p (queues_below queues d (n + 1))
@@ -50,6 +53,7 @@ below_more queues d p n has =
     ∙ filter-append p (queues_below queues d n) (cond b (n ∷ []) [])
     ∙ ap (λ (l : List ℕ). filter p (queues_below queues d n) ++ l) (one_number p b n has)
 
+-- one thing or none, mapped
 one_mapped : {A : Type 0} (f : ℕ → A) (b : Bool) (n : ℕ)
     → map f (cond b (n ∷ []) []) ≡ cond b (f n ∷ []) []
 one_mapped f true n = refl
@@ -63,10 +67,12 @@ agree {A} f g (x ∷ xs) h =
     ap (λ (a : A). a ∷ map f xs) (h x (at_head x xs))
     ∙ ap (λ (l : List A). g x ∷ l) (agree f g xs (λ y y_in. h y (in_tail x xs y y_in)))
 
+-- ends of these outlets and inlets
 abbrev ends_from : List NumberedOutlet → List NumberedInlet → EndLists
 ends_from a b = record { outlets = a; inlets = b }
 
 module _ (r : Role) (n : ℕ) where
+  -- an instance sends to one queue more, or not
   sent_more : sent_below r (n + 1)
       ≡ sent_below r n ++ cond (sends_to r.queues r.chart n r.number) (n ∷ []) []
   unfolding sent_below sends_to
@@ -74,6 +80,7 @@ module _ (r : Role) (n : ℕ) where
       below_more r.queues r.chart (λ q. sends_to r.queues r.chart q r.number) n
       (λ h. any_has _ (messages_in r.queues r.chart n) h)
 
+  -- it takes from one queue more, or not
   taken_more : taken_below r (n + 1)
       ≡ taken_below r n ++ cond (takes_from r.queues r.chart n r.number) (n ∷ []) []
   unfolding taken_below takes_from
@@ -81,6 +88,7 @@ module _ (r : Role) (n : ℕ) where
       below_more r.queues r.chart (λ q. takes_from r.queues r.chart q r.number) n
       (λ h. any_has _ (messages_in r.queues r.chart n) h)
 
+  -- the queues below n to which it sends are below n
   sent_small : (q : ℕ) → occurs (sent_below r n) q ≡ true → q < n
   unfolding sent_below
   sent_small q h =
@@ -88,6 +96,7 @@ module _ (r : Role) (n : ℕ) where
       (passes (λ k. sends_to r.queues r.chart k r.number)
       (queues_below r.queues r.chart n) q h).0).0
 
+  -- and so are those from which it takes
   taken_small : (q : ℕ) → occurs (taken_below r n) q ≡ true → q < n
   unfolding taken_below
   taken_small q h =
@@ -95,6 +104,7 @@ module _ (r : Role) (n : ℕ) where
       (passes (λ k. takes_from r.queues r.chart k r.number)
       (queues_below r.queues r.chart n) q h).0).0
 
+  -- one queue more is handed out
   pub wiring_step : IsWiringStep r n
   wiring_step = record {
     outlets = λ id.
@@ -129,14 +139,17 @@ module _ (r : Role) (n : ℕ) where
         inlets;
   }
 
+-- no queue is below 0
 none_wired : (id : ℕ → QueueId) (r : Role) → wired_below id r 0 ≡ no_ends
 unfolding sent_below taken_below queues_below
 none_wired id r = refl
 
+-- below the bound all queues are handed out
 all_wired : (id : ℕ → QueueId) (r : Role)
     → wired_below id r (queue_bound r.queues r.chart) ≡ wired_ends id r
 unfolding sent_below taken_below sent_queues taken_queues
 all_wired id r = refl
 
+-- so the fresh ends come about queue by queue
 pub grows : WiringGrows
 grows = record { none = none_wired; step = wiring_step; whole = all_wired }

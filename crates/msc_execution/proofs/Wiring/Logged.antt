@@ -36,15 +36,7 @@ module _ (queues : Queues) (d : Drawing) where
       (kept (is_output d.events) log e there output)
       (eq-eqb (queue_of queues d (message d.events e)) q at)
 
-  -- the same of inputs
-  pub input_at : (q : ℕ) (log : List ℕ) (e : ℕ) → occurs (inputs_at queues d q log) e ≡ true
-      → (occurs log e ≡ true) × (is_input d.events e ≡ true)
-      × (queue_of queues d (message d.events e) ≡ q)
-  input_at q log e h =
-      let p = passes (λ x. eqb (queue_of queues d (message d.events x)) q) (inputs d log) e h in
-      let o = passes (is_input d.events) log e p.0 in
-      (o.0, o.1, eqb-true (queue_of queues d (message d.events e)) q p.1)
-
+  -- and the other way round
   pub input_there : (q : ℕ) (log : List ℕ) (e : ℕ) → occurs log e ≡ true
       → is_input d.events e ≡ true
       → queue_of queues d (message d.events e) ≡ q → occurs (inputs_at queues d q log) e ≡ true

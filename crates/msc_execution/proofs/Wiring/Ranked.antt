@@ -10,6 +10,7 @@ use Rattle.msc_execution.proofs.Lists.Words.{filter_yes, filter_no}
 use Rattle.msc_execution.proofs.Lists.Ranges.{count_more}
 
 module _ (p : ℕ → Bool) where
+  -- the k-th of a list whose head passes
   first : (a k i : ℕ) (l : List ℕ) → p a ≡ true → slice_get (a ∷ l) k ≡ Some i
       → ((j : ℕ) → slice_get l j ≡ Some i
       → count_by p (range_with_len 0 i) ≡ count_by p (range_with_len 0 (a + 1)) + j)
@@ -23,6 +24,7 @@ module _ (p : ℕ → Bool) where
       let one = ap (λ (b : Bool). cond {A = ℕ} b 1 0) t in
       omega (arith, r, m, one)
 
+  -- the k-th number of a range that passes has k before it that pass
   pub kth : (n a k i : ℕ) → slice_get (filter p (range_with_len a n)) k ≡ Some i
       → count_by p (range_with_len 0 i) ≡ count_by p (range_with_len 0 a) + k
   kth zero a k i at = cc
@@ -40,6 +42,7 @@ module _ (p : ℕ → Bool) where
       let none = ap (λ (b : Bool). cond {A = ℕ} b 1 0) f in
       omega (arith, r, m, none))
 
+-- so the k-th sender is of rank k
 pub ranked : SendersAreRanked
 unfolding senders_in rank_of
 ranked queues d q k i at = let r = kth (sends_to queues d q) (length d.instances) 0 k i at in

@@ -44,6 +44,7 @@ one_kept p q xs one =
     (λ yes. twice_yes p q xs yes ∙ one ∙ sym (ap (λ (b : Bool). cond b (q ∷ []) []) yes))
     (λ no. twice_no p q xs no ∙ sym (ap (λ (b : Bool). cond b (q ∷ []) []) no))
 
+-- an instance that sends to a queue has its number once among those to which it sends
 pub one_sent : (queues : Queues) (d : Drawing) (i q : ℕ) → occurs (queues_in queues d) q ≡ true
     → filter (λ k. eqb k q) (sent_queues (role queues d i))
     ≡ cond (sends_to queues d q i) (q ∷ []) []
@@ -52,6 +53,7 @@ one_sent queues d i q h =
     one_kept (λ k. sends_to queues d k i) q (queues_in queues d)
     (one_below queues d (queue_bound queues d) q h)
 
+-- and one that takes from it among those from which it takes
 pub one_taken : (queues : Queues) (d : Drawing) (i q : ℕ) → occurs (queues_in queues d) q ≡ true
     → filter (λ k. eqb k q) (taken_queues (role queues d i))
     ≡ cond (takes_from queues d q i) (q ∷ []) []
@@ -69,6 +71,7 @@ in_messages queues d q m h =
     let w = in_range 0 (length d.messages) m r.0 in
     (omega (arith, w.1), eqb-true _ _ r.1)
 
+-- where an element passes, some element does
 any_true : (g : ℕ → Bool) (ms : List ℕ) (m : ℕ) → occurs ms m ≡ true → g m ≡ true
     → list_any g ms ≡ true
 any_true g [] m h pass = in_none m h
@@ -77,6 +80,7 @@ any_true g (x ∷ ms) m h pass = elim (head_or_tail x ms m h) [
   | inr later ↦ or_right (g x) (list_any g ms) (any_true g ms m later pass)
 ]
 
+-- where something occurs the list is not empty
 some : (ms : List ℕ) (m : ℕ) → occurs ms m ≡ true → nat_lt 0 (length ms) ≡ true
 some [] m h = in_none m h
 some (x ∷ ms) m h = lt-ltb 0 (length (x ∷ ms)) (omega arith)
@@ -94,6 +98,7 @@ number_below queues d m accepted below =
     subst (λ (k : ℕ). k < queue_bound queues d) same
     (number_bounded queues d (output_of d m) accepted within away)
 
+-- a number below n with a message is among the queues below n
 below_has : (queues : Queues) (d : Drawing) (n q : ℕ) → q < n
     → nat_lt 0 (length (messages_in queues d q)) ≡ true → occurs (queues_below queues d n) q ≡ true
 unfolding queues_below
@@ -140,6 +145,7 @@ pub record IsReceiver (queues : Queues) (d : Drawing) (q r : ℕ) : Type 0 where
   pub takes : (i : ℕ) → takes_from queues d q i ≡ eqb i r
   pub all : (m : ℕ) → m < length d.messages → queue_of queues d m ≡ q → receiver_of d m ≡ r
 
+-- it is the receiver of the queue's first message
 receiver_from : (queues : Queues) (d : Drawing) (q m : ℕ) (ms : List ℕ) → IsAccepted d
     → messages_in queues d q ≡ m ∷ ms → IsReceiver queues d q (receiver_of d m)
 unfolding takes_from
@@ -159,6 +165,7 @@ receiver_from queues d q m ms accepted is =
       all = all;
     }
 
+-- each queue with a message has one
 pub the_receiver : (queues : Queues) (d : Drawing) (q : ℕ) → IsAccepted d
     → occurs (queues_in queues d) q ≡ true → (r : ℕ) × IsReceiver queues d q r
 the_receiver queues d q accepted here =
