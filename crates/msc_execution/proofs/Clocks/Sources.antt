@@ -39,8 +39,8 @@ pub record IsRead (queues : Queues) (d : Drawing) (open' : Bool) (patience : ℕ
 
 -- the output that a claim is of: it is logged, and the claim has its message, its offer and the
 -- clock that was read there
-pub record Source (queues : Queues) (d : Drawing) (o : Outcome) (read : ℕ
-    → Reading) (q : ℕ) (c : Claim) : Type 0 where
+pub record Source (queues : Queues) (d : Drawing) (o : Outcome) (read : ℕ → Reading) (q : ℕ)
+    (c : Claim) : Type 0 where
   pub s : ℕ
   pub below : s < length d.events
   pub output : is_output d.events s ≡ true

@@ -51,8 +51,8 @@ nothing_past n j (Message s m ∷ es) h le =
     ∙ nothing_past n j es h.2 le
 nothing_past n j (Ended s ∷ es) h le = nothing_past n j es h.2 le
 
-module _ (queues : Queues) (d : Drawing) (id : ℕ → QueueId) (c : Came) (strange : ℕ → ℕ
-    → List ℕ) (q : ℕ) (s : Settled)
+module _ {queues : Queues} {d : Drawing} {id : ℕ → QueueId} {c : Came} {strange : ℕ → ℕ → List ℕ}
+    {q : ℕ} {s : Settled}
     (ends : AreEndsOf queues d id c strange q)
     (settled : IsSettledOf ends.inlet (of_queue q (all_outlets c (length d.instances))) s) where
   -- the outlets of the queue
@@ -101,9 +101,9 @@ module _ (queues : Queues) (d : Drawing) (id : ℕ → QueueId) (c : Came) (stra
   }
 
 -- the accounts of a settled queue are its senders' logs
-pub accounts : (queues : Queues) (d : Drawing) (id : ℕ → QueueId) (c : Came) (strange : ℕ → ℕ
-    → List ℕ) (q : ℕ) (s : Settled)
+pub accounts : {queues : Queues} {d : Drawing} {id : ℕ → QueueId} {c : Came}
+    {strange : ℕ → ℕ → List ℕ} {q : ℕ} {s : Settled}
     → (ends : AreEndsOf queues d id c strange q)
     → IsSettledOf ends.inlet (of_queue q (all_outlets c (length d.instances))) s
     → AreAccountsOfLogs queues d c q ends.inlet.got s
-accounts queues d id c strange q s ends settled = told queues d id c strange q s ends settled
+accounts ends settled = told ends settled

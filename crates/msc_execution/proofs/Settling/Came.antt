@@ -59,16 +59,16 @@ pub record HaveGrown (queues : Queues) (d : Drawing) (id : ℕ → QueueId) (c :
       (wired_ends id (role queues d i)).inlets (c.back i).inlets
 
 -- the outlet of instance i to the queue, after its log
-pub record IsOutletOf (queues : Queues) (d : Drawing) (id : ℕ
-    → QueueId) (c : Came) (q : ℕ) (i : ℕ) (o : OutletState) : Type 0 where
+pub record IsOutletOf (queues : Queues) (d : Drawing) (id : ℕ → QueueId) (c : Came) (q : ℕ) (i : ℕ)
+    (o : OutletState) : Type 0 where
   pub queue : o.queue ≡ id q
   pub sender : o.sender ≡ rank_of queues d q i
   pub put : o.put ≡ sent queues d q (c.logs i)
   pub closed : o.closed ≡ true
 
 -- the inlet of instance i from the queue, after its log and what was strange
-pub record IsInletOf (queues : Queues) (d : Drawing) (id : ℕ → QueueId) (c : Came) (strange : ℕ → ℕ
-    → List ℕ) (q : ℕ) (i : ℕ) (n : InletState) : Type 0 where
+pub record IsInletOf (queues : Queues) (d : Drawing) (id : ℕ → QueueId) (c : Came)
+    (strange : ℕ → ℕ → List ℕ) (q : ℕ) (i : ℕ) (n : InletState) : Type 0 where
   pub queue : n.queue ≡ id q
   pub senders : n.senders ≡ length (senders_in queues d q)
   pub got : all_messages n.got ≡ received queues d q (c.logs i) ++ strange i q
@@ -76,8 +76,8 @@ pub record IsInletOf (queues : Queues) (d : Drawing) (id : ℕ → QueueId) (c :
 -- The ends of one queue, taken out of all that came back: the outlets of its senders in their
 -- order,
 -- which are all its outlets, and one inlet, of the instance that takes from it.
-pub record AreEndsOf (queues : Queues) (d : Drawing) (id : ℕ → QueueId) (c : Came) (strange : ℕ → ℕ
-    → List ℕ) (q : ℕ) : Type 0 where
+pub record AreEndsOf (queues : Queues) (d : Drawing) (id : ℕ → QueueId) (c : Came)
+    (strange : ℕ → ℕ → List ℕ) (q : ℕ) : Type 0 where
   pub outlets : AllZip (IsOutletOf queues d id c q) (senders_in queues d q)
       (of_queue q (all_outlets c (length d.instances)))
   pub numbered : AreNumberedFrom 0 (of_queue q (all_outlets c (length d.instances)))
@@ -96,8 +96,8 @@ HaveRun queues d open' patience id c =
     → HasRun (role queues d i) open' patience (wired_ends id (role queues d i)) (left_of c i)
 
 -- the same, with what is strange and what was read told for all instances at once
-pub record HaveEnded (queues : Queues) (d : Drawing) (open' : Bool) (patience : ℕ) (id : ℕ
-    → QueueId) (c : Came) : Type 0 where
+pub record HaveEnded (queues : Queues) (d : Drawing) (open' : Bool) (patience : ℕ)
+    (id : ℕ → QueueId) (c : Came) : Type 0 where
   pub grown : HaveGrown queues d id c
   pub logs : (i : ℕ) → i < length d.instances → IsLogOf d i (c.logs i)
   pub ended : (i : ℕ) → i < length d.instances

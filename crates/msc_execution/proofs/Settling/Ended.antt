@@ -12,8 +12,8 @@ use Rattle.msc_execution.specs.Running.{EndsAs}
 use Rattle.msc_execution.proofs.Settling.Came.{Came, left_of, HaveRun, HaveEnded}
 
 -- what is strange, told for all instances at once
-module _ (queues : Queues) (d : Drawing) (open' : Bool) (patience : ℕ) (id : ℕ
-    → QueueId) (c : Came) (runs : HaveRun queues d open' patience id c) where
+module _ (queues : Queues) (d : Drawing) (open' : Bool) (patience : ℕ) (id : ℕ → QueueId) (c : Came)
+    (runs : HaveRun queues d open' patience id c) where
   -- what an instance read, nothing past the last one
   reading_by : (i : ℕ) → (i < length d.instances) ⊎ (length d.instances ≤ i) → Reading
   reading_by i (inl lt) = (runs i lt).reading
@@ -65,7 +65,7 @@ module _ (queues : Queues) (d : Drawing) (open' : Bool) (patience : ℕ) (id : �
   }
 
 -- so runs of all instances are grown ends with one telling of what is strange
-pub runs_ended : (queues : Queues) (d : Drawing) (open' : Bool) (patience : ℕ) (id : ℕ
-    → QueueId) (c : Came)
+pub runs_ended : (queues : Queues) (d : Drawing) (open' : Bool) (patience : ℕ) (id : ℕ → QueueId)
+    (c : Came)
     → HaveRun queues d open' patience id c → HaveEnded queues d open' patience id c
 runs_ended queues d open' patience id c runs = all_ended queues d open' patience id c runs

@@ -34,8 +34,8 @@ use Rattle.msc_execution.proofs.Settling.Told.{numbered, in_senders, same_inlet,
 use Rattle.msc_execution.proofs.Settling.Backs.{bucket_has, bucket_of}
 use Rattle.msc_execution.proofs.Settling.Placed.{got_first}
 
-module _ (queues : Queues) (d : Drawing) (open' : Bool) (patience : ℕ) (id : ℕ
-    → QueueId) (o : Outcome) (back : ℕ → EndLists)
+module _ {queues : Queues} {d : Drawing} {open' : Bool} {patience : ℕ} {id : ℕ → QueueId}
+    (o : Outcome) (back : ℕ → EndLists)
     (accepted : IsAccepted d) (ended : HaveEnded queues d open' patience id (came_of o back))
     (all : AreSettled queues d (came_of o back) o.settled) where
   -- the outlets of a queue
@@ -52,9 +52,9 @@ module _ (queues : Queues) (d : Drawing) (open' : Bool) (patience : ℕ) (id : �
       → IsSettledFrom (length d.instances) back q s.places.items
   settled_from q s there =
       let ends =
-      flat_lists queues d id (came_of o back) q accepted ended.grown (in_use q s there) in
+      flat_lists q accepted ended.grown (in_use q s there) in
       let is =
-      same_inlet queues d id (came_of o back) ended.grown.strange q s ends
+      same_inlet ends
       (all.each q s there) in
       let among : IsAmong ends.inlet
       (of_queue q (all_inlets (came_of o back) (length d.instances))) =
@@ -77,14 +77,13 @@ module _ (queues : Queues) (d : Drawing) (open' : Bool) (patience : ℕ) (id : �
   accounts_of : (q : ℕ) (s : Settled) → Occurs o.settled (q, s) → AreAccounts queues d o q s
   accounts_of q s there =
       let here = in_use q s there in
-      let ends = flat_lists queues d id (came_of o back) q accepted ended.grown here in
+      let ends = flat_lists q accepted ended.grown here in
       let a =
-      accounts queues d id (came_of o back) ended.grown.strange q s ends
-      (same_inlet queues d id (came_of o back) ended.grown.strange q s ends
+      accounts ends
+      (same_inlet ends
       (all.each q s there)) in
       let t =
-      told queues d open' patience id
-      (came_of o back) o.settled accepted ended all q ends here in
+      told accepted ended all q ends here in
       record {
         many = a.many;
         each = λ k i at.
@@ -106,7 +105,7 @@ module _ (queues : Queues) (d : Drawing) (open' : Bool) (patience : ℕ) (id : �
         first = λ r takes.
             let same : r ≡ ends.receiver = eqb-true r ends.receiver (sym (ends.takes r) ∙ takes) in
             let is =
-            same_inlet queues d id (came_of o back) ended.grown.strange q s ends
+            same_inlet ends
             (all.each q s there) in
             subst (λ (l : List ℕ). Begins l (placed_messages s.places.items))
             (t.all ∙ ap (λ (x : ℕ). received queues d q (log_at o x)) (sym same))
@@ -125,15 +124,14 @@ module _ (queues : Queues) (d : Drawing) (open' : Bool) (patience : ℕ) (id : �
   -- and got nothing strange
   own : length o.ends ≡ length d.instances → (i m : ℕ) → end_at o i ≢ Foreign m
   own many i m is = elim (cases_lt i (length d.instances)) [
-    | inl lt ↦ nobody queues d open' patience id
-        (came_of o back) o.settled accepted ended all i m lt is
+    | inl lt ↦ nobody accepted ended all i m lt is
     | inr ge ↦ (let e : get_or o.ends i Finished ≡ Finished =
         get_or_past o.ends i Finished (omega arith) in absurd (cc))
   ]
 
 -- runs of all instances from fresh ends, and settled queues, are an execution
-pub executed : (queues : Queues) (d : Drawing) (open' : Bool) (patience : ℕ) (id : ℕ
-    → QueueId) (o : Outcome) (back : ℕ → EndLists)
+pub executed : (queues : Queues) (d : Drawing) (open' : Bool) (patience : ℕ) (id : ℕ → QueueId)
+    (o : Outcome) (back : ℕ → EndLists)
     → IsAccepted d → length o.logs ≡ length d.instances → length o.ends ≡ length d.instances
     → HaveRun queues d open' patience id (came_of o back)
     → AreSettled queues d (came_of o back) o.settled
@@ -147,9 +145,9 @@ executed queues d open' patience id o back accepted logs ends runs all =
       back = back;
       runs = runs;
       numbers = all.numbers;
-      accounts = accounts_of queues d open' patience id o back accepted ended all;
-      places = settled_from queues d open' patience id o back accepted ended all;
-      own = own queues d open' patience id o back accepted ended all ends;
+      accounts = accounts_of o back accepted ended all;
+      places = settled_from o back accepted ended all;
+      own = own o back accepted ended all ends;
     }
 
 -- a list in which nothing occurs is empty
@@ -157,7 +155,7 @@ no_member : (xs : List ℕ) → ((m : ℕ) → occurs xs m ≡ true → ⊥) →
 no_member [] f = refl
 no_member (x ∷ xs) f = absurd (f x (at_head x xs))
 
-module _ (queues : Queues) (d : Drawing) (open' : Bool) (patience : ℕ) (o : Outcome)
+module _ {queues : Queues} {d : Drawing} {open' : Bool} {patience : ℕ} {o : Outcome}
     (accepted : IsAccepted d) (x : IsExecution queues d open' patience o)
     (finished : AreFinished o.ends) where
   -- the log of an instance that has finished is whole
@@ -225,4 +223,4 @@ module _ (queues : Queues) (d : Drawing) (open' : Bool) (patience : ℕ) (o : Ou
 -- a finished execution leaves nothing
 pub finished_empty : FinishedExecutionsLeaveNothing
 finished_empty queues d open' patience o accepted x finished =
-    is_finished queues d open' patience o accepted x finished
+    is_finished accepted x finished

@@ -18,8 +18,8 @@ use Rattle.msc_execution.proofs.Wiring.Receivers.{one_sent, one_taken, the_recei
 use Rattle.msc_execution.proofs.Settling.Came.{Came, all_outlets, all_inlets, HaveGrown, IsOutletOf, IsInletOf, AreEndsOf}
 use Rattle.msc_execution.proofs.Settling.Buckets.{At, picked, moved, gathered, numbered_from, all_of}
 
-module _ (queues : Queues) (d : Drawing) (id : ℕ
-    → QueueId) (c : Came) (q : ℕ) (grown : HaveGrown queues d id c)
+module _ {queues : Queues} {d : Drawing} {id : ℕ → QueueId} {c : Came} (q : ℕ)
+    (grown : HaveGrown queues d id c)
     (here : occurs (queues_in queues d) q ≡ true) where
   -- what stands behind a fresh outlet of the queue is the instance's outlet
   outlet_is : (i : ℕ) (o : OutletState)
@@ -113,11 +113,11 @@ one_inlet T r (o ∷ []) h = (o, refl, h.0)
 one_inlet T r (o ∷ x ∷ os) h = absurd h.1
 
 -- the flat lists hold the ends of each queue with a message
-pub flat_lists : (queues : Queues) (d : Drawing) (id : ℕ → QueueId) (c : Came) (q : ℕ)
+pub flat_lists : {queues : Queues} {d : Drawing} {id : ℕ → QueueId} {c : Came} (q : ℕ)
     → IsAccepted d
     → (grown : HaveGrown queues d id c) → occurs (queues_in queues d) q ≡ true
     → AreEndsOf queues d id c grown.strange q
-flat_lists queues d id c q accepted grown here =
+flat_lists {queues} {d} {id} {c} q accepted grown here =
     let n : ℕ = length d.instances in
     let receiver = the_receiver queues d q accepted here in
     let r : ℕ = receiver.0 in
@@ -126,13 +126,13 @@ flat_lists queues d id c q accepted grown here =
     ∙ one_of_range r 0 n (omega arith) (omega (arith, receiver.1.within)) in
     let inlets =
     subst (λ (l : List ℕ). AllZip (IsInletOf queues d id c grown.strange q) l
-    (of_queue q (all_inlets c n))) alone (inlets_of queues d id c q grown here) in
+    (of_queue q (all_inlets c n))) alone (inlets_of q grown here) in
     let inlet =
     one_inlet (IsInletOf queues d id c grown.strange q) r
     (of_queue q (all_inlets c n)) inlets in
     let is : IsInletOf queues d id c grown.strange q r inlet.0 = inlet.2 in
-    let outlets = outlets_of queues d id c q grown here in
-    let numbered = outlets_numbered queues d id c q grown here in
+    let outlets = outlets_of q grown here in
+    let numbered = outlets_numbered q grown here in
     record {
       outlets = outlets;
       numbered = numbered;

@@ -72,8 +72,8 @@ same_left a x b y c z p q r =
     ap (λ (l : List ℕ). left_from l b c) p ∙ ap (λ (l : EndLists). left_from x l c) q
     ∙ ap (λ (l : End). left_from x y l) r
 
-module _ (queues : Queues) (d : Drawing) (open' : Bool) (patience : ℕ) (fresh : List EndLists)
-    (ran : List Left)
+module _ {queues : Queues} {d : Drawing} {open' : Bool} {patience : ℕ} {fresh : List EndLists}
+    {ran : List Left}
     (accepted : IsAccepted d) (wiring : IsWiring queues d fresh)
     (runs : HaveRunFrom queues d open' patience fresh ran) where
   -- as many came back as there are instances
@@ -123,7 +123,7 @@ module _ (queues : Queues) (d : Drawing) (open' : Bool) (patience : ℕ) (fresh 
         × AreOutletsOf inlet (of_queue q (outlets_back ran))
     holds q here =
         let h =
-        flat_lists queues d wiring.id (came_of o (back_of ran)) q accepted
+        flat_lists q accepted
         (runs_ended queues d open' patience wiring.id (came_of o (back_of ran)) have_run).grown
         here in (
           h.inlet,
@@ -154,7 +154,7 @@ module _ (queues : Queues) (d : Drawing) (open' : Bool) (patience : ℕ) (fresh 
 -- before settling
 pub hold_queues : RunsHoldQueues
 hold_queues queues d open' patience fresh ran q accepted wiring runs here =
-    holds queues d open' patience fresh ran accepted wiring runs
+    holds accepted wiring runs
     (record {
       logs = map (λ (r : Left). r.log) ran;
       ends = map (λ (r : Left). r.end) ran;
@@ -166,4 +166,4 @@ hold_queues queues d open' patience fresh ran q accepted wiring runs here =
 -- after settling
 pub settled_runs : SettledRunsAreExecutions
 settled_runs queues d open' patience fresh ran o accepted wiring runs logs ends settled =
-    right queues d open' patience fresh ran accepted wiring runs o logs ends settled
+    right accepted wiring runs o logs ends settled

@@ -75,21 +75,21 @@ pub record IsPart (queues : Queues) (d : Drawing) (q j m : ℕ) : Type 0 where
   pub is : IsOf queues d q from m
 
 -- the same settled queue, from the ends that the flat lists hold
-pub same_inlet : (queues : Queues) (d : Drawing) (id : ℕ → QueueId) (c : Came) (strange : ℕ → ℕ
-    → List ℕ) (q : ℕ) (s : Settled)
+pub same_inlet : {queues : Queues} {d : Drawing} {id : ℕ → QueueId} {c : Came}
+    {strange : ℕ → ℕ → List ℕ} {q : ℕ} {s : Settled}
     → (ends : AreEndsOf queues d id c strange q)
     → (inlet : InletState) × (of_queue q (all_inlets c (length d.instances)) ≡ inlet ∷ [])
     × IsSettledOf inlet (of_queue q (all_outlets c (length d.instances))) s
     → IsSettledOf ends.inlet (of_queue q (all_outlets c (length d.instances))) s
-same_inlet queues d id c strange q s ends (inlet, alone, is) =
+same_inlet {queues} {d} {id} {c} {strange} {q} {s} ends (inlet, alone, is) =
     let same : inlet ≡ ends.inlet =
     ap (λ (l : List InletState). get_or l 0 ends.inlet) (sym alone ∙ ends.alone) in
     subst (λ (n : InletState). IsSettledOf n (of_queue q (all_outlets c (length d.instances))) s)
     same is
 
 -- one settled queue, whose ends the flat lists hold
-module _ (queues : Queues) (d : Drawing) (id : ℕ → QueueId) (c : Came) (strange : ℕ → ℕ
-    → List ℕ) (q : ℕ) (s : Settled)
+module _ {queues : Queues} {d : Drawing} {id : ℕ → QueueId} {c : Came} {strange : ℕ → ℕ → List ℕ}
+    {q : ℕ} {s : Settled}
     (accepted : IsAccepted d) (logs : (i : ℕ) → i < length d.instances → IsLogOf d i (c.logs i))
     (ends : AreEndsOf queues d id c strange q)
     (told : AreAccountsOfLogs queues d c q ends.inlet.got s) where
@@ -167,8 +167,8 @@ module _ (queues : Queues) (d : Drawing) (id : ℕ → QueueId) (c : Came) (stra
       no))))
 
 -- whoever did not end by a strange message got nothing strange
-nothing : (r : Role) (open' : Bool) (patience : ℕ) (reading : Reading) (left : Left) (strange : ℕ
-    → List ℕ) (e : End)
+nothing : (r : Role) (open' : Bool) (patience : ℕ) (reading : Reading) (left : Left)
+    (strange : ℕ → List ℕ) (e : End)
     → EndsAs r open' patience reading left strange e → ((m : ℕ) → e ≢ Foreign m)
     → IsNothingStrange strange
 nothing r open' patience reading left strange Finished h own = h.0
@@ -177,8 +177,8 @@ nothing r open' patience reading left strange Impatient h own = h.0
 nothing r open' patience reading left strange Stopped h own = h.0
 nothing r open' patience reading left strange (Foreign m) h own = absurd (own m refl)
 
-module _ (queues : Queues) (d : Drawing) (open' : Bool) (patience : ℕ) (id : ℕ
-    → QueueId) (c : Came) (settled : List (ℕ × Settled))
+module _ {queues : Queues} {d : Drawing} {open' : Bool} {patience : ℕ} {id : ℕ → QueueId} {c : Came}
+    {settled : List (ℕ × Settled)}
     (accepted : IsAccepted d) (ended : HaveEnded queues d open' patience id c)
     (all : AreSettled queues d c settled) where
   -- the accounts of a queue
@@ -188,8 +188,8 @@ module _ (queues : Queues) (d : Drawing) (open' : Bool) (patience : ℕ) (id : �
   told_of q here ends =
       let f = find q settled (ap (λ (l : List ℕ). occurs l q) all.numbers ∙ here) in (
         f.0,
-        accounts queues d id c ended.grown.strange q f.0 ends
-            (same_inlet queues d id c ended.grown.strange q f.0 ends (all.each q f.0 f.1)),
+        accounts ends
+            (same_inlet ends (all.each q f.0 f.1)),
       )
 
   -- a strange message would be one of the queue whose input is logged: then it was got twice
@@ -203,7 +203,7 @@ module _ (queues : Queues) (d : Drawing) (open' : Bool) (patience : ℕ) (id : �
       (ended.grown.strange i)) f (λ x y h. h.number) (taken_queues (role queues d i))
       (c.back i).inlets (ended.grown.got i lt) in
       let taken = in_taken queues d i q (ap (λ (l : List ℕ). occurs l q) (sym stay) ∙ st.own) in
-      let ends = flat_lists queues d id c q accepted ended.grown taken.0 in
+      let ends = flat_lists q accepted ended.grown taken.0 in
       let t = told_of q taken.0 ends in
       let same : i ≡ ends.receiver = eqb-true i ends.receiver (sym (ends.takes i) ∙ taken.1) in
       let mine : List ℕ = received queues d q (c.logs i) in
@@ -212,11 +212,11 @@ module _ (queues : Queues) (d : Drawing) (open' : Bool) (patience : ℕ) (id : �
       ∙ ap (λ (r : ℕ). received queues d q (c.logs r) ++ ended.grown.strange r q) (sym same)
       ∙ ap (λ (l : List ℕ). mine ++ l) st.last in
       let once : Apart (mine ++ m ∷ []) =
-      subst Apart is (got_once queues d id c ended.grown.strange q t.0 accepted ended.logs ends
+      subst Apart is (got_once accepted ended.logs ends
       t.1) in
       let p =
       in_a_part ends.inlet.got m (ap (λ (l : List ℕ). occurs l m) is ∙ occurs-push mine m) in
-      let x = part queues d id c ended.grown.strange q t.0 accepted ended.logs ends t.1 p.0 m p.1 in
+      let x = part accepted ended.logs ends t.1 p.0 m p.1 in
       let logged : occurs (c.logs i) (input_of d m) ≡ true =
       st.is_strange (x.is.known, x.is.queue) in
       once_apart mine (m ∷ []) m once
@@ -246,6 +246,6 @@ module _ (queues : Queues) (d : Drawing) (open' : Bool) (patience : ℕ) (id : �
       record {
         all = whole;
         each = λ i lt sends.
-            of_sender queues d id c ended.grown.strange q t.0 accepted ended.logs ends t.1 i sends
+            of_sender accepted ended.logs ends t.1 i sends
             ∙ ap (filter (λ m. eqb (sender_of d m) i)) whole;
       }
