@@ -6,3 +6,4 @@ pub mod ScheduleLemmas
 pub mod Gathers
 pub mod HeadLemmas
 pub mod Wholes
+pub mod MarkLemmas

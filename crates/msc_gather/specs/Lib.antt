@@ -4,3 +4,4 @@ pub mod Schedule
 pub mod Laws
 -- what the code keeps
 pub mod Heads
+pub mod Marks

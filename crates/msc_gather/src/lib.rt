@@ -7,4 +7,8 @@
 //! lines; there is a log for each instance, by its number. The forms are this project's own.
 #![tactic(auto)]
 
+mod fault;
 pub mod laws;
+mod marking;
+
+pub use fault::GatherFault;
