@@ -7,7 +7,8 @@ ghost use Rattle.msc_execution.specs.ClockLaws.{EveryExecutionIsARun, PlaceClock
 
 use msc_gather::laws::charts_are_seated;
 
-/// The logs of an execution, sorted by the keys of their events, are a run whose lines are the logs.
+/// The logs of an execution, sorted by the keys of their events, are a run whose lines are the
+/// logs.
 pub fn every_execution_is_a_run()
     ensures run { EveryExecutionIsARun }
     ensures merge { EveryExecutionHasAMerge }

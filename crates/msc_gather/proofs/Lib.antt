@@ -7,3 +7,7 @@ pub mod Gathers
 pub mod HeadLemmas
 pub mod Wholes
 pub mod MarkLemmas
+pub mod Apart
+pub mod TakenLemmas
+pub mod LinkLemmas
+pub mod Tables

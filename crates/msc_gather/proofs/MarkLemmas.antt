@@ -1,14 +1,14 @@
 -- The marks of logged events, and what they tell of logs.
-use Rattle.std.proofs.Common.{◌≡◌, ℕ, zero, suc, ◌+◌, ◌<◌, ◌≤◌, Bool, true, false, not, ◌||◌, ◌↔◌, inl, inr, List, [], ◌∷◌, ◌++◌, length, get_or, take, drop, set, replicate, refl, sym, ap, subst, ◌∙◌, arith}
+use Rattle.std.proofs.Common.{◌≡◌, ℕ, zero, suc, ◌+◌, ◌<◌, ◌≤◌, Bool, true, false, ◌||◌, inl, inr, List, [], ◌∷◌, ◌++◌, length, get_or, take, set, replicate, refl, sym, ap, subst, ◌∙◌, arith}
 use Rattle.std.proofs.Math.Bool.{or-false}
-use Rattle.std.proofs.lemmas.Bool.{cases_lt, cases_eq, not-true, not_from_false, false_from_ne_true, or_cases}
+use Rattle.std.proofs.lemmas.Bool.{cases_lt, cases_eq, false_from_ne_true}
 use Rattle.std.proofs.lemmas.List.{take_more, take_all, length-set, get_or-set_same, get_or-set_other, length-replicate, get_or-replicate}
-use Rattle.msc_chart.specs.Charts.{line, segment, partner, is_input, is_controlled, before, IsInTextOrder}
-use Rattle.msc_chart.specs.Lists.{Steps, occurs, until}
+use Rattle.msc_chart.specs.Charts.{line, partner, is_controlled, before, IsInTextOrder}
+use Rattle.msc_chart.specs.Lists.{Steps, occurs, until, IsOnce}
 use Rattle.msc_chart.specs.Orders.{WiredChart}
-use Rattle.msc_chart.proofs.ListLemmas.{by_test, clash, occurs-left, occurs-push, occurs_other, step_at, Steps-map, Steps-push, Steps-parts}
+use Rattle.msc_chart.proofs.ListLemmas.{clash, occurs-push, occurs_other, step_at, Steps-map, Steps-push, Steps-parts}
 use Rattle.msc_chart.proofs.Drawn.{before_from, before_parts}
-use Rattle.msc_gather.specs.Schedule.{log_of, is_logged, AreLogs, IsSeated}
+use Rattle.msc_gather.specs.Schedule.{log_of, AreLogs, IsSeated}
 use Rattle.msc_gather.specs.Marks.{MayBeLogged, IsLineLog, AreLineLogs, is_marked, MayBeMarked, IsFirstOpen, AreMarkedBeside, IsLineFrom, IsUnmarked, AreMarkedTo, AreMarks, HasOutput}
 use Rattle.msc_gather.proofs.Once.{IsNew, until-self, steps_from}
 
@@ -266,3 +266,9 @@ pub outputs_of : {chart : WiredChart} {n : ℕ} {logs : List (List ℕ)} {marks 
 outputs_of {chart} {n} {logs} {marks} seated sound m r below marked i =
     m.told (partner chart.events r) (seated.is_wired.matched.in_range r below)
     ∙ sound.sent r below (sym (m.told r below) ∙ marked) i
+
+-- what stands at a place of a list that holds nothing twice is not among what stands before
+pub once_at : (xs : List ℕ) (k : ℕ) → IsOnce xs → k < length xs → occurs (take k xs) (get_or xs k 0) ≡ false
+once_at xs k once below =
+    let split = split_at xs k below in
+    (Steps-parts IsNew [] (take k xs) (get_or xs k 0 ∷ split.0) (subst (λ (l : List ℕ). Steps IsNew [] l) split.1 once)).1.0

@@ -5,3 +5,4 @@ pub mod Laws
 -- what the code keeps
 pub mod Heads
 pub mod Marks
+pub mod Links

@@ -1,5 +1,5 @@
-//! The events of logs, marked: each on its line and once, a controlled event after all that is drawn
-//! before it, an input with its output.
+//! The events of logs, marked: each on its line and once, a controlled event after all that is
+//! drawn before it, an input with its output.
 
 ghost use Rattle.std.specs.Prelude.{◌≡◌, ℕ, ◌<◌, ◌≤◌, ◌↔◌, ◌^◌, [], Err, IfOk, IsTrue, OnOk, get_or, length, map};
 ghost use Rattle.msc_chart.specs.Wirings.{size, wired_by};
@@ -87,8 +87,10 @@ fn mark_log(w: &Wiring, i: u32, log: &[Event], marks: &mut [bool]) -> bool
 fn marks_of_lines(alloc: Global, w: &Wiring, logs: &[Vec<Event>]) -> Result<Vec<bool>, GatherFault>
     requires seated { IsSeated (wired_by w.now) (length logs.now) }
     requires many { length logs.now ≡ length w.now.chart.now.instances }
-    ensures logs { OnOk result (AreLineLogs (wired_by w.now) (length logs.now) (map (λ v. v.items) logs.now)) }
-    ensures marks { IfOk result (λ marks. AreMarks (wired_by w.now) (map (λ v. v.items) logs.now) marks.items) }
+    ensures logs { OnOk result (AreLineLogs (wired_by w.now) (length logs.now) (map
+        (λ v. v.items) logs.now)) }
+    ensures marks { IfOk result (λ marks. AreMarks (wired_by w.now) (map
+        (λ v. v.items) logs.now) marks.items) }
     ensures strange { result ≡ Err NoMerge
         → AreLineLogs (wired_by w.now) (length logs.now) (map (λ v. v.items) logs.now) → ⊥ }
 {
@@ -131,8 +133,10 @@ fn have_outputs(w: &Wiring, marks: &[bool]) -> bool
 pub fn marks_of(alloc: Global, w: &Wiring, logs: &[Vec<Event>]) -> Result<Vec<bool>, GatherFault>
     requires seated { IsSeated (wired_by w.now) (length logs.now) }
     requires many { length logs.now ≡ length w.now.chart.now.instances }
-    ensures logs { OnOk result (AreLogs (wired_by w.now) (length logs.now) (map (λ v. v.items) logs.now)) }
-    ensures marks { IfOk result (λ marks. AreMarks (wired_by w.now) (map (λ v. v.items) logs.now) marks.items) }
+    ensures logs { OnOk result (AreLogs (wired_by w.now) (length logs.now) (map
+        (λ v. v.items) logs.now)) }
+    ensures marks { IfOk result (λ marks. AreMarks (wired_by w.now) (map
+        (λ v. v.items) logs.now) marks.items) }
     ensures strange { result ≡ Err NoMerge
         → AreLogs (wired_by w.now) (length logs.now) (map (λ v. v.items) logs.now) → ⊥ }
 {

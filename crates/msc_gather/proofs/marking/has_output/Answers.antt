@@ -1,4 +1,4 @@
-use Rattle.std.proofs.Common.{true, inl, inr, refl, sym, ap, ◌∙◌}
+use Rattle.std.proofs.Common.{inl, inr, refl, sym, ap, ◌∙◌}
 use Rattle.msc_chart.proofs.ListLemmas.{clash}
 use Rattle.msc_chart.proofs.Drawn.{controlled_no_input, controlled_or_input}
 use Rattle.msc_gather.specs.Marks.{is_marked}

@@ -1,7 +1,7 @@
 use Rattle.std.proofs.Common.{refl}
 use Rattle.msc_chart.specs.Wirings.{wired_by}
 use Rattle.msc_chart.proofs.ListLemmas.{clash}
-use Rattle.msc_gather.proofs.MarkLemmas.{marking_begins, marking_more, marking_ends, marking_fails}
+use Rattle.msc_gather.proofs.MarkLemmas.{marking_begins, marking_more, marking_fails}
 use Rattle.msc_gather.proofs.marking.mark_log.Goals as goal
 
 pub loop-e-init : goal.loop-e-init

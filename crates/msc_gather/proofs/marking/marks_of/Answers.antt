@@ -1,6 +1,5 @@
-use Rattle.std.proofs.Common.{map, ◌∙◌}
 use Rattle.std.proofs.lemmas.List.{length-map}
-use Rattle.msc_gather.proofs.MarkLemmas.{logs_from, line_logs_of, outputs_of}
+use Rattle.msc_gather.proofs.MarkLemmas.{logs_from, line_logs_of}
 use Rattle.msc_gather.proofs.marking.marks_of.Goals as goal
 
 pub returns-in_err-marks-clause-strange : goal.returns-in_err-marks-clause-strange

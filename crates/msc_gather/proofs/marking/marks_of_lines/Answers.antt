@@ -1,8 +1,6 @@
-use Rattle.std.proofs.Common.{◌<◌, ◌+◌, inl, inr, [], get_or, length, map, subst, ap, sym, ◌∙◌, arith}
+use Rattle.std.proofs.Common.{inl, inr, ◌∙◌, arith}
 use Rattle.std.proofs.lemmas.Bool.{cases_eq}
 use Rattle.std.proofs.lemmas.List.{with_items_is}
-use Rattle.msc_chart.specs.Wirings.{wired_by}
-use Rattle.msc_gather.specs.Marks.{IsLineLog, AreMarkedBeside}
 use Rattle.msc_gather.proofs.MarkLemmas.{marks_more}
 use Rattle.msc_gather.proofs.marking.marks_of_lines.Goals as goal
 
