@@ -11,3 +11,6 @@ pub mod Apart
 pub mod TakenLemmas
 pub mod LinkLemmas
 pub mod Tables
+pub mod ReadyLemmas
+pub mod BestLemmas
+pub mod MergeLemmas

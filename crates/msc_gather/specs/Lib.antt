@@ -6,3 +6,4 @@ pub mod Laws
 pub mod Heads
 pub mod Marks
 pub mod Links
+pub mod Merges

@@ -11,5 +11,6 @@ mod fault;
 pub mod laws;
 mod linking;
 mod marking;
+mod merging;
 
 pub use fault::GatherFault;

@@ -53,7 +53,8 @@ impl Taken {
             → queue (wired_by w.now) e < length self.old.last.items }
         ensures { (list : List ℕ) → occurs list r ≡ false
             → HoldsTaken (wired_by w.now) list self.old.before.items self.old.last.items
-            → HoldsTaken (wired_by w.now) (list ++ r ∷ []) self.new.before.items self.new.last.items }
+            → HoldsTaken (wired_by w.now)
+            (list ++ r ∷ []) self.new.before.items self.new.last.items }
     {
         ends_share_queues();
         w.chart.accepted();
@@ -70,7 +71,8 @@ impl Taken {
     fn of(alloc: Global, w: &Wiring, events: &[Event]) -> Result<Taken, AllocError>
         requires known { (e : ℕ) → IsTrue (occurs events.now e) → e < size w.now }
         requires once { IsOnce events.now }
-        ensures { IfOk result (λ t. HoldsTaken (wired_by w.now) events.now t.before.items t.last.items) }
+        ensures { IfOk result (λ t. HoldsTaken
+            (wired_by w.now) events.now t.before.items t.last.items) }
     {
         let mut taken = Taken::start(alloc, w)?;
         for r in events {
@@ -115,7 +117,8 @@ pub fn links_of(
     requires seated { IsSeated (wired_by w.now) (length logs.now) }
     requires logs { AreLogs (wired_by w.now) (length logs.now) (map (λ v. v.items) logs.now) }
     requires marks { AreMarks (wired_by w.now) (map (λ v. v.items) logs.now) marks.now }
-    ensures { IfOk result (λ links. AreLinks (wired_by w.now) (map (λ v. v.items) logs.now) links.items) }
+    ensures { IfOk result (λ links. AreLinks (wired_by w.now) (map
+        (λ v. v.items) logs.now) links.items) }
 {
     let events = joined(alloc, logs)?;
     let taken = Taken::of(alloc, w, &events)?;
