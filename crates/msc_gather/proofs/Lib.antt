@@ -14,3 +14,4 @@ pub mod Tables
 pub mod ReadyLemmas
 pub mod BestLemmas
 pub mod MergeLemmas
+pub mod Endings

@@ -1,7 +1,7 @@
 -- One more event of the least run.
 use Rattle.std.proofs.Common.{◌≡◌, ℕ, ◌+◌, ◌<◌, Bool, true, false, inl, inr, List, [], ◌∷◌, ◌++◌, length, get_or, set, replicate, sym, ap, subst, ◌∙◌, arith}
 use Rattle.std.proofs.lemmas.Bool.{cases_lt, cases_eq, false_from_ne_true}
-use Rattle.std.proofs.lemmas.List.{length-replicate, get_or-replicate, length-set, get_or-set_same, get_or-set_other, get_or_default}
+use Rattle.std.proofs.lemmas.List.{length-replicate, get_or-replicate, length-set, get_or-set_same, get_or-set_other}
 use Rattle.msc_chart.specs.Charts.{line}
 use Rattle.msc_chart.specs.Lists.{Steps, occurs, until, IsOnce}
 use Rattle.msc_chart.specs.Orders.{WiredChart}

@@ -8,9 +8,11 @@
 #![tactic(auto)]
 
 mod fault;
+mod gathering;
 pub mod laws;
 mod linking;
 mod marking;
 mod merging;
 
 pub use fault::GatherFault;
+pub use gathering::gather;

@@ -44,7 +44,8 @@ fn place_after(log: &[Event], k: usize) -> usize
 impl Merge {
     /// No event yet.
     fn start(alloc: Global, w: &Wiring, logs: &[Vec<Event>]) -> Result<Merge, AllocError>
-        ensures { IfOk result (λ m. IsMerging (wired_by w.now) (map (λ v. v.items) logs.now) m.past.items m.heads.items m.done.items) }
+        ensures { IfOk result (λ m. IsMerging (wired_by w.now) (map
+            (λ v. v.items) logs.now) m.past.items m.heads.items m.done.items) }
     {
         Ok(Merge {
             past: Vec::new(alloc),
@@ -64,10 +65,13 @@ impl Merge {
         requires seated { IsSeated (wired_by w.now) (length logs.now) }
         requires logs { AreLogs (wired_by w.now) (length logs.now) (map (λ v. v.items) logs.now) }
         requires links { AreLinks (wired_by w.now) (map (λ v. v.items) logs.now) links.now }
-        requires merging { IsMerging (wired_by w.now) (map (λ v. v.items) logs.now) self.now.past.items self.now.heads.items self.now.done.items }
+        requires merging { IsMerging (wired_by w.now) (map
+            (λ v. v.items) logs.now) self.now.past.items self.now.heads.items self.now.done.items }
         requires i { i < length logs.now }
-        ensures some { IfSome result (λ x. MayFollowOn (wired_by w.now) (map (λ v. v.items) logs.now) self.now.past.items i x) }
-        ensures least { (x : ℕ) → MayFollowOn (wired_by w.now) (map (λ v. v.items) logs.now) self.now.past.items i x → result ≡ Some x }
+        ensures some { IfSome result (λ x. MayFollowOn (wired_by w.now) (map
+            (λ v. v.items) logs.now) self.now.past.items i x) }
+        ensures least { (x : ℕ)
+            → MayFollowOn (wired_by w.now) (map (λ v. v.items) logs.now) self.now.past.items i x → result ≡ Some x }
     {
         let log = log_at(logs, i);
         let k = self.heads[i as usize];
@@ -86,10 +90,13 @@ impl Merge {
         requires seated { IsSeated (wired_by w.now) (length logs.now) }
         requires logs { AreLogs (wired_by w.now) (length logs.now) (map (λ v. v.items) logs.now) }
         requires links { AreLinks (wired_by w.now) (map (λ v. v.items) logs.now) links.now }
-        requires merging { IsMerging (wired_by w.now) (map (λ v. v.items) logs.now) self.now.past.items self.now.heads.items self.now.done.items }
+        requires merging { IsMerging (wired_by w.now) (map
+            (λ v. v.items) logs.now) self.now.past.items self.now.heads.items self.now.done.items }
         requires few { length logs.now ≡ length w.now.chart.now.instances }
-        ensures some { IfSome result (λ x. FollowsLeast (wired_by w.now) (map (λ v. v.items) logs.now) self.now.past.items x) }
-        ensures none { IfNone result ((x : ℕ) → MayFollow (wired_by w.now) (map (λ v. v.items) logs.now) self.now.past.items x → ⊥) }
+        ensures some { IfSome result (λ x. FollowsLeast (wired_by w.now) (map
+            (λ v. v.items) logs.now) self.now.past.items x) }
+        ensures none { IfNone result ((x : ℕ)
+            → MayFollow (wired_by w.now) (map (λ v. v.items) logs.now) self.now.past.items x → ⊥) }
     {
         let mut best = None;
         for i in 0..w.chart.instances() {
@@ -102,9 +109,12 @@ impl Merge {
     fn follow(&mut self, w: &Wiring, logs: &[Vec<Event>], x: Event) -> Result<(), AllocError>
         requires seated { IsSeated (wired_by w.now) (length logs.now) }
         requires logs { AreLogs (wired_by w.now) (length logs.now) (map (λ v. v.items) logs.now) }
-        requires merging { IsMerging (wired_by w.now) (map (λ v. v.items) logs.now) self.old.past.items self.old.heads.items self.old.done.items }
-        requires follows { FollowsLeast (wired_by w.now) (map (λ v. v.items) logs.now) self.old.past.items x }
-        ensures merging { OnOk result (IsMerging (wired_by w.now) (map (λ v. v.items) logs.now) self.new.past.items self.new.heads.items self.new.done.items) }
+        requires merging { IsMerging (wired_by w.now) (map
+            (λ v. v.items) logs.now) self.old.past.items self.old.heads.items self.old.done.items }
+        requires follows { FollowsLeast (wired_by w.now) (map
+            (λ v. v.items) logs.now) self.old.past.items x }
+        ensures merging { OnOk result (IsMerging (wired_by w.now) (map
+            (λ v. v.items) logs.now) self.new.past.items self.new.heads.items self.new.done.items) }
         ensures past { OnOk result (self.new.past.items ≡ self.old.past.items ++ x ∷ []) }
     {
         let i = w.chart.instance_of(x);
@@ -127,8 +137,10 @@ pub fn merged(
     requires logs { AreLogs (wired_by w.now) (length logs.now) (map (λ v. v.items) logs.now) }
     requires links { AreLinks (wired_by w.now) (map (λ v. v.items) logs.now) links.now }
     requires few { length logs.now ≡ length w.now.chart.now.instances }
-    ensures merging { IfOk result (λ m. IsMerging (wired_by w.now) (map (λ v. v.items) logs.now) m.past.items m.heads.items m.done.items) }
-    ensures end { IfOk result (λ m. (x : ℕ) → MayFollow (wired_by w.now) (map (λ v. v.items) logs.now) m.past.items x → ⊥) }
+    ensures merging { IfOk result (λ m. IsMerging (wired_by w.now) (map
+        (λ v. v.items) logs.now) m.past.items m.heads.items m.done.items) }
+    ensures end { IfOk result (λ m. (x : ℕ)
+        → MayFollow (wired_by w.now) (map (λ v. v.items) logs.now) m.past.items x → ⊥) }
 {
     let mut merge = Merge::start(alloc, w, logs)?;
     while let Some(x) = merge.next(w, logs, links) {

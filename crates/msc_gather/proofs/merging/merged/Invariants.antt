@@ -1,4 +1,4 @@
-use Rattle.std.proofs.Common.{length, map}
+use Rattle.std.proofs.Common.{map}
 use Rattle.msc_chart.specs.Wirings.{size, wired_by}
 use Rattle.msc_chart.proofs.Numbers.{count_below}
 use Rattle.msc_gather.specs.Schedule.{is_logged}

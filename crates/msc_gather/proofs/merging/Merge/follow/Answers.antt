@@ -1,6 +1,6 @@
-use Rattle.std.proofs.Common.{◌+◌, get_or, ap, sym, ◌∙◌}
+use Rattle.std.proofs.Common.{◌+◌, get_or, ap, ◌∙◌}
 use Rattle.msc_gather.proofs.ReadyLemmas.{head_read}
-use Rattle.msc_gather.proofs.MergeLemmas.{merge_more, head_in, head_there, event_in}
+use Rattle.msc_gather.proofs.MergeLemmas.{merge_more, head_there}
 use Rattle.msc_gather.proofs.merging.Merge.follow.Goals as goal
 
 pub place_after-k-requires : goal.place_after-k-requires

@@ -1,4 +1,4 @@
-use Rattle.msc_gather.proofs.BestLemmas.{best_begins, best_more, best_some, best_none}
+use Rattle.msc_gather.proofs.BestLemmas.{best_begins, best_more}
 use Rattle.msc_gather.proofs.merging.Merge.next.Goals as goal
 
 pub loop-i-init : goal.loop-i-init
