@@ -7,3 +7,4 @@ pub mod Heads
 pub mod Marks
 pub mod Links
 pub mod Merges
+pub mod Held

@@ -1,11 +1,11 @@
 //! From logs to the least run that has them as its lines.
 
-ghost use Rattle.std.specs.Prelude.{◌≡◌, ℕ, ◌<◌, Err, IfOk, IsTrue, false, length, map};
+ghost use Rattle.std.specs.Prelude.{◌<◌, ◌≡◌, Err, false, IfOk, IsTrue, length, map, ℕ};
 ghost use Rattle.msc_chart.specs.Orders.{wired};
 ghost use Rattle.msc_chart.specs.Runs.{HasNoMerge};
-ghost use Rattle.msc_gather.specs.declared.fault.GatherFault.TheVariants.{NoMerge};
 ghost use Rattle.msc_gather.specs.Gathering.{IsGathered};
 ghost use Rattle.msc_gather.specs.Marks.{is_marked};
+ghost use Rattle.msc_gather.specs.declared.fault.GatherFault.TheVariants.{NoMerge};
 
 use crate::fault::GatherFault;
 use crate::laws::charts_are_seated;

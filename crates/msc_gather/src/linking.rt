@@ -1,13 +1,14 @@
 //! The link of each event: the last of what crosses to it from another log.
 
-ghost use Rattle.std.specs.Prelude.{◌≡◌, ℕ, ◌<◌, ◌++◌, ◌∷◌, [], false, IfOk, IsTrue, List, length, map};
 ghost use Rattle.std.specs.List.{concat};
-ghost use Rattle.msc_chart.specs.Lists.{IsOnce, occurs};
+ghost use Rattle.std.specs.Prelude.{◌++◌, ◌<◌, ◌∷◌, ◌≡◌, [], false, IfOk, IsTrue, length, List};
+ghost use Rattle.std.specs.Prelude.{ℕ};
 ghost use Rattle.msc_chart.specs.Charts.{is_local};
+ghost use Rattle.msc_chart.specs.Lists.{IsOnce, occurs};
 ghost use Rattle.msc_chart.specs.Orders.{queue};
 ghost use Rattle.msc_chart.specs.Wirings.{size, wired_by};
 ghost use Rattle.msc_gather.specs.Heads.{IsLink};
-ghost use Rattle.msc_gather.specs.Links.{AreLinks, HoldsTaken};
+ghost use Rattle.msc_gather.specs.Held.{events_of, HasLinks, HasLogs, HasMarks, TookFrom};
 ghost use Rattle.msc_gather.specs.Marks.{AreMarks};
 ghost use Rattle.msc_gather.specs.Schedule.{AreLogs, IsSeated};
 
@@ -17,7 +18,7 @@ use std::alloc::{AllocError, Global};
 
 /// The events of all logs, one log after the other.
 fn joined(alloc: Global, logs: &[Vec<Event>]) -> Result<Vec<Event>, AllocError>
-    ensures { IfOk result (λ all. all.items ≡ concat (map (λ v. v.items) logs.now)) }
+    ensures { IfOk result (λ all. all.items ≡ concat (events_of logs.now)) }
 {
     let mut all = Vec::new(alloc);
     for log in logs {
@@ -37,7 +38,7 @@ struct Taken {
 impl Taken {
     /// Before any event.
     fn start(alloc: Global, w: &Wiring) -> Result<Taken, AllocError>
-        ensures { IfOk result (λ t. HoldsTaken (wired_by w.now) [] t.before.items t.last.items) }
+        ensures { IfOk result (λ t. TookFrom w.now [] t) }
     {
         Ok(Taken {
             last: vec![in alloc; None; w.queue_count() as usize]?,
@@ -51,10 +52,8 @@ impl Taken {
         requires long { length self.old.before.items ≡ size w.now }
         requires queues { (e : ℕ) → e < size w.now → is_local w.now.chart.now.events e ≡ false
             → queue (wired_by w.now) e < length self.old.last.items }
-        ensures { (list : List ℕ) → occurs list r ≡ false
-            → HoldsTaken (wired_by w.now) list self.old.before.items self.old.last.items
-            → HoldsTaken (wired_by w.now)
-            (list ++ r ∷ []) self.new.before.items self.new.last.items }
+        ensures { (list : List ℕ) → occurs list r ≡ false → TookFrom w.now list self.old
+            → TookFrom w.now (list ++ r ∷ []) self.new }
     {
         ends_share_queues();
         w.chart.accepted();
@@ -71,8 +70,7 @@ impl Taken {
     fn of(alloc: Global, w: &Wiring, events: &[Event]) -> Result<Taken, AllocError>
         requires known { (e : ℕ) → IsTrue (occurs events.now e) → e < size w.now }
         requires once { IsOnce events.now }
-        ensures { IfOk result (λ t. HoldsTaken
-            (wired_by w.now) events.now t.before.items t.last.items) }
+        ensures { IfOk result (λ t. TookFrom w.now events.now t) }
     {
         let mut taken = Taken::start(alloc, w)?;
         for r in events {
@@ -90,8 +88,7 @@ impl Taken {
             → queue (wired_by w.now) e < length self.now.last.items }
         ensures { (logs : List (List ℕ)) → IsSeated (wired_by w.now) (length logs)
             → AreLogs (wired_by w.now) (length logs) logs → AreMarks (wired_by w.now) logs marks.now
-            → HoldsTaken (wired_by w.now) (concat logs) self.now.before.items self.now.last.items
-            → IsLink (wired_by w.now) logs x result }
+            → TookFrom w.now (concat logs) self.now → IsLink (wired_by w.now) logs x result }
     {
         if w.chart.is_local(x) {
             return None;
@@ -115,10 +112,9 @@ pub fn links_of(
     marks: &[bool],
 ) -> Result<Vec<Option<Event>>, AllocError>
     requires seated { IsSeated (wired_by w.now) (length logs.now) }
-    requires logs { AreLogs (wired_by w.now) (length logs.now) (map (λ v. v.items) logs.now) }
-    requires marks { AreMarks (wired_by w.now) (map (λ v. v.items) logs.now) marks.now }
-    ensures { IfOk result (λ links. AreLinks (wired_by w.now) (map
-        (λ v. v.items) logs.now) links.items) }
+    requires logs { HasLogs w.now logs.now }
+    requires marks { HasMarks w.now logs.now marks.now }
+    ensures { IfOk result (λ links. HasLinks w.now logs.now links.items) }
 {
     let events = joined(alloc, logs)?;
     let taken = Taken::of(alloc, w, &events)?;

@@ -1,13 +1,14 @@
 //! The events of logs, marked: each on its line and once, a controlled event after all that is
 //! drawn before it, an input with its output.
 
-ghost use Rattle.std.specs.Prelude.{◌≡◌, ℕ, ◌<◌, ◌≤◌, ◌↔◌, ◌^◌, [], Err, IfOk, IsTrue, OnOk, get_or, length, map};
+ghost use Rattle.std.specs.Prelude.{◌<◌, ◌^◌, ◌↔◌, ◌≡◌, ◌≤◌, [], Err, get_or, IfOk, IsTrue};
+ghost use Rattle.std.specs.Prelude.{length, OnOk, ℕ};
 ghost use Rattle.msc_chart.specs.Wirings.{size, wired_by};
+ghost use Rattle.msc_gather.specs.Held.{events_of, HasLineLogs, HasLogs, HasMarks};
+ghost use Rattle.msc_gather.specs.Marks.{AreMarkedBeside, HasOutput, IsFirstOpen, IsLineFrom};
+ghost use Rattle.msc_gather.specs.Marks.{IsLineLog, IsUnmarked, MayBeMarked};
+ghost use Rattle.msc_gather.specs.Schedule.{IsSeated};
 ghost use Rattle.msc_gather.specs.declared.fault.GatherFault.TheVariants.{NoMerge};
-ghost use Rattle.msc_gather.specs.Marks.{AreLineLogs, AreMarkedBeside, AreMarkedTo, AreMarks};
-ghost use Rattle.msc_gather.specs.Marks.{HasOutput, IsFirstOpen, IsLineFrom, IsLineLog, IsUnmarked};
-ghost use Rattle.msc_gather.specs.Marks.{MayBeMarked};
-ghost use Rattle.msc_gather.specs.Schedule.{AreLogs, IsSeated};
 
 use crate::fault::GatherFault;
 use msc_chart::{Event, Wiring};
@@ -16,7 +17,7 @@ use std::alloc::Global;
 /// The log of instance `i`.
 pub fn log_at(logs: &[Vec<Event>], i: u32) -> &[Event]
     requires { i < length logs.now }
-    ensures { result.now ≡ get_or (map (λ v. v.items) logs.now) i [] }
+    ensures { result.now ≡ get_or (events_of logs.now) i [] }
 {
     logs[i as usize].as_slice()
 }
@@ -87,12 +88,9 @@ fn mark_log(w: &Wiring, i: u32, log: &[Event], marks: &mut [bool]) -> bool
 fn marks_of_lines(alloc: Global, w: &Wiring, logs: &[Vec<Event>]) -> Result<Vec<bool>, GatherFault>
     requires seated { IsSeated (wired_by w.now) (length logs.now) }
     requires many { length logs.now ≡ length w.now.chart.now.instances }
-    ensures logs { OnOk result (AreLineLogs (wired_by w.now) (length logs.now) (map
-        (λ v. v.items) logs.now)) }
-    ensures marks { IfOk result (λ marks. AreMarks (wired_by w.now) (map
-        (λ v. v.items) logs.now) marks.items) }
-    ensures strange { result ≡ Err NoMerge
-        → AreLineLogs (wired_by w.now) (length logs.now) (map (λ v. v.items) logs.now) → ⊥ }
+    ensures logs { OnOk result (HasLineLogs w.now logs.now) }
+    ensures marks { IfOk result (λ marks. HasMarks w.now logs.now marks.items) }
+    ensures strange { result ≡ Err NoMerge → HasLineLogs w.now logs.now → ⊥ }
 {
     let instances = w.chart.instances();
     let mut marks = vec![in alloc; false; w.chart.events() as usize]?;
@@ -133,12 +131,9 @@ fn have_outputs(w: &Wiring, marks: &[bool]) -> bool
 pub fn marks_of(alloc: Global, w: &Wiring, logs: &[Vec<Event>]) -> Result<Vec<bool>, GatherFault>
     requires seated { IsSeated (wired_by w.now) (length logs.now) }
     requires many { length logs.now ≡ length w.now.chart.now.instances }
-    ensures logs { OnOk result (AreLogs (wired_by w.now) (length logs.now) (map
-        (λ v. v.items) logs.now)) }
-    ensures marks { IfOk result (λ marks. AreMarks (wired_by w.now) (map
-        (λ v. v.items) logs.now) marks.items) }
-    ensures strange { result ≡ Err NoMerge
-        → AreLogs (wired_by w.now) (length logs.now) (map (λ v. v.items) logs.now) → ⊥ }
+    ensures logs { OnOk result (HasLogs w.now logs.now) }
+    ensures marks { IfOk result (λ marks. HasMarks w.now logs.now marks.items) }
+    ensures strange { result ≡ Err NoMerge → HasLogs w.now logs.now → ⊥ }
 {
     let marks = marks_of_lines(alloc, w, logs)?;
     if !have_outputs(w, &marks) {

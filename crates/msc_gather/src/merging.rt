@@ -1,11 +1,11 @@
 //! The least run of logs, by one head for each log and one link for each event.
 
-ghost use Rattle.std.specs.Prelude.{◌≡◌, ℕ, ◌+◌, ◌++◌, ◌∷◌, ◌<◌, [], IfNone, IfOk, IfSome, None, OnOk};
-ghost use Rattle.std.specs.Prelude.{Some, length, map, min};
-ghost use Rattle.msc_chart.specs.Wirings.{size, wired_by};
-ghost use Rattle.msc_gather.specs.Links.{AreLinks};
-ghost use Rattle.msc_gather.specs.Merges.{IsMerging, MayFollowOn};
-ghost use Rattle.msc_gather.specs.Schedule.{AreLogs, FollowsLeast, IsSeated, MayFollow};
+ghost use Rattle.std.specs.Prelude.{◌++◌, ◌+◌, ◌<◌, ◌∷◌, ◌≡◌, [], IfNone, IfOk, IfSome, length};
+ghost use Rattle.std.specs.Prelude.{min, None, OnOk, Some, ℕ};
+ghost use Rattle.msc_chart.specs.Wirings.{wired_by};
+ghost use Rattle.msc_gather.specs.Held.{GoesOn, HasLinks, HasLogs, HoldsMerge, MayGoOn};
+ghost use Rattle.msc_gather.specs.Held.{MayGoOnAt};
+ghost use Rattle.msc_gather.specs.Schedule.{IsSeated};
 
 use crate::marking::log_at;
 use msc_chart::{Event, Wiring};
@@ -44,8 +44,7 @@ fn place_after(log: &[Event], k: usize) -> usize
 impl Merge {
     /// No event yet.
     fn start(alloc: Global, w: &Wiring, logs: &[Vec<Event>]) -> Result<Merge, AllocError>
-        ensures { IfOk result (λ m. IsMerging (wired_by w.now) (map
-            (λ v. v.items) logs.now) m.past.items m.heads.items m.done.items) }
+        ensures { IfOk result (λ m. HoldsMerge w.now logs.now m) }
     {
         Ok(Merge {
             past: Vec::new(alloc),
@@ -63,15 +62,12 @@ impl Merge {
         i: u32,
     ) -> Option<Event>
         requires seated { IsSeated (wired_by w.now) (length logs.now) }
-        requires logs { AreLogs (wired_by w.now) (length logs.now) (map (λ v. v.items) logs.now) }
-        requires links { AreLinks (wired_by w.now) (map (λ v. v.items) logs.now) links.now }
-        requires merging { IsMerging (wired_by w.now) (map
-            (λ v. v.items) logs.now) self.now.past.items self.now.heads.items self.now.done.items }
+        requires logs { HasLogs w.now logs.now }
+        requires links { HasLinks w.now logs.now links.now }
+        requires merging { HoldsMerge w.now logs.now self.now }
         requires i { i < length logs.now }
-        ensures some { IfSome result (λ x. MayFollowOn (wired_by w.now) (map
-            (λ v. v.items) logs.now) self.now.past.items i x) }
-        ensures least { (x : ℕ)
-            → MayFollowOn (wired_by w.now) (map (λ v. v.items) logs.now) self.now.past.items i x → result ≡ Some x }
+        ensures some { IfSome result (λ x. MayGoOnAt w.now logs.now self.now i x) }
+        ensures least { (x : ℕ) → MayGoOnAt w.now logs.now self.now i x → result ≡ Some x }
     {
         let log = log_at(logs, i);
         let k = self.heads[i as usize];
@@ -88,15 +84,12 @@ impl Merge {
     /// The least event that may follow.
     fn next(&self, w: &Wiring, logs: &[Vec<Event>], links: &[Option<Event>]) -> Option<Event>
         requires seated { IsSeated (wired_by w.now) (length logs.now) }
-        requires logs { AreLogs (wired_by w.now) (length logs.now) (map (λ v. v.items) logs.now) }
-        requires links { AreLinks (wired_by w.now) (map (λ v. v.items) logs.now) links.now }
-        requires merging { IsMerging (wired_by w.now) (map
-            (λ v. v.items) logs.now) self.now.past.items self.now.heads.items self.now.done.items }
+        requires logs { HasLogs w.now logs.now }
+        requires links { HasLinks w.now logs.now links.now }
+        requires merging { HoldsMerge w.now logs.now self.now }
         requires few { length logs.now ≡ length w.now.chart.now.instances }
-        ensures some { IfSome result (λ x. FollowsLeast (wired_by w.now) (map
-            (λ v. v.items) logs.now) self.now.past.items x) }
-        ensures none { IfNone result ((x : ℕ)
-            → MayFollow (wired_by w.now) (map (λ v. v.items) logs.now) self.now.past.items x → ⊥) }
+        ensures some { IfSome result (λ x. GoesOn w.now logs.now self.now x) }
+        ensures none { IfNone result ((x : ℕ) → MayGoOn w.now logs.now self.now x → ⊥) }
     {
         let mut best = None;
         for i in 0..w.chart.instances() {
@@ -108,13 +101,10 @@ impl Merge {
     /// Event `x` follows.
     fn follow(&mut self, w: &Wiring, logs: &[Vec<Event>], x: Event) -> Result<(), AllocError>
         requires seated { IsSeated (wired_by w.now) (length logs.now) }
-        requires logs { AreLogs (wired_by w.now) (length logs.now) (map (λ v. v.items) logs.now) }
-        requires merging { IsMerging (wired_by w.now) (map
-            (λ v. v.items) logs.now) self.old.past.items self.old.heads.items self.old.done.items }
-        requires follows { FollowsLeast (wired_by w.now) (map
-            (λ v. v.items) logs.now) self.old.past.items x }
-        ensures merging { OnOk result (IsMerging (wired_by w.now) (map
-            (λ v. v.items) logs.now) self.new.past.items self.new.heads.items self.new.done.items) }
+        requires logs { HasLogs w.now logs.now }
+        requires merging { HoldsMerge w.now logs.now self.old }
+        requires follows { GoesOn w.now logs.now self.old x }
+        ensures merging { OnOk result (HoldsMerge w.now logs.now self.new) }
         ensures past { OnOk result (self.new.past.items ≡ self.old.past.items ++ x ∷ []) }
     {
         let i = w.chart.instance_of(x);
@@ -134,13 +124,11 @@ pub fn merged(
     links: &[Option<Event>],
 ) -> Result<Merge, AllocError>
     requires seated { IsSeated (wired_by w.now) (length logs.now) }
-    requires logs { AreLogs (wired_by w.now) (length logs.now) (map (λ v. v.items) logs.now) }
-    requires links { AreLinks (wired_by w.now) (map (λ v. v.items) logs.now) links.now }
+    requires logs { HasLogs w.now logs.now }
+    requires links { HasLinks w.now logs.now links.now }
     requires few { length logs.now ≡ length w.now.chart.now.instances }
-    ensures merging { IfOk result (λ m. IsMerging (wired_by w.now) (map
-        (λ v. v.items) logs.now) m.past.items m.heads.items m.done.items) }
-    ensures end { IfOk result (λ m. (x : ℕ)
-        → MayFollow (wired_by w.now) (map (λ v. v.items) logs.now) m.past.items x → ⊥) }
+    ensures merging { IfOk result (λ m. HoldsMerge w.now logs.now m) }
+    ensures end { IfOk result (λ m. (x : ℕ) → MayGoOn w.now logs.now m x → ⊥) }
 {
     let mut merge = Merge::start(alloc, w, logs)?;
     while let Some(x) = merge.next(w, logs, links) {
