@@ -2,11 +2,11 @@
 //! calls one to rest its own proof on the law. Each law holds under each architecture, and those
 //! that speak of what is in a chart hold of every accepted chart.
 
+ghost use Rattle.msc_chart.specs.Drawings.{IsAccepted};
 ghost use Rattle.msc_execution.specs.ClockLaws.{ClocksAreBounded, EveryExecutionHasAMerge};
 ghost use Rattle.msc_execution.specs.ClockLaws.{EveryExecutionIsARun, PlaceClocksAreBounded};
 ghost use Rattle.msc_execution.specs.Fits.{InletsBringOwn, LogsKeepQuotas, OutputsHaveOutlets};
 ghost use Rattle.msc_execution.specs.Fits.{SendersAreRanked, WiringGrows, WiringsFit};
-ghost use Rattle.msc_chart.specs.Drawings.{IsAccepted};
 ghost use Rattle.msc_execution.specs.Samples.{TheSampleIsAnExecution, TheSampleIsSorted, two};
 ghost use Rattle.msc_execution.specs.Settling.{FinishedExecutionsLeaveNothing, RunsHoldQueues};
 ghost use Rattle.msc_execution.specs.Settling.{SettledRunsAreExecutions};

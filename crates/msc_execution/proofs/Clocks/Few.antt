@@ -11,10 +11,10 @@ use Rattle.msc_chart.specs.Orders.{wired}
 use Rattle.msc_chart.proofs.Drawn.{output_not_local}
 use Rattle.msc_execution.specs.Clocks.{Places}
 use Rattle.msc_execution.specs.Timed.{IsTimed, all_puts}
-use Rattle.msc_execution.proofs.Lists.Words.{Apart, passes, unmapped, once_filter, once_map}
+use Rattle.msc_execution.proofs.Lists.Words.{passes, unmapped, once_filter, once_map}
 use Rattle.msc_execution.proofs.Lists.Ranges.{range_has}
 use Rattle.msc_execution.proofs.Wiring.Fitted.{pigeons}
-use Rattle.msc_execution.proofs.Sorting.{apart_of_once, Apart-concat, of_concat}
+use Rattle.msc_gather.proofs.Apart.{Apart, apart_of_once, Apart-concat, of_concat}
 
 module _ (queues : Queues) (d : Drawing) (accepted : IsAccepted d) (logs : List (List ℕ))
     (places : Places)

@@ -4,12 +4,8 @@ use Rattle.std.proofs.lemmas.Bool.{eq-eqb, eqb-true, or_left, or_right, or_cases
 use Rattle.msc_chart.specs.Lists.{occurs, Steps}
 use Rattle.msc_chart.specs.Drawings.{Drawing}
 use Rattle.msc_chart.proofs.ListLemmas.{by_test, clash, occurs-append, occurs-left, occurs-push}
+use Rattle.msc_gather.proofs.Apart.{Apart}
 use Rattle.msc_execution.specs.Logs.{MayBeLogged}
-
--- no number stands twice, told from the head
-abbrev pub Apart : List ℕ → Type 0
-Apart [] = Unit {0}
-Apart (x ∷ xs) = (occurs xs x ≡ false) × Apart xs
 
 -- what occurs is the head or in the tail
 pub head_or_tail : (x : ℕ) (xs : List ℕ) (e : ℕ) → occurs (x ∷ xs) e ≡ true

@@ -74,8 +74,7 @@ pub record IsInletOf (queues : Queues) (d : Drawing) (id : ℕ → QueueId) (c :
   pub got : all_messages n.got ≡ received queues d q (c.logs i) ++ strange i q
 
 -- The ends of one queue, taken out of all that came back: the outlets of its senders in their
--- order,
--- which are all its outlets, and one inlet, of the instance that takes from it.
+-- order, which are all its outlets, and one inlet, of the instance that takes from it.
 pub record AreEndsOf (queues : Queues) (d : Drawing) (id : ℕ → QueueId) (c : Came)
     (strange : ℕ → ℕ → List ℕ) (q : ℕ) : Type 0 where
   pub outlets : AllZip (IsOutletOf queues d id c q) (senders_in queues d q)
@@ -131,8 +130,7 @@ pub record AreSettled (queues : Queues) (d : Drawing) (c : Came)
       × IsSettledOf inlet (of_queue q (all_outlets c (length d.instances))) s
 
 -- What a queue's inlet got is what its receiver logged as taken, and of each sender what the
--- receiver
--- logged of it.
+-- receiver logged of it.
 pub record IsTold (queues : Queues) (d : Drawing) (c : Came) (q : ℕ) (r : ℕ)
     (got : List Entry) : Type 0 where
   pub all : all_messages got ≡ received queues d q (c.logs r)

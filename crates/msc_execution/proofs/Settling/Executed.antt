@@ -23,7 +23,8 @@ use Rattle.msc_execution.specs.Logs.{Begins, IsWholeLog, sent, received, receive
 use Rattle.msc_execution.specs.Running.{EndsAs}
 use Rattle.msc_execution.specs.Executions.{Outcome, log_at, end_at, placed_messages, AreAccounts, IsSettledFrom, IsExecution, AreFinished, IsFinished}
 use Rattle.msc_execution.specs.Settling.{of_queue, FinishedExecutionsLeaveNothing}
-use Rattle.msc_execution.proofs.Lists.Words.{Apart, at_head, in_right, kept, once_apart}
+use Rattle.msc_gather.proofs.Apart.{Apart}
+use Rattle.msc_execution.proofs.Lists.Words.{at_head, in_right, kept, once_apart}
 use Rattle.msc_execution.proofs.Wiring.Receivers.{the_receiver}
 use Rattle.msc_execution.proofs.Wiring.Logged.{sent_is, sent_once, taken_by}
 use Rattle.msc_execution.proofs.Settling.Came.{came_of, all_outlets, all_inlets, HaveRun, HaveEnded, AreSettled}

@@ -9,7 +9,8 @@ use Rattle.msc_fifo.specs.declared.entry.Entry.{Entry}
 use Rattle.msc_fifo.specs.declared.entry.Entry.TheVariants.{Message, Ended}
 use Rattle.msc_fifo.specs.Entries.{messages_of}
 use Rattle.msc_execution.specs.Growth.{all_messages}
-use Rattle.msc_execution.proofs.Lists.Words.{Apart, head_or_tail, at_head, in_tail, in_none, fails}
+use Rattle.msc_gather.proofs.Apart.{Apart}
+use Rattle.msc_execution.proofs.Lists.Words.{head_or_tail, at_head, in_tail, in_none, fails}
 use Rattle.msc_execution.proofs.Lists.Ranges.{count_more}
 
 -- a message of the sender is among its messages

@@ -22,7 +22,8 @@ use Rattle.msc_execution.specs.Logs.{IsLogOf, Reading, sent, received}
 use Rattle.msc_execution.specs.Growth.{HasTaken, all_messages}
 use Rattle.msc_execution.specs.Running.{Left, EndsAs, IsNothingStrange, IsStrangeAlone}
 use Rattle.msc_execution.specs.Settling.{of_queue, IsSettledOf}
-use Rattle.msc_execution.proofs.Lists.Words.{Apart, head_or_tail, at_head, in_tail, in_none, passes, fails, once_left, once_apart}
+use Rattle.msc_gather.proofs.Apart.{Apart}
+use Rattle.msc_execution.proofs.Lists.Words.{head_or_tail, at_head, in_tail, in_none, passes, fails, once_left, once_apart}
 use Rattle.msc_execution.proofs.Lists.Ranges.{in_range}
 use Rattle.msc_execution.proofs.Wiring.Logged.{IsOf, sent_is, sent_once, taken_by}
 use Rattle.msc_execution.proofs.Settling.Came.{Came, left_of, all_outlets, all_inlets, HaveEnded, AreEndsOf, AreAccountsOfLogs, AreSettled, IsTold}

@@ -15,7 +15,8 @@ use Rattle.msc_fifo.specs.Ends.{new_outlet, new_inlet}
 use Rattle.msc_execution.specs.Roles.{NumberedOutlet, EndLists, role, wired_ends, queues_in, takes_from, sent_queues, taken_queues, rank_of, quota_of, IsFit}
 use Rattle.msc_execution.specs.Logs.{sent}
 use Rattle.msc_execution.specs.Fits.{WiringsFit, OutputsHaveOutlets, LogsKeepQuotas, InletsBringOwn}
-use Rattle.msc_execution.proofs.Lists.Words.{Apart, head_or_tail, at_head, in_tail, in_right, passes, kept}
+use Rattle.msc_gather.proofs.Apart.{Apart}
+use Rattle.msc_execution.proofs.Lists.Words.{head_or_tail, at_head, in_tail, in_right, passes, kept}
 use Rattle.msc_execution.proofs.Wiring.Receivers.{messages_has, sent_has, the_receiver}
 use Rattle.msc_execution.proofs.Wiring.Logged.{sent_is, sent_once}
 
