@@ -1,0 +1,3 @@
+pub mod Occurs
+pub mod Growing
+pub mod Stepped
