@@ -1,9 +1,10 @@
 -- What occurs in a list.
-use Rattle.std.proofs.Common.{◌≡◌, ℕ, Bool, true, false, cond, ◌||◌, inl, inr, eqb, List, [], ◌∷◌, ◌++◌, filter, refl, sym, ap, subst, ◌∙◌}
-use Rattle.std.proofs.lemmas.Bool.{eqb-true, eq-eqb, or_cases, or_left, or_right, or_parts}
+use Rattle.std.proofs.Common.{◌≡◌, ◌<◌, ℕ, Bool, true, false, cond, ◌||◌, inl, inr, eqb, List, [], ◌∷◌, ◌++◌, filter, length, get_or, set, refl, sym, ap, subst, ◌∙◌, arith, get_or-set_other}
+use Rattle.std.proofs.lemmas.Bool.{eqb-true, eq-eqb, or_cases, or_left, or_right, or_parts, cases_eq}
+use Rattle.std.proofs.lemmas.Grind.{get_or-set_at}
 use Rattle.std.proofs.lemmas.List.{append-nil}
 use Rattle.msc_chart.specs.Lists.{occurs, until}
-use Rattle.msc_chart.proofs.ListLemmas.{clash, by_test}
+use Rattle.msc_chart.proofs.ListLemmas.{clash, by_test, occurs-push, occurs_other}
 
 pub occurs-head : (xs : List ℕ) (e : ℕ) → occurs (e ∷ xs) e ≡ true
 unfolding occurs
@@ -54,3 +55,18 @@ into_filter p (x ∷ xs) e h k =
           let rest = into_filter p xs e later k in
           by_test (p x) (λ yes. rw yes (or_right (eqb x e) (occurs (filter p xs) e) rest)) (λ no. rw no rest)
     ]
+
+pub occurs-nil : (e : ℕ) → occurs [] e ≡ false
+unfolding occurs
+occurs-nil e = refl
+
+-- the marks of a list with one number more
+pub marks_more : (marks : List Bool) (xs : List ℕ) (x e : ℕ) {ys : List ℕ} → length marks ≡ 3072 → e < 3072
+    → ((k : ℕ) → k < 3072 → get_or marks k false ≡ occurs xs k) → xs ++ x ∷ [] ≡ ys
+    → get_or (set marks x true) e false ≡ occurs ys e
+marks_more marks xs x e long below marked is =
+    subst (λ l. get_or (set marks x true) e false ≡ occurs l e) is
+    (elim (cases_eq e x) [
+      | inl same ↦ get_or-set_at marks x e true false same (omega arith) ∙ sym (ap (λ z. occurs (xs ++ x ∷ []) z) same ∙ occurs-push xs x)
+      | inr other ↦ get_or-set_other marks x e true false other ∙ marked e below ∙ sym (occurs_other xs x e other)
+    ])

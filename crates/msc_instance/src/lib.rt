@@ -6,8 +6,10 @@
 //! architecture numbers them. What an execution is stands in `msc_execution`.
 #![tactic(auto)]
 
+mod active;
 mod ends;
 mod gate;
+mod journal;
 
 pub use ends::{InstanceEnd, InstanceEnds};
 pub use gate::{AlwaysOpen, Gate};
