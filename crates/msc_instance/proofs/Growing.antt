@@ -64,10 +64,10 @@ pub map_push : {B : Type 0} (f : ℕ → B) (xs : List ℕ) (x : ℕ) → map f 
 map_push f [] x = refl
 map_push f (y ∷ xs) x = ap (λ l. f y ∷ l) (map_push f xs x)
 
-filter_yes : (p : ℕ → Bool) (xs : List ℕ) (e : ℕ) → p e ≡ true → filter p (xs ++ e ∷ []) ≡ filter p xs ++ e ∷ []
+pub filter_yes : (p : ℕ → Bool) (xs : List ℕ) (e : ℕ) → p e ≡ true → filter p (xs ++ e ∷ []) ≡ filter p xs ++ e ∷ []
 filter_yes p xs e h = filter-append p xs (e ∷ []) ∙ ap (λ (b : Bool). filter p xs ++ cond b (e ∷ []) []) h
 
-filter_no : (p : ℕ → Bool) (xs : List ℕ) (e : ℕ) → p e ≡ false → filter p (xs ++ e ∷ []) ≡ filter p xs
+pub filter_no : (p : ℕ → Bool) (xs : List ℕ) (e : ℕ) → p e ≡ false → filter p (xs ++ e ∷ []) ≡ filter p xs
 filter_no p xs e h = filter-append p xs (e ∷ []) ∙ ap (λ (b : Bool). filter p xs ++ cond b (e ∷ []) []) h ∙ append-nil (filter p xs)
 
 -- the outputs to a queue and the inputs from it, with one event more

@@ -1,3 +1,5 @@
 pub mod Occurs
 pub mod Growing
 pub mod Stepped
+pub mod Zipped
+pub mod Logs

@@ -10,6 +10,10 @@ mod active;
 mod ends;
 mod gate;
 mod journal;
+mod line;
+mod outlets;
+mod round;
+mod taking;
 
 pub use ends::{InstanceEnd, InstanceEnds};
 pub use gate::{AlwaysOpen, Gate};
