@@ -3,3 +3,5 @@ pub mod Growing
 pub mod Stepped
 pub mod Zipped
 pub mod Logs
+pub mod Finding
+pub mod Kept
