@@ -5,3 +5,4 @@ pub mod Zipped
 pub mod Logs
 pub mod Finding
 pub mod Kept
+pub mod Sound
