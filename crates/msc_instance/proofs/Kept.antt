@@ -226,7 +226,7 @@ begun_nothing r first shut outs ins log clock k n new lt got begun =
     }
 
 -- the number at a place is one of the numbers
-number_there : (ins : List NumberedInlet) (k : ℕ) (n : NumberedInlet) → k < length ins → occurs (map inlet_number ins) (get_or ins k n).0 ≡ true
+pub number_there : (ins : List NumberedInlet) (k : ℕ) (n : NumberedInlet) → k < length ins → occurs (map inlet_number ins) (get_or ins k n).0 ≡ true
 number_there [] k n lt = absurd (omega arith)
 number_there (x ∷ ins) zero n lt = at_head x.0 (map inlet_number ins)
 number_there (x ∷ ins) (suc k) n lt = in_tail x.0 (map inlet_number ins) (get_or ins k n).0 (number_there ins k n (omega arith))

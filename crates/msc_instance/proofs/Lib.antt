@@ -6,3 +6,4 @@ pub mod Logs
 pub mod Finding
 pub mod Kept
 pub mod Sound
+pub mod Takes
