@@ -7,3 +7,4 @@ pub mod Finding
 pub mod Kept
 pub mod Sound
 pub mod Takes
+pub mod Rounds

@@ -7,7 +7,7 @@ use Rattle.msc_chart.specs.Charts.{line, message, before, is_output, is_input, i
 use Rattle.msc_chart.specs.Drawings.{Drawing}
 use Rattle.msc_chart.specs.Orders.{queue_of}
 use Rattle.msc_chart.proofs.ListLemmas.{clash, by_test}
-use Rattle.msc_chart.proofs.Drawn.{output_controlled, local_parts, controlled_or_input, input_not_local}
+use Rattle.msc_chart.proofs.Drawn.{local_parts, controlled_or_input, input_not_local, output_or_input, controlled_parts, controlled_no_input}
 use Rattle.msc_fifo.specs.Ends.{HasRoom}
 use Rattle.msc_execution.specs.Roles.{NumberedOutlet}
 use Rattle.msc_execution.specs.Logs.{IsLogOf, line_events}
@@ -108,3 +108,13 @@ local_due d e local =
       | inl yes' ↦ yes'
       | inr input ↦ clash local (input_not_local d.events e input)
     ]
+
+-- a controlled event is an output or a local event
+pub due_local : (d : Drawing) (e : ℕ) → is_controlled d.events e ≡ true → is_output d.events e ≡ false → is_local d.events e ≡ true
+due_local d e due none =
+    by_test (is_local d.events e)
+    (λ local. local)
+    (λ other. elim (output_or_input d.events e (controlled_parts d.events e due).0 other) [
+      | inl output ↦ clash output none
+      | inr input ↦ absurd (controlled_no_input d.events e due input)
+    ])

@@ -13,8 +13,11 @@ mod journal;
 mod line;
 mod outlets;
 mod round;
+mod running;
+mod sending;
 mod taking;
 
 pub use ends::{InstanceEnd, InstanceEnds};
 pub use gate::{AlwaysOpen, Gate};
 pub use msc_execution::End;
+pub use running::run_instance;
