@@ -8,3 +8,4 @@ pub mod Kept
 pub mod Sound
 pub mod Takes
 pub mod Rounds
+pub mod Ending

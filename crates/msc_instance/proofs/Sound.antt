@@ -1,6 +1,7 @@
 -- Each step of an instance keeps it sound.
-use Rattle.std.proofs.Common.{◌≡◌, ◌≢◌, ℕ, ◌+◌, ◌-◌, ◌<◌, ◌≤◌, Bool, true, false, List, [], ◌∷◌, ◌++◌, map, length, set, get_or, refl, sym, ap, ◌∙◌, subst, arith, inl, inr, vec_capacity}
+use Rattle.std.proofs.Common.{◌≡◌, ◌≢◌, ℕ, ◌+◌, ◌-◌, ◌<◌, ◌≤◌, Bool, true, false, List, [], ◌∷◌, ◌++◌, map, length, set, get_or, refl, sym, ap, ◌∙◌, subst, arith, inl, inr, vec_capacity, Vec, Global}
 use Rattle.std.proofs.lemmas.Bool.{cases_lt}
+use Rattle.std.specs.List.{AllZip}
 use Rattle.std.specs.Vec.{with_item}
 use Rattle.msc_chart.specs.Lists.{occurs}
 use Rattle.msc_chart.specs.Charts.{line, message, before, is_output, is_input, is_local, is_controlled}
@@ -15,9 +16,9 @@ use Rattle.msc_instance.specs.declared.active.Active.{Active}
 use Rattle.msc_instance.specs.declared.active.Post.{Post}
 use Rattle.msc_instance.specs.declared.journal.Journal.{Journal}
 use Rattle.msc_instance.specs.Steps.{ArePutBy, HasBegun}
-use Rattle.msc_instance.specs.Active.{IsSound, IsPost, IsNext, HasUpTo, HasPut, log_of, post_role, first_ends}
+use Rattle.msc_instance.specs.Active.{IsSound, IsPost, IsNext, HasUpTo, HasPut, IsClosedFrom, log_of, post_role, first_ends}
 use Rattle.msc_instance.proofs.Logs.{on_post, not_logged, next_moves, log_due, log_shorter, log_within, upto_push}
-use Rattle.msc_instance.proofs.Kept.{state, outlet_number, outlet_numbers, has_room, begun_sent, begun_acted}
+use Rattle.msc_instance.proofs.Kept.{state, outlet_number, outlet_numbers, has_room, begun_sent, begun_acted, begun_closed}
 
 module _ (d : Drawing) (p : Post) (a : Active) (s : IsSound d p a) where
   -- a look goes on along the line
@@ -118,3 +119,16 @@ due_local d e due none =
       | inl output ↦ clash output none
       | inr input ↦ absurd (controlled_no_input d.events e due input)
     ])
+
+-- the outlets are closed once all is done
+pub has_closed : (d : Drawing) (p : Post) (a : Active) (outs : Vec NumberedOutlet Global) → IsSound d p a → a.shut ≡ false → a.next ≡ p.end
+    → AllZip IsClosedFrom a.outlets.items outs.items → IsSound d p (record a { outlets = outs; shut = true })
+has_closed d p a outs s opened done closed = record {
+  post = s.post;
+  begun = begun_closed (post_role d p) (first_ends p) a.outlets.items outs.items a.inlets.items (log_of a) a.clock closed
+      (subst (λ b. HasBegun (post_role d p) (first_ends p) (state b a.outlets.items a.inlets.items (log_of a) a.clock)) opened s.begun);
+  next = s.next;
+  first = s.first;
+  closed = λ _. done;
+  room = s.room;
+}
