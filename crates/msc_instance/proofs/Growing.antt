@@ -187,3 +187,8 @@ clocks_ended [] (x ∷ clocks) i n h = absurd (omega arith)
 clocks_ended (g ∷ got) [] i n h = absurd (omega arith)
 clocks_ended (Message a b ∷ got) (x ∷ clocks) i n h = ap (λ l. x ∷ l) (clocks_ended got clocks i n (omega arith))
 clocks_ended (Ended a ∷ got) (x ∷ clocks) i n h = clocks_ended got clocks i n (omega arith)
+
+-- an empty log leaves the clock 0
+pub clock_nil : (d : Drawing) (f : ℕ → ℕ) → clock_along d f [] ≡ 0
+unfolding along_from
+clock_nil d f = refl

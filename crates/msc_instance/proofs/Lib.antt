@@ -9,3 +9,4 @@ pub mod Sound
 pub mod Takes
 pub mod Rounds
 pub mod Ending
+pub mod Beginning
