@@ -1,1 +1,5 @@
+-- what is promised
 pub mod Views
+-- what the code keeps
+pub mod Steps
+pub mod Active

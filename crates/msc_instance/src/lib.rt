@@ -6,9 +6,18 @@
 //! architecture numbers them. What an execution is stands in `msc_execution`.
 #![tactic(auto)]
 
+mod active;
 mod ends;
 mod gate;
+mod journal;
+mod line;
+mod outlets;
+mod round;
+mod running;
+mod sending;
+mod taking;
 
 pub use ends::{InstanceEnd, InstanceEnds};
 pub use gate::{AlwaysOpen, Gate};
 pub use msc_execution::End;
+pub use running::run_instance;
