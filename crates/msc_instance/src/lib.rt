@@ -6,8 +6,10 @@
 //! architecture numbers them. What an execution is stands in `msc_execution`.
 #![tactic(auto)]
 
+mod counting;
 mod ends;
 mod gate;
+mod wiring;
 
 pub use ends::{InstanceEnd, InstanceEnds};
 pub use gate::{AlwaysOpen, Gate};
