@@ -1,5 +1,5 @@
 -- Executions: what the instances of a chart logged and how they ended, and the settled queues.
-use Rattle.std.specs.Prelude.{◌≡◌, ◌≢◌, ℕ, ◌<◌, Bool, true, cond, List, [], ◌∷◌, ◌++◌, length, get_or, map, nat_eq, Option, IsTrue, Some, None, slice_get, vec_len}
+use Rattle.std.specs.Prelude.{◌≡◌, ◌≢◌, ℕ, ◌<◌, Bool, true, List, [], ◌∷◌, ◌++◌, length, get_or, map, Option, IsTrue, Some, None, slice_get, vec_len}
 use Rattle.msc_chart.specs.declared.queue.Queues.{Queues}
 use Rattle.msc_chart.specs.Lists.{occurs, Occurs}
 use Rattle.msc_chart.specs.Charts.{line}

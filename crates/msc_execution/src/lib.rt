@@ -9,5 +9,6 @@
 #![tactic(auto)]
 
 mod end;
+pub mod laws;
 
 pub use end::End;
