@@ -1,11 +1,11 @@
 -- What the code keeps while it makes the queues of a chart and hands out their ends.
-use Rattle.std.specs.Prelude.{◌≡◌, ℕ, ◌+◌, ◌*◌, ◌<◌, ◌&&◌, cond, List, [], ◌∷◌, ◌++◌, length, get_or, map, take, All, count_by, nat_eq, nat_lt}
+use Rattle.std.specs.Prelude.{◌≡◌, ℕ, ◌+◌, ◌*◌, ◌<◌, ◌≤◌, ◌&&◌, cond, List, [], ◌∷◌, ◌++◌, length, get_or, map, take, drop, filter, All, count_by, nat_eq, nat_lt}
 use Rattle.std.specs.List.{range_with_len}
 use Rattle.msc_chart.specs.declared.queue.Queues.{Queues}
 use Rattle.msc_chart.specs.Drawings.{Drawing, sender_of, receiver_of}
 use Rattle.msc_chart.specs.Orders.{queue_of}
 use Rattle.msc_fifo.specs.Identity.{QueueId}
-use Rattle.msc_fifo.specs.Ends.{new_outlet, new_inlet}
+use Rattle.msc_fifo.specs.Ends.{OutletState, new_outlet, new_outlets, new_inlet}
 use Rattle.msc_execution.specs.Roles.{EndLists, NumberedOutlet, NumberedInlet, role, quota_of}
 use Rattle.msc_execution.specs.Fits.{no_ends, wired_below}
 use Rattle.msc_instance.specs.declared.ends.InstanceEnds.{InstanceEnds}
@@ -50,13 +50,22 @@ inlet_for id q quotas receiver i =
 abbrev pub AreUnder : Queues → List InstanceEnds → Type 0
 AreUnder queues all = All (λ e. e.queues ≡ queues) all
 
+-- The outlets of queue q are being handed out, and the instances below n have theirs. Those that are
+-- left are for the others.
+pub record IsHandingOut (id : QueueId) (q : ℕ) (quotas : List ℕ) (old new : List InstanceEnds) (left : List OutletState) (n : ℕ) : Type 0 where
+  pub next : left ≡ new_outlets id (senders_among (take n quotas)) (filter (nat_lt 0) (drop n quotas))
+  pub given : (i : ℕ) → i < n → (ends_at new i).outlets ≡ (ends_at old i).outlets ++ outlet_for id q quotas i
+  pub waiting : (i : ℕ) → n ≤ i → (ends_at new i).outlets ≡ (ends_at old i).outlets
+  pub inlets : (i : ℕ) → (ends_at new i).inlets ≡ (ends_at old i).inlets
+  pub under : (queues : Queues) → AreUnder queues old → AreUnder queues new
+
 -- the ends of queue q were handed out: outlets to those with a quota, the inlet to the receiver
 pub record AreHandedOut (q : ℕ) (quotas : List ℕ) (receiver : ℕ) (old new : List InstanceEnds) : Type 0 where
   pub id : QueueId
   pub outlets : (i : ℕ) → i < length old → (ends_at new i).outlets ≡ (ends_at old i).outlets ++ outlet_for id q quotas i
   pub inlets : (i : ℕ) → i < length old
       → (ends_at new i).inlets ≡ (ends_at old i).inlets ++ inlet_for id q quotas receiver i
-  pub queues : (queues : Queues) → AreUnder queues old → AreUnder queues new
+  pub under : (queues : Queues) → AreUnder queues old → AreUnder queues new
 
 -- the ends of the queues below n were handed out
 pub record AreWiredBelow (queues : Queues) (d : Drawing) (n : ℕ) (all : List InstanceEnds) : Type 0 where
