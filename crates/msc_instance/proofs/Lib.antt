@@ -1,3 +1,4 @@
 pub mod Counted
 pub mod Handed
 pub mod Quotas
+pub mod Wired

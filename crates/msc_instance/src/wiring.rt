@@ -123,9 +123,11 @@ fn wire_each(
     queues_are_bounded();
     chart.accepted();
     let instances = chart.instances() as usize;
-    for q in 0..receivers.len() {
-        let quotas = &counts[q * instances..q * instances + instances];
-        wire_queue(alloc, all, q as u32, quotas, receivers[q])?;
+    let bound = Wiring { chart, queues }.queue_count();
+    for q in 0..bound {
+        let start = q as usize * instances;
+        let quotas = &counts[start..start + instances];
+        wire_queue(alloc, all, q, quotas, receivers[q as usize])?;
     }
     Ok(())
 }
