@@ -2,15 +2,19 @@
 use Rattle.std.proofs.Common.{◌≡◌, ℕ, ◌+◌, ◌<◌, ◌≤◌, ◌&&◌, Bool, true, false, cond, List, [], ◌∷◌, ◌++◌, length, get_or, map, take, refl, sym, ap, ◌∙◌, arith, nat_eq, nat_lt, Some, slice_get}
 use Rattle.std.specs.List.{range_with_len}
 use Rattle.std.proofs.lemmas.Bool.{eq-eqb, ne_eqb}
+use Rattle.std.proofs.lemmas.List.{length-map}
 use Rattle.std.proofs.lemmas.List.FromFn.{get_or-map-range_with_len}
+use Rattle.std.proofs.lemmas.Option.{slice_get_within, get_or_from_slice_get, slice_get-map}
+use Rattle.std.specs.Option.{option_map}
 use Rattle.msc_chart.specs.declared.queue.Queues.{Queues}
 use Rattle.msc_chart.specs.Drawings.{Drawing}
+use Rattle.msc_chart.specs.Orders.{queue_bound}
 use Rattle.msc_chart.specs.Laws.{sends_to, senders_in}
 use Rattle.msc_fifo.specs.Identity.{QueueId}
 use Rattle.msc_fifo.specs.NoQueue.{no_queue}
 use Rattle.msc_fifo.specs.Ends.{new_outlet, new_inlet}
-use Rattle.msc_execution.specs.Roles.{Role, EndLists, NumberedOutlet, NumberedInlet, role, quota_of, rank_of, takes_from, fresh_outlet, fresh_inlet, wired_ends}
-use Rattle.msc_execution.specs.Fits.{no_ends, wired_below, IsWiringStep, WiringGrows}
+use Rattle.msc_execution.specs.Roles.{Role, EndLists, NumberedOutlet, NumberedInlet, role, quota_of, rank_of, takes_from, fresh_outlet, fresh_inlet, wired_ends, IsWiring, IsFit}
+use Rattle.msc_execution.specs.Fits.{no_ends, wired_below, WiringsFit, WiringGrows}
 use Rattle.msc_instance.specs.declared.ends.InstanceEnds.{InstanceEnds}
 use Rattle.msc_instance.specs.Views.{ends_of}
 use Rattle.msc_instance.specs.Handing.{AreUnder, AreHandedOut, AreWiredBelow, ends_at, inlet_for, outlet_for, quotas_of, senders_among}
@@ -75,3 +79,30 @@ wired_more grows queues d q receiver quotas all new is same takes before handed 
           ∙ ap (λ l. (wired_below id r q).inlets ++ l) (inlet_is queues d q i id handed.id here receiver (takes i)) ∙ sym (step.inlets id) in
           ap (λ l. ends_from l (ends_at new i).inlets) outlets ∙ ap (λ l. ends_from (wired_below id r (q + 1)).outlets l) inlets;
     }
+
+-- before the first queue
+pub none_wired : WiringGrows → (queues : Queues) (d : Drawing) (all : List InstanceEnds) → length all ≡ length d.instances → AreUnder queues all
+    → ((i : ℕ) → ends_at all i ≡ no_ends) → AreWiredBelow queues d 0 all
+none_wired grows queues d all many under none = record {
+  many = many;
+  under = under;
+  id = λ q. no_queue;
+  each = λ i lt. none i ∙ sym (grows.none (λ q. no_queue) (role queues d i));
+}
+
+-- after the last
+pub all_wired : WiringGrows → (queues : Queues) (d : Drawing) (all : List InstanceEnds) → AreWiredBelow queues d (queue_bound queues d) all
+    → IsWiring queues d (map ends_of all)
+all_wired grows queues d all wired = record {
+  many = length-map all ends_of ∙ wired.many;
+  id = wired.id;
+  each = λ i e at.
+      let lt = slice_get_within (map ends_of all) i e at in
+      sym (get_or_from_slice_get (map ends_of all) i e no_ends at) ∙ wired.each i (omega (arith, lt, length-map all ends_of)) ∙ grows.whole wired.id (role queues d i);
+}
+
+-- and what was handed out fits
+pub all_fit : WiringsFit → (queues : Queues) (d : Drawing) (all : List InstanceEnds) → IsWiring queues d (map ends_of all)
+    → (i : ℕ) (e : InstanceEnds) → slice_get all i ≡ Some e → IsFit (role queues d i) (ends_of e)
+all_fit fits queues d all wiring i e at =
+    fits queues d (map ends_of all) i (ends_of e) wiring (slice_get-map ends_of all i ∙ ap (λ o. option_map ends_of o) at)

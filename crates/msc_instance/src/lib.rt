@@ -14,3 +14,4 @@ mod wiring;
 pub use ends::{InstanceEnd, InstanceEnds};
 pub use gate::{AlwaysOpen, Gate};
 pub use msc_execution::End;
+pub use wiring::wire;

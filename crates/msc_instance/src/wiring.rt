@@ -136,7 +136,7 @@ fn wire_each(
 /// a message, with an outlet for each sender and room for what it sends.
 pub fn wire(alloc: Global, chart: &Chart, queues: Queues) -> Result<Vec<InstanceEnds>, AllocError>
     ensures wiring { IfOk result (λ all. IsWiring queues chart.now (map ends_of all.items)) }
-    ensures architecture { IfOk result (λ all. AreUnder queues all.items) }
+    ensures architecture { IfOk result (λ all. All (λ e. e.queues ≡ queues) all.items) }
     ensures fit { IfOk result (λ all. (i : ℕ) (e : InstanceEnds) → slice_get all.items i ≡ Some e
         → IsFit (role queues chart.now i) (ends_of e)) }
 {
