@@ -2,3 +2,4 @@ pub mod Counted
 pub mod Handed
 pub mod Quotas
 pub mod Wired
+pub mod Fitted

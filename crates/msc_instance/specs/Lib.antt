@@ -2,3 +2,4 @@
 pub mod Views
 -- what the code keeps
 pub mod Handing
+pub mod Fitting

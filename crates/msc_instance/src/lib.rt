@@ -8,6 +8,7 @@
 
 mod counting;
 mod ends;
+mod fitting;
 mod gate;
 mod wiring;
 
