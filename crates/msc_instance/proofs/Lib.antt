@@ -3,3 +3,4 @@ pub mod Handed
 pub mod Quotas
 pub mod Wired
 pub mod Fitted
+pub mod TableLemmas

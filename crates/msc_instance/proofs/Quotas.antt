@@ -32,7 +32,7 @@ both_tests p f x xs =
     omega (arith, is, none))
 
 -- a test passes somewhere where its count is positive
-any_counts : (p : ℕ → Bool) (xs : List ℕ) → list_any p xs ≡ nat_lt 0 (count_by p xs)
+pub any_counts : (p : ℕ → Bool) (xs : List ℕ) → list_any p xs ≡ nat_lt 0 (count_by p xs)
 any_counts p [] = refl
 any_counts p (x ∷ xs) =
     let c = sum_by-cons (λ y. cond (p y) 1 0) x xs in

@@ -9,8 +9,18 @@ ghost use Rattle.msc_instance.specs.Views.{ends_of};
 
 use crate::ends::InstanceEnds;
 use msc_chart::laws::{events_have_queues, queue_numbers_are_bounded};
-use msc_chart::{Chart, Queues};
+use msc_chart::{Chart, Queues, Wiring};
 use msc_fifo::Outlet;
+
+/// The greatest number past all queue numbers of a chart.
+const QUEUE_LIMIT: usize = 1_024;
+
+/// A table with no message.
+fn no_counts() -> [u32; QUEUE_LIMIT]
+    ensures { (q : ℕ) → get_or result q 0 ≡ 0 }
+{
+    [0; QUEUE_LIMIT]
+}
 
 /// Counts the messages that instance `i` sends to each queue, and those that it takes from it.
 fn count_own(chart: &Chart, queues: Queues, i: u32, sent: &mut [u32], taken: &mut [u32])
@@ -76,4 +86,49 @@ fn have_room(outlets: &[(u32, Outlet)], counts: &[u32]) -> bool
         }
     }
     true
+}
+
+/// Whether the ends fit instance `i`, with empty tables for the counts of its messages.
+fn fit_counted(
+    ends: &InstanceEnds,
+    chart: &Chart,
+    i: u32,
+    sent: &mut [u32],
+    taken: &mut [u32],
+) -> bool
+    requires zero { (q : ℕ) → get_or sent.old q 0 ≡ 0 }
+    requires none { (q : ℕ) → get_or taken.old q 0 ≡ 0 }
+    requires sent { length sent.old ≡ queue_bound ends.now.queues chart.now }
+    requires taken { length taken.old ≡ queue_bound ends.now.queues chart.now }
+    ensures { IsTrue result ↔ IsFit (role ends.now.queues chart.now i) (ends_of ends.now) }
+{
+    queue_numbers_are_bounded();
+    events_have_queues();
+    chart.accepted();
+    count_own(chart, ends.queues, i, sent, taken);
+    if !are_numbered(ends.outlets.as_slice(), sent) {
+        return false;
+    }
+    if !are_numbered(ends.inlets.as_slice(), taken) {
+        return false;
+    }
+    have_room(ends.outlets.as_slice(), sent)
+}
+
+impl InstanceEnds {
+    /// Whether the ends fit instance `i` of the chart: an open outlet for each queue to which it
+    /// sends, with room for what it sends there, an inlet for each from which it takes, and no other,
+    /// ascending. It takes no memory.
+    pub fn fits(&self, chart: &Chart, i: u32) -> bool
+        ensures { IsTrue result ↔ IsFit (role self.now.queues chart.now i) (ends_of self.now) }
+    {
+        let wiring = Wiring {
+            chart,
+            queues: self.queues,
+        };
+        let bound = wiring.queue_count() as usize;
+        let mut sent = no_counts();
+        let mut taken = no_counts();
+        fit_counted(self, chart, i, &mut sent[..bound], &mut taken[..bound])
+    }
 }
