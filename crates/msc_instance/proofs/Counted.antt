@@ -1,19 +1,18 @@
 -- Tables of the messages of a chart.
-use Rattle.std.proofs.Common.{◌≡◌, ℕ, zero, suc, ◌+◌, ◌*◌, ◌<◌, ◌≤◌, Bool, true, false, cond, eqb, List, [], ◌∷◌, length, get_or, set, refl, sym, ap, ◌∙◌, inl, inr, arith, nat_eq, mul_comm}
+use Rattle.std.proofs.Common.{◌≡◌, ℕ, ◌+◌, ◌*◌, ◌<◌, ◌≤◌, Bool, true, false, cond, List, length, get_or, set, refl, sym, ap, ◌∙◌, inl, inr, arith, nat_eq, mul_comm}
 use Rattle.std.specs.Prelude.{count_by}
-use Rattle.std.specs.List.{range_with_len, sum_by}
+use Rattle.std.specs.List.{range_with_len}
 use Rattle.std.proofs.lemmas.Bool.{eq-eqb, ne_eqb, cases_eq}
 use Rattle.std.proofs.lemmas.Nat.{mul-add-lt}
 use Rattle.std.proofs.lemmas.List.{get_or-set_same, get_or-set_other, length-set, map-id}
 use Rattle.std.proofs.lemmas.List.Sums.{count_by-le-length}
 use Rattle.std.proofs.lemmas.List.FromFn.{length-range_with_len, sum_by-map-range_with_len_more}
 use Rattle.msc_chart.specs.declared.queue.Queues.{Queues}
-use Rattle.msc_chart.specs.Charts.{message}
 use Rattle.msc_chart.specs.Drawings.{Drawing, IsAccepted, output_of, sender_of, receiver_of}
-use Rattle.msc_chart.specs.Orders.{queue_bound, queue_of, wired}
+use Rattle.msc_chart.specs.Orders.{queue_bound, queue_of}
 use Rattle.msc_chart.specs.Laws.{EventsHaveQueues, QueueNumbersAreBounded, IsBounded}
 use Rattle.msc_chart.proofs.Drawn.{output_not_local}
-use Rattle.msc_chart.proofs.Readers.{output_in, sender_in}
+use Rattle.msc_chart.proofs.Readers.{output_in}
 use Rattle.msc_instance.specs.Handing.{place_of, AreCounted, AreReceivers}
 
 module _ (queues : Queues) (d : Drawing) (accepted : IsAccepted d) (m : ℕ) (below : m < length d.messages) where

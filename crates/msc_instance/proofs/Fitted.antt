@@ -1,7 +1,7 @@
 -- How ends are compared with the counts of a table.
-use Rattle.std.proofs.Common.{◌≡◌, ◌≢◌, ◌↔◌, ℕ, zero, suc, ◌+◌, ◌-◌, ◌<◌, ◌≤◌, Bool, true, false, cond, List, [], ◌∷◌, ◌++◌, length, get_or, map, filter, set, drop, refl, sym, ap, ◌∙◌, inl, inr, arith, nat_eq, nat_lt}
+use Rattle.std.proofs.Common.{◌≡◌, ◌≢◌, ◌↔◌, ℕ, suc, ◌+◌, ◌-◌, ◌<◌, ◌≤◌, Bool, true, false, cond, List, [], ◌∷◌, ◌++◌, length, get_or, filter, set, drop, refl, sym, ap, ◌∙◌, inl, inr, arith, nat_eq, nat_lt}
 use Rattle.std.specs.Prelude.{count_by}
-use Rattle.std.specs.List.{range_with_len, sum_by}
+use Rattle.std.specs.List.{range_with_len}
 use Rattle.std.proofs.lemmas.Bool.{eq-eqb, ne_eqb, cases_eq, lt-ltb, le-ltb}
 use Rattle.std.proofs.lemmas.List.{drop_more, drop_all, get_or-set_same, get_or-set_other, length-set, length-drop, length-map, map-id}
 use Rattle.std.proofs.lemmas.List.FromFn.{filter_of_map_range_with_len_more, length-range_with_len}
@@ -44,8 +44,7 @@ module _ (counts : List ℕ) (q : ℕ) (within : q < length counts) where
         → X ↔ (numbers_of (drop (k + 1) ends) ≡ numbers_from counts (q + 1) (length counts - (q + 1)))
     unfolding rest
     matched e lt is h =
-        let front : numbers_of (drop k ends) ≡ q ∷ numbers_of (drop (k + 1) ends) = next_is e lt ∙ ap (λ x. x ∷ numbers_of (drop (k + 1) ends)) is in
-        (
+        let front : numbers_of (drop k ends) ≡ q ∷ numbers_of (drop (k + 1) ends) = next_is e lt ∙ ap (λ x. x ∷ numbers_of (drop (k + 1) ends)) is in (
           λ x. let both : q ∷ numbers_of (drop (k + 1) ends) ≡ q ∷ rest = sym front ∙ h.0 x ∙ sends some in cc,
           λ same. h.1 (front ∙ ap (λ l. q ∷ l) same ∙ sym (sends some)),
         )
@@ -67,8 +66,7 @@ module _ (counts : List ℕ) (q : ℕ) (within : q < length counts) where
 pub all_seen : {A : Type 0} {X : Type 0} (counts : List ℕ) (ends : List (ℕ × A)) (k q : ℕ) → length counts ≤ q
     → X ↔ (numbers_of (drop k ends) ≡ numbers_from counts q (length counts - q)) → X ↔ (length ends ≤ k)
 all_seen {A} counts ends k q done h =
-    let none : numbers_from counts q (length counts - q) ≡ [] = (let e : length counts - q ≡ 0 = omega arith in ap (numbers_from counts q) e) in
-    (
+    let none : numbers_from counts q (length counts - q) ≡ [] = (let e : length counts - q ≡ 0 = omega arith in ap (numbers_from counts q) e) in (
       λ x. let e = ap length (h.0 x ∙ none) in omega (arith, e, length-map (drop k ends) (λ (y : ℕ × A). y.0), length-drop k ends),
       λ le. h.1 (ap numbers_of (drop_all k ends le) ∙ sym none),
     )

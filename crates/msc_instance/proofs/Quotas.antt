@@ -1,17 +1,17 @@
 -- The quotas of a queue, as a table counts them.
-use Rattle.std.proofs.Common.{◌≡◌, ℕ, zero, suc, ◌+◌, ◌*◌, ◌<◌, ◌≤◌, ◌&&◌, ◌||◌, Bool, true, false, cond, eqb, List, [], ◌∷◌, length, get_or, map, filter, take, drop, refl, sym, ap, ◌∙◌, inl, inr, arith, rules, nat_eq, nat_lt, true≢false}
+use Rattle.std.proofs.Common.{◌≡◌, ℕ, zero, suc, ◌+◌, ◌*◌, ◌<◌, ◌≤◌, ◌&&◌, ◌||◌, Bool, true, false, cond, List, [], ◌∷◌, length, get_or, map, filter, take, refl, sym, ap, ◌∙◌, inl, inr, arith, rules, nat_eq, nat_lt}
 use Rattle.std.specs.Prelude.{count_by, sum, slice_range}
 use Rattle.std.specs.List.{range_with_len, sum_by, list_any}
-use Rattle.std.proofs.lemmas.Bool.{eq-eqb, eqb-true, eqb-false, ne_eqb, cases_eq, cases_lt, lt-ltb, le-ltb, and_left, or_left, or_from, and_right}
+use Rattle.std.proofs.lemmas.Bool.{eq-eqb, eqb-true, eqb-false, ne_eqb, cases_eq, lt-ltb, and_left, or_left, or_from}
 use Rattle.std.proofs.lemmas.Nat.{same_from_place, row_fits}
 use Rattle.std.proofs.lemmas.List.{map-id, places}
-use Rattle.std.proofs.lemmas.List.FromFn.{fill_by_all, sum_by-map-range_with_len_more, take-map-range_with_len, get_or-map-range_with_len, length-map-range_with_len, length-range_with_len}
+use Rattle.std.proofs.lemmas.List.FromFn.{fill_by_all, sum_by-map-range_with_len_more, take-map-range_with_len, length-range_with_len}
 use Rattle.std.proofs.lemmas.List.Sums.{sum_by-cons, sum-map, length-filter, count_by-le-length}
 use Rattle.msc_chart.specs.declared.queue.Queues.{Queues}
 use Rattle.msc_chart.specs.Drawings.{Drawing, IsAccepted, sender_of, receiver_of}
-use Rattle.msc_chart.specs.Orders.{queue_bound, queue_of}
-use Rattle.msc_chart.specs.Laws.{messages_in, sends_to, senders_in, IsBounded, QueuesAreBounded}
-use Rattle.msc_chart.proofs.ListLemmas.{by_test, clash}
+use Rattle.msc_chart.specs.Orders.{queue_of}
+use Rattle.msc_chart.specs.Laws.{messages_in, sends_to, senders_in, QueuesAreBounded}
+use Rattle.msc_chart.proofs.ListLemmas.{by_test}
 use Rattle.msc_chart.proofs.Readers.{sender_in, receiver_in}
 use Rattle.msc_execution.specs.Roles.{quota_of, rank_of, takes_from}
 use Rattle.msc_instance.specs.Handing.{place_of, quotas_of, senders_among, AreCounted, AreReceivers}
@@ -168,7 +168,7 @@ parts_add_up g n (m ∷ ms) =
     let r = parts_add_up g n ms in
     let one = one_is (g m) n in
     let both = sum_both (is_one (g m)) (λ i. count_by (λ k. nat_eq (g k) i) ms) (λ i. count_by (λ k. nat_eq (g k) i) (m ∷ ms)) (range_with_len 0 n)
-        (λ i. sum_by-cons (λ k. cond (nat_eq (g k) i) 1 0) m ms) in
+    (λ i. sum_by-cons (λ k. cond (nat_eq (g k) i) 1 0) m ms) in
     omega (arith, r, one, both)
 
 module _ (queues : Queues) (d : Drawing) where

@@ -1,5 +1,5 @@
 -- What tables of counts tell of the ends that fit an instance.
-use Rattle.std.proofs.Common.{◌≡◌, ◌↔◌, ℕ, zero, suc, ◌+◌, ◌<◌, ◌≤◌, Bool, true, false, cond, List, [], ◌∷◌, length, get_or, map, filter, take, replicate, refl, sym, ap, ◌∙◌, inl, inr, arith, nat_eq, nat_lt, true≢false, subst}
+use Rattle.std.proofs.Common.{◌≡◌, ◌↔◌, ℕ, zero, suc, ◌+◌, ◌<◌, ◌≤◌, Bool, true, false, cond, List, [], ◌∷◌, length, get_or, filter, take, replicate, refl, sym, ap, ◌∙◌, inl, inr, arith, nat_eq, nat_lt, true≢false}
 use Rattle.std.specs.Prelude.{All, count_by}
 use Rattle.std.specs.List.{range_with_len, list_any}
 use Rattle.std.proofs.lemmas.Bool.{cases_lt, lt-ltb, ne_eqb}
@@ -8,9 +8,9 @@ use Rattle.msc_chart.specs.declared.queue.Queues.{Queues}
 use Rattle.msc_chart.specs.Drawings.{Drawing, IsAccepted, sender_of, receiver_of}
 use Rattle.msc_chart.specs.Orders.{queue_bound, queue_of}
 use Rattle.msc_chart.specs.Laws.{messages_in, sends_to, EventsHaveQueues, QueueNumbersAreBounded}
-use Rattle.msc_chart.proofs.ListLemmas.{by_test, clash}
+use Rattle.msc_chart.proofs.ListLemmas.{by_test}
 use Rattle.msc_execution.specs.Roles.{EndLists, NumberedOutlet, role, queues_below, quota_of, takes_from, sent_queues, taken_queues, IsFit}
-use Rattle.msc_instance.specs.Fitting.{AreCountsOf, HasRoomFor, HaveRoom, numbers_in, numbers_of}
+use Rattle.msc_instance.specs.Fitting.{AreCountsOf, HaveRoom, numbers_in, numbers_of}
 use Rattle.msc_instance.proofs.Counted.{queue_small}
 use Rattle.msc_instance.proofs.Quotas.{any_counts, sender_has}
 
@@ -83,8 +83,7 @@ module _ (queues : Queues) (d : Drawing) (i : ℕ) (counts : List ℕ) (long : l
       → (outlets : List NumberedOutlet)
       → HaveRoom counts outlets ↔ All (λ (o : NumberedOutlet). (o.1.closed ≡ false) × (length o.1.put + quota_of queues d o.0 i ≤ o.1.quota)) outlets
   rooms accepted have bounded counted outlets =
-      let same = counts_all accepted have bounded counted in
-      (
+      let same = counts_all accepted have bounded counted in (
         λ room k o lt. (let r = room k o lt in (r.0, omega (arith, r.1, same (get_or outlets k o).0))),
         λ room k o lt. (let r = room k o lt in (r.0, omega (arith, r.1, same (get_or outlets k o).0))),
       )

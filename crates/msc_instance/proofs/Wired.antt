@@ -1,6 +1,5 @@
 -- One queue more is handed out to all instances of a chart.
-use Rattle.std.proofs.Common.{◌≡◌, ℕ, ◌+◌, ◌<◌, ◌≤◌, ◌&&◌, Bool, true, false, cond, List, [], ◌∷◌, ◌++◌, length, get_or, map, take, refl, sym, ap, ◌∙◌, arith, nat_eq, nat_lt, Some, slice_get}
-use Rattle.std.specs.List.{range_with_len}
+use Rattle.std.proofs.Common.{◌≡◌, ℕ, ◌+◌, ◌<◌, ◌&&◌, Bool, cond, List, [], ◌∷◌, ◌++◌, length, get_or, map, take, refl, sym, ap, ◌∙◌, arith, nat_eq, nat_lt, Some, slice_get}
 use Rattle.std.proofs.lemmas.Bool.{eq-eqb, ne_eqb}
 use Rattle.std.proofs.lemmas.List.{length-map}
 use Rattle.std.proofs.lemmas.List.FromFn.{get_or-map-range_with_len}
@@ -9,11 +8,11 @@ use Rattle.std.specs.Option.{option_map}
 use Rattle.msc_chart.specs.declared.queue.Queues.{Queues}
 use Rattle.msc_chart.specs.Drawings.{Drawing}
 use Rattle.msc_chart.specs.Orders.{queue_bound}
-use Rattle.msc_chart.specs.Laws.{sends_to, senders_in}
+use Rattle.msc_chart.specs.Laws.{sends_to}
 use Rattle.msc_fifo.specs.Identity.{QueueId}
 use Rattle.msc_fifo.specs.NoQueue.{no_queue}
 use Rattle.msc_fifo.specs.Ends.{new_outlet, new_inlet}
-use Rattle.msc_execution.specs.Roles.{Role, EndLists, NumberedOutlet, NumberedInlet, role, quota_of, rank_of, takes_from, fresh_outlet, fresh_inlet, wired_ends, IsWiring, IsFit}
+use Rattle.msc_execution.specs.Roles.{Role, EndLists, NumberedOutlet, NumberedInlet, role, quota_of, rank_of, takes_from, fresh_outlet, fresh_inlet, IsWiring, IsFit}
 use Rattle.msc_execution.specs.Fits.{no_ends, wired_below, WiringsFit, WiringGrows}
 use Rattle.msc_instance.specs.declared.ends.InstanceEnds.{InstanceEnds}
 use Rattle.msc_instance.specs.Views.{ends_of}

@@ -18,7 +18,11 @@ use msc_fifo::{Inlet, Outlet, QUOTA_LIMIT, QueueFault, SENDER_LIMIT, queue};
 use std::alloc::{AllocError, Global};
 
 /// No ends yet for so many instances.
-fn without_ends(alloc: Global, instances: u32, queues: Queues) -> Result<Vec<InstanceEnds>, AllocError>
+fn without_ends(
+    alloc: Global,
+    instances: u32,
+    queues: Queues,
+) -> Result<Vec<InstanceEnds>, AllocError>
     ensures many { IfOk result (λ all. length all.items ≡ instances) }
     ensures under { IfOk result (λ all. AreUnder queues all.items) }
     ensures none { IfOk result (λ all. (i : ℕ) → ends_at all.items i ≡ no_ends) }
@@ -147,8 +151,20 @@ pub fn wire(alloc: Global, chart: &Chart, queues: Queues) -> Result<Vec<Instance
     let bound = Wiring { chart, queues }.queue_count() as usize;
     let mut counts = Vec::from_elem(alloc, 0u32, bound * instances as usize)?;
     let mut receivers = Vec::from_elem(alloc, 0u32, bound)?;
-    count(chart, queues, counts.as_mut_slice(), receivers.as_mut_slice());
+    count(
+        chart,
+        queues,
+        counts.as_mut_slice(),
+        receivers.as_mut_slice(),
+    );
     let mut all = without_ends(alloc, instances, queues)?;
-    wire_each(alloc, chart, queues, counts.as_slice(), receivers.as_slice(), all.as_mut_slice())?;
+    wire_each(
+        alloc,
+        chart,
+        queues,
+        counts.as_slice(),
+        receivers.as_slice(),
+        all.as_mut_slice(),
+    )?;
     Ok(all)
 }

@@ -1,4 +1,4 @@
-use Rattle.std.proofs.Common.{ℕ, ◌<◌, ◌+◌, ◌*◌, ◌∙◌, ap, sym, length, arith}
+use Rattle.std.proofs.Common.{ℕ, ◌+◌, ◌*◌, ◌∙◌, arith}
 use Rattle.msc_instance.proofs.Counted.{queue_small, place_in, count_small, counted_more, place_is, receivers_more}
 use Rattle.msc_instance.proofs.counting.count.Goals as goal
 

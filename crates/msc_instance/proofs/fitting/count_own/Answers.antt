@@ -1,4 +1,4 @@
-use Rattle.std.proofs.Common.{◌∙◌, ap, sym, arith, cond, nat_eq}
+use Rattle.std.proofs.Common.{◌∙◌, ap, arith, cond, nat_eq}
 use Rattle.msc_chart.specs.Drawings.{receiver_of, sender_of}
 use Rattle.msc_instance.proofs.Counted.{queue_small}
 use Rattle.msc_instance.proofs.Fitted.{own_small, own_counted, byte_is, byte_small}

@@ -1,7 +1,6 @@
-use Rattle.std.proofs.Common.{◌≡◌, ◌<◌, length, arith, ◌∙◌, sym, refl, ap, reverse, vec_len}
+use Rattle.std.proofs.Common.{◌≡◌, ◌<◌, length, arith, ◌∙◌, refl, ap, reverse, vec_len}
 use Rattle.std.proofs.lemmas.Bool.{false≢true}
 use Rattle.std.proofs.lemmas.List.{reverse-reverse, length-reverse}
-use Rattle.msc_instance.specs.Handing.{IsHandingOut, ends_at}
 use Rattle.msc_instance.proofs.Handed.{passed, gave, popped_first, some_left, ended, nothing_given}
 use Rattle.msc_instance.proofs.wiring.hand_out.Goals.{then-quotas-i-gt0+in-Some+in_ok-push, else-quotas-i-gt0}
 use Rattle.msc_instance.proofs.wiring.hand_out.Goals as goal

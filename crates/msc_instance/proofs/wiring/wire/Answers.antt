@@ -1,4 +1,4 @@
-use Rattle.std.proofs.Common.{◌≡◌, ◌∙◌, sym, ap, subst, map, length, arith}
+use Rattle.std.proofs.Common.{◌∙◌, sym, subst, map, arith}
 use Rattle.std.proofs.lemmas.List.{with_items_is}
 use Rattle.msc_execution.specs.Roles.{IsWiring}
 use Rattle.msc_instance.specs.Views.{ends_of}

@@ -1,4 +1,4 @@
-use Rattle.std.proofs.Common.{◌≡◌, ◌<◌, ◌≤◌, length, arith, ◌∙◌, sym, refl, ap, vec_len, filter, nat_lt, Err}
+use Rattle.std.proofs.Common.{◌≡◌, length, arith, ◌∙◌, sym, ap, vec_len, nat_lt, Err}
 use Rattle.std.proofs.lemmas.Bool.{eqb-true, eqb-false}
 use Rattle.std.proofs.lemmas.List.{nil_from_length}
 use Rattle.std.proofs.lemmas.List.Sums.{length-filter}
