@@ -7,12 +7,14 @@ use Rattle.msc_chart.specs.Orders.{queue_of}
 use Rattle.msc_fifo.specs.Ends.{OutletState}
 use Rattle.msc_execution.specs.Roles.{NumberedOutlet}
 
--- The table has, for each queue, how many of its messages below n are of instance i. `instance` tells
+-- The table has, for each queue, how many of its messages below n are of instance i. `instance`
+-- tells
 -- of which instance a message is: of its sender, or of its receiver.
 abbrev pub AreCountsOf : (ℕ → ℕ) → Queues → Drawing → ℕ → ℕ → List ℕ → Type 0
 AreCountsOf instance queues d i n counts =
     (q : ℕ) → q < length counts → get_or counts q 0
-    ≡ count_by (λ m. nat_eq (instance m) i) (filter (λ m. nat_eq (queue_of queues d m) q) (range_with_len 0 n))
+    ≡ count_by (λ m. nat_eq (instance m) i) (filter (λ m. nat_eq (queue_of queues d m) q)
+        (range_with_len 0 n))
 
 -- the numbers of the queues that have a message in the table, from q on
 abbrev pub numbers_from : List ℕ → ℕ → ℕ → List ℕ

@@ -18,11 +18,13 @@ place_of queues d m = queue_of queues d m * length d.instances + sender_of d m
 -- the table has the counts of the messages below n
 abbrev pub AreCounted : Queues → Drawing → ℕ → List ℕ → Type 0
 AreCounted queues d n counts =
-    (k : ℕ) → k < length counts → get_or counts k 0 ≡ count_by (λ m. nat_eq (place_of queues d m) k) (range_with_len 0 n)
+    (k : ℕ) → k < length counts → get_or counts k 0
+        ≡ count_by (λ m. nat_eq (place_of queues d m) k) (range_with_len 0 n)
 
 -- the list has the receiver of each queue that has a message below n
 abbrev pub AreReceivers : Queues → Drawing → ℕ → List ℕ → Type 0
-AreReceivers queues d n receivers = (m : ℕ) → m < n → get_or receivers (queue_of queues d m) 0 ≡ receiver_of d m
+AreReceivers queues d n receivers = (m : ℕ) → m < n
+    → get_or receivers (queue_of queues d m) 0 ≡ receiver_of d m
 
 -- how many messages each instance sends to the queue
 abbrev pub quotas_of : Queues → Drawing → ℕ → List ℕ
@@ -39,36 +41,45 @@ ends_at all i = get_or (map ends_of all) i no_ends
 -- the outlet that instance i gets of queue q, where these are the quotas of all instances
 abbrev pub outlet_for : QueueId → ℕ → List ℕ → ℕ → List NumberedOutlet
 outlet_for id q quotas i =
-    cond (nat_lt 0 (get_or quotas i 0)) ((q, new_outlet id (senders_among (take i quotas)) (get_or quotas i 0)) ∷ []) []
+    cond (nat_lt 0 (get_or quotas i 0)) ((q, new_outlet id (senders_among (take i quotas))
+        (get_or quotas i 0)) ∷ []) []
 
 -- the inlet that instance i gets of it, where there is a sender
 abbrev pub inlet_for : QueueId → ℕ → List ℕ → ℕ → ℕ → List NumberedInlet
 inlet_for id q quotas receiver i =
-    cond (nat_lt 0 (senders_among quotas) && nat_eq receiver i) ((q, new_inlet id (senders_among quotas)) ∷ []) []
+    cond (nat_lt 0 (senders_among quotas) && nat_eq receiver i)
+        ((q, new_inlet id (senders_among quotas)) ∷ []) []
 
 -- all are of this architecture
 abbrev pub AreUnder : Queues → List InstanceEnds → Type 0
 AreUnder queues all = All (λ e. e.queues ≡ queues) all
 
--- The outlets of queue q are being handed out, and the instances below n have theirs. Those that are
+-- The outlets of queue q are being handed out, and the instances below n have theirs. Those that
+-- are
 -- left are for the others.
-pub record IsHandingOut (id : QueueId) (q : ℕ) (quotas : List ℕ) (old new : List InstanceEnds) (left : List OutletState) (n : ℕ) : Type 0 where
-  pub next : left ≡ new_outlets id (senders_among (take n quotas)) (filter (nat_lt 0) (drop n quotas))
-  pub given : (i : ℕ) → i < n → (ends_at new i).outlets ≡ (ends_at old i).outlets ++ outlet_for id q quotas i
+pub record IsHandingOut (id : QueueId) (q : ℕ) (quotas : List ℕ) (old new : List InstanceEnds)
+    (left : List OutletState) (n : ℕ) : Type 0 where
+  pub next : left ≡ new_outlets id (senders_among (take n quotas))
+      (filter (nat_lt 0) (drop n quotas))
+  pub given : (i : ℕ) → i < n → (ends_at new i).outlets ≡ (ends_at old i).outlets
+      ++ outlet_for id q quotas i
   pub waiting : (i : ℕ) → n ≤ i → (ends_at new i).outlets ≡ (ends_at old i).outlets
   pub inlets : (i : ℕ) → (ends_at new i).inlets ≡ (ends_at old i).inlets
   pub under : (queues : Queues) → AreUnder queues old → AreUnder queues new
 
 -- the ends of queue q were handed out: outlets to those with a quota, the inlet to the receiver
-pub record AreHandedOut (q : ℕ) (quotas : List ℕ) (receiver : ℕ) (old new : List InstanceEnds) : Type 0 where
+pub record AreHandedOut (q : ℕ) (quotas : List ℕ) (receiver : ℕ)
+    (old new : List InstanceEnds) : Type 0 where
   pub id : QueueId
-  pub outlets : (i : ℕ) → i < length old → (ends_at new i).outlets ≡ (ends_at old i).outlets ++ outlet_for id q quotas i
+  pub outlets : (i : ℕ) → i < length old → (ends_at new i).outlets ≡ (ends_at old i).outlets
+      ++ outlet_for id q quotas i
   pub inlets : (i : ℕ) → i < length old
       → (ends_at new i).inlets ≡ (ends_at old i).inlets ++ inlet_for id q quotas receiver i
   pub under : (queues : Queues) → AreUnder queues old → AreUnder queues new
 
 -- the ends of the queues below n were handed out
-pub record AreWiredBelow (queues : Queues) (d : Drawing) (n : ℕ) (all : List InstanceEnds) : Type 0 where
+pub record AreWiredBelow (queues : Queues) (d : Drawing) (n : ℕ) (all : List InstanceEnds) : Type 0
+    where
   pub many : length all ≡ length d.instances
   pub under : AreUnder queues all
   pub id : ℕ → QueueId
