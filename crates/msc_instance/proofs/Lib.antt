@@ -10,3 +10,11 @@ pub mod Takes
 pub mod Rounds
 pub mod Ending
 pub mod Beginning
+pub mod Counted
+pub mod Handed
+pub mod Senders
+pub mod ListCounts
+pub mod Quotas
+pub mod Wired
+pub mod Fitted
+pub mod TableLemmas

@@ -3,3 +3,5 @@ pub mod Views
 -- what the code keeps
 pub mod Steps
 pub mod Active
+pub mod Handing
+pub mod Fitting

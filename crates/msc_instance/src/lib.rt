@@ -7,7 +7,9 @@
 #![tactic(auto)]
 
 mod active;
+mod counting;
 mod ends;
+mod fitting;
 mod gate;
 mod journal;
 mod line;
@@ -16,8 +18,10 @@ mod round;
 mod running;
 mod sending;
 mod taking;
+mod wiring;
 
 pub use ends::{InstanceEnd, InstanceEnds};
 pub use gate::{AlwaysOpen, Gate};
 pub use msc_execution::End;
 pub use running::run_instance;
+pub use wiring::wire;
