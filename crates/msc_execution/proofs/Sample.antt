@@ -1,3 +1,4 @@
 pub mod Accepted
 pub mod Ran
+pub mod Placed
 pub mod Sampled

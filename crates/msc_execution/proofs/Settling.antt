@@ -4,8 +4,8 @@ pub mod FlatLists
 pub mod Accounts
 pub mod Parts
 pub mod Ended
-pub mod Told
 pub mod Backs
+pub mod Told
 pub mod Placed
 pub mod Executed
 pub mod InHand

@@ -23,7 +23,8 @@ EveryExecutionHasAMerge =
     → IsTimed (wired queues d) (length d.instances) logs places
     → HasNoMerge (wired queues d) (length d.instances) logs → ⊥
 
--- no clock of an instance, after any beginning of its log, is greater than the number of messages put
+-- no clock of an instance, after any beginning of its log, is greater than the number of messages
+-- put
 abbrev pub ClocksAreBounded : Type 0
 ClocksAreBounded =
     (queues : Queues) (d : Drawing) → IsAccepted d → (logs : List (List ℕ)) (places : Places)

@@ -12,12 +12,14 @@ use Rattle.msc_execution.specs.Clocks.{Places, messages, place_clock, greatest_o
 -- the outputs whose messages a log took from a queue, in its order
 unfoldable pub taken_from : WiredChart → ℕ → List ℕ → List ℕ
 taken_from chart q log =
-    map (λ r. partner chart.events r) (filter (λ e. is_input chart.events e && nat_eq (queue chart e) q) log)
+    map (λ r. partner chart.events r)
+    (filter (λ e. is_input chart.events e && nat_eq (queue chart e) q) log)
 
 -- logs, and places of the queues, that fit one another
-pub record IsTimed (chart : WiredChart) (instances : ℕ) (logs : List (List ℕ)) (places : Places) : Type 0 where
-  -- a log for each instance, with events of its line, each once; a controlled event follows all that
-  -- is drawn before it
+pub record IsTimed (chart : WiredChart) (instances : ℕ) (logs : List (List ℕ))
+    (places : Places) : Type 0 where
+  -- a log for each instance, with events of its line, each once; a controlled event follows all
+  -- that is drawn before it
   pub as_many : length logs ≡ instances
   pub known : (i e : ℕ) → i < instances → IsTrue (occurs (get_or logs i []) e)
       → (e < length chart.events) × (line chart.events e ≡ i)

@@ -123,3 +123,31 @@ none_or_some p (y ∷ xs) =
       | inl none ↦ inl (rw fails none)
       | inr some ↦ inr (some.0, in_tail y xs some.0 some.1, some.2)
     ])
+
+-- what holds of each element
+unfoldable pub EachOf : {A : Type 0} → (A → Type 0) → List A → Type 0
+EachOf P [] = Unit {0}
+EachOf P (x ∷ xs) = P x × EachOf P xs
+
+-- so of what stands at a place
+pub each_at : {A : Type 0} (P : A → Type 0) (xs : List A) (x : A) (k : ℕ) → EachOf P xs
+    → slice_get xs k ≡ Some x → P x
+unfolding EachOf
+each_at P [] x k h at = cc
+each_at P (y ∷ xs) x zero h at = let same : y ≡ x = cc in subst P same h.0
+each_at P (y ∷ xs) x (suc k) h at = each_at P xs x k h.1 at
+
+-- and of a number that occurs
+pub each_occurs : (P : ℕ → Type 0) (xs : List ℕ) (e : ℕ) → EachOf P xs → occurs xs e ≡ true → P e
+unfolding occurs EachOf
+each_occurs P [] e h there = clash there refl
+each_occurs P (x ∷ xs) e h there =
+    elim (or_cases (eqb x e) (occurs xs e) there) [
+      | inl same ↦ subst P (eqb-true x e same) h.0
+      | inr later ↦ each_occurs P xs e h.1 later
+    ]
+
+-- what stands in a list of one
+pub single : {A : Type 0} (x y : A) (k : ℕ) → slice_get (x ∷ []) k ≡ Some y → x ≡ y
+single x y zero at = cc
+single x y (suc k) at = cc

@@ -1,7 +1,6 @@
 -- Both instances of the sample ran.
-use Rattle.std.proofs.Common.{◌≡◌, ℕ, zero, suc, ◌<◌, true, eqb, List, [], ◌∷◌, map, Some, slice_get, inl, inr, refl, sym, subst, arith}
+use Rattle.std.proofs.Common.{◌≡◌, ℕ, zero, suc, ◌<◌, true, List, [], ◌∷◌, map, refl, sym, subst, arith}
 use Rattle.std.specs.List.{AllZip}
-use Rattle.std.proofs.lemmas.Bool.{eqb-true, or_cases}
 use Rattle.msc_chart.specs.declared.queue.Queues.TheVariants.{Mailbox}
 use Rattle.msc_chart.specs.Lists.{occurs, until}
 use Rattle.msc_chart.specs.Charts.{line, segment, kind, message, partner, is_output, is_input, is_controlled, before}
@@ -18,6 +17,7 @@ use Rattle.msc_execution.specs.Growth.{IsLeftBy, HasTaken}
 use Rattle.msc_execution.specs.Running.{HasRun}
 use Rattle.msc_execution.specs.Executions.{log_at, end_at}
 use Rattle.msc_execution.specs.Samples.{two, own_outlet, other_outlet, mailbox, both_back, sample}
+use Rattle.msc_execution.proofs.Lists.Among.{EachOf, each_occurs}
 use Rattle.msc_execution.proofs.Sample.Accepted.{five}
 
 -- the one queue, to which both send and from which instance 0 takes
@@ -55,29 +55,6 @@ pub both_send : senders_in Mailbox two 0 ≡ 0 ∷ 1 ∷ []
 unfolding senders_in sends_to messages_in queue_of queue_number sender_of receiver_of output_of
     input_of line partner
 both_send = refl
-
--- what holds of each element
-unfoldable pub EachOf : {A : Type 0} → (A → Type 0) → List A → Type 0
-EachOf P [] = Unit {0}
-EachOf P (x ∷ xs) = P x × EachOf P xs
-
--- so of what stands at a place
-pub each_at : {A : Type 0} (P : A → Type 0) (xs : List A) (x : A) (k : ℕ) → EachOf P xs
-    → slice_get xs k ≡ Some x → P x
-unfolding EachOf
-each_at P [] x k h at = cc
-each_at P (y ∷ xs) x zero h at = let same : y ≡ x = cc in subst P same h.0
-each_at P (y ∷ xs) x (suc k) h at = each_at P xs x k h.1 at
-
--- and of a number that occurs
-pub each_occurs : (P : ℕ → Type 0) (xs : List ℕ) (e : ℕ) → EachOf P xs → occurs xs e ≡ true → P e
-unfolding occurs EachOf
-each_occurs P [] e h there = clash there refl
-each_occurs P (x ∷ xs) e h there =
-    elim (or_cases (eqb x e) (occurs xs e) there) [
-      | inl same ↦ subst P (eqb-true x e same) h.0
-      | inr later ↦ each_occurs P xs e h.1 later
-    ]
 
 -- nothing is drawn before the first event of a line
 first_event : (past : List ℕ) (x e : ℕ) → segment two.events e ≡ 0 → before two.events x e ≡ true
@@ -143,11 +120,6 @@ other_whole = five (λ e. line two.events e ≡ 1 → occurs (3 ∷ 4 ∷ []) e 
 -- every clock that was read is 1, at place k
 abbrev read_at_place : ℕ → Reading
 read_at_place k = record { read_at = λ e. 1; place_at = λ e. k }
-
--- what stands in a list of one
-pub single : {A : Type 0} (x y : A) (k : ℕ) → slice_get (x ∷ []) k ≡ Some y → x ≡ y
-single x y zero at = cc
-single x y (suc k) at = cc
 
 module _ (id : QueueId) where
   -- the one queue

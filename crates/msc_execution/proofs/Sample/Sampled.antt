@@ -1,6 +1,6 @@
 -- The sample is an execution.
-use Rattle.std.proofs.Common.{◌≡◌, ◌≢◌, ℕ, zero, suc, ◌<◌, ◌≤◌, true, cond, List, [], ◌∷◌, map, length, get_or, Some, slice_get, refl, sym, ap, ◌∙◌, subst, arith}
-use Rattle.std.specs.Prelude.{count_by, nat_eq}
+use Rattle.std.proofs.Common.{◌≡◌, ◌≢◌, ℕ, zero, suc, ◌<◌, true, cond, List, [], ◌∷◌, map, length, Some, slice_get, refl, sym, ap, ◌∙◌, subst, arith}
+use Rattle.std.specs.Prelude.{nat_eq}
 use Rattle.std.proofs.lemmas.Bool.{eqb-true}
 use Rattle.msc_chart.specs.declared.queue.Queues.TheVariants.{Mailbox}
 use Rattle.msc_chart.specs.Lists.{occurs, until, Occurs}
@@ -8,15 +8,12 @@ use Rattle.msc_chart.specs.Charts.{line, kind, message, partner, is_output, is_i
 use Rattle.msc_chart.specs.Drawings.{output_of, input_of, sender_of, receiver_of}
 use Rattle.msc_chart.specs.Orders.{queue_of, queue_number, wired, queue, sender_at, receiver_at}
 use Rattle.msc_chart.specs.Laws.{messages_in}
-use Rattle.msc_chart.proofs.ListLemmas.{clash}
 use Rattle.msc_fifo.specs.Identity.{QueueId}
-use Rattle.msc_fifo.specs.declared.claim.Claim.{Claim}
 use Rattle.msc_fifo.specs.declared.accounts.Account.{Account}
 use Rattle.msc_fifo.specs.declared.accounts.Settled.{Settled}
 use Rattle.msc_fifo.specs.declared.places.Place.{Place as SettledPlace}
-use Rattle.msc_fifo.specs.Claims.{is_message}
-use Rattle.msc_fifo.specs.Ends.{OutletState, AreOutletsOf}
-use Rattle.msc_fifo.specs.Settlement.{IsAmong, IsPlaced, claims_of, entries_at, items_of}
+use Rattle.msc_fifo.specs.Ends.{OutletState}
+use Rattle.msc_fifo.specs.Settlement.{IsAmong}
 use Rattle.msc_execution.specs.declared.end.End.TheVariants.{Foreign}
 use Rattle.msc_execution.specs.Roles.{takes_from}
 use Rattle.msc_execution.specs.Logs.{Begins, received, received_from}
@@ -24,87 +21,11 @@ use Rattle.msc_execution.specs.Executions.{log_at, end_at, placed_messages, AreA
 use Rattle.msc_execution.specs.Clocks.{trace_of, sorted, put_in, is_below, key_of, clock_step, clock_from, greatest_offer, place_clock, place_of, messages}
 use Rattle.msc_execution.specs.Shown.{trace_in, as_place}
 use Rattle.msc_execution.specs.Samples.{two, own_outlet, other_outlet, mailbox, both_back, all_claims, account_of, IsSampled, sample}
-use Rattle.msc_execution.proofs.Lists.Among.{any_parts}
-use Rattle.msc_execution.proofs.Sample.Ran.{queues_are, both_send, EachOf, each_at, each_occurs, single, ids, runs}
+use Rattle.msc_execution.proofs.Lists.Among.{any_parts, EachOf, each_at, each_occurs, single}
+use Rattle.msc_execution.proofs.Sample.Ran.{queues_are, both_send, ids, runs}
+use Rattle.msc_execution.proofs.Sample.Placed.{is_placed, are_outlets}
 
 module _ (id : QueueId) where
-  -- the claims are the places of the queue
-  is_placed : IsPlaced (mailbox id) (own_outlet id ∷ other_outlet id ∷ []) all_claims
-  unfolding EachOf
-  is_placed = record {
-    numbered = numbers;
-    orderly = (
-      omega arith,
-      tt,
-      (
-        omega arith,
-        tt,
-        (omega arith, (λ e. omega arith, tt), (omega arith, tt, tt)),
-      ),
-    );
-    claims =
-        λ o among. each_at (λ (o : OutletState). o.claims ≡ claims_of o.sender all_claims)
-        (own_outlet id ∷ other_outlet id ∷ []) o among.0 (refl, (refl, tt)) among.1;
-    items =
-        λ o among. each_at (λ (o : OutletState). entries_at o.claims ≡ items_of o)
-        (own_outlet id ∷ other_outlet id ∷ []) o among.0 (refl, (refl, tt)) among.1;
-    got = ([], refl);
-    clocks = clocks;
-    covers = λ c e c_in message e_in le.
-        let is =
-        each_at (λ (c : Claim). is_message c.entry ≡ true
-        → c.clock ≡ 1) all_claims c c_in.0
-        (λ _. refl, (λ _. refl, (λ h. clash h refl, (λ h. clash h refl, tt)))) c_in.1 message in
-        let few =
-        each_at (λ (c : Claim). c.offer ≤ 1) all_claims e e_in.0
-        (omega arith, (omega arith, (omega arith, (omega arith, tt)))) e_in.1 in
-        omega arith;
-    offered = λ c c_in message.
-        let is =
-        each_at (λ (c : Claim). is_message c.entry ≡ true
-        → c.clock ≡ 1) all_claims c c_in.0
-        (λ _. refl, (λ _. refl, (λ h. clash h refl, (λ h. clash h refl, tt)))) c_in.1 message in
-        (get_or all_claims 0 c, (0, refl), refl, sym is);
-  }
-    where
-      numbers : (k : ℕ) (c : Claim) → slice_get all_claims k ≡ Some c → c.place ≡ k
-      numbers zero c at = ap (λ (o : Claim). o.place) (sym (single (get_or all_claims 0 c) c 0 at))
-      numbers (suc zero) c at =
-          ap (λ (o : Claim). o.place) (sym (single (get_or all_claims 1 c) c 0 at))
-      numbers (suc (suc zero)) c at =
-          ap (λ (o : Claim). o.place) (sym (single (get_or all_claims 2 c) c 0 at))
-      numbers (suc (suc (suc zero))) c at =
-          ap (λ (o : Claim). o.place) (sym (single (get_or all_claims 3 c) c 0 at))
-      numbers (suc (suc (suc (suc k)))) c at = cc
-
-      clocks : (k : ℕ) (c : Claim) → k < 4 → slice_get all_claims k ≡ Some c
-          → c.clock ≡ get_or (1 ∷ 1 ∷ 0 ∷ 0 ∷ []) k 0
-      clocks zero c lt at =
-          ap (λ (o : Claim). o.clock) (sym (single (get_or all_claims 0 c) c 0 at))
-      clocks (suc zero) c lt at =
-          ap (λ (o : Claim). o.clock) (sym (single (get_or all_claims 1 c) c 0 at))
-      clocks (suc (suc zero)) c lt at =
-          ap (λ (o : Claim). o.clock) (sym (single (get_or all_claims 2 c) c 0 at))
-      clocks (suc (suc (suc zero))) c lt at =
-          ap (λ (o : Claim). o.clock) (sym (single (get_or all_claims 3 c) c 0 at))
-      clocks (suc (suc (suc (suc k)))) c lt at = absurd (omega arith)
-
-  -- the outlets are all of the queue's
-  are_outlets : AreOutletsOf (mailbox id) (own_outlet id ∷ other_outlet id ∷ [])
-  are_outlets = record { queue = same; count = refl; once = ones }
-    where
-      same : (k : ℕ) (e : OutletState) → k < 2
-          → (get_or (own_outlet id ∷ other_outlet id ∷ []) k e).queue ≡ id
-      same zero e below = refl
-      same (suc zero) e below = refl
-      same (suc (suc k)) e below = absurd (omega arith)
-
-      ones : (i : ℕ) → i < 2 → count_by (λ (x : OutletState). nat_eq x.sender i)
-          (own_outlet id ∷ other_outlet id ∷ []) ≡ 1
-      ones zero below = refl
-      ones (suc zero) below = refl
-      ones (suc (suc i)) below = absurd (omega arith)
-
   module _ (s : Settled) (sampled : IsSampled s) where
     -- the queue was settled from these ends
     from_ends : IsSettledFrom 2 (both_back id) 0 s.places.items
@@ -121,8 +42,8 @@ module _ (id : QueueId) where
           × IsAmong (0, o) (both_back id i).outlets)
           (own_outlet id ∷ other_outlet id ∷ []) o among.0
           ((0, omega arith, (0, refl)), ((1, omega arith, (0, refl)), tt)) among.1;
-      are_outlets = are_outlets;
-      is_settled = record { log = all_claims; is_log = is_placed; places_are = sampled.places };
+      are_outlets = are_outlets id;
+      is_settled = record { log = all_claims; is_log = is_placed id; places_are = sampled.places };
     }
       where
         there : (i : ℕ) (o : OutletState) → i < 2 → IsAmong (0, o) (both_back id i).outlets

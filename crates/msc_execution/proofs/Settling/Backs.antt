@@ -1,8 +1,11 @@
 -- What came back of all instances, queue by queue: nothing is lost, and nothing is added.
-use Rattle.std.proofs.Common.{◌≡◌, ℕ, zero, suc, ◌<◌, true, eqb, List, [], ◌∷◌, ◌++◌, Some, slice_get, inl, inr, ap, subst, arith}
+use Rattle.std.proofs.Common.{map, ◌≡◌, ℕ, zero, suc, ◌<◌, true, eqb, List, [], ◌∷◌, ◌++◌, Some, slice_get, inl, inr, ap, subst, arith}
 use Rattle.std.proofs.lemmas.Bool.{eqb-true, eq-eqb, cases_eq}
 use Rattle.msc_chart.proofs.ListLemmas.{by_test}
 use Rattle.msc_fifo.specs.Settlement.{IsAmong}
+use Rattle.msc_chart.specs.Lists.{occurs, Occurs}
+use Rattle.msc_fifo.specs.declared.accounts.Settled.{Settled}
+use Rattle.msc_execution.proofs.Lists.Words.{head_or_tail, at_head, in_tail, in_none}
 use Rattle.msc_execution.specs.Settling.{of_queue}
 use Rattle.msc_execution.proofs.Lists.Among.{among_more, among_front, among_cases}
 use Rattle.msc_execution.proofs.Settling.Came.{together}
@@ -73,3 +76,23 @@ bucket_has f n q i o below h = let r = in_all f n i (q, o) below h in
 pub bucket_of : {A : Type 0} (f : ℕ → List (ℕ × A)) (n q : ℕ) (o : A)
     → IsAmong o (of_queue q (together f n)) → (i : ℕ) × (i < n) × IsAmong (q, o) (f i)
 bucket_of f n q o h = let r = of_of_queue q (together f n) o h.0 h.1 in of_all f n (q, o) r.0 r.1
+
+-- the settled queue with a number
+pub find : (q : ℕ) (xs : List (ℕ × Settled)) → occurs (map (λ (s : ℕ × Settled). s.0) xs) q ≡ true
+    → (s : Settled) × Occurs xs (q, s)
+find q [] h = in_none q h
+find q (x ∷ xs) h = elim (head_or_tail x.0 (map (λ (s : ℕ × Settled). s.0) xs) q h) [
+  | inl is ↦ (x.1, (zero, ap (λ (k : ℕ). Some (k, x.1)) is))
+  | inr later ↦ (let r = find q xs later in (r.0, (suc r.1.0, r.1.1)))
+]
+
+-- a settled queue has one of the numbers
+pub numbered : (q : ℕ) (s : Settled) (xs : List (ℕ × Settled)) (j : ℕ)
+    → slice_get xs j ≡ Some (q, s) → occurs (map (λ (s : ℕ × Settled). s.0) xs) q ≡ true
+numbered q s [] j at = cc
+numbered q s (x ∷ xs) zero at =
+    let same : x.0 ≡ q = (let e : x ≡ (q, s) = cc in ap (λ (y : ℕ × Settled). y.0) e) in
+    subst (λ (k : ℕ). occurs (x.0 ∷ map (λ (s : ℕ × Settled). s.0) xs) k ≡ true) same
+    (at_head x.0 (map (λ (s : ℕ × Settled). s.0) xs))
+numbered q s (x ∷ xs) (suc j) at =
+    in_tail x.0 (map (λ (s : ℕ × Settled). s.0) xs) q (numbered q s xs j at)

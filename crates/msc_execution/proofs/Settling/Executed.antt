@@ -31,8 +31,8 @@ use Rattle.msc_execution.proofs.Settling.Came.{came_of, all_outlets, all_inlets,
 use Rattle.msc_execution.proofs.Settling.FlatLists.{flat_lists}
 use Rattle.msc_execution.proofs.Settling.Accounts.{accounts}
 use Rattle.msc_execution.proofs.Settling.Ended.{runs_ended}
-use Rattle.msc_execution.proofs.Settling.Told.{numbered, in_senders, same_inlet, nobody, told}
-use Rattle.msc_execution.proofs.Settling.Backs.{bucket_has, bucket_of}
+use Rattle.msc_execution.proofs.Settling.Told.{in_senders, same_inlet, nobody, told}
+use Rattle.msc_execution.proofs.Settling.Backs.{bucket_has, bucket_of, numbered}
 use Rattle.msc_execution.proofs.Settling.Placed.{got_first}
 
 module _ {queues : Queues} {d : Drawing} {open' : Bool} {patience : ℕ} {id : ℕ → QueueId}

@@ -1,12 +1,12 @@
 -- What a queue's inlet got is what its receiver logged; nobody ended by a strange message.
-use Rattle.std.proofs.Common.{◌≡◌, ◌≢◌, ℕ, zero, suc, ◌<◌, Bool, true, eqb, List, [], ◌∷◌, ◌++◌, length, get_or, map, filter, refl, sym, ap, ◌∙◌, inl, inr, arith, subst}
+use Rattle.std.proofs.Common.{◌≡◌, ◌≢◌, ℕ, ◌<◌, Bool, true, eqb, List, [], ◌∷◌, ◌++◌, length, get_or, filter, refl, sym, ap, ◌∙◌, inl, inr, arith, subst}
 use Rattle.std.specs.Prelude.{Some, slice_get}
 use Rattle.std.specs.List.{range_with_len}
 use Rattle.std.proofs.lemmas.Bool.{eq-eqb, eqb-true, cases_lt}
 use Rattle.std.proofs.lemmas.List.{append-nil}
 use Rattle.std.proofs.lemmas.Option.{slice_get-get_or}
 use Rattle.msc_chart.specs.declared.queue.Queues.{Queues}
-use Rattle.msc_chart.specs.Lists.{occurs, Occurs}
+use Rattle.msc_chart.specs.Lists.{occurs}
 use Rattle.msc_chart.specs.Drawings.{Drawing, IsAccepted, input_of, sender_of}
 use Rattle.msc_chart.specs.Laws.{senders_in, sends_to}
 use Rattle.msc_chart.proofs.ListLemmas.{by_test, clash, occurs-left, occurs-push, occurs_at}
@@ -23,34 +23,15 @@ use Rattle.msc_execution.specs.Growth.{HasTaken, all_messages}
 use Rattle.msc_execution.specs.Running.{Left, EndsAs, IsNothingStrange, IsStrangeAlone}
 use Rattle.msc_execution.specs.Settling.{of_queue, IsSettledOf}
 use Rattle.msc_gather.proofs.Apart.{Apart}
-use Rattle.msc_execution.proofs.Lists.Words.{head_or_tail, at_head, in_tail, in_none, passes, fails, once_left, once_apart}
+use Rattle.msc_execution.proofs.Lists.Words.{at_head, in_none, passes, fails, once_left, once_apart}
 use Rattle.msc_execution.proofs.Lists.Ranges.{in_range}
 use Rattle.msc_execution.proofs.Wiring.Logged.{IsOf, sent_is, sent_once, taken_by}
 use Rattle.msc_execution.proofs.Settling.Came.{Came, left_of, all_outlets, all_inlets, HaveEnded, AreEndsOf, AreAccountsOfLogs, AreSettled, IsTold}
 use Rattle.msc_execution.proofs.Settling.Buckets.{numbers_stay}
 use Rattle.msc_execution.proofs.Settling.FlatLists.{flat_lists}
 use Rattle.msc_execution.proofs.Settling.Accounts.{accounts}
+use Rattle.msc_execution.proofs.Settling.Backs.{find}
 use Rattle.msc_execution.proofs.Settling.Parts.{in_a_part, once_of_parts, part_is_filter, rank_tells}
-
--- the settled queue with a number
-find : (q : ℕ) (xs : List (ℕ × Settled)) → occurs (map (λ (s : ℕ × Settled). s.0) xs) q ≡ true
-    → (s : Settled) × Occurs xs (q, s)
-find q [] h = in_none q h
-find q (x ∷ xs) h = elim (head_or_tail x.0 (map (λ (s : ℕ × Settled). s.0) xs) q h) [
-  | inl is ↦ (x.1, (zero, ap (λ (k : ℕ). Some (k, x.1)) is))
-  | inr later ↦ (let r = find q xs later in (r.0, (suc r.1.0, r.1.1)))
-]
-
--- a settled queue has one of the numbers
-pub numbered : (q : ℕ) (s : Settled) (xs : List (ℕ × Settled)) (j : ℕ)
-    → slice_get xs j ≡ Some (q, s) → occurs (map (λ (s : ℕ × Settled). s.0) xs) q ≡ true
-numbered q s [] j at = cc
-numbered q s (x ∷ xs) zero at =
-    let same : x.0 ≡ q = (let e : x ≡ (q, s) = cc in ap (λ (y : ℕ × Settled). y.0) e) in
-    subst (λ (k : ℕ). occurs (x.0 ∷ map (λ (s : ℕ × Settled). s.0) xs) k ≡ true) same
-    (at_head x.0 (map (λ (s : ℕ × Settled). s.0) xs))
-numbered q s (x ∷ xs) (suc j) at =
-    in_tail x.0 (map (λ (s : ℕ × Settled). s.0) xs) q (numbered q s xs j at)
 
 -- a sender of a queue is an instance that sends to it
 pub in_senders : (queues : Queues) (d : Drawing) (q i : ℕ) → occurs (senders_in queues d q) i ≡ true

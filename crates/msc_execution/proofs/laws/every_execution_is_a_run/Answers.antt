@@ -5,7 +5,8 @@ use Rattle.msc_execution.proofs.laws.every_execution_is_a_run.Goals as goal
 
 pub returns : goal.returns
 returns c = record {
-  run = λ queues d accepted logs places. trace_is_run (c.charts_are_seated.ensures queues d accepted);
+  run = λ queues d accepted logs places.
+      trace_is_run (c.charts_are_seated.ensures queues d accepted);
   merge = λ queues d accepted logs places timed none.
       let trace = trace_is_run (c.charts_are_seated.ensures queues d accepted) timed in
       none (trace_of (wired queues d) logs places) trace.0 trace.1;
