@@ -77,8 +77,8 @@ pub begins : (d : Drawing) (p : Post) (a : Active) → IsPost d p → ends_now a
     → a.next ≡ p.start → a.first ≡ p.start → a.shut ≡ false → length (line_events d p.instance) ≤ vec_capacity a.journal.log → IsSound d p a
 begins d p a post ends empty clock next first open' room =
     let none : line_below d p.instance p.start ≡ [] = none_below d p.instance p.start (λ e lt on.
-        (let in' : e < length d.events = omega (arith, post.ordered, post.within) in
-        let r = (post.line e in').0 on in absurd (omega (arith, r.0)))) in
+    (let in' : e < length d.events = omega (arith, post.ordered, post.within) in
+    let r = (post.line e in').0 on in absurd (omega (arith, r.0)))) in
     record {
       post = post;
       begun = rw (open', ends, empty, clock) (begun_first (post_role d p) (first_ends p) post.fit);

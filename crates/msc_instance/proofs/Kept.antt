@@ -23,7 +23,8 @@ use Rattle.msc_execution.specs.Logs.{Reading, IsLogOf, clock_along, sent, output
 use Rattle.msc_execution.specs.Fits.{LogsKeepQuotas}
 use Rattle.msc_execution.specs.Growth.{HasTaken, IsLeftBy, IsStrange, all_messages, clocks_at}
 use Rattle.msc_execution.specs.Running.{EndsAs, HasRun}
-use Rattle.msc_execution.proofs.Lists.Words.{IsOnce, once_filter, fails, at_head, in_tail}
+use Rattle.msc_gather.proofs.Apart.{Apart}
+use Rattle.msc_execution.proofs.Lists.Words.{once_filter, fails, at_head, in_tail}
 use Rattle.msc_execution.proofs.Lists.Ranges.{in_range}
 use Rattle.msc_instance.specs.Steps.{State, IsPutBy, IsGotBy, ArePutBy, IsKept, HasBegun, with_event}
 use Rattle.msc_instance.specs.Active.{HasPut, HasGot, HasCome, IsClosedFrom}
@@ -60,16 +61,16 @@ got_stays r log reading e k n olds news new none h =
     (λ x y own. stepped.stayed_in r log reading x y own e k n new (λ input _. clash input none)) h
 
 -- the numbers of queues below n ascend, so none stands twice
-range_once : (a n : ℕ) → IsOnce (range_with_len a n)
+range_once : (a n : ℕ) → Apart (range_with_len a n)
 range_once a zero = tt
 range_once a (suc n) =
     (fails (occurs (range_with_len (a + 1) n) a) (λ there. let r = in_range (a + 1) n a there in absurd (omega (arith, r.0))), range_once (a + 1) n)
 
-pub sent_once : (r : Role) → IsOnce (sent_queues r)
+pub sent_once : (r : Role) → Apart (sent_queues r)
 unfolding sent_queues queues_below
 sent_once r = once_filter _ _ (once_filter _ (range_with_len 0 (queue_bound r.queues r.chart)) (range_once 0 (queue_bound r.queues r.chart)))
 
-pub taken_once : (r : Role) → IsOnce (taken_queues r)
+pub taken_once : (r : Role) → Apart (taken_queues r)
 unfolding taken_queues queues_below
 taken_once r = once_filter _ _ (once_filter _ (range_with_len 0 (queue_bound r.queues r.chart)) (range_once 0 (queue_bound r.queues r.chart)))
 
@@ -98,8 +99,8 @@ module _ (r : Role) (first : EndLists) (fit : IsFit r first) where
       let q : ℕ = (get_or first.outlets k o).0 in
       let few = quotas r.queues r.chart q r.number (log ++ e ∷ []) accepted is in
       let more : sent r.queues r.chart q (log ++ e ∷ []) ≡ sent r.queues r.chart q log ++ message r.chart.events e ∷ [] =
-          ap (map (message r.chart.events)) (outputs_more r log e q output (here ∙ own.number))
-          ∙ map_push (message r.chart.events) (outputs_at r.queues r.chart q log) e in
+      ap (map (message r.chart.events)) (outputs_more r log e q output (here ∙ own.number))
+      ∙ map_push (message r.chart.events) (outputs_at r.queues r.chart q log) e in
       let long = ap length more ∙ length-append (sent r.queues r.chart q log) (message r.chart.events e ∷ []) in
       let put_long = ap length own.put ∙ length-append (get_or first.outlets k o).1.put (sent r.queues r.chart q log) in
       (own.opened, omega (arith, room.1, few, long, put_long, own.same.2))
@@ -120,11 +121,11 @@ begun_sent r first outs ins log clock k now e o new fit output is_new is_log lt 
       kept = record {
         log = is_log;
         put = zip_one (IsPutBy r log reading) (IsPutBy r (log ++ e ∷ []) after) outlet_number (get_or outs k o).0 first.outlets outs k o new lt
-            (subst IsOnce (sym fit.outlets) (sent_once r))
+            (subst Apart (sym fit.outlets) (sent_once r))
             (λ x own. sym own.number)
             (λ x own. subst (λ (q : ℕ). IsPutBy r (log ++ e ∷ []) after x (q, new.1)) (sym put.number)
-              (stepped.sent r log reading x (get_or outs k o) own e put.place now is_new output (here ∙ own.number) new.1 put.same put.put put.opened
-              (subst (λ (n : ℕ). new.1.claims ≡ (get_or outs k o).1.claims ++ claim put.place (Message (get_or outs k o).1.sender (message r.chart.events e)) (n + 1) now ∷ []) kept.clock put.claims)))
+            (stepped.sent r log reading x (get_or outs k o) own e put.place now is_new output (here ∙ own.number) new.1 put.same put.put put.opened
+            (subst (λ (n : ℕ). new.1.claims ≡ (get_or outs k o).1.claims ++ claim put.place (Message (get_or outs k o).1.sender (message r.chart.events e)) (n + 1) now ∷ []) kept.clock put.claims)))
             (λ x z own other. stepped.stayed r log reading x z own e put.place now is_new (λ _ own_queue. other (sym own_queue ∙ here)))
             kept.put;
         got = got_stays r log reading e put.place now first.inlets ins is_new none kept.got;
@@ -173,10 +174,10 @@ begun_took r first shut outs ins log clock k e i place now n new fit input is_ne
         log = is_log;
         put = put_stays r log reading e place read shut first.outlets outs is_new no_output kept.put;
         got = zip_one (IsGotBy r log reading) (IsGotBy r (log ++ e ∷ []) after) inlet_number (get_or ins k n).0 first.inlets ins k n new lt
-            (subst IsOnce (sym fit.inlets) (taken_once r))
+            (subst Apart (sym fit.inlets) (taken_once r))
             (λ x own. sym own.number)
             (λ x own. subst (λ (q : ℕ). IsGotBy r (log ++ e ∷ []) after x (q, new.1)) (sym got.number)
-              (stepped.took r log reading x (get_or ins k n) own got.even e place read i is_new input (here ∙ own.number) new.1 got.same got.got got.clocks.1.1))
+            (stepped.took r log reading x (get_or ins k n) own got.even e place read i is_new input (here ∙ own.number) new.1 got.same got.got got.clocks.1.1))
             (λ x z own other. stepped.stayed_in r log reading x z own e place read is_new (λ _ own_queue. other (sym own_queue ∙ here)))
             kept.got;
         clock = got.clocks.1.2 ∙ ap (λ a. max a read) kept.clock
@@ -198,7 +199,7 @@ begun_ended r first shut outs ins log clock k i n new lt got begun =
         put = begun.kept.put;
         got = zip_set (IsGotBy r log reading) first.inlets ins k n new lt
             (λ x own. subst (λ (q : ℕ). IsGotBy r log reading x (q, new.1)) (sym got.number)
-              (stepped.ended r log reading x (get_or ins k n) own got.even i 0 new.1 got.same got.got got.clocks)) begun.kept.got;
+            (stepped.ended r log reading x (get_or ins k n) own got.even i 0 new.1 got.same got.got got.clocks)) begun.kept.got;
         clock = begun.kept.clock;
       };
     }
@@ -249,12 +250,12 @@ pub closes : (r : Role) (log : List ℕ) (reading : Reading) (shut : Bool) (firs
 closes r log reading false first outs news closed h =
     zip_after (IsPutBy r log reading) IsClosedFrom (IsLeftBy r log reading) first outs news
     (λ x y z own now. subst (λ (q : ℕ). IsLeftBy r log reading x (q, z.1)) (sym now.number)
-      (let mark = now.claims own.opened in stepped.closed r log reading x y own z.1 mark.0 now.same now.put now.closed mark.1)) h closed
+    (let mark = now.claims own.opened in stepped.closed r log reading x y own z.1 mark.0 now.same now.put now.closed mark.1)) h closed
 closes r log reading true first outs news closed h =
     zip_after (IsLeftBy r log reading) IsClosedFrom (IsLeftBy r log reading) first outs news
     (λ x y z own now.
-      let same : y ≡ z = λ j. (sym now.number j, sym (now.again own.closed) j) in
-      subst (λ (o : NumberedOutlet). IsLeftBy r log reading x o) same own) h closed
+    let same : y ≡ z = λ j. (sym now.number j, sym (now.again own.closed) j) in
+    subst (λ (o : NumberedOutlet). IsLeftBy r log reading x o) same own) h closed
 
 -- all outlets are closed
 pub begun_closed : (r : Role) (first : EndLists) (outs news : List NumberedOutlet) (ins : List NumberedInlet) (log : List ℕ) (clock : ℕ)
@@ -273,7 +274,7 @@ begun_closed r first outs news ins log clock closed begun = record {
 pub comes : (r : Role) (open' : Bool) (patience : ℕ) (first : EndLists) (shut : Bool) (outs : List NumberedOutlet) (ins : List NumberedInlet) (log : List ℕ) (clock : ℕ) (end : End)
     → HasBegun r first (state shut outs ins log clock)
     → ((reading : Reading) → clock ≡ clock_along r.chart reading.read_at log
-        → EndsAs r open' patience reading (record { log = log; ends = record { outlets = outs; inlets = ins }; end = end }) (λ q. []) end)
+    → EndsAs r open' patience reading (record { log = log; ends = record { outlets = outs; inlets = ins }; end = end }) (λ q. []) end)
     → HasCome r open' patience first shut (record { log = log; ends = record { outlets = outs; inlets = ins }; end = end })
 comes r open' patience first shut outs ins log clock end begun ends = record {
   reading = begun.reading;
@@ -303,11 +304,11 @@ comes_strange r open' patience first shut outs ins log clock k i m place now n n
       put = begun.kept.put;
       strange = strange;
       got = zip_one (IsGotBy r log reading) (HasTaken r log reading strange) inlet_number q first.inlets ins k n new lt
-          (subst IsOnce (sym fit.inlets) (taken_once r))
+          (subst Apart (sym fit.inlets) (taken_once r))
           (λ x own. sym own.number)
           (λ x own. subst (λ (p : ℕ). HasTaken r log reading strange x (p, new.1)) (sym got.number)
-            (stepped.done_strange r log reading x (get_or ins k n) own got.even strange i m got.clocks.1.0 new.1 got.same got.got got.clocks.1.1
-            (ap strange (sym own.number) ∙ one)))
+          (stepped.done_strange r log reading x (get_or ins k n) own got.even strange i m got.clocks.1.0 new.1 got.same got.got got.clocks.1.1
+          (ap strange (sym own.number) ∙ one)))
           (λ x z own apart. stepped.done r log reading x z own strange (other x.0 apart))
           begun.kept.got;
       ended = record {

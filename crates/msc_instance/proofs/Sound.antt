@@ -29,10 +29,14 @@ module _ (d : Drawing) (p : Post) (a : Active) (s : IsSound d p a) where
     post = s.post;
     begun = s.begun;
     next = next_moves d p s.post (log_of a) a.next s.next next ahead to none;
-    first = record { from = omega (arith, s.first.from, from); to = first_to; there = λ e low lt. elim (cases_lt e a.first) [
-      | inl early ↦ s.first.there e low early
-      | inr late ↦ there e late lt
-    ] };
+    first = record {
+      from = omega (arith, s.first.from, from);
+      to = first_to;
+      there = λ e low lt. elim (cases_lt e a.first) [
+        | inl early ↦ s.first.there e low early
+        | inr late ↦ there e late lt
+      ];
+    };
     closed = λ shut. omega (arith, s.closed shut);
     room = s.room;
   }

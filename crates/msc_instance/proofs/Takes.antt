@@ -114,17 +114,18 @@ module _ (d : Drawing) (p : Post) (a : Active) (s : IsSound d p a) (k : ℕ) (n 
     took_input i place now journal got noted room =
         let is = input_is p.queues d s.post.accepted m known in
         let at : queue_of p.queues d (message d.events (input_of d m)) ≡ (get_or a.inlets.items k n).0 = ap (queue_of p.queues d) is.1 ∙ here in
-        let got2 = subst (λ (x : ℕ). HasGot a.clock (took.Message i x place now) (get_or a.inlets.items k n) new) (sym is.1) got in
-        (record {
-          post = s.post;
-          begun = rw noted (begun_took (post_role d p) (first_ends p) a.shut a.outlets.items a.inlets.items (log_of a) a.clock k (input_of d m) i place now n new
-              s.post.fit is.0 fresh input_log.0 lt at got2 s.begun);
-          next = rw noted input_log.1;
-          first = rw noted (upto_push p (log_of a) a.first (input_of d m) s.first);
-          closed = s.closed;
-          room = omega (arith, room, s.room);
-        },
-        omega (arith, sums, got.unended, left_fewer d p.instance (log_of a) journal.log.items (input_of d m) input_log.0 noted))
+        let got2 = subst (λ (x : ℕ). HasGot a.clock (took.Message i x place now) (get_or a.inlets.items k n) new) (sym is.1) got in (
+          record {
+            post = s.post;
+            begun = rw noted (begun_took (post_role d p) (first_ends p) a.shut a.outlets.items a.inlets.items (log_of a) a.clock k (input_of d m) i place now n new
+                s.post.fit is.0 fresh input_log.0 lt at got2 s.begun);
+            next = rw noted input_log.1;
+            first = rw noted (upto_push p (log_of a) a.first (input_of d m) s.first);
+            closed = s.closed;
+            room = omega (arith, room, s.room);
+          },
+          omega (arith, sums, got.unended, left_fewer d p.instance (log_of a) journal.log.items (input_of d m) input_log.0 noted),
+        )
 
 -- inlet k has one number, whatever stands for what is not there
 pub queue_here : (ins : List NumberedInlet) (k : ℕ) (x n : NumberedInlet) → k < length ins → x ≡ get_or ins k x → x.0 ≡ (get_or ins k n).0

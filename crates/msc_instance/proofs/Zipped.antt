@@ -3,7 +3,8 @@ use Rattle.std.proofs.Common.{◌≡◌, ◌≢◌, ℕ, zero, suc, ◌+◌, ◌
 use Rattle.std.specs.List.{AllZip}
 use Rattle.msc_chart.specs.Lists.{occurs}
 use Rattle.msc_chart.proofs.ListLemmas.{clash}
-use Rattle.msc_execution.proofs.Lists.Words.{IsOnce, at_head, in_tail, fails}
+use Rattle.msc_gather.proofs.Apart.{Apart}
+use Rattle.msc_execution.proofs.Lists.Words.{at_head, in_tail, fails}
 
 -- a wider relation holds too
 pub zip_map : {X Y : Type 0} (R S : X → Y → Type 0) (xs : List X) (ys : List Y) → ((x : X) (y : Y) → R x y → S x y) → AllZip R xs ys → AllZip S xs ys
@@ -61,7 +62,7 @@ zip_number R num q (x ∷ xs) (z ∷ ys) (suc k) y f lt h =
 
 -- One place changes, that of number q, and the others are looked at anew.
 pub zip_one : {X : Type 0} (R S : X → X → Type 0) (num : X → ℕ) (q : ℕ) (xs ys : List X) (k : ℕ) (y new : X)
-    → k < length ys → IsOnce (map num xs)
+    → k < length ys → Apart (map num xs)
     → ((x : X) → R x (get_or ys k y) → num x ≡ q)
     → ((x : X) → R x (get_or ys k y) → S x new)
     → ((x z : X) → R x z → num x ≢ q → S x z)
