@@ -100,7 +100,8 @@ impl Taken {
         if marks[other as usize] {
             return self.before[x as usize];
         }
-        self.last[w.queue(x) as usize]
+        let at = w.queue(x) as usize;
+        self.last[at]
     }
 }
 

@@ -39,6 +39,6 @@ returns c = λ logs seated sound marks holds.
     let unmarked = ap (is_marked c.args.marks.now) (sym c.other_end-other.ensures.value) ∙ c.if-marks-other.false in
     let inside = c.requires.queues c.args.x c.requires.known (output_not_local c.args.w.now.chart.now.events c.args.x output) in
     let read = c.index-2.ensures
-    ∙ get_or_default c.args.self.now.last.items c.queue.result c.index-2.result.now None (omega (arith, inside, c.queue.ensures)) in
-    subst (λ (o : Option ℕ). IsLink (wired_by c.args.w.now) logs c.args.x o) (sym (rw c.queue.ensures at read))
+    ∙ get_or_default c.args.self.now.last.items c.queue-at.result c.index-2.result.now None (omega (arith, inside, c.queue-at.ensures)) in
+    subst (λ (o : Option ℕ). IsLink (wired_by c.args.w.now) logs c.args.x o) (sym (rw c.queue-at.ensures at read))
     (link_left logs seated c.args.x sound marks holds output unmarked)
