@@ -1,14 +1,12 @@
 -- How ends are handed out, instance by instance.
-use Rattle.std.proofs.Common.{◌≡◌, ◌≢◌, ℕ, zero, suc, ◌+◌, ◌<◌, ◌≤◌, ◌&&◌, Bool, true, false, cond, List, [], ◌∷◌, ◌++◌, length, get_or, set, map, filter, take, drop, reverse, refl, sym, ap, ◌∙◌, inl, inr, arith, nat_lt, nat_eq}
-use Rattle.std.proofs.lemmas.Bool.{lt-ltb, le-ltb, cases_eq, cases_lt, eq-eqb, ne_eqb, and_left, and_right}
+use Rattle.std.proofs.Common.{◌≡◌, ◌≢◌, ℕ, ◌+◌, ◌<◌, ◌&&◌, Bool, true, false, cond, List, [], ◌∷◌, ◌++◌, length, get_or, set, map, filter, take, drop, reverse, refl, sym, ap, ◌∙◌, inl, inr, arith, nat_lt, nat_eq}
+use Rattle.std.proofs.lemmas.Bool.{lt-ltb, le-ltb, cases_eq, cases_lt, eq-eqb, ne_eqb, and_right}
 use Rattle.std.proofs.lemmas.List.{get_or-set_same, get_or-set_other, map-set, length-map, get_or-map, drop_more, append-nil, reverse-append}
 use Rattle.std.proofs.lemmas.List.Elements.{All-set}
-use Rattle.std.proofs.lemmas.List.Sums.{count_by_more_yes, count_by_more_no, length-filter, sum_by-cons}
-use Rattle.std.specs.Prelude.{sum}
-use Rattle.msc_chart.proofs.ListLemmas.{by_test}
+use Rattle.std.proofs.lemmas.List.Sums.{count_by_more_yes, count_by_more_no}
 use Rattle.msc_chart.specs.declared.queue.Queues.{Queues}
 use Rattle.msc_fifo.specs.Identity.{QueueId}
-use Rattle.msc_fifo.specs.Ends.{OutletState, InletState, new_outlet, new_outlets, new_inlet, IsTooLarge}
+use Rattle.msc_fifo.specs.Ends.{OutletState, InletState, new_outlet, new_outlets, new_inlet}
 use Rattle.msc_execution.specs.Fits.{no_ends}
 use Rattle.msc_instance.specs.declared.ends.InstanceEnds.{InstanceEnds}
 use Rattle.msc_instance.specs.Views.{ends_of}

@@ -1,12 +1,11 @@
 -- Counts in lists: by two tests, over a mapped list, in a range, and in parts that add up.
-use Rattle.std.proofs.Common.{◌≡◌, ℕ, zero, suc, ◌+◌, ◌*◌, ◌<◌, ◌≤◌, ◌&&◌, ◌||◌, Bool, true, false, cond, List, [], ◌∷◌, length, get_or, map, filter, take, refl, sym, ap, ◌∙◌, inl, inr, arith, rules, nat_eq, nat_lt}
-use Rattle.std.specs.Prelude.{count_by, sum, slice_range}
+use Rattle.std.proofs.Common.{◌≡◌, ℕ, zero, suc, ◌+◌, ◌<◌, ◌≤◌, ◌&&◌, ◌||◌, Bool, true, false, cond, List, [], ◌∷◌, length, map, filter, refl, sym, ap, ◌∙◌, inl, inr, arith, nat_eq, nat_lt}
+use Rattle.std.specs.Prelude.{count_by}
 use Rattle.std.specs.List.{range_with_len, sum_by, list_any}
-use Rattle.std.proofs.lemmas.Bool.{eq-eqb, eqb-true, eqb-false, ne_eqb, cases_eq, lt-ltb, and_left, or_left, or_from}
-use Rattle.std.proofs.lemmas.Nat.{same_from_place, row_fits}
-use Rattle.std.proofs.lemmas.List.{map-id, places}
-use Rattle.std.proofs.lemmas.List.FromFn.{fill_by_all, sum_by-map-range_with_len_more, take-map-range_with_len, length-range_with_len}
-use Rattle.std.proofs.lemmas.List.Sums.{sum_by-cons, sum-map, length-filter, count_by-le-length}
+use Rattle.std.proofs.lemmas.Bool.{eq-eqb, ne_eqb, cases_eq, lt-ltb, or_left, or_from}
+use Rattle.std.proofs.lemmas.List.{map-id}
+use Rattle.std.proofs.lemmas.List.FromFn.{sum_by-map-range_with_len_more}
+use Rattle.std.proofs.lemmas.List.Sums.{sum_by-cons}
 use Rattle.msc_chart.proofs.ListLemmas.{by_test}
 
 -- a count by one test of what passes another

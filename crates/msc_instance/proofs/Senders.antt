@@ -1,18 +1,14 @@
 -- The quotas of those who send to a queue: none, or few enough.
-use Rattle.std.proofs.Common.{◌≡◌, ◌≢◌, ℕ, zero, suc, ◌+◌, ◌<◌, ◌≤◌, ◌&&◌, Bool, true, false, cond, List, [], ◌∷◌, ◌++◌, length, get_or, set, map, filter, take, drop, reverse, refl, sym, ap, ◌∙◌, inl, inr, arith, nat_lt, nat_eq}
-use Rattle.std.proofs.lemmas.Bool.{lt-ltb, le-ltb, cases_eq, cases_lt, eq-eqb, ne_eqb, and_left, and_right}
-use Rattle.std.proofs.lemmas.List.{get_or-set_same, get_or-set_other, map-set, length-map, get_or-map, drop_more, append-nil, reverse-append}
-use Rattle.std.proofs.lemmas.List.Elements.{All-set}
-use Rattle.std.proofs.lemmas.List.Sums.{count_by_more_yes, count_by_more_no, length-filter, sum_by-cons}
+use Rattle.std.proofs.Common.{◌≡◌, ℕ, zero, suc, ◌≤◌, Bool, false, cond, List, [], ◌∷◌, ◌++◌, length, get_or, filter, take, refl, sym, ap, ◌∙◌, inl, inr, arith, nat_lt, nat_eq}
+use Rattle.std.proofs.lemmas.Bool.{le-ltb, and_left}
+use Rattle.std.proofs.lemmas.List.{append-nil}
+use Rattle.std.proofs.lemmas.List.Sums.{length-filter, sum_by-cons}
 use Rattle.std.specs.Prelude.{sum}
 use Rattle.msc_chart.proofs.ListLemmas.{by_test}
-use Rattle.msc_chart.specs.declared.queue.Queues.{Queues}
 use Rattle.msc_fifo.specs.Identity.{QueueId}
-use Rattle.msc_fifo.specs.Ends.{OutletState, InletState, new_outlet, new_outlets, new_inlet, IsTooLarge}
-use Rattle.msc_execution.specs.Fits.{no_ends}
+use Rattle.msc_fifo.specs.Ends.{new_outlet, new_inlet, IsTooLarge}
 use Rattle.msc_instance.specs.declared.ends.InstanceEnds.{InstanceEnds}
-use Rattle.msc_instance.specs.Views.{ends_of}
-use Rattle.msc_instance.specs.Handing.{AreUnder, IsHandingOut, AreHandedOut, ends_at, outlet_for, inlet_for, senders_among}
+use Rattle.msc_instance.specs.Handing.{AreHandedOut, ends_at, outlet_for, inlet_for, senders_among}
 
 at_either : (x : ℕ) (xs : List ℕ) (i : ℕ) → nat_lt 0 x ≡ false
     → ((k : ℕ) → nat_lt 0 (get_or xs k 0) ≡ false) → nat_lt 0 (get_or (x ∷ xs) i 0) ≡ false

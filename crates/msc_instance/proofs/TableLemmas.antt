@@ -1,6 +1,6 @@
 -- What tables of counts tell of the ends that fit an instance.
-use Rattle.std.proofs.Common.{◌≡◌, ◌↔◌, ℕ, zero, suc, ◌+◌, ◌<◌, ◌≤◌, Bool, true, false, cond, List, [], ◌∷◌, length, get_or, filter, take, replicate, refl, sym, ap, ◌∙◌, inl, inr, arith, nat_eq, nat_lt, true≢false}
-use Rattle.std.specs.Prelude.{All, count_by}
+use Rattle.std.proofs.Common.{◌≡◌, ℕ, zero, suc, ◌+◌, ◌<◌, Bool, true, false, cond, List, [], ◌∷◌, length, get_or, filter, take, replicate, refl, sym, ap, ◌∙◌, inl, inr, arith, nat_eq, nat_lt, true≢false}
+use Rattle.std.specs.Prelude.{count_by}
 use Rattle.std.specs.List.{range_with_len, list_any}
 use Rattle.std.proofs.lemmas.Bool.{cases_lt, lt-ltb, ne_eqb}
 use Rattle.std.proofs.lemmas.List.{get_or_past}
@@ -9,7 +9,7 @@ use Rattle.msc_chart.specs.Drawings.{Drawing, IsAccepted, sender_of, receiver_of
 use Rattle.msc_chart.specs.Orders.{queue_bound, queue_of}
 use Rattle.msc_chart.specs.Laws.{messages_in, sends_to, EventsHaveQueues, QueueNumbersAreBounded}
 use Rattle.msc_chart.proofs.ListLemmas.{by_test}
-use Rattle.msc_execution.specs.Roles.{EndLists, NumberedOutlet, role, queues_below, quota_of, takes_from, sent_queues, taken_queues, IsFit}
+use Rattle.msc_execution.specs.Roles.{Role, EndLists, role, queues_below, quota_of, takes_from, sent_queues, taken_queues, IsFit}
 use Rattle.msc_instance.specs.Fitting.{AreCountsOf, HaveRoom, numbers_in, numbers_of}
 use Rattle.msc_instance.proofs.Counted.{queue_small}
 use Rattle.msc_instance.proofs.ListCounts.{any_counts}
@@ -83,7 +83,7 @@ module _ (queues : Queues) (d : Drawing) (i : ℕ) (counts : List ℕ)
       (filter (λ q. nat_lt 0 (length (messages_in queues d q))) (range_with_len 0 n))) long
 
   -- each count of what is sent is the quota
-  counts_all : IsAccepted d → EventsHaveQueues → QueueNumbersAreBounded
+  pub counts_all : IsAccepted d → EventsHaveQueues → QueueNumbersAreBounded
       → AreCountsOf (sender_of d) queues d i (length d.messages) counts
       → (q : ℕ) → get_or counts q 0 ≡ quota_of queues d q i
   unfolding quota_of messages_in
@@ -97,57 +97,23 @@ module _ (queues : Queues) (d : Drawing) (i : ℕ) (counts : List ℕ)
         get_or_past counts q 0 past ∙ sym (ap (count_by (λ m. nat_eq (sender_of d m) i)) none)
   ]
 
-  -- so outlets have room for the counts where they have it for the quotas
-  pub rooms : IsAccepted d → EventsHaveQueues → QueueNumbersAreBounded
-      → AreCountsOf (sender_of d) queues d i (length d.messages) counts
-      → (outlets : List NumberedOutlet)
-      → HaveRoom counts outlets ↔ All (λ (o : NumberedOutlet). (o.1.closed ≡ false)
-      × (length o.1.put + quota_of queues d o.0 i ≤ o.1.quota)) outlets
-  rooms accepted have bounded counted outlets =
-      let same = counts_all accepted have bounded counted in (
-        λ room k o lt. (let r = room k o lt in (
-          r.0,
-          omega (arith, r.1, same (get_or outlets k o).0),
-        )),
-        λ room k o lt. (let r = room k o lt in (
-          r.0,
-          omega (arith, r.1, same (get_or outlets k o).0),
-        )),
-      )
+-- outlets have room for the counts where they have it for the quotas
+module _ (r : Role) (sent : List ℕ) (ends : EndLists)
+    (quotas : (q : ℕ) → get_or sent q 0 ≡ quota_of r.queues r.chart q r.number) where
+  pub outlet_room : IsFit r ends → HaveRoom sent ends.outlets
+  outlet_room fit k o lt =
+      let room = fit.room k o lt in
+      (room.0, omega (arith, room.1, quotas (get_or ends.outlets k o).0))
 
--- ends that fit have the numbers of the tables, and room for the counts
-module _ (queues : Queues) (d : Drawing) (i : ℕ) (sent taken : List ℕ) (ends : EndLists) where
-  pub record Tables : Type 0 where
-    pub accepted : IsAccepted d
-    pub have : EventsHaveQueues
-    pub bounded : QueueNumbersAreBounded
-    pub sent_long : length sent ≡ queue_bound queues d
-    pub taken_long : length taken ≡ queue_bound queues d
-    pub sent_counted : AreCountsOf (sender_of d) queues d i (length d.messages) sent
-    pub taken_counted : AreCountsOf (receiver_of d) queues d i (length d.messages) taken
-
-  pub outlet_numbers : Tables → IsFit (role queues d i) ends
-      → numbers_of ends.outlets ≡ numbers_in sent
-  outlet_numbers t fit = fit.outlets ∙ sym (sent_numbers queues d i sent t.sent_long t.sent_counted)
-
-  pub inlet_numbers : Tables → IsFit (role queues d i) ends
-      → numbers_of ends.inlets ≡ numbers_in taken
-  inlet_numbers t fit = fit.inlets ∙ sym (taken_numbers queues d i taken t.taken_long
-      t.taken_counted)
-
-  pub outlet_room : Tables → IsFit (role queues d i) ends → HaveRoom sent ends.outlets
-  outlet_room t fit = (rooms queues d i sent t.sent_long t.accepted t.have t.bounded t.sent_counted
-      ends.outlets).1 fit.room
-
-  -- and ends that have them fit
-  pub fitting : Tables → numbers_of ends.outlets ≡ numbers_in sent
-      → numbers_of ends.inlets ≡ numbers_in taken → HaveRoom sent ends.outlets
-      → IsFit (role queues d i) ends
-  fitting t outlets inlets room = record {
-    outlets = outlets ∙ sent_numbers queues d i sent t.sent_long t.sent_counted;
-    inlets = inlets ∙ taken_numbers queues d i taken t.taken_long t.taken_counted;
-    room = (rooms queues d i sent t.sent_long t.accepted t.have t.bounded t.sent_counted
-        ends.outlets).0 room;
+  -- ends with the numbers of an instance's queues, and with that room, fit
+  pub fitting : numbers_of ends.outlets ≡ sent_queues r → numbers_of ends.inlets ≡ taken_queues r
+      → HaveRoom sent ends.outlets → IsFit r ends
+  fitting outlets inlets room = record {
+    outlets = outlets;
+    inlets = inlets;
+    room = λ k o lt.
+        let there = room k o lt in
+        (there.0, omega (arith, there.1, quotas (get_or ends.outlets k o).0));
   }
 
 -- a table of nothing, and a part of it

@@ -1,6 +1,6 @@
 //! How many messages go from whom through which queue, counted in one pass.
 
-ghost use Rattle.std.specs.Prelude.{◌≡◌, ℕ, ◌*◌, ◌<◌, length, get_or};
+ghost use Rattle.std.specs.Prelude.{◌≡◌, ℕ, ◌*◌, length, get_or};
 ghost use Rattle.msc_chart.specs.Orders.{queue_bound};
 ghost use Rattle.msc_instance.specs.Handing.{AreCounted, AreReceivers};
 

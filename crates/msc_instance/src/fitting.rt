@@ -1,10 +1,9 @@
 //! Whether ends fit an instance, told by counts of its messages in tables of a fixed size.
 
-ghost use Rattle.std.specs.Prelude.{◌≡◌, ℕ, ◌<◌, ◌≤◌, ◌↔◌, IsTrue, length, get_or};
-ghost use Rattle.msc_chart.specs.Drawings.{receiver_of, sender_of};
+ghost use Rattle.std.specs.Prelude.{◌≡◌, ℕ, ◌↔◌, IsTrue, length, get_or};
 ghost use Rattle.msc_chart.specs.Orders.{queue_bound};
-ghost use Rattle.msc_execution.specs.Roles.{IsFit, role};
-ghost use Rattle.msc_instance.specs.Fitting.{AreCountsOf, HasRoomFor, HaveRoom, numbers_in, numbers_of};
+ghost use Rattle.msc_execution.specs.Roles.{IsFit, quota_of, role, sent_queues, taken_queues};
+ghost use Rattle.msc_instance.specs.Fitting.{HasRoomFor, HaveRoom, numbers_in, numbers_of};
 ghost use Rattle.msc_instance.specs.Views.{ends_of};
 
 use crate::ends::InstanceEnds;
@@ -28,10 +27,9 @@ fn count_own(chart: &Chart, queues: Queues, i: u32, sent: &mut [u32], taken: &mu
     requires none { (q : ℕ) → get_or taken.old q 0 ≡ 0 }
     requires sent { length sent.old ≡ queue_bound queues chart.now }
     requires taken { length taken.old ≡ queue_bound queues chart.now }
-    ensures sent { AreCountsOf (sender_of chart.now) queues chart.now i
-        (length chart.now.messages) sent.new }
-    ensures taken { AreCountsOf (receiver_of chart.now) queues chart.now i
-        (length chart.now.messages) taken.new }
+    ensures sent { numbers_in sent.new ≡ sent_queues (role queues chart.now i) }
+    ensures taken { numbers_in taken.new ≡ taken_queues (role queues chart.now i) }
+    ensures quotas { (q : ℕ) → get_or sent.new q 0 ≡ quota_of queues chart.now q i }
 {
     queue_numbers_are_bounded();
     events_have_queues();
@@ -102,9 +100,6 @@ fn fit_counted(
     requires taken { length taken.old ≡ queue_bound ends.now.queues chart.now }
     ensures { IsTrue result ↔ IsFit (role ends.now.queues chart.now i) (ends_of ends.now) }
 {
-    queue_numbers_are_bounded();
-    events_have_queues();
-    chart.accepted();
     count_own(chart, ends.queues, i, sent, taken);
     if !are_numbered(ends.outlets.as_slice(), sent) {
         return false;
@@ -116,9 +111,9 @@ fn fit_counted(
 }
 
 impl InstanceEnds {
-    /// Whether the ends fit instance `i` of the chart: an open outlet for each queue to which it
-    /// sends, with room for what it sends there, an inlet for each from which it takes, and no other,
-    /// ascending. It takes no memory.
+    /// Whether the ends fit instance `i` of the chart, from 0: an open outlet for each queue to
+    /// which it sends, with room for what it sends there, an inlet for each queue from which it
+    /// takes, and no other; both lists ascend. It takes no memory.
     pub fn fits(&self, chart: &Chart, i: u32) -> bool
         ensures { IsTrue result ↔ IsFit (role self.now.queues chart.now i) (ends_of self.now) }
     {

@@ -1,6 +1,6 @@
 //! Fresh ends for all instances of a chart: each queue is made, and its ends are handed out.
 
-ghost use Rattle.std.specs.Prelude.{◌≡◌, ℕ, ◌*◌, ◌<◌, ◌≤◌, List, [], length, map, filter, sum, All, IfOk, OnOk, Some, slice_get, nat_lt};
+ghost use Rattle.std.specs.Prelude.{◌≡◌, ℕ, ◌*◌, ◌<◌, ◌≤◌, length, map, filter, sum, All, IfOk, OnOk, Some, slice_get, nat_lt};
 ghost use Rattle.msc_fifo.specs.Ends.{new_outlets, new_inlet};
 ghost use Rattle.msc_execution.specs.Roles.{IsFit, IsWiring, role};
 ghost use Rattle.msc_chart.specs.Orders.{queue_bound};
@@ -136,8 +136,9 @@ fn wire_each(
     Ok(())
 }
 
-/// Fresh ends for each instance of a chart under an architecture: one queue for each number that has
-/// a message, with an outlet for each sender and room for what it sends.
+/// Fresh ends for each instance of a chart under an architecture: one queue for each number that
+/// has a message, with an outlet for each sender, with room for what it sends, and the inlet for
+/// the receiver. An error is answered where a growth of memory was refused.
 pub fn wire(alloc: Global, chart: &Chart, queues: Queues) -> Result<Vec<InstanceEnds>, AllocError>
     ensures wiring { IfOk result (λ all. IsWiring queues chart.now (map ends_of all.items)) }
     ensures architecture { IfOk result (λ all. All (λ e. e.queues ≡ queues) all.items) }

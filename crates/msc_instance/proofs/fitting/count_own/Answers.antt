@@ -2,6 +2,9 @@ use Rattle.std.proofs.Common.{◌∙◌, ap, arith, cond, nat_eq}
 use Rattle.msc_chart.specs.Drawings.{receiver_of, sender_of}
 use Rattle.msc_instance.proofs.Counted.{queue_small}
 use Rattle.msc_instance.proofs.Fitted.{own_small, own_counted, byte_is, byte_small}
+use Rattle.std.proofs.Common.{◌≡◌, length, subst}
+use Rattle.msc_instance.specs.Fitting.{AreCountsOf}
+use Rattle.msc_instance.proofs.TableLemmas.{sent_numbers, taken_numbers, counts_all}
 use Rattle.msc_instance.proofs.fitting.count_own.Goals as goal
 
 pub bounds-sent-q : goal.bounds-sent-q
@@ -55,3 +58,29 @@ loop-m-preserved c = record {
       (c.from-in-loop-m.ensures ∙ byte_is _ ∙ ap (λ x. cond (nat_eq x c.args.i) 1 0)
       c.receiver.ensures.value) c.loop-m.invariant.taken;
 }
+
+pub returns-clause-sent : goal.returns-clause-sent
+returns-clause-sent c =
+    let done : c.loop-m.m ≡ length c.args.chart.now.messages = omega arith in
+    sent_numbers c.args.queues c.args.chart.now c.args.i c.loop-m.sent (omega arith)
+    (subst (λ n. AreCountsOf (sender_of c.args.chart.now) c.args.queues c.args.chart.now c.args.i n
+    c.loop-m.sent)
+    done c.loop-m.invariant.sent)
+
+pub returns-clause-taken : goal.returns-clause-taken
+returns-clause-taken c =
+    let done : c.loop-m.m ≡ length c.args.chart.now.messages = omega arith in
+    taken_numbers c.args.queues c.args.chart.now c.args.i c.loop-m.taken (omega arith)
+    (subst (λ n. AreCountsOf (receiver_of c.args.chart.now) c.args.queues c.args.chart.now c.args.i
+    n c.loop-m.taken)
+    done c.loop-m.invariant.taken)
+
+pub returns-clause-quotas : goal.returns-clause-quotas
+returns-clause-quotas c =
+    let done : c.loop-m.m ≡ length c.args.chart.now.messages = omega arith in
+    counts_all c.args.queues c.args.chart.now c.args.i c.loop-m.sent (omega arith)
+    c.accepted.ensures
+    c.events_have_queues.ensures c.queue_numbers_are_bounded.ensures.numbers
+    (subst (λ n. AreCountsOf (sender_of c.args.chart.now) c.args.queues c.args.chart.now c.args.i n
+    c.loop-m.sent)
+    done c.loop-m.invariant.sent)
