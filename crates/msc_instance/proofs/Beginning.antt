@@ -1,16 +1,15 @@
 -- How the run of an instance begins.
-use Rattle.std.proofs.Common.{◌≡◌, ◌≢◌, ℕ, ◌+◌, ◌<◌, ◌≤◌, Bool, true, false, cond, List, [], ◌∷◌, ◌++◌, length, refl, sym, ap, ◌∙◌, subst, arith, All, vec_capacity, Vec, Global}
-use Rattle.std.specs.Prelude.{count_by, nat_lt}
+use Rattle.std.proofs.Common.{◌≡◌, ℕ, ◌+◌, ◌<◌, ◌≤◌, Bool, true, false, cond, List, [], ◌∷◌, length, refl, sym, ap, arith, All, vec_capacity}
+use Rattle.std.specs.Prelude.{nat_lt}
 use Rattle.std.specs.List.{AllZip}
 use Rattle.std.proofs.lemmas.Bool.{ltb-true, lt-ltb}
 use Rattle.std.proofs.lemmas.List.Sums.{sum_by-cons, count_by-le-length}
 use Rattle.std.proofs.lemmas.List.Elements.{All-head, All-tail}
 use Rattle.msc_chart.specs.declared.event.ChartEvent.{ChartEvent}
-use Rattle.msc_chart.specs.Lists.{occurs}
-use Rattle.msc_chart.specs.Charts.{line, line_start}
+use Rattle.msc_chart.specs.Charts.{line_start}
 use Rattle.msc_chart.specs.Drawings.{Drawing}
 use Rattle.msc_chart.proofs.ListLemmas.{by_test, clash}
-use Rattle.msc_execution.specs.Roles.{Role, EndLists, NumberedOutlet, NumberedInlet, IsFit}
+use Rattle.msc_execution.specs.Roles.{Role, EndLists, NumberedOutlet, IsFit}
 use Rattle.msc_execution.specs.Logs.{Reading, IsLogOf, line_events, controlled}
 use Rattle.msc_instance.specs.declared.active.Active.{Active}
 use Rattle.msc_instance.specs.declared.active.Post.{Post}
@@ -77,8 +76,8 @@ pub begins : (d : Drawing) (p : Post) (a : Active) → IsPost d p → ends_now a
     → a.next ≡ p.start → a.first ≡ p.start → a.shut ≡ false → length (line_events d p.instance) ≤ vec_capacity a.journal.log → IsSound d p a
 begins d p a post ends empty clock next first open' room =
     let none : line_below d p.instance p.start ≡ [] = none_below d p.instance p.start (λ e lt on.
-        (let in' : e < length d.events = omega (arith, post.ordered, post.within) in
-        let r = (post.line e in').0 on in absurd (omega (arith, r.0)))) in
+    (let in' : e < length d.events = omega (arith, post.ordered, post.within) in
+    let r = (post.line e in').0 on in absurd (omega (arith, r.0)))) in
     record {
       post = post;
       begun = rw (open', ends, empty, clock) (begun_first (post_role d p) (first_ends p) post.fit);

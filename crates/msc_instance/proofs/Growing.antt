@@ -49,7 +49,7 @@ unfolding clock_next
 clock_pushed d r log e k n new =
     let own = (event_own e k n r).0 in
     let before : clock_along d (with_event e k n r).read_at log ≡ clock_along d r.read_at log =
-        one_clock d (with_event e k n r).read_at r.read_at 0 log (λ x there. (event_other e k n r x (not_new log e x new there)).0) in
+    one_clock d (with_event e k n r).read_at r.read_at 0 log (λ x there. (event_other e k n r x (not_new log e x new there)).0) in
     along_push d (with_event e k n r).read_at 0 log e
     ∙ (λ j. cond (is_output d.events e) (own j) (cond (is_input d.events e) (max (before j) (own j)) (before j)))
 

@@ -1,13 +1,12 @@
 -- What an instance keeps from step to step.
-use Rattle.std.proofs.Common.{◌≡◌, ◌≢◌, ℕ, zero, suc, ◌+◌, ◌<◌, ◌≤◌, max, Bool, true, false, cond, eqb, List, [], ◌∷◌, ◌++◌, map, length, set, get_or, refl, sym, ap, ◌∙◌, subst, arith, All, length-append}
-use Rattle.std.specs.Prelude.{nat_eq}
+use Rattle.std.proofs.Common.{◌≡◌, ◌≢◌, ℕ, zero, suc, ◌+◌, ◌<◌, max, Bool, true, false, cond, eqb, List, [], ◌∷◌, ◌++◌, map, length, set, get_or, refl, sym, ap, ◌∙◌, subst, arith, length-append}
 use Rattle.std.specs.List.{AllZip, range_with_len}
 use Rattle.std.proofs.Math.Seq.{map-set_same}
 use Rattle.std.proofs.lemmas.Bool.{eq-eqb, ne_eqb}
 use Rattle.std.proofs.lemmas.List.{append-nil}
-use Rattle.std.proofs.lemmas.List.Elements.{AllZip-get_or, All-get_or, length_all_zip}
+use Rattle.std.proofs.lemmas.List.Elements.{AllZip-get_or, length_all_zip}
 use Rattle.msc_chart.specs.Lists.{occurs}
-use Rattle.msc_chart.specs.Charts.{line, message, is_output, is_input, is_local}
+use Rattle.msc_chart.specs.Charts.{message, is_output, is_input, is_local}
 use Rattle.msc_chart.specs.Drawings.{IsAccepted}
 use Rattle.msc_chart.specs.Orders.{queue_of, queue_bound}
 use Rattle.msc_chart.proofs.ListLemmas.{clash}
@@ -18,18 +17,18 @@ use Rattle.msc_fifo.specs.Claims.{claim}
 use Rattle.msc_fifo.specs.Ends.{HasRoom}
 use Rattle.msc_execution.specs.declared.end.End.{End}
 use Rattle.msc_execution.specs.declared.end.End.TheVariants as end
-use Rattle.msc_execution.specs.Roles.{Role, EndLists, NumberedOutlet, NumberedInlet, IsFit, sent_queues, taken_queues, queues_in, queues_below, quota_of, role}
+use Rattle.msc_execution.specs.Roles.{Role, EndLists, NumberedOutlet, NumberedInlet, IsFit, sent_queues, taken_queues, queues_below}
 use Rattle.msc_execution.specs.Logs.{Reading, IsLogOf, clock_along, sent, outputs_at}
 use Rattle.msc_execution.specs.Fits.{LogsKeepQuotas}
 use Rattle.msc_execution.specs.Growth.{HasTaken, IsLeftBy, IsStrange, all_messages, clocks_at}
 use Rattle.msc_execution.specs.Running.{EndsAs, HasRun}
 use Rattle.msc_execution.proofs.Lists.Words.{IsOnce, once_filter, fails, at_head, in_tail}
 use Rattle.msc_execution.proofs.Lists.Ranges.{in_range}
-use Rattle.msc_instance.specs.Steps.{State, IsPutBy, IsGotBy, ArePutBy, IsKept, HasBegun, with_event}
+use Rattle.msc_instance.specs.Steps.{State, IsPutBy, IsGotBy, ArePutBy, HasBegun, with_event}
 use Rattle.msc_instance.specs.Active.{HasPut, HasGot, HasCome, IsClosedFrom}
 use Rattle.msc_instance.proofs.Growing.{clock_pushed, outputs_more, map_push}
 use Rattle.msc_instance.proofs.Stepped as stepped
-use Rattle.msc_instance.proofs.Zipped.{zip_map, zip_after, zip_self, zip_numbers, zip_one, zip_set}
+use Rattle.msc_instance.proofs.Zipped.{zip_map, zip_after, zip_numbers, zip_one, zip_set}
 
 abbrev pub outlet_number : NumberedOutlet → ℕ
 outlet_number o = o.0
@@ -98,8 +97,8 @@ module _ (r : Role) (first : EndLists) (fit : IsFit r first) where
       let q : ℕ = (get_or first.outlets k o).0 in
       let few = quotas r.queues r.chart q r.number (log ++ e ∷ []) accepted is in
       let more : sent r.queues r.chart q (log ++ e ∷ []) ≡ sent r.queues r.chart q log ++ message r.chart.events e ∷ [] =
-          ap (map (message r.chart.events)) (outputs_more r log e q output (here ∙ own.number))
-          ∙ map_push (message r.chart.events) (outputs_at r.queues r.chart q log) e in
+      ap (map (message r.chart.events)) (outputs_more r log e q output (here ∙ own.number))
+      ∙ map_push (message r.chart.events) (outputs_at r.queues r.chart q log) e in
       let long = ap length more ∙ length-append (sent r.queues r.chart q log) (message r.chart.events e ∷ []) in
       let put_long = ap length own.put ∙ length-append (get_or first.outlets k o).1.put (sent r.queues r.chart q log) in
       (own.opened, omega (arith, room.1, few, long, put_long, own.same.2))
@@ -123,8 +122,8 @@ begun_sent r first outs ins log clock k now e o new fit output is_new is_log lt 
             (subst IsOnce (sym fit.outlets) (sent_once r))
             (λ x own. sym own.number)
             (λ x own. subst (λ (q : ℕ). IsPutBy r (log ++ e ∷ []) after x (q, new.1)) (sym put.number)
-              (stepped.sent r log reading x (get_or outs k o) own e put.place now is_new output (here ∙ own.number) new.1 put.same put.put put.opened
-              (subst (λ (n : ℕ). new.1.claims ≡ (get_or outs k o).1.claims ++ claim put.place (Message (get_or outs k o).1.sender (message r.chart.events e)) (n + 1) now ∷ []) kept.clock put.claims)))
+            (stepped.sent r log reading x (get_or outs k o) own e put.place now is_new output (here ∙ own.number) new.1 put.same put.put put.opened
+            (subst (λ (n : ℕ). new.1.claims ≡ (get_or outs k o).1.claims ++ claim put.place (Message (get_or outs k o).1.sender (message r.chart.events e)) (n + 1) now ∷ []) kept.clock put.claims)))
             (λ x z own other. stepped.stayed r log reading x z own e put.place now is_new (λ _ own_queue. other (sym own_queue ∙ here)))
             kept.put;
         got = got_stays r log reading e put.place now first.inlets ins is_new none kept.got;
@@ -176,7 +175,7 @@ begun_took r first shut outs ins log clock k e i place now n new fit input is_ne
             (subst IsOnce (sym fit.inlets) (taken_once r))
             (λ x own. sym own.number)
             (λ x own. subst (λ (q : ℕ). IsGotBy r (log ++ e ∷ []) after x (q, new.1)) (sym got.number)
-              (stepped.took r log reading x (get_or ins k n) own got.even e place read i is_new input (here ∙ own.number) new.1 got.same got.got got.clocks.1.1))
+            (stepped.took r log reading x (get_or ins k n) own got.even e place read i is_new input (here ∙ own.number) new.1 got.same got.got got.clocks.1.1))
             (λ x z own other. stepped.stayed_in r log reading x z own e place read is_new (λ _ own_queue. other (sym own_queue ∙ here)))
             kept.got;
         clock = got.clocks.1.2 ∙ ap (λ a. max a read) kept.clock
@@ -198,7 +197,7 @@ begun_ended r first shut outs ins log clock k i n new lt got begun =
         put = begun.kept.put;
         got = zip_set (IsGotBy r log reading) first.inlets ins k n new lt
             (λ x own. subst (λ (q : ℕ). IsGotBy r log reading x (q, new.1)) (sym got.number)
-              (stepped.ended r log reading x (get_or ins k n) own got.even i 0 new.1 got.same got.got got.clocks)) begun.kept.got;
+            (stepped.ended r log reading x (get_or ins k n) own got.even i 0 new.1 got.same got.got got.clocks)) begun.kept.got;
         clock = begun.kept.clock;
       };
     }
@@ -249,12 +248,12 @@ pub closes : (r : Role) (log : List ℕ) (reading : Reading) (shut : Bool) (firs
 closes r log reading false first outs news closed h =
     zip_after (IsPutBy r log reading) IsClosedFrom (IsLeftBy r log reading) first outs news
     (λ x y z own now. subst (λ (q : ℕ). IsLeftBy r log reading x (q, z.1)) (sym now.number)
-      (let mark = now.claims own.opened in stepped.closed r log reading x y own z.1 mark.0 now.same now.put now.closed mark.1)) h closed
+    (let mark = now.claims own.opened in stepped.closed r log reading x y own z.1 mark.0 now.same now.put now.closed mark.1)) h closed
 closes r log reading true first outs news closed h =
     zip_after (IsLeftBy r log reading) IsClosedFrom (IsLeftBy r log reading) first outs news
     (λ x y z own now.
-      let same : y ≡ z = λ j. (sym now.number j, sym (now.again own.closed) j) in
-      subst (λ (o : NumberedOutlet). IsLeftBy r log reading x o) same own) h closed
+    let same : y ≡ z = λ j. (sym now.number j, sym (now.again own.closed) j) in
+    subst (λ (o : NumberedOutlet). IsLeftBy r log reading x o) same own) h closed
 
 -- all outlets are closed
 pub begun_closed : (r : Role) (first : EndLists) (outs news : List NumberedOutlet) (ins : List NumberedInlet) (log : List ℕ) (clock : ℕ)
@@ -273,7 +272,7 @@ begun_closed r first outs news ins log clock closed begun = record {
 pub comes : (r : Role) (open' : Bool) (patience : ℕ) (first : EndLists) (shut : Bool) (outs : List NumberedOutlet) (ins : List NumberedInlet) (log : List ℕ) (clock : ℕ) (end : End)
     → HasBegun r first (state shut outs ins log clock)
     → ((reading : Reading) → clock ≡ clock_along r.chart reading.read_at log
-        → EndsAs r open' patience reading (record { log = log; ends = record { outlets = outs; inlets = ins }; end = end }) (λ q. []) end)
+    → EndsAs r open' patience reading (record { log = log; ends = record { outlets = outs; inlets = ins }; end = end }) (λ q. []) end)
     → HasCome r open' patience first shut (record { log = log; ends = record { outlets = outs; inlets = ins }; end = end })
 comes r open' patience first shut outs ins log clock end begun ends = record {
   reading = begun.reading;
@@ -306,8 +305,8 @@ comes_strange r open' patience first shut outs ins log clock k i m place now n n
           (subst IsOnce (sym fit.inlets) (taken_once r))
           (λ x own. sym own.number)
           (λ x own. subst (λ (p : ℕ). HasTaken r log reading strange x (p, new.1)) (sym got.number)
-            (stepped.done_strange r log reading x (get_or ins k n) own got.even strange i m got.clocks.1.0 new.1 got.same got.got got.clocks.1.1
-            (ap strange (sym own.number) ∙ one)))
+          (stepped.done_strange r log reading x (get_or ins k n) own got.even strange i m got.clocks.1.0 new.1 got.same got.got got.clocks.1.1
+          (ap strange (sym own.number) ∙ one)))
           (λ x z own apart. stepped.done r log reading x z own strange (other x.0 apart))
           begun.kept.got;
       ended = record {

@@ -1,17 +1,16 @@
 -- Logs of a line that grow by one event.
-use Rattle.std.proofs.Common.{◌≡◌, ◌≢◌, ℕ, zero, suc, ◌+◌, ◌-◌, ◌<◌, ◌≤◌, Bool, true, false, cond, eqb, List, [], ◌∷◌, ◌++◌, length, filter, refl, sym, ap, ◌∙◌, subst, inl, inr, arith, append_assoc, length-append}
+use Rattle.std.proofs.Common.{◌≡◌, ◌≢◌, ℕ, zero, suc, ◌+◌, ◌-◌, ◌<◌, ◌≤◌, true, false, cond, eqb, List, [], ◌∷◌, ◌++◌, length, filter, refl, sym, ap, ◌∙◌, subst, inl, inr, arith, append_assoc, length-append}
 use Rattle.std.specs.Prelude.{nat_eq}
 use Rattle.std.specs.List.{range_with_len}
-use Rattle.std.proofs.lemmas.Bool.{eq-eqb, eqb-true, ne_eqb, cases_eq, cases_lt}
+use Rattle.std.proofs.lemmas.Bool.{eq-eqb, ne_eqb, cases_eq, cases_lt}
 use Rattle.std.proofs.lemmas.List.{append-nil}
 use Rattle.std.proofs.lemmas.List.Elements.{filter-append}
-use Rattle.msc_chart.specs.Lists.{occurs, Steps}
-use Rattle.msc_chart.specs.Charts.{line, segment, before, is_controlled}
+use Rattle.msc_chart.specs.Lists.{occurs}
+use Rattle.msc_chart.specs.Charts.{line, before, is_controlled}
 use Rattle.msc_chart.specs.Drawings.{Drawing}
 use Rattle.msc_chart.proofs.ListLemmas.{clash, by_test, Steps-push, occurs_other, occurs-left}
 use Rattle.msc_chart.proofs.Drawn.{before_parts, before_from, controlled_parts}
 use Rattle.msc_execution.specs.Logs.{Begins, IsLogOf, MayBeLogged, IsWholeLog, line_events, controlled}
-use Rattle.msc_execution.specs.Running.{IsFirstDue}
 use Rattle.msc_execution.proofs.Lists.Words.{steps_once, passes, kept, fails}
 use Rattle.msc_execution.proofs.Lists.Ranges.{filter_more, in_range, range_has}
 use Rattle.msc_execution.proofs.Wiring.Fitted.{pigeons}
@@ -77,10 +76,11 @@ module _ (d : Drawing) (i : ℕ) where
   below_begins n zero = ([], (let s : n + 0 ≡ n = omega arith in ap (λ m. controlled d (line_below d i m)) s) ∙ sym (append-nil _))
   below_begins n (suc k) =
       let r = below_begins n k in
-      let last : List ℕ = controlled d (cond (nat_eq (line d.events (n + k)) i) ((n + k) ∷ []) []) in
-      (r.0 ++ last,
-      (let s : n + suc k ≡ (n + k) + 1 = omega arith in ap (λ m. controlled d (line_below d i m)) s)
-      ∙ below_more (n + k) ∙ ap (λ l. l ++ last) r.1 ∙ append_assoc (controlled d (line_below d i n)) r.0 last)
+      let last : List ℕ = controlled d (cond (nat_eq (line d.events (n + k)) i) ((n + k) ∷ []) []) in (
+        r.0 ++ last,
+        (let s : n + suc k ≡ (n + k) + 1 = omega arith in ap (λ m. controlled d (line_below d i m)) s)
+            ∙ below_more (n + k) ∙ ap (λ l. l ++ last) r.1 ∙ append_assoc (controlled d (line_below d i n)) r.0 last,
+      )
 
   -- and so they begin those of the line
   pub begins_line : (n : ℕ) → n ≤ length d.events → Begins (controlled d (line_below d i n)) (controlled d (line_events d i))
@@ -109,8 +109,8 @@ module _ (d : Drawing) (p : Post) (post : IsPost d p) (log : List ℕ) (next : �
   pub logged_below : (t : ℕ) → t < next → is_controlled d.events t ≡ true → line d.events t ≡ p.instance → occurs log t ≡ true
   logged_below t lt yes' on =
       let there = kept (is_controlled d.events) (line_below d p.instance next) t
-          (kept (λ e. nat_eq (line d.events e) p.instance) (range_with_len 0 next) t
-          (range_has 0 next t (omega arith) (omega arith)) (eq-eqb _ _ on)) yes' in
+      (kept (λ e. nat_eq (line d.events e) p.instance) (range_with_len 0 next) t
+      (range_has 0 next t (omega arith) (omega arith)) (eq-eqb _ _ on)) yes' in
       (passes (is_controlled d.events) log t (subst (λ l. occurs l t ≡ true) (sym is.done) there)).0
 
   -- and none from next on is
@@ -145,11 +145,12 @@ module _ (d : Drawing) (p : Post) (post : IsPost d p) (log : List ℕ) (next : �
         → IsLogOf d p.instance (log ++ next ∷ []) × IsNext d p (log ++ next ∷ []) (next + 1)
     log_due is_log ready =
         let on = on_post next is.from within in
-        let begins = begins_line d p.instance (next + 1) (omega (arith, on.0)) in
-        (log_push d p.instance log next is_log on.0 on.1
-        (record { new = not_logged next (omega arith) yes'; drawn = λ _. ready })
-        (subst (λ l. Begins l (controlled d (line_events d p.instance))) (sym next_after.done) begins),
-        next_after)
+        let begins = begins_line d p.instance (next + 1) (omega (arith, on.0)) in (
+          log_push d p.instance log next is_log on.0 on.1
+              (record { new = not_logged next (omega arith) yes'; drawn = λ _. ready })
+              (subst (λ l. Begins l (controlled d (line_events d p.instance))) (sym next_after.done) begins),
+          next_after,
+        )
 
   -- all controlled events are logged, so none is due
   pub none_due : next ≡ p.end → IsBlocked d p.instance log
@@ -198,10 +199,11 @@ pub log_input : (d : Drawing) (p : Post) (log : List ℕ) (next e : ℕ) → IsP
     → e < length d.events → line d.events e ≡ p.instance → is_controlled d.events e ≡ false → occurs log e ≡ false
     → IsLogOf d p.instance (log ++ e ∷ []) × IsNext d p (log ++ e ∷ []) next
 log_input d p log next e post is is_log event on no' new =
-    let same = filter_no (is_controlled d.events) log e no' in
-    (log_push d p.instance log e is_log event on (record { new = new; drawn = λ yes'. clash yes' no' })
-    (subst (λ l. Begins l (controlled d (line_events d p.instance))) (sym same) is_log.controlled),
-    record { from = is.from; to = is.to; done = same ∙ is.done })
+    let same = filter_no (is_controlled d.events) log e no' in (
+      log_push d p.instance log e is_log event on (record { new = new; drawn = λ yes'. clash yes' no' })
+          (subst (λ l. Begins l (controlled d (line_events d p.instance))) (sym same) is_log.controlled),
+      record { from = is.from; to = is.to; done = same ∙ is.done },
+    )
 
 -- what was logged stays logged
 pub upto_push : (p : Post) (log : List ℕ) (first e : ℕ) → HasUpTo p log first → HasUpTo p (log ++ e ∷ []) first

@@ -1,5 +1,5 @@
 -- One take more in a round.
-use Rattle.std.proofs.Common.{◌≡◌, ◌≢◌, ℕ, ◌+◌, ◌<◌, ◌≤◌, Bool, true, false, length, get_or, refl, ap, ◌∙◌, arith, inl, inr, All, min, sym}
+use Rattle.std.proofs.Common.{◌≡◌, ℕ, ◌+◌, ◌<◌, ◌≤◌, Bool, true, false, length, get_or, refl, ap, ◌∙◌, arith, inl, inr, All, min, sym}
 use Rattle.std.proofs.lemmas.Bool.{cases_eq}
 use Rattle.msc_chart.specs.Drawings.{Drawing}
 use Rattle.msc_chart.proofs.ListLemmas.{by_test, clash}
@@ -45,8 +45,8 @@ module _ (d : Drawing) (p : Post) where
             elim (cases_eq j k) [
               | inl here ↦
                   let now : (get_or c.inlets.items j i).1.idle ≡ min ((get_or b.inlets.items j i).1.idle + 1) 4294967295 =
-                      ap (λ x. (get_or c.inlets.items x i).1.idle) here ∙ quiet.idle i
-                      ∙ ap (λ x. min ((get_or b.inlets.items x i).1.idle + 1) 4294967295) (sym here) in
+                  ap (λ x. (get_or c.inlets.items x i).1.idle) here ∙ quiet.idle i
+                  ∙ ap (λ x. min ((get_or b.inlets.items x i).1.idle + 1) 4294967295) (sym here) in
                   (omega (arith, now, low.0), λ _. omega (arith, now, low.0))
               | inr other ↦
                   let now = ap (λ (x : NumberedInlet). x.1.idle) (quiet.others j i other) in

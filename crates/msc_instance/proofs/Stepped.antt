@@ -1,5 +1,5 @@
 -- Calls on the ends of an instance keep what is known of them.
-use Rattle.std.proofs.Common.{◌≡◌, ℕ, ◌+◌, Bool, true, false, List, [], ◌∷◌, ◌++◌, map, length, refl, sym, ap, ◌∙◌, append_assoc}
+use Rattle.std.proofs.Common.{◌≡◌, ℕ, ◌+◌, true, false, List, [], ◌∷◌, ◌++◌, map, length, refl, sym, ap, ◌∙◌, append_assoc}
 use Rattle.std.proofs.lemmas.List.{append-nil}
 use Rattle.msc_chart.specs.Lists.{occurs}
 use Rattle.msc_chart.specs.Charts.{message, is_output, is_input}
@@ -81,9 +81,11 @@ module _ (r : Role) (log : List ℕ) (reading : Reading) (old new : NumberedOutl
     same = h.same;
     put = h.put ∙ ap (λ l. old.1.put ++ map (message r.chart.events) l) (sym (outputs_same r log e old.0 other));
     closed = h.closed;
-    claims = λ open'. let was = h.claims open' in
-        (was.0, was.1 ∙ ap (λ l. old.1.claims ++ (l ++ claim was.0 (Ended old.1.sender) 0 0 ∷ []))
-        (sym (sent_same r reading log e k n is_new old.1.sender old.0 other)));
+    claims = λ open'. let was = h.claims open' in (
+      was.0,
+      was.1 ∙ ap (λ l. old.1.claims ++ (l ++ claim was.0 (Ended old.1.sender) 0 0 ∷ []))
+          (sym (sent_same r reading log e k n is_new old.1.sender old.0 other)),
+    );
   }
 
 module _ (r : Role) (log : List ℕ) (reading : Reading) (old new : NumberedInlet) where

@@ -1,19 +1,18 @@
 -- Each take of an instance keeps it sound, or ends its run.
-use Rattle.std.proofs.Common.{◌≡◌, ◌≢◌, ℕ, ◌+◌, ◌-◌, ◌<◌, ◌≤◌, min, Bool, true, false, List, [], ◌∷◌, ◌++◌, map, length, set, get_or, refl, sym, ap, ◌∙◌, subst, arith, vec_capacity, length-append, get_or-set_other, get_or-set_same}
+use Rattle.std.proofs.Common.{◌≡◌, ℕ, ◌+◌, ◌-◌, ◌<◌, min, Bool, true, false, List, [], ◌∷◌, ◌++◌, length, set, get_or, refl, sym, ap, ◌∙◌, subst, arith, vec_capacity, length-append, get_or-set_other, get_or-set_same}
 use Rattle.std.specs.List.{sum_by}
 use Rattle.std.specs.Vec.{with_item}
 use Rattle.std.proofs.lemmas.List.{get_or_default}
 use Rattle.std.proofs.lemmas.List.Sums.{sum_by-set}
 use Rattle.msc_chart.specs.Lists.{occurs}
-use Rattle.msc_chart.specs.Charts.{line, message, is_input, is_controlled}
+use Rattle.msc_chart.specs.Charts.{line, message, is_controlled}
 use Rattle.msc_chart.specs.Drawings.{Drawing, input_of, receiver_of}
 use Rattle.msc_chart.specs.Orders.{queue_of}
-use Rattle.msc_chart.proofs.ListLemmas.{clash}
 use Rattle.msc_chart.proofs.Drawn.{input_parts, controlled_no_input}
 use Rattle.msc_fifo.specs.declared.entry.Taken.TheVariants as took
 use Rattle.msc_fifo.specs.Ends.{unended_in}
 use Rattle.msc_execution.specs.declared.end.End.TheVariants as end
-use Rattle.msc_execution.specs.Roles.{NumberedInlet, taken_queues, role}
+use Rattle.msc_execution.specs.Roles.{NumberedInlet}
 use Rattle.msc_execution.specs.Logs.{IsLogOf, line_events}
 use Rattle.msc_execution.specs.Growth.{IsStrange}
 use Rattle.msc_execution.proofs.Lists.Words.{fails}
@@ -22,7 +21,7 @@ use Rattle.msc_instance.specs.declared.active.Active.{Active}
 use Rattle.msc_instance.specs.declared.active.Post.{Post}
 use Rattle.msc_instance.specs.declared.journal.Journal.{Journal}
 use Rattle.msc_instance.specs.Active.{IsSound, IsNext, IsQuiet, EndsSo, HasGot, log_of, post_role, first_ends, weight}
-use Rattle.msc_instance.proofs.Logs.{log_input, log_shorter, log_within, upto_push}
+use Rattle.msc_instance.proofs.Logs.{log_input, log_shorter, upto_push}
 use Rattle.msc_instance.proofs.Kept.{inlet_number, inlet_numbers, number_there, begun_took, begun_ended, begun_nothing, comes_strange}
 
 -- the events of the line that are not logged become fewer
@@ -114,17 +113,18 @@ module _ (d : Drawing) (p : Post) (a : Active) (s : IsSound d p a) (k : ℕ) (n 
     took_input i place now journal got noted room =
         let is = input_is p.queues d s.post.accepted m known in
         let at : queue_of p.queues d (message d.events (input_of d m)) ≡ (get_or a.inlets.items k n).0 = ap (queue_of p.queues d) is.1 ∙ here in
-        let got2 = subst (λ (x : ℕ). HasGot a.clock (took.Message i x place now) (get_or a.inlets.items k n) new) (sym is.1) got in
-        (record {
-          post = s.post;
-          begun = rw noted (begun_took (post_role d p) (first_ends p) a.shut a.outlets.items a.inlets.items (log_of a) a.clock k (input_of d m) i place now n new
-              s.post.fit is.0 fresh input_log.0 lt at got2 s.begun);
-          next = rw noted input_log.1;
-          first = rw noted (upto_push p (log_of a) a.first (input_of d m) s.first);
-          closed = s.closed;
-          room = omega (arith, room, s.room);
-        },
-        omega (arith, sums, got.unended, left_fewer d p.instance (log_of a) journal.log.items (input_of d m) input_log.0 noted))
+        let got2 = subst (λ (x : ℕ). HasGot a.clock (took.Message i x place now) (get_or a.inlets.items k n) new) (sym is.1) got in (
+          record {
+            post = s.post;
+            begun = rw noted (begun_took (post_role d p) (first_ends p) a.shut a.outlets.items a.inlets.items (log_of a) a.clock k (input_of d m) i place now n new
+                s.post.fit is.0 fresh input_log.0 lt at got2 s.begun);
+            next = rw noted input_log.1;
+            first = rw noted (upto_push p (log_of a) a.first (input_of d m) s.first);
+            closed = s.closed;
+            room = omega (arith, room, s.room);
+          },
+          omega (arith, sums, got.unended, left_fewer d p.instance (log_of a) journal.log.items (input_of d m) input_log.0 noted),
+        )
 
 -- inlet k has one number, whatever stands for what is not there
 pub queue_here : (ins : List NumberedInlet) (k : ℕ) (x n : NumberedInlet) → k < length ins → x ≡ get_or ins k x → x.0 ≡ (get_or ins k n).0

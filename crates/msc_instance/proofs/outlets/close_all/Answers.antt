@@ -1,6 +1,4 @@
-use Rattle.std.proofs.Common.{rules, ◌≡◌, ◌<◌, ◌≤◌, length, sym, ap, ◌∙◌, arith, refl, subst, suc, set, ◌+◌}
-use Rattle.std.proofs.lemmas.List.{get_or_default}
-use Rattle.msc_execution.specs.Roles.{NumberedOutlet}
+use Rattle.std.proofs.Common.{◌≡◌, ◌<◌, length, arith, subst, suc, set, ◌+◌}
 use Rattle.msc_instance.specs.Active.{IsClosedFrom}
 use Rattle.msc_instance.proofs.Zipped.{ZipsUpTo, upto_more, upto_all}
 use Rattle.msc_instance.proofs.outlets.close_all.Goals as goal
@@ -9,7 +7,7 @@ pub loop-outlet-preserved : goal.loop-outlet-preserved
 loop-outlet-preserved c =
     let lt : c.loop-outlet.outlet-index < length c.loop-outlet.outlets = omega arith in
     let r = upto_more IsClosedFrom c.loop-outlet.outlet-index c.args.outlets.now c.loop-outlet.outlets c.outlet-item.result c.close_one.new.outlet lt
-        c.close_one.ensures c.loop-outlet.invariant in
+    c.close_one.ensures c.loop-outlet.invariant in
     let s : suc c.loop-outlet.outlet-index ≡ c.loop-outlet.outlet-index + 1 = omega arith in
     subst (λ i. ZipsUpTo IsClosedFrom i c.args.outlets.now (set c.loop-outlet.outlets c.loop-outlet.outlet-index c.close_one.new.outlet)) s r
 

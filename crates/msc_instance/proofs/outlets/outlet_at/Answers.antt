@@ -1,4 +1,4 @@
-use Rattle.std.proofs.Common.{rules, ◌≡◌, ◌<◌, length, ap, ◌∙◌, ◌+◌, suc, true, map, drop, subst, arith}
+use Rattle.std.proofs.Common.{◌≡◌, ap, ◌∙◌, ◌+◌, suc, true, map, drop, subst, arith}
 use Rattle.msc_chart.specs.Lists.{occurs}
 use Rattle.std.proofs.lemmas.List.{get_or_default}
 use Rattle.msc_execution.specs.Roles.{NumberedOutlet}
@@ -12,7 +12,7 @@ pub loop-k-preserved : goal.loop-k-preserved
 loop-k-preserved c =
     let step : suc c.loop-k.k ≡ c.loop-k.k + 1 = omega arith in
     let later = subst (λ k. occurs (map (λ (o : NumberedOutlet). o.0) (drop k c.args.outlets.now)) c.args.queue ≡ true) step
-        (behind (λ (o : NumberedOutlet). o.0) c.args.outlets.now c.loop-k.k c.args.queue c.index-outlets-k.result c.loop-k-test.true c.loop-k.invariant.1) in
+    (behind (λ (o : NumberedOutlet). o.0) c.args.outlets.now c.loop-k.k c.args.queue c.index-outlets-k.result c.loop-k-test.true c.loop-k.invariant.1) in
     (within (λ (o : NumberedOutlet). o.0) c.args.outlets.now (c.loop-k.k + 1) c.args.queue later, later)
 
 pub returns-clause-number : goal.returns-clause-number

@@ -1,4 +1,4 @@
-use Rattle.std.proofs.Common.{◌≡◌, refl, ap, sym, ◌∙◌, subst}
+use Rattle.std.proofs.Common.{refl, ap, sym, ◌∙◌, subst}
 use Rattle.std.specs.Vec.{with_items}
 use Rattle.std.proofs.lemmas.List.{with_items_is}
 use Rattle.msc_execution.specs.Roles.{EndLists, role}
@@ -28,7 +28,7 @@ returns-clause-run g c =
     let a = c.run-last.new.self in
     let same = with_items_is a.outlets c.close_all.new.outlets (c.close_all.auto.outlets ∙ c.as_mut_slice.ensures.len) in
     subst (λ (first : EndLists). HasRun (role c.args.ends.queues c.args.chart.now c.args.i) g.G.Gate.is_open c.args.patience first
-      (record { log = a.journal.log.items; ends = record { outlets = (with_items a.outlets c.close_all.new.outlets).items; inlets = a.inlets.items }; end = c.run-last.result }))
+    (record { log = a.journal.log.items; ends = record { outlets = (with_items a.outlets c.close_all.new.outlets).items; inlets = a.inlets.items }; end = c.run-last.result }))
     (ap ends_of c.of-began.ensures)
     (leaves (role c.args.ends.queues c.args.chart.now c.args.i) g.G.Gate.is_open c.args.patience (ends_of c.of-began.result.value) a.shut a.outlets.items
     (with_items a.outlets c.close_all.new.outlets).items a.inlets.items a.journal.log.items c.run-last.result

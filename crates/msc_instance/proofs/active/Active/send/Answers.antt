@@ -1,6 +1,5 @@
-use Rattle.std.proofs.Common.{◌≡◌, ℕ, ◌<◌, true, length, get_or, map, ap, sym, subst, ◌∙◌}
-use Rattle.msc_chart.specs.Lists.{occurs}
-use Rattle.msc_chart.specs.Charts.{message, is_controlled}
+use Rattle.std.proofs.Common.{◌≡◌, ℕ, ◌<◌, length, get_or, ap, sym, subst, ◌∙◌}
+use Rattle.msc_chart.specs.Charts.{message}
 use Rattle.msc_chart.specs.declared.queue.Queues.{Queues}
 use Rattle.msc_chart.specs.Drawings.{Drawing}
 use Rattle.msc_chart.specs.Orders.{queue_of}
@@ -52,6 +51,6 @@ returns-clause-sound c =
     let lt : k < length a.outlets.items = rw (← c.as_slice.ensures.value) c.outlet_at-k.ensures.within in
     let here = ap (λ l. outlet_number (get_or l k o)) (sym c.as_slice.ensures.value) ∙ c.outlet_at-k.ensures.number o ∙ queue_is c.args.post.now.queues c.args.chart.now c.queue.ensures c.message_of-m.ensures.value in
     let put : HasPut (message d.events a.next) a.clock c.in-Some.now (get_or a.outlets.items k o) c.put_one.new.outlet =
-        rw (← c.message_of-m.ensures.value, ← c.index_mut.ensures.value) c.in-Some.ensures.put in
+    rw (← c.message_of-m.ensures.value, ← c.index_mut.ensures.value) c.in-Some.ensures.put in
     has_sent d c.args.post.now a r.sound r.within due r.ready r.output k o lt here c.put_one.new.outlet c.in-Some.now c.note.new.self put
     c.note.ensures.noted c.note.ensures.room

@@ -1,4 +1,4 @@
-use Rattle.std.proofs.Common.{rules, ◌≡◌, ◌∙◌, sym, ap, refl, false}
+use Rattle.std.proofs.Common.{◌∙◌, sym, ap, false}
 use Rattle.std.proofs.lemmas.List.{get_or-replicate}
 use Rattle.msc_chart.specs.Lists.{occurs}
 use Rattle.msc_instance.proofs.Occurs.{occurs-nil}
@@ -6,5 +6,5 @@ use Rattle.msc_instance.proofs.journal.Journal.new.Goals as goal
 
 pub invariant_of-result : goal.invariant_of-result
 invariant_of-result c = record {
-    marked = λ e below. get_or-replicate 3072 e false false below ∙ sym (ap (λ l. occurs l e) c.requires ∙ occurs-nil e);
-  }
+  marked = λ e below. get_or-replicate 3072 e false false below ∙ sym (ap (λ l. occurs l e) c.requires ∙ occurs-nil e);
+}
