@@ -1,5 +1,5 @@
 -- How the run of an instance goes on, and how it ends.
-use Rattle.std.proofs.Common.{◌≡◌, ℕ, ◌+◌, ◌-◌, ◌*◌, ◌<◌, ◌≤◌, Bool, true, false, [], length, get_or, refl, sym, ap, ◌∙◌, subst, arith, All, mul-le-mul_right}
+use Rattle.std.proofs.Common.{◌≡◌, ℕ, ◌+◌, ◌-◌, ◌*◌, ◌<◌, ◌≤◌, Bool, true, false, refl, sym, ap, ◌∙◌, subst, arith, All, mul-le-mul_right}
 use Rattle.std.specs.List.{sum_by}
 use Rattle.msc_chart.specs.Lists.{occurs}
 use Rattle.msc_chart.specs.Drawings.{Drawing}
@@ -7,7 +7,6 @@ use Rattle.msc_chart.proofs.ListLemmas.{clash}
 use Rattle.msc_fifo.specs.Ends.{unended_in}
 use Rattle.msc_execution.specs.declared.end.End.TheVariants as end
 use Rattle.msc_execution.specs.Roles.{NumberedInlet}
-use Rattle.msc_execution.specs.Logs.{line_events}
 use Rattle.msc_execution.specs.Running.{IsHungry, AllHaveEnded}
 use Rattle.msc_instance.specs.declared.active.Active.{Active}
 use Rattle.msc_instance.specs.declared.active.Post.{Post}

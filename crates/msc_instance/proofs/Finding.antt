@@ -1,5 +1,5 @@
 -- Finding a number in a list from a place on.
-use Rattle.std.proofs.Common.{◌≡◌, ◌≢◌, ℕ, zero, suc, ◌+◌, ◌<◌, true, false, cond, ◌||◌, List, [], ◌∷◌, map, length, get_or, drop, refl, sym, ap, ◌∙◌, subst, arith, inl, inr}
+use Rattle.std.proofs.Common.{◌≡◌, ◌≢◌, ℕ, zero, suc, ◌<◌, true, List, [], ◌∷◌, map, length, get_or, drop, arith, inl, inr}
 use Rattle.msc_chart.specs.Lists.{occurs}
 use Rattle.msc_execution.proofs.Lists.Words.{head_or_tail, in_none}
 

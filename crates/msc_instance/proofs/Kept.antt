@@ -1,13 +1,12 @@
 -- What an instance keeps from step to step.
-use Rattle.std.proofs.Common.{◌≡◌, ◌≢◌, ℕ, zero, suc, ◌+◌, ◌<◌, ◌≤◌, max, Bool, true, false, cond, eqb, List, [], ◌∷◌, ◌++◌, map, length, set, get_or, refl, sym, ap, ◌∙◌, subst, arith, All, length-append}
-use Rattle.std.specs.Prelude.{nat_eq}
+use Rattle.std.proofs.Common.{◌≡◌, ◌≢◌, ℕ, zero, suc, ◌+◌, ◌<◌, max, Bool, true, false, cond, eqb, List, [], ◌∷◌, ◌++◌, map, length, set, get_or, refl, sym, ap, ◌∙◌, subst, arith, length-append}
 use Rattle.std.specs.List.{AllZip, range_with_len}
 use Rattle.std.proofs.Math.Seq.{map-set_same}
 use Rattle.std.proofs.lemmas.Bool.{eq-eqb, ne_eqb}
 use Rattle.std.proofs.lemmas.List.{append-nil}
-use Rattle.std.proofs.lemmas.List.Elements.{AllZip-get_or, All-get_or, length_all_zip}
+use Rattle.std.proofs.lemmas.List.Elements.{AllZip-get_or, length_all_zip}
 use Rattle.msc_chart.specs.Lists.{occurs}
-use Rattle.msc_chart.specs.Charts.{line, message, is_output, is_input, is_local}
+use Rattle.msc_chart.specs.Charts.{message, is_output, is_input, is_local}
 use Rattle.msc_chart.specs.Drawings.{IsAccepted}
 use Rattle.msc_chart.specs.Orders.{queue_of, queue_bound}
 use Rattle.msc_chart.proofs.ListLemmas.{clash}
@@ -18,7 +17,7 @@ use Rattle.msc_fifo.specs.Claims.{claim}
 use Rattle.msc_fifo.specs.Ends.{HasRoom}
 use Rattle.msc_execution.specs.declared.end.End.{End}
 use Rattle.msc_execution.specs.declared.end.End.TheVariants as end
-use Rattle.msc_execution.specs.Roles.{Role, EndLists, NumberedOutlet, NumberedInlet, IsFit, sent_queues, taken_queues, queues_in, queues_below, quota_of, role}
+use Rattle.msc_execution.specs.Roles.{Role, EndLists, NumberedOutlet, NumberedInlet, IsFit, sent_queues, taken_queues, queues_below}
 use Rattle.msc_execution.specs.Logs.{Reading, IsLogOf, clock_along, sent, outputs_at}
 use Rattle.msc_execution.specs.Fits.{LogsKeepQuotas}
 use Rattle.msc_execution.specs.Growth.{HasTaken, IsLeftBy, IsStrange, all_messages, clocks_at}
@@ -26,11 +25,11 @@ use Rattle.msc_execution.specs.Running.{EndsAs, HasRun}
 use Rattle.msc_gather.proofs.Apart.{Apart}
 use Rattle.msc_execution.proofs.Lists.Words.{once_filter, fails, at_head, in_tail}
 use Rattle.msc_execution.proofs.Lists.Ranges.{in_range}
-use Rattle.msc_instance.specs.Steps.{State, IsPutBy, IsGotBy, ArePutBy, IsKept, HasBegun, with_event}
+use Rattle.msc_instance.specs.Steps.{State, IsPutBy, IsGotBy, ArePutBy, HasBegun, with_event}
 use Rattle.msc_instance.specs.Active.{HasPut, HasGot, HasCome, IsClosedFrom}
 use Rattle.msc_instance.proofs.Growing.{clock_pushed, outputs_more, map_push}
 use Rattle.msc_instance.proofs.Stepped as stepped
-use Rattle.msc_instance.proofs.Zipped.{zip_map, zip_after, zip_self, zip_numbers, zip_one, zip_set}
+use Rattle.msc_instance.proofs.Zipped.{zip_map, zip_after, zip_numbers, zip_one, zip_set}
 
 abbrev pub outlet_number : NumberedOutlet → ℕ
 outlet_number o = o.0

@@ -1,17 +1,16 @@
 -- Logs of a line that grow by one event.
-use Rattle.std.proofs.Common.{◌≡◌, ◌≢◌, ℕ, zero, suc, ◌+◌, ◌-◌, ◌<◌, ◌≤◌, Bool, true, false, cond, eqb, List, [], ◌∷◌, ◌++◌, length, filter, refl, sym, ap, ◌∙◌, subst, inl, inr, arith, append_assoc, length-append}
+use Rattle.std.proofs.Common.{◌≡◌, ◌≢◌, ℕ, zero, suc, ◌+◌, ◌-◌, ◌<◌, ◌≤◌, true, false, cond, eqb, List, [], ◌∷◌, ◌++◌, length, filter, refl, sym, ap, ◌∙◌, subst, inl, inr, arith, append_assoc, length-append}
 use Rattle.std.specs.Prelude.{nat_eq}
 use Rattle.std.specs.List.{range_with_len}
-use Rattle.std.proofs.lemmas.Bool.{eq-eqb, eqb-true, ne_eqb, cases_eq, cases_lt}
+use Rattle.std.proofs.lemmas.Bool.{eq-eqb, ne_eqb, cases_eq, cases_lt}
 use Rattle.std.proofs.lemmas.List.{append-nil}
 use Rattle.std.proofs.lemmas.List.Elements.{filter-append}
-use Rattle.msc_chart.specs.Lists.{occurs, Steps}
-use Rattle.msc_chart.specs.Charts.{line, segment, before, is_controlled}
+use Rattle.msc_chart.specs.Lists.{occurs}
+use Rattle.msc_chart.specs.Charts.{line, before, is_controlled}
 use Rattle.msc_chart.specs.Drawings.{Drawing}
 use Rattle.msc_chart.proofs.ListLemmas.{clash, by_test, Steps-push, occurs_other, occurs-left}
 use Rattle.msc_chart.proofs.Drawn.{before_parts, before_from, controlled_parts}
 use Rattle.msc_execution.specs.Logs.{Begins, IsLogOf, MayBeLogged, IsWholeLog, line_events, controlled}
-use Rattle.msc_execution.specs.Running.{IsFirstDue}
 use Rattle.msc_execution.proofs.Lists.Words.{steps_once, passes, kept, fails}
 use Rattle.msc_execution.proofs.Lists.Ranges.{filter_more, in_range, range_has}
 use Rattle.msc_execution.proofs.Wiring.Fitted.{pigeons}

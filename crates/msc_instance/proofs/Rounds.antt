@@ -1,5 +1,5 @@
 -- One take more in a round.
-use Rattle.std.proofs.Common.{◌≡◌, ◌≢◌, ℕ, ◌+◌, ◌<◌, ◌≤◌, Bool, true, false, length, get_or, refl, ap, ◌∙◌, arith, inl, inr, All, min, sym}
+use Rattle.std.proofs.Common.{◌≡◌, ℕ, ◌+◌, ◌<◌, ◌≤◌, Bool, true, false, length, get_or, refl, ap, ◌∙◌, arith, inl, inr, All, min, sym}
 use Rattle.std.proofs.lemmas.Bool.{cases_eq}
 use Rattle.msc_chart.specs.Drawings.{Drawing}
 use Rattle.msc_chart.proofs.ListLemmas.{by_test, clash}

@@ -1,23 +1,23 @@
 -- Each step of an instance keeps it sound.
-use Rattle.std.proofs.Common.{◌≡◌, ◌≢◌, ℕ, ◌+◌, ◌-◌, ◌<◌, ◌≤◌, Bool, true, false, List, [], ◌∷◌, ◌++◌, map, length, set, get_or, refl, sym, ap, ◌∙◌, subst, arith, inl, inr, vec_capacity, Vec, Global}
+use Rattle.std.proofs.Common.{◌≡◌, ℕ, ◌+◌, ◌<◌, ◌≤◌, true, false, [], ◌∷◌, ◌++◌, map, length, set, get_or, sym, subst, arith, inl, inr, vec_capacity, Vec, Global}
 use Rattle.std.proofs.lemmas.Bool.{cases_lt}
 use Rattle.std.specs.List.{AllZip}
 use Rattle.std.specs.Vec.{with_item}
 use Rattle.msc_chart.specs.Lists.{occurs}
-use Rattle.msc_chart.specs.Charts.{line, message, before, is_output, is_input, is_local, is_controlled}
+use Rattle.msc_chart.specs.Charts.{message, before, is_output, is_local, is_controlled}
 use Rattle.msc_chart.specs.Drawings.{Drawing}
 use Rattle.msc_chart.specs.Orders.{queue_of}
 use Rattle.msc_chart.proofs.ListLemmas.{clash, by_test}
 use Rattle.msc_chart.proofs.Drawn.{local_parts, controlled_or_input, input_not_local, output_or_input, controlled_parts, controlled_no_input}
 use Rattle.msc_fifo.specs.Ends.{HasRoom}
 use Rattle.msc_execution.specs.Roles.{NumberedOutlet}
-use Rattle.msc_execution.specs.Logs.{IsLogOf, line_events}
+use Rattle.msc_execution.specs.Logs.{IsLogOf}
 use Rattle.msc_instance.specs.declared.active.Active.{Active}
 use Rattle.msc_instance.specs.declared.active.Post.{Post}
 use Rattle.msc_instance.specs.declared.journal.Journal.{Journal}
 use Rattle.msc_instance.specs.Steps.{ArePutBy, HasBegun}
-use Rattle.msc_instance.specs.Active.{IsSound, IsPost, IsNext, HasUpTo, HasPut, IsClosedFrom, log_of, post_role, first_ends}
-use Rattle.msc_instance.proofs.Logs.{on_post, not_logged, next_moves, log_due, log_shorter, log_within, upto_push}
+use Rattle.msc_instance.specs.Active.{IsSound, IsNext, HasPut, IsClosedFrom, log_of, post_role, first_ends}
+use Rattle.msc_instance.proofs.Logs.{on_post, not_logged, next_moves, log_due, log_shorter, upto_push}
 use Rattle.msc_instance.proofs.Kept.{state, outlet_number, outlet_numbers, has_room, begun_sent, begun_acted, begun_closed}
 
 module _ (d : Drawing) (p : Post) (a : Active) (s : IsSound d p a) where

@@ -1,19 +1,18 @@
 -- Each take of an instance keeps it sound, or ends its run.
-use Rattle.std.proofs.Common.{◌≡◌, ◌≢◌, ℕ, ◌+◌, ◌-◌, ◌<◌, ◌≤◌, min, Bool, true, false, List, [], ◌∷◌, ◌++◌, map, length, set, get_or, refl, sym, ap, ◌∙◌, subst, arith, vec_capacity, length-append, get_or-set_other, get_or-set_same}
+use Rattle.std.proofs.Common.{◌≡◌, ℕ, ◌+◌, ◌-◌, ◌<◌, min, Bool, true, false, List, [], ◌∷◌, ◌++◌, length, set, get_or, refl, sym, ap, ◌∙◌, subst, arith, vec_capacity, length-append, get_or-set_other, get_or-set_same}
 use Rattle.std.specs.List.{sum_by}
 use Rattle.std.specs.Vec.{with_item}
 use Rattle.std.proofs.lemmas.List.{get_or_default}
 use Rattle.std.proofs.lemmas.List.Sums.{sum_by-set}
 use Rattle.msc_chart.specs.Lists.{occurs}
-use Rattle.msc_chart.specs.Charts.{line, message, is_input, is_controlled}
+use Rattle.msc_chart.specs.Charts.{line, message, is_controlled}
 use Rattle.msc_chart.specs.Drawings.{Drawing, input_of, receiver_of}
 use Rattle.msc_chart.specs.Orders.{queue_of}
-use Rattle.msc_chart.proofs.ListLemmas.{clash}
 use Rattle.msc_chart.proofs.Drawn.{input_parts, controlled_no_input}
 use Rattle.msc_fifo.specs.declared.entry.Taken.TheVariants as took
 use Rattle.msc_fifo.specs.Ends.{unended_in}
 use Rattle.msc_execution.specs.declared.end.End.TheVariants as end
-use Rattle.msc_execution.specs.Roles.{NumberedInlet, taken_queues, role}
+use Rattle.msc_execution.specs.Roles.{NumberedInlet}
 use Rattle.msc_execution.specs.Logs.{IsLogOf, line_events}
 use Rattle.msc_execution.specs.Growth.{IsStrange}
 use Rattle.msc_execution.proofs.Lists.Words.{fails}
@@ -22,7 +21,7 @@ use Rattle.msc_instance.specs.declared.active.Active.{Active}
 use Rattle.msc_instance.specs.declared.active.Post.{Post}
 use Rattle.msc_instance.specs.declared.journal.Journal.{Journal}
 use Rattle.msc_instance.specs.Active.{IsSound, IsNext, IsQuiet, EndsSo, HasGot, log_of, post_role, first_ends, weight}
-use Rattle.msc_instance.proofs.Logs.{log_input, log_shorter, log_within, upto_push}
+use Rattle.msc_instance.proofs.Logs.{log_input, log_shorter, upto_push}
 use Rattle.msc_instance.proofs.Kept.{inlet_number, inlet_numbers, number_there, begun_took, begun_ended, begun_nothing, comes_strange}
 
 -- the events of the line that are not logged become fewer

@@ -1,11 +1,10 @@
 -- What is known of an instance while it runs, between two steps.
-use Rattle.std.specs.Prelude.{◌≡◌, ◌≢◌, ℕ, ◌+◌, ◌-◌, ◌<◌, ◌≤◌, min, Bool, true, false, List, ◌++◌, ◌∷◌, [], length, map, filter, get_or, All, nat_eq, IsTrue, vec_capacity}
+use Rattle.std.specs.Prelude.{◌≡◌, ◌≢◌, ℕ, ◌+◌, ◌-◌, ◌<◌, ◌≤◌, min, Bool, true, false, List, ◌++◌, ◌∷◌, [], length, filter, get_or, All, nat_eq, IsTrue, vec_capacity}
 use Rattle.std.specs.List.{AllZip, range_with_len, sum_by}
 use Rattle.msc_chart.specs.Lists.{occurs}
-use Rattle.msc_chart.specs.Charts.{line, is_controlled, before}
+use Rattle.msc_chart.specs.Charts.{line, before}
 use Rattle.msc_chart.specs.Drawings.{Drawing, IsAccepted, IsLine}
 use Rattle.msc_chart.specs.Laws.{SegmentsRise}
-use Rattle.msc_fifo.specs.declared.claim.Claim.{Claim}
 use Rattle.msc_fifo.specs.declared.entry.Entry.TheVariants.{Message, Ended}
 use Rattle.msc_fifo.specs.Claims.{claim}
 use Rattle.msc_fifo.specs.declared.entry.Taken.{Taken}
@@ -16,7 +15,7 @@ use Rattle.msc_execution.specs.declared.end.End.TheVariants as end
 use Rattle.msc_execution.specs.Roles.{Role, EndLists, NumberedOutlet, NumberedInlet, role, IsFit}
 use Rattle.msc_execution.specs.Logs.{Reading, IsLogOf, line_events, controlled}
 use Rattle.msc_execution.specs.Fits.{OutputsHaveOutlets, LogsKeepQuotas, InletsBringOwn}
-use Rattle.msc_execution.specs.Growth.{HasTaken, IsLeftBy}
+use Rattle.msc_execution.specs.Growth.{HasTaken}
 use Rattle.msc_execution.specs.Running.{Left, IsFirstDue, EndsAs}
 use Rattle.msc_instance.specs.declared.active.Active.{Active}
 use Rattle.msc_instance.specs.declared.active.Post.{Post}

@@ -1,7 +1,6 @@
 -- What an instance keeps while it runs.
-use Rattle.std.specs.Prelude.{◌≡◌, ℕ, Bool, true, false, cond, List, [], ◌∷◌, ◌++◌, map, nat_eq}
+use Rattle.std.specs.Prelude.{◌≡◌, ℕ, Bool, true, false, cond, List, ◌++◌, map, nat_eq}
 use Rattle.std.specs.List.{AllZip}
-use Rattle.msc_chart.specs.Charts.{message}
 use Rattle.msc_fifo.specs.Ends.{IsSameOutlet, IsSameInlet}
 use Rattle.msc_execution.specs.Roles.{Role, EndLists, NumberedOutlet, NumberedInlet, IsFit}
 use Rattle.msc_execution.specs.Logs.{Reading, IsLogOf, clock_along, outputs_at, inputs_at, sent, received}

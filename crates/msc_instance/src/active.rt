@@ -66,6 +66,7 @@ impl Active {
         ensures sent { HasSent self.old self.new }
         ensures next { IsTrue result → self.new.next ≡ self.old.next + 1 }
         ensures spent { result ≡ false → self.new.clock ≡ 18446744073709551615 }
+        ensures kept { result ≡ false → log_of self.new ≡ log_of self.old }
         ensures shut { self.new.shut ≡ self.old.shut }
     {
         let e = self.next;

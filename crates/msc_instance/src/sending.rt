@@ -31,6 +31,7 @@ impl Active {
         ensures next { IsTrue result → self.new.next ≡ self.old.next + 1 }
         ensures stopped { G.is_open ≡ true → result ≡ false
             → self.new.clock ≡ 18446744073709551615 }
+        ensures kept { result ≡ false → log_of self.new ≡ log_of self.old }
         ensures shut { self.new.shut ≡ self.old.shut }
     {
         if !gate.at(post.instance, self.next) {

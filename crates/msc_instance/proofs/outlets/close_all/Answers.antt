@@ -1,6 +1,4 @@
-use Rattle.std.proofs.Common.{rules, ◌≡◌, ◌<◌, ◌≤◌, length, sym, ap, ◌∙◌, arith, refl, subst, suc, set, ◌+◌}
-use Rattle.std.proofs.lemmas.List.{get_or_default}
-use Rattle.msc_execution.specs.Roles.{NumberedOutlet}
+use Rattle.std.proofs.Common.{◌≡◌, ◌<◌, length, arith, subst, suc, set, ◌+◌}
 use Rattle.msc_instance.specs.Active.{IsClosedFrom}
 use Rattle.msc_instance.proofs.Zipped.{ZipsUpTo, upto_more, upto_all}
 use Rattle.msc_instance.proofs.outlets.close_all.Goals as goal

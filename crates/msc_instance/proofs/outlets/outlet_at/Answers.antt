@@ -1,4 +1,4 @@
-use Rattle.std.proofs.Common.{rules, ◌≡◌, ◌<◌, length, ap, ◌∙◌, ◌+◌, suc, true, map, drop, subst, arith}
+use Rattle.std.proofs.Common.{◌≡◌, ap, ◌∙◌, ◌+◌, suc, true, map, drop, subst, arith}
 use Rattle.msc_chart.specs.Lists.{occurs}
 use Rattle.std.proofs.lemmas.List.{get_or_default}
 use Rattle.msc_execution.specs.Roles.{NumberedOutlet}

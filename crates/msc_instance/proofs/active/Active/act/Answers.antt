@@ -1,5 +1,3 @@
-use Rattle.std.proofs.Common.{rules, ◌≡◌, true}
-use Rattle.msc_chart.specs.Charts.{is_controlled}
 use Rattle.msc_instance.proofs.Sound.{due_fits, acted, local_due}
 use Rattle.msc_instance.proofs.active.Active.act.Goals as goal
 

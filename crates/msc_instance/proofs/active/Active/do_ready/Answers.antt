@@ -1,9 +1,9 @@
-use Rattle.std.proofs.Common.{◌≡◌, ◌<◌, ◌≤◌, ℕ, true, false, length, refl, arith}
+use Rattle.std.proofs.Common.{◌<◌, refl, arith}
 use Rattle.msc_chart.specs.Charts.{before}
 use Rattle.msc_chart.proofs.ListLemmas.{clash}
 use Rattle.msc_execution.proofs.Lists.Words.{fails}
 use Rattle.msc_instance.specs.Active.{log_of}
-use Rattle.msc_instance.proofs.Logs.{on_post, first_within, waits, ready}
+use Rattle.msc_instance.proofs.Logs.{first_within, waits, ready}
 use Rattle.msc_instance.proofs.active.Active.do_ready.Goals as goal
 
 pub before-requires-clause-e_known : goal.before-requires-clause-e_known

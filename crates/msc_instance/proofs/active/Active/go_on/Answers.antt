@@ -1,8 +1,7 @@
-use Rattle.std.proofs.Common.{◌≡◌, refl, sym, ◌∙◌, subst}
-use Rattle.std.specs.List.{AllZip}
+use Rattle.std.proofs.Common.{refl, ◌∙◌}
 use Rattle.std.specs.Vec.{with_items}
 use Rattle.std.proofs.lemmas.List.{with_items_is}
-use Rattle.msc_instance.specs.Active.{IsClosedFrom, log_of}
+use Rattle.msc_instance.specs.Active.{log_of}
 use Rattle.msc_instance.proofs.Logs.{none_due}
 use Rattle.msc_instance.proofs.Sound.{has_closed}
 use Rattle.msc_instance.proofs.active.Active.go_on.Goals as goal

@@ -1,4 +1,3 @@
-use Rattle.std.proofs.Common.{rules}
 use Rattle.msc_instance.proofs.Sound.{looked}
 use Rattle.msc_instance.proofs.active.Active.look.Goals as goal
 

@@ -1,6 +1,5 @@
-use Rattle.std.proofs.Common.{◌≡◌, ◌≤◌, ◌<◌, ◌+◌, true, false, length, refl, ap, sym, ◌∙◌, arith, get_or}
+use Rattle.std.proofs.Common.{◌<◌, arith}
 use Rattle.msc_chart.proofs.ListLemmas.{clash}
-use Rattle.msc_execution.specs.Roles.{NumberedInlet}
 use Rattle.msc_instance.proofs.Ending.{ends_stopped, ends_finished, ends_starved, ends_impatient, smaller_empty, smaller_busy}
 use Rattle.msc_instance.proofs.active.Active.run.Goals as goal
 

@@ -1,11 +1,6 @@
-use Rattle.std.proofs.Common.{◌≡◌, ◌<◌, ◌≤◌, ℕ, length, true, false, get_or, subst, sym, ap, ◌∙◌, refl, arith}
+use Rattle.std.proofs.Common.{sym, ap, ◌∙◌, arith}
 use Rattle.msc_chart.specs.Lists.{occurs}
-use Rattle.msc_chart.specs.Drawings.{input_of}
-use Rattle.msc_chart.specs.Orders.{queue_of}
 use Rattle.msc_chart.proofs.ListLemmas.{clash}
-use Rattle.msc_fifo.specs.declared.entry.Taken.TheVariants.{Message}
-use Rattle.msc_execution.specs.Roles.{NumberedInlet}
-use Rattle.msc_instance.specs.Active.{HasGot}
 use Rattle.msc_instance.proofs.Takes.{took_nothing, took_ended, took_strange, took_input, input_fits, queue_here, event_in}
 use Rattle.msc_instance.proofs.active.Active.take.Goals as goal
 

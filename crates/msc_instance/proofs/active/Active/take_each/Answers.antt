@@ -1,4 +1,4 @@
-use Rattle.std.proofs.Common.{◌≡◌, ◌<◌, ◌≤◌, length, refl, arith}
+use Rattle.std.proofs.Common.{arith}
 use Rattle.msc_instance.proofs.Rounds.{turn_nothing, turn_busy, all_idle}
 use Rattle.msc_instance.proofs.active.Active.take_each.Goals.{in-Nothing, in-Ended, in-Logged}
 use Rattle.msc_instance.proofs.active.Active.take_each.Goals as goal

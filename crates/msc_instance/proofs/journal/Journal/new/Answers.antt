@@ -1,4 +1,4 @@
-use Rattle.std.proofs.Common.{rules, ◌≡◌, ◌∙◌, sym, ap, refl, false}
+use Rattle.std.proofs.Common.{◌∙◌, sym, ap, false}
 use Rattle.std.proofs.lemmas.List.{get_or-replicate}
 use Rattle.msc_chart.specs.Lists.{occurs}
 use Rattle.msc_instance.proofs.Occurs.{occurs-nil}

@@ -1,4 +1,4 @@
-use Rattle.std.proofs.Common.{rules, ◌≡◌, ◌<◌, ℕ, length, true, sym}
+use Rattle.std.proofs.Common.{rules, ◌≡◌, length, sym}
 use Rattle.msc_instance.proofs.Occurs.{marks_more}
 use Rattle.msc_instance.proofs.journal.Journal.note.Goals as goal
 
