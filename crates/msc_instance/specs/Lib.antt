@@ -1,1 +1,4 @@
+-- what is promised
 pub mod Views
+-- what the code keeps
+pub mod Threads

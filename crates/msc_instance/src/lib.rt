@@ -7,8 +7,15 @@
 #![tactic(auto)]
 
 mod ends;
+mod fault;
 mod gate;
+mod running;
+mod threads;
+mod wiring;
 
 pub use ends::{InstanceEnd, InstanceEnds};
+pub use fault::RunFault;
 pub use gate::{AlwaysOpen, Gate};
 pub use msc_execution::End;
+pub use running::run_instance;
+pub use wiring::wire;
