@@ -1,9 +1,9 @@
 //! Rows of bits: sets of numbers, 64 in a word.
 //!
-//! Number `y` of a row is bit `y % 64` of word `y / 64`. [`row`] has the calls on one row, [`table`]
-//! those on rows of one length that stand one after the other, so that row `x` is the numbers of the
-//! pairs (x, y). Numbers start at 0. Contracts say of a row which numbers it has, and of a table which
-//! pairs.
+//! Number `y` of a row is bit `y % 64` of word `y / 64`. [`row`] has the calls on one row,
+//! [`table`] those on rows of one length that stand one after the other, so that row `x` is the
+//! numbers of the pairs (x, y). Numbers start at 0. Contracts say of a row which numbers it has,
+//! and of a table which pairs.
 #![tactic(auto)]
 
 pub mod row;

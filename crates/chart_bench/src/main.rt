@@ -1,7 +1,7 @@
 //! Builds the chart of a text on standard input, so that its work can be measured (`bench/charts`).
 //!
-//! With the word `build` it builds the chart, with any other it only parses the text: the difference
-//! is what building takes.
+//! With the word `build` it builds the chart, with any other it only parses the text: the
+//! difference is what building takes.
 #![tactic(auto)]
 
 use anyhow::Result;

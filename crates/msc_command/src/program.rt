@@ -261,8 +261,8 @@ fn obey<R: Files, I: Read, O: Write, E: Write>(
     }
 }
 
-/// Does what the words ask for, and tells how the run ended. An error is a growth of memory that was
-/// refused before the words were known.
+/// Does what the words ask for, and tells how the run ended. An error is a growth of memory that
+/// was refused before the words were known.
 fn run<R: Files, I: Read, O: Write, E: Write>(
     rt: &R,
     alloc: Global,
@@ -298,14 +298,15 @@ pub fn refuse_words<E: Write>(faults: &mut E, error: &io::Error) -> u8
 
 /// The program `msc` over its words, the program's name first; answers the exit status.
 ///
-/// `msc read FILE` writes the canonical text of FILE to `output`, `msc check --queues QUEUES [--show
-/// N] FILE`, where QUEUES is `pair`, `mailbox` or `single`, the verdict on its chart and each race, the first N with a run that shows it. N is
-/// from 0 to 4294967295, by default 4294967295. FILE `-` is `input`, any other FILE is opened
-/// through `rt`. What goes wrong is found in the order: the words, opening FILE, reading it, its
-/// text. A fault's line, and what `clap` says of wrong words, go to `faults`; where that writing
-/// fails the status stays. The status is 0 where the answer or the help asked for was written, 1
-/// where the answer names races, 2 where the text was refused or the words are no command, and 4
-/// where memory ran out, a file could not be opened or read, or the output could not be written.
+/// `msc read FILE` writes the canonical text of FILE to `output`, `msc check --queues QUEUES
+/// [--show N] FILE`, where QUEUES is `pair`, `mailbox` or `single`, the verdict on its chart and
+/// each race, the first N with a run that shows it. N is from 0 to 4294967295, by default
+/// 4294967295. FILE `-` is `input`, any other FILE is opened through `rt`. What goes wrong is found
+/// in the order: the words, opening FILE, reading it, its text. A fault's line, and what `clap`
+/// says of wrong words, go to `faults`; where that writing fails the status stays. The status is 0
+/// where the answer or the help asked for was written, 1 where the answer names races, 2 where the
+/// text was refused or the words are no command, and 4 where memory ran out, a file could not be
+/// opened or read, or the output could not be written.
 pub fn command<R: Files, I: Read, O: Write, E: Write>(
     rt: &R,
     alloc: Global,

@@ -3,6 +3,8 @@ pub mod Claims
 pub mod Standing
 pub mod Shown
 pub mod Sources
+pub mod Puts
+pub mod Takes
 pub mod Premises
 pub mod Few
 pub mod Readings

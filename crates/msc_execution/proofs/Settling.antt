@@ -3,6 +3,7 @@ pub mod Buckets
 pub mod FlatLists
 pub mod Accounts
 pub mod Parts
+pub mod Ended
 pub mod Told
 pub mod Backs
 pub mod Placed

@@ -14,8 +14,8 @@ use Rattle.msc_gather.proofs.ScheduleLemmas.{run_of_schedule, lines_of_schedule}
 use Rattle.msc_gather.proofs.ComesFirst.{first_cases}
 use Rattle.msc_execution.specs.Clocks.{Places, messages, key_of, comes_sooner, is_below, sorted, trace_of}
 use Rattle.msc_execution.specs.Timed.{IsTimed, taken_from}
-use Rattle.msc_execution.proofs.Lists.Words.{Apart}
-use Rattle.msc_execution.proofs.Sorting.{below_self, below_trans, apart_of_once, once_of_apart, Apart-concat, in_concat, of_concat, occurs-sorted, Apart-sorted, Rises-sorted, rises_at}
+use Rattle.msc_gather.proofs.Apart.{Apart, apart_of_once, once_of_apart, Apart-concat, in_concat, of_concat}
+use Rattle.msc_execution.proofs.Sorting.{below_self, below_trans, occurs-sorted, Apart-sorted, Rises-sorted, rises_at}
 use Rattle.msc_execution.proofs.Queued.{taken_has}
 use Rattle.msc_execution.proofs.Rising.{log_known, logged_there}
 use Rattle.msc_execution.proofs.Keys.{keys_in_log, key_of_input, keys_in_queue}

@@ -29,11 +29,13 @@ log_at o i = get_or o.logs i []
 abbrev pub end_at : Outcome → ℕ → End
 end_at o i = get_or o.ends i Finished
 
--- the account of instance i as a sender of the queue: what it logged as sent there, and of that what
--- the receiver logged as taken; what is left is the rest
-pub record IsTrafficOf (queues : Queues) (d : Drawing) (o : Outcome) (q i : ℕ) (a : Account) : Type 0 where
+-- the account of instance i as a sender of the queue: what it logged as sent there, and of that
+-- what the receiver logged as taken; what is left is the rest
+pub record IsTrafficOf (queues : Queues) (d : Drawing) (o : Outcome) (q i : ℕ)
+    (a : Account) : Type 0 where
   pub put : a.put ≡ sent queues d q (log_at o i)
-  pub taken : (r : ℕ) → IsTrue (takes_from queues d q r) → a.taken ≡ received_from queues d q i (log_at o r)
+  pub taken : (r : ℕ) → IsTrue (takes_from queues d q r)
+      → a.taken ≡ received_from queues d q i (log_at o r)
   pub left : a.put ≡ a.taken ++ a.left
   pub closed : a.closed ≡ true
 
@@ -49,29 +51,33 @@ placed_messages (p ∷ ps) = message_and p.message (placed_messages ps)
 
 -- A settled queue: an account for each sender, ascending; and what the receiver logged, of all
 -- senders in order, are the messages of the queue's first places.
-pub record AreAccounts (queues : Queues) (d : Drawing) (o : Outcome) (q : ℕ) (s : Settled) : Type 0 where
+pub record AreAccounts (queues : Queues) (d : Drawing) (o : Outcome) (q : ℕ)
+    (s : Settled) : Type 0 where
   pub many : vec_len s.senders ≡ length (senders_in queues d q)
   pub each : (k i : ℕ) → slice_get (senders_in queues d q) k ≡ Some i
       → (a : Account) × (slice_get s.senders.items k ≡ Some a) × IsTrafficOf queues d o q i a
   pub first : (r : ℕ) → IsTrue (takes_from queues d q r)
       → Begins (received queues d q (log_at o r)) (placed_messages s.places.items)
 
--- A queue was settled from the ends that came back from n instances: its inlet from one of them, its
--- outlets from all.
+-- A queue was settled from the ends that came back from n instances: its inlet from one of them,
+-- its outlets from all.
 pub record IsSettledFrom (n : ℕ) (back : ℕ → EndLists) (q : ℕ) (places : List Place) : Type 0 where
   pub inlet : InletState
   pub outlets : List OutletState
   pub receiver : ℕ
   pub is_instance : receiver < n
   pub own : IsAmong (q, inlet) (back receiver).inlets
-  pub all_there : (i : ℕ) (x : OutletState) → i < n → IsAmong (q, x) (back i).outlets → IsAmong x outlets
-  pub no_others : (x : OutletState) → IsAmong x outlets → (i : ℕ) × (i < n) × IsAmong (q, x) (back i).outlets
+  pub all_there : (i : ℕ) (x : OutletState) → i < n → IsAmong (q, x) (back i).outlets
+      → IsAmong x outlets
+  pub no_others : (x : OutletState) → IsAmong x outlets
+      → (i : ℕ) × (i < n) × IsAmong (q, x) (back i).outlets
   pub are_outlets : AreOutletsOf inlet outlets
   pub is_settled : IsSettled inlet outlets places
 
 -- An execution is what its instances logged: each ran from fresh ends, each queue was settled from
 -- the ends that came back, and nothing strange was got.
-pub record IsExecution (queues : Queues) (d : Drawing) (open' : Bool) (patience : ℕ) (o : Outcome) : Type 0 where
+pub record IsExecution (queues : Queues) (d : Drawing) (open' : Bool) (patience : ℕ)
+    (o : Outcome) : Type 0 where
   pub logs : length o.logs ≡ length d.instances
   pub ends : length o.ends ≡ length d.instances
   pub id : ℕ → QueueId

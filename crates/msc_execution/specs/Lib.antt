@@ -9,5 +9,6 @@ pub mod Clocks
 pub mod Timed
 pub mod ClockLaws
 pub mod Shown
+pub mod Samples
 -- what the code keeps
 pub mod Fits

@@ -28,11 +28,12 @@ inputs d xs = filter (is_input d.events) xs
 abbrev pub controlled : Drawing → List ℕ → List ℕ
 controlled d xs = filter (is_controlled d.events) xs
 
--- e may be logged after these events: it is new, and a controlled event has all that is drawn before
--- it behind it
+-- e may be logged after these events: it is new, and a controlled event has all that is drawn
+-- before it behind it
 pub record MayBeLogged (d : Drawing) (past : List ℕ) (e : ℕ) : Type 0 where
   pub new : occurs past e ≡ false
-  pub drawn : IsTrue (is_controlled d.events e) → (x : ℕ) → IsTrue (before d.events x e) → IsTrue (occurs past x)
+  pub drawn : IsTrue (is_controlled d.events e) → (x : ℕ) → IsTrue (before d.events x e)
+      → IsTrue (occurs past x)
 
 -- a log of line i: events of the line, each once; its controlled events are the first ones of the
 -- line, in the order of the text, each after all that is drawn before it
@@ -69,16 +70,18 @@ received queues d q log = map (message d.events) (inputs_at queues d q log)
 abbrev pub received_from : Queues → Drawing → ℕ → ℕ → List ℕ → List ℕ
 received_from queues d q i log = filter (λ m. nat_eq (sender_of d m) i) (received queues d q log)
 
--- What was read at the outputs and inputs of a log: the clock of the message's place, and that place.
+-- What was read at the outputs and inputs of a log: the clock of the message's place, and that
+-- place.
 pub record Reading : Type 0 where
   pub read_at : ℕ → ℕ
   pub place_at : ℕ → ℕ
 
--- An instance's clock (Lamport 1978) after an event, from its clock before it: at an output the clock
--- that was read, at an input the greater of both, at a local event the same.
+-- An instance's clock (Lamport 1978) after an event, from its clock before it: at an output the
+-- clock that was read, at an input the greater of both, at a local event the same.
 unfoldable pub clock_next : Drawing → (ℕ → ℕ) → ℕ → ℕ → ℕ
 clock_next d read_at clock e =
-    cond (is_output d.events e) (read_at e) (cond (is_input d.events e) (max clock (read_at e)) clock)
+    cond (is_output d.events e) (read_at e)
+    (cond (is_input d.events e) (max clock (read_at e)) clock)
 
 -- an instance's clock after a list of events
 unfoldable pub along_from : Drawing → (ℕ → ℕ) → ℕ → List ℕ → ℕ

@@ -32,7 +32,8 @@ pub record EndLists : Type 0 where
 
 -- the numbers below n of the queues that have a message, ascending
 unfoldable pub queues_below : Queues → Drawing → ℕ → List ℕ
-queues_below queues d n = filter (λ q. nat_lt 0 (length (messages_in queues d q))) (range_with_len 0 n)
+queues_below queues d n =
+    filter (λ q. nat_lt 0 (length (messages_in queues d q))) (range_with_len 0 n)
 
 -- the numbers of the queues that have a message, ascending
 abbrev pub queues_in : Queues → Drawing → List ℕ
@@ -60,8 +61,11 @@ taken_queues r = filter (λ q. takes_from r.queues r.chart q r.number) (queues_i
 
 -- the fresh outlet of an instance to queue q, where `id` tells which queue has a number
 abbrev pub fresh_outlet : (ℕ → QueueId) → Role → ℕ → NumberedOutlet
-fresh_outlet id r q =
-    (q, new_outlet (id q) (rank_of r.queues r.chart q r.number) (quota_of r.queues r.chart q r.number))
+fresh_outlet id r q = (
+  q,
+  new_outlet (id q) (rank_of r.queues r.chart q r.number)
+      (quota_of r.queues r.chart q r.number),
+)
 
 -- its fresh inlet from queue q
 abbrev pub fresh_inlet : (ℕ → QueueId) → Role → ℕ → NumberedInlet
@@ -81,7 +85,8 @@ pub record IsWiring (queues : Queues) (d : Drawing) (all : List EndLists) : Type
   pub each : (i : ℕ) (e : EndLists) → slice_get all i ≡ Some e → e ≡ wired_ends id (role queues d i)
 
 -- For each queue to which the instance sends there is one outlet, open and with room for what it
--- sends; for each from which it takes there is one inlet; there are no others, and both lists ascend.
+-- sends; for each from which it takes there is one inlet; there are no others, and both lists
+-- ascend.
 pub record IsFit (r : Role) (ends : EndLists) : Type 0 where
   pub outlets : map (λ (o : NumberedOutlet). o.0) ends.outlets ≡ sent_queues r
   pub inlets : map (λ (n : NumberedInlet). n.0) ends.inlets ≡ taken_queues r

@@ -22,10 +22,11 @@ pub record IsFirstDue (d : Drawing) (i : ℕ) (log : List ℕ) (s : ℕ) : Type 
   pub controlled : IsTrue (is_controlled d.events s)
   pub on_line : line d.events s ≡ i
   pub missing : occurs log s ≡ false
-  pub first : (t : ℕ) → t < s → IsTrue (is_controlled d.events t) → line d.events t ≡ i → IsTrue (occurs log t)
+  pub first : (t : ℕ) → t < s → IsTrue (is_controlled d.events t) → line d.events t ≡ i
+      → IsTrue (occurs log t)
 
--- the log is not whole, and its line's first output or local event outside it, if there is one, lacks
--- something that is drawn before it
+-- the log is not whole, and its line's first output or local event outside it, if there is one,
+-- lacks something that is drawn before it
 pub record IsHungry (r : Role) (log : List ℕ) : Type 0 where
   pub part : IsWholeLog r.chart r.number log → ⊥
   pub blocked : (s : ℕ) → IsFirstDue r.chart r.number log s
@@ -54,18 +55,21 @@ IsSpentClock clock = clock ≡ 18446744073709551615
 -- What each way to end says. With a gate that is known to be open only a spent clock stops an
 -- instance.
 abbrev pub EndsAs : Role → Bool → ℕ → Reading → Left → (ℕ → List ℕ) → End → Type 0
-EndsAs r open' patience reading left strange Finished = IsNothingStrange strange × IsWholeLog r.chart r.number left.log
+EndsAs r open' patience reading left strange Finished =
+    IsNothingStrange strange × IsWholeLog r.chart r.number left.log
 EndsAs r open' patience reading left strange Starved =
     IsNothingStrange strange × IsHungry r left.log × AllHaveEnded left.ends.inlets
 EndsAs r open' patience reading left strange Impatient =
     IsNothingStrange strange × IsHungry r left.log × (AllHaveEnded left.ends.inlets → ⊥)
     × All (λ (n : NumberedInlet). patience ≤ n.1.idle) left.ends.inlets
 EndsAs r open' patience reading left strange Stopped =
-    IsNothingStrange strange × (open' ≡ true → IsSpentClock (clock_along r.chart reading.read_at left.log))
+    IsNothingStrange strange
+    × (open' ≡ true → IsSpentClock (clock_along r.chart reading.read_at left.log))
 EndsAs r open' patience reading left strange (Foreign m) = IsStrangeAlone r left strange m
 
 -- The run of an instance from these ends, that read these clocks and places.
-pub record IsRunBy (r : Role) (open' : Bool) (patience : ℕ) (reading : Reading) (before : EndLists) (left : Left) : Type 0 where
+pub record IsRunBy (r : Role) (open' : Bool) (patience : ℕ) (reading : Reading) (before : EndLists)
+    (left : Left) : Type 0 where
   pub log : IsLogOf r.chart r.number left.log
   pub put : AllZip (IsLeftBy r left.log reading) before.outlets left.ends.outlets
   pub strange : ℕ → List ℕ
@@ -73,6 +77,7 @@ pub record IsRunBy (r : Role) (open' : Bool) (patience : ℕ) (reading : Reading
   pub ended : EndsAs r open' patience reading left strange left.end
 
 -- The run of an instance from these ends, with a gate that is known to be open or is not.
-pub record HasRun (r : Role) (open' : Bool) (patience : ℕ) (before : EndLists) (left : Left) : Type 0 where
+pub record HasRun (r : Role) (open' : Bool) (patience : ℕ) (before : EndLists)
+    (left : Left) : Type 0 where
   pub reading : Reading
   pub run : IsRunBy r open' patience reading before left

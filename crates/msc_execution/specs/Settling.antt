@@ -1,5 +1,5 @@
--- From the runs of the instances and the settled queues to an execution, over the lists that the code
--- which runs them has in hand.
+-- From the runs of the instances and the settled queues to an execution, over the lists that the
+-- code which runs them has in hand.
 use Rattle.std.specs.Prelude.{◌≡◌, ℕ, Bool, cond, List, [], ◌∷◌, length, nat_eq, map, All, IsTrue, Some, slice_get, vec_len}
 use Rattle.std.specs.List.{flat_map}
 use Rattle.msc_chart.specs.declared.queue.Queues.{Queues}
@@ -27,20 +27,25 @@ abbrev pub inlets_back : List Left → List NumberedInlet
 inlets_back ran = flat_map (λ (r : Left). r.ends.inlets) ran
 
 -- each instance ran from its fresh ends, in the order of the instances
-pub record HaveRunFrom (queues : Queues) (d : Drawing) (open' : Bool) (patience : ℕ) (fresh : List EndLists) (ran : List Left) : Type 0 where
+pub record HaveRunFrom (queues : Queues) (d : Drawing) (open' : Bool) (patience : ℕ)
+    (fresh : List EndLists) (ran : List Left) : Type 0 where
   pub many : length ran ≡ length fresh
-  pub each : (i : ℕ) (e : EndLists) (r : Left) → slice_get fresh i ≡ Some e → slice_get ran i ≡ Some r
+  pub each : (i : ℕ) (e : EndLists) (r : Left) → slice_get fresh i ≡ Some e
+      → slice_get ran i ≡ Some r
       → HasRun (role queues d i) open' patience e r
 
--- A queue was settled from this inlet and these outlets: an account for each sender, and the places.
-pub record IsSettledOf (inlet : InletState) (outlets : List OutletState) (s : Settled) : Type 0 where
+-- A queue was settled from this inlet and these outlets: an account for each sender, and the
+-- places that were claimed.
+pub record IsSettledOf (inlet : InletState) (outlets : List OutletState)
+    (s : Settled) : Type 0 where
   pub count : vec_len s.senders ≡ inlet.senders
   pub accounts : All (HasAccount s.senders.items inlet.got) outlets
   pub places : IsSettled inlet outlets s.places.items
   pub orderly : IsOrderly inlet.senders inlet.got
 
 -- each queue with a message was settled, ascending, from its ends among all that came back
-pub record AreSettledBack (queues : Queues) (d : Drawing) (ran : List Left) (settled : List (ℕ × Settled)) : Type 0 where
+pub record AreSettledBack (queues : Queues) (d : Drawing) (ran : List Left)
+    (settled : List (ℕ × Settled)) : Type 0 where
   pub numbers : map (λ (s : ℕ × Settled). s.0) settled ≡ queues_in queues d
   pub each : (q : ℕ) (s : Settled) → Occurs settled (q, s)
       → (inlet : InletState) × (of_queue q (inlets_back ran) ≡ inlet ∷ [])
@@ -50,7 +55,8 @@ pub record AreSettledBack (queues : Queues) (d : Drawing) (ran : List Left) (set
 -- outlets.
 abbrev pub RunsHoldQueues : Type 0
 RunsHoldQueues =
-    (queues : Queues) (d : Drawing) (open' : Bool) (patience : ℕ) (fresh : List EndLists) (ran : List Left) (q : ℕ)
+    (queues : Queues) (d : Drawing) (open' : Bool) (patience : ℕ) (fresh : List EndLists)
+    (ran : List Left) (q : ℕ)
     → IsAccepted d → IsWiring queues d fresh → HaveRunFrom queues d open' patience fresh ran
     → IsTrue (occurs (queues_in queues d) q)
     → (inlet : InletState) × (of_queue q (inlets_back ran) ≡ inlet ∷ [])
@@ -59,7 +65,8 @@ RunsHoldQueues =
 -- After settling: what came back and the settled queues are an execution.
 abbrev pub SettledRunsAreExecutions : Type 0
 SettledRunsAreExecutions =
-    (queues : Queues) (d : Drawing) (open' : Bool) (patience : ℕ) (fresh : List EndLists) (ran : List Left) (o : Outcome)
+    (queues : Queues) (d : Drawing) (open' : Bool) (patience : ℕ) (fresh : List EndLists)
+    (ran : List Left) (o : Outcome)
     → IsAccepted d → IsWiring queues d fresh → HaveRunFrom queues d open' patience fresh ran
     → o.logs ≡ map (λ (r : Left). r.log) ran → o.ends ≡ map (λ (r : Left). r.end) ran
     → AreSettledBack queues d ran o.settled → IsExecution queues d open' patience o

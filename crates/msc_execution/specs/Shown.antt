@@ -1,5 +1,5 @@
--- What an execution shows of clocks and runs: the places of its settled queues, by their outputs, and
--- what is known of them.
+-- What an execution shows of clocks and runs: the places of its settled queues, by their outputs,
+-- and what is known of them.
 use Rattle.std.specs.Prelude.{◌≡◌, ◌≢◌, ℕ, ◌<◌, ◌≤◌, Bool, true, cond, List, [], ◌∷◌, ◌++◌, length, map, nat_eq, Option, Some, None, IsTrue}
 use Rattle.msc_chart.specs.declared.queue.Queues.{Queues}
 use Rattle.msc_chart.specs.Lists.{occurs}

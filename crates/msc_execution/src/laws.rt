@@ -2,10 +2,12 @@
 //! calls one to rest its own proof on the law. Each law holds under each architecture, and those
 //! that speak of what is in a chart hold of every accepted chart.
 
+ghost use Rattle.msc_chart.specs.Drawings.{IsAccepted};
 ghost use Rattle.msc_execution.specs.ClockLaws.{ClocksAreBounded, EveryExecutionHasAMerge};
 ghost use Rattle.msc_execution.specs.ClockLaws.{EveryExecutionIsARun, PlaceClocksAreBounded};
 ghost use Rattle.msc_execution.specs.Fits.{InletsBringOwn, LogsKeepQuotas, OutputsHaveOutlets};
 ghost use Rattle.msc_execution.specs.Fits.{SendersAreRanked, WiringGrows, WiringsFit};
+ghost use Rattle.msc_execution.specs.Samples.{TheSampleIsAnExecution, TheSampleIsSorted, two};
 ghost use Rattle.msc_execution.specs.Settling.{FinishedExecutionsLeaveNothing, RunsHoldQueues};
 ghost use Rattle.msc_execution.specs.Settling.{SettledRunsAreExecutions};
 ghost use Rattle.msc_execution.specs.Shown.{ExecutionsAreRuns, ExecutionsAreTimed};
@@ -102,3 +104,11 @@ pub fn no_clock_is_spent()
 {
     charts_are_seated();
 }
+
+/// What an execution has to meet can be met: a small chart with a message to oneself, an action and
+/// a mailbox of two senders, whose messages are put and taken against the drawn order.
+pub fn a_sample_is_an_execution()
+    ensures accepted { IsAccepted two }
+    ensures execution { TheSampleIsAnExecution }
+    ensures trace { TheSampleIsSorted }
+{}

@@ -3,12 +3,12 @@ use Rattle.std.proofs.Common.{◌≡◌, ℕ, ◌<◌, Bool, true, false, ◌&&�
 use Rattle.std.proofs.lemmas.Bool.{eqb-true, eq-eqb, and_parts, and_from, and_cases, not-true, not-false, not_from_false, false_from_ne_true}
 use Rattle.msc_chart.specs.declared.event.ChartEvent.{ChartEvent}
 use Rattle.msc_chart.specs.Lists.{occurs}
-use Rattle.msc_chart.specs.Charts.{partner, is_output, is_input}
+use Rattle.msc_chart.specs.Charts.{partner, is_output, is_input, is_controlled}
 use Rattle.msc_chart.specs.Orders.{WiredChart, queue}
 use Rattle.msc_chart.specs.Runs.{is_waiting}
 use Rattle.msc_chart.proofs.ListLemmas.{clash, occurs-left, occurs-push}
 use Rattle.msc_chart.proofs.Numbers.{count_below, count-less}
-use Rattle.msc_chart.proofs.Drawn.{output_parts, input_parts}
+use Rattle.msc_chart.proofs.Drawn.{output_parts, input_parts, controlled_or_input}
 
 -- an output is an event of the chart
 pub output_below : (events : List ChartEvent) (s : ℕ) → is_output events s ≡ true
@@ -18,6 +18,12 @@ output_below events s o = (output_parts events s o).0
 -- and so is an input
 pub input_below : (events : List ChartEvent) (r : ℕ) → is_input events r ≡ true → r < length events
 input_below events r i = (input_parts events r i).0
+
+-- what is not controlled is an input
+pub input_from_other : (events : List ChartEvent) (r : ℕ) → r < length events
+    → is_controlled events r ≡ false → is_input events r ≡ true
+input_from_other events r below other =
+    elim (controlled_or_input events r below) [ inl o ↦ clash o other | inr i ↦ i ]
 
 module _ (chart : WiredChart) (q : ℕ) (past : List ℕ) (s : ℕ) where
   -- an output of the queue is in it while its input has not occurred

@@ -6,3 +6,12 @@ pub mod ScheduleLemmas
 pub mod Gathers
 pub mod HeadLemmas
 pub mod Wholes
+pub mod MarkLemmas
+pub mod Apart
+pub mod TakenLemmas
+pub mod LinkLemmas
+pub mod Tables
+pub mod ReadyLemmas
+pub mod BestLemmas
+pub mod MergeLemmas
+pub mod Endings

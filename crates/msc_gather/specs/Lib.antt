@@ -4,3 +4,7 @@ pub mod Schedule
 pub mod Laws
 -- what the code keeps
 pub mod Heads
+pub mod Marks
+pub mod Links
+pub mod Merges
+pub mod Held

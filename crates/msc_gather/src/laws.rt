@@ -1,6 +1,6 @@
 //! Laws of the logs of a chart, over the definitions alone. The functions do nothing when they run:
-//! a caller calls one to rest its own proof on the law. Each law holds of every accepted chart under
-//! each architecture.
+//! a caller calls one to rest its own proof on the law. Each law holds of every accepted chart
+//! under each architecture.
 
 ghost use Rattle.msc_gather.specs.Laws.{ChartsAreSeated, FollowersAreHeads, LinksTellFollowers};
 ghost use Rattle.msc_gather.specs.Laws.{LogsAreGatheredOrNone, OneRunGathers};

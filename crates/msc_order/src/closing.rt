@@ -33,7 +33,8 @@ fn add_lines(words: &mut [u64], chart: &Chart, inputs: bool, e: Event, start: Ev
         ≡ length chart.now.events * word_count (length chart.now.events) }
     requires known { e < length chart.now.events }
     requires next { IsNextSegment chart.now.events e start end }
-    requires sound { IsSound (Led chart.now.events inputs) (cell (length chart.now.events) words.old) }
+    requires sound { IsSound (Led chart.now.events inputs) (cell
+        (length chart.now.events) words.old) }
     requires blank { (y : ℕ) → cell (length chart.now.events) words.old e y ≡ false }
     requires later { (f : ℕ) → IsTrue (before chart.now.events e f)
         → HasRowOf (Led chart.now.events inputs) (cell (length chart.now.events) words.old) f }
@@ -110,7 +111,8 @@ fn add_row(words: &mut [u64], begun: &mut [u64], chart: &Chart, inputs: bool, e:
     ensures begun { AreBegun chart.now.events inputs words.new begun.new }
     ensures kept { Keeps (cell (length chart.now.events) words.old)
         (cell (length chart.now.events) words.new) }
-    ensures row { HasRowOf (Led chart.now.events inputs) (cell (length chart.now.events) words.new) e }
+    ensures row { HasRowOf (Led chart.now.events inputs) (cell
+        (length chart.now.events) words.new) e }
 {
     let events = chart.events();
     begin_segment(words, begun, chart, inputs, e);
@@ -135,8 +137,8 @@ fn add_rows(words: &mut [u64], begun: &mut [u64], chart: &Chart, inputs: bool)
 }
 
 /// Closes a blank table under the rules of lines and messages: what is drawn before an event comes
-/// before it, where `inputs` says so before each event, otherwise before each controlled one; and an
-/// output comes before its input.
+/// before it, where `inputs` says so before each event, otherwise before each controlled one; and
+/// an output comes before its input.
 pub fn close(
     alloc: Global,
     words: &mut [u64],

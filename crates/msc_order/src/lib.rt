@@ -1,8 +1,8 @@
 //! Orders of a chart's events, as rows of bits.
 //!
-//! [`Order::visual`] is the visual order of Alur, Holzmann and Peled (1996), [`Order::enforced`] the
-//! order that lines, messages and queues of an architecture enforce. Events are numbered from 0, in
-//! the order of the text.
+//! [`Order::visual`] is the visual order of Alur, Holzmann and Peled (1996), [`Order::enforced`]
+//! the order that lines, messages and queues of an architecture enforce. Events are numbered from
+//! 0, in the order of the text.
 #![tactic(auto)]
 
 mod closing;

@@ -49,7 +49,8 @@ impl Order {
     /// queue in the order of their outputs. An error is a growth of memory that was refused.
     pub fn enforced(alloc: Global, chart: &Chart, queues: Queues) -> Result<Order, AllocError>
         ensures events { IfOk result (λ order. length order ≡ length chart.now.events) }
-        ensures enforced { IfOk result (λ order. IsEnforcedOrder (wired queues chart.now) (orders order)) }
+        ensures enforced { IfOk result (λ order. IsEnforcedOrder (wired queues chart.now)
+            (orders order)) }
     {
         let events = chart.events();
         let mut words = blank(alloc, events, events)?;

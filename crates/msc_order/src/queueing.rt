@@ -1,8 +1,8 @@
 //! The rule of queues, once, over the caused order.
 //!
 //! The outputs are looked at in the reverse of a linear order of the events. For each output the
-//! outputs of its queue that are caused after it are known by then; its input takes in the inputs of
-//! these. Whatever is caused after one of them needs no look: its input's row has been taken in.
+//! outputs of its queue that are caused after it are known by then; its input takes in the inputs
+//! of these. Whatever is caused after one of them needs no look: its input's row has been taken in.
 
 ghost use Rattle.std.specs.Prelude.{◌≡◌, ℕ, ◌+◌, ◌*◌, ◌<◌, ◌≤◌, length, IsTrue, true, false, OnOk};
 ghost use Rattle.msc_chart.specs.Charts.{is_output, partner};
@@ -43,11 +43,13 @@ fn take_word(words: &mut [u64], left: &mut [u64], wiring: &Wiring, s: Event, k: 
     requires output { IsTrue (is_output wiring.now.chart.now.events s) }
     requires word { k < length left.old }
     requires between { IsBetween (wired_by wiring.now) (cell (size wiring.now) words.old) }
-    requires left { IsLeft (wired_by wiring.now) (cell (size wiring.now) words.old) s (has left.old) }
+    requires left { IsLeft (wired_by wiring.now) (cell (size wiring.now) words.old) s
+        (has left.old) }
     requires above { IsAbove (64 * k) (has left.old) }
     ensures between { IsBetween (wired_by wiring.now) (cell (size wiring.now) words.new) }
     ensures kept { Keeps (cell (size wiring.now) words.old) (cell (size wiring.now) words.new) }
-    ensures left { IsLeft (wired_by wiring.now) (cell (size wiring.now) words.new) s (has left.new) }
+    ensures left { IsLeft (wired_by wiring.now) (cell (size wiring.now) words.new) s
+        (has left.new) }
     ensures above { IsAbove (64 * (k + 1)) (has left.new) }
 {
     ends_share_queues();
@@ -65,7 +67,8 @@ fn take_left(words: &mut [u64], left: &mut [u64], wiring: &Wiring, s: Event)
     requires row { length left.old ≡ word_count (size wiring.now) }
     requires output { IsTrue (is_output wiring.now.chart.now.events s) }
     requires between { IsBetween (wired_by wiring.now) (cell (size wiring.now) words.old) }
-    requires left { IsLeft (wired_by wiring.now) (cell (size wiring.now) words.old) s (has left.old) }
+    requires left { IsLeft (wired_by wiring.now) (cell (size wiring.now) words.old) s
+        (has left.old) }
     ensures between { IsBetween (wired_by wiring.now) (cell (size wiring.now) words.new) }
     ensures kept { Keeps (cell (size wiring.now) words.old) (cell (size wiring.now) words.new) }
     ensures queue { HasQueueOf (wired_by wiring.now) (cell (size wiring.now) words.new) s }
@@ -83,11 +86,14 @@ fn add_queue_of(words: &mut [u64], masks: &mut [u64], left: &mut [u64], wiring: 
     requires row { length left.old ≡ word_count (size wiring.now) }
     requires output { IsTrue (is_output wiring.now.chart.now.events s) }
     requires between { IsBetween (wired_by wiring.now) (cell (size wiring.now) words.old) }
-    requires seen { HasSeen (wired_by wiring.now) (cell (size wiring.now) words.old) (cell (size wiring.now) masks.old) }
+    requires seen { HasSeen (wired_by wiring.now) (cell (size wiring.now) words.old) (cell
+        (size wiring.now) masks.old) }
     requires later { (c : ℕ) → IsOutputOf (wired_by wiring.now) (queue (wired_by wiring.now) s) c
-        → Caused wiring.now.chart.now.events s c → IsTrue (cell (size wiring.now) masks.old (queue (wired_by wiring.now) s) c) }
+        → Caused wiring.now.chart.now.events s c
+            → IsTrue (cell (size wiring.now) masks.old (queue (wired_by wiring.now) s) c) }
     ensures between { IsBetween (wired_by wiring.now) (cell (size wiring.now) words.new) }
-    ensures seen { HasSeen (wired_by wiring.now) (cell (size wiring.now) words.new) (cell (size wiring.now) masks.new) }
+    ensures seen { HasSeen (wired_by wiring.now) (cell (size wiring.now) words.new) (cell
+        (size wiring.now) masks.new) }
     ensures kept { Keeps (cell (size wiring.now) masks.old) (cell (size wiring.now) masks.new) }
     ensures own { IsTrue (cell (size wiring.now) masks.new (queue (wired_by wiring.now) s) s) }
 {
@@ -101,12 +107,15 @@ fn add_queue_of(words: &mut [u64], masks: &mut [u64], left: &mut [u64], wiring: 
 /// Adds the rule of queues to the caused order.
 fn add_queues(words: &mut [u64], masks: &mut [u64], left: &mut [u64], wiring: &Wiring)
     requires square { length words.old ≡ size wiring.now * word_count (size wiring.now) }
-    requires masks { (e : ℕ) → IsTrue (is_output wiring.now.chart.now.events e) → HasRow (size wiring.now) masks.old (queue (wired_by wiring.now) e) }
+    requires masks { (e : ℕ) → IsTrue (is_output wiring.now.chart.now.events e)
+        → HasRow (size wiring.now) masks.old (queue (wired_by wiring.now) e) }
     requires row { length left.old ≡ word_count (size wiring.now) }
     requires blank { (x y : ℕ) → cell (size wiring.now) masks.old x y ≡ false }
-    requires caused { IsTestOf (Caused wiring.now.chart.now.events) (cell (size wiring.now) words.old) }
+    requires caused { IsTestOf (Caused wiring.now.chart.now.events) (cell
+        (size wiring.now) words.old) }
     ensures enforced { IsEnforcedOrder (wired_by wiring.now) (cell (size wiring.now) words.new) }
-    ensures tight { (x y : ℕ) → IsTrue (cell (size wiring.now) words.new x y) → y < size wiring.now }
+    ensures tight { (x y : ℕ) → IsTrue (cell (size wiring.now) words.new x y)
+        → y < size wiring.now }
 {
     ends_share_queues();
     wiring.chart.accepted();
@@ -127,8 +136,10 @@ pub fn close_under_queues(
 ) -> Result<(), AllocError>
     requires square { length words.old ≡ size wiring.now * word_count (size wiring.now) }
     requires blank { (x y : ℕ) → cell (size wiring.now) words.old x y ≡ false }
-    ensures enforced { OnOk result (IsEnforcedOrder (wired_by wiring.now) (cell (size wiring.now) words.new)) }
-    ensures tight { OnOk result ((x y : ℕ) → IsTrue (cell (size wiring.now) words.new x y) → y < size wiring.now) }
+    ensures enforced { OnOk result (IsEnforcedOrder (wired_by wiring.now) (cell
+        (size wiring.now) words.new)) }
+    ensures tight { OnOk result ((x y : ℕ) → IsTrue (cell (size wiring.now) words.new x y)
+        → y < size wiring.now) }
 {
     let events = wiring.chart.events();
     let mut masks = blank(alloc, wiring.queue_count(), events)?;

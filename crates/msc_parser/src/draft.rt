@@ -19,7 +19,8 @@ use msc_lexer::laws::prints_pieces;
 use std::alloc::{AllocError, Global};
 use std::marker::Model;
 
-/// The tree of names and texts of actions of a chart's text. Notes and comments leave nothing in it.
+/// The tree of names and texts of actions of a chart's text. Notes and comments leave nothing in
+/// it.
 #[derive(Debug, Drop)]
 pub struct Draft {
     name: Name,

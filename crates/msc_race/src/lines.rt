@@ -14,8 +14,8 @@ use bit_rows::row::{clear, has, put_where};
 use msc_chart::Event;
 use std::alloc::{AllocError, Global};
 
-/// The events that have not occurred, the first of them on each line, and the controlled events that
-/// may come next: those before which nothing that has not occurred is drawn.
+/// The events that have not occurred, the first of them on each line, and the controlled events
+/// that may come next: those before which nothing that has not occurred is drawn.
 #[derive(Drop)]
 pub struct Lines {
     pub left: Vec<u64>,
@@ -25,7 +25,8 @@ pub struct Lines {
 
 /// Whether event `f` is there, and on line `i`.
 fn is_on(choice: &Choice, f: Event, i: u32) -> bool
-    ensures { IsTrue result ↔ ((f < size choice.now) × (line choice.now.wiring.chart.now.events f ≡ i)) }
+    ensures { IsTrue result ↔ ((f < size choice.now) × (line choice.now.wiring.chart.now.events f
+        ≡ i)) }
 {
     if f >= choice.wiring.chart.events() {
         return false;
@@ -83,7 +84,8 @@ impl Lines {
     /// Lines of which nothing is told yet.
     fn blank(alloc: Global, choice: &Choice) -> Result<Lines, AllocError>
         requires { IsSettled choice.now }
-        ensures { IfOk result (λ l. HoldsLinesFrom choice.now.wiring.chart.now l (size choice.now)) }
+        ensures { IfOk result (λ l. HoldsLinesFrom choice.now.wiring.chart.now l
+            (size choice.now)) }
     {
         let events = choice.wiring.chart.events();
         Ok(Lines {

@@ -59,7 +59,8 @@ impl QueuedRun {
         requires run { Run (wired_chart choice.now) self.old.run.items }
         requires may { MayCome (wired_chart choice.now) self.old.run.items x }
         requires output { IsTrue (is_output choice.now.wiring.chart.now.events x) }
-        ensures queues { HoldsQueues (wired_chart choice.now) (self.old.run.items ++ x ∷ []) self.new }
+        ensures queues { HoldsQueues (wired_chart choice.now)
+            (self.old.run.items ++ x ∷ []) self.new }
         ensures run { self.new.run ≡ self.old.run }
     {
         ends_share_queues();
@@ -81,7 +82,8 @@ impl QueuedRun {
         requires run { Run (wired_chart choice.now) self.old.run.items }
         requires may { MayCome (wired_chart choice.now) self.old.run.items x }
         requires input { IsTrue (is_input choice.now.wiring.chart.now.events x) }
-        ensures queues { HoldsQueues (wired_chart choice.now) (self.old.run.items ++ x ∷ []) self.new }
+        ensures queues { HoldsQueues (wired_chart choice.now)
+            (self.old.run.items ++ x ∷ []) self.new }
         ensures run { self.new.run ≡ self.old.run }
     {
         ends_share_queues();
@@ -108,7 +110,8 @@ impl QueuedRun {
         requires queues { HoldsQueues (wired_chart choice.now) self.old.run.items self.old }
         requires run { Run (wired_chart choice.now) self.old.run.items }
         requires may { MayCome (wired_chart choice.now) self.old.run.items x }
-        ensures queues { HoldsQueues (wired_chart choice.now) (self.old.run.items ++ x ∷ []) self.new }
+        ensures queues { HoldsQueues (wired_chart choice.now)
+            (self.old.run.items ++ x ∷ []) self.new }
         ensures run { self.new.run ≡ self.old.run }
     {
         ends_share_queues();

@@ -1,9 +1,9 @@
 //! What the program prints: canonical texts, verdicts, races and fault lines.
 //!
-//! Each call writes exactly its text or answers an `io::Error`; how much went out before an error is
-//! not said. The texts are definitions of their own, beside which each call's contract stands. No
-//! call but `run_line` takes memory, beyond what the writer does. Events are numbered from 0, over all
-//! lines.
+//! Each call writes exactly its text or answers an `io::Error`; how much went out before an error
+//! is not said. The texts are definitions of their own, beside which each call's contract stands.
+//! No call but `run_line` takes memory, beyond what the writer does. Events are numbered from 0,
+//! over all lines.
 #![tactic(auto)]
 
 mod fault;

@@ -68,7 +68,8 @@ fn write_signal<W: Write>(
     requires known { e < length chart.now.events }
     requires message { is_local chart.now.events e ≡ false }
     ensures { OnOk result (Appends (W.contents writer.old) (W.contents writer.new)
-        (way.now ++ (message_text (message_at chart.now (message chart.now.events e)) ++ (preposition.now
+        (way.now ++ (message_text (message_at chart.now (message chart.now.events e)) ++
+            (preposition.now
         ++ instance_text chart.now (line chart.now.events (partner chart.now.events e)))))) }
 {
     writer.write_all(way)?;
@@ -94,7 +95,8 @@ fn write_end<W: Write>(writer: &mut W, chart: &Chart, e: Event) -> io::Result<()
 /// Writes a byte of an action's text: an apostrophe doubled, and a question mark for what is no
 /// visible character of ASCII and no space.
 fn write_byte<W: Write>(writer: &mut W, byte: u8) -> io::Result<()>
-    ensures { OnOk result (Appends (W.contents writer.old) (W.contents writer.new) (shown_byte byte)) }
+    ensures { OnOk result (Appends (W.contents writer.old) (W.contents writer.new)
+        (shown_byte byte)) }
 {
     if byte == b'\'' {
         return writer.write_all(b"''");
@@ -166,8 +168,8 @@ fn write_run<W: Write>(writer: &mut W, run: Option<&[Event]>) -> io::Result<()>
     }
 }
 
-/// The line of a run, for a caller that writes it behind more than one race. An error is a growth of
-/// memory that was refused.
+/// The line of a run, for a caller that writes it behind more than one race. An error is a growth
+/// of memory that was refused.
 pub fn run_line(alloc: Global, run: &[Event]) -> Result<Vec<u8>, AllocError>
     ensures { IfOk result (λ line. line.items ≡ run_line (Some run.now)) }
 {

@@ -42,8 +42,8 @@ fn write_outcome<W: Write>(writer: &mut W, verdict: &Verdict) -> io::Result<()>
     }
 }
 
-/// Writes the head of a verdict on a chart under an architecture: the chart's name, the architecture,
-/// and `pass` or the number of races.
+/// Writes the head of a verdict on a chart under an architecture: the chart's name, the
+/// architecture, and `pass` or the number of races.
 pub fn write_verdict<W: Write>(
     writer: &mut W,
     chart: &Chart,

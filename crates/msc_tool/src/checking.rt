@@ -94,13 +94,13 @@ fn write_checked<W: Write>(
 }
 
 /// Writes the verdict on a text's chart under an architecture, and each race in order, the first
-/// `show` with the chosen run of their first event, which reverses them; answers whether the verdict
-/// is `pass`.
+/// `show` with the chosen run of their first event, which reverses them; answers whether the
+/// verdict is `pass`.
 ///
-/// A text without a draft is refused with its first fault, a draft that is no chart with its own, and
-/// want of memory is answered as `Memory`. After `Memory` a beginning of the answer may have been
-/// written, after the other refusals the writer has had no call. `Device` is answered where the
-/// writer fails.
+/// A text without a draft is refused with its first fault, a draft that is no chart with its own,
+/// and want of memory is answered as `Memory`. After `Memory` a beginning of the answer may have
+/// been written, after the other refusals the writer has had no call. `Device` is answered where
+/// the writer fails.
 pub fn check_text<W: Write>(
     alloc: Global,
     text: &[u8],

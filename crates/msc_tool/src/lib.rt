@@ -1,5 +1,5 @@
-//! The answers of the program `msc` as calls: reading an input, a text's canonical text, the verdict
-//! on its chart.
+//! The answers of the program `msc` as calls: reading an input, a text's canonical text, the
+//! verdict on its chart.
 //!
 //! Each call speaks of the bytes that it takes from a reader and gives to a writer, so what the
 //! program prints is a stated function of what it reads.

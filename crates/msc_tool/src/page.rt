@@ -38,7 +38,8 @@ impl Write for Page {
 
     fn write(&mut self, buf: &[u8]) -> io::Result<usize>
         ensures bound { WritesAtMost result buf.now }
-        ensures bytes { WriteAppends (Some self.old.bytes.items) (Some self.new.bytes.items) result buf.now }
+        ensures bytes { WriteAppends (Some self.old.bytes.items)
+            (Some self.new.bytes.items) result buf.now }
     {
         self.bytes.extend_from_slice(buf)?;
         Ok(buf.len())
@@ -52,7 +53,8 @@ impl Write for Page {
 
     // A list takes all bytes at once; the loop of the trait costs more than the bytes.
     fn write_all(&mut self, buf: &[u8]) -> io::Result<()>
-        ensures bytes { OnOk result (Appends (Some self.old.bytes.items) (Some self.new.bytes.items) buf.now) }
+        ensures bytes { OnOk result (Appends (Some self.old.bytes.items)
+            (Some self.new.bytes.items) buf.now) }
     {
         self.bytes.extend_from_slice(buf)?;
         Ok(())

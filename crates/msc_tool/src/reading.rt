@@ -25,8 +25,8 @@ fn chunk_of(alloc: Global, len: usize) -> Result<Vec<u8>, AllocError>
     vec![in alloc; 0; len]
 }
 
-/// Calls `read` once, for no more bytes than the limit leaves, and puts what it gave behind `bytes`.
-/// Answers whether the input has ended or the limit is reached.
+/// Calls `read` once, for no more bytes than the limit leaves, and puts what it gave behind
+/// `bytes`. Answers whether the input has ended or the limit is reached.
 fn read_once<R: Read>(reader: &mut R, chunk: &mut [u8], bytes: &mut Vec<u8>) -> Result<bool, Fault>
     requires room { 0 < length chunk.old }
     requires unfilled { vec_len bytes.old < BYTE_LIMIT }

@@ -59,7 +59,8 @@ fn put_race<W: Write>(
     requires first { race.0 < length chart.now.events }
     requires second { race.1 < length chart.now.events }
     ensures { Puts result (W.contents writer.old) (W.contents writer.new)
-        page.old.bytes.items page.new.bytes.items (race_text chart.now race.0 race.1 None ++ line.now) }
+        page.old.bytes.items page.new.bytes.items
+            (race_text chart.now race.0 race.1 None ++ line.now) }
 {
     turn(writer, page)?;
     match write_race(page, chart, race.0, race.1, None) {
@@ -71,8 +72,8 @@ fn put_race<W: Write>(
     }
 }
 
-/// Puts each of these races with the chosen run of its first event behind a page. One run serves all
-/// races of an event that stand in a row.
+/// Puts each of these races with the chosen run of its first event behind a page. One run serves
+/// all races of an event that stand in a row.
 fn put_shown<W: Write>(
     alloc: Global,
     writer: &mut W,
@@ -118,8 +119,8 @@ fn put_unshown<W: Write>(
     Ok(())
 }
 
-/// Puts each of these races behind a page, the first `show` with the chosen run of their first event.
-/// Full pages go out.
+/// Puts each of these races behind a page, the first `show` with the chosen run of their first
+/// event. Full pages go out.
 pub fn put_races<W: Write>(
     alloc: Global,
     writer: &mut W,

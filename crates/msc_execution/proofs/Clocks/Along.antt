@@ -9,8 +9,10 @@ use Rattle.msc_execution.proofs.Lists.Words.{at_head, in_tail}
 
 -- where each event of a list moves the clock as the places do, the clock along it is that of the
 -- places
-pub along_places : (chart : WiredChart) (d : Drawing) (places : Places) (read_at : ℕ → ℕ) (clock : ℕ) (log : List ℕ)
-    → ((e : ℕ) → occurs log e ≡ true → (c : ℕ) → clock_next d read_at c e ≡ clock_step chart places c e)
+pub along_places : (chart : WiredChart) (d : Drawing) (places : Places) (read_at : ℕ → ℕ)
+    (clock : ℕ) (log : List ℕ)
+    → ((e : ℕ) → occurs log e ≡ true → (c : ℕ)
+    → clock_next d read_at c e ≡ clock_step chart places c e)
     → along_from d read_at clock log ≡ clock_from chart places clock log
 unfolding along_from clock_from
 along_places chart d places read_at clock [] same = refl

@@ -11,19 +11,22 @@ use Rattle.msc_chart.specs.Orders.{wired}
 use Rattle.msc_chart.proofs.Drawn.{output_not_local}
 use Rattle.msc_execution.specs.Clocks.{Places}
 use Rattle.msc_execution.specs.Timed.{IsTimed, all_puts}
-use Rattle.msc_execution.proofs.Lists.Words.{Apart, passes, unmapped, once_filter, once_map}
+use Rattle.msc_execution.proofs.Lists.Words.{passes, unmapped, once_filter, once_map}
 use Rattle.msc_execution.proofs.Lists.Ranges.{range_has}
 use Rattle.msc_execution.proofs.Wiring.Fitted.{pigeons}
-use Rattle.msc_execution.proofs.Sorting.{apart_of_once, Apart-concat, of_concat}
+use Rattle.msc_gather.proofs.Apart.{Apart, apart_of_once, Apart-concat, of_concat}
 
-module _ (queues : Queues) (d : Drawing) (accepted : IsAccepted d) (logs : List (List ℕ)) (places : Places)
+module _ (queues : Queues) (d : Drawing) (accepted : IsAccepted d) (logs : List (List ℕ))
+    (places : Places)
     (timed : IsTimed (wired queues d) (length d.instances) logs places) where
   -- the logs hold no event twice
   logs_apart : Apart (concat logs)
   logs_apart =
       let many = timed.as_many in
-      Apart-concat logs (λ i below. (apart_of_once [] (get_or logs i []) (timed.once i (omega arith))).0)
-      (λ i j e bi bj hi hj. sym (timed.known i e (omega arith) hi).1 ∙ (timed.known j e (omega arith) hj).1)
+      Apart-concat logs (λ i below.
+      (apart_of_once [] (get_or logs i []) (timed.once i (omega arith))).0)
+      (λ i j e bi bj hi hj. sym (timed.known i e (omega arith) hi).1
+      ∙ (timed.known j e (omega arith) hj).1)
 
   -- what is put is an output, of a message of the chart
   put_output : (s : ℕ) → occurs (all_puts (wired queues d) logs) s ≡ true
@@ -47,12 +50,16 @@ module _ (queues : Queues) (d : Drawing) (accepted : IsAccepted d) (logs : List 
   pub few_puts : length (all_puts (wired queues d) logs) ≤ length d.messages
   few_puts =
       let puts : List ℕ = all_puts (wired queues d) logs in
-      let apart : Apart (map (message d.events) puts) = once_map (message d.events) puts (λ x y a b same.
+      let apart : Apart (map (message d.events) puts) =
+      once_map (message d.events) puts (λ x y a b same.
       sym (accepted.has_messages.back x (put_output x a).0) ∙ ap (output_of d) same
       ∙ accepted.has_messages.back y (put_output y b).0) puts_apart in
-      let bound = pigeons (map (message d.events) puts) (range_with_len 0 (length d.messages)) apart (λ m there.
+      let bound =
+      pigeons (map (message d.events) puts) (range_with_len 0 (length d.messages)) apart
+      (λ m there.
       let (s, s_in, s_of) = unmapped (message d.events) puts m there in
-      let small : m < length d.messages = subst (λ (z : ℕ). z < length d.messages) s_of (put_output s s_in).1 in
+      let small : m < length d.messages =
+      subst (λ (z : ℕ). z < length d.messages) s_of (put_output s s_in).1 in
       range_has 0 (length d.messages) m (omega arith) (omega arith)) in
       let same = length-map puts (message d.events) in
       let all = length-range_with_len 0 (length d.messages) in

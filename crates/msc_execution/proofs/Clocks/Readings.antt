@@ -24,15 +24,19 @@ use Rattle.msc_execution.proofs.Clocks.Sources.{IsRead}
 use Rattle.msc_execution.proofs.Clocks.Premises.{is_timed, along_is}
 use Rattle.msc_execution.proofs.Clocks.Few.{few_puts}
 
-module _ {queues : Queues} {d : Drawing} {open' : Bool} {patience : ℕ} {o : Outcome} (exec : IsExecution queues d open' patience o) where
+module _ {queues : Queues} {d : Drawing} {open' : Bool} {patience : ℕ} {o : Outcome}
+    (exec : IsExecution queues d open' patience o) where
   -- what instance i left
   abbrev left : ℕ → Left
   left i = record { log = log_at o i; ends = exec.back i; end = end_at o i }
 
   -- an instance's run, with what it read
   abbrev IsRunOf : ℕ → Reading → Type 0
-  IsRunOf i reading = IsRunBy (role queues d i) open' patience reading (wired_ends exec.id (role queues d i)) (left i)
+  IsRunOf i reading =
+      IsRunBy (role queues d i) open' patience reading (wired_ends exec.id (role queues d i))
+      (left i)
 
+  -- what an instance read, nothing past the last one
   read_by : (i : ℕ) → (i < length d.instances) ⊎ (length d.instances ≤ i) → Reading
   read_by i (inl below) = (exec.runs i below).reading
   read_by i (inr past) = record { read_at = λ e. 0; place_at = λ e. 0 }
@@ -41,11 +45,14 @@ module _ {queues : Queues} {d : Drawing} {open' : Bool} {patience : ℕ} {o : Ou
   read : ℕ → Reading
   read i = read_by i (cases_lt i (length d.instances))
 
-  run_by : (i : ℕ) (c : (i < length d.instances) ⊎ (length d.instances ≤ i)) → i < length d.instances → IsRunOf i (read_by i c)
+  -- its run with that
+  run_by : (i : ℕ) (c : (i < length d.instances) ⊎ (length d.instances ≤ i))
+      → i < length d.instances → IsRunOf i (read_by i c)
   unfolding read_by
   run_by i (inl b) below = (exec.runs i b).run
   run_by i (inr p) below = absurd (omega arith)
 
+  -- so each instance ran with what it read
   run : (i : ℕ) → i < length d.instances → IsRunOf i (read i)
   unfolding read
   run i below = run_by i (cases_lt i (length d.instances)) below
@@ -54,20 +61,25 @@ module _ {queues : Queues} {d : Drawing} {open' : Bool} {patience : ℕ} {o : Ou
   read_with : ℕ → Reading → ℕ → Reading
   read_with i reading j = cond (eqb j i) reading (read j)
 
-  run_with : (i : ℕ) (reading : Reading) → IsRunOf i reading → (j : ℕ) → j < length d.instances → IsRunOf j (read_with i reading j)
+  -- each ran with that
+  run_with : (i : ℕ) (reading : Reading) → IsRunOf i reading → (j : ℕ) → j < length d.instances
+      → IsRunOf j (read_with i reading j)
   unfolding read_with
   run_with i reading h j below =
       by_test (eqb j i)
       (λ same.
       subst (λ (r : Reading). IsRunOf j r) (sym (ap (λ (b : Bool). cond b reading (read j)) same))
       (subst (λ (z : ℕ). IsRunOf z reading) (sym (eqb-true j i same)) h))
-      (λ other. subst (λ (r : Reading). IsRunOf j r) (sym (ap (λ (b : Bool). cond b reading (read j)) other)) (run j below))
+      (λ other. subst (λ (r : Reading). IsRunOf j r)
+      (sym (ap (λ (b : Bool). cond b reading (read j)) other)) (run j below))
 
+  -- the given reading is that instance's
   read_own : (i : ℕ) (reading : Reading) → read_with i reading i ≡ reading
   unfolding read_with
   read_own i reading = ap (λ (b : Bool). cond b reading (read i)) (eq-eqb i i refl)
 
   module _ (accepted : IsAccepted d) (seated : IsSeated (wired queues d) (length d.instances)) where
+    -- an execution with what was read
     told : IsRead queues d open' patience o
     told = record { accepted = accepted; exec = exec; read = read; runs = run }
 
@@ -85,7 +97,8 @@ module _ {queues : Queues} {d : Drawing} {open' : Bool} {patience : ℕ} {o : Ou
     has_merge none = none (trace_in queues d o) is_run.0 is_run.1
 
     -- no clock along a log is greater than the number of messages
-    pub clocks_few : (i : ℕ) (below : i < length d.instances) (past rest : List ℕ) → log_at o i ≡ past ++ rest
+    pub clocks_few : (i : ℕ) (below : i < length d.instances) (past rest : List ℕ)
+        → log_at o i ≡ past ++ rest
         → clock_along d (exec.runs i below).reading.read_at past ≤ length d.messages
     clocks_few i below past rest split =
         let has = exec.runs i below in
@@ -95,15 +108,19 @@ module _ {queues : Queues} {d : Drawing} {open' : Bool} {patience : ℕ} {o : Ou
           read = read_with i has.reading;
           runs = run_with i has.reading has.run;
         } in
-        let same = along_is own seated i past below (λ e there. ap (λ l. occurs l e) split ∙ occurs-left past rest e there) in
-        let mine : clock_along d has.reading.read_at past ≡ clock_along d (read_with i has.reading i).read_at past =
+        let same =
+        along_is own seated i past below
+        (λ e there. ap (λ l. occurs l e) split ∙ occurs-left past rest e there) in
+        let mine : clock_along d has.reading.read_at past
+        ≡ clock_along d (read_with i has.reading i).read_at past =
         ap (λ (r : Reading). clock_along d r.read_at past) (sym (read_own i has.reading)) in
         let bound = clocks_bounded seated timed_by i past rest below split in
         let puts = few_puts queues d accepted o.logs (places_of d o) timed_by in
         omega arith
 
     -- nor is one of a place
-    pub places_few : (q s : ℕ) → occurs (messages (places_of d o q)) s ≡ true → place_clock (places_of d o q) s ≤ length d.messages
+    pub places_few : (q s : ℕ) → occurs (messages (places_of d o q)) s ≡ true
+        → place_clock (places_of d o q) s ≤ length d.messages
     places_few q s there =
         let bound = places_bounded seated timed_by q s there in
         let puts = few_puts queues d accepted o.logs (places_of d o) timed_by in
@@ -115,7 +132,9 @@ module _ {queues : Queues} {d : Drawing} {open' : Bool} {patience : ℕ} {o : Ou
         elim (cases_lt i (length d.instances)) [
           | inl below ↦
               let has = exec.runs i below in
-              let ended = subst (λ (e : End). EndsAs (role queues d i) open' patience has.reading (left i) has.run.strange e) stopped has.run.ended in
+              let ended =
+              subst (λ (e : End). EndsAs (role queues d i) open' patience has.reading
+              (left i) has.run.strange e) stopped has.run.ended in
               let spent = ended.1 is_open in
               let bound = clocks_few i below (log_at o i) [] (sym (append-nil (log_at o i))) in
               let few = accepted.few_messages in

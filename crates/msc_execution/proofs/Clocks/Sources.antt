@@ -3,9 +3,9 @@ use Rattle.std.proofs.Common.{◌≡◌, ℕ, ◌+◌, ◌<◌, Bool, true, fals
 use Rattle.msc_chart.specs.declared.queue.Queues.{Queues}
 use Rattle.msc_chart.specs.Lists.{occurs, until}
 use Rattle.msc_chart.specs.Charts.{line, message, is_output}
-use Rattle.msc_chart.specs.Drawings.{Drawing, IsAccepted, output_of}
+use Rattle.msc_chart.specs.Drawings.{Drawing, IsAccepted}
 use Rattle.msc_chart.specs.Orders.{wired, queue, queue_of}
-use Rattle.msc_chart.proofs.ListLemmas.{clash, by_test}
+use Rattle.msc_chart.proofs.ListLemmas.{clash}
 use Rattle.msc_chart.proofs.Drawn.{output_not_local}
 use Rattle.msc_chart.proofs.QueueLemmas.{event_queue}
 use Rattle.msc_fifo.specs.declared.claim.Claim.{Claim}
@@ -20,19 +20,16 @@ use Rattle.msc_execution.specs.Logs.{Reading, outputs_at, clock_along}
 use Rattle.msc_execution.specs.Growth.{IsLeftBy, claim_at}
 use Rattle.msc_execution.specs.Running.{IsRunBy}
 use Rattle.msc_execution.specs.Executions.{Outcome, IsSettledFrom, IsExecution, log_at, end_at}
-use Rattle.msc_execution.specs.Clocks.{Place, messages, place_clock}
-use Rattle.msc_execution.specs.Clocks.Place.{Message}
-use Rattle.msc_execution.specs.Shown.{as_place, places_at, places_of}
-use Rattle.msc_execution.proofs.Lists.Among.{among_front, among_cases, among_single, map_at, at_map, zip_right, zip_left, among_occurs, occurs_among}
-use Rattle.msc_execution.proofs.Wiring.Receivers.{queues_have}
-use Rattle.msc_execution.proofs.Wiring.Logged.{output_at, output_there}
+use Rattle.msc_execution.specs.Shown.{places_at}
+use Rattle.msc_execution.proofs.Lists.Among.{among_cases, among_single, map_at, at_map, zip_right, zip_left, among_occurs, occurs_among}
+use Rattle.msc_execution.proofs.Wiring.Logged.{output_at}
 use Rattle.msc_execution.proofs.Wiring.Fitted.{have_outlets}
-use Rattle.msc_execution.proofs.Clocks.Claims.{claims_are_among, among_claims, sender_small, outlet_of}
-use Rattle.msc_execution.proofs.Clocks.Standing.{message_at, at_message, place_clock_is}
-use Rattle.msc_execution.proofs.Clocks.Shown.{place_of, places_are, place_entry, looked_up, none_up}
+use Rattle.msc_execution.proofs.Clocks.Claims.{among_claims, sender_small, outlet_of}
+use Rattle.msc_execution.proofs.Clocks.Shown.{looked_up, none_up}
 
 -- an execution of an accepted chart, with what each instance read
-pub record IsRead (queues : Queues) (d : Drawing) (open' : Bool) (patience : ℕ) (o : Outcome) : Type 0 where
+pub record IsRead (queues : Queues) (d : Drawing) (open' : Bool) (patience : ℕ)
+    (o : Outcome) : Type 0 where
   pub accepted : IsAccepted d
   pub exec : IsExecution queues d open' patience o
   pub read : ℕ → Reading
@@ -40,8 +37,10 @@ pub record IsRead (queues : Queues) (d : Drawing) (open' : Bool) (patience : ℕ
       → IsRunBy (role queues d i) open' patience (read i) (wired_ends exec.id (role queues d i))
       (record { log = log_at o i; ends = exec.back i; end = end_at o i })
 
--- the output that a claim is of: it is logged, and the claim has its message, its offer and the clock that was read there
-pub record Source (queues : Queues) (d : Drawing) (o : Outcome) (read : ℕ → Reading) (q : ℕ) (c : Claim) : Type 0 where
+-- the output that a claim is of: it is logged, and the claim has its message, its offer and the
+-- clock that was read there
+pub record Source (queues : Queues) (d : Drawing) (o : Outcome) (read : ℕ → Reading) (q : ℕ)
+    (c : Claim) : Type 0 where
   pub s : ℕ
   pub below : s < length d.events
   pub output : is_output d.events s ≡ true
@@ -49,85 +48,133 @@ pub record Source (queues : Queues) (d : Drawing) (o : Outcome) (read : ℕ → 
   pub queue_is : queue_of queues d (message d.events s) ≡ q
   pub sender : ℕ
   pub entry : c.entry ≡ Sent sender (message d.events s)
-  pub offer : c.offer ≡ clock_along d (read (line d.events s)).read_at (until (log_at o (line d.events s)) s) + 1
+  pub offer : c.offer ≡ clock_along d (read (line d.events s)).read_at
+      (until (log_at o (line d.events s)) s) + 1
   pub clock : c.clock ≡ (read (line d.events s)).read_at s
 
-module _ {queues : Queues} {d : Drawing} {open' : Bool} {patience : ℕ} {o : Outcome} (told : IsRead queues d open' patience o) where
+module _ {queues : Queues} {d : Drawing} {open' : Bool} {patience : ℕ} {o : Outcome}
+    (told : IsRead queues d open' patience o) where
   -- a queue with a message was settled from the ends that came back
   pub settled : (q : ℕ) → occurs (queues_in queues d) q ≡ true
       → IsSettledFrom (length d.instances) told.exec.back q (places_at o.settled q)
   settled q there =
-      let found = looked_up o.settled q (ap (λ (l : List ℕ). occurs l q) told.exec.numbers ∙ there) in
-      subst (λ (l : List SettledPlace). IsSettledFrom (length d.instances) told.exec.back q l) (sym found.2)
+      let found =
+      looked_up o.settled q (ap (λ (l : List ℕ). occurs l q) told.exec.numbers ∙ there) in
+      subst (λ (l : List SettledPlace). IsSettledFrom (length d.instances) told.exec.back q l)
+      (sym found.2)
       (told.exec.places q found.0 found.1)
 
   -- the others have no places
-  nothing : (q : ℕ) → occurs (queues_in queues d) q ≡ false → places_at o.settled q ≡ []
+  pub nothing : (q : ℕ) → occurs (queues_in queues d) q ≡ false → places_at o.settled q ≡ []
   nothing q none = none_up o.settled q (ap (λ (l : List ℕ). occurs l q) told.exec.numbers ∙ none)
 
   -- the message of an output is a message of the chart
-  pub known_out : (s : ℕ) → s < length d.events → is_output d.events s ≡ true → message d.events s < length d.messages
-  known_out s below output = told.accepted.has_messages.known s below (output_not_local d.events s output)
+  pub known_out : (s : ℕ) → s < length d.events → is_output d.events s ≡ true
+      → message d.events s < length d.messages
+  known_out s below output =
+      told.accepted.has_messages.known s below (output_not_local d.events s output)
 
   -- and its queue is that of the output
   pub queue_out : (s : ℕ) → s < length d.events → is_output d.events s ≡ true
       → queue (wired queues d) s ≡ queue_of queues d (message d.events s)
-  queue_out s below output = event_queue queues d told.accepted s below (output_not_local d.events s output)
+  queue_out s below output =
+      event_queue queues d told.accepted s below (output_not_local d.events s output)
 
   -- a logged output has its outlet
-  outlet_at : (s : ℕ) → s < length d.events → is_output d.events s ≡ true
-      → (out : OutletState) × IsAmong (queue_of queues d (message d.events s), out) (told.exec.back (line d.events s)).outlets
+  pub outlet_at : (s : ℕ) → s < length d.events → is_output d.events s ≡ true
+      → (out : OutletState) × IsAmong (queue_of queues d (message d.events s), out)
+      (told.exec.back (line d.events s)).outlets
   outlet_at s below output =
       let i : ℕ = line d.events s in
       let q : ℕ = queue_of queues d (message d.events s) in
       let run = told.runs i (told.accepted.on_lines.on_line s below) in
-      let there = occurs_among (sent_queues (role queues d i)) q (have_outlets queues d i s told.accepted output refl) in
-      let found = zip_left (IsLeftBy (role queues d i) (log_at o i) (told.read i)) (map (fresh_outlet told.exec.id (role queues d i)) (sent_queues (role queues d i))) (told.exec.back i).outlets
-      (fresh_outlet told.exec.id (role queues d i) q) there.0 run.put (at_map (fresh_outlet told.exec.id (role queues d i)) (sent_queues (role queues d i)) q there.0 there.1) in
+      let there =
+      occurs_among (sent_queues (role queues d i)) q
+      (have_outlets queues d i s told.accepted output refl) in
+      let found =
+      zip_left (IsLeftBy (role queues d i) (log_at o i) (told.read i))
+      (map (fresh_outlet told.exec.id (role queues d i)) (sent_queues (role queues d i)))
+      (told.exec.back i).outlets
+      (fresh_outlet told.exec.id (role queues d i) q) there.0 run.put
+      (at_map (fresh_outlet told.exec.id (role queues d i))
+      (sent_queues (role queues d i)) q there.0 there.1) in
       let new : NumberedOutlet = found.0 in
       let number : new.0 ≡ q = found.2.number in
       let same : new ≡ (q, new.1) = (λ j. (number j, new.1)) in
       (new.1, (found.1.0, found.1.1 ∙ (λ j. Some (same j))))
 
   -- the claims of an outlet that came back
-  claims_are : (i q : ℕ) (out : OutletState) (k : ℕ) → i < length d.instances → slice_get (told.exec.back i).outlets k ≡ Some (q, out)
-      → (place : ℕ) × (out.claims ≡ map (claim_at (role queues d i) (log_at o i) (told.read i) out.sender) (outputs_at queues d q (log_at o i)) ++ claim place (Ended out.sender) 0 0 ∷ [])
+  pub claims_are : (i q : ℕ) (out : OutletState) (k : ℕ) → i < length d.instances
+      → slice_get (told.exec.back i).outlets k ≡ Some (q, out)
+      → (place : ℕ) × (out.claims
+      ≡ map (claim_at (role queues d i) (log_at o i) (told.read i) out.sender)
+      (outputs_at queues d q (log_at o i)) ++ claim place (Ended out.sender) 0 0 ∷ [])
   claims_are i q out k below at =
       let run = told.runs i below in
       let log : List ℕ = log_at o i in
-      let found = zip_right (IsLeftBy (role queues d i) log (told.read i)) (map (fresh_outlet told.exec.id (role queues d i)) (sent_queues (role queues d i))) (told.exec.back i).outlets (q, out) k run.put at in
-      let fresh = map_at (fresh_outlet told.exec.id (role queues d i)) (sent_queues (role queues d i)) found.0 found.1.0 found.1.1 in
+      let found =
+      zip_right (IsLeftBy (role queues d i) log (told.read i))
+      (map (fresh_outlet told.exec.id (role queues d i)) (sent_queues (role queues d i)))
+      (told.exec.back i).outlets (q, out) k run.put at in
+      let fresh =
+      map_at (fresh_outlet told.exec.id (role queues d i))
+      (sent_queues (role queues d i)) found.0 found.1.0 found.1.1 in
       let p : ℕ = fresh.0 in
-      let left : IsLeftBy (role queues d i) log (told.read i) (fresh_outlet told.exec.id (role queues d i) p) (q, out) =
-      subst (λ (z : NumberedOutlet). IsLeftBy (role queues d i) log (told.read i) z (q, out)) (sym fresh.2) found.2 in
+      let left : IsLeftBy (role queues d i) log (told.read i)
+      (fresh_outlet told.exec.id (role queues d i) p) (q, out) =
+      subst (λ (z : NumberedOutlet). IsLeftBy (role queues d i) log (told.read i) z (q, out))
+      (sym fresh.2) found.2 in
       let number : q ≡ p = left.number in
-      let sender : out.sender ≡ (fresh_outlet told.exec.id (role queues d i) p).1.sender = left.same.1 in
+      let sender : out.sender ≡ (fresh_outlet told.exec.id (role queues d i) p).1.sender =
+      left.same.1 in
       let c = left.claims refl in (
         c.0,
-        subst (λ (z : ℕ). out.claims ≡ map (claim_at (role queues d i) log (told.read i) z) (outputs_at queues d q log) ++ claim c.0 (Ended z) 0 0 ∷ []) (sym sender)
-            (subst (λ (z : ℕ). out.claims ≡ map (claim_at (role queues d i) log (told.read i) (fresh_outlet told.exec.id (role queues d i) p).1.sender) (outputs_at queues d z log) ++ claim c.0 (Ended (fresh_outlet told.exec.id (role queues d i) p).1.sender) 0 0 ∷ []) (sym number) c.1),
+        subst (λ (z : ℕ). out.claims
+            ≡ map (claim_at (role queues d i) log (told.read i) z) (outputs_at queues d q log)
+            ++ claim c.0 (Ended z) 0 0 ∷ []) (sym sender)
+            (subst (λ (z : ℕ). out.claims
+            ≡ map (claim_at (role queues d i) log (told.read i)
+            (fresh_outlet told.exec.id (role queues d i) p).1.sender)
+            (outputs_at queues d z log)
+            ++ claim c.0 (Ended (fresh_outlet told.exec.id (role queues d i) p).1.sender) 0 0 ∷
+            []) (sym number) c.1),
       )
 
   -- a message's claim at a place is that of a logged output
-  pub source : (q : ℕ) (there : occurs (queues_in queues d) q ≡ true) (c : Claim) (k : ℕ) → slice_get (settled q there).is_settled.log k ≡ Some c → is_message c.entry ≡ true
+  pub source : (q : ℕ) (there : occurs (queues_in queues d) q ≡ true) (c : Claim) (k : ℕ)
+      → slice_get (settled q there).is_settled.log k ≡ Some c → is_message c.entry ≡ true
       → Source queues d o told.read q c
   source q there c k at is =
-      let st : IsSettledFrom (length d.instances) told.exec.back q (places_at o.settled q) = settled q there in
+      let st : IsSettledFrom (length d.instances) told.exec.back q (places_at o.settled q) =
+      settled q there in
       let log : List Claim = st.is_settled.log in
-      let out = outlet_of (from_of c.entry) st.outlets (st.are_outlets.once (from_of c.entry) (sender_small st.inlet.senders log c k st.is_settled.is_log.orderly at)) in
+      let out =
+      outlet_of (from_of c.entry) st.outlets
+      (st.are_outlets.once (from_of c.entry)
+      (sender_small st.inlet.senders log c k st.is_settled.is_log.orderly at)) in
       let own : OutletState = out.0 in
-      let among : IsAmong c (claims_of own.sender log) = among_claims own.sender log c k at (sym out.2) in
-      let mine : IsAmong c own.claims = subst (λ (l : List Claim). IsAmong c l) (sym (st.is_settled.is_log.claims own out.1)) among in
+      let among : IsAmong c (claims_of own.sender log) =
+      among_claims own.sender log c k at (sym out.2) in
+      let mine : IsAmong c own.claims =
+      subst (λ (l : List Claim). IsAmong c l)
+      (sym (st.is_settled.is_log.claims own out.1)) among in
       let from = st.no_others own out.1 in
       let i : ℕ = from.0 in
       let claims = claims_are i q own from.2.0 from.1 from.2.1 in
-      let here : IsAmong c (map (claim_at (role queues d i) (log_at o i) (told.read i) own.sender) (outputs_at queues d q (log_at o i)) ++ claim claims.0 (Ended own.sender) 0 0 ∷ []) =
+      let here : IsAmong c (map (claim_at (role queues d i) (log_at o i) (told.read i) own.sender)
+      (outputs_at queues d q (log_at o i)) ++ claim claims.0 (Ended own.sender) 0 0 ∷ []) =
       subst (λ (l : List Claim). IsAmong c l) claims.1 mine in
-      elim (among_cases (map (claim_at (role queues d i) (log_at o i) (told.read i) own.sender) (outputs_at queues d q (log_at o i))) (claim claims.0 (Ended own.sender) 0 0 ∷ []) c here.0 here.1) [
+      elim (among_cases (map (claim_at (role queues d i) (log_at o i) (told.read i) own.sender)
+      (outputs_at queues d q (log_at o i)))
+      (claim claims.0 (Ended own.sender) 0 0 ∷ []) c here.0 here.1) [
         | inl front ↦
-            let found = map_at (claim_at (role queues d i) (log_at o i) (told.read i) own.sender) (outputs_at queues d q (log_at o i)) c front.0 front.1 in
+            let found =
+            map_at (claim_at (role queues d i) (log_at o i) (told.read i) own.sender)
+            (outputs_at queues d q (log_at o i)) c front.0 front.1 in
             let s : ℕ = found.0 in
-            let parts = output_at queues d q (log_at o i) s (among_occurs (outputs_at queues d q (log_at o i)) s front.0 found.1) in
+            let parts =
+            output_at queues d q (log_at o i) s
+            (among_occurs (outputs_at queues d q (log_at o i)) s front.0 found.1) in
             let known = (told.runs i from.1).log.on_line s parts.0 in
             let is_line : line d.events s ≡ i = known.1 in
             record {
@@ -138,87 +185,16 @@ module _ {queues : Queues} {d : Drawing} {open' : Bool} {patience : ℕ} {o : Ou
               queue_is = parts.2;
               sender = own.sender;
               entry = ap (λ (x : Claim). x.entry) (sym found.2);
-              offer = ap (λ (x : Claim). x.offer) (sym found.2) ∙ ap (λ (j : ℕ). clock_along d (told.read j).read_at (until (log_at o j) s) + 1) (sym is_line);
-              clock = ap (λ (x : Claim). x.clock) (sym found.2) ∙ ap (λ (j : ℕ). (told.read j).read_at s) (sym is_line);
+              offer =
+                  ap (λ (x : Claim). x.offer) (sym found.2)
+                  ∙ ap (λ (j : ℕ). clock_along d (told.read j).read_at (until (log_at o j) s) + 1)
+                  (sym is_line);
+              clock =
+                  ap (λ (x : Claim). x.clock) (sym found.2)
+                  ∙ ap (λ (j : ℕ). (told.read j).read_at s) (sym is_line);
             }
         | inr back ↦
-            let mark : claim claims.0 (Ended own.sender) 0 0 ≡ c = among_single (claim claims.0 (Ended own.sender) 0 0) c back.0 back.1 in
+            let mark : claim claims.0 (Ended own.sender) 0 0 ≡ c =
+            among_single (claim claims.0 (Ended own.sender) 0 0) c back.0 back.1 in
             clash is (ap (λ (x : Claim). is_message x.entry) (sym mark))
       ]
-
-  -- the places of a queue that has messages
-  pub shown : (q : ℕ) (there : occurs (queues_in queues d) q ≡ true) → places_of d o q ≡ map (place_of d) (settled q there).is_settled.log
-  shown q there =
-      let st : IsSettledFrom (length d.instances) told.exec.back q (places_at o.settled q) = settled q there in
-      ap (λ l. map (as_place d) l) st.is_settled.places_are ∙ places_are d st.is_settled.log
-
-  -- a queue at whose places a message stands is one of the chart's
-  pub has_places : (q s : ℕ) → occurs (messages (places_of d o q)) s ≡ true → occurs (queues_in queues d) q ≡ true
-  unfolding occurs messages
-  has_places q s h =
-      by_test (occurs (queues_in queues d) q) (λ there. there)
-      (λ none. clash (subst (λ (l : List ℕ). occurs l s ≡ true) (ap (λ l. messages (map (as_place d) l)) (nothing q none)) h) refl)
-
-  -- a message at a place is that of a claim, and so of a logged output
-  pub stands : (q : ℕ) (there : occurs (queues_in queues d) q ≡ true) (k i s n : ℕ) → slice_get (places_of d o q) k ≡ Some (Message i s n)
-      → (c : Claim) × (slice_get (settled q there).is_settled.log k ≡ Some c) × (is_message c.entry ≡ true) × (c.clock ≡ n) × ((src : Source queues d o told.read q c) × (src.s ≡ s))
-  stands q there k i s n at =
-      let log : List Claim = (settled q there).is_settled.log in
-      let here = map_at (place_of d) log (Message i s n) k (subst (λ (l : List Place). slice_get l k ≡ Some (Message i s n)) (shown q there) at) in
-      let c : Claim = here.0 in
-      let entry = place_entry d c.entry c.clock i s n here.2 in
-      let m : ℕ = entry.0 in
-      let is_sent : c.entry ≡ Sent i m = entry.1 in
-      let is : is_message c.entry ≡ true = ap is_message is_sent in
-      let src : Source queues d o told.read q c = source q there c k here.1 is in
-      let both : Sent i m ≡ Sent src.sender (message d.events src.s) = sym is_sent ∙ src.entry in
-      let same : m ≡ message d.events src.s = cc in
-      (c, here.1, is, entry.3, (src, sym (told.accepted.has_messages.back src.s src.output) ∙ ap (output_of d) (sym same) ∙ entry.2))
-
-  -- the clock of a message's place is the one that was told.read at its output
-  pub place_read : (q s : ℕ) → occurs (messages (places_of d o q)) s ≡ true → place_clock (places_of d o q) s ≡ (told.read (line d.events s)).read_at s
-  place_read q s h =
-      let there = has_places q s h in
-      place_clock_is (places_of d o q) s ((told.read (line d.events s)).read_at s)
-      (λ k i n at.
-      let c = stands q there k i s n at in
-      let src : Source queues d o told.read q c.0 = c.4.0 in
-      sym c.3 ∙ src.clock ∙ ap (λ (x : ℕ). (told.read (line d.events x)).read_at x) c.4.1) h
-
-  -- a logged output's message is put
-  pub put : (s : ℕ) → s < length d.events → occurs (log_at o (line d.events s)) s ≡ true → is_output d.events s ≡ true
-      → occurs (messages (places_of d o (queue (wired queues d) s))) s ≡ true
-  put s below logged output =
-      let i : ℕ = line d.events s in
-      let q : ℕ = queue_of queues d (message d.events s) in
-      let i_below = told.accepted.on_lines.on_line s below in
-      let there = queues_have queues d q (message d.events s) told.accepted (known_out s below output) refl in
-      let st : IsSettledFrom (length d.instances) told.exec.back q (places_at o.settled q) = settled q there in
-      let log : List Claim = st.is_settled.log in
-      let found = outlet_at s below output in
-      let out : OutletState = found.0 in
-      let claims = claims_are i q out found.1.0 i_below found.1.1 in
-      let c : Claim = claim_at (role queues d i) (log_at o i) (told.read i) out.sender s in
-      let at = occurs_among (outputs_at queues d q (log_at o i)) s (output_there queues d q (log_at o i) s logged output refl) in
-      let front : slice_get out.claims at.0 ≡ Some c =
-      ap (λ (l : List Claim). slice_get l at.0) claims.1
-      ∙ among_front (map (claim_at (role queues d i) (log_at o i) (told.read i) out.sender) (outputs_at queues d q (log_at o i))) (claim claims.0 (Ended out.sender) 0 0 ∷ []) c at.0
-      (at_map (claim_at (role queues d i) (log_at o i) (told.read i) out.sender) (outputs_at queues d q (log_at o i)) s at.0 at.1) in
-      let own = st.is_settled.is_log.claims out (st.all_there i out i_below found.1) in
-      let among = claims_are_among out.sender log c at.0 (ap (λ (l : List Claim). slice_get l at.0) (sym own) ∙ front) in
-      let here = at_map (place_of d) log c among.0 among.1 in
-      let message_there : occurs (messages (map (place_of d) log)) (output_of d (message d.events s)) ≡ true =
-      at_message (map (place_of d) log) (output_of d (message d.events s)) out.sender c.clock among.0 here in
-      let back : occurs (messages (places_of d o q)) s ≡ true =
-      ap (λ (l : List Place). occurs (messages l) s) (shown q there) ∙ subst (λ (z : ℕ). occurs (messages (map (place_of d) log)) z ≡ true) (told.accepted.has_messages.back s output) message_there in
-      subst (λ (z : ℕ). occurs (messages (places_of d o z)) s ≡ true) (sym (queue_out s below output)) back
-
-  pub was_put : (q s : ℕ) → occurs (messages (places_of d o q)) s ≡ true
-      → (s < length d.events) × (is_output d.events s ≡ true) × (occurs (log_at o (line d.events s)) s ≡ true) × (queue (wired queues d) s ≡ q)
-  was_put q s h =
-      let there = has_places q s h in
-      let at = message_at (places_of d o q) s h in
-      let c = stands q there at.0 at.1 s at.2 at.3 in
-      let src : Source queues d o told.read q c.0 = c.4.0 in
-      subst (λ (z : ℕ). (z < length d.events) × (is_output d.events z ≡ true) × (occurs (log_at o (line d.events z)) z ≡ true) × (queue (wired queues d) z ≡ q)) c.4.1
-      (src.below, src.output, src.logged, queue_out src.s src.below src.output ∙ src.queue_is)

@@ -1,5 +1,5 @@
 -- What is among the elements of lists.
-use Rattle.std.proofs.Common.{◌≡◌, ◌⊎◌, ℕ, zero, suc, ◌<◌, Bool, true, false, cond, eqb, List, [], ◌∷◌, ◌++◌, map, filter, length, Some, slice_get, inl, inr, ⊎_elim, refl, sym, ap, subst, arith}
+use Rattle.std.proofs.Common.{◌≡◌, ◌⊎◌, ℕ, zero, suc, Bool, true, false, cond, eqb, List, [], ◌∷◌, ◌++◌, map, filter, Some, slice_get, inl, inr, ⊎_elim, refl, ap, subst}
 use Rattle.std.specs.List.{AllZip, list_any}
 use Rattle.std.proofs.lemmas.Bool.{eqb-true, eq-eqb, or_cases, or_left, or_right}
 use Rattle.msc_chart.specs.Lists.{occurs}
@@ -8,67 +8,91 @@ use Rattle.msc_fifo.specs.Settlement.{IsAmong}
 use Rattle.msc_execution.proofs.Lists.Words.{at_head, in_tail}
 
 module _ {A : Type 0} where
+  -- what is among a list is among a longer one
   pub among_more : (y x : A) (xs : List A) → IsAmong x xs → IsAmong x (y ∷ xs)
   among_more y x xs h = (suc h.0, h.1)
 
-  pub cond-among : (b : Bool) (y x : A) (xs : List A) → IsAmong x xs → IsAmong x (cond b (y ∷ xs) xs)
+  -- and where the head may be missing
+  pub cond-among : (b : Bool) (y x : A) (xs : List A) → IsAmong x xs
+      → IsAmong x (cond b (y ∷ xs) xs)
   cond-among true y x xs h = among_more y x xs h
   cond-among false y x xs h = h
 
-  pub cond-get : (b : Bool) (y x : A) (xs : List A) (k : ℕ) → slice_get (cond b (y ∷ xs) xs) k ≡ Some x → ((b ≡ true) × (y ≡ x)) ⊎ ((j : ℕ) × (slice_get xs j ≡ Some x))
+  -- what stands in a list whose head may be missing
+  pub cond-get : (b : Bool) (y x : A) (xs : List A) (k : ℕ)
+      → slice_get (cond b (y ∷ xs) xs) k ≡ Some x
+      → ((b ≡ true) × (y ≡ x)) ⊎ ((j : ℕ) × (slice_get xs j ≡ Some x))
   cond-get true y x xs zero h = let same : y ≡ x = cc in inl (refl, same)
   cond-get true y x xs (suc k) h = inr (k, h)
   cond-get false y x xs k h = inr (k, h)
 
   -- what is among the front is among the whole
-  pub among_front : (xs ys : List A) (x : A) (k : ℕ) → slice_get xs k ≡ Some x → slice_get (xs ++ ys) k ≡ Some x
+  pub among_front : (xs ys : List A) (x : A) (k : ℕ) → slice_get xs k ≡ Some x
+      → slice_get (xs ++ ys) k ≡ Some x
   among_front [] ys x k h = cc
   among_front (y ∷ xs) ys x zero h = h
   among_front (y ∷ xs) ys x (suc k) h = among_front xs ys x k h
 
   -- what is among two joined lists is among one of them
-  pub among_cases : (xs ys : List A) (x : A) (k : ℕ) → slice_get (xs ++ ys) k ≡ Some x → IsAmong x xs ⊎ IsAmong x ys
+  pub among_cases : (xs ys : List A) (x : A) (k : ℕ) → slice_get (xs ++ ys) k ≡ Some x
+      → IsAmong x xs ⊎ IsAmong x ys
   among_cases [] ys x k h = inr (k, h)
   among_cases (y ∷ xs) ys x zero h = inl (0, h)
-  among_cases (y ∷ xs) ys x (suc k) h = ⊎_elim (λ (a : IsAmong x xs). inl (among_more y x xs a)) (λ (b : IsAmong x ys). inr b) (among_cases xs ys x k h)
+  among_cases (y ∷ xs) ys x (suc k) h =
+      ⊎_elim (λ (a : IsAmong x xs). inl (among_more y x xs a)) (λ (b : IsAmong x ys). inr b)
+      (among_cases xs ys x k h)
 
+  -- what stands in a list of one
   pub among_single : (y x : A) (k : ℕ) → slice_get (y ∷ []) k ≡ Some x → y ≡ x
   among_single y x zero h = cc
   among_single y x (suc k) h = cc
 
 module _ {A B : Type 0} where
-  pub map_at : (f : A → B) (xs : List A) (y : B) (k : ℕ) → slice_get (map f xs) k ≡ Some y → (x : A) × (slice_get xs k ≡ Some x) × (f x ≡ y)
+  -- what stands in a mapped list comes from what stands there
+  pub map_at : (f : A → B) (xs : List A) (y : B) (k : ℕ) → slice_get (map f xs) k ≡ Some y
+      → (x : A) × (slice_get xs k ≡ Some x) × (f x ≡ y)
   map_at f [] y k h = cc
   map_at f (x ∷ xs) y zero h = let same : f x ≡ y = cc in (x, refl, same)
   map_at f (x ∷ xs) y (suc k) h = map_at f xs y k h
 
-  pub at_map : (f : A → B) (xs : List A) (x : A) (k : ℕ) → slice_get xs k ≡ Some x → slice_get (map f xs) k ≡ Some (f x)
+  -- and what stands there is mapped
+  pub at_map : (f : A → B) (xs : List A) (x : A) (k : ℕ) → slice_get xs k ≡ Some x
+      → slice_get (map f xs) k ≡ Some (f x)
   at_map f [] x k h = cc
   at_map f (y ∷ xs) x zero h = let same : y ≡ x = cc in ap (λ z. Some (f z)) same
   at_map f (y ∷ xs) x (suc k) h = at_map f xs x k h
 
   -- place by place, from either side
-  pub zip_right : (R : A → B → Type 0) (xs : List A) (ys : List B) (y : B) (k : ℕ) → AllZip R xs ys → slice_get ys k ≡ Some y → (x : A) × IsAmong x xs × R x y
+  pub zip_right : (R : A → B → Type 0) (xs : List A) (ys : List B) (y : B) (k : ℕ) → AllZip R xs ys
+      → slice_get ys k ≡ Some y → (x : A) × IsAmong x xs × R x y
   zip_right R [] [] y k h at = cc
   zip_right R [] (b ∷ ys) y k h at = absurd h
   zip_right R (a ∷ xs) [] y k h at = absurd h
-  zip_right R (a ∷ xs) (b ∷ ys) y zero h at = let same : b ≡ y = cc in (a, (0, refl), subst (λ (z : B). R a z) same h.0)
-  zip_right R (a ∷ xs) (b ∷ ys) y (suc k) h at = let r = zip_right R xs ys y k h.1 at in (r.0, among_more a r.0 xs r.1, r.2)
+  zip_right R (a ∷ xs) (b ∷ ys) y zero h at = let same : b ≡ y = cc in
+      (a, (0, refl), subst (λ (z : B). R a z) same h.0)
+  zip_right R (a ∷ xs) (b ∷ ys) y (suc k) h at = let r = zip_right R xs ys y k h.1 at in
+      (r.0, among_more a r.0 xs r.1, r.2)
 
-  pub zip_left : (R : A → B → Type 0) (xs : List A) (ys : List B) (x : A) (k : ℕ) → AllZip R xs ys → slice_get xs k ≡ Some x → (y : B) × IsAmong y ys × R x y
+  -- and the other way round
+  pub zip_left : (R : A → B → Type 0) (xs : List A) (ys : List B) (x : A) (k : ℕ) → AllZip R xs ys
+      → slice_get xs k ≡ Some x → (y : B) × IsAmong y ys × R x y
   zip_left R [] [] x k h at = cc
   zip_left R [] (b ∷ ys) x k h at = absurd h
   zip_left R (a ∷ xs) [] x k h at = absurd h
-  zip_left R (a ∷ xs) (b ∷ ys) x zero h at = let same : a ≡ x = cc in (b, (0, refl), subst (λ (z : A). R z b) same h.0)
-  zip_left R (a ∷ xs) (b ∷ ys) x (suc k) h at = let r = zip_left R xs ys x k h.1 at in (r.0, among_more b r.0 ys r.1, r.2)
+  zip_left R (a ∷ xs) (b ∷ ys) x zero h at = let same : a ≡ x = cc in
+      (b, (0, refl), subst (λ (z : A). R z b) same h.0)
+  zip_left R (a ∷ xs) (b ∷ ys) x (suc k) h at = let r = zip_left R xs ys x k h.1 at in
+      (r.0, among_more b r.0 ys r.1, r.2)
 
 -- numbers
 pub among_occurs : (xs : List ℕ) (x k : ℕ) → slice_get xs k ≡ Some x → occurs xs x ≡ true
 unfolding occurs
 among_occurs [] x k h = cc
-among_occurs (y ∷ xs) x zero h = let same : y ≡ x = cc in or_left (eqb y x) (occurs xs x) (eq-eqb y x same)
+among_occurs (y ∷ xs) x zero h = let same : y ≡ x = cc in
+    or_left (eqb y x) (occurs xs x) (eq-eqb y x same)
 among_occurs (y ∷ xs) x (suc k) h = or_right (eqb y x) (occurs xs x) (among_occurs xs x k h)
 
+-- and the other way round
 pub occurs_among : (xs : List ℕ) (x : ℕ) → occurs xs x ≡ true → IsAmong x xs
 unfolding occurs
 occurs_among [] x h = clash h refl
@@ -78,16 +102,9 @@ occurs_among (y ∷ xs) x h =
       | inr later ↦ among_more y x xs (occurs_among xs x later)
     ]
 
-pub any_from : (p : ℕ → Bool) (xs : List ℕ) (x : ℕ) → occurs xs x ≡ true → p x ≡ true → list_any p xs ≡ true
-unfolding occurs
-any_from p [] x h passes = clash h refl
-any_from p (y ∷ xs) x h passes =
-    elim (or_cases (eqb y x) (occurs xs x) h) [
-      | inl same ↦ or_left (p y) (list_any p xs) (subst (λ (z : ℕ). p z ≡ true) (sym (eqb-true y x same)) passes)
-      | inr later ↦ or_right (p y) (list_any p xs) (any_from p xs x later passes)
-    ]
-
-pub any_parts : (p : ℕ → Bool) (xs : List ℕ) → list_any p xs ≡ true → (x : ℕ) × (occurs xs x ≡ true) × (p x ≡ true)
+-- where some element passes, one does
+pub any_parts : (p : ℕ → Bool) (xs : List ℕ) → list_any p xs ≡ true
+    → (x : ℕ) × (occurs xs x ≡ true) × (p x ≡ true)
 any_parts p [] h = clash h refl
 any_parts p (y ∷ xs) h =
     elim (or_cases (p y) (list_any p xs) h) [
@@ -96,7 +113,8 @@ any_parts p (y ∷ xs) h =
     ]
 
 -- a filter keeps nothing, or something that passes
-pub none_or_some : (p : ℕ → Bool) (xs : List ℕ) → (filter p xs ≡ []) ⊎ ((x : ℕ) × (occurs xs x ≡ true) × (p x ≡ true))
+pub none_or_some : (p : ℕ → Bool) (xs : List ℕ)
+    → (filter p xs ≡ []) ⊎ ((x : ℕ) × (occurs xs x ≡ true) × (p x ≡ true))
 none_or_some p [] = inl refl
 none_or_some p (y ∷ xs) =
     by_test (p y)
@@ -105,8 +123,3 @@ none_or_some p (y ∷ xs) =
       | inl none ↦ inl (rw fails none)
       | inr some ↦ inr (some.0, in_tail y xs some.0 some.1, some.2)
     ])
-
-pub some_length : (xs : List ℕ) (x : ℕ) → occurs xs x ≡ true → 0 < length xs
-unfolding occurs
-some_length [] x h = clash h refl
-some_length (y ∷ xs) x h = omega arith

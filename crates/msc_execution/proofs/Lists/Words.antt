@@ -4,62 +4,77 @@ use Rattle.std.proofs.lemmas.Bool.{eq-eqb, eqb-true, or_left, or_right, or_cases
 use Rattle.msc_chart.specs.Lists.{occurs, Steps}
 use Rattle.msc_chart.specs.Drawings.{Drawing}
 use Rattle.msc_chart.proofs.ListLemmas.{by_test, clash, occurs-append, occurs-left, occurs-push}
+use Rattle.msc_gather.proofs.Apart.{Apart}
 use Rattle.msc_execution.specs.Logs.{MayBeLogged}
 
--- no number stands twice, told from the head
-abbrev pub Apart : List ℕ → Type 0
-Apart [] = Unit {0}
-Apart (x ∷ xs) = (occurs xs x ≡ false) × Apart xs
-
 -- what occurs is the head or in the tail
-pub head_or_tail : (x : ℕ) (xs : List ℕ) (e : ℕ) → occurs (x ∷ xs) e ≡ true → (x ≡ e) ⊎ (occurs xs e ≡ true)
+pub head_or_tail : (x : ℕ) (xs : List ℕ) (e : ℕ) → occurs (x ∷ xs) e ≡ true
+    → (x ≡ e) ⊎ (occurs xs e ≡ true)
 unfolding occurs
-head_or_tail x xs e h = elim (or_cases (eqb x e) (occurs xs e) h) [ inl is ↦ inl (eqb-true x e is) | inr later ↦ inr later ]
+head_or_tail x xs e h =
+    elim (or_cases (eqb x e) (occurs xs e) h)
+    [ inl is ↦ inl (eqb-true x e is) | inr later ↦ inr later ]
 
+-- the head occurs
 pub at_head : (x : ℕ) (xs : List ℕ) → occurs (x ∷ xs) x ≡ true
 unfolding occurs
 at_head x xs = or_left (eqb x x) (occurs xs x) (eq-eqb x x refl)
 
+-- what is in the tail occurs
 pub in_tail : (x : ℕ) (xs : List ℕ) (e : ℕ) → occurs xs e ≡ true → occurs (x ∷ xs) e ≡ true
 unfolding occurs
 in_tail x xs e h = or_right (eqb x e) (occurs xs e) h
 
+-- nothing occurs in the empty list
 pub in_none : {X : Type 0} (e : ℕ) → occurs [] e ≡ true → X
 unfolding occurs
 in_none e h = cc
 
+-- what is in the second of two joined lists occurs
 pub in_right : (xs ys : List ℕ) (e : ℕ) → occurs ys e ≡ true → occurs (xs ++ ys) e ≡ true
 in_right xs ys e h = occurs-append xs ys e ∙ or_right (occurs xs e) (occurs ys e) h
 
-pub filter_yes : (p : ℕ → Bool) (x : ℕ) (xs : List ℕ) → p x ≡ true → filter p (x ∷ xs) ≡ x ∷ filter p xs
+-- a head that passes is kept
+pub filter_yes : (p : ℕ → Bool) (x : ℕ) (xs : List ℕ) → p x ≡ true
+    → filter p (x ∷ xs) ≡ x ∷ filter p xs
 filter_yes p x xs h = ap (λ (b : Bool). cond b (x ∷ filter p xs) (filter p xs)) h
 
+-- a head that fails is not
 pub filter_no : (p : ℕ → Bool) (x : ℕ) (xs : List ℕ) → p x ≡ false → filter p (x ∷ xs) ≡ filter p xs
 filter_no p x xs h = ap (λ (b : Bool). cond b (x ∷ filter p xs) (filter p xs)) h
 
 -- what passes a filter occurred, and passes
-pub passes : (p : ℕ → Bool) (xs : List ℕ) (e : ℕ) → occurs (filter p xs) e ≡ true → (occurs xs e ≡ true) × (p e ≡ true)
+pub passes : (p : ℕ → Bool) (xs : List ℕ) (e : ℕ) → occurs (filter p xs) e ≡ true
+    → (occurs xs e ≡ true) × (p e ≡ true)
 passes p [] e h = in_none e h
 passes p (x ∷ xs) e h =
     by_test (p x)
     (λ yes.
-    let k : occurs (x ∷ filter p xs) e ≡ true = ap (λ (l : List ℕ). occurs l e) (sym (filter_yes p x xs yes)) ∙ h in
+    let k : occurs (x ∷ filter p xs) e ≡ true =
+    ap (λ (l : List ℕ). occurs l e) (sym (filter_yes p x xs yes)) ∙ h in
     elim (head_or_tail x (filter p xs) e k) [
-      | inl is ↦ (subst (λ (y : ℕ). occurs (x ∷ xs) y ≡ true) is (at_head x xs), subst (λ (y : ℕ). p y ≡ true) is yes)
+      | inl is ↦ (
+        subst (λ (y : ℕ). occurs (x ∷ xs) y ≡ true) is (at_head x xs),
+        subst
+            (λ (y : ℕ). p y ≡ true) is yes,
+      )
       | inr later ↦ (let r = passes p xs e later in (in_tail x xs e r.0, r.1))
     ])
     (λ no.
-    let k : occurs (filter p xs) e ≡ true = ap (λ (l : List ℕ). occurs l e) (sym (filter_no p x xs no)) ∙ h in
+    let k : occurs (filter p xs) e ≡ true =
+    ap (λ (l : List ℕ). occurs l e) (sym (filter_no p x xs no)) ∙ h in
     let r = passes p xs e k in
     (in_tail x xs e r.0, r.1))
 
 -- what occurs and passes is kept
-pub kept : (p : ℕ → Bool) (xs : List ℕ) (e : ℕ) → occurs xs e ≡ true → p e ≡ true → occurs (filter p xs) e ≡ true
+pub kept : (p : ℕ → Bool) (xs : List ℕ) (e : ℕ) → occurs xs e ≡ true → p e ≡ true
+    → occurs (filter p xs) e ≡ true
 kept p [] e h k = in_none e h
 kept p (x ∷ xs) e h k = elim (head_or_tail x xs e h) [
   | inl is ↦
       let yes : p x ≡ true = ap p is ∙ k in
-      ap (λ (l : List ℕ). occurs l e) (filter_yes p x xs yes) ∙ subst (λ (y : ℕ). occurs (x ∷ filter p xs) y ≡ true) is (at_head x (filter p xs))
+      ap (λ (l : List ℕ). occurs l e) (filter_yes p x xs yes)
+      ∙ subst (λ (y : ℕ). occurs (x ∷ filter p xs) y ≡ true) is (at_head x (filter p xs))
   | inr later ↦
       let r = kept p xs e later k in
       by_test (p x)
@@ -67,6 +82,7 @@ kept p (x ∷ xs) e h k = elim (head_or_tail x xs e h) [
       (λ no. ap (λ (l : List ℕ). occurs l e) (filter_no p x xs no) ∙ r)
 ]
 
+-- a value of what occurs occurs among the values
 pub mapped : (f : ℕ → ℕ) (xs : List ℕ) (e : ℕ) → occurs xs e ≡ true → occurs (map f xs) (f e) ≡ true
 mapped f [] e h = in_none e h
 mapped f (x ∷ xs) e h = elim (head_or_tail x xs e h) [
@@ -74,7 +90,9 @@ mapped f (x ∷ xs) e h = elim (head_or_tail x xs e h) [
   | inr later ↦ in_tail (f x) (map f xs) (f e) (mapped f xs e later)
 ]
 
-pub unmapped : (f : ℕ → ℕ) (xs : List ℕ) (m : ℕ) → occurs (map f xs) m ≡ true → (e : ℕ) × (occurs xs e ≡ true) × (f e ≡ m)
+-- and a value that occurs is that of something which occurs
+pub unmapped : (f : ℕ → ℕ) (xs : List ℕ) (m : ℕ) → occurs (map f xs) m ≡ true
+    → (e : ℕ) × (occurs xs e ≡ true) × (f e ≡ m)
 unmapped f [] m h = in_none m h
 unmapped f (x ∷ xs) m h = elim (head_or_tail (f x) (map f xs) m h) [
   | inl is ↦ (x, at_head x xs, is)
@@ -86,18 +104,22 @@ pub fails : (b : Bool) → (b ≡ true → ⊥) → b ≡ false
 fails true f = absurd (f refl)
 fails false f = refl
 
+-- what stands once stands at most once among what passes
 pub once_filter : (p : ℕ → Bool) (xs : List ℕ) → Apart xs → Apart (filter p xs)
 once_filter p [] h = tt
 once_filter p (x ∷ xs) h =
     let r = once_filter p xs h.1 in
     by_test (p x)
     (λ yes.
-    let new : occurs (filter p xs) x ≡ false = fails (occurs (filter p xs) x) (λ there. clash (passes p xs x there).0 h.0) in
+    let new : occurs (filter p xs) x ≡ false =
+    fails (occurs (filter p xs) x) (λ there. clash (passes p xs x there).0 h.0) in
     subst Apart (sym (filter_yes p x xs yes)) (new, r))
     (λ no. subst Apart (sym (filter_no p x xs no)) r)
 
+-- values that tell their elements apart stand once
 pub once_map : (f : ℕ → ℕ) (xs : List ℕ)
-    → ((e g : ℕ) → occurs xs e ≡ true → occurs xs g ≡ true → f e ≡ f g → e ≡ g) → Apart xs → Apart (map f xs)
+    → ((e g : ℕ) → occurs xs e ≡ true → occurs xs g ≡ true → f e ≡ f g → e ≡ g) → Apart xs
+    → Apart (map f xs)
 once_map f [] apart h = tt
 once_map f (x ∷ xs) apart h = (
   fails (occurs (map f xs) (f x)) (λ there.
@@ -107,13 +129,15 @@ once_map f (x ∷ xs) apart h = (
   once_map f xs (λ e g in_e in_g. apart e g (in_tail x xs e in_e) (in_tail x xs g in_g)) h.1,
 )
 
+-- the first of two joined lists has each of its elements once
 pub once_left : (xs ys : List ℕ) → Apart (xs ++ ys) → Apart xs
 once_left [] ys h = tt
 once_left (x ∷ xs) ys h =
     (fails (occurs xs x) (λ there. clash (occurs-left xs ys x there) h.0), once_left xs ys h.1)
 
 -- what stands once in two joined lists stands in one of them alone
-pub once_apart : (xs ys : List ℕ) (e : ℕ) → Apart (xs ++ ys) → occurs xs e ≡ true → occurs ys e ≡ true → ⊥
+pub once_apart : (xs ys : List ℕ) (e : ℕ) → Apart (xs ++ ys) → occurs xs e ≡ true
+    → occurs ys e ≡ true → ⊥
 once_apart [] ys e h a b = in_none e a
 once_apart (x ∷ xs) ys e h a b = elim (head_or_tail x xs e a) [
   | inl is ↦ clash (in_right xs ys x (subst (λ (y : ℕ). occurs ys y ≡ true) (sym is) b)) h.0

@@ -12,15 +12,20 @@ among_back : {A : Type 0} (xs ys : List A) (y : A) → IsAmong y ys → IsAmong 
 among_back [] ys y h = h
 among_back (x ∷ xs) ys y h = among_more x y (xs ++ ys) (among_back xs ys y h)
 
-in_all : {A : Type 0} (f : ℕ → List A) (n i : ℕ) (x : A) → i < n → IsAmong x (f i) → IsAmong x (together f n)
+-- what is in the list of an instance is in all of them together
+in_all : {A : Type 0} (f : ℕ → List A) (n i : ℕ) (x : A) → i < n → IsAmong x (f i)
+    → IsAmong x (together f n)
 in_all f zero i x below h = absurd (omega arith)
 in_all {A} f (suc n) i x below h =
     elim (cases_eq i n) [
       | inl same ↦ among_back (together f n) (f n) x (subst (λ (j : ℕ). IsAmong x (f j)) same h)
-      | inr other ↦ let r = in_all f n i x (omega arith) h in (r.0, among_front (together f n) (f n) x r.0 r.1)
+      | inr other ↦ let r = in_all f n i x (omega arith) h in
+          (r.0, among_front (together f n) (f n) x r.0 r.1)
     ]
 
-of_all : {A : Type 0} (f : ℕ → List A) (n : ℕ) (x : A) (k : ℕ) → slice_get (together f n) k ≡ Some x → (i : ℕ) × (i < n) × IsAmong x (f i)
+-- and what is in all of them is in the list of one
+of_all : {A : Type 0} (f : ℕ → List A) (n : ℕ) (x : A) (k : ℕ) → slice_get (together f n) k ≡ Some x
+    → (i : ℕ) × (i < n) × IsAmong x (f i)
 of_all f zero x k h = cc
 of_all f (suc n) x k h =
     elim (among_cases (together f n) (f n) x k h) [
@@ -28,7 +33,9 @@ of_all f (suc n) x k h =
       | inr late ↦ (n, omega arith, late)
     ]
 
-in_queue : {A : Type 0} (q : ℕ) (xs : List (ℕ × A)) (o : A) (k : ℕ) → slice_get xs k ≡ Some (q, o) → IsAmong o (of_queue q xs)
+-- what has number q is of queue q
+in_queue : {A : Type 0} (q : ℕ) (xs : List (ℕ × A)) (o : A) (k : ℕ) → slice_get xs k ≡ Some (q, o)
+    → IsAmong o (of_queue q xs)
 in_queue q [] o k h = cc
 in_queue {A} q (x ∷ xs) o zero h =
     let same : x ≡ (q, o) = cc in
@@ -38,22 +45,29 @@ in_queue q (x ∷ xs) o (suc k) h =
     let r = in_queue q xs o k h in
     by_test (eqb x.0 q) (λ yes. rw yes (among_more x.1 o (of_queue q xs) r)) (λ no. rw no r)
 
-head_or_later : {A : Type 0} (q : ℕ) (x : ℕ × A) (xs : List (ℕ × A)) (o : A) (k : ℕ) → slice_get (x.1 ∷ of_queue q xs) k ≡ Some o → x.0 ≡ q
+-- what is of queue q is the head or later
+head_or_later : {A : Type 0} (q : ℕ) (x : ℕ × A) (xs : List (ℕ × A)) (o : A) (k : ℕ)
+    → slice_get (x.1 ∷ of_queue q xs) k ≡ Some o → x.0 ≡ q
     → ((j : ℕ) → slice_get (of_queue q xs) j ≡ Some o → IsAmong (q, o) xs) → IsAmong (q, o) (x ∷ xs)
-head_or_later q x xs o zero at number later = let same : x.1 ≡ o = cc in (0, (λ j. Some (number j, same j)))
+head_or_later q x xs o zero at number later = let same : x.1 ≡ o = cc in
+    (0, (λ j. Some (number j, same j)))
 head_or_later q x xs o (suc k) at number later = among_more x (q, o) xs (later k at)
 
-of_of_queue : {A : Type 0} (q : ℕ) (xs : List (ℕ × A)) (o : A) (k : ℕ) → slice_get (of_queue q xs) k ≡ Some o → IsAmong (q, o) xs
+-- what is of queue q has number q
+of_of_queue : {A : Type 0} (q : ℕ) (xs : List (ℕ × A)) (o : A) (k : ℕ)
+    → slice_get (of_queue q xs) k ≡ Some o → IsAmong (q, o) xs
 of_of_queue q [] o k h = cc
 of_of_queue q (x ∷ xs) o k h =
     by_test (eqb x.0 q)
-    (λ yes. head_or_later q x xs o k (rw yes at h) (eqb-true x.0 q yes) (λ j at. of_of_queue q xs o j at))
+    (λ yes. head_or_later q x xs o k (rw yes at h) (eqb-true x.0 q yes)
+    (λ j at. of_of_queue q xs o j at))
     (λ no. among_more x (q, o) xs (of_of_queue q xs o k (rw no at h)))
 
 -- what came back of an instance is among the ends of its queue
 pub bucket_has : {A : Type 0} (f : ℕ → List (ℕ × A)) (n q i : ℕ) (o : A)
     → i < n → IsAmong (q, o) (f i) → IsAmong o (of_queue q (together f n))
-bucket_has f n q i o below h = let r = in_all f n i (q, o) below h in in_queue q (together f n) o r.0 r.1
+bucket_has f n q i o below h = let r = in_all f n i (q, o) below h in
+    in_queue q (together f n) o r.0 r.1
 
 -- and what is among them came back of an instance
 pub bucket_of : {A : Type 0} (f : ℕ → List (ℕ × A)) (n q : ℕ) (o : A)

@@ -31,6 +31,7 @@ pub record Came : Type 0 where
   pub back : ℕ → EndLists
   pub ends : ℕ → End
 
+-- what instance i left
 abbrev pub left_of : Came → ℕ → Left
 left_of c i = record { log = c.logs i; ends = c.back i; end = c.ends i }
 
@@ -38,9 +39,11 @@ left_of c i = record { log = c.logs i; ends = c.back i; end = c.ends i }
 abbrev pub came_of : Outcome → (ℕ → EndLists) → Came
 came_of o back = record { logs = log_at o; back = back; ends = end_at o }
 
+-- the outlets of the first n instances
 abbrev pub all_outlets : Came → ℕ → List NumberedOutlet
 all_outlets c n = together (λ i. (c.back i).outlets) n
 
+-- the inlets of the first n instances
 abbrev pub all_inlets : Came → ℕ → List NumberedInlet
 all_inlets c n = together (λ i. (c.back i).inlets) n
 
@@ -49,27 +52,33 @@ pub record HaveGrown (queues : Queues) (d : Drawing) (id : ℕ → QueueId) (c :
   pub readings : ℕ → Reading
   pub strange : ℕ → ℕ → List ℕ
   pub put : (i : ℕ) → i < length d.instances
-      → AllZip (IsLeftBy (role queues d i) (c.logs i) (readings i)) (wired_ends id (role queues d i)).outlets (c.back i).outlets
+      → AllZip (IsLeftBy (role queues d i) (c.logs i) (readings i))
+      (wired_ends id (role queues d i)).outlets (c.back i).outlets
   pub got : (i : ℕ) → i < length d.instances
-      → AllZip (HasTaken (role queues d i) (c.logs i) (readings i) (strange i)) (wired_ends id (role queues d i)).inlets (c.back i).inlets
+      → AllZip (HasTaken (role queues d i) (c.logs i) (readings i) (strange i))
+      (wired_ends id (role queues d i)).inlets (c.back i).inlets
 
 -- the outlet of instance i to the queue, after its log
-pub record IsOutletOf (queues : Queues) (d : Drawing) (id : ℕ → QueueId) (c : Came) (q : ℕ) (i : ℕ) (o : OutletState) : Type 0 where
+pub record IsOutletOf (queues : Queues) (d : Drawing) (id : ℕ → QueueId) (c : Came) (q : ℕ) (i : ℕ)
+    (o : OutletState) : Type 0 where
   pub queue : o.queue ≡ id q
   pub sender : o.sender ≡ rank_of queues d q i
   pub put : o.put ≡ sent queues d q (c.logs i)
   pub closed : o.closed ≡ true
 
 -- the inlet of instance i from the queue, after its log and what was strange
-pub record IsInletOf (queues : Queues) (d : Drawing) (id : ℕ → QueueId) (c : Came) (strange : ℕ → ℕ → List ℕ) (q : ℕ) (i : ℕ) (n : InletState) : Type 0 where
+pub record IsInletOf (queues : Queues) (d : Drawing) (id : ℕ → QueueId) (c : Came)
+    (strange : ℕ → ℕ → List ℕ) (q : ℕ) (i : ℕ) (n : InletState) : Type 0 where
   pub queue : n.queue ≡ id q
   pub senders : n.senders ≡ length (senders_in queues d q)
   pub got : all_messages n.got ≡ received queues d q (c.logs i) ++ strange i q
 
--- The ends of one queue, taken out of all that came back: the outlets of its senders in their order,
--- which are all its outlets, and one inlet, of the instance that takes from it.
-pub record AreEndsOf (queues : Queues) (d : Drawing) (id : ℕ → QueueId) (c : Came) (strange : ℕ → ℕ → List ℕ) (q : ℕ) : Type 0 where
-  pub outlets : AllZip (IsOutletOf queues d id c q) (senders_in queues d q) (of_queue q (all_outlets c (length d.instances)))
+-- The ends of one queue, taken out of all that came back: the outlets of its senders in their
+-- order, which are all its outlets, and one inlet, of the instance that takes from it.
+pub record AreEndsOf (queues : Queues) (d : Drawing) (id : ℕ → QueueId) (c : Came)
+    (strange : ℕ → ℕ → List ℕ) (q : ℕ) : Type 0 where
+  pub outlets : AllZip (IsOutletOf queues d id c q) (senders_in queues d q)
+      (of_queue q (all_outlets c (length d.instances)))
   pub numbered : AreNumberedFrom 0 (of_queue q (all_outlets c (length d.instances)))
   pub receiver : ℕ
   pub within : receiver < length d.instances
@@ -82,40 +91,48 @@ pub record AreEndsOf (queues : Queues) (d : Drawing) (id : ℕ → QueueId) (c :
 -- each instance ran from its fresh ends
 abbrev pub HaveRun : Queues → Drawing → Bool → ℕ → (ℕ → QueueId) → Came → Type 0
 HaveRun queues d open' patience id c =
-    (i : ℕ) → i < length d.instances → HasRun (role queues d i) open' patience (wired_ends id (role queues d i)) (left_of c i)
+    (i : ℕ) → i < length d.instances
+    → HasRun (role queues d i) open' patience (wired_ends id (role queues d i)) (left_of c i)
 
 -- the same, with what is strange and what was read told for all instances at once
-pub record HaveEnded (queues : Queues) (d : Drawing) (open' : Bool) (patience : ℕ) (id : ℕ → QueueId) (c : Came) : Type 0 where
+pub record HaveEnded (queues : Queues) (d : Drawing) (open' : Bool) (patience : ℕ)
+    (id : ℕ → QueueId) (c : Came) : Type 0 where
   pub grown : HaveGrown queues d id c
   pub logs : (i : ℕ) → i < length d.instances → IsLogOf d i (c.logs i)
   pub ended : (i : ℕ) → i < length d.instances
-      → EndsAs (role queues d i) open' patience (grown.readings i) (left_of c i) (grown.strange i) (c.ends i)
+      → EndsAs (role queues d i) open' patience (grown.readings i) (left_of c i) (grown.strange i)
+      (c.ends i)
 
 -- the account of the instance as a sender of the queue, where the inlet got these entries
-pub record IsAccountOfLog (queues : Queues) (d : Drawing) (c : Came) (q : ℕ) (got : List Entry) (i : ℕ) (a : Account) : Type 0 where
+pub record IsAccountOfLog (queues : Queues) (d : Drawing) (c : Came) (q : ℕ) (got : List Entry)
+    (i : ℕ) (a : Account) : Type 0 where
   pub put : a.put ≡ sent queues d q (c.logs i)
   pub taken : a.taken ≡ messages_of (rank_of queues d q i) got
   pub left : a.put ≡ a.taken ++ a.left
   pub closed : a.closed ≡ true
 
 -- the account of each sender, ascending, and nothing of any other
-pub record AreAccountsOfLogs (queues : Queues) (d : Drawing) (c : Came) (q : ℕ) (got : List Entry) (s : Settled) : Type 0 where
+pub record AreAccountsOfLogs (queues : Queues) (d : Drawing) (c : Came) (q : ℕ) (got : List Entry)
+    (s : Settled) : Type 0 where
   pub many : vec_len s.senders ≡ length (senders_in queues d q)
   pub rank : (k i : ℕ) → slice_get (senders_in queues d q) k ≡ Some i → rank_of queues d q i ≡ k
   pub each : (k i : ℕ) → slice_get (senders_in queues d q) k ≡ Some i
       → (a : Account) × (slice_get s.senders.items k ≡ Some a) × IsAccountOfLog queues d c q got i a
   pub none : (j : ℕ) → length (senders_in queues d q) ≤ j → messages_of j got ≡ []
 
--- each queue with a message was settled, from its one inlet and its outlets among all that came back
-pub record AreSettled (queues : Queues) (d : Drawing) (c : Came) (settled : List (ℕ × Settled)) : Type 0 where
+-- each queue with a message was settled, from its one inlet and its outlets among all that came
+-- back
+pub record AreSettled (queues : Queues) (d : Drawing) (c : Came)
+    (settled : List (ℕ × Settled)) : Type 0 where
   pub numbers : map (λ (s : ℕ × Settled). s.0) settled ≡ queues_in queues d
   pub each : (q : ℕ) (s : Settled) → Occurs settled (q, s)
       → (inlet : InletState) × (of_queue q (all_inlets c (length d.instances)) ≡ inlet ∷ [])
       × IsSettledOf inlet (of_queue q (all_outlets c (length d.instances))) s
 
--- What a queue's inlet got is what its receiver logged as taken, and of each sender what the receiver
--- logged of it.
-pub record IsTold (queues : Queues) (d : Drawing) (c : Came) (q : ℕ) (r : ℕ) (got : List Entry) : Type 0 where
+-- What a queue's inlet got is what its receiver logged as taken, and of each sender what the
+-- receiver logged of it.
+pub record IsTold (queues : Queues) (d : Drawing) (c : Came) (q : ℕ) (r : ℕ)
+    (got : List Entry) : Type 0 where
   pub all : all_messages got ≡ received queues d q (c.logs r)
   pub each : (i : ℕ) → i < length d.instances → IsTrue (sends_to queues d q i)
       → messages_of (rank_of queues d q i) got ≡ received_from queues d q i (c.logs r)

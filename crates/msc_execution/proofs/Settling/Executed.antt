@@ -23,33 +23,45 @@ use Rattle.msc_execution.specs.Logs.{Begins, IsWholeLog, sent, received, receive
 use Rattle.msc_execution.specs.Running.{EndsAs}
 use Rattle.msc_execution.specs.Executions.{Outcome, log_at, end_at, placed_messages, AreAccounts, IsSettledFrom, IsExecution, AreFinished, IsFinished}
 use Rattle.msc_execution.specs.Settling.{of_queue, FinishedExecutionsLeaveNothing}
-use Rattle.msc_execution.proofs.Lists.Words.{Apart, at_head, in_right, kept, once_apart}
+use Rattle.msc_gather.proofs.Apart.{Apart}
+use Rattle.msc_execution.proofs.Lists.Words.{at_head, in_right, kept, once_apart}
 use Rattle.msc_execution.proofs.Wiring.Receivers.{the_receiver}
 use Rattle.msc_execution.proofs.Wiring.Logged.{sent_is, sent_once, taken_by}
 use Rattle.msc_execution.proofs.Settling.Came.{came_of, all_outlets, all_inlets, HaveRun, HaveEnded, AreSettled}
 use Rattle.msc_execution.proofs.Settling.FlatLists.{flat_lists}
 use Rattle.msc_execution.proofs.Settling.Accounts.{accounts}
-use Rattle.msc_execution.proofs.Settling.Told.{runs_ended, numbered, in_senders, same_inlet, nobody, told}
+use Rattle.msc_execution.proofs.Settling.Ended.{runs_ended}
+use Rattle.msc_execution.proofs.Settling.Told.{numbered, in_senders, same_inlet, nobody, told}
 use Rattle.msc_execution.proofs.Settling.Backs.{bucket_has, bucket_of}
 use Rattle.msc_execution.proofs.Settling.Placed.{got_first}
 
-module _ (queues : Queues) (d : Drawing) (open' : Bool) (patience : ℕ) (id : ℕ → QueueId) (o : Outcome) (back : ℕ → EndLists)
-    (accepted : IsAccepted d) (ended : HaveEnded queues d open' patience id (came_of o back)) (all : AreSettled queues d (came_of o back) o.settled) where
+module _ {queues : Queues} {d : Drawing} {open' : Bool} {patience : ℕ} {id : ℕ → QueueId}
+    (o : Outcome) (back : ℕ → EndLists)
+    (accepted : IsAccepted d) (ended : HaveEnded queues d open' patience id (came_of o back))
+    (all : AreSettled queues d (came_of o back) o.settled) where
+  -- the outlets of a queue
   abbrev bucket : ℕ → List OutletState
   bucket q = of_queue q (all_outlets (came_of o back) (length d.instances))
 
   -- a settled queue has a message
   in_use : (q : ℕ) (s : Settled) → Occurs o.settled (q, s) → occurs (queues_in queues d) q ≡ true
-  in_use q s there = ap (λ (l : List ℕ). occurs l q) (sym all.numbers) ∙ numbered q s o.settled there.0 there.1
+  in_use q s there =
+      ap (λ (l : List ℕ). occurs l q) (sym all.numbers) ∙ numbered q s o.settled there.0 there.1
 
   -- it was settled from the ends that came back
-  settled_from : (q : ℕ) (s : Settled) → Occurs o.settled (q, s) → IsSettledFrom (length d.instances) back q s.places.items
+  settled_from : (q : ℕ) (s : Settled) → Occurs o.settled (q, s)
+      → IsSettledFrom (length d.instances) back q s.places.items
   settled_from q s there =
-      let ends = flat_lists queues d id (came_of o back) q accepted ended.grown (in_use q s there) in
-      let is = same_inlet queues d id (came_of o back) ended.grown.strange q s ends (all.each q s there) in
-      let among : IsAmong ends.inlet (of_queue q (all_inlets (came_of o back) (length d.instances))) =
+      let ends =
+      flat_lists q accepted ended.grown (in_use q s there) in
+      let is =
+      same_inlet ends
+      (all.each q s there) in
+      let among : IsAmong ends.inlet
+      (of_queue q (all_inlets (came_of o back) (length d.instances))) =
       subst (λ (l : List InletState). IsAmong ends.inlet l) (sym ends.alone) (0, refl) in
-      let (r, within, own) = bucket_of (λ i. (back i).inlets) (length d.instances) q ends.inlet among in
+      let (r, within, own) =
+      bucket_of (λ i. (back i).inlets) (length d.instances) q ends.inlet among in
       record {
         inlet = ends.inlet;
         outlets = bucket q;
@@ -66,9 +78,13 @@ module _ (queues : Queues) (d : Drawing) (open' : Bool) (patience : ℕ) (id : �
   accounts_of : (q : ℕ) (s : Settled) → Occurs o.settled (q, s) → AreAccounts queues d o q s
   accounts_of q s there =
       let here = in_use q s there in
-      let ends = flat_lists queues d id (came_of o back) q accepted ended.grown here in
-      let a = accounts queues d id (came_of o back) ended.grown.strange q s ends (same_inlet queues d id (came_of o back) ended.grown.strange q s ends (all.each q s there)) in
-      let t = told queues d open' patience id (came_of o back) o.settled accepted ended all q ends here in
+      let ends = flat_lists q accepted ended.grown here in
+      let a =
+      accounts ends
+      (same_inlet ends
+      (all.each q s there)) in
+      let t =
+      told accepted ended all q ends here in
       record {
         many = a.many;
         each = λ k i at.
@@ -79,36 +95,47 @@ module _ (queues : Queues) (d : Drawing) (open' : Bool) (patience : ℕ) (id : �
               record {
                 put = is.put;
                 taken = λ r takes.
-                    let same : r ≡ ends.receiver = eqb-true r ends.receiver (sym (ends.takes r) ∙ takes) in
-                    is.taken ∙ t.each i w.0 w.1 ∙ ap (λ (x : ℕ). received_from queues d q i (log_at o x)) (sym same);
+                    let same : r ≡ ends.receiver =
+                    eqb-true r ends.receiver (sym (ends.takes r) ∙ takes) in
+                    is.taken ∙ t.each i w.0 w.1
+                    ∙ ap (λ (x : ℕ). received_from queues d q i (log_at o x)) (sym same);
                 left = is.left;
                 closed = is.closed;
               },
             );
         first = λ r takes.
             let same : r ≡ ends.receiver = eqb-true r ends.receiver (sym (ends.takes r) ∙ takes) in
-            let is = same_inlet queues d id (came_of o back) ended.grown.strange q s ends (all.each q s there) in
+            let is =
+            same_inlet ends
+            (all.each q s there) in
             subst (λ (l : List ℕ). Begins l (placed_messages s.places.items))
             (t.all ∙ ap (λ (x : ℕ). received queues d q (log_at o x)) (sym same))
             (got_first ends.inlet (bucket q) s.places.items is.places);
       }
     where
-      sender_occurs : (q k i : ℕ) → slice_get (senders_in queues d q) k ≡ Some i → occurs (senders_in queues d q) i ≡ true
+      sender_occurs : (q k i : ℕ) → slice_get (senders_in queues d q) k ≡ Some i
+          → occurs (senders_in queues d q) i ≡ true
       sender_occurs q k i at =
           let lt = slice_get_within (senders_in queues d q) k i at in
-          let same : get_or (senders_in queues d q) k 0 ≡ i = (let e = slice_get-get_or (senders_in queues d q) k 0 lt in cc) in
-          subst (λ (x : ℕ). occurs (senders_in queues d q) x ≡ true) same (occurs_at (senders_in queues d q) k lt)
+          let same : get_or (senders_in queues d q) k 0 ≡ i =
+          (let e = slice_get-get_or (senders_in queues d q) k 0 lt in cc) in
+          subst (λ (x : ℕ). occurs (senders_in queues d q) x ≡ true) same
+          (occurs_at (senders_in queues d q) k lt)
 
+  -- and got nothing strange
   own : length o.ends ≡ length d.instances → (i m : ℕ) → end_at o i ≢ Foreign m
   own many i m is = elim (cases_lt i (length d.instances)) [
-    | inl lt ↦ nobody queues d open' patience id (came_of o back) o.settled accepted ended all i m lt is
-    | inr ge ↦ (let e : get_or o.ends i Finished ≡ Finished = get_or_past o.ends i Finished (omega arith) in absurd (cc))
+    | inl lt ↦ nobody accepted ended all i m lt is
+    | inr ge ↦ (let e : get_or o.ends i Finished ≡ Finished =
+        get_or_past o.ends i Finished (omega arith) in absurd (cc))
   ]
 
 -- runs of all instances from fresh ends, and settled queues, are an execution
-pub executed : (queues : Queues) (d : Drawing) (open' : Bool) (patience : ℕ) (id : ℕ → QueueId) (o : Outcome) (back : ℕ → EndLists)
+pub executed : (queues : Queues) (d : Drawing) (open' : Bool) (patience : ℕ) (id : ℕ → QueueId)
+    (o : Outcome) (back : ℕ → EndLists)
     → IsAccepted d → length o.logs ≡ length d.instances → length o.ends ≡ length d.instances
-    → HaveRun queues d open' patience id (came_of o back) → AreSettled queues d (came_of o back) o.settled
+    → HaveRun queues d open' patience id (came_of o back)
+    → AreSettled queues d (came_of o back) o.settled
     → IsExecution queues d open' patience o
 executed queues d open' patience id o back accepted logs ends runs all =
     let ended = runs_ended queues d open' patience id (came_of o back) runs in
@@ -119,60 +146,82 @@ executed queues d open' patience id o back accepted logs ends runs all =
       back = back;
       runs = runs;
       numbers = all.numbers;
-      accounts = accounts_of queues d open' patience id o back accepted ended all;
-      places = settled_from queues d open' patience id o back accepted ended all;
-      own = own queues d open' patience id o back accepted ended all ends;
+      accounts = accounts_of o back accepted ended all;
+      places = settled_from o back accepted ended all;
+      own = own o back accepted ended all ends;
     }
 
+-- a list in which nothing occurs is empty
 no_member : (xs : List ℕ) → ((m : ℕ) → occurs xs m ≡ true → ⊥) → xs ≡ []
 no_member [] f = refl
 no_member (x ∷ xs) f = absurd (f x (at_head x xs))
 
-module _ (queues : Queues) (d : Drawing) (open' : Bool) (patience : ℕ) (o : Outcome)
-    (accepted : IsAccepted d) (x : IsExecution queues d open' patience o) (finished : AreFinished o.ends) where
+module _ {queues : Queues} {d : Drawing} {open' : Bool} {patience : ℕ} {o : Outcome}
+    (accepted : IsAccepted d) (x : IsExecution queues d open' patience o)
+    (finished : AreFinished o.ends) where
+  -- the log of an instance that has finished is whole
   whole_log : (i : ℕ) → i < length d.instances → IsWholeLog d i (log_at o i)
   whole_log i lt =
       let run = x.runs i lt in
       let is : get_or o.ends i Finished ≡ Finished = finished i (let e = x.ends in omega arith) in
-      let r = subst (λ (e : End). EndsAs (role queues d i) open' patience run.reading (record { log = log_at o i; ends = x.back i; end = end_at o i }) run.run.strange e) is run.run.ended in
+      let r =
+      subst (λ (e : End). EndsAs (role queues d i) open' patience run.reading
+      (record { log = log_at o i; ends = x.back i; end = end_at o i }) run.run.strange e) is
+      run.run.ended in
       r.1
 
+  -- so each event is logged
   whole : (e : ℕ) → e < length d.events → occurs (log_at o (line d.events e)) e ≡ true
   whole e below = whole_log (line d.events e) (accepted.on_lines.on_line e below) e below refl
 
   -- the input of a message is in its receiver's log
-  input_logged : (m : ℕ) → m < length d.messages → occurs (log_at o (receiver_of d m)) (input_of d m) ≡ true
+  input_logged : (m : ℕ) → m < length d.messages
+      → occurs (log_at o (receiver_of d m)) (input_of d m) ≡ true
   unfolding receiver_of
   input_logged m below = whole (input_of d m) (input_in d accepted m below)
 
-  nothing_left : (q : ℕ) (s : Settled) (k : ℕ) (a : Account) → Occurs o.settled (q, s) → slice_get s.senders.items k ≡ Some a → a.left ≡ []
+  -- a message that is left was sent and, as its input is logged, taken: it would stand twice
+  nothing_left : (q : ℕ) (s : Settled) (k : ℕ) (a : Account) → Occurs o.settled (q, s)
+      → slice_get s.senders.items k ≡ Some a → a.left ≡ []
   nothing_left q s k a there at =
-      let here : occurs (queues_in queues d) q ≡ true = ap (λ (l : List ℕ). occurs l q) (sym x.numbers) ∙ numbered q s o.settled there.0 there.1 in
+      let here : occurs (queues_in queues d) q ≡ true =
+      ap (λ (l : List ℕ). occurs l q) (sym x.numbers)
+      ∙ numbered q s o.settled there.0 there.1 in
       let told = x.accounts q s there in
-      let lt : k < length (senders_in queues d q) = (let w = slice_get_within s.senders.items k a at in let e = told.many in omega arith) in
+      let lt : k < length (senders_in queues d q) =
+      (let w = slice_get_within s.senders.items k a at in let e = told.many in omega arith) in
       let i : ℕ = get_or (senders_in queues d q) k 0 in
       let (b, stands, traffic) = told.each k i (slice_get-get_or (senders_in queues d q) k 0 lt) in
       let same : b ≡ a = (let e : Some b ≡ Some a = sym stands ∙ at in cc) in
       let i_in = in_senders queues d q i (occurs_at (senders_in queues d q) k lt) in
       let log = (x.runs i i_in.0).run.log in
       let (r, receiver) = the_receiver queues d q accepted here in
-      let parts : sent queues d q (log_at o i) ≡ b.taken ++ b.left = sym traffic.put ∙ traffic.left in
-      let once : Apart (b.taken ++ b.left) = subst Apart parts (sent_once queues d accepted q i (log_at o i) log) in
+      let parts : sent queues d q (log_at o i) ≡ b.taken ++ b.left =
+      sym traffic.put ∙ traffic.left in
+      let once : Apart (b.taken ++ b.left) =
+      subst Apart parts (sent_once queues d accepted q i (log_at o i) log) in
       let none : b.left ≡ [] = no_member b.left (λ m m_left.
-      let m_sent : occurs (sent queues d q (log_at o i)) m ≡ true = ap (λ (l : List ℕ). occurs l m) parts ∙ in_right b.taken b.left m m_left in
+      let m_sent : occurs (sent queues d q (log_at o i)) m ≡ true =
+      ap (λ (l : List ℕ). occurs l m) parts ∙ in_right b.taken b.left m m_left in
       let m_is = sent_is queues d accepted q i (log_at o i) m log m_sent in
       let m_received : occurs (received queues d q (log_at o r)) m ≡ true =
       taken_by queues d accepted q (log_at o r) m m_is.known m_is.queue
-      (ap (λ (j : ℕ). occurs (log_at o j) (input_of d m)) (sym (receiver.all m m_is.known m_is.queue)) ∙ input_logged m m_is.known) in
+      (ap (λ (j : ℕ). occurs (log_at o j) (input_of d m))
+      (sym (receiver.all m m_is.known m_is.queue)) ∙ input_logged m m_is.known) in
       let m_from : occurs (received_from queues d q i (log_at o r)) m ≡ true =
-      kept (λ j. eqb (sender_of d j) i) (received queues d q (log_at o r)) m m_received (eq-eqb (sender_of d m) i m_is.sender) in
-      let m_taken : occurs b.taken m ≡ true = ap (λ (l : List ℕ). occurs l m) (traffic.taken r (receiver.takes r ∙ eq-eqb r r refl)) ∙ m_from in
+      kept (λ j. eqb (sender_of d j) i) (received queues d q (log_at o r)) m m_received
+      (eq-eqb (sender_of d m) i m_is.sender) in
+      let m_taken : occurs b.taken m ≡ true =
+      ap (λ (l : List ℕ). occurs l m) (traffic.taken r (receiver.takes r ∙ eq-eqb r r refl))
+      ∙ m_from in
       once_apart b.taken b.left m once m_taken m_left) in
       ap (λ (y : Account). y.left) (sym same) ∙ none
 
+  -- so nothing is left
   pub is_finished : IsFinished d o
   is_finished = record { whole = whole; empty = nothing_left }
 
 -- a finished execution leaves nothing
 pub finished_empty : FinishedExecutionsLeaveNothing
-finished_empty queues d open' patience o accepted x finished = is_finished queues d open' patience o accepted x finished
+finished_empty queues d open' patience o accepted x finished =
+    is_finished accepted x finished

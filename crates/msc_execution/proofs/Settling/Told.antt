@@ -1,7 +1,7 @@
 -- What a queue's inlet got is what its receiver logged; nobody ended by a strange message.
-use Rattle.std.proofs.Common.{◌≡◌, ◌≢◌, ◌⊎◌, ℕ, zero, suc, ◌<◌, ◌≤◌, Bool, true, eqb, List, [], ◌∷◌, ◌++◌, length, get_or, map, filter, refl, sym, ap, ◌∙◌, inl, inr, arith, subst}
+use Rattle.std.proofs.Common.{◌≡◌, ◌≢◌, ℕ, zero, suc, ◌<◌, Bool, true, eqb, List, [], ◌∷◌, ◌++◌, length, get_or, map, filter, refl, sym, ap, ◌∙◌, inl, inr, arith, subst}
 use Rattle.std.specs.Prelude.{Some, slice_get}
-use Rattle.std.specs.List.{AllZip, range_with_len}
+use Rattle.std.specs.List.{range_with_len}
 use Rattle.std.proofs.lemmas.Bool.{eq-eqb, eqb-true, cases_lt}
 use Rattle.std.proofs.lemmas.List.{append-nil}
 use Rattle.std.proofs.lemmas.Option.{slice_get-get_or}
@@ -17,87 +17,54 @@ use Rattle.msc_fifo.specs.Entries.{messages_of}
 use Rattle.msc_fifo.specs.Ends.{InletState, new_inlet}
 use Rattle.msc_execution.specs.declared.end.End.{End}
 use Rattle.msc_execution.specs.declared.end.End.TheVariants.{Finished, Starved, Impatient, Stopped, Foreign}
-use Rattle.msc_execution.specs.Roles.{Role, role, wired_ends, queues_in, takes_from, taken_queues, rank_of}
+use Rattle.msc_execution.specs.Roles.{Role, role, queues_in, takes_from, taken_queues, rank_of}
 use Rattle.msc_execution.specs.Logs.{IsLogOf, Reading, sent, received}
-use Rattle.msc_execution.specs.Growth.{IsLeftBy, HasTaken, all_messages}
+use Rattle.msc_execution.specs.Growth.{HasTaken, all_messages}
 use Rattle.msc_execution.specs.Running.{Left, EndsAs, IsNothingStrange, IsStrangeAlone}
 use Rattle.msc_execution.specs.Settling.{of_queue, IsSettledOf}
-use Rattle.msc_execution.proofs.Lists.Words.{Apart, head_or_tail, at_head, in_tail, in_none, passes, fails, once_left, once_apart}
+use Rattle.msc_gather.proofs.Apart.{Apart}
+use Rattle.msc_execution.proofs.Lists.Words.{head_or_tail, at_head, in_tail, in_none, passes, fails, once_left, once_apart}
 use Rattle.msc_execution.proofs.Lists.Ranges.{in_range}
 use Rattle.msc_execution.proofs.Wiring.Logged.{IsOf, sent_is, sent_once, taken_by}
-use Rattle.msc_execution.proofs.Settling.Came.{Came, left_of, all_outlets, all_inlets, HaveRun, HaveEnded, AreEndsOf, AreAccountsOfLogs, AreSettled, IsTold}
+use Rattle.msc_execution.proofs.Settling.Came.{Came, left_of, all_outlets, all_inlets, HaveEnded, AreEndsOf, AreAccountsOfLogs, AreSettled, IsTold}
 use Rattle.msc_execution.proofs.Settling.Buckets.{numbers_stay}
 use Rattle.msc_execution.proofs.Settling.FlatLists.{flat_lists}
 use Rattle.msc_execution.proofs.Settling.Accounts.{accounts}
 use Rattle.msc_execution.proofs.Settling.Parts.{in_a_part, once_of_parts, part_is_filter, rank_tells}
 
--- what is strange, told for all instances at once
-module _ (queues : Queues) (d : Drawing) (open' : Bool) (patience : ℕ) (id : ℕ → QueueId) (c : Came) (runs : HaveRun queues d open' patience id c) where
-  reading_by : (i : ℕ) → (i < length d.instances) ⊎ (length d.instances ≤ i) → Reading
-  reading_by i (inl lt) = (runs i lt).reading
-  reading_by i (inr ge) = record { read_at = λ e. 0; place_at = λ e. 0 }
-
-  strange_by : (i : ℕ) → (i < length d.instances) ⊎ (length d.instances ≤ i) → ℕ → List ℕ
-  strange_by i (inl lt) = (runs i lt).run.strange
-  strange_by i (inr ge) = λ q. []
-
-  put_by : (i : ℕ) (w : (i < length d.instances) ⊎ (length d.instances ≤ i)) → i < length d.instances
-      → AllZip (IsLeftBy (role queues d i) (c.logs i) (reading_by i w)) (wired_ends id (role queues d i)).outlets (c.back i).outlets
-  unfolding reading_by
-  put_by i (inl lt) within = (runs i lt).run.put
-  put_by i (inr ge) within = absurd (omega arith)
-
-  got_by : (i : ℕ) (w : (i < length d.instances) ⊎ (length d.instances ≤ i)) → i < length d.instances
-      → AllZip (HasTaken (role queues d i) (c.logs i) (reading_by i w) (strange_by i w)) (wired_ends id (role queues d i)).inlets (c.back i).inlets
-  unfolding reading_by strange_by
-  got_by i (inl lt) within = (runs i lt).run.got
-  got_by i (inr ge) within = absurd (omega arith)
-
-  ended_by : (i : ℕ) (w : (i < length d.instances) ⊎ (length d.instances ≤ i)) → i < length d.instances
-      → EndsAs (role queues d i) open' patience (reading_by i w) (left_of c i) (strange_by i w) (c.ends i)
-  unfolding reading_by strange_by
-  ended_by i (inl lt) within = (runs i lt).run.ended
-  ended_by i (inr ge) within = absurd (omega arith)
-
-  all_ended : HaveEnded queues d open' patience id c
-  all_ended = record {
-    grown = record {
-      readings = λ i. reading_by i (cases_lt i (length d.instances));
-      strange = λ i. strange_by i (cases_lt i (length d.instances));
-      put = λ i lt. put_by i (cases_lt i (length d.instances)) lt;
-      got = λ i lt. got_by i (cases_lt i (length d.instances)) lt;
-    };
-    logs = λ i lt. (runs i lt).run.log;
-    ended = λ i lt. ended_by i (cases_lt i (length d.instances)) lt;
-  }
-
-pub runs_ended : (queues : Queues) (d : Drawing) (open' : Bool) (patience : ℕ) (id : ℕ → QueueId) (c : Came)
-    → HaveRun queues d open' patience id c → HaveEnded queues d open' patience id c
-runs_ended queues d open' patience id c runs = all_ended queues d open' patience id c runs
-
 -- the settled queue with a number
-find : (q : ℕ) (xs : List (ℕ × Settled)) → occurs (map (λ (s : ℕ × Settled). s.0) xs) q ≡ true → (s : Settled) × Occurs xs (q, s)
+find : (q : ℕ) (xs : List (ℕ × Settled)) → occurs (map (λ (s : ℕ × Settled). s.0) xs) q ≡ true
+    → (s : Settled) × Occurs xs (q, s)
 find q [] h = in_none q h
 find q (x ∷ xs) h = elim (head_or_tail x.0 (map (λ (s : ℕ × Settled). s.0) xs) q h) [
   | inl is ↦ (x.1, (zero, ap (λ (k : ℕ). Some (k, x.1)) is))
   | inr later ↦ (let r = find q xs later in (r.0, (suc r.1.0, r.1.1)))
 ]
 
-pub numbered : (q : ℕ) (s : Settled) (xs : List (ℕ × Settled)) (j : ℕ) → slice_get xs j ≡ Some (q, s) → occurs (map (λ (s : ℕ × Settled). s.0) xs) q ≡ true
+-- a settled queue has one of the numbers
+pub numbered : (q : ℕ) (s : Settled) (xs : List (ℕ × Settled)) (j : ℕ)
+    → slice_get xs j ≡ Some (q, s) → occurs (map (λ (s : ℕ × Settled). s.0) xs) q ≡ true
 numbered q s [] j at = cc
 numbered q s (x ∷ xs) zero at =
     let same : x.0 ≡ q = (let e : x ≡ (q, s) = cc in ap (λ (y : ℕ × Settled). y.0) e) in
-    subst (λ (k : ℕ). occurs (x.0 ∷ map (λ (s : ℕ × Settled). s.0) xs) k ≡ true) same (at_head x.0 (map (λ (s : ℕ × Settled). s.0) xs))
-numbered q s (x ∷ xs) (suc j) at = in_tail x.0 (map (λ (s : ℕ × Settled). s.0) xs) q (numbered q s xs j at)
+    subst (λ (k : ℕ). occurs (x.0 ∷ map (λ (s : ℕ × Settled). s.0) xs) k ≡ true) same
+    (at_head x.0 (map (λ (s : ℕ × Settled). s.0) xs))
+numbered q s (x ∷ xs) (suc j) at =
+    in_tail x.0 (map (λ (s : ℕ × Settled). s.0) xs) q (numbered q s xs j at)
 
-pub in_senders : (queues : Queues) (d : Drawing) (q i : ℕ) → occurs (senders_in queues d q) i ≡ true → (i < length d.instances) × (sends_to queues d q i ≡ true)
+-- a sender of a queue is an instance that sends to it
+pub in_senders : (queues : Queues) (d : Drawing) (q i : ℕ) → occurs (senders_in queues d q) i ≡ true
+    → (i < length d.instances) × (sends_to queues d q i ≡ true)
 unfolding senders_in
 in_senders queues d q i h =
     let r = passes (sends_to queues d q) (range_with_len 0 (length d.instances)) i h in
     let w = in_range 0 (length d.instances) i r.0 in
     (omega (arith, w.1), r.1)
 
-in_taken : (queues : Queues) (d : Drawing) (i q : ℕ) → occurs (taken_queues (role queues d i)) q ≡ true → (occurs (queues_in queues d) q ≡ true) × (takes_from queues d q i ≡ true)
+-- a queue from which an instance takes is one of the chart
+in_taken : (queues : Queues) (d : Drawing) (i q : ℕ)
+    → occurs (taken_queues (role queues d i)) q ≡ true
+    → (occurs (queues_in queues d) q ≡ true) × (takes_from queues d q i ≡ true)
 unfolding taken_queues
 in_taken queues d i q h = passes (λ k. takes_from queues d k i) (queues_in queues d) q h
 
@@ -109,29 +76,40 @@ pub record IsPart (queues : Queues) (d : Drawing) (q j m : ℕ) : Type 0 where
   pub is : IsOf queues d q from m
 
 -- the same settled queue, from the ends that the flat lists hold
-pub same_inlet : (queues : Queues) (d : Drawing) (id : ℕ → QueueId) (c : Came) (strange : ℕ → ℕ → List ℕ) (q : ℕ) (s : Settled)
+pub same_inlet : {queues : Queues} {d : Drawing} {id : ℕ → QueueId} {c : Came}
+    {strange : ℕ → ℕ → List ℕ} {q : ℕ} {s : Settled}
     → (ends : AreEndsOf queues d id c strange q)
     → (inlet : InletState) × (of_queue q (all_inlets c (length d.instances)) ≡ inlet ∷ [])
     × IsSettledOf inlet (of_queue q (all_outlets c (length d.instances))) s
     → IsSettledOf ends.inlet (of_queue q (all_outlets c (length d.instances))) s
-same_inlet queues d id c strange q s ends (inlet, alone, is) =
-    let same : inlet ≡ ends.inlet = ap (λ (l : List InletState). get_or l 0 ends.inlet) (sym alone ∙ ends.alone) in
-    subst (λ (n : InletState). IsSettledOf n (of_queue q (all_outlets c (length d.instances))) s) same is
+same_inlet {queues} {d} {id} {c} {strange} {q} {s} ends (inlet, alone, is) =
+    let same : inlet ≡ ends.inlet =
+    ap (λ (l : List InletState). get_or l 0 ends.inlet) (sym alone ∙ ends.alone) in
+    subst (λ (n : InletState). IsSettledOf n (of_queue q (all_outlets c (length d.instances))) s)
+    same is
 
 -- one settled queue, whose ends the flat lists hold
-module _ (queues : Queues) (d : Drawing) (id : ℕ → QueueId) (c : Came) (strange : ℕ → ℕ → List ℕ) (q : ℕ) (s : Settled)
+module _ {queues : Queues} {d : Drawing} {id : ℕ → QueueId} {c : Came} {strange : ℕ → ℕ → List ℕ}
+    {q : ℕ} {s : Settled}
     (accepted : IsAccepted d) (logs : (i : ℕ) → i < length d.instances → IsLogOf d i (c.logs i))
     (ends : AreEndsOf queues d id c strange q)
     (told : AreAccountsOfLogs queues d c q ends.inlet.got s) where
+  -- what the inlet got
   abbrev got : List Entry
   got = ends.inlet.got
 
   -- what was got of a sender is a beginning of what its log sends
-  begins : (k i : ℕ) → slice_get (senders_in queues d q) k ≡ Some i → (rest : List ℕ) × (sent queues d q (c.logs i) ≡ messages_of k got ++ rest)
+  begins : (k i : ℕ) → slice_get (senders_in queues d q) k ≡ Some i
+      → (rest : List ℕ) × (sent queues d q (c.logs i) ≡ messages_of k got ++ rest)
   begins k i at =
-      let (a, there, account) = told.each k i at in
-      (a.left, sym account.put ∙ account.left ∙ ap (λ (l : List ℕ). l ++ a.left) (account.taken ∙ ap (λ (j : ℕ). messages_of j got) (told.rank k i at)))
+      let (a, there, account) = told.each k i at in (
+        a.left,
+        sym account.put ∙ account.left
+            ∙ ap (λ (l : List ℕ). l ++ a.left)
+            (account.taken ∙ ap (λ (j : ℕ). messages_of j got) (told.rank k i at)),
+      )
 
+  -- what was got under a number was sent by the sender of this rank
   pub part : (j m : ℕ) → occurs (messages_of j got) m ≡ true → IsPart queues d q j m
   part j m h = elim (cases_lt j (length (senders_in queues d q))) [
     | inl lt ↦
@@ -143,11 +121,13 @@ module _ (queues : Queues) (d : Drawing) (id : ℕ → QueueId) (c : Came) (stra
           from = i;
           sends = w.1;
           rank = told.rank j i at;
-          is = sent_is queues d accepted q i (c.logs i) m (logs i w.0) (ap (λ (l : List ℕ). occurs l m) b.1 ∙ occurs-left (messages_of j got) b.0 m h);
+          is = sent_is queues d accepted q i (c.logs i) m (logs i w.0)
+              (ap (λ (l : List ℕ). occurs l m) b.1 ∙ occurs-left (messages_of j got) b.0 m h);
         }
     | inr le ↦ in_none m (ap (λ (l : List ℕ). occurs l m) (sym (told.none j le)) ∙ h)
   ]
 
+  -- each message once
   part_once : (j : ℕ) → Apart (messages_of j got)
   part_once j = elim (cases_lt j (length (senders_in queues d q))) [
     | inl lt ↦
@@ -155,10 +135,12 @@ module _ (queues : Queues) (d : Drawing) (id : ℕ → QueueId) (c : Came) (stra
         let at = slice_get-get_or (senders_in queues d q) j 0 lt in
         let w = in_senders queues d q i (occurs_at (senders_in queues d q) j lt) in
         let b = begins j i at in
-        once_left (messages_of j got) b.0 (subst Apart b.1 (sent_once queues d accepted q i (c.logs i) (logs i w.0)))
+        once_left (messages_of j got) b.0
+        (subst Apart b.1 (sent_once queues d accepted q i (c.logs i) (logs i w.0)))
     | inr le ↦ subst Apart (sym (told.none j le)) tt
   ]
 
+  -- so all that was got stands once
   pub got_once : Apart (all_messages got)
   got_once = once_of_parts got part_once (λ m s' t a b.
       let x = part s' m a in
@@ -166,44 +148,63 @@ module _ (queues : Queues) (d : Drawing) (id : ℕ → QueueId) (c : Came) (stra
       sym x.rank ∙ ap (rank_of queues d q) (sym x.is.sender ∙ y.is.sender) ∙ y.rank)
 
   -- what was got under a sender's number is what of all messages the sender sends
-  pub of_sender : (i : ℕ) → sends_to queues d q i ≡ true → messages_of (rank_of queues d q i) got ≡ filter (λ m. eqb (sender_of d m) i) (all_messages got)
+  pub of_sender : (i : ℕ) → sends_to queues d q i ≡ true
+      → messages_of (rank_of queues d q i) got
+      ≡ filter (λ m. eqb (sender_of d m) i) (all_messages got)
   unfolding rank_of
   of_sender i sends =
       part_is_filter (rank_of queues d q i) (λ m. eqb (sender_of d m) i) got (λ j m h.
       let x = part j m h in
       by_test (eqb j (rank_of queues d q i))
       (λ yes.
-      let same : x.from ≡ i = rank_tells (sends_to queues d q) x.from i x.sends sends (x.rank ∙ eqb-true j (rank_of queues d q i) yes) in
+      let same : x.from ≡ i =
+      rank_tells (sends_to queues d q) x.from i x.sends sends
+      (x.rank ∙ eqb-true j (rank_of queues d q i) yes) in
       yes ∙ sym (eq-eqb (sender_of d m) i (x.is.sender ∙ same)))
       (λ no.
       no ∙ sym (fails (eqb (sender_of d m) i) (λ t.
-      clash (eq-eqb j (rank_of queues d q i) (sym x.rank ∙ ap (rank_of queues d q) (sym x.is.sender ∙ eqb-true (sender_of d m) i t))) no))))
+      clash (eq-eqb j (rank_of queues d q i)
+      (sym x.rank ∙ ap (rank_of queues d q) (sym x.is.sender ∙ eqb-true (sender_of d m) i t)))
+      no))))
 
 -- whoever did not end by a strange message got nothing strange
-nothing : (r : Role) (open' : Bool) (patience : ℕ) (reading : Reading) (left : Left) (strange : ℕ → List ℕ) (e : End)
-    → EndsAs r open' patience reading left strange e → ((m : ℕ) → e ≢ Foreign m) → IsNothingStrange strange
+nothing : (r : Role) (open' : Bool) (patience : ℕ) (reading : Reading) (left : Left)
+    (strange : ℕ → List ℕ) (e : End)
+    → EndsAs r open' patience reading left strange e → ((m : ℕ) → e ≢ Foreign m)
+    → IsNothingStrange strange
 nothing r open' patience reading left strange Finished h own = h.0
 nothing r open' patience reading left strange Starved h own = h.0
 nothing r open' patience reading left strange Impatient h own = h.0
 nothing r open' patience reading left strange Stopped h own = h.0
 nothing r open' patience reading left strange (Foreign m) h own = absurd (own m refl)
 
-module _ (queues : Queues) (d : Drawing) (open' : Bool) (patience : ℕ) (id : ℕ → QueueId) (c : Came) (settled : List (ℕ × Settled))
-    (accepted : IsAccepted d) (ended : HaveEnded queues d open' patience id c) (all : AreSettled queues d c settled) where
+module _ {queues : Queues} {d : Drawing} {open' : Bool} {patience : ℕ} {id : ℕ → QueueId} {c : Came}
+    {settled : List (ℕ × Settled)}
+    (accepted : IsAccepted d) (ended : HaveEnded queues d open' patience id c)
+    (all : AreSettled queues d c settled) where
   -- the accounts of a queue
-  told_of : (q : ℕ) → occurs (queues_in queues d) q ≡ true → (ends : AreEndsOf queues d id c ended.grown.strange q)
+  told_of : (q : ℕ) → occurs (queues_in queues d) q ≡ true
+      → (ends : AreEndsOf queues d id c ended.grown.strange q)
       → (s : Settled) × AreAccountsOfLogs queues d c q ends.inlet.got s
   told_of q here ends =
-      let f = find q settled (ap (λ (l : List ℕ). occurs l q) all.numbers ∙ here) in
-      (f.0, accounts queues d id c ended.grown.strange q f.0 ends (same_inlet queues d id c ended.grown.strange q f.0 ends (all.each q f.0 f.1)))
+      let f = find q settled (ap (λ (l : List ℕ). occurs l q) all.numbers ∙ here) in (
+        f.0,
+        accounts ends
+            (same_inlet ends (all.each q f.0 f.1)),
+      )
 
-  alone_is_absurd : (i m : ℕ) → i < length d.instances → IsStrangeAlone (role queues d i) (left_of c i) (ended.grown.strange i) m → ⊥
+  -- a strange message would be one of the queue whose input is logged: then it was got twice
+  alone_is_absurd : (i m : ℕ) → i < length d.instances
+      → IsStrangeAlone (role queues d i) (left_of c i) (ended.grown.strange i) m → ⊥
   alone_is_absurd i m lt st =
       let q : ℕ = st.queue in
       let f : ℕ → InletState = λ k. new_inlet (id k) (length (senders_in queues d k)) in
-      let stay = numbers_stay (HasTaken (role queues d i) (c.logs i) (ended.grown.readings i) (ended.grown.strange i)) f (λ x y h. h.number) (taken_queues (role queues d i)) (c.back i).inlets (ended.grown.got i lt) in
+      let stay =
+      numbers_stay (HasTaken (role queues d i) (c.logs i) (ended.grown.readings i)
+      (ended.grown.strange i)) f (λ x y h. h.number) (taken_queues (role queues d i))
+      (c.back i).inlets (ended.grown.got i lt) in
       let taken = in_taken queues d i q (ap (λ (l : List ℕ). occurs l q) (sym stay) ∙ st.own) in
-      let ends = flat_lists queues d id c q accepted ended.grown taken.0 in
+      let ends = flat_lists q accepted ended.grown taken.0 in
       let t = told_of q taken.0 ends in
       let same : i ≡ ends.receiver = eqb-true i ends.receiver (sym (ends.takes i) ∙ taken.1) in
       let mine : List ℕ = received queues d q (c.logs i) in
@@ -211,29 +212,41 @@ module _ (queues : Queues) (d : Drawing) (open' : Bool) (patience : ℕ) (id : �
       ends.is_inlet.got
       ∙ ap (λ (r : ℕ). received queues d q (c.logs r) ++ ended.grown.strange r q) (sym same)
       ∙ ap (λ (l : List ℕ). mine ++ l) st.last in
-      let once : Apart (mine ++ m ∷ []) = subst Apart is (got_once queues d id c ended.grown.strange q t.0 accepted ended.logs ends t.1) in
-      let p = in_a_part ends.inlet.got m (ap (λ (l : List ℕ). occurs l m) is ∙ occurs-push mine m) in
-      let x = part queues d id c ended.grown.strange q t.0 accepted ended.logs ends t.1 p.0 m p.1 in
-      let logged : occurs (c.logs i) (input_of d m) ≡ true = st.is_strange (x.is.known, x.is.queue) in
-      once_apart mine (m ∷ []) m once (taken_by queues d accepted q (c.logs i) m x.is.known x.is.queue logged) (at_head m [])
+      let once : Apart (mine ++ m ∷ []) =
+      subst Apart is (got_once accepted ended.logs ends
+      t.1) in
+      let p =
+      in_a_part ends.inlet.got m (ap (λ (l : List ℕ). occurs l m) is ∙ occurs-push mine m) in
+      let x = part accepted ended.logs ends t.1 p.0 m p.1 in
+      let logged : occurs (c.logs i) (input_of d m) ≡ true =
+      st.is_strange (x.is.known, x.is.queue) in
+      once_apart mine (m ∷ []) m once
+      (taken_by queues d accepted q (c.logs i) m x.is.known x.is.queue logged) (at_head m [])
 
+  -- so nobody ended by a strange message
   pub nobody : (i m : ℕ) → i < length d.instances → c.ends i ≢ Foreign m
   nobody i m lt is =
       alone_is_absurd i m lt
-      (subst (λ (e : End). EndsAs (role queues d i) open' patience (ended.grown.readings i) (left_of c i) (ended.grown.strange i) e) is (ended.ended i lt))
+      (subst (λ (e : End). EndsAs (role queues d i) open' patience (ended.grown.readings i)
+      (left_of c i) (ended.grown.strange i) e) is (ended.ended i lt))
 
-  pub told : (q : ℕ) (ends : AreEndsOf queues d id c ended.grown.strange q) → occurs (queues_in queues d) q ≡ true
+  -- and what a queue's inlet got is what its receiver logged
+  pub told : (q : ℕ) (ends : AreEndsOf queues d id c ended.grown.strange q)
+      → occurs (queues_in queues d) q ≡ true
       → IsTold queues d c q ends.receiver ends.inlet.got
   told q ends here =
       let r : ℕ = ends.receiver in
       let t = told_of q here ends in
       let none : ended.grown.strange r q ≡ [] =
-      nothing (role queues d r) open' patience (ended.grown.readings r) (left_of c r) (ended.grown.strange r) (c.ends r) (ended.ended r ends.within) (λ m. nobody r m ends.within) q in
+      nothing (role queues d r) open' patience (ended.grown.readings r) (left_of c r)
+      (ended.grown.strange r) (c.ends r) (ended.ended r ends.within)
+      (λ m. nobody r m ends.within) q in
       let whole : all_messages ends.inlet.got ≡ received queues d q (c.logs r) =
-      ends.is_inlet.got ∙ ap (λ (l : List ℕ). received queues d q (c.logs r) ++ l) none ∙ append-nil (received queues d q (c.logs r)) in
+      ends.is_inlet.got ∙ ap (λ (l : List ℕ). received queues d q (c.logs r) ++ l) none
+      ∙ append-nil (received queues d q (c.logs r)) in
       record {
         all = whole;
         each = λ i lt sends.
-            of_sender queues d id c ended.grown.strange q t.0 accepted ended.logs ends t.1 i sends
+            of_sender accepted ended.logs ends t.1 i sends
             ∙ ap (filter (λ m. eqb (sender_of d m) i)) whole;
       }

@@ -1,0 +1,252 @@
+-- The sample is an execution.
+use Rattle.std.proofs.Common.{◌≡◌, ◌≢◌, ℕ, zero, suc, ◌<◌, ◌≤◌, true, cond, List, [], ◌∷◌, map, length, get_or, Some, slice_get, refl, sym, ap, ◌∙◌, subst, arith}
+use Rattle.std.specs.Prelude.{count_by, nat_eq}
+use Rattle.std.proofs.lemmas.Bool.{eqb-true}
+use Rattle.msc_chart.specs.declared.queue.Queues.TheVariants.{Mailbox}
+use Rattle.msc_chart.specs.Lists.{occurs, until, Occurs}
+use Rattle.msc_chart.specs.Charts.{line, kind, message, partner, is_output, is_input}
+use Rattle.msc_chart.specs.Drawings.{output_of, input_of, sender_of, receiver_of}
+use Rattle.msc_chart.specs.Orders.{queue_of, queue_number, wired, queue, sender_at, receiver_at}
+use Rattle.msc_chart.specs.Laws.{messages_in}
+use Rattle.msc_chart.proofs.ListLemmas.{clash}
+use Rattle.msc_fifo.specs.Identity.{QueueId}
+use Rattle.msc_fifo.specs.declared.claim.Claim.{Claim}
+use Rattle.msc_fifo.specs.declared.accounts.Account.{Account}
+use Rattle.msc_fifo.specs.declared.accounts.Settled.{Settled}
+use Rattle.msc_fifo.specs.declared.places.Place.{Place as SettledPlace}
+use Rattle.msc_fifo.specs.Claims.{is_message}
+use Rattle.msc_fifo.specs.Ends.{OutletState, AreOutletsOf}
+use Rattle.msc_fifo.specs.Settlement.{IsAmong, IsPlaced, claims_of, entries_at, items_of}
+use Rattle.msc_execution.specs.declared.end.End.TheVariants.{Foreign}
+use Rattle.msc_execution.specs.Roles.{takes_from}
+use Rattle.msc_execution.specs.Logs.{Begins, received, received_from}
+use Rattle.msc_execution.specs.Executions.{log_at, end_at, placed_messages, AreAccounts, IsTrafficOf, IsSettledFrom, IsExecution}
+use Rattle.msc_execution.specs.Clocks.{trace_of, sorted, put_in, is_below, key_of, clock_step, clock_from, greatest_offer, place_clock, place_of, messages}
+use Rattle.msc_execution.specs.Shown.{trace_in, as_place}
+use Rattle.msc_execution.specs.Samples.{two, own_outlet, other_outlet, mailbox, both_back, all_claims, account_of, IsSampled, sample}
+use Rattle.msc_execution.proofs.Lists.Among.{any_parts}
+use Rattle.msc_execution.proofs.Sample.Ran.{queues_are, both_send, EachOf, each_at, each_occurs, single, ids, runs}
+
+module _ (id : QueueId) where
+  -- the claims are the places of the queue
+  is_placed : IsPlaced (mailbox id) (own_outlet id ∷ other_outlet id ∷ []) all_claims
+  unfolding EachOf
+  is_placed = record {
+    numbered = numbers;
+    orderly = (
+      omega arith,
+      tt,
+      (
+        omega arith,
+        tt,
+        (omega arith, (λ e. omega arith, tt), (omega arith, tt, tt)),
+      ),
+    );
+    claims =
+        λ o among. each_at (λ (o : OutletState). o.claims ≡ claims_of o.sender all_claims)
+        (own_outlet id ∷ other_outlet id ∷ []) o among.0 (refl, (refl, tt)) among.1;
+    items =
+        λ o among. each_at (λ (o : OutletState). entries_at o.claims ≡ items_of o)
+        (own_outlet id ∷ other_outlet id ∷ []) o among.0 (refl, (refl, tt)) among.1;
+    got = ([], refl);
+    clocks = clocks;
+    covers = λ c e c_in message e_in le.
+        let is =
+        each_at (λ (c : Claim). is_message c.entry ≡ true
+        → c.clock ≡ 1) all_claims c c_in.0
+        (λ _. refl, (λ _. refl, (λ h. clash h refl, (λ h. clash h refl, tt)))) c_in.1 message in
+        let few =
+        each_at (λ (c : Claim). c.offer ≤ 1) all_claims e e_in.0
+        (omega arith, (omega arith, (omega arith, (omega arith, tt)))) e_in.1 in
+        omega arith;
+    offered = λ c c_in message.
+        let is =
+        each_at (λ (c : Claim). is_message c.entry ≡ true
+        → c.clock ≡ 1) all_claims c c_in.0
+        (λ _. refl, (λ _. refl, (λ h. clash h refl, (λ h. clash h refl, tt)))) c_in.1 message in
+        (get_or all_claims 0 c, (0, refl), refl, sym is);
+  }
+    where
+      numbers : (k : ℕ) (c : Claim) → slice_get all_claims k ≡ Some c → c.place ≡ k
+      numbers zero c at = ap (λ (o : Claim). o.place) (sym (single (get_or all_claims 0 c) c 0 at))
+      numbers (suc zero) c at =
+          ap (λ (o : Claim). o.place) (sym (single (get_or all_claims 1 c) c 0 at))
+      numbers (suc (suc zero)) c at =
+          ap (λ (o : Claim). o.place) (sym (single (get_or all_claims 2 c) c 0 at))
+      numbers (suc (suc (suc zero))) c at =
+          ap (λ (o : Claim). o.place) (sym (single (get_or all_claims 3 c) c 0 at))
+      numbers (suc (suc (suc (suc k)))) c at = cc
+
+      clocks : (k : ℕ) (c : Claim) → k < 4 → slice_get all_claims k ≡ Some c
+          → c.clock ≡ get_or (1 ∷ 1 ∷ 0 ∷ 0 ∷ []) k 0
+      clocks zero c lt at =
+          ap (λ (o : Claim). o.clock) (sym (single (get_or all_claims 0 c) c 0 at))
+      clocks (suc zero) c lt at =
+          ap (λ (o : Claim). o.clock) (sym (single (get_or all_claims 1 c) c 0 at))
+      clocks (suc (suc zero)) c lt at =
+          ap (λ (o : Claim). o.clock) (sym (single (get_or all_claims 2 c) c 0 at))
+      clocks (suc (suc (suc zero))) c lt at =
+          ap (λ (o : Claim). o.clock) (sym (single (get_or all_claims 3 c) c 0 at))
+      clocks (suc (suc (suc (suc k)))) c lt at = absurd (omega arith)
+
+  -- the outlets are all of the queue's
+  are_outlets : AreOutletsOf (mailbox id) (own_outlet id ∷ other_outlet id ∷ [])
+  are_outlets = record { queue = same; count = refl; once = ones }
+    where
+      same : (k : ℕ) (e : OutletState) → k < 2
+          → (get_or (own_outlet id ∷ other_outlet id ∷ []) k e).queue ≡ id
+      same zero e below = refl
+      same (suc zero) e below = refl
+      same (suc (suc k)) e below = absurd (omega arith)
+
+      ones : (i : ℕ) → i < 2 → count_by (λ (x : OutletState). nat_eq x.sender i)
+          (own_outlet id ∷ other_outlet id ∷ []) ≡ 1
+      ones zero below = refl
+      ones (suc zero) below = refl
+      ones (suc (suc i)) below = absurd (omega arith)
+
+  module _ (s : Settled) (sampled : IsSampled s) where
+    -- the queue was settled from these ends
+    from_ends : IsSettledFrom 2 (both_back id) 0 s.places.items
+    unfolding EachOf
+    from_ends = record {
+      inlet = mailbox id;
+      outlets = own_outlet id ∷ other_outlet id ∷ [];
+      receiver = 0;
+      is_instance = omega arith;
+      own = (0, refl);
+      all_there = there;
+      no_others =
+          λ o among. each_at (λ (o : OutletState). (i : ℕ) × (i < 2)
+          × IsAmong (0, o) (both_back id i).outlets)
+          (own_outlet id ∷ other_outlet id ∷ []) o among.0
+          ((0, omega arith, (0, refl)), ((1, omega arith, (0, refl)), tt)) among.1;
+      are_outlets = are_outlets;
+      is_settled = record { log = all_claims; is_log = is_placed; places_are = sampled.places };
+    }
+      where
+        there : (i : ℕ) (o : OutletState) → i < 2 → IsAmong (0, o) (both_back id i).outlets
+            → IsAmong o (own_outlet id ∷ other_outlet id ∷ [])
+        there zero o below among = (
+          0,
+          ap (λ (p : ℕ × OutletState). Some p.1)
+              (single (0, own_outlet id) (0, o) among.0 among.1),
+        )
+        there (suc i) o below among = (
+          1,
+          ap (λ (p : ℕ × OutletState). Some p.1)
+              (single (0, other_outlet id) (0, o) among.0 among.1),
+        )
+
+    -- instance 0 alone takes from it
+    taker : (r : ℕ) → takes_from Mailbox two 0 r ≡ true → 0 ≡ r
+    unfolding takes_from messages_in queue_of queue_number receiver_of sender_of input_of output_of
+        line partner EachOf
+    taker r h =
+        let (m, m_in, is) = any_parts (λ m. nat_eq (receiver_of two m) r) (0 ∷ 1 ∷ []) h in
+        sym (each_occurs (λ (k : ℕ). receiver_of two k ≡ 0) (0 ∷ 1 ∷ []) m (refl, (refl, tt)) m_in)
+        ∙ eqb-true (receiver_of two m) r is
+
+    -- what it took of instance i
+    taken_by : (i r : ℕ) → takes_from Mailbox two 0 r ≡ true
+        → i ∷ [] ≡ received_from Mailbox two 0 i (0 ∷ 2 ∷ 1 ∷ [])
+        → i ∷ [] ≡ received_from Mailbox two 0 i (log_at (sample s) r)
+    taken_by i r takes here =
+        subst (λ (j : ℕ). i ∷ [] ≡ received_from Mailbox two 0 i (log_at (sample s) j))
+        (taker r takes) here
+
+    -- the account of each is its traffic
+    abbrev Stands : ℕ → ℕ → Type 0
+    Stands k i =
+        (a : Account) × (slice_get s.senders.items k ≡ Some a)
+        × IsTrafficOf Mailbox two (sample s) 0 i a
+
+    -- so it does for each sender
+    traffic : (k i : ℕ) → slice_get (0 ∷ 1 ∷ []) k ≡ Some i → Stands k i
+    unfolding queue_of queue_number receiver_of sender_of input_of output_of line partner message
+        kind is_output is_input
+    traffic zero i at =
+        let same : 0 ≡ i = cc in
+        subst (λ (j : ℕ). Stands 0 j) same (
+          account_of 0,
+          ap (λ (l : List Account). slice_get l 0) sampled.senders,
+          record {
+            put = refl;
+            taken = λ r takes. taken_by 0 r takes refl;
+            left = refl;
+            closed =
+                refl;
+          },
+        )
+    traffic (suc zero) i at =
+        let same : 1 ≡ i = cc in
+        subst (λ (j : ℕ). Stands 1 j) same (
+          account_of 1,
+          ap (λ (l : List Account). slice_get l 1) sampled.senders,
+          record {
+            put = refl;
+            taken = λ r takes. taken_by 1 r takes refl;
+            left = refl;
+            closed =
+                refl;
+          },
+        )
+    traffic (suc (suc k)) i at = cc
+
+    -- so they are the accounts of both
+    accounts : AreAccounts Mailbox two (sample s) 0 s
+    unfolding queue_of queue_number receiver_of sender_of input_of output_of line partner message
+        kind is_output is_input
+    accounts = record {
+      many =
+          s.senders.ok.0 ∙ ap (λ (l : List Account). length l) sampled.senders
+          ∙ ap (λ (l : List ℕ). length l) (sym both_send);
+      each = λ k i at. traffic k i (ap (λ (l : List ℕ). slice_get l k) (sym both_send) ∙ at);
+      first = λ r takes.
+          subst (λ (j : ℕ). Begins (received Mailbox two 0 (log_at (sample s) j))
+          (placed_messages s.places.items)) (taker r takes)
+          ([], ap (λ (l : List SettledPlace). placed_messages l) sampled.places);
+    }
+
+    -- a settled queue with its number
+    abbrev pair : ℕ → Settled → ℕ × Settled
+    pair q t = (q, t)
+
+    -- the one settled queue
+    the_one : (q : ℕ) (t : Settled) → Occurs {T = ℕ × Settled} ((0, s) ∷ []) (q, t)
+        → pair 0 s ≡ pair q t
+    the_one q t there = single (pair 0 s) (pair q t) there.0 there.1
+
+    -- so the sample is an execution
+    pub is_execution : IsExecution Mailbox two true 1 (sample s)
+    is_execution = record {
+      logs = refl;
+      ends = refl;
+      id = ids id;
+      back = both_back id;
+      runs = runs id s;
+      numbers = sym queues_are;
+      accounts =
+          λ q t there. subst (λ (p : ℕ × Settled). AreAccounts Mailbox two (sample s) p.0 p.1)
+          (the_one q t there) accounts;
+      places =
+          λ q t there. subst (λ (p : ℕ × Settled).
+          IsSettledFrom 2 (both_back id) p.0 p.1.places.items) (the_one q t there) from_ends;
+      own = own;
+    }
+      where
+        own : (i m : ℕ) → end_at (sample s) i ≢ Foreign m
+        own zero m h = cc
+        own (suc zero) m h = cc
+        own (suc (suc i)) m h = cc
+
+-- sorted, its events begin with the action, and the second message is put first
+pub trace_is : (s : Settled) → IsSampled s
+    → trace_in Mailbox two (sample s) ≡ 3 ∷ 4 ∷ 0 ∷ 2 ∷ 1 ∷ []
+unfolding trace_of sorted put_in is_below key_of clock_step clock_from greatest_offer place_clock
+    place_of messages queue queue_number sender_at receiver_at output_of line partner message
+    is_output is_input kind until occurs
+trace_is s sampled =
+    ap (λ (l : List SettledPlace).
+    trace_of (wired Mailbox two) (sample s).logs
+    (λ q. map (as_place two) (cond (nat_eq 0 q) l []))) sampled.places
