@@ -2,3 +2,5 @@
 pub mod Views
 -- what the code keeps
 pub mod Threads
+pub mod Handing
+pub mod Fitting

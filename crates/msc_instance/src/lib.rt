@@ -6,11 +6,14 @@
 //! architecture numbers them. What an execution is stands in `msc_execution`.
 #![tactic(auto)]
 
+mod counting;
 mod ends;
 mod fault;
 mod gate;
 mod running;
 mod threads;
+mod fitting;
+mod gate;
 mod wiring;
 
 pub use ends::{InstanceEnd, InstanceEnds};
