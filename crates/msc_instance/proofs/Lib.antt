@@ -8,3 +8,15 @@ pub mod Quotas
 pub mod Wired
 pub mod Fitted
 pub mod TableLemmas
+pub mod Occurs
+pub mod Growing
+pub mod Stepped
+pub mod Zipped
+pub mod Logs
+pub mod Finding
+pub mod Kept
+pub mod Sound
+pub mod Takes
+pub mod Rounds
+pub mod Ending
+pub mod Beginning

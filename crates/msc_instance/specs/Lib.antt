@@ -1,6 +1,8 @@
 -- what is promised
 pub mod Views
 -- what the code keeps
-pub mod Threads
 pub mod Handing
 pub mod Fitting
+pub mod Steps
+pub mod Active
+pub mod Threads

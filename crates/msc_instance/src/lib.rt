@@ -6,14 +6,20 @@
 //! architecture numbers them. What an execution is stands in `msc_execution`.
 #![tactic(auto)]
 
+mod active;
 mod counting;
 mod ends;
 mod fault;
-mod gate;
-mod running;
-mod threads;
 mod fitting;
 mod gate;
+mod journal;
+mod line;
+mod outlets;
+mod round;
+mod running;
+mod sending;
+mod taking;
+mod threads;
 mod wiring;
 
 pub use ends::{InstanceEnd, InstanceEnds};

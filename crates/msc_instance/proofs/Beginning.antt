@@ -1,0 +1,96 @@
+-- How the run of an instance begins.
+use Rattle.std.proofs.Common.{◌≡◌, ℕ, ◌+◌, ◌<◌, ◌≤◌, Bool, true, false, cond, List, [], ◌∷◌, length, refl, sym, ap, arith, All, vec_capacity}
+use Rattle.std.specs.Prelude.{nat_lt}
+use Rattle.std.specs.List.{AllZip}
+use Rattle.std.proofs.lemmas.Bool.{ltb-true, lt-ltb}
+use Rattle.std.proofs.lemmas.List.Sums.{sum_by-cons, count_by-le-length}
+use Rattle.std.proofs.lemmas.List.Elements.{All-head, All-tail}
+use Rattle.msc_chart.specs.declared.event.ChartEvent.{ChartEvent}
+use Rattle.msc_chart.specs.Charts.{line_start}
+use Rattle.msc_chart.specs.Drawings.{Drawing}
+use Rattle.msc_chart.proofs.ListLemmas.{by_test, clash}
+use Rattle.msc_execution.specs.Roles.{Role, EndLists, NumberedOutlet, IsFit}
+use Rattle.msc_execution.specs.Logs.{Reading, IsLogOf, line_events, controlled}
+use Rattle.msc_instance.specs.declared.active.Active.{Active}
+use Rattle.msc_instance.specs.declared.active.Post.{Post}
+use Rattle.msc_instance.specs.Steps.{IsPutBy, IsGotBy, HasBegun}
+use Rattle.msc_instance.specs.Active.{IsPost, IsSound, log_of, post_role, first_ends, ends_now, line_below}
+use Rattle.msc_instance.proofs.Occurs.{occurs-nil}
+use Rattle.msc_instance.proofs.Growing.{clock_nil}
+use Rattle.msc_instance.proofs.Stepped as stepped
+use Rattle.msc_instance.proofs.Zipped.{zip_self}
+use Rattle.msc_instance.proofs.Logs.{none_below}
+use Rattle.msc_instance.proofs.Kept.{state}
+
+start_le : (i : ℕ) (events : List ChartEvent) → line_start events i ≤ line_start events (i + 1)
+start_le i [] = omega arith
+start_le i (x ∷ xs) =
+    let a = sum_by-cons (λ (y : ChartEvent). cond (nat_lt y.line i) 1 0) x xs in
+    let b = sum_by-cons (λ (y : ChartEvent). cond (nat_lt y.line (i + 1)) 1 0) x xs in
+    let r = start_le i xs in
+    by_test (nat_lt x.line i)
+    (λ low.
+    let more : nat_lt x.line (i + 1) ≡ true = lt-ltb _ _ (let l = ltb-true x.line i low in omega arith) in
+    let p = ap (λ (t : Bool). cond {A = ℕ} t 1 0) low in let q = ap (λ (t : Bool). cond {A = ℕ} t 1 0) more in omega (arith, a, b, r, p, q))
+    (λ high. let p = ap (λ (t : Bool). cond {A = ℕ} t 1 0) high in omega (arith, a, b, r, p))
+
+-- a line starts before it ends, within the chart
+pub line_within : (d : Drawing) (i start end : ℕ) → start ≡ line_start d.events i → end ≡ line_start d.events (i + 1)
+    → (start ≤ end) × (end ≤ length d.events)
+line_within d i start end first last =
+    let le = start_le i d.events in
+    let all = count_by-le-length (λ (x : ChartEvent). nat_lt x.line (i + 1)) d.events in
+    (omega (arith, first, last, le), omega (arith, last, all))
+
+-- the outlets are open, and nothing is put
+all_begun : (r : Role) (reading : Reading) (outs : List NumberedOutlet) → All (λ (o : NumberedOutlet). o.1.closed ≡ false) outs
+    → AllZip (IsPutBy r [] reading) outs outs
+all_begun r reading [] all = tt
+all_begun r reading (o ∷ outs) all = (
+  stepped.begun r [] reading o o reading (All-head (λ (x : NumberedOutlet). x.1.closed ≡ false) o outs all),
+  all_begun r reading outs (All-tail (λ (x : NumberedOutlet). x.1.closed ≡ false) o outs all),
+)
+
+empty_log : (d : Drawing) (i : ℕ) → IsLogOf d i []
+empty_log d i = record {
+  on_line = λ e there. clash there (occurs-nil e);
+  steps = tt;
+  controlled = (controlled d (line_events d i), refl);
+}
+
+pub begun_first : (r : Role) (first : EndLists) → IsFit r first → HasBegun r first (state false first.outlets first.inlets [] 0)
+begun_first r first fit =
+    let reading : Reading = record { read_at = λ e. 0; place_at = λ e. 0 } in
+    record {
+      reading = reading;
+      kept = record {
+        log = empty_log r.chart r.number;
+        put = all_begun r reading first.outlets (λ k o lt. (fit.room k o lt).0);
+        got = zip_self (IsGotBy r [] reading) first.inlets (λ n. stepped.begun_in r [] reading n n reading);
+        clock = sym (clock_nil r.chart reading.read_at);
+      };
+    }
+
+-- an instance with the ends of its post and an empty log
+pub begins : (d : Drawing) (p : Post) (a : Active) → IsPost d p → ends_now a ≡ first_ends p → log_of a ≡ [] → a.clock ≡ 0
+    → a.next ≡ p.start → a.first ≡ p.start → a.shut ≡ false → length (line_events d p.instance) ≤ vec_capacity a.journal.log → IsSound d p a
+begins d p a post ends empty clock next first open' room =
+    let none : line_below d p.instance p.start ≡ [] = none_below d p.instance p.start (λ e lt on.
+    (let in' : e < length d.events = omega (arith, post.ordered, post.within) in
+    let r = (post.line e in').0 on in absurd (omega (arith, r.0)))) in
+    record {
+      post = post;
+      begun = rw (open', ends, empty, clock) (begun_first (post_role d p) (first_ends p) post.fit);
+      next = record {
+        from = omega (arith, next);
+        to = omega (arith, next, post.ordered);
+        done = rw (empty, next, none) refl;
+      };
+      first = record {
+        from = omega (arith, first);
+        to = omega (arith, first, post.ordered);
+        there = λ e low lt. absurd (omega (arith, first));
+      };
+      closed = λ shut. clash shut open';
+      room = room;
+    }

@@ -1,0 +1,72 @@
+-- One take more in a round.
+use Rattle.std.proofs.Common.{◌≡◌, ℕ, ◌+◌, ◌<◌, ◌≤◌, Bool, true, false, length, get_or, refl, ap, ◌∙◌, arith, inl, inr, All, min, sym}
+use Rattle.std.proofs.lemmas.Bool.{cases_eq}
+use Rattle.msc_chart.specs.Drawings.{Drawing}
+use Rattle.msc_chart.proofs.ListLemmas.{by_test, clash}
+use Rattle.msc_execution.specs.Roles.{NumberedInlet}
+use Rattle.msc_instance.specs.declared.active.Active.{Active}
+use Rattle.msc_instance.specs.declared.active.Post.{Post}
+use Rattle.msc_instance.specs.Active.{IsSound, IsQuiet, IsIdle, log_of, weight}
+
+-- no take on the first k inlets found anything
+pub record HasFoundNothing (d : Drawing) (p : Post) (k : ℕ) (a b : Active) : Type 0 where
+  pub kept : log_of b ≡ log_of a
+  pub same : weight d p b ≡ weight d p a
+  pub idle : (n : ℕ) → n < 4294967295 → All (λ (i : NumberedInlet). n ≤ i.1.idle) a.inlets.items → (j : ℕ) (i : NumberedInlet)
+      → j < length a.inlets.items → (n ≤ (get_or b.inlets.items j i).1.idle) × (j < k → n + 1 ≤ (get_or b.inlets.items j i).1.idle)
+
+-- before the take on inlet k
+pub record IsTurn (d : Drawing) (p : Post) (k : ℕ) (found : Bool) (a b : Active) : Type 0 where
+  pub sound : IsSound d p b
+  pub inlets : length b.inlets.items ≡ length a.inlets.items
+  pub busy : found ≡ true → weight d p b < weight d p a
+  pub quiet : found ≡ false → HasFoundNothing d p k a b
+
+module _ (d : Drawing) (p : Post) where
+  pub turn_first : (a : Active) → IsSound d p a → IsTurn d p 0 false a a
+  turn_first a s = record {
+    sound = s;
+    inlets = refl;
+    busy = λ h. clash h refl;
+    quiet = λ _. record { kept = refl; same = refl; idle = λ n few all j i lt. (all j i lt, λ low. absurd (omega arith)) };
+  }
+
+  module _ (k : ℕ) (found : Bool) (a b c : Active) (turn : IsTurn d p k found a b) (many : length c.inlets.items ≡ length b.inlets.items) where
+    -- a take that found nothing
+    pub turn_nothing : IsSound d p c → IsQuiet k b c → weight d p c ≡ weight d p b → IsTurn d p (k + 1) found a c
+    turn_nothing s quiet same = record {
+      sound = s;
+      inlets = many ∙ turn.inlets;
+      busy = λ h. omega (arith, turn.busy h, same);
+      quiet = λ h. let was = turn.quiet h in record {
+        kept = quiet.kept ∙ was.kept;
+        same = same ∙ was.same;
+        idle = λ n few all j i lt. let low = was.idle n few all j i lt in
+            elim (cases_eq j k) [
+              | inl here ↦
+                  let now : (get_or c.inlets.items j i).1.idle ≡ min ((get_or b.inlets.items j i).1.idle + 1) 4294967295 =
+                  ap (λ x. (get_or c.inlets.items x i).1.idle) here ∙ quiet.idle i
+                  ∙ ap (λ x. min ((get_or b.inlets.items x i).1.idle + 1) 4294967295) (sym here) in
+                  (omega (arith, now, low.0), λ _. omega (arith, now, low.0))
+              | inr other ↦
+                  let now = ap (λ (x : NumberedInlet). x.1.idle) (quiet.others j i other) in
+                  (omega (arith, now, low.0), λ less. omega (arith, now, low.1 (omega arith)))
+            ];
+      };
+    }
+
+    -- a take that found something
+    pub turn_busy : IsSound d p c → weight d p c < weight d p b → IsTurn d p (k + 1) true a c
+    turn_busy s less = record {
+      sound = s;
+      inlets = many ∙ turn.inlets;
+      busy = λ _. by_test found (λ h. omega (arith, turn.busy h, less)) (λ h. omega (arith, (turn.quiet h).same, less));
+      quiet = λ h. clash refl h;
+    }
+
+  -- after all takes
+  pub all_idle : (k : ℕ) (a b : Active) → length b.inlets.items ≡ length a.inlets.items → length a.inlets.items ≤ k → HasFoundNothing d p k a b → IsIdle a b
+  all_idle k a b many all nothing = record {
+    kept = nothing.kept;
+    idle = λ n few was j i lt. (nothing.idle n few was j i (omega arith)).1 (omega arith);
+  }

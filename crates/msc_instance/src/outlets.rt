@@ -1,0 +1,51 @@
+//! The outlets of an instance.
+
+ghost use Rattle.std.specs.Prelude.{◌≡◌, ◌<◌, ◌↔◌, false, length, map, get_or, IfSome, IsTrue, None};
+ghost use Rattle.std.specs.List.{AllZip};
+ghost use Rattle.msc_chart.specs.Lists.{occurs};
+ghost use Rattle.msc_fifo.specs.Ends.{HasRoom};
+ghost use Rattle.msc_execution.specs.Roles.{NumberedOutlet};
+ghost use Rattle.msc_instance.specs.Active.{HasPut, IsClosedFrom};
+
+use msc_fifo::Outlet;
+
+/// The place of the outlet of a queue.
+pub(crate) fn outlet_at(outlets: &[(u32, Outlet)], queue: u32) -> usize
+    requires { IsTrue (occurs (map (λ (o : NumberedOutlet). o.0) outlets.now) queue) }
+    ensures within { result < length outlets.now }
+    ensures number { (o : NumberedOutlet) → (get_or outlets.now result o).0 ≡ queue }
+{
+    let mut k = 0;
+    while outlets[k].0 != queue {
+        k += 1;
+    }
+    k
+}
+
+/// Sends a message with this clock. It answers the clock after it, or none where that is spent.
+pub(crate) fn put_one(outlet: &mut (u32, Outlet), m: u32, clock: u64) -> Option<u64>
+    requires { HasRoom outlet.old.1 }
+    ensures put { IfSome result (λ now. HasPut m clock now outlet.old outlet.new) }
+    ensures spent { result ≡ None → clock ≡ 18446744073709551615 }
+    ensures kept { result ≡ None → outlet.new ≡ outlet.old }
+{
+    match outlet.1.send(m, clock) {
+        Ok(sent) => Some(sent.clock),
+        Err(_) => None,
+    }
+}
+
+/// Closes all.
+pub(crate) fn close_all(outlets: &mut [(u32, Outlet)])
+    ensures { AllZip IsClosedFrom outlets.old outlets.new }
+{
+    for outlet in outlets.iter_mut() {
+        close_one(outlet);
+    }
+}
+
+fn close_one(outlet: &mut (u32, Outlet))
+    ensures { IsClosedFrom outlet.old outlet.new }
+{
+    outlet.1.close();
+}

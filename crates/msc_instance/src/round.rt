@@ -1,0 +1,39 @@
+//! Rounds of takes.
+
+ghost use Rattle.std.specs.Prelude.{◌≡◌, true};
+ghost use Rattle.msc_instance.specs.Active.{IsSound, TookEach};
+
+use crate::active::{Active, Post};
+use crate::gate::Gate;
+use crate::taking::Step;
+use msc_chart::Chart;
+
+/// How a round of takes went.
+#[derive(Clone, Copy)]
+pub(crate) enum Round {
+    Empty,
+    Busy,
+    Stopped,
+    Foreign(u32),
+}
+
+impl Active {
+    /// Takes once from each inlet, ascending.
+    pub fn take_each<G: Gate>(&mut self, chart: &Chart, post: &Post, gate: &G) -> Round
+        requires sound { IsSound chart.now post.now self.old }
+        ensures took { TookEach chart.now post.now self.old self.new result }
+        ensures open { G.is_open ≡ true → result ≡ Round.Stopped → ⊥ }
+    {
+        let mut found = false;
+        for k in 0..self.inlets.len() {
+            match self.take(chart, post, gate, k) {
+                Step::Nothing => {}
+                Step::Ended => found = true,
+                Step::Logged => found = true,
+                Step::Stopped => return Round::Stopped,
+                Step::Foreign(m) => return Round::Foreign(m),
+            }
+        }
+        if found { Round::Busy } else { Round::Empty }
+    }
+}

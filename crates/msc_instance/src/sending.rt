@@ -1,0 +1,98 @@
+//! What an instance does of itself: outputs and local events.
+
+ghost use Rattle.std.specs.Prelude.{◌≡◌, ◌<◌, ◌+◌, ℕ, false, true, IsTrue};
+ghost use Rattle.msc_chart.specs.Lists.{occurs};
+ghost use Rattle.msc_chart.specs.Charts.{before, is_controlled};
+ghost use Rattle.msc_instance.specs.Active.{HasSent, IsBlocked, IsSound, log_of};
+
+use crate::active::{Active, Post};
+use crate::gate::Gate;
+use crate::outlets::close_all;
+use msc_chart::Chart;
+
+/// How far an instance came without a take.
+#[derive(Clone, Copy)]
+pub(crate) enum Sending {
+    Done,
+    Waits,
+    Stopped,
+}
+
+impl Active {
+    /// Does the next event, an output or a local event, where the gate lets it. False: it is stopped.
+    pub fn do_next<G: Gate>(&mut self, chart: &Chart, post: &Post, gate: &G) -> bool
+        requires sound { IsSound chart.now post.now self.old }
+        requires within { self.old.next < post.now.end }
+        requires due { IsTrue (is_controlled chart.now.events self.old.next) }
+        requires ready { (x : ℕ) → IsTrue (before chart.now.events x self.old.next)
+            → IsTrue (occurs (log_of self.old) x) }
+        ensures sound { IsSound chart.now post.now self.new }
+        ensures sent { HasSent self.old self.new }
+        ensures next { IsTrue result → self.new.next ≡ self.old.next + 1 }
+        ensures stopped { G.is_open ≡ true → result ≡ false
+            → self.new.clock ≡ 18446744073709551615 }
+        ensures shut { self.new.shut ≡ self.old.shut }
+    {
+        if !gate.at(post.instance, self.next) {
+            return false;
+        }
+        if chart.is_output(self.next) {
+            return self.send(chart, post);
+        }
+        self.act(chart, post);
+        true
+    }
+
+    /// Does what is ready, until all is done or something waits.
+    pub fn do_ready<G: Gate>(&mut self, chart: &Chart, post: &Post, gate: &G) -> Sending
+        requires { IsSound chart.now post.now self.old }
+        ensures sound { IsSound chart.now post.now self.new }
+        ensures sent { HasSent self.old self.new }
+        ensures done { result ≡ Sending.Done → self.new.next ≡ post.now.end }
+        ensures waits { result ≡ Sending.Waits
+            → IsBlocked chart.now post.now.instance (log_of self.new) }
+        ensures stopped { G.is_open ≡ true → result ≡ Sending.Stopped
+            → self.new.clock ≡ 18446744073709551615 }
+        ensures first { (result ≡ Sending.Stopped → ⊥) → self.new.first < post.now.end
+            → occurs (log_of self.new) self.new.first ≡ false }
+        ensures shut { self.new.shut ≡ self.old.shut }
+    {
+        'events: loop {
+            self.look(chart, post);
+            if self.next == post.end {
+                return Sending::Done;
+            }
+            if chart.before(self.first, self.next) {
+                return Sending::Waits;
+            }
+            if !self.do_next(chart, post, gate) {
+                return Sending::Stopped;
+            }
+        }
+    }
+
+    /// Does what is ready, and closes the outlets once nothing more is to be sent. False: it is
+    /// stopped.
+    pub fn go_on<G: Gate>(&mut self, chart: &Chart, post: &Post, gate: &G) -> bool
+        requires { IsSound chart.now post.now self.old }
+        ensures sound { IsSound chart.now post.now self.new }
+        ensures sent { HasSent self.old self.new }
+        ensures blocked { IsTrue result
+            → IsBlocked chart.now post.now.instance (log_of self.new) }
+        ensures first { IsTrue result → self.new.first < post.now.end
+            → occurs (log_of self.new) self.new.first ≡ false }
+        ensures stopped { G.is_open ≡ true → result ≡ false
+            → self.new.clock ≡ 18446744073709551615 }
+    {
+        match self.do_ready(chart, post, gate) {
+            Sending::Stopped => return false,
+            Sending::Waits => return true,
+            Sending::Done => {}
+        }
+        if !self.shut {
+            close_all(self.outlets.as_mut_slice());
+            self.shut = true;
+        }
+        true
+    }
+}

@@ -1,0 +1,67 @@
+//! Takes of an instance.
+
+ghost use Rattle.std.specs.Prelude.{◌≡◌, ◌<◌, ◌↔◌, true, length, IsTrue};
+ghost use Rattle.msc_chart.specs.Orders.{queue_of};
+ghost use Rattle.msc_instance.specs.Active.{HasGot, IsSound, TookOne};
+
+use crate::active::{Active, Post};
+use crate::gate::Gate;
+use msc_chart::{Chart, Queues};
+use msc_fifo::{Inlet, Taken};
+
+/// What a take of an instance came to.
+#[derive(Clone, Copy)]
+pub(crate) enum Step {
+    Nothing,
+    Ended,
+    Logged,
+    Stopped,
+    Foreign(u32),
+}
+
+/// Takes once.
+fn take_one(inlet: &mut (u32, Inlet), clock: u64) -> Taken
+    ensures { HasGot clock result inlet.old inlet.new }
+{
+    inlet.1.take(clock)
+}
+
+/// Whether a message is of the chart in a queue.
+fn is_of(chart: &Chart, queues: Queues, queue: u32, m: u32) -> bool
+    ensures { IsTrue result
+        ↔ ((m < length chart.now.messages) × (queue_of queues chart.now m ≡ queue)) }
+{
+    m < chart.messages() && chart.queue(m, queues) == queue
+}
+
+impl Active {
+    /// Takes from inlet `k`. A message is logged as its input, and then the gate is asked.
+    pub fn take<G: Gate>(&mut self, chart: &Chart, post: &Post, gate: &G, k: usize) -> Step
+        requires sound { IsSound chart.now post.now self.old }
+        requires inlet { k < length self.old.inlets.items }
+        ensures took { TookOne chart.now post.now k self.old self.new result }
+        ensures open { G.is_open ≡ true → result ≡ Step.Stopped → ⊥ }
+        ensures inlets { length self.new.inlets.items ≡ length self.old.inlets.items }
+    {
+        let queue = self.inlets[k].0;
+        let (m, clock) = match take_one(&mut self.inlets[k], self.clock) {
+            Taken::Nothing => return Step::Nothing,
+            Taken::Ended(_) => return Step::Ended,
+            Taken::Message(_, m, _, clock) => (m, clock),
+        };
+        if !is_of(chart, post.queues, queue, m) {
+            return Step::Foreign(m);
+        }
+        let e = chart.input_of(m);
+        if self.journal.has(e) {
+            return Step::Foreign(m);
+        }
+        self.clock = clock;
+        self.journal.note(e);
+        if gate.at(post.instance, e) {
+            Step::Logged
+        } else {
+            Step::Stopped
+        }
+    }
+}
