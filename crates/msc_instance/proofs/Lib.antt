@@ -1,3 +1,13 @@
+pub mod Runs
+pub mod Prepared
+pub mod Counted
+pub mod Handed
+pub mod Senders
+pub mod ListCounts
+pub mod Quotas
+pub mod Wired
+pub mod Fitted
+pub mod TableLemmas
 pub mod Occurs
 pub mod Growing
 pub mod Stepped
@@ -10,11 +20,3 @@ pub mod Takes
 pub mod Rounds
 pub mod Ending
 pub mod Beginning
-pub mod Counted
-pub mod Handed
-pub mod Senders
-pub mod ListCounts
-pub mod Quotas
-pub mod Wired
-pub mod Fitted
-pub mod TableLemmas

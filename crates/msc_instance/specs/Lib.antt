@@ -5,3 +5,4 @@ pub mod Steps
 pub mod Active
 pub mod Handing
 pub mod Fitting
+pub mod Threads

@@ -9,6 +9,7 @@
 mod active;
 mod counting;
 mod ends;
+mod fault;
 mod fitting;
 mod gate;
 mod journal;
@@ -18,9 +19,11 @@ mod round;
 mod running;
 mod sending;
 mod taking;
+mod threads;
 mod wiring;
 
 pub use ends::{InstanceEnd, InstanceEnds};
+pub use fault::RunFault;
 pub use gate::{AlwaysOpen, Gate};
 pub use msc_execution::End;
 pub use running::run_instance;
