@@ -34,7 +34,8 @@ fn left<G: Gate>(
     if i >= chart.instances() || !ends.fits(chart, i) {
         return Ok(None);
     }
-    let log = Vec::with_capacity(alloc, chart.events() as usize)?;
+    let (start, end) = chart.line(i);
+    let log = Vec::with_capacity(alloc, end.saturating_sub(start) as usize)?;
     Ok(Some(run_instance(chart, i, ends, gate, 3, log)))
 }
 

@@ -7,3 +7,5 @@ mod alone;
 mod gates;
 #[cfg(test)]
 mod together;
+#[cfg(test)]
+mod wired;
