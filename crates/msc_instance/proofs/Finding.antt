@@ -4,7 +4,8 @@ use Rattle.msc_chart.specs.Lists.{occurs}
 use Rattle.msc_execution.proofs.Lists.Words.{head_or_tail, in_none}
 
 -- what occurs from a place on leaves the place within
-pub within : {X : Type 0} (num : X → ℕ) (xs : List X) (k q : ℕ) → occurs (map num (drop k xs)) q ≡ true → k < length xs
+pub within : {X : Type 0} (num : X → ℕ) (xs : List X) (k q : ℕ) → occurs (map num (drop k xs)) q ≡ true
+    → k < length xs
 within num [] zero q h = in_none q h
 within num [] (suc k) q h = in_none q h
 within num (x ∷ xs) zero q h = omega arith
