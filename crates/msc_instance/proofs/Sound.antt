@@ -16,7 +16,8 @@ use Rattle.msc_instance.specs.declared.active.Active.{Active}
 use Rattle.msc_instance.specs.declared.active.Post.{Post}
 use Rattle.msc_instance.specs.declared.journal.Journal.{Journal}
 use Rattle.msc_instance.specs.Steps.{ArePutBy, HasBegun}
-use Rattle.msc_instance.specs.Active.{IsSound, IsNext, HasPut, IsClosedFrom, log_of, post_role, first_ends}
+use Rattle.msc_instance.specs.Active.{IsSound, IsNext, HasPut, IsAscending, IsClosedFrom, log_of, post_role, first_ends}
+use Rattle.msc_instance.proofs.Finding.{sent_ascends}
 use Rattle.msc_instance.proofs.Logs.{on_post, not_logged, next_moves, log_due, log_shorter, upto_push}
 use Rattle.msc_instance.proofs.Kept.{state, outlet_number, outlet_numbers, has_room, begun_sent, begun_acted, begun_closed}
 
@@ -84,6 +85,17 @@ module _ (d : Drawing) (p : Post) (a : Active) (s : IsSound d p a) where
           (sym (outlet_numbers (post_role d p) (first_ends p) s.post.fit (log_of a) s.begun.reading
           a.outlets.items put))
           (s.post.laws.outlets p.queues d p.instance a.next s.post.accepted output on.1)
+
+      -- the numbers of the outlets ascend
+      pub its_outlets : IsAscending (map outlet_number a.outlets.items)
+      its_outlets =
+          let put = subst (λ b. ArePutBy b (post_role d p) (log_of a) s.begun.reading
+              (first_ends p).outlets a.outlets.items)
+          not_shut s.begun.kept.put in
+          subst IsAscending
+          (sym (outlet_numbers (post_role d p) (first_ends p) s.post.fit (log_of a) s.begun.reading
+              a.outlets.items put))
+          (sent_ascends (post_role d p))
 
       module _ (k : ℕ) (o : NumberedOutlet) (lt : k < length a.outlets.items)
           (here : (get_or a.outlets.items k o).0 ≡ queue_of p.queues d (message d.events a.next)) where

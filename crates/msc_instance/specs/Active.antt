@@ -111,6 +111,11 @@ pub record HasPut (m clock now : ℕ) (old new : NumberedOutlet) : Type 0 where
   pub place : ℕ
   pub claims : new.1.claims ≡ old.1.claims ++ claim place (Message old.1.sender m) (clock + 1) now ∷ []
 
+-- each number is below those behind it
+abbrev pub IsAscending : List ℕ → Type 0
+IsAscending [] = Unit {0}
+IsAscending (x ∷ xs) = ((y : ℕ) → IsTrue (occurs xs y) → x < y) × IsAscending xs
+
 -- a closed outlet
 pub record IsClosedFrom (old new : NumberedOutlet) : Type 0 where
   pub number : new.0 ≡ old.0

@@ -8,7 +8,7 @@ use Rattle.msc_fifo.specs.Ends.{HasRoom}
 use Rattle.msc_execution.specs.Roles.{NumberedOutlet}
 use Rattle.msc_instance.specs.Active.{HasPut}
 use Rattle.msc_instance.proofs.Kept.{outlet_number}
-use Rattle.msc_instance.proofs.Sound.{due_fits, its_outlet, its_room, has_sent}
+use Rattle.msc_instance.proofs.Sound.{due_fits, its_outlet, its_outlets, its_room, has_sent}
 use Rattle.msc_instance.proofs.active.Active.send.Goals as goal
 
 pub message_of-m-requires-clause-message : goal.message_of-m-requires-clause-message
@@ -20,8 +20,8 @@ queue_is : (queues : Queues) (d : Drawing) {q m n : ℕ} → q ≡ queue_of queu
     → q ≡ queue_of queues d n
 queue_is queues d at same = at ∙ ap (queue_of queues d) same
 
-pub outlet_at-k-requires : goal.outlet_at-k-requires
-outlet_at-k-requires c =
+pub outlet_at-k-requires-clause-there : goal.outlet_at-k-requires-clause-there
+outlet_at-k-requires-clause-there c =
     let r = c.requires in
     let d = c.args.chart.now in let a = c.args.self.now in
     let due = output_controlled d.events a.next r.output in
@@ -68,3 +68,10 @@ returns-clause-sound c =
     has_sent d c.args.post.now a r.sound r.within due r.ready r.output k o lt here c.put_one.new.outlet
     c.in-Some.now c.note.new.self put
     c.note.ensures.noted c.note.ensures.room
+
+pub outlet_at-k-requires-clause-ascending : goal.outlet_at-k-requires-clause-ascending
+outlet_at-k-requires-clause-ascending c =
+    let r = c.requires in
+    let d = c.args.chart.now in let a = c.args.self.now in
+    let due = output_controlled d.events a.next r.output in
+    rw c.as_slice.ensures.value (its_outlets d c.args.post.now a r.sound r.within due r.ready r.output)
