@@ -27,7 +27,7 @@ pub sent_ascends : (r : Role) → IsAscending (sent_queues r)
 unfolding sent_queues queues_below
 sent_ascends r =
     filter_ascends _ _ (filter_ascends _ (range_with_len 0 (queue_bound r.queues r.chart))
-        (range_ascends 0 (queue_bound r.queues r.chart)))
+    (range_ascends 0 (queue_bound r.queues r.chart)))
 
 module _ {X : Type 0} (num : X → ℕ) where
   -- a number that occurs has a place

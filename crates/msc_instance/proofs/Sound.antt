@@ -90,11 +90,11 @@ module _ (d : Drawing) (p : Post) (a : Active) (s : IsSound d p a) where
       pub its_outlets : IsAscending (map outlet_number a.outlets.items)
       its_outlets =
           let put = subst (λ b. ArePutBy b (post_role d p) (log_of a) s.begun.reading
-              (first_ends p).outlets a.outlets.items)
+          (first_ends p).outlets a.outlets.items)
           not_shut s.begun.kept.put in
           subst IsAscending
           (sym (outlet_numbers (post_role d p) (first_ends p) s.post.fit (log_of a) s.begun.reading
-              a.outlets.items put))
+          a.outlets.items put))
           (sent_ascends (post_role d p))
 
       module _ (k : ℕ) (o : NumberedOutlet) (lt : k < length a.outlets.items)

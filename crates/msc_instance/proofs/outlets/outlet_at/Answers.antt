@@ -11,7 +11,7 @@ loop-high-preserved-then-outlets-middle c =
     let middle : ℕ = c.loop-high.low + (c.loop-high.high - c.loop-high.low) / 2 in
     let lt : middle < c.loop-high.high = omega (arith, c.loop-high-test.true) in
     between_up (λ (o : NumberedOutlet). o.0) c.args.outlets.now c.args.queue c.loop-high.low middle
-        c.loop-high.high
+    c.loop-high.high
     c.index-outlets-middle.result c.loop-high.invariant c.requires.ascending lt c.if-outlets-middle.true
 
 pub loop-high-preserved : goal.loop-high-preserved
@@ -19,5 +19,5 @@ loop-high-preserved c =
     let middle : ℕ = c.loop-high.low + (c.loop-high.high - c.loop-high.low) / 2 in
     let lt : middle < c.loop-high.high = omega (arith, c.loop-high-test.true) in
     between_down (λ (o : NumberedOutlet). o.0) c.args.outlets.now c.args.queue c.loop-high.low middle
-        c.loop-high.high
+    c.loop-high.high
     c.index-outlets-middle.result c.loop-high.invariant c.requires.ascending lt c.if-outlets-middle.false
