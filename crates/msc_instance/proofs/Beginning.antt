@@ -31,11 +31,13 @@ start_le i (x ∷ xs) =
     by_test (nat_lt x.line i)
     (λ low.
     let more : nat_lt x.line (i + 1) ≡ true = lt-ltb _ _ (let l = ltb-true x.line i low in omega arith) in
-    let p = ap (λ (t : Bool). cond {A = ℕ} t 1 0) low in let q = ap (λ (t : Bool). cond {A = ℕ} t 1 0) more in omega (arith, a, b, r, p, q))
+    let p = ap (λ (t : Bool). cond {A = ℕ} t 1 0) low in let q =
+    ap (λ (t : Bool). cond {A = ℕ} t 1 0) more in omega (arith, a, b, r, p, q))
     (λ high. let p = ap (λ (t : Bool). cond {A = ℕ} t 1 0) high in omega (arith, a, b, r, p))
 
 -- a line starts before it ends, within the chart
-pub line_within : (d : Drawing) (i start end : ℕ) → start ≡ line_start d.events i → end ≡ line_start d.events (i + 1)
+pub line_within : (d : Drawing) (i start end : ℕ) → start ≡ line_start d.events i
+    → end ≡ line_start d.events (i + 1)
     → (start ≤ end) × (end ≤ length d.events)
 line_within d i start end first last =
     let le = start_le i d.events in
@@ -43,7 +45,8 @@ line_within d i start end first last =
     (omega (arith, first, last, le), omega (arith, last, all))
 
 -- the outlets are open, and nothing is put
-all_begun : (r : Role) (reading : Reading) (outs : List NumberedOutlet) → All (λ (o : NumberedOutlet). o.1.closed ≡ false) outs
+all_begun : (r : Role) (reading : Reading) (outs : List NumberedOutlet)
+    → All (λ (o : NumberedOutlet). o.1.closed ≡ false) outs
     → AllZip (IsPutBy r [] reading) outs outs
 all_begun r reading [] all = tt
 all_begun r reading (o ∷ outs) all = (
@@ -58,7 +61,8 @@ empty_log d i = record {
   controlled = (controlled d (line_events d i), refl);
 }
 
-pub begun_first : (r : Role) (first : EndLists) → IsFit r first → HasBegun r first (state false first.outlets first.inlets [] 0)
+pub begun_first : (r : Role) (first : EndLists) → IsFit r first
+    → HasBegun r first (state false first.outlets first.inlets [] 0)
 begun_first r first fit =
     let reading : Reading = record { read_at = λ e. 0; place_at = λ e. 0 } in
     record {
@@ -72,8 +76,10 @@ begun_first r first fit =
     }
 
 -- an instance with the ends of its post and an empty log
-pub begins : (d : Drawing) (p : Post) (a : Active) → IsPost d p → ends_now a ≡ first_ends p → log_of a ≡ [] → a.clock ≡ 0
-    → a.next ≡ p.start → a.first ≡ p.start → a.shut ≡ false → length (line_events d p.instance) ≤ vec_capacity a.journal.log → IsSound d p a
+pub begins : (d : Drawing) (p : Post) (a : Active) → IsPost d p → ends_now a ≡ first_ends p
+    → log_of a ≡ [] → a.clock ≡ 0
+    → a.next ≡ p.start → a.first ≡ p.start → a.shut ≡ false
+    → length (line_events d p.instance) ≤ vec_capacity a.journal.log → IsSound d p a
 begins d p a post ends empty clock next first open' room =
     let none : line_below d p.instance p.start ≡ [] = none_below d p.instance p.start (λ e lt on.
     (let in' : e < length d.events = omega (arith, post.ordered, post.within) in

@@ -35,28 +35,35 @@ falls_empty w u p e most room =
 
 module _ (d : Drawing) (post : Post) (a b c : Active) (patience empty : ℕ) (sent : HasSent a b) where
   pub smaller_busy : weight d post c < weight d post b
-      → weight d post c * (patience + 1) + (patience - 0) < weight d post a * (patience + 1) + (patience - empty)
-  smaller_busy less = falls (weight d post c) (weight d post a) patience empty 0 (omega (arith, weight_sent d post a b sent, less))
+      → weight d post c * (patience + 1) + (patience - 0) < weight d post a * (patience + 1) +
+      (patience - empty)
+  smaller_busy less = falls (weight d post c) (weight d post a) patience empty 0
+      (omega (arith, weight_sent d post a b sent, less))
 
   pub smaller_empty : weight d post c ≡ weight d post b → empty < patience
-      → weight d post c * (patience + 1) + (patience - (empty + 1)) < weight d post a * (patience + 1) + (patience - empty)
-  smaller_empty same room = falls_empty (weight d post c) (weight d post a) patience empty (omega (arith, weight_sent d post a b sent, same)) room
+      → weight d post c * (patience + 1) + (patience - (empty + 1)) < weight d post a *
+      (patience + 1) + (patience - empty)
+  smaller_empty same room = falls_empty (weight d post c) (weight d post a) patience empty
+      (omega (arith, weight_sent d post a b sent, same)) room
 
 module _ (d : Drawing) (p : Post) (a : Active) (s : IsSound d p a) (open' : Bool) (patience : ℕ) where
   -- the gate or the clock has stopped it
   pub ends_stopped : (open' ≡ true → a.clock ≡ 18446744073709551615) → EndsSo d p open' patience a end.Stopped
   ends_stopped spent =
-      comes (post_role d p) open' patience (first_ends p) a.shut a.outlets.items a.inlets.items (log_of a) a.clock end.Stopped s.begun
+      comes (post_role d p) open' patience (first_ends p) a.shut a.outlets.items a.inlets.items
+      (log_of a) a.clock end.Stopped s.begun
       (λ reading is. (λ q. refl, λ known. sym is ∙ spent known))
 
   -- all is logged
   pub ends_finished : a.first ≡ p.end → EndsSo d p open' patience a end.Finished
   ends_finished at =
-      comes (post_role d p) open' patience (first_ends p) a.shut a.outlets.items a.inlets.items (log_of a) a.clock end.Finished s.begun
+      comes (post_role d p) open' patience (first_ends p) a.shut a.outlets.items a.inlets.items
+      (log_of a) a.clock end.Finished s.begun
       (λ reading is. (λ q. refl, whole d p (log_of a) s.post (subst (HasUpTo p (log_of a)) at s.first)))
 
   -- something is missing, and what comes next waits
-  module _ (part : a.first < p.end) (missing : a.first < p.end → occurs (log_of a) a.first ≡ false) (blocked : IsBlocked d p.instance (log_of a)) where
+  module _ (part : a.first < p.end) (missing : a.first < p.end → occurs (log_of a) a.first ≡ false)
+      (blocked : IsBlocked d p.instance (log_of a)) where
     hungry : IsHungry (post_role d p) (log_of a)
     hungry =
         let on = on_post d p s.post (log_of a) a.next s.next a.first s.first.from part in
@@ -64,11 +71,14 @@ module _ (d : Drawing) (p : Post) (a : Active) (s : IsSound d p a) (open' : Bool
 
     pub ends_starved : AllHaveEnded a.inlets.items → EndsSo d p open' patience a end.Starved
     ends_starved ended =
-        comes (post_role d p) open' patience (first_ends p) a.shut a.outlets.items a.inlets.items (log_of a) a.clock end.Starved s.begun
+        comes (post_role d p) open' patience (first_ends p) a.shut a.outlets.items a.inlets.items
+        (log_of a) a.clock end.Starved s.begun
         (λ reading is. (λ q. refl, hungry, ended))
 
-    pub ends_impatient : (AllHaveEnded a.inlets.items → ⊥) → All (λ (n : NumberedInlet). patience ≤ n.1.idle) a.inlets.items
+    pub ends_impatient : (AllHaveEnded a.inlets.items → ⊥)
+        → All (λ (n : NumberedInlet). patience ≤ n.1.idle) a.inlets.items
         → EndsSo d p open' patience a end.Impatient
     ends_impatient going idle =
-        comes (post_role d p) open' patience (first_ends p) a.shut a.outlets.items a.inlets.items (log_of a) a.clock end.Impatient s.begun
+        comes (post_role d p) open' patience (first_ends p) a.shut a.outlets.items a.inlets.items
+        (log_of a) a.clock end.Impatient s.begun
         (λ reading is. (λ q. refl, hungry, going, idle))

@@ -1,22 +1,100 @@
--- Finding a number in a list from a place on.
-use Rattle.std.proofs.Common.{◌≡◌, ◌≢◌, ℕ, zero, suc, ◌<◌, true, List, [], ◌∷◌, map, length, get_or, drop, arith, inl, inr}
+-- Finding a number in a list of numbers that ascend.
+use Rattle.std.proofs.Common.{◌≡◌, ℕ, zero, suc, ◌+◌, ◌<◌, ◌≤◌, Bool, true, List, [], ◌∷◌, map, filter, length, get_or, ap, arith, inl, inr}
+use Rattle.std.specs.List.{range_with_len}
+use Rattle.std.proofs.lemmas.Bool.{cases_lt}
 use Rattle.msc_chart.specs.Lists.{occurs}
-use Rattle.msc_execution.proofs.Lists.Words.{head_or_tail, in_none}
+use Rattle.msc_chart.proofs.ListLemmas.{by_test}
+use Rattle.msc_chart.specs.Orders.{queue_bound}
+use Rattle.msc_execution.specs.Roles.{Role, queues_below, sent_queues}
+use Rattle.msc_execution.proofs.Lists.Words.{head_or_tail, at_head, in_tail, in_none, passes}
+use Rattle.msc_execution.proofs.Lists.Ranges.{in_range}
+use Rattle.msc_instance.specs.Active.{IsAscending}
 
--- what occurs from a place on leaves the place within
-pub within : {X : Type 0} (num : X → ℕ) (xs : List X) (k q : ℕ) → occurs (map num (drop k xs)) q ≡ true → k < length xs
-within num [] zero q h = in_none q h
-within num [] (suc k) q h = in_none q h
-within num (x ∷ xs) zero q h = omega arith
-within num (x ∷ xs) (suc k) q h = let r = within num xs k q h in omega arith
+-- what passes of numbers that ascend ascends
+filter_ascends : (p : ℕ → Bool) (xs : List ℕ) → IsAscending xs → IsAscending (filter p xs)
+filter_ascends p [] h = tt
+filter_ascends p (x ∷ xs) h =
+    let rest = filter_ascends p xs h.1 in
+    by_test (p x) (λ in'. rw in' ((λ y there. h.0 y (passes p xs y there).0), rest)) (λ out. rw out rest)
 
--- and, where it is not at the place, it occurs behind
-pub behind : {X : Type 0} (num : X → ℕ) (xs : List X) (k q : ℕ) (d : X) → num (get_or xs k d) ≢ q
-    → occurs (map num (drop k xs)) q ≡ true → occurs (map num (drop (suc k) xs)) q ≡ true
-behind num [] zero q d other h = in_none q h
-behind num [] (suc k) q d other h = in_none q h
-behind num (x ∷ xs) zero q d other h = elim (head_or_tail (num x) (map num xs) q h) [
-  | inl is ↦ absurd (other is)
-  | inr later ↦ later
-]
-behind num (x ∷ xs) (suc k) q d other h = behind num xs k q d other h
+range_ascends : (a n : ℕ) → IsAscending (range_with_len a n)
+range_ascends a zero = tt
+range_ascends a (suc n) =
+    ((λ y there. let r = in_range (a + 1) n y there in omega (arith, r.0)), range_ascends (a + 1) n)
+
+-- the queues to which an instance sends ascend
+pub sent_ascends : (r : Role) → IsAscending (sent_queues r)
+unfolding sent_queues queues_below
+sent_ascends r =
+    filter_ascends _ _ (filter_ascends _ (range_with_len 0 (queue_bound r.queues r.chart))
+    (range_ascends 0 (queue_bound r.queues r.chart)))
+
+module _ {X : Type 0} (num : X → ℕ) where
+  -- a number that occurs has a place
+  pub place_of : (xs : List X) (q : ℕ) → occurs (map num xs) q ≡ true
+      → (j : ℕ) × (j < length xs) × ((d : X) → num (get_or xs j d) ≡ q)
+  place_of [] q h = in_none q h
+  place_of (x ∷ xs) q h = elim (head_or_tail (num x) (map num xs) q h) [
+    | inl here ↦ (0, omega arith, λ d. here)
+    | inr later ↦ let r = place_of xs q later in (suc r.0, omega (arith, r.1), r.2)
+  ]
+
+  number_in : (xs : List X) (j : ℕ) (d : X) → j < length xs → occurs (map num xs) (num (get_or xs j d)) ≡ true
+  number_in [] j d lt = absurd (omega arith)
+  number_in (x ∷ xs) zero d lt = at_head (num x) (map num xs)
+  number_in (x ∷ xs) (suc j) d lt =
+      in_tail (num x) (map num xs) (num (get_or xs j d)) (number_in xs j d (omega arith))
+
+  -- numbers rise from place to place
+  pub rises : (xs : List X) (i j : ℕ) (d : X) → IsAscending (map num xs) → i < j → j < length xs
+      → num (get_or xs i d) < num (get_or xs j d)
+  rises [] i j d h less lt = absurd (omega arith)
+  rises (x ∷ xs) i zero d h less lt = absurd (omega arith)
+  rises (x ∷ xs) zero (suc j) d h less lt = h.0 (num (get_or xs j d)) (number_in xs j d (omega arith))
+  rises (x ∷ xs) (suc i) (suc j) d h less lt = rises xs i j d h.1 (omega arith) (omega arith)
+
+  -- the number is at a place from low on, below high
+  pub record IsBetween (xs : List X) (q low high : ℕ) : Type 0 where
+    pub place : ℕ
+    pub from : low ≤ place
+    pub to : place < high
+    pub within : high ≤ length xs
+    pub is : (d : X) → num (get_or xs place d) ≡ q
+
+  pub between_all : (xs : List X) (q : ℕ) → occurs (map num xs) q ≡ true → IsBetween xs q 0 (length xs)
+  between_all xs q h =
+      let r = place_of xs q h in
+      record { place = r.0; from = omega arith; to = r.1; within = omega arith; is = r.2 }
+
+  module _ (xs : List X) (q low middle high : ℕ) (d : X) (h : IsBetween xs q low high)
+      (up : IsAscending (map num xs)) where
+    pub between_up : middle < high → num (get_or xs middle d) ≤ q → IsBetween xs q middle high
+    between_up lt le = record {
+      place = h.place;
+      from = (elim (cases_lt h.place middle) [
+        | inl low' ↦ let r = rises xs h.place middle d up low' (omega (arith, h.within)) in
+            absurd (omega (arith, h.is d, r))
+        | inr ge ↦ ge
+      ]);
+      to = h.to;
+      within = h.within;
+      is = h.is;
+    }
+
+    pub between_down : middle < high → q < num (get_or xs middle d) → IsBetween xs q low middle
+    between_down lt gt = record {
+      place = h.place;
+      from = h.from;
+      to = (elim (cases_lt h.place middle) [
+        | inl less ↦ less
+        | inr ge ↦ (elim (cases_lt middle h.place) [
+          | inl more ↦ let r = rises xs middle h.place d up more (omega (arith, h.to, h.within)) in
+              absurd (omega (arith, h.is d, r))
+          | inr le ↦
+              let same : h.place ≡ middle = omega arith in
+              let e = ap (λ k. num (get_or xs k d)) same in absurd (omega (arith, h.is d, e))
+        ])
+      ]);
+      within = omega (arith, h.within);
+      is = h.is;
+    }

@@ -19,24 +19,36 @@ use Rattle.msc_instance.specs.Steps.{with_event}
 use Rattle.msc_instance.proofs.Occurs.{occurs-head, occurs-tail, until-new, in_filter}
 
 -- two functions of clocks that agree on a list give one clock along it
-pub one_clock : (d : Drawing) (f g : ℕ → ℕ) (c : ℕ) (log : List ℕ) → ((e : ℕ) → occurs log e ≡ true → f e ≡ g e) → along_from d f c log ≡ along_from d g c log
+pub one_clock : (d : Drawing) (f g : ℕ → ℕ) (c : ℕ) (log : List ℕ)
+    → ((e : ℕ) → occurs log e ≡ true → f e ≡ g e) → along_from d f c log ≡ along_from d g c log
 unfolding along_from clock_next
 one_clock d f g c [] same = refl
 one_clock d f g c (e ∷ es) same =
-    ap (λ (n : ℕ). along_from d f (cond (is_output d.events e) n (cond (is_input d.events e) (max c n) c)) es) (same e (occurs-head es e))
+    ap (λ (n : ℕ). along_from d f
+    (cond (is_output d.events e) n (cond (is_input d.events e) (max c n) c)) es)
+    (same e (occurs-head es e))
     ∙ one_clock d f g (clock_next d g c e) es (λ x there. same x (occurs-tail e es x there))
 
-pub event_own : (e k n : ℕ) (r : Reading) → ((with_event e k n r).read_at e ≡ n) × ((with_event e k n r).place_at e ≡ k)
-event_own e k n r = (ap (λ (b : Bool). cond b n (r.read_at e)) (eq-eqb e e refl), ap (λ (b : Bool). cond b k (r.place_at e)) (eq-eqb e e refl))
+pub event_own : (e k n : ℕ) (r : Reading)
+    → ((with_event e k n r).read_at e ≡ n) × ((with_event e k n r).place_at e ≡ k)
+event_own e k n r = (
+  ap (λ (b : Bool). cond b n (r.read_at e)) (eq-eqb e e refl),
+  ap (λ (b : Bool). cond b k (r.place_at e)) (eq-eqb e e refl),
+)
 
-pub event_other : (e k n : ℕ) (r : Reading) (x : ℕ) → (x ≡ e → ⊥) → ((with_event e k n r).read_at x ≡ r.read_at x) × ((with_event e k n r).place_at x ≡ r.place_at x)
-event_other e k n r x other = (ap (λ (b : Bool). cond b n (r.read_at x)) (ne_eqb x e other), ap (λ (b : Bool). cond b k (r.place_at x)) (ne_eqb x e other))
+pub event_other : (e k n : ℕ) (r : Reading) (x : ℕ) → (x ≡ e → ⊥)
+    → ((with_event e k n r).read_at x ≡ r.read_at x) × ((with_event e k n r).place_at x ≡ r.place_at x)
+event_other e k n r x other = (
+  ap (λ (b : Bool). cond b n (r.read_at x)) (ne_eqb x e other),
+  ap (λ (b : Bool). cond b k (r.place_at x)) (ne_eqb x e other),
+)
 
 -- what occurs in a list is not a new event
 not_new : (log : List ℕ) (e x : ℕ) → occurs log e ≡ false → occurs log x ≡ true → x ≡ e → ⊥
 not_new log e x new there same = clash (subst (λ (z : ℕ). occurs log z ≡ true) same there) new
 
-along_push : (d : Drawing) (f : ℕ → ℕ) (c : ℕ) (log : List ℕ) (e : ℕ) → along_from d f c (log ++ e ∷ []) ≡ clock_next d f (along_from d f c log) e
+along_push : (d : Drawing) (f : ℕ → ℕ) (c : ℕ) (log : List ℕ) (e : ℕ)
+    → along_from d f c (log ++ e ∷ []) ≡ clock_next d f (along_from d f c log) e
 unfolding along_from
 along_push d f c [] e = refl
 along_push d f c (x ∷ log) e = along_push d f (clock_next d f c x) log e
@@ -44,16 +56,20 @@ along_push d f c (x ∷ log) e = along_push d f (clock_next d f c x) log e
 -- the clock along a log with one event more
 pub clock_pushed : (d : Drawing) (r : Reading) (log : List ℕ) (e k n : ℕ) → occurs log e ≡ false
     → clock_along d (with_event e k n r).read_at (log ++ e ∷ [])
-    ≡ cond (is_output d.events e) n (cond (is_input d.events e) (max (clock_along d r.read_at log) n) (clock_along d r.read_at log))
+    ≡ cond (is_output d.events e) n
+    (cond (is_input d.events e) (max (clock_along d r.read_at log) n) (clock_along d r.read_at log))
 unfolding clock_next
 clock_pushed d r log e k n new =
     let own = (event_own e k n r).0 in
     let before : clock_along d (with_event e k n r).read_at log ≡ clock_along d r.read_at log =
-    one_clock d (with_event e k n r).read_at r.read_at 0 log (λ x there. (event_other e k n r x (not_new log e x new there)).0) in
+    one_clock d (with_event e k n r).read_at r.read_at 0 log
+    (λ x there. (event_other e k n r x (not_new log e x new there)).0) in
     along_push d (with_event e k n r).read_at 0 log e
-    ∙ (λ j. cond (is_output d.events e) (own j) (cond (is_input d.events e) (max (before j) (own j)) (before j)))
+    ∙ (λ j. cond (is_output d.events e) (own j)
+    (cond (is_input d.events e) (max (before j) (own j)) (before j)))
 
-map_same : {B : Type 0} (f g : ℕ → B) (xs : List ℕ) → ((x : ℕ) → occurs xs x ≡ true → f x ≡ g x) → map f xs ≡ map g xs
+map_same : {B : Type 0} (f g : ℕ → B) (xs : List ℕ) → ((x : ℕ) → occurs xs x ≡ true → f x ≡ g x)
+    → map f xs ≡ map g xs
 map_same f g [] same = refl
 map_same f g (x ∷ xs) same =
     let here = same x (occurs-head xs x) in
@@ -64,128 +80,180 @@ pub map_push : {B : Type 0} (f : ℕ → B) (xs : List ℕ) (x : ℕ) → map f 
 map_push f [] x = refl
 map_push f (y ∷ xs) x = ap (λ l. f y ∷ l) (map_push f xs x)
 
-pub filter_yes : (p : ℕ → Bool) (xs : List ℕ) (e : ℕ) → p e ≡ true → filter p (xs ++ e ∷ []) ≡ filter p xs ++ e ∷ []
+pub filter_yes : (p : ℕ → Bool) (xs : List ℕ) (e : ℕ) → p e ≡ true
+    → filter p (xs ++ e ∷ []) ≡ filter p xs ++ e ∷ []
 filter_yes p xs e h = filter-append p xs (e ∷ []) ∙ ap (λ (b : Bool). filter p xs ++ cond b (e ∷ []) []) h
 
 pub filter_no : (p : ℕ → Bool) (xs : List ℕ) (e : ℕ) → p e ≡ false → filter p (xs ++ e ∷ []) ≡ filter p xs
-filter_no p xs e h = filter-append p xs (e ∷ []) ∙ ap (λ (b : Bool). filter p xs ++ cond b (e ∷ []) []) h ∙ append-nil (filter p xs)
+filter_no p xs e h = filter-append p xs (e ∷ [])
+    ∙ ap (λ (b : Bool). filter p xs ++ cond b (e ∷ []) []) h ∙ append-nil (filter p xs)
 
 -- the outputs to a queue and the inputs from it, with one event more
 module _ (r : Role) (log : List ℕ) (e q : ℕ) where
-  pub outputs_more : is_output r.chart.events e ≡ true → queue_of r.queues r.chart (message r.chart.events e) ≡ q → outputs_at r.queues r.chart q (log ++ e ∷ []) ≡ outputs_at r.queues r.chart q log ++ e ∷ []
+  pub outputs_more : is_output r.chart.events e ≡ true
+      → queue_of r.queues r.chart (message r.chart.events e) ≡ q
+      → outputs_at r.queues r.chart q (log ++ e ∷ []) ≡ outputs_at r.queues r.chart q log ++ e ∷ []
   outputs_more output here =
       let p : ℕ → Bool = λ x. nat_eq (queue_of r.queues r.chart (message r.chart.events x)) q in
-      ap (filter p) (filter_yes (is_output r.chart.events) log e output) ∙ filter_yes p (outputs r.chart log) e (eq-eqb _ _ here)
+      ap (filter p) (filter_yes (is_output r.chart.events) log e output)
+      ∙ filter_yes p (outputs r.chart log) e (eq-eqb _ _ here)
 
-  pub outputs_same : (is_output r.chart.events e ≡ true → queue_of r.queues r.chart (message r.chart.events e) ≡ q → ⊥) → outputs_at r.queues r.chart q (log ++ e ∷ []) ≡ outputs_at r.queues r.chart q log
+  pub outputs_same : (is_output r.chart.events e ≡ true
+      → queue_of r.queues r.chart (message r.chart.events e) ≡ q → ⊥)
+      → outputs_at r.queues r.chart q (log ++ e ∷ []) ≡ outputs_at r.queues r.chart q log
   outputs_same other =
       let p : ℕ → Bool = λ x. nat_eq (queue_of r.queues r.chart (message r.chart.events x)) q in
       by_test (is_output r.chart.events e)
-      (λ output. ap (filter p) (filter_yes (is_output r.chart.events) log e output) ∙ filter_no p (outputs r.chart log) e (ne_eqb _ _ (λ h. other output h)))
+      (λ output. ap (filter p) (filter_yes (is_output r.chart.events) log e output)
+      ∙ filter_no p (outputs r.chart log) e (ne_eqb _ _ (λ h. other output h)))
       (λ none. ap (filter p) (filter_no (is_output r.chart.events) log e none))
 
-  pub inputs_more : is_input r.chart.events e ≡ true → queue_of r.queues r.chart (message r.chart.events e) ≡ q → inputs_at r.queues r.chart q (log ++ e ∷ []) ≡ inputs_at r.queues r.chart q log ++ e ∷ []
+  pub inputs_more : is_input r.chart.events e ≡ true
+      → queue_of r.queues r.chart (message r.chart.events e) ≡ q
+      → inputs_at r.queues r.chart q (log ++ e ∷ []) ≡ inputs_at r.queues r.chart q log ++ e ∷ []
   inputs_more input here =
       let p : ℕ → Bool = λ x. nat_eq (queue_of r.queues r.chart (message r.chart.events x)) q in
-      ap (filter p) (filter_yes (is_input r.chart.events) log e input) ∙ filter_yes p (inputs r.chart log) e (eq-eqb _ _ here)
+      ap (filter p) (filter_yes (is_input r.chart.events) log e input)
+      ∙ filter_yes p (inputs r.chart log) e (eq-eqb _ _ here)
 
-  pub inputs_same : (is_input r.chart.events e ≡ true → queue_of r.queues r.chart (message r.chart.events e) ≡ q → ⊥) → inputs_at r.queues r.chart q (log ++ e ∷ []) ≡ inputs_at r.queues r.chart q log
+  pub inputs_same : (is_input r.chart.events e ≡ true
+      → queue_of r.queues r.chart (message r.chart.events e) ≡ q → ⊥)
+      → inputs_at r.queues r.chart q (log ++ e ∷ []) ≡ inputs_at r.queues r.chart q log
   inputs_same other =
       let p : ℕ → Bool = λ x. nat_eq (queue_of r.queues r.chart (message r.chart.events x)) q in
       by_test (is_input r.chart.events e)
-      (λ input. ap (filter p) (filter_yes (is_input r.chart.events) log e input) ∙ filter_no p (inputs r.chart log) e (ne_eqb _ _ (λ h. other input h)))
+      (λ input. ap (filter p) (filter_yes (is_input r.chart.events) log e input)
+      ∙ filter_no p (inputs r.chart log) e (ne_eqb _ _ (λ h. other input h)))
       (λ none. ap (filter p) (filter_no (is_input r.chart.events) log e none))
 
-module _ (r : Role) (reading : Reading) (log : List ℕ) (e k n : ℕ) (new : occurs log e ≡ false) (sender q : ℕ) where
+module _ (r : Role) (reading : Reading) (log : List ℕ) (e k n : ℕ) (new : occurs log e ≡ false)
+    (sender q : ℕ) where
   -- the claims of earlier outputs stay
-  claim_same : (s : ℕ) → occurs log s ≡ true → claim_at r (log ++ e ∷ []) (with_event e k n reading) sender s ≡ claim_at r log reading sender s
+  claim_same : (s : ℕ) → occurs log s ≡ true
+      → claim_at r (log ++ e ∷ []) (with_event e k n reading) sender s ≡ claim_at r log reading sender s
   claim_same s there =
       let other = event_other e k n reading s (not_new log e s new there) in
       let past : until (log ++ e ∷ []) s ≡ until log s = until-append log (e ∷ []) s there in
-      let clock : clock_along r.chart (with_event e k n reading).read_at (until (log ++ e ∷ []) s) ≡ clock_along r.chart reading.read_at (until log s) =
+      let clock : clock_along r.chart (with_event e k n reading).read_at (until (log ++ e ∷ []) s)
+      ≡ clock_along r.chart reading.read_at (until log s) =
       ap (clock_along r.chart (with_event e k n reading).read_at) past
-      ∙ one_clock r.chart (with_event e k n reading).read_at reading.read_at 0 (until log s) (λ x h. (event_other e k n reading x (not_new log e x new (until-within log s x h))).0) in
+      ∙ one_clock r.chart (with_event e k n reading).read_at reading.read_at 0 (until log s)
+      (λ x h. (event_other e k n reading x (not_new log e x new (until-within log s x h))).0) in
       λ j. claim (other.1 j) (Message sender (message r.chart.events s)) (clock j + 1) (other.0 j)
 
   in_outputs : (s : ℕ) → occurs (outputs_at r.queues r.chart q log) s ≡ true → occurs log s ≡ true
   in_outputs s h =
       (in_filter (is_output r.chart.events) log s
-      (in_filter (λ x. nat_eq (queue_of r.queues r.chart (message r.chart.events x)) q) (outputs r.chart log) s h).0).0
+      (in_filter (λ x. nat_eq (queue_of r.queues r.chart (message r.chart.events x)) q)
+      (outputs r.chart log) s h).0).0
 
   in_inputs : (s : ℕ) → occurs (inputs_at r.queues r.chart q log) s ≡ true → occurs log s ≡ true
   in_inputs s h =
       (in_filter (is_input r.chart.events) log s
-      (in_filter (λ x. nat_eq (queue_of r.queues r.chart (message r.chart.events x)) q) (inputs r.chart log) s h).0).0
+      (in_filter (λ x. nat_eq (queue_of r.queues r.chart (message r.chart.events x)) q)
+      (inputs r.chart log) s h).0).0
 
-  old_claims : map (claim_at r (log ++ e ∷ []) (with_event e k n reading) sender) (outputs_at r.queues r.chart q log) ≡ map (claim_at r log reading sender) (outputs_at r.queues r.chart q log)
-  old_claims = map_same (claim_at r (log ++ e ∷ []) (with_event e k n reading) sender) (claim_at r log reading sender) (outputs_at r.queues r.chart q log) (λ s h. claim_same s (in_outputs s h))
+  old_claims : map (claim_at r (log ++ e ∷ []) (with_event e k n reading) sender)
+      (outputs_at r.queues r.chart q log) ≡ map (claim_at r log reading sender)
+      (outputs_at r.queues r.chart q log)
+  old_claims = map_same (claim_at r (log ++ e ∷ []) (with_event e k n reading) sender)
+      (claim_at r log reading sender) (outputs_at r.queues r.chart q log)
+      (λ s h. claim_same s (in_outputs s h))
 
   -- an output to the queue adds its claim, with the clock before it plus one as its offer
   pub sent_more : is_output r.chart.events e ≡ true → queue_of r.queues r.chart (message r.chart.events e) ≡ q
-      → map (claim_at r (log ++ e ∷ []) (with_event e k n reading) sender) (outputs_at r.queues r.chart q (log ++ e ∷ []))
-      ≡ map (claim_at r log reading sender) (outputs_at r.queues r.chart q log) ++ claim k (Message sender (message r.chart.events e)) (clock_along r.chart reading.read_at log + 1) n ∷ []
+      → map (claim_at r (log ++ e ∷ []) (with_event e k n reading) sender)
+      (outputs_at r.queues r.chart q (log ++ e ∷ []))
+      ≡ map (claim_at r log reading sender) (outputs_at r.queues r.chart q log)
+      ++ claim k (Message sender (message r.chart.events e))
+      (clock_along r.chart reading.read_at log + 1) n ∷ []
   sent_more output here =
       let p : ℕ → Bool = λ x. nat_eq (queue_of r.queues r.chart (message r.chart.events x)) q in
-      let grown : outputs_at r.queues r.chart q (log ++ e ∷ []) ≡ outputs_at r.queues r.chart q log ++ e ∷ [] =
-      ap (filter p) (filter_yes (is_output r.chart.events) log e output) ∙ filter_yes p (outputs r.chart log) e (eq-eqb _ _ here) in
+      let grown : outputs_at r.queues r.chart q (log ++ e ∷ []) ≡ outputs_at r.queues r.chart q log
+      ++ e ∷ [] =
+      ap (filter p) (filter_yes (is_output r.chart.events) log e output)
+      ∙ filter_yes p (outputs r.chart log) e (eq-eqb _ _ here) in
       let own = event_own e k n reading in
       let past : until (log ++ e ∷ []) e ≡ log = until-new log [] e new in
-      let clock : clock_along r.chart (with_event e k n reading).read_at (until (log ++ e ∷ []) e) ≡ clock_along r.chart reading.read_at log =
+      let clock : clock_along r.chart (with_event e k n reading).read_at (until (log ++ e ∷ []) e)
+      ≡ clock_along r.chart reading.read_at log =
       ap (clock_along r.chart (with_event e k n reading).read_at) past
-      ∙ one_clock r.chart (with_event e k n reading).read_at reading.read_at 0 log (λ x h. (event_other e k n reading x (not_new log e x new h)).0) in
-      let last : claim_at r (log ++ e ∷ []) (with_event e k n reading) sender e ≡ claim k (Message sender (message r.chart.events e)) (clock_along r.chart reading.read_at log + 1) n =
+      ∙ one_clock r.chart (with_event e k n reading).read_at reading.read_at 0 log
+      (λ x h. (event_other e k n reading x (not_new log e x new h)).0) in
+      let last : claim_at r (log ++ e ∷ []) (with_event e k n reading) sender e
+      ≡ claim k (Message sender (message r.chart.events e))
+      (clock_along r.chart reading.read_at log + 1) n =
       (λ j. claim (own.1 j) (Message sender (message r.chart.events e)) (clock j + 1) (own.0 j)) in
       ap (map (claim_at r (log ++ e ∷ []) (with_event e k n reading) sender)) grown
-      ∙ map_push (claim_at r (log ++ e ∷ []) (with_event e k n reading) sender) (outputs_at r.queues r.chart q log) e
+      ∙ map_push (claim_at r (log ++ e ∷ []) (with_event e k n reading) sender)
+      (outputs_at r.queues r.chart q log) e
       ∙ (λ j. old_claims j ++ last j ∷ [])
 
   -- any other event leaves the claims in the queue as they are
-  pub sent_same : (is_output r.chart.events e ≡ true → queue_of r.queues r.chart (message r.chart.events e) ≡ q → ⊥)
-      → map (claim_at r (log ++ e ∷ []) (with_event e k n reading) sender) (outputs_at r.queues r.chart q (log ++ e ∷ [])) ≡ map (claim_at r log reading sender) (outputs_at r.queues r.chart q log)
+  pub sent_same : (is_output r.chart.events e ≡ true
+      → queue_of r.queues r.chart (message r.chart.events e) ≡ q → ⊥)
+      → map (claim_at r (log ++ e ∷ []) (with_event e k n reading) sender)
+      (outputs_at r.queues r.chart q (log ++ e ∷ [])) ≡ map (claim_at r log reading sender)
+      (outputs_at r.queues r.chart q log)
   sent_same other =
       let p : ℕ → Bool = λ x. nat_eq (queue_of r.queues r.chart (message r.chart.events x)) q in
       let grown : outputs_at r.queues r.chart q (log ++ e ∷ []) ≡ outputs_at r.queues r.chart q log =
       by_test (is_output r.chart.events e)
-      (λ output. ap (filter p) (filter_yes (is_output r.chart.events) log e output) ∙ filter_no p (outputs r.chart log) e (ne_eqb _ _ (λ h. other output h)))
+      (λ output. ap (filter p) (filter_yes (is_output r.chart.events) log e output)
+      ∙ filter_no p (outputs r.chart log) e (ne_eqb _ _ (λ h. other output h)))
       (λ none. ap (filter p) (filter_no (is_output r.chart.events) log e none)) in
       ap (map (claim_at r (log ++ e ∷ []) (with_event e k n reading) sender)) grown ∙ old_claims
 
-  old_reads : map (with_event e k n reading).read_at (inputs_at r.queues r.chart q log) ≡ map reading.read_at (inputs_at r.queues r.chart q log)
-  old_reads = map_same (with_event e k n reading).read_at reading.read_at (inputs_at r.queues r.chart q log) (λ s h. (event_other e k n reading s (not_new log e s new (in_inputs s h))).0)
+  old_reads : map (with_event e k n reading).read_at (inputs_at r.queues r.chart q log)
+      ≡ map reading.read_at (inputs_at r.queues r.chart q log)
+  old_reads = map_same (with_event e k n reading).read_at reading.read_at
+      (inputs_at r.queues r.chart q log)
+      (λ s h. (event_other e k n reading s (not_new log e s new (in_inputs s h))).0)
 
   -- an input from the queue adds the clock that was read
   pub read_more : is_input r.chart.events e ≡ true → queue_of r.queues r.chart (message r.chart.events e) ≡ q
-      → map (with_event e k n reading).read_at (inputs_at r.queues r.chart q (log ++ e ∷ [])) ≡ map reading.read_at (inputs_at r.queues r.chart q log) ++ n ∷ []
+      → map (with_event e k n reading).read_at (inputs_at r.queues r.chart q (log ++ e ∷ []))
+      ≡ map reading.read_at (inputs_at r.queues r.chart q log) ++ n ∷ []
   read_more input here =
       let p : ℕ → Bool = λ x. nat_eq (queue_of r.queues r.chart (message r.chart.events x)) q in
       let grown : inputs_at r.queues r.chart q (log ++ e ∷ []) ≡ inputs_at r.queues r.chart q log ++ e ∷ [] =
-      ap (filter p) (filter_yes (is_input r.chart.events) log e input) ∙ filter_yes p (inputs r.chart log) e (eq-eqb _ _ here) in
+      ap (filter p) (filter_yes (is_input r.chart.events) log e input)
+      ∙ filter_yes p (inputs r.chart log) e (eq-eqb _ _ here) in
       let own = (event_own e k n reading).0 in
-      ap (map (with_event e k n reading).read_at) grown ∙ map_push (with_event e k n reading).read_at (inputs_at r.queues r.chart q log) e ∙ (λ j. old_reads j ++ own j ∷ [])
+      ap (map (with_event e k n reading).read_at) grown
+      ∙ map_push (with_event e k n reading).read_at (inputs_at r.queues r.chart q log) e
+      ∙ (λ j. old_reads j ++ own j ∷ [])
 
-  pub read_same : (is_input r.chart.events e ≡ true → queue_of r.queues r.chart (message r.chart.events e) ≡ q → ⊥)
-      → map (with_event e k n reading).read_at (inputs_at r.queues r.chart q (log ++ e ∷ [])) ≡ map reading.read_at (inputs_at r.queues r.chart q log)
+  pub read_same : (is_input r.chart.events e ≡ true
+      → queue_of r.queues r.chart (message r.chart.events e) ≡ q → ⊥)
+      → map (with_event e k n reading).read_at (inputs_at r.queues r.chart q (log ++ e ∷ []))
+      ≡ map reading.read_at (inputs_at r.queues r.chart q log)
   read_same other =
       let p : ℕ → Bool = λ x. nat_eq (queue_of r.queues r.chart (message r.chart.events x)) q in
       let grown : inputs_at r.queues r.chart q (log ++ e ∷ []) ≡ inputs_at r.queues r.chart q log =
       by_test (is_input r.chart.events e)
-      (λ input. ap (filter p) (filter_yes (is_input r.chart.events) log e input) ∙ filter_no p (inputs r.chart log) e (ne_eqb _ _ (λ h. other input h)))
+      (λ input. ap (filter p) (filter_yes (is_input r.chart.events) log e input)
+      ∙ filter_no p (inputs r.chart log) e (ne_eqb _ _ (λ h. other input h)))
       (λ none. ap (filter p) (filter_no (is_input r.chart.events) log e none)) in
       ap (map (with_event e k n reading).read_at) grown ∙ old_reads
 
 -- what a take adds to the clocks of messages, where there is a clock for each entry
-pub clocks_message : (got : List Entry) (clocks : List ℕ) (i m n : ℕ) → length clocks ≡ length got → clocks_at (got ++ Message i m ∷ []) (clocks ++ n ∷ []) ≡ clocks_at got clocks ++ n ∷ []
+pub clocks_message : (got : List Entry) (clocks : List ℕ) (i m n : ℕ) → length clocks ≡ length got
+    → clocks_at (got ++ Message i m ∷ []) (clocks ++ n ∷ []) ≡ clocks_at got clocks ++ n ∷ []
 clocks_message [] [] i m n h = refl
 clocks_message [] (x ∷ clocks) i m n h = absurd (omega arith)
 clocks_message (g ∷ got) [] i m n h = absurd (omega arith)
-clocks_message (Message a b ∷ got) (x ∷ clocks) i m n h = ap (λ l. x ∷ l) (clocks_message got clocks i m n (omega arith))
+clocks_message (Message a b ∷ got) (x ∷ clocks) i m n h =
+    ap (λ l. x ∷ l) (clocks_message got clocks i m n (omega arith))
 clocks_message (Ended a ∷ got) (x ∷ clocks) i m n h = clocks_message got clocks i m n (omega arith)
 
-pub clocks_ended : (got : List Entry) (clocks : List ℕ) (i n : ℕ) → length clocks ≡ length got → clocks_at (got ++ Ended i ∷ []) (clocks ++ n ∷ []) ≡ clocks_at got clocks
+pub clocks_ended : (got : List Entry) (clocks : List ℕ) (i n : ℕ) → length clocks ≡ length got
+    → clocks_at (got ++ Ended i ∷ []) (clocks ++ n ∷ []) ≡ clocks_at got clocks
 clocks_ended [] [] i n h = refl
 clocks_ended [] (x ∷ clocks) i n h = absurd (omega arith)
 clocks_ended (g ∷ got) [] i n h = absurd (omega arith)
-clocks_ended (Message a b ∷ got) (x ∷ clocks) i n h = ap (λ l. x ∷ l) (clocks_ended got clocks i n (omega arith))
+clocks_ended (Message a b ∷ got) (x ∷ clocks) i n h =
+    ap (λ l. x ∷ l) (clocks_ended got clocks i n (omega arith))
 clocks_ended (Ended a ∷ got) (x ∷ clocks) i n h = clocks_ended got clocks i n (omega arith)
 
 -- an empty log leaves the clock 0

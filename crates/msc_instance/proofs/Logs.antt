@@ -19,17 +19,21 @@ use Rattle.msc_instance.specs.Active.{line_below, IsPost, IsNext, HasUpTo, IsBlo
 use Rattle.msc_instance.proofs.Growing.{filter_yes, filter_no}
 
 -- a log is no longer than its line
-pub log_within : (d : Drawing) (i : ℕ) (log : List ℕ) → IsLogOf d i log → length log ≤ length (line_events d i)
+pub log_within : (d : Drawing) (i : ℕ) (log : List ℕ) → IsLogOf d i log
+    → length log ≤ length (line_events d i)
 unfolding line_events
 log_within d i log is =
-    pigeons log (filter (λ e. eqb (line d.events e) i) (range_with_len 0 (length d.events))) (steps_once d [] log is.steps).0
+    pigeons log (filter (λ e. eqb (line d.events e) i) (range_with_len 0 (length d.events)))
+    (steps_once d [] log is.steps).0
     (λ e there. let on = is.on_line e there in
     kept (λ x. eqb (line d.events x) i) (range_with_len 0 (length d.events)) e
     (range_has 0 (length d.events) e (omega arith) (omega (arith, on.0))) (eq-eqb _ _ on.1))
 
 -- one event more
-pub log_push : (d : Drawing) (i : ℕ) (log : List ℕ) (e : ℕ) → IsLogOf d i log → e < length d.events → line d.events e ≡ i
-    → MayBeLogged d log e → Begins (controlled d (log ++ e ∷ [])) (controlled d (line_events d i)) → IsLogOf d i (log ++ e ∷ [])
+pub log_push : (d : Drawing) (i : ℕ) (log : List ℕ) (e : ℕ) → IsLogOf d i log → e < length d.events
+    → line d.events e ≡ i
+    → MayBeLogged d log e → Begins (controlled d (log ++ e ∷ [])) (controlled d (line_events d i))
+    → IsLogOf d i (log ++ e ∷ [])
 log_push d i log e is event on may begins = record {
   on_line = λ x there. elim (cases_eq x e) [
     | inl same ↦ (subst (λ z. z < length d.events) (sym same) event, ap (line d.events) same ∙ on)
@@ -46,9 +50,11 @@ module _ (d : Drawing) (i : ℕ) where
   below_more n =
       (let s : n + 1 ≡ suc n = omega arith in ap (λ k. controlled d (line_below d i k)) s)
       ∙ ap (controlled d) (filter_more (λ e. nat_eq (line d.events e) i) n)
-      ∙ filter-append (is_controlled d.events) (line_below d i n) (cond (nat_eq (line d.events n) i) (n ∷ []) [])
+      ∙ filter-append (is_controlled d.events) (line_below d i n)
+      (cond (nat_eq (line d.events n) i) (n ∷ []) [])
 
-  below_skip : (n : ℕ) → is_controlled d.events n ≡ false → controlled d (line_below d i (n + 1)) ≡ controlled d (line_below d i n)
+  below_skip : (n : ℕ) → is_controlled d.events n ≡ false
+      → controlled d (line_below d i (n + 1)) ≡ controlled d (line_below d i n)
   below_skip n out =
       below_more n
       ∙ ap (λ l. controlled d (line_below d i n) ++ l)
@@ -73,21 +79,30 @@ module _ (d : Drawing) (i : ℕ) where
       ∙ below_skips n k (λ e from to. none e from (omega arith))
 
   below_begins : (n k : ℕ) → Begins (controlled d (line_below d i n)) (controlled d (line_below d i (n + k)))
-  below_begins n zero = ([], (let s : n + 0 ≡ n = omega arith in ap (λ m. controlled d (line_below d i m)) s) ∙ sym (append-nil _))
+  below_begins n zero = (
+    [],
+    (let s : n + 0 ≡ n = omega arith in ap (λ m. controlled d (line_below d i m)) s)
+        ∙ sym (append-nil _),
+  )
   below_begins n (suc k) =
       let r = below_begins n k in
       let last : List ℕ = controlled d (cond (nat_eq (line d.events (n + k)) i) ((n + k) ∷ []) []) in (
         r.0 ++ last,
         (let s : n + suc k ≡ (n + k) + 1 = omega arith in ap (λ m. controlled d (line_below d i m)) s)
-            ∙ below_more (n + k) ∙ ap (λ l. l ++ last) r.1 ∙ append_assoc (controlled d (line_below d i n)) r.0 last,
+            ∙ below_more (n + k) ∙ ap (λ l. l ++ last) r.1
+            ∙ append_assoc (controlled d (line_below d i n)) r.0 last,
       )
 
   -- and so they begin those of the line
-  pub begins_line : (n : ℕ) → n ≤ length d.events → Begins (controlled d (line_below d i n)) (controlled d (line_events d i))
+  pub begins_line : (n : ℕ) → n ≤ length d.events
+      → Begins (controlled d (line_below d i n)) (controlled d (line_events d i))
   unfolding line_events
   begins_line n le =
-      let r = below_begins n (length d.events - n) in
-      (r.0, (let s : length d.events ≡ n + (length d.events - n) = omega arith in ap (λ m. controlled d (line_below d i m)) s) ∙ r.1)
+      let r = below_begins n (length d.events - n) in (
+        r.0,
+        (let s : length d.events ≡ n + (length d.events - n) = omega arith in
+            ap (λ m. controlled d (line_below d i m)) s) ∙ r.1,
+      )
 
   -- no event of the line is below its start
   pub none_below : (n : ℕ) → ((e : ℕ) → e < n → line d.events e ≢ i) → line_below d i n ≡ []
@@ -98,7 +113,8 @@ module _ (d : Drawing) (i : ℕ) where
       ∙ append-nil (line_below d i n) ∙ none_below n (λ e lt. none e (omega arith))
 
 -- One controlled event more in a log that has those of the line up to it.
-module _ (d : Drawing) (p : Post) (post : IsPost d p) (log : List ℕ) (next : ℕ) (is : IsNext d p log next) where
+module _ (d : Drawing) (p : Post) (post : IsPost d p) (log : List ℕ) (next : ℕ)
+    (is : IsNext d p log next) where
   -- the numbers from start to end are on the line
   pub on_post : (e : ℕ) → p.start ≤ e → e < p.end → (e < length d.events) × (line d.events e ≡ p.instance)
   on_post e from to =
@@ -106,7 +122,8 @@ module _ (d : Drawing) (p : Post) (post : IsPost d p) (log : List ℕ) (next : �
       (below, (post.line e below).1 (from, to))
 
   -- a controlled event of the line below next is logged
-  pub logged_below : (t : ℕ) → t < next → is_controlled d.events t ≡ true → line d.events t ≡ p.instance → occurs log t ≡ true
+  pub logged_below : (t : ℕ) → t < next → is_controlled d.events t ≡ true
+      → line d.events t ≡ p.instance → occurs log t ≡ true
   logged_below t lt yes' on =
       let there = kept (is_controlled d.events) (line_below d p.instance next) t
       (kept (λ e. nat_eq (line d.events e) p.instance) (range_with_len 0 next) t
@@ -118,16 +135,20 @@ module _ (d : Drawing) (p : Post) (post : IsPost d p) (log : List ℕ) (next : �
   not_logged t le yes' =
       fails (occurs log t) (λ there.
       let in' = kept (is_controlled d.events) log t there yes' in
-      let low = (passes (is_controlled d.events) (line_below d p.instance next) t (subst (λ l. occurs l t ≡ true) is.done in')).0 in
-      let r = in_range 0 next t (passes (λ e. nat_eq (line d.events e) p.instance) (range_with_len 0 next) t low).0 in
+      let low = (passes (is_controlled d.events) (line_below d p.instance next) t
+      (subst (λ l. occurs l t ≡ true) is.done in')).0 in
+      let r = in_range 0 next t
+      (passes (λ e. nat_eq (line d.events e) p.instance) (range_with_len 0 next) t low).0 in
       absurd (omega (arith, r.1)))
 
   -- no controlled event stands between them
-  pub next_moves : (to : ℕ) → next ≤ to → to ≤ p.end → ((e : ℕ) → next ≤ e → e < to → is_controlled d.events e ≡ false) → IsNext d p log to
+  pub next_moves : (to : ℕ) → next ≤ to → to ≤ p.end
+      → ((e : ℕ) → next ≤ e → e < to → is_controlled d.events e ≡ false) → IsNext d p log to
   next_moves to le within none = record {
     from = omega (arith, is.from);
     to = within;
-    done = is.done ∙ sym ((let s : to ≡ next + (to - next) = omega arith in ap (λ n. controlled d (line_below d p.instance n)) s)
+    done = is.done ∙ sym ((let s : to ≡ next + (to - next) = omega arith in
+        ap (λ n. controlled d (line_below d p.instance n)) s)
         ∙ below_skips d p.instance next (to - next) (λ e from lt. none e from (omega arith)));
   }
 
@@ -173,15 +194,20 @@ module _ (d : Drawing) (p : Post) (post : IsPost d p) (log : List ℕ) (next : �
     waits drawn s due = elim (cases_lt s next) [
       | inl lt ↦ clash (logged_below s lt due.controlled due.on_line) due.missing
       | inr ge ↦ elim (cases_lt next s) [
-        | inl gt ↦ clash (due.first next gt yes' (on_post next is.from within).1) (not_logged next (omega arith) yes')
+        | inl gt ↦ clash (due.first next gt yes' (on_post next is.from within).1)
+            (not_logged next (omega arith) yes')
         | inr le ↦
-            let same : next ≡ s = omega arith in
-            (first, subst (λ t. before d.events first t ≡ true) same drawn, missing (omega (arith, first_within)))
+            let same : next ≡ s = omega arith in (
+              first,
+              subst (λ t. before d.events first t ≡ true) same drawn,
+              missing (omega (arith, first_within)),
+            )
       ]
     ]
 
     -- where it is not, all that is drawn before the next controlled one is logged
-    pub ready : before d.events first next ≡ false → (x : ℕ) → before d.events x next ≡ true → occurs log x ≡ true
+    pub ready : before d.events first next ≡ false → (x : ℕ) → before d.events x next ≡ true
+        → occurs log x ≡ true
     ready none x drawn =
         let parts = before_parts d.events x next drawn in
         let here = on_post next is.from within in
@@ -191,12 +217,15 @@ module _ (d : Drawing) (p : Post) (post : IsPost d p) (log : List ℕ) (next : �
           | inr ge ↦
               let f = on_post first upto.from (omega (arith, first_within)) in
               let rise = post.laws.rise d first x post.accepted ge parts.0 (f.1 ∙ sym (parts.2 ∙ here.1)) in
-              clash (before_from d.events first next f.0 here.0 (f.1 ∙ sym here.1) (omega (arith, rise, parts.3))) none
+              clash (before_from d.events first next f.0 here.0 (f.1 ∙ sym here.1)
+              (omega (arith, rise, parts.3))) none
         ]
 
 -- one input more
-pub log_input : (d : Drawing) (p : Post) (log : List ℕ) (next e : ℕ) → IsPost d p → IsNext d p log next → IsLogOf d p.instance log
-    → e < length d.events → line d.events e ≡ p.instance → is_controlled d.events e ≡ false → occurs log e ≡ false
+pub log_input : (d : Drawing) (p : Post) (log : List ℕ) (next e : ℕ) → IsPost d p → IsNext d p log next
+    → IsLogOf d p.instance log
+    → e < length d.events → line d.events e ≡ p.instance → is_controlled d.events e ≡ false
+    → occurs log e ≡ false
     → IsLogOf d p.instance (log ++ e ∷ []) × IsNext d p (log ++ e ∷ []) next
 log_input d p log next e post is is_log event on no' new =
     let same = filter_no (is_controlled d.events) log e no' in (
@@ -206,14 +235,17 @@ log_input d p log next e post is is_log event on no' new =
     )
 
 -- what was logged stays logged
-pub upto_push : (p : Post) (log : List ℕ) (first e : ℕ) → HasUpTo p log first → HasUpTo p (log ++ e ∷ []) first
+pub upto_push : (p : Post) (log : List ℕ) (first e : ℕ) → HasUpTo p log first
+    → HasUpTo p (log ++ e ∷ []) first
 upto_push p log first e h =
     record { from = h.from; to = h.to; there = λ x from lt. occurs-left log (e ∷ []) x (h.there x from lt) }
 
 -- a log with one event more leaves room before it
-pub log_shorter : (d : Drawing) (i : ℕ) (log : List ℕ) (e : ℕ) → IsLogOf d i (log ++ e ∷ []) → length log < length (line_events d i)
+pub log_shorter : (d : Drawing) (i : ℕ) (log : List ℕ) (e : ℕ) → IsLogOf d i (log ++ e ∷ [])
+    → length log < length (line_events d i)
 log_shorter d i log e is = omega (arith, log_within d i (log ++ e ∷ []) is, length-append log (e ∷ []))
 
 -- all of the line up to its end
-pub whole : (d : Drawing) (p : Post) (log : List ℕ) → IsPost d p → HasUpTo p log p.end → IsWholeLog d p.instance log
+pub whole : (d : Drawing) (p : Post) (log : List ℕ) → IsPost d p → HasUpTo p log p.end
+    → IsWholeLog d p.instance log
 whole d p log post upto e below on = let r = (post.line e below).0 on in upto.there e r.0 r.1

@@ -15,7 +15,8 @@ unfolding occurs
 occurs-tail x xs e h = or_right (eqb x e) (occurs xs e) h
 
 -- what stands before a new event is all that came before it
-until-append-new : (past ys : List ℕ) (e : ℕ) → occurs past e ≡ false → until (past ++ ys) e ≡ past ++ until ys e
+until-append-new : (past ys : List ℕ) (e : ℕ) → occurs past e ≡ false
+    → until (past ++ ys) e ≡ past ++ until ys e
 unfolding occurs until
 until-append-new [] ys e h = refl
 until-append-new (x ∷ xs) ys e h =
@@ -31,19 +32,24 @@ until-new past rest e h =
     until-append-new past (e ∷ rest) e h ∙ ap (λ l. past ++ l) (until-head rest e) ∙ append-nil past
 
 -- what occurs in a filter occurs in the list, and passes
-pub in_filter : (p : ℕ → Bool) (xs : List ℕ) (e : ℕ) → occurs (filter p xs) e ≡ true → (occurs xs e ≡ true) × (p e ≡ true)
+pub in_filter : (p : ℕ → Bool) (xs : List ℕ) (e : ℕ) → occurs (filter p xs) e ≡ true
+    → (occurs xs e ≡ true) × (p e ≡ true)
 unfolding occurs
 in_filter p [] e h = clash h refl
 in_filter p (x ∷ xs) e h =
     by_test (p x)
     (λ passes. elim (or_cases (eqb x e) (occurs (filter p xs) e) (rw passes at h)) [
-      | inl same ↦ (or_left (eqb x e) (occurs xs e) same, subst (λ (z : ℕ). p z ≡ true) (eqb-true x e same) passes)
+      | inl same ↦ (
+        or_left (eqb x e) (occurs xs e) same,
+        subst (λ (z : ℕ). p z ≡ true) (eqb-true x e same) passes,
+      )
       | inr later ↦ let r = in_filter p xs e later in (or_right (eqb x e) (occurs xs e) r.0, r.1)
     ])
     (λ fails. let r = in_filter p xs e (rw fails at h) in (or_right (eqb x e) (occurs xs e) r.0, r.1))
 
 -- what occurs in a list and passes occurs in the filter
-pub into_filter : (p : ℕ → Bool) (xs : List ℕ) (e : ℕ) → occurs xs e ≡ true → p e ≡ true → occurs (filter p xs) e ≡ true
+pub into_filter : (p : ℕ → Bool) (xs : List ℕ) (e : ℕ) → occurs xs e ≡ true → p e ≡ true
+    → occurs (filter p xs) e ≡ true
 unfolding occurs
 into_filter p [] e h k = h
 into_filter p (x ∷ xs) e h k =
@@ -67,6 +73,8 @@ pub marks_more : (marks : List Bool) (xs : List ℕ) (x e : ℕ) {ys : List ℕ}
 marks_more marks xs x e long below marked is =
     subst (λ l. get_or (set marks x true) e false ≡ occurs l e) is
     (elim (cases_eq e x) [
-      | inl same ↦ get_or-set_at marks x e true false same (omega arith) ∙ sym (ap (λ z. occurs (xs ++ x ∷ []) z) same ∙ occurs-push xs x)
-      | inr other ↦ get_or-set_other marks x e true false other ∙ marked e below ∙ sym (occurs_other xs x e other)
+      | inl same ↦ get_or-set_at marks x e true false same (omega arith)
+          ∙ sym (ap (λ z. occurs (xs ++ x ∷ []) z) same ∙ occurs-push xs x)
+      | inr other ↦ get_or-set_other marks x e true false other ∙ marked e below
+          ∙ sym (occurs_other xs x e other)
     ])

@@ -12,8 +12,11 @@ use Rattle.msc_instance.specs.Active.{IsSound, IsQuiet, IsIdle, log_of, weight}
 pub record HasFoundNothing (d : Drawing) (p : Post) (k : ℕ) (a b : Active) : Type 0 where
   pub kept : log_of b ≡ log_of a
   pub same : weight d p b ≡ weight d p a
-  pub idle : (n : ℕ) → n < 4294967295 → All (λ (i : NumberedInlet). n ≤ i.1.idle) a.inlets.items → (j : ℕ) (i : NumberedInlet)
-      → j < length a.inlets.items → (n ≤ (get_or b.inlets.items j i).1.idle) × (j < k → n + 1 ≤ (get_or b.inlets.items j i).1.idle)
+  pub idle : (n : ℕ) → n < 4294967295 → All (λ (i : NumberedInlet). n ≤ i.1.idle) a.inlets.items
+      → (j : ℕ) (i : NumberedInlet)
+      → j < length a.inlets.items
+      → (n ≤ (get_or b.inlets.items j i).1.idle)
+      × (j < k → n + 1 ≤ (get_or b.inlets.items j i).1.idle)
 
 -- before the take on inlet k
 pub record IsTurn (d : Drawing) (p : Post) (k : ℕ) (found : Bool) (a b : Active) : Type 0 where
@@ -28,12 +31,19 @@ module _ (d : Drawing) (p : Post) where
     sound = s;
     inlets = refl;
     busy = λ h. clash h refl;
-    quiet = λ _. record { kept = refl; same = refl; idle = λ n few all j i lt. (all j i lt, λ low. absurd (omega arith)) };
+    quiet = λ _. record {
+      kept = refl;
+      same = refl;
+      idle = λ n few all j i lt.
+          (all j i lt, λ low. absurd (omega arith));
+    };
   }
 
-  module _ (k : ℕ) (found : Bool) (a b c : Active) (turn : IsTurn d p k found a b) (many : length c.inlets.items ≡ length b.inlets.items) where
+  module _ (k : ℕ) (found : Bool) (a b c : Active) (turn : IsTurn d p k found a b)
+      (many : length c.inlets.items ≡ length b.inlets.items) where
     -- a take that found nothing
-    pub turn_nothing : IsSound d p c → IsQuiet k b c → weight d p c ≡ weight d p b → IsTurn d p (k + 1) found a c
+    pub turn_nothing : IsSound d p c → IsQuiet k b c → weight d p c ≡ weight d p b
+        → IsTurn d p (k + 1) found a c
     turn_nothing s quiet same = record {
       sound = s;
       inlets = many ∙ turn.inlets;
@@ -44,7 +54,8 @@ module _ (d : Drawing) (p : Post) where
         idle = λ n few all j i lt. let low = was.idle n few all j i lt in
             elim (cases_eq j k) [
               | inl here ↦
-                  let now : (get_or c.inlets.items j i).1.idle ≡ min ((get_or b.inlets.items j i).1.idle + 1) 4294967295 =
+                  let now : (get_or c.inlets.items j i).1.idle
+                  ≡ min ((get_or b.inlets.items j i).1.idle + 1) 4294967295 =
                   ap (λ x. (get_or c.inlets.items x i).1.idle) here ∙ quiet.idle i
                   ∙ ap (λ x. min ((get_or b.inlets.items x i).1.idle + 1) 4294967295) (sym here) in
                   (omega (arith, now, low.0), λ _. omega (arith, now, low.0))
@@ -60,12 +71,14 @@ module _ (d : Drawing) (p : Post) where
     turn_busy s less = record {
       sound = s;
       inlets = many ∙ turn.inlets;
-      busy = λ _. by_test found (λ h. omega (arith, turn.busy h, less)) (λ h. omega (arith, (turn.quiet h).same, less));
+      busy = λ _. by_test found (λ h. omega (arith, turn.busy h, less))
+          (λ h. omega (arith, (turn.quiet h).same, less));
       quiet = λ h. clash refl h;
     }
 
   -- after all takes
-  pub all_idle : (k : ℕ) (a b : Active) → length b.inlets.items ≡ length a.inlets.items → length a.inlets.items ≤ k → HasFoundNothing d p k a b → IsIdle a b
+  pub all_idle : (k : ℕ) (a b : Active) → length b.inlets.items ≡ length a.inlets.items
+      → length a.inlets.items ≤ k → HasFoundNothing d p k a b → IsIdle a b
   all_idle k a b many all nothing = record {
     kept = nothing.kept;
     idle = λ n few was j i lt. (nothing.idle n few was j i (omega arith)).1 (omega arith);

@@ -16,13 +16,15 @@ use Rattle.msc_instance.specs.declared.active.Active.{Active}
 use Rattle.msc_instance.specs.declared.active.Post.{Post}
 use Rattle.msc_instance.specs.declared.journal.Journal.{Journal}
 use Rattle.msc_instance.specs.Steps.{ArePutBy, HasBegun}
-use Rattle.msc_instance.specs.Active.{IsSound, IsNext, HasPut, IsClosedFrom, log_of, post_role, first_ends}
+use Rattle.msc_instance.specs.Active.{IsSound, IsNext, HasPut, IsAscending, IsClosedFrom, log_of, post_role, first_ends}
+use Rattle.msc_instance.proofs.Finding.{sent_ascends}
 use Rattle.msc_instance.proofs.Logs.{on_post, not_logged, next_moves, log_due, log_shorter, upto_push}
 use Rattle.msc_instance.proofs.Kept.{state, outlet_number, outlet_numbers, has_room, begun_sent, begun_acted, begun_closed}
 
 module _ (d : Drawing) (p : Post) (a : Active) (s : IsSound d p a) where
   -- a look goes on along the line
-  pub looked : (next first : ℕ) → a.next ≤ next → next ≤ p.end → ((e : ℕ) → a.next ≤ e → e < next → is_controlled d.events e ≡ false)
+  pub looked : (next first : ℕ) → a.next ≤ next → next ≤ p.end
+      → ((e : ℕ) → a.next ≤ e → e < next → is_controlled d.events e ≡ false)
       → a.first ≤ first → first ≤ p.end → ((e : ℕ) → a.first ≤ e → e < first → occurs (log_of a) e ≡ true)
       → IsSound d p (record a { next = next; first = first })
   looked next first ahead to none from first_to there = record {
@@ -44,7 +46,8 @@ module _ (d : Drawing) (p : Post) (a : Active) (s : IsSound d p a) where
   -- the next output or local event, where all that is drawn before it is logged
   module _ (within : a.next < p.end) (due : is_controlled d.events a.next ≡ true)
       (ready : (x : ℕ) → before d.events x a.next ≡ true → occurs (log_of a) x ≡ true) where
-    pub due_log : IsLogOf d p.instance (log_of a ++ a.next ∷ []) × IsNext d p (log_of a ++ a.next ∷ []) (a.next + 1)
+    pub due_log : IsLogOf d p.instance (log_of a ++ a.next ∷ []) × IsNext d p (log_of a ++ a.next ∷ [])
+        (a.next + 1)
     due_log = log_due d p s.post (log_of a) a.next s.next within due s.begun.kept.log ready
 
     pub due_new : occurs (log_of a) a.next ≡ false
@@ -56,12 +59,14 @@ module _ (d : Drawing) (p : Post) (a : Active) (s : IsSound d p a) where
     not_shut : a.shut ≡ false
     not_shut = by_test a.shut (λ shut. absurd (omega (arith, s.closed shut))) (λ no'. no')
 
-    pub acted : is_local d.events a.next ≡ true → (journal : Journal) → journal.log.items ≡ log_of a ++ a.next ∷ []
+    pub acted : is_local d.events a.next ≡ true → (journal : Journal)
+        → journal.log.items ≡ log_of a ++ a.next ∷ []
         → vec_capacity journal.log ≡ vec_capacity a.journal.log
         → IsSound d p (record a { journal = journal; next = a.next + 1 })
     acted local journal noted room = record {
       post = s.post;
-      begun = rw noted (begun_acted (post_role d p) (first_ends p) a.shut a.outlets.items a.inlets.items (log_of a) a.clock a.next local due_new due_log.0 s.begun);
+      begun = rw noted (begun_acted (post_role d p) (first_ends p) a.shut a.outlets.items
+          a.inlets.items (log_of a) a.clock a.next local due_new due_log.0 s.begun);
       next = rw noted due_log.1;
       first = rw noted (upto_push p (log_of a) a.first a.next s.first);
       closed = λ shut. clash shut not_shut;
@@ -70,25 +75,49 @@ module _ (d : Drawing) (p : Post) (a : Active) (s : IsSound d p a) where
 
     -- where it is an output, it has an outlet with room
     module _ (output : is_output d.events a.next ≡ true) where
-      pub its_outlet : occurs (map outlet_number a.outlets.items) (queue_of p.queues d (message d.events a.next)) ≡ true
+      pub its_outlet : occurs (map outlet_number a.outlets.items)
+          (queue_of p.queues d (message d.events a.next)) ≡ true
       its_outlet =
           let on = on_post d p s.post (log_of a) a.next s.next a.next s.next.from within in
-          let put = subst (λ b. ArePutBy b (post_role d p) (log_of a) s.begun.reading (first_ends p).outlets a.outlets.items) not_shut s.begun.kept.put in
+          let put = subst (λ b. ArePutBy b (post_role d p) (log_of a) s.begun.reading
+          (first_ends p).outlets a.outlets.items) not_shut s.begun.kept.put in
           subst (λ l. occurs l (queue_of p.queues d (message d.events a.next)) ≡ true)
-          (sym (outlet_numbers (post_role d p) (first_ends p) s.post.fit (log_of a) s.begun.reading a.outlets.items put))
+          (sym (outlet_numbers (post_role d p) (first_ends p) s.post.fit (log_of a) s.begun.reading
+          a.outlets.items put))
           (s.post.laws.outlets p.queues d p.instance a.next s.post.accepted output on.1)
+
+      -- the numbers of the outlets ascend
+      pub its_outlets : IsAscending (map outlet_number a.outlets.items)
+      its_outlets =
+          let put = subst (λ b. ArePutBy b (post_role d p) (log_of a) s.begun.reading
+          (first_ends p).outlets a.outlets.items)
+          not_shut s.begun.kept.put in
+          subst IsAscending
+          (sym (outlet_numbers (post_role d p) (first_ends p) s.post.fit (log_of a) s.begun.reading
+          a.outlets.items put))
+          (sent_ascends (post_role d p))
 
       module _ (k : ℕ) (o : NumberedOutlet) (lt : k < length a.outlets.items)
           (here : (get_or a.outlets.items k o).0 ≡ queue_of p.queues d (message d.events a.next)) where
         pub its_room : HasRoom (get_or a.outlets.items k o).1
         its_room =
-            let put = subst (λ b. ArePutBy b (post_role d p) (log_of a) s.begun.reading (first_ends p).outlets a.outlets.items) not_shut s.begun.kept.put in
-            has_room (post_role d p) (first_ends p) s.post.fit (log_of a) s.begun.reading a.outlets.items k o a.next s.post.laws.quotas s.post.accepted
+            let put = subst (λ b. ArePutBy b (post_role d p) (log_of a) s.begun.reading
+            (first_ends p).outlets a.outlets.items) not_shut s.begun.kept.put in
+            has_room (post_role d p) (first_ends p) s.post.fit (log_of a) s.begun.reading
+            a.outlets.items k o a.next s.post.laws.quotas s.post.accepted
             due_log.0 output lt (sym here) put
 
-        pub has_sent : (new : NumberedOutlet) (now : ℕ) (journal : Journal) → HasPut (message d.events a.next) a.clock now (get_or a.outlets.items k o) new
-            → journal.log.items ≡ log_of a ++ a.next ∷ [] → vec_capacity journal.log ≡ vec_capacity a.journal.log
-            → IsSound d p (record a { outlets = with_item a.outlets k new; journal = journal; clock = now; next = a.next + 1 })
+        pub has_sent : (new : NumberedOutlet) (now : ℕ) (journal : Journal)
+            → HasPut (message d.events a.next) a.clock now (get_or a.outlets.items k o) new
+            → journal.log.items ≡ log_of a ++ a.next ∷ []
+            → vec_capacity journal.log ≡ vec_capacity a.journal.log
+            → IsSound d p (record a {
+              outlets = with_item a.outlets k new;
+              journal = journal;
+              clock =
+                  now;
+              next = a.next + 1;
+            })
         has_sent new now journal put noted room = record {
           post = s.post;
           begun = rw noted (begun_out put);
@@ -99,11 +128,18 @@ module _ (d : Drawing) (p : Post) (a : Active) (s : IsSound d p a) where
         }
           where
             begun_out : HasPut (message d.events a.next) a.clock now (get_or a.outlets.items k o) new
-                → HasBegun (post_role d p) (first_ends p) (state a.shut (set a.outlets.items k new) a.inlets.items (log_of a ++ a.next ∷ []) now)
+                → HasBegun (post_role d p) (first_ends p)
+                (state a.shut (set a.outlets.items k new) a.inlets.items (log_of a ++ a.next ∷ [])
+                now)
             begun_out put =
-                subst (λ b. HasBegun (post_role d p) (first_ends p) (state b (set a.outlets.items k new) a.inlets.items (log_of a ++ a.next ∷ []) now)) (sym not_shut)
-                (begun_sent (post_role d p) (first_ends p) a.outlets.items a.inlets.items (log_of a) a.clock k now a.next o new s.post.fit output due_new due_log.0 lt (sym here) put
-                (subst (λ b. HasBegun (post_role d p) (first_ends p) (state b a.outlets.items a.inlets.items (log_of a) a.clock)) not_shut s.begun))
+                subst (λ b. HasBegun (post_role d p) (first_ends p)
+                (state b (set a.outlets.items k new) a.inlets.items (log_of a ++ a.next ∷ []) now))
+                (sym not_shut)
+                (begun_sent (post_role d p) (first_ends p) a.outlets.items a.inlets.items
+                (log_of a) a.clock k now a.next o new s.post.fit output due_new due_log.0 lt
+                (sym here) put
+                (subst (λ b. HasBegun (post_role d p) (first_ends p)
+                (state b a.outlets.items a.inlets.items (log_of a) a.clock)) not_shut s.begun))
 
 -- a local event is controlled
 pub local_due : (d : Drawing) (e : ℕ) → is_local d.events e ≡ true → is_controlled d.events e ≡ true
@@ -115,7 +151,8 @@ local_due d e local =
     ]
 
 -- a controlled event is an output or a local event
-pub due_local : (d : Drawing) (e : ℕ) → is_controlled d.events e ≡ true → is_output d.events e ≡ false → is_local d.events e ≡ true
+pub due_local : (d : Drawing) (e : ℕ) → is_controlled d.events e ≡ true → is_output d.events e ≡ false
+    → is_local d.events e ≡ true
 due_local d e due none =
     by_test (is_local d.events e)
     (λ local. local)
@@ -125,12 +162,15 @@ due_local d e due none =
     ])
 
 -- the outlets are closed once all is done
-pub has_closed : (d : Drawing) (p : Post) (a : Active) (outs : Vec NumberedOutlet Global) → IsSound d p a → a.shut ≡ false → a.next ≡ p.end
+pub has_closed : (d : Drawing) (p : Post) (a : Active) (outs : Vec NumberedOutlet Global)
+    → IsSound d p a → a.shut ≡ false → a.next ≡ p.end
     → AllZip IsClosedFrom a.outlets.items outs.items → IsSound d p (record a { outlets = outs; shut = true })
 has_closed d p a outs s opened done closed = record {
   post = s.post;
-  begun = begun_closed (post_role d p) (first_ends p) a.outlets.items outs.items a.inlets.items (log_of a) a.clock closed
-      (subst (λ b. HasBegun (post_role d p) (first_ends p) (state b a.outlets.items a.inlets.items (log_of a) a.clock)) opened s.begun);
+  begun = begun_closed (post_role d p) (first_ends p) a.outlets.items outs.items a.inlets.items
+      (log_of a) a.clock closed
+      (subst (λ b. HasBegun (post_role d p) (first_ends p)
+      (state b a.outlets.items a.inlets.items (log_of a) a.clock)) opened s.begun);
   next = s.next;
   first = s.first;
   closed = λ _. done;

@@ -22,54 +22,84 @@ all_messages-append (Ended i ∷ es) fs = all_messages-append es fs
 
 module _ (r : Role) (log : List ℕ) (reading : Reading) (old new : NumberedOutlet) where
   pub begun : (reading : Reading) → old.1.closed ≡ false → IsPutBy r [] reading old old
-  begun reading open' = record { number = refl; same = (refl, refl, refl); put = sym (append-nil old.1.put); opened = open'; claims = sym (append-nil old.1.claims) }
+  begun reading open' = record {
+    number = refl;
+    same = (refl, refl, refl);
+    put =
+        sym (append-nil old.1.put);
+    opened = open';
+    claims = sym (append-nil old.1.claims);
+  }
 
   module _ (h : IsPutBy r log reading old new) (e k n : ℕ) (is_new : occurs log e ≡ false) where
     -- a send whose clock is the one along the log
-    pub sent : is_output r.chart.events e ≡ true → queue_of r.queues r.chart (message r.chart.events e) ≡ old.0
-        → (after : OutletState) → IsSameOutlet new.1 after → after.put ≡ new.1.put ++ message r.chart.events e ∷ [] → after.closed ≡ false
-        → after.claims ≡ new.1.claims ++ claim k (Message new.1.sender (message r.chart.events e)) (clock_along r.chart reading.read_at log + 1) n ∷ []
+    pub sent : is_output r.chart.events e ≡ true
+        → queue_of r.queues r.chart (message r.chart.events e) ≡ old.0
+        → (after : OutletState) → IsSameOutlet new.1 after
+        → after.put ≡ new.1.put ++ message r.chart.events e ∷ [] → after.closed ≡ false
+        → after.claims ≡ new.1.claims ++ claim k (Message new.1.sender (message r.chart.events e))
+        (clock_along r.chart reading.read_at log + 1) n ∷ []
         → IsPutBy r (log ++ e ∷ []) (with_event e k n reading) old (new.0, after)
     sent output here after same put open' claims =
         let sender : new.1.sender ≡ old.1.sender = h.same.1 in
-        let c : Claim = claim k (Message old.1.sender (message r.chart.events e)) (clock_along r.chart reading.read_at log + 1) n in
-        let cs : List Claim = map (claim_at r log reading old.1.sender) (outputs_at r.queues r.chart old.0 log) in
+        let c : Claim = claim k (Message old.1.sender (message r.chart.events e))
+        (clock_along r.chart reading.read_at log + 1) n in
+        let cs : List Claim = map (claim_at r log reading old.1.sender)
+        (outputs_at r.queues r.chart old.0 log) in
         let ms : List ℕ = map (message r.chart.events) (outputs_at r.queues r.chart old.0 log) in
         let own : after.claims ≡ new.1.claims ++ c ∷ [] =
-        claims ∙ ap (λ (i : ℕ). new.1.claims ++ claim k (Message i (message r.chart.events e)) (clock_along r.chart reading.read_at log + 1) n ∷ []) sender in
+        claims ∙ ap (λ (i : ℕ). new.1.claims ++ claim k (Message i (message r.chart.events e))
+        (clock_along r.chart reading.read_at log + 1) n ∷ []) sender in
         record {
           number = h.number;
           same = (same.0 ∙ h.same.0, same.1 ∙ h.same.1, same.2 ∙ h.same.2);
-          put = put ∙ ap (λ l. l ++ message r.chart.events e ∷ []) h.put ∙ append_assoc old.1.put ms (message r.chart.events e ∷ [])
-              ∙ ap (λ l. old.1.put ++ l) (sym (ap (map (message r.chart.events)) (outputs_more r log e old.0 output here) ∙ map_push (message r.chart.events) (outputs_at r.queues r.chart old.0 log) e));
+          put = put ∙ ap (λ l. l ++ message r.chart.events e ∷ []) h.put
+              ∙ append_assoc old.1.put ms (message r.chart.events e ∷ [])
+              ∙ ap (λ l. old.1.put ++ l)
+              (sym (ap (map (message r.chart.events)) (outputs_more r log e old.0 output here)
+              ∙ map_push (message r.chart.events) (outputs_at r.queues r.chart old.0 log) e));
           opened = open';
-          claims = own ∙ ap (λ l. l ++ c ∷ []) h.claims ∙ append_assoc old.1.claims cs (c ∷ []) ∙ ap (λ l. old.1.claims ++ l) (sym (sent_more r reading log e k n is_new old.1.sender old.0 output here));
+          claims = own ∙ ap (λ l. l ++ c ∷ []) h.claims ∙ append_assoc old.1.claims cs (c ∷ [])
+              ∙ ap (λ l. old.1.claims ++ l)
+              (sym (sent_more r reading log e k n is_new old.1.sender old.0 output here));
         }
 
     -- any other event
-    pub stayed : (is_output r.chart.events e ≡ true → queue_of r.queues r.chart (message r.chart.events e) ≡ old.0 → ⊥)
+    pub stayed : (is_output r.chart.events e ≡ true
+        → queue_of r.queues r.chart (message r.chart.events e) ≡ old.0 → ⊥)
         → IsPutBy r (log ++ e ∷ []) (with_event e k n reading) old new
     stayed other = record {
       number = h.number;
       same = h.same;
-      put = h.put ∙ ap (λ l. old.1.put ++ map (message r.chart.events) l) (sym (outputs_same r log e old.0 other));
+      put = h.put ∙ ap (λ l. old.1.put ++ map (message r.chart.events) l)
+          (sym (outputs_same r log e old.0 other));
       opened = h.opened;
-      claims = h.claims ∙ ap (λ l. old.1.claims ++ l) (sym (sent_same r reading log e k n is_new old.1.sender old.0 other));
+      claims = h.claims ∙ ap (λ l. old.1.claims ++ l)
+          (sym (sent_same r reading log e k n is_new old.1.sender old.0 other));
     }
 
   -- a close
-  pub closed : IsPutBy r log reading old new → (after : OutletState) (place : ℕ) → IsSameOutlet new.1 after → after.put ≡ new.1.put → after.closed ≡ true
-      → after.claims ≡ new.1.claims ++ claim place (Ended new.1.sender) 0 0 ∷ [] → IsLeftBy r log reading old (new.0, after)
+  pub closed : IsPutBy r log reading old new → (after : OutletState) (place : ℕ)
+      → IsSameOutlet new.1 after → after.put ≡ new.1.put → after.closed ≡ true
+      → after.claims ≡ new.1.claims ++ claim place (Ended new.1.sender) 0 0 ∷ []
+      → IsLeftBy r log reading old (new.0, after)
   closed h after place same put is claims =
       let sender : new.1.sender ≡ old.1.sender = h.same.1 in
-      let cs : List Claim = map (claim_at r log reading old.1.sender) (outputs_at r.queues r.chart old.0 log) in
-      let own : after.claims ≡ new.1.claims ++ claim place (Ended old.1.sender) 0 0 ∷ [] = claims ∙ ap (λ (i : ℕ). new.1.claims ++ claim place (Ended i) 0 0 ∷ []) sender in
+      let cs : List Claim = map (claim_at r log reading old.1.sender)
+      (outputs_at r.queues r.chart old.0 log) in
+      let own : after.claims ≡ new.1.claims ++ claim place (Ended old.1.sender) 0 0 ∷ [] = claims
+      ∙ ap (λ (i : ℕ). new.1.claims ++ claim place (Ended i) 0 0 ∷ []) sender in
       record {
         number = h.number;
         same = (same.0 ∙ h.same.0, same.1 ∙ h.same.1, same.2 ∙ h.same.2);
         put = put ∙ h.put;
         closed = is;
-        claims = λ open'. (place, own ∙ ap (λ l. l ++ claim place (Ended old.1.sender) 0 0 ∷ []) h.claims ∙ append_assoc old.1.claims cs (claim place (Ended old.1.sender) 0 0 ∷ []));
+        claims = λ open'. (
+          place,
+          own
+              ∙ ap (λ l. l ++ claim place (Ended old.1.sender) 0 0 ∷ []) h.claims
+              ∙ append_assoc old.1.claims cs (claim place (Ended old.1.sender) 0 0 ∷ []),
+        );
       }
 
   -- an event that is no output of this queue, when it is closed
@@ -79,7 +109,8 @@ module _ (r : Role) (log : List ℕ) (reading : Reading) (old new : NumberedOutl
   left_stayed h e k n is_new other = record {
     number = h.number;
     same = h.same;
-    put = h.put ∙ ap (λ l. old.1.put ++ map (message r.chart.events) l) (sym (outputs_same r log e old.0 other));
+    put = h.put ∙ ap (λ l. old.1.put ++ map (message r.chart.events) l)
+        (sym (outputs_same r log e old.0 other));
     closed = h.closed;
     claims = λ open'. let was = h.claims open' in (
       was.0,
@@ -90,12 +121,23 @@ module _ (r : Role) (log : List ℕ) (reading : Reading) (old new : NumberedOutl
 
 module _ (r : Role) (log : List ℕ) (reading : Reading) (old new : NumberedInlet) where
   pub begun_in : (reading : Reading) → IsGotBy r [] reading old old
-  begun_in reading = record { number = refl; same = (refl, refl); got = sym (append-nil (all_messages old.1.got)); clocks = sym (append-nil (clocks_at old.1.got old.1.clocks)) }
+  begun_in reading = record {
+    number = refl;
+    same = (refl, refl);
+    got =
+        sym (append-nil (all_messages old.1.got));
+    clocks =
+        sym (append-nil (clocks_at old.1.got old.1.clocks));
+  }
 
   module _ (h : IsGotBy r log reading old new) where
     -- a take of the message of an input, which is logged
-    pub took : length new.1.clocks ≡ length new.1.got → (e k n i : ℕ) → occurs log e ≡ false → is_input r.chart.events e ≡ true → queue_of r.queues r.chart (message r.chart.events e) ≡ old.0
-        → (after : InletState) → IsSameInlet new.1 after → after.got ≡ new.1.got ++ Message i (message r.chart.events e) ∷ [] → after.clocks ≡ new.1.clocks ++ n ∷ []
+    pub took : length new.1.clocks ≡ length new.1.got → (e k n i : ℕ) → occurs log e ≡ false
+        → is_input r.chart.events e ≡ true
+        → queue_of r.queues r.chart (message r.chart.events e) ≡ old.0
+        → (after : InletState) → IsSameInlet new.1 after
+        → after.got ≡ new.1.got ++ Message i (message r.chart.events e) ∷ []
+        → after.clocks ≡ new.1.clocks ++ n ∷ []
         → IsGotBy r (log ++ e ∷ []) (with_event e k n reading) old (new.0, after)
     took even e k n i is_new input here after same got clocks =
         let ms : List ℕ = map (message r.chart.events) (inputs_at r.queues r.chart old.0 log) in
@@ -103,32 +145,47 @@ module _ (r : Role) (log : List ℕ) (reading : Reading) (old new : NumberedInle
         record {
           number = h.number;
           same = (same.0 ∙ h.same.0, same.1 ∙ h.same.1);
-          got = ap all_messages got ∙ all_messages-append new.1.got (Message i (message r.chart.events e) ∷ []) ∙ ap (λ l. l ++ message r.chart.events e ∷ []) h.got
+          got = ap all_messages got
+              ∙ all_messages-append new.1.got (Message i (message r.chart.events e) ∷ [])
+              ∙ ap (λ l. l ++ message r.chart.events e ∷ []) h.got
               ∙ append_assoc (all_messages old.1.got) ms (message r.chart.events e ∷ [])
-              ∙ ap (λ l. all_messages old.1.got ++ l) (sym (ap (map (message r.chart.events)) (inputs_more r log e old.0 input here) ∙ map_push (message r.chart.events) (inputs_at r.queues r.chart old.0 log) e));
-          clocks = (λ j. clocks_at (got j) (clocks j)) ∙ clocks_message new.1.got new.1.clocks i (message r.chart.events e) n even ∙ ap (λ l. l ++ n ∷ []) h.clocks
+              ∙ ap (λ l. all_messages old.1.got ++ l)
+              (sym (ap (map (message r.chart.events)) (inputs_more r log e old.0 input here)
+              ∙ map_push (message r.chart.events) (inputs_at r.queues r.chart old.0 log) e));
+          clocks = (λ j. clocks_at (got j) (clocks j))
+              ∙ clocks_message new.1.got new.1.clocks i (message r.chart.events e) n even
+              ∙ ap (λ l. l ++ n ∷ []) h.clocks
               ∙ append_assoc (clocks_at old.1.got old.1.clocks) ns (n ∷ [])
-              ∙ ap (λ l. clocks_at old.1.got old.1.clocks ++ l) (sym (read_more r reading log e k n is_new 0 old.0 input here));
+              ∙ ap (λ l. clocks_at old.1.got old.1.clocks ++ l)
+              (sym (read_more r reading log e k n is_new 0 old.0 input here));
         }
 
     -- a take of an end mark
-    pub ended : length new.1.clocks ≡ length new.1.got → (i n : ℕ) (after : InletState) → IsSameInlet new.1 after → after.got ≡ new.1.got ++ Ended i ∷ [] → after.clocks ≡ new.1.clocks ++ n ∷ [] → IsGotBy r log reading old (new.0, after)
+    pub ended : length new.1.clocks ≡ length new.1.got → (i n : ℕ) (after : InletState)
+        → IsSameInlet new.1 after → after.got ≡ new.1.got ++ Ended i ∷ []
+        → after.clocks ≡ new.1.clocks ++ n ∷ [] → IsGotBy r log reading old (new.0, after)
     ended even i n after same got clocks =
         record {
           number = h.number;
           same = (same.0 ∙ h.same.0, same.1 ∙ h.same.1);
-          got = ap all_messages got ∙ all_messages-append new.1.got (Ended i ∷ []) ∙ append-nil (all_messages new.1.got) ∙ h.got;
-          clocks = (λ j. clocks_at (got j) (clocks j)) ∙ clocks_ended new.1.got new.1.clocks i n even ∙ h.clocks;
+          got = ap all_messages got ∙ all_messages-append new.1.got (Ended i ∷ [])
+              ∙ append-nil (all_messages new.1.got) ∙ h.got;
+          clocks = (λ j. clocks_at (got j) (clocks j)) ∙ clocks_ended new.1.got new.1.clocks i n even
+              ∙ h.clocks;
         }
 
     -- any other event
-    pub stayed_in : (e k n : ℕ) → occurs log e ≡ false → (is_input r.chart.events e ≡ true → queue_of r.queues r.chart (message r.chart.events e) ≡ old.0 → ⊥)
+    pub stayed_in : (e k n : ℕ) → occurs log e ≡ false
+        → (is_input r.chart.events e ≡ true
+        → queue_of r.queues r.chart (message r.chart.events e) ≡ old.0 → ⊥)
         → IsGotBy r (log ++ e ∷ []) (with_event e k n reading) old new
     stayed_in e k n is_new other = record {
       number = h.number;
       same = h.same;
-      got = h.got ∙ ap (λ l. all_messages old.1.got ++ map (message r.chart.events) l) (sym (inputs_same r log e old.0 other));
-      clocks = h.clocks ∙ ap (λ l. clocks_at old.1.got old.1.clocks ++ l) (sym (read_same r reading log e k n is_new 0 old.0 other));
+      got = h.got ∙ ap (λ l. all_messages old.1.got ++ map (message r.chart.events) l)
+          (sym (inputs_same r log e old.0 other));
+      clocks = h.clocks ∙ ap (λ l. clocks_at old.1.got old.1.clocks ++ l)
+          (sym (read_same r reading log e k n is_new 0 old.0 other));
     }
 
     -- the end, with nothing strange in the queue
@@ -144,7 +201,9 @@ module _ (r : Role) (log : List ℕ) (reading : Reading) (old new : NumberedInle
         }
 
     -- the end, with a strange message in the queue
-    pub done_strange : length new.1.clocks ≡ length new.1.got → (strange : ℕ → List ℕ) (i m n : ℕ) (after : InletState) → IsSameInlet new.1 after → after.got ≡ new.1.got ++ Message i m ∷ [] → after.clocks ≡ new.1.clocks ++ n ∷ []
+    pub done_strange : length new.1.clocks ≡ length new.1.got
+        → (strange : ℕ → List ℕ) (i m n : ℕ) (after : InletState) → IsSameInlet new.1 after
+        → after.got ≡ new.1.got ++ Message i m ∷ [] → after.clocks ≡ new.1.clocks ++ n ∷ []
         → strange old.0 ≡ m ∷ [] → HasTaken r log reading strange old (new.0, after)
     done_strange even strange i m n after same got clocks one =
         let ms : List ℕ = map (message r.chart.events) (inputs_at r.queues r.chart old.0 log) in
@@ -152,7 +211,13 @@ module _ (r : Role) (log : List ℕ) (reading : Reading) (old new : NumberedInle
         record {
           number = h.number;
           same = (same.0 ∙ h.same.0, same.1 ∙ h.same.1);
-          got = ap all_messages got ∙ all_messages-append new.1.got (Message i m ∷ []) ∙ ap (λ l. l ++ m ∷ []) h.got ∙ append_assoc (all_messages old.1.got) ms (m ∷ [])
+          got = ap all_messages got ∙ all_messages-append new.1.got (Message i m ∷ [])
+              ∙ ap (λ l. l ++ m ∷ []) h.got ∙ append_assoc (all_messages old.1.got) ms (m ∷ [])
               ∙ ap (λ l. all_messages old.1.got ++ (ms ++ l)) (sym one);
-          clocks = (n ∷ [], (λ j. clocks_at (got j) (clocks j)) ∙ clocks_message new.1.got new.1.clocks i m n even ∙ ap (λ l. l ++ n ∷ []) h.clocks ∙ append_assoc (clocks_at old.1.got old.1.clocks) ns (n ∷ []));
+          clocks = (
+            n ∷ [],
+            (λ j. clocks_at (got j) (clocks j))
+                ∙ clocks_message new.1.got new.1.clocks i m n even ∙ ap (λ l. l ++ n ∷ []) h.clocks
+                ∙ append_assoc (clocks_at old.1.got old.1.clocks) ns (n ∷ []),
+          );
         }

@@ -25,15 +25,18 @@ use Rattle.msc_instance.proofs.Logs.{log_input, log_shorter, upto_push}
 use Rattle.msc_instance.proofs.Kept.{inlet_number, inlet_numbers, number_there, begun_took, begun_ended, begun_nothing, comes_strange}
 
 -- the events of the line that are not logged become fewer
-left_fewer : (d : Drawing) (i : ℕ) (log after : List ℕ) (e : ℕ) → IsLogOf d i (log ++ e ∷ []) → after ≡ log ++ e ∷ []
+left_fewer : (d : Drawing) (i : ℕ) (log after : List ℕ) (e : ℕ) → IsLogOf d i (log ++ e ∷ [])
+    → after ≡ log ++ e ∷ []
     → (length (line_events d i) - length after) + 1 ≡ length (line_events d i) - length log
 left_fewer d i log after e is same =
     let short = log_shorter d i log e is in
     let long = ap length same ∙ length-append log (e ∷ []) in
     omega (arith, short, long)
 
-module _ (d : Drawing) (p : Post) (a : Active) (s : IsSound d p a) (k : ℕ) (n new : NumberedInlet) (lt : k < length a.inlets.items) where
-  sums : sum_by (λ (x : NumberedInlet). unended_in x.1) (set a.inlets.items k new) + unended_in (get_or a.inlets.items k n).1
+module _ (d : Drawing) (p : Post) (a : Active) (s : IsSound d p a) (k : ℕ) (n new : NumberedInlet)
+    (lt : k < length a.inlets.items) where
+  sums : sum_by (λ (x : NumberedInlet). unended_in x.1) (set a.inlets.items k new) + unended_in
+      (get_or a.inlets.items k n).1
       ≡ sum_by (λ (x : NumberedInlet). unended_in x.1) a.inlets.items + unended_in new.1
   sums = sum_by-set (λ (x : NumberedInlet). unended_in x.1) a.inlets.items k new n lt
 
@@ -45,7 +48,8 @@ module _ (d : Drawing) (p : Post) (a : Active) (s : IsSound d p a) (k : ℕ) (n 
   took_nothing got = (
     record {
       post = s.post;
-      begun = begun_nothing (post_role d p) (first_ends p) a.shut a.outlets.items a.inlets.items (log_of a) a.clock k n new lt got s.begun;
+      begun = begun_nothing (post_role d p) (first_ends p) a.shut a.outlets.items a.inlets.items
+          (log_of a) a.clock k n new lt got s.begun;
       next = s.next;
       first = s.first;
       closed = s.closed;
@@ -54,7 +58,8 @@ module _ (d : Drawing) (p : Post) (a : Active) (s : IsSound d p a) (k : ℕ) (n 
     record {
       kept = refl;
       idle = λ m. ap (λ (x : NumberedInlet). x.1.idle) (get_or-set_same a.inlets.items k new m lt) ∙ got.idle
-          ∙ ap (λ (x : NumberedInlet). min (x.1.idle + 1) 4294967295) (get_or_default a.inlets.items k n m lt);
+          ∙ ap (λ (x : NumberedInlet). min (x.1.idle + 1) 4294967295)
+          (get_or_default a.inlets.items k n m lt);
       others = λ j m other. get_or-set_other a.inlets.items k j new m other;
     },
     omega (arith, sums, got.unended),
@@ -67,7 +72,8 @@ module _ (d : Drawing) (p : Post) (a : Active) (s : IsSound d p a) (k : ℕ) (n 
   took_ended i got = (
     record {
       post = s.post;
-      begun = begun_ended (post_role d p) (first_ends p) a.shut a.outlets.items a.inlets.items (log_of a) a.clock k i n new lt got s.begun;
+      begun = begun_ended (post_role d p) (first_ends p) a.shut a.outlets.items a.inlets.items
+          (log_of a) a.clock k i n new lt got s.begun;
       next = s.next;
       first = s.first;
       closed = s.closed;
@@ -77,61 +83,84 @@ module _ (d : Drawing) (p : Post) (a : Active) (s : IsSound d p a) (k : ℕ) (n 
   )
 
   -- a message that is strange
-  pub took_strange : (i m place now : ℕ) → HasGot a.clock (took.Message i m place now) (get_or a.inlets.items k n) new
+  pub took_strange : (i m place now : ℕ)
+      → HasGot a.clock (took.Message i m place now) (get_or a.inlets.items k n) new
       → IsStrange (post_role d p) (get_or a.inlets.items k n).0 (log_of a) m
-      → (open' : Bool) (patience : ℕ) → EndsSo d p open' patience (record a { inlets = with_item a.inlets k new }) (end.Foreign m)
+      → (open' : Bool) (patience : ℕ)
+      → EndsSo d p open' patience (record a { inlets = with_item a.inlets k new }) (end.Foreign m)
   took_strange i m place now got odd open' patience =
-      comes_strange (post_role d p) open' patience (first_ends p) a.shut a.outlets.items a.inlets.items (log_of a) a.clock k i m place now n new
+      comes_strange (post_role d p) open' patience (first_ends p) a.shut a.outlets.items a.inlets.items
+      (log_of a) a.clock k i m place now n new
       s.post.fit lt got odd s.begun
 
   -- a message of the chart in the queue whose input is not logged
-  module _ (m : ℕ) (known : m < length d.messages) (here : queue_of p.queues d m ≡ (get_or a.inlets.items k n).0)
+  module _ (m : ℕ) (known : m < length d.messages)
+      (here : queue_of p.queues d m ≡ (get_or a.inlets.items k n).0)
       (fresh : occurs (log_of a) (input_of d m) ≡ false) where
     its_line : line d.events (input_of d m) ≡ p.instance
     unfolding receiver_of
     its_line =
-        let numbers = inlet_numbers (post_role d p) (first_ends p) s.post.fit (log_of a) s.begun.reading a.inlets.items s.begun.kept.got in
-        let there = subst (λ l. occurs l (get_or a.inlets.items k n).0 ≡ true) numbers (number_there a.inlets.items k n lt) in
+        let numbers = inlet_numbers (post_role d p) (first_ends p) s.post.fit
+        (log_of a) s.begun.reading a.inlets.items s.begun.kept.got in
+        let there = subst (λ l. occurs l (get_or a.inlets.items k n).0 ≡ true) numbers
+        (number_there a.inlets.items k n lt) in
         s.post.laws.own p.queues d (get_or a.inlets.items k n).0 p.instance m s.post.accepted there known here
 
     pub its_event : input_of d m < length d.events
     its_event = (input_parts d.events (input_of d m) (input_is p.queues d s.post.accepted m known).0).0
 
-    input_log : IsLogOf d p.instance (log_of a ++ input_of d m ∷ []) × IsNext d p (log_of a ++ input_of d m ∷ []) a.next
+    input_log : IsLogOf d p.instance (log_of a ++ input_of d m ∷ [])
+        × IsNext d p (log_of a ++ input_of d m ∷ []) a.next
     input_log =
         let input = (input_is p.queues d s.post.accepted m known).0 in
         log_input d p (log_of a) a.next (input_of d m) s.post s.next s.begun.kept.log its_event its_line
-        (fails (is_controlled d.events (input_of d m)) (λ c. controlled_no_input d.events (input_of d m) c input)) fresh
+        (fails (is_controlled d.events (input_of d m))
+        (λ c. controlled_no_input d.events (input_of d m) c input)) fresh
 
     pub input_fits : length (log_of a) < vec_capacity a.journal.log
     input_fits = omega (arith, log_shorter d p.instance (log_of a) (input_of d m) input_log.0, s.room)
 
-    pub took_input : (i place now : ℕ) (journal : Journal) → HasGot a.clock (took.Message i m place now) (get_or a.inlets.items k n) new
-        → journal.log.items ≡ log_of a ++ input_of d m ∷ [] → vec_capacity journal.log ≡ vec_capacity a.journal.log
+    pub took_input : (i place now : ℕ) (journal : Journal)
+        → HasGot a.clock (took.Message i m place now) (get_or a.inlets.items k n) new
+        → journal.log.items ≡ log_of a ++ input_of d m ∷ []
+        → vec_capacity journal.log ≡ vec_capacity a.journal.log
         → IsSound d p (record a { inlets = with_item a.inlets k new; journal = journal; clock = now })
-        × (weight d p (record a { inlets = with_item a.inlets k new; journal = journal; clock = now }) < weight d p a)
+        × (weight d p (record a { inlets = with_item a.inlets k new; journal = journal; clock = now })
+        < weight d p a)
     took_input i place now journal got noted room =
         let is = input_is p.queues d s.post.accepted m known in
-        let at : queue_of p.queues d (message d.events (input_of d m)) ≡ (get_or a.inlets.items k n).0 = ap (queue_of p.queues d) is.1 ∙ here in
-        let got2 = subst (λ (x : ℕ). HasGot a.clock (took.Message i x place now) (get_or a.inlets.items k n) new) (sym is.1) got in (
+        let at : queue_of p.queues d (message d.events (input_of d m))
+        ≡ (get_or a.inlets.items k n).0 = ap (queue_of p.queues d) is.1 ∙ here in
+        let got2 = subst (λ (x : ℕ).
+        HasGot a.clock (took.Message i x place now) (get_or a.inlets.items k n) new)
+        (sym is.1) got in (
           record {
             post = s.post;
-            begun = rw noted (begun_took (post_role d p) (first_ends p) a.shut a.outlets.items a.inlets.items (log_of a) a.clock k (input_of d m) i place now n new
+            begun = rw noted (begun_took (post_role d p) (first_ends p) a.shut a.outlets.items
+                a.inlets.items (log_of a) a.clock k (input_of d m) i place now n new
                 s.post.fit is.0 fresh input_log.0 lt at got2 s.begun);
             next = rw noted input_log.1;
             first = rw noted (upto_push p (log_of a) a.first (input_of d m) s.first);
             closed = s.closed;
             room = omega (arith, room, s.room);
           },
-          omega (arith, sums, got.unended, left_fewer d p.instance (log_of a) journal.log.items (input_of d m) input_log.0 noted),
+          omega (
+            arith,
+            sums,
+            got.unended,
+            left_fewer d p.instance (log_of a) journal.log.items
+                (input_of d m) input_log.0 noted,
+          ),
         )
 
 -- inlet k has one number, whatever stands for what is not there
-pub queue_here : (ins : List NumberedInlet) (k : ℕ) (x n : NumberedInlet) → k < length ins → x ≡ get_or ins k x → x.0 ≡ (get_or ins k n).0
+pub queue_here : (ins : List NumberedInlet) (k : ℕ) (x n : NumberedInlet) → k < length ins
+    → x ≡ get_or ins k x → x.0 ≡ (get_or ins k n).0
 queue_here ins k x n lt is = ap inlet_number (is ∙ get_or_default ins k x n lt)
 
 -- inputs are events of the chart, of which there are few
-pub event_in : (d : Drawing) (p : Post) (a : Active) → IsSound d p a → (m : ℕ) → m < length d.messages → input_of d m < 3072
+pub event_in : (d : Drawing) (p : Post) (a : Active) → IsSound d p a → (m : ℕ) → m < length d.messages
+    → input_of d m < 3072
 event_in d p a s m known =
     let below = (input_parts d.events (input_of d m) (input_is p.queues d s.post.accepted m known).0).0 in
     omega (arith, below, s.post.accepted.few_events)

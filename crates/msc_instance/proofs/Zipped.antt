@@ -7,14 +7,16 @@ use Rattle.msc_gather.proofs.Apart.{Apart}
 use Rattle.msc_execution.proofs.Lists.Words.{at_head, in_tail, fails}
 
 -- a wider relation holds too
-pub zip_map : {X Y : Type 0} (R S : X → Y → Type 0) (xs : List X) (ys : List Y) → ((x : X) (y : Y) → R x y → S x y) → AllZip R xs ys → AllZip S xs ys
+pub zip_map : {X Y : Type 0} (R S : X → Y → Type 0) (xs : List X) (ys : List Y)
+    → ((x : X) (y : Y) → R x y → S x y) → AllZip R xs ys → AllZip S xs ys
 zip_map R S [] [] f h = tt
 zip_map R S [] (y ∷ ys) f h = absurd h
 zip_map R S (x ∷ xs) [] f h = absurd h
 zip_map R S (x ∷ xs) (y ∷ ys) f h = (f x y h.0, zip_map R S xs ys f h.1)
 
 -- one relation after the other
-pub zip_after : {X : Type 0} (R S T : X → X → Type 0) (xs ys zs : List X) → ((x y z : X) → R x y → S y z → T x z)
+pub zip_after : {X : Type 0} (R S T : X → X → Type 0) (xs ys zs : List X)
+    → ((x y z : X) → R x y → S y z → T x z)
     → AllZip R xs ys → AllZip S ys zs → AllZip T xs zs
 zip_after R S T [] [] [] f h k = tt
 zip_after R S T [] [] (z ∷ zs) f h k = absurd k
@@ -29,7 +31,8 @@ zip_self R [] f = tt
 zip_self R (x ∷ xs) f = (f x, zip_self R xs f)
 
 -- numbers that agree place by place are one list
-pub zip_numbers : {X : Type 0} (R : X → X → Type 0) (num : X → ℕ) (xs ys : List X) → ((x y : X) → R x y → num y ≡ num x)
+pub zip_numbers : {X : Type 0} (R : X → X → Type 0) (num : X → ℕ) (xs ys : List X)
+    → ((x y : X) → R x y → num y ≡ num x)
     → AllZip R xs ys → map num ys ≡ map num xs
 zip_numbers R num [] [] f h = refl
 zip_numbers R num [] (y ∷ ys) f h = absurd h
@@ -40,18 +43,22 @@ zip_numbers R num (x ∷ xs) (y ∷ ys) f h =
 
 -- all but those of number q
 zip_others : {X : Type 0} (R S : X → X → Type 0) (num : X → ℕ) (q : ℕ) (xs ys : List X)
-    → ((x y : X) → R x y → num x ≢ q → S x y) → occurs (map num xs) q ≡ false → AllZip R xs ys → AllZip S xs ys
+    → ((x y : X) → R x y → num x ≢ q → S x y) → occurs (map num xs) q ≡ false → AllZip R xs ys
+    → AllZip S xs ys
 zip_others R S num q [] [] f none h = tt
 zip_others R S num q [] (y ∷ ys) f none h = absurd h
 zip_others R S num q (x ∷ xs) [] f none h = absurd h
 zip_others R S num q (x ∷ xs) (y ∷ ys) f none h = (
-  f x y h.0 (λ same. clash (subst (λ (k : ℕ). occurs (num x ∷ map num xs) k ≡ true) same (at_head (num x) (map num xs))) none),
-  zip_others R S num q xs ys f (fails (occurs (map num xs) q) (λ there. clash (in_tail (num x) (map num xs) q there) none)) h.1,
+  f x y h.0 (λ same. clash (subst (λ (k : ℕ). occurs (num x ∷ map num xs) k ≡ true) same
+      (at_head (num x) (map num xs))) none),
+  zip_others R S num q xs ys f
+      (fails (occurs (map num xs) q) (λ there. clash (in_tail (num x) (map num xs) q there) none)) h.1,
 )
 
 -- the number at a place is one of the numbers
 zip_number : {X : Type 0} (R : X → X → Type 0) (num : X → ℕ) (q : ℕ) (xs ys : List X) (k : ℕ) (y : X)
-    → ((x : X) → R x (get_or ys k y) → num x ≡ q) → k < length ys → AllZip R xs ys → occurs (map num xs) q ≡ true
+    → ((x : X) → R x (get_or ys k y) → num x ≡ q) → k < length ys → AllZip R xs ys
+    → occurs (map num xs) q ≡ true
 zip_number R num q [] [] k y f lt h = absurd (omega arith)
 zip_number R num q [] (z ∷ ys) k y f lt h = absurd h
 zip_number R num q (x ∷ xs) [] k y f lt h = absurd h
@@ -70,11 +77,15 @@ pub zip_one : {X : Type 0} (R S : X → X → Type 0) (num : X → ℕ) (q : ℕ
 zip_one R S num q [] [] k y new lt once is own others h = absurd (omega arith)
 zip_one R S num q [] (z ∷ ys) k y new lt once is own others h = absurd h
 zip_one R S num q (x ∷ xs) [] k y new lt once is own others h = absurd h
-zip_one R S num q (x ∷ xs) (z ∷ ys) zero y new lt once is own others h =
-    (own x h.0, zip_others R S num q xs ys others (subst (λ (k : ℕ). occurs (map num xs) k ≡ false) (is x h.0) once.0) h.1)
+zip_one R S num q (x ∷ xs) (z ∷ ys) zero y new lt once is own others h = (
+  own x h.0,
+  zip_others R S num q xs ys others
+      (subst (λ (k : ℕ). occurs (map num xs) k ≡ false) (is x h.0) once.0) h.1,
+)
 zip_one R S num q (x ∷ xs) (z ∷ ys) (suc k) y new lt once is own others h =
     let there = zip_number R num q xs ys k y is (omega arith) h.1 in (
-      others x z h.0 (λ same. clash (subst (λ (n : ℕ). occurs (map num xs) n ≡ true) (sym same) there) once.0),
+      others x z h.0 (λ same. clash (subst (λ (n : ℕ). occurs (map num xs) n ≡ true) (sym same) there)
+          once.0),
       zip_one R S num q xs ys k y new (omega arith) once.1 is own others h.1,
     )
 
@@ -96,7 +107,8 @@ ZipsUpTo R (suc i) (x ∷ xs) [] = ⊥
 ZipsUpTo R (suc i) (x ∷ xs) (y ∷ ys) = R x y × ZipsUpTo R i xs ys
 
 -- the place behind them is as it was
-pub upto_at : {X : Type 0} (R : X → X → Type 0) (i : ℕ) (xs ys : List X) (d : X) → ZipsUpTo R i xs ys → get_or ys i d ≡ get_or xs i d
+pub upto_at : {X : Type 0} (R : X → X → Type 0) (i : ℕ) (xs ys : List X) (d : X) → ZipsUpTo R i xs ys
+    → get_or ys i d ≡ get_or xs i d
 upto_at R zero xs ys d h = ap (λ l. get_or l 0 d) (sym h)
 upto_at R (suc i) [] [] d h = refl
 upto_at R (suc i) [] (y ∷ ys) d h = absurd h
@@ -104,7 +116,8 @@ upto_at R (suc i) (x ∷ xs) [] d h = absurd h
 upto_at R (suc i) (x ∷ xs) (y ∷ ys) d h = upto_at R i xs ys d h.1
 
 -- one place more
-pub upto_more : {X : Type 0} (R : X → X → Type 0) (i : ℕ) (xs ys : List X) (d new : X) → i < length ys → R (get_or ys i d) new
+pub upto_more : {X : Type 0} (R : X → X → Type 0) (i : ℕ) (xs ys : List X) (d new : X) → i < length ys
+    → R (get_or ys i d) new
     → ZipsUpTo R i xs ys → ZipsUpTo R (suc i) xs (set ys i new)
 upto_more R zero xs [] d new lt own h = absurd (omega arith)
 upto_more R zero [] (y ∷ ys) d new lt own h = absurd (cc)
@@ -118,7 +131,8 @@ upto_more R (suc i) (x ∷ xs) [] d new lt own h = absurd h
 upto_more R (suc i) (x ∷ xs) (y ∷ ys) d new lt own h = (h.0, upto_more R i xs ys d new (omega arith) own h.1)
 
 -- all places
-pub upto_all : {X : Type 0} (R : X → X → Type 0) (i : ℕ) (xs ys : List X) → length ys ≤ i → ZipsUpTo R i xs ys → AllZip R xs ys
+pub upto_all : {X : Type 0} (R : X → X → Type 0) (i : ℕ) (xs ys : List X) → length ys ≤ i
+    → ZipsUpTo R i xs ys → AllZip R xs ys
 upto_all R zero [] [] le h = tt
 upto_all R zero (x ∷ xs) [] le h = absurd (cc)
 upto_all R zero xs (y ∷ ys) le h = absurd (omega arith)

@@ -111,13 +111,19 @@ pub record HasPut (m clock now : ℕ) (old new : NumberedOutlet) : Type 0 where
   pub place : ℕ
   pub claims : new.1.claims ≡ old.1.claims ++ claim place (Message old.1.sender m) (clock + 1) now ∷ []
 
+-- each number is below those behind it
+abbrev pub IsAscending : List ℕ → Type 0
+IsAscending [] = Unit {0}
+IsAscending (x ∷ xs) = ((y : ℕ) → IsTrue (occurs xs y) → x < y) × IsAscending xs
+
 -- a closed outlet
 pub record IsClosedFrom (old new : NumberedOutlet) : Type 0 where
   pub number : new.0 ≡ old.0
   pub same : IsSameOutlet old.1 new.1
   pub put : new.1.put ≡ old.1.put
   pub closed : new.1.closed ≡ true
-  pub claims : old.1.closed ≡ false → (place : ℕ) × (new.1.claims ≡ old.1.claims ++ claim place (Ended old.1.sender) 0 0 ∷ [])
+  pub claims : old.1.closed ≡ false
+      → (place : ℕ) × (new.1.claims ≡ old.1.claims ++ claim place (Ended old.1.sender) 0 0 ∷ [])
   pub again : old.1.closed ≡ true → new.1 ≡ old.1
 
 -- an inlet after a take
@@ -131,7 +137,8 @@ pub record HasGot (clock : ℕ) (taken : Taken) (old new : NumberedInlet) : Type
   pub unended : unended_in new.1 + ends_in taken ≡ unended_in old.1
 
 -- what the run of an instance has come to; its outlets are closed or are not
-pub record HasCome (r : Role) (open' : Bool) (patience : ℕ) (first : EndLists) (shut : Bool) (left : Left) : Type 0 where
+pub record HasCome (r : Role) (open' : Bool) (patience : ℕ) (first : EndLists) (shut : Bool)
+    (left : Left) : Type 0 where
   pub reading : Reading
   pub log : IsLogOf r.chart r.number left.log
   pub put : ArePutBy shut r left.log reading first.outlets left.ends.outlets
@@ -150,7 +157,8 @@ EndsSo d p open' patience a end = HasCome (post_role d p) open' patience (first_
 -- a take on inlet k found nothing
 pub record IsQuiet (k : ℕ) (a b : Active) : Type 0 where
   pub kept : log_of b ≡ log_of a
-  pub idle : (n : NumberedInlet) → (get_or b.inlets.items k n).1.idle ≡ min ((get_or a.inlets.items k n).1.idle + 1) 4294967295
+  pub idle : (n : NumberedInlet)
+      → (get_or b.inlets.items k n).1.idle ≡ min ((get_or a.inlets.items k n).1.idle + 1) 4294967295
   pub others : (j : ℕ) (n : NumberedInlet) → j ≢ k → get_or b.inlets.items j n ≡ get_or a.inlets.items j n
 
 -- after a take on inlet k
@@ -159,7 +167,8 @@ TookOne d p k a b step.Nothing = IsSound d p b × IsQuiet k a b × (weight d p b
 TookOne d p k a b step.Ended = IsSound d p b × (weight d p b < weight d p a)
 TookOne d p k a b step.Logged = IsSound d p b × (weight d p b < weight d p a)
 TookOne d p k a b step.Stopped = IsSound d p b
-TookOne d p k a b (step.Foreign m) = (open' : Bool) (patience : ℕ) → EndsSo d p open' patience b (end.Foreign m)
+TookOne d p k a b (step.Foreign m) = (open' : Bool) (patience : ℕ)
+    → EndsSo d p open' patience b (end.Foreign m)
 
 -- no take of a round found anything
 pub record IsIdle (a b : Active) : Type 0 where
@@ -172,4 +181,5 @@ abbrev pub TookEach : Drawing → Post → Active → Active → Round → Type 
 TookEach d p a b round.Empty = IsSound d p b × IsIdle a b × (weight d p b ≡ weight d p a)
 TookEach d p a b round.Busy = IsSound d p b × (weight d p b < weight d p a)
 TookEach d p a b round.Stopped = IsSound d p b
-TookEach d p a b (round.Foreign m) = (open' : Bool) (patience : ℕ) → EndsSo d p open' patience b (end.Foreign m)
+TookEach d p a b (round.Foreign m) = (open' : Bool) (patience : ℕ)
+    → EndsSo d p open' patience b (end.Foreign m)

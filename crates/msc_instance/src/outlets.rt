@@ -5,21 +5,28 @@ ghost use Rattle.std.specs.List.{AllZip};
 ghost use Rattle.msc_chart.specs.Lists.{occurs};
 ghost use Rattle.msc_fifo.specs.Ends.{HasRoom};
 ghost use Rattle.msc_execution.specs.Roles.{NumberedOutlet};
-ghost use Rattle.msc_instance.specs.Active.{HasPut, IsClosedFrom};
+ghost use Rattle.msc_instance.specs.Active.{HasPut, IsAscending, IsClosedFrom};
 
 use msc_fifo::Outlet;
 
-/// The place of the outlet of a queue.
+/// The place of the outlet of a queue; the numbers of the queues ascend.
 pub(crate) fn outlet_at(outlets: &[(u32, Outlet)], queue: u32) -> usize
-    requires { IsTrue (occurs (map (λ (o : NumberedOutlet). o.0) outlets.now) queue) }
+    requires there { IsTrue (occurs (map (λ (o : NumberedOutlet). o.0) outlets.now) queue) }
+    requires ascending { IsAscending (map (λ (o : NumberedOutlet). o.0) outlets.now) }
     ensures within { result < length outlets.now }
     ensures number { (o : NumberedOutlet) → (get_or outlets.now result o).0 ≡ queue }
 {
-    let mut k = 0;
-    while outlets[k].0 != queue {
-        k += 1;
+    let mut low = 0;
+    let mut high = outlets.len();
+    while high - low > 1 {
+        let middle = low + (high - low) / 2;
+        if outlets[middle].0 <= queue {
+            low = middle;
+        } else {
+            high = middle;
+        }
     }
-    k
+    low
 }
 
 /// Sends a message with this clock. It answers the clock after it, or none where that is spent.

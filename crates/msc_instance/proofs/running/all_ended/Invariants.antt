@@ -4,4 +4,5 @@ use Rattle.msc_execution.specs.Roles.{NumberedInlet}
 use Rattle.msc_instance.proofs.running.all_ended.Given as goal
 
 abbrev pub invariant-loop-inlet : goal.invariant-loop-inlet
-invariant-loop-inlet l = (k : ℕ) (n : NumberedInlet) → k < l.inlet-index → unended_in (get_or l.inlets k n).1 ≡ 0
+invariant-loop-inlet l = (k : ℕ) (n : NumberedInlet) → k < l.inlet-index
+    → unended_in (get_or l.inlets k n).1 ≡ 0

@@ -11,25 +11,52 @@ use Rattle.msc_instance.proofs.running.run_instance.Goals as goal
 
 pub run-last-requires : goal.run-last-requires
 run-last-requires g c =
-    let within = line_within c.args.chart.now c.args.i c.line-start.result.0 c.line-start.result.1 c.line-start.ensures.first c.line-start.ensures.past_last in
-    let post : IsPost c.args.chart.now (record { queues = c.args.ends.queues; instance = c.args.i; start = c.line-start.result.0; end = c.line-start.result.1; began = c.of-began.result }) = record {
-      laws = record { rise = c.lines_are_ranges.ensures.rise; outlets = c.outputs_have_outlets.ensures; quotas = c.logs_keep_quotas.ensures; own = c.inlets_bring_own.ensures };
+    let within = line_within c.args.chart.now c.args.i c.line-start.result.0 c.line-start.result.1
+    c.line-start.ensures.first c.line-start.ensures.past_last in
+    let post : IsPost c.args.chart.now
+    (record {
+      queues = c.args.ends.queues;
+      instance = c.args.i;
+      start = c.line-start.result.0;
+      end = c.line-start.result.1;
+      began = c.of-began.result;
+    }) = record {
+      laws = record {
+        rise = c.lines_are_ranges.ensures.rise;
+        outlets = c.outputs_have_outlets.ensures;
+        quotas = c.logs_keep_quotas.ensures;
+        own = c.inlets_bring_own.ensures;
+      };
       accepted = c.accepted.ensures;
       line = c.line-start.ensures.range;
       ordered = within.0;
       within = within.1;
       fit = rw c.of-began.ensures c.requires.fit;
     } in
-    begins _ _ _ post (ap ends_of (sym c.of-began.ensures)) (ap (λ l. l.items) c.new.ensures ∙ c.requires.empty) refl refl refl refl
+    begins _ _ _ post (ap ends_of (sym c.of-began.ensures)) (ap (λ l. l.items) c.new.ensures
+    ∙ c.requires.empty) refl refl refl refl
     (rw c.new.ensures c.requires.room)
 
 pub returns-clause-run : goal.returns-clause-run
 returns-clause-run g c =
     let a = c.run-last.new.self in
-    let same = with_items_is a.outlets c.close_all.new.outlets (c.close_all.auto.outlets ∙ c.as_mut_slice.ensures.len) in
-    subst (λ (first : EndLists). HasRun (role c.args.ends.queues c.args.chart.now c.args.i) g.G.Gate.is_open c.args.patience first
-    (record { log = a.journal.log.items; ends = record { outlets = (with_items a.outlets c.close_all.new.outlets).items; inlets = a.inlets.items }; end = c.run-last.result }))
+    let same = with_items_is a.outlets c.close_all.new.outlets (c.close_all.auto.outlets
+    ∙ c.as_mut_slice.ensures.len) in
+    subst (λ (first : EndLists).
+    HasRun (role c.args.ends.queues c.args.chart.now c.args.i) g.G.Gate.is_open c.args.patience
+    first
+    (record {
+      log = a.journal.log.items;
+      ends =
+          record {
+            outlets = (with_items a.outlets c.close_all.new.outlets).items;
+            inlets =
+                a.inlets.items;
+          };
+      end = c.run-last.result;
+    }))
     (ap ends_of c.of-began.ensures)
-    (leaves (role c.args.ends.queues c.args.chart.now c.args.i) g.G.Gate.is_open c.args.patience (ends_of c.of-began.result.value) a.shut a.outlets.items
+    (leaves (role c.args.ends.queues c.args.chart.now c.args.i) g.G.Gate.is_open c.args.patience
+    (ends_of c.of-began.result.value) a.shut a.outlets.items
     (with_items a.outlets c.close_all.new.outlets).items a.inlets.items a.journal.log.items c.run-last.result
     (rw (same, ← c.as_mut_slice.ensures.value) c.close_all.ensures) c.run-last.ensures)

@@ -5,12 +5,14 @@ use Rattle.msc_instance.proofs.active.Active.run.Goals as goal
 
 pub returns-then-not-go_on : goal.returns-then-not-go_on
 returns-then-not-go_on g c =
-    ends_stopped c.args.chart.now c.args.post.now c.go_on.new.self c.go_on.ensures.sound g.G.Gate.is_open c.args.patience
+    ends_stopped c.args.chart.now c.args.post.now c.go_on.new.self c.go_on.ensures.sound
+    g.G.Gate.is_open c.args.patience
     (λ known. c.go_on.ensures.stopped known c.if-not-go_on.true)
 
 pub returns-then-self-post : goal.returns-then-self-post
 returns-then-self-post g c =
-    ends_finished c.args.chart.now c.args.post.now c.go_on.new.self c.go_on.ensures.sound g.G.Gate.is_open c.args.patience c.if-self-post.true
+    ends_finished c.args.chart.now c.args.post.now c.go_on.new.self c.go_on.ensures.sound
+    g.G.Gate.is_open c.args.patience c.if-self-post.true
 
 pub returns-then-all_ended : goal.returns-then-all_ended
 returns-then-all_ended g c =
@@ -32,7 +34,8 @@ returns-then-empty-patience g c =
 pub rounds-smaller-in-Empty : goal.rounds-smaller-in-Empty
 rounds-smaller-in-Empty g c =
     let took = c.in-Empty.ensures.took in
-    smaller_empty c.args.chart.now c.args.post.now c.rounds.self c.go_on.new.self c.take_each.new.self c.args.patience c.rounds.empty c.go_on.ensures.sent took.2
+    smaller_empty c.args.chart.now c.args.post.now c.rounds.self c.go_on.new.self c.take_each.new.self
+    c.args.patience c.rounds.empty c.go_on.ensures.sent took.2
     (omega (arith, c.rounds.invariant.patient))
 
 pub rounds-preserved-in-Empty : goal.rounds-preserved-in-Empty
@@ -40,16 +43,19 @@ rounds-preserved-in-Empty g c =
     let took = c.in-Empty.ensures.took in
     record {
       sound = took.0;
-      idle = took.1.idle c.rounds.empty (omega (arith, c.rounds.invariant.patient)) (rw c.go_on.ensures.sent.inlets c.rounds.invariant.idle);
+      idle = took.1.idle c.rounds.empty (omega (arith, c.rounds.invariant.patient))
+          (rw c.go_on.ensures.sent.inlets c.rounds.invariant.idle);
       patient = omega (arith, c.rounds.invariant.patient);
     }
 
 pub rounds-smaller : goal.rounds-smaller
 rounds-smaller g c =
-    smaller_busy c.args.chart.now c.args.post.now c.rounds.self c.go_on.new.self c.take_each.new.self c.args.patience c.rounds.empty c.go_on.ensures.sent
+    smaller_busy c.args.chart.now c.args.post.now c.rounds.self c.go_on.new.self c.take_each.new.self
+    c.args.patience c.rounds.empty c.go_on.ensures.sent
     c.in-Busy.ensures.took.1
 
 pub returns-in-Stopped : goal.returns-in-Stopped
 returns-in-Stopped g c =
-    ends_stopped c.args.chart.now c.args.post.now c.take_each.new.self c.in-Stopped.ensures.took g.G.Gate.is_open c.args.patience
+    ends_stopped c.args.chart.now c.args.post.now c.take_each.new.self c.in-Stopped.ensures.took
+    g.G.Gate.is_open c.args.patience
     (λ known. absurd (c.take_each.ensures.open known c.in-Stopped.is))

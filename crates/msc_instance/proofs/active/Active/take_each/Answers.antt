@@ -7,7 +7,8 @@ pub loop-k-preserved : goal.loop-k-preserved
 loop-k-preserved g c =
     elim c.match-take.branch [
       | in-Nothing w ↦ let took = w.in-Nothing.ensures.took in
-          rw w.found-is (turn_nothing _ _ _ _ _ _ _ c.loop-k.invariant c.take.ensures.inlets took.0 took.1 took.2)
+          rw w.found-is (turn_nothing _ _ _ _ _ _ _ c.loop-k.invariant c.take.ensures.inlets took.0
+          took.1 took.2)
       | in-Ended w ↦ let took = w.in-Ended.ensures.took in
           rw w.found-is (turn_busy _ _ _ _ _ _ _ c.loop-k.invariant c.take.ensures.inlets took.0 took.1)
       | in-Logged w ↦ let took = w.in-Logged.ensures.took in

@@ -6,5 +6,6 @@ use Rattle.msc_instance.proofs.journal.Journal.new.Goals as goal
 
 pub invariant_of-result : goal.invariant_of-result
 invariant_of-result c = record {
-  marked = λ e below. get_or-replicate 3072 e false false below ∙ sym (ap (λ l. occurs l e) c.requires ∙ occurs-nil e);
+  marked = λ e below. get_or-replicate 3072 e false false below
+      ∙ sym (ap (λ l. occurs l e) c.requires ∙ occurs-nil e);
 }
