@@ -7,13 +7,18 @@ use Rattle.msc_gather.specs.Schedule.{IsSeated, MayFollow, FollowsLeast}
 use Rattle.msc_gather.specs.Merges.{MayFollowOn, IsBest}
 
 -- of no line there is none
-pub best_begins : (chart : WiredChart) (logs : List (List ℕ)) (past : List ℕ) → IsBest chart logs past 0 None
-best_begins chart logs past = record { itself = λ x e. cc; least = λ x may below. let f : ⊥ = omega arith in absurd f }
+pub best_begins : (chart : WiredChart) (logs : List (List ℕ)) (past : List ℕ)
+    → IsBest chart logs past 0 None
+best_begins chart logs past = record
+    { itself = λ x e. cc; least = λ x may below. let f : ⊥ = omega arith in absurd f }
 
 -- one more line
-pub best_more : (chart : WiredChart) (logs : List (List ℕ)) (past : List ℕ) (n : ℕ) (best head next : Option ℕ) → IsBest chart logs past n best
-    → IfSome head (λ x. MayFollowOn chart logs past n x) → ((x : ℕ) → MayFollowOn chart logs past n x → head ≡ Some x)
-    → (best ≡ None → next ≡ head) → (head ≡ None → next ≡ best) → ((x y : ℕ) → best ≡ Some x → head ≡ Some y → next ≡ Some (min x y))
+pub best_more : (chart : WiredChart) (logs : List (List ℕ)) (past : List ℕ) (n : ℕ)
+    (best head next : Option ℕ) → IsBest chart logs past n best
+    → IfSome head (λ x. MayFollowOn chart logs past n x)
+    → ((x : ℕ) → MayFollowOn chart logs past n x → head ≡ Some x)
+    → (best ≡ None → next ≡ head) → (head ≡ None → next ≡ best)
+    → ((x y : ℕ) → best ≡ Some x → head ≡ Some y → next ≡ Some (min x y))
     → IsBest chart logs past (n + 1) next
 best_more chart logs past n None None next b some least none other both =
     let e : next ≡ None = none refl in
@@ -21,16 +26,19 @@ best_more chart logs past n None None next b some least none other both =
       itself = λ x f. cc;
       least = λ x may below. elim (cases_lt (line chart.events x) n) [
         | inl lt ↦ b.least x may lt
-        | inr ge ↦ let same : line chart.events x ≡ n = omega arith in let f = least x (may, same) in cc
+        | inr ge ↦ let same : line chart.events x ≡ n = omega arith in let f =
+            least x (may, same) in cc
       ];
     })
 best_more chart logs past n None (Some y) next b some least none other both =
     let e : next ≡ Some y = none refl in
     subst (λ (o : Option ℕ). IsBest chart logs past (n + 1) o) (sym e) (record {
-      itself = λ x f. let same : y ≡ x = cc in subst (λ (w : ℕ). MayFollow chart logs past w) same some.0;
+      itself = λ x f. let same : y ≡ x = cc in subst (λ (w : ℕ). MayFollow chart logs past w) same
+          some.0;
       least = λ x may below. elim (cases_lt (line chart.events x) n) [
         | inl lt ↦ absurd (b.least x may lt)
-        | inr ge ↦ let on : line chart.events x ≡ n = omega arith in let f = least x (may, on) in let same : y ≡ x = cc in omega arith
+        | inr ge ↦ let on : line chart.events x ≡ n = omega arith in let f =
+            least x (may, on) in let same : y ≡ x = cc in omega arith
       ];
     })
 best_more chart logs past n (Some z) None next b some least none other both =
@@ -48,17 +56,21 @@ best_more chart logs past n (Some z) (Some y) next b some least none other both 
       itself = λ x f.
           let same : min z y ≡ x = cc in
           elim (cases_lt z y) [
-            | inl lt ↦ let zx : z ≡ x = omega arith in subst (λ (w : ℕ). MayFollow chart logs past w) zx (b.itself z refl)
-            | inr ge ↦ let yx : y ≡ x = omega arith in subst (λ (w : ℕ). MayFollow chart logs past w) yx some.0
+            | inl lt ↦ let zx : z ≡ x = omega
+                arith in subst (λ (w : ℕ). MayFollow chart logs past w) zx (b.itself z refl)
+            | inr ge ↦ let yx : y ≡ x = omega
+                arith in subst (λ (w : ℕ). MayFollow chart logs past w) yx some.0
           ];
       least = λ x may below. elim (cases_lt (line chart.events x) n) [
         | inl lt ↦ let up : z ≤ x = b.least x may lt in omega arith
-        | inr ge ↦ let on : line chart.events x ≡ n = omega arith in let f = least x (may, on) in let same : y ≡ x = cc in omega arith
+        | inr ge ↦ let on : line chart.events x ≡ n = omega arith in let f =
+            least x (may, on) in let same : y ≡ x = cc in omega arith
       ];
     })
 
 -- of all lines it is the least of all
-pub best_some : (chart : WiredChart) (logs : List (List ℕ)) (past : List ℕ) (n m : ℕ) (best : Option ℕ) → m ≤ n → IsSeated chart m → IsBest chart logs past n best
+pub best_some : (chart : WiredChart) (logs : List (List ℕ)) (past : List ℕ) (n m : ℕ)
+    (best : Option ℕ) → m ≤ n → IsSeated chart m → IsBest chart logs past n best
     → IfSome best (λ x. FollowsLeast chart logs past x)
 best_some chart logs past n m None enough seated b = tt
 best_some chart logs past n m (Some x) enough seated b = record {
@@ -69,7 +81,8 @@ best_some chart logs past n m (Some x) enough seated b = record {
 }
 
 -- and where there is none, none may follow
-pub best_none : (chart : WiredChart) (logs : List (List ℕ)) (past : List ℕ) (n m : ℕ) (best : Option ℕ) → m ≤ n → IsSeated chart m → IsBest chart logs past n best
+pub best_none : (chart : WiredChart) (logs : List (List ℕ)) (past : List ℕ) (n m : ℕ)
+    (best : Option ℕ) → m ≤ n → IsSeated chart m → IsBest chart logs past n best
     → IfNone best ((x : ℕ) → MayFollow chart logs past x → ⊥)
 best_none chart logs past n m None enough seated b = λ x may.
     let on : line chart.events x < m = seated.on_lines x may.event in

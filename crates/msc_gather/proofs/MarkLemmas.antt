@@ -48,6 +48,7 @@ pub record IsMarking (chart : WiredChart) (i start : ℕ) (log : List ℕ) (old 
   pub marked : AreMarkedBeside old now (take k log)
   pub front : IsFirstOpen now start open_at
 
+-- before any event the marks are what they were
 pub marking_begins : (chart : WiredChart) (i start : ℕ) (log : List ℕ) (old : List Bool) (front : ℕ)
     → IsFirstOpen old start front → IsMarking chart i start log old old 0 front
 unfolding occurs
@@ -68,6 +69,7 @@ split_at (x ∷ xs) (suc k) below = let p = split_at xs k (omega arith) in (p.0,
 module _ {chart : WiredChart} {i start : ℕ} {log : List ℕ} {old now : List Bool} {k front : ℕ}
     (open_line : IsUnmarked chart i old) (long : length old ≡ length chart.events)
     (m : IsMarking chart i start log old now k front) where
+  -- a mark on the line tells of the log
   marked_is : (e : ℕ) → e < length chart.events → line chart.events e ≡ i
       → is_marked now e ≡ occurs (take k log) e
   marked_is e below here =
@@ -132,6 +134,7 @@ module _ {chart : WiredChart} {i start : ℕ} {log : List ℕ} {old now : List B
       or_true true = refl
       or_true false = refl
 
+  -- one more event is marked
   pub marking_more : (next : ℕ) → k < length log → MayBeMarked chart i now (get_or log k 0)
       → IsFirstOpen (set now (get_or log k 0) true) front next
       → IsMarking chart i start log old (set now (get_or log k 0) true) (k + 1) next
@@ -268,7 +271,9 @@ outputs_of {chart} {n} {logs} {marks} seated sound m r below marked i =
     ∙ sound.sent r below (sym (m.told r below) ∙ marked) i
 
 -- what stands at a place of a list that holds nothing twice is not among what stands before
-pub once_at : (xs : List ℕ) (k : ℕ) → IsOnce xs → k < length xs → occurs (take k xs) (get_or xs k 0) ≡ false
+pub once_at : (xs : List ℕ) (k : ℕ) → IsOnce xs → k < length xs
+    → occurs (take k xs) (get_or xs k 0) ≡ false
 once_at xs k once below =
     let split = split_at xs k below in
-    (Steps-parts IsNew [] (take k xs) (get_or xs k 0 ∷ split.0) (subst (λ (l : List ℕ). Steps IsNew [] l) split.1 once)).1.0
+    (Steps-parts IsNew [] (take k xs) (get_or xs k 0 ∷ split.0)
+    (subst (λ (l : List ℕ). Steps IsNew [] l) split.1 once)).1.0

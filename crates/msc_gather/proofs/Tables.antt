@@ -6,18 +6,21 @@ use Rattle.msc_gather.specs.Heads.{IsLink}
 use Rattle.msc_gather.specs.Links.{AreLinks}
 
 -- what is put behind a list changes nothing at its places
-get_or-append_front : {A : Type 0} (xs ys : List A) (k : ℕ) (d : A) → k < length xs → get_or (xs ++ ys) k d ≡ get_or xs k d
+get_or-append_front : {A : Type 0} (xs ys : List A) (k : ℕ) (d : A) → k < length xs
+    → get_or (xs ++ ys) k d ≡ get_or xs k d
 get_or-append_front [] ys k d h = absurd (omega arith)
 get_or-append_front (x ∷ xs) ys zero d h = refl
 get_or-append_front (x ∷ xs) ys (suc k) d h = get_or-append_front xs ys k d (omega arith)
 
 -- and stands at the next
-get_or-append_end : {A : Type 0} (xs : List A) (y : A) (ys : List A) (d : A) → get_or (xs ++ y ∷ ys) (length xs) d ≡ y
+get_or-append_end : {A : Type 0} (xs : List A) (y : A) (ys : List A) (d : A)
+    → get_or (xs ++ y ∷ ys) (length xs) d ≡ y
 get_or-append_end [] y ys d = refl
 get_or-append_end (x ∷ xs) y ys d = get_or-append_end xs y ys d
 
 -- The links of the first n events.
-pub record AreLinksTo (chart : WiredChart) (logs : List (List ℕ)) (n : ℕ) (links : List (Option ℕ)) : Type 0 where
+pub record AreLinksTo (chart : WiredChart) (logs : List (List ℕ)) (n : ℕ)
+    (links : List (Option ℕ)) : Type 0 where
   pub long : length links ≡ n
   pub each : (e : ℕ) → e < n → IsLink chart logs e (get_or links e None)
 
@@ -30,7 +33,8 @@ no_links chart logs links empty = record {
 }
 
 -- one more
-pub more_links : {chart : WiredChart} {logs : List (List ℕ)} {n : ℕ} {links next : List (Option ℕ)} (link : Option ℕ)
+pub more_links : {chart : WiredChart} {logs : List (List ℕ)} {n : ℕ} {links next : List (Option ℕ)}
+    (link : Option ℕ)
     → AreLinksTo chart logs n links → IsLink chart logs n link → next ≡ links ++ link ∷ []
     → AreLinksTo chart logs (n + 1) next
 more_links {chart} {logs} {n} {links} {next} link are is_link same =
@@ -50,14 +54,16 @@ more_links {chart} {logs} {n} {links} {next} link are is_link same =
             let e_is : n ≡ e = omega arith in
             let at_new : get_or next e None ≡ link =
             ap (λ (l : List (Option ℕ)). get_or l e None) same
-            ∙ ap (λ (j : ℕ). get_or (links ++ link ∷ []) j None) here ∙ get_or-append_end links link [] None in
+            ∙ ap (λ (j : ℕ). get_or (links ++ link ∷ []) j None) here
+            ∙ get_or-append_end links link [] None in
             subst (λ (o : Option ℕ). IsLink chart logs e o) (sym at_new)
             (subst (λ (w : ℕ). IsLink chart logs w link) e_is is_link)
       ];
     }
 
 -- all
-pub all_links : {chart : WiredChart} {logs : List (List ℕ)} {n : ℕ} {links : List (Option ℕ)} → n ≡ length chart.events
+pub all_links : {chart : WiredChart} {logs : List (List ℕ)} {n : ℕ} {links : List (Option ℕ)}
+    → n ≡ length chart.events
     → AreLinksTo chart logs n links → AreLinks chart logs links
 all_links {chart} {logs} {n} {links} same are =
     record { long = are.long ∙ same; each = λ e below. are.each e (omega (arith, below, same)) }

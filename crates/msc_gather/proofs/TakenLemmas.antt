@@ -15,7 +15,8 @@ use Rattle.msc_gather.proofs.Filters.{occurs-filter, filter-within, until-filter
 -- what occurs in a list of one is that one
 pub single : (r t : ℕ) → occurs (r ∷ []) t ≡ true → r ≡ t
 unfolding occurs
-single r t h = elim (or_cases (eqb r t) false h) [ inl same ↦ eqb-true r t same | inr never ↦ clash never refl ]
+single r t h = elim (or_cases (eqb r t) false h)
+    [ inl same ↦ eqb-true r t same | inr never ↦ clash never refl ]
 
 -- a new input of the queue is the last
 taken_push : (chart : WiredChart) (q : ℕ) (front : List ℕ) (r : ℕ) → occurs front r ≡ false
@@ -27,7 +28,8 @@ taken_push chart q front r new ri rq = (
   ri,
   rq,
   refl,
-  λ t h ti tq. by_test (occurs front t) (λ old. inr (ap (λ l. occurs l t) (until-new front [] r new) ∙ old))
+  λ t h ti tq. by_test (occurs front t)
+      (λ old. inr (ap (λ l. occurs l t) (until-new front [] r new) ∙ old))
       (λ fresh. inl (sym (single r t (occurs-cases front (r ∷ []) t h fresh)))),
 )
 
@@ -39,7 +41,8 @@ taken_skip chart q front r None other l = λ t h ti tq.
     by_test (occurs front t) (λ old. l t old ti tq)
     (λ fresh.
     let same = single r t (occurs-cases front (r ∷ []) t h fresh) in
-    other (subst (λ (z : ℕ). is_input chart.events z ≡ true) (sym same) ti) (ap (λ z. queue chart z) same ∙ tq))
+    other (subst (λ (z : ℕ). is_input chart.events z ≡ true) (sym same) ti)
+    (ap (λ z. queue chart z) same ∙ tq))
 taken_skip chart q front r (Some s) other l = (
   l.0,
   occurs-left front (r ∷ []) l.0 l.1,
@@ -53,7 +56,8 @@ taken_skip chart q front r (Some s) other l = (
       ])
       (λ fresh.
       let same = single r t (occurs-cases front (r ∷ []) t h fresh) in
-      absurd (other (subst (λ (z : ℕ). is_input chart.events z ≡ true) (sym same) ti) (ap (λ z. queue chart z) same ∙ tq))),
+      absurd (other (subst (λ (z : ℕ). is_input chart.events z ≡ true) (sym same) ti)
+      (ap (λ z. queue chart z) same ∙ tq))),
 )
 
 -- what was last taken in a list was last taken in what passes of it, where the queue's inputs pass
@@ -83,25 +87,30 @@ unfolding occurs
 taken_begins chart before last count b l known = record {
   long = ap (λ (xs : List (Option ℕ)). length xs) b ∙ length-replicate (length chart.events) None;
   queues = λ e below away.
-      let many : length last ≡ count = ap (λ (xs : List (Option ℕ)). length xs) l ∙ length-replicate count None in
+      let many : length last ≡ count = ap (λ (xs : List (Option ℕ)). length xs) l
+      ∙ length-replicate count None in
       omega (arith, known e below away);
   ends = λ q below.
-      let many : length last ≡ count = ap (λ (xs : List (Option ℕ)). length xs) l ∙ length-replicate count None in
+      let many : length last ≡ count = ap (λ (xs : List (Option ℕ)). length xs) l
+      ∙ length-replicate count None in
       let none : get_or last q None ≡ None =
-      ap (λ (xs : List (Option ℕ)). get_or xs q None) l ∙ get_or-replicate count q None None (omega arith) in
+      ap (λ (xs : List (Option ℕ)). get_or xs q None) l
+      ∙ get_or-replicate count q None None (omega arith) in
       subst (λ (o : Option ℕ). IsLastTaken chart q [] o) (sym none) (λ r h ri rq. clash h refl);
   own = λ s o h. clash h refl;
 }
 
 -- a controlled event takes nothing
-pub taken_other : (chart : WiredChart) → IsWired chart → {list : List ℕ} {before last : List (Option ℕ)} (r : ℕ)
+pub taken_other : (chart : WiredChart) → IsWired chart
+    → {list : List ℕ} {before last : List (Option ℕ)} (r : ℕ)
     → is_controlled chart.events r ≡ true → HoldsTaken chart list before last
     → HoldsTaken chart (list ++ r ∷ []) before last
 taken_other chart is_wired {list} {before} {last} r controlled h = record {
   long = h.long;
   queues = h.queues;
   ends = λ q below.
-      taken_skip chart q list r (get_or last q None) (λ ri rq. controlled_no_input chart.events r controlled ri) (h.ends q below);
+      taken_skip chart q list r (get_or last q None)
+      (λ ri rq. controlled_no_input chart.events r controlled ri) (h.ends q below);
   own = λ s o there.
       let u : ℕ = partner chart.events s in
       let ui = partner_of_output chart.events is_wired.matched s o in
@@ -115,7 +124,8 @@ taken_other chart is_wired {list} {before} {last} r controlled h = record {
 }
 
 -- a new input takes the message of its output
-pub taken_input : (chart : WiredChart) → IsWired chart → {list : List ℕ} {before last : List (Option ℕ)} (r : ℕ)
+pub taken_input : (chart : WiredChart) → IsWired chart
+    → {list : List ℕ} {before last : List (Option ℕ)} (r : ℕ)
     → is_input chart.events r ≡ true → occurs list r ≡ false → HoldsTaken chart list before last
     → HoldsTaken chart (list ++ r ∷ [])
     (set before (partner chart.events r) (get_or last (queue chart r) None))
@@ -143,19 +153,23 @@ taken_input chart is_wired {list} {before} {last} r ri new h =
             | inr other ↦
                 subst (λ (o : Option ℕ). IsLastTaken chart p (list ++ r ∷ []) o)
                 (sym (get_or-set_other last q p (Some s) None other))
-                (taken_skip chart p list r (get_or last p None) (λ i rq. other (sym rq)) (h.ends p (omega arith)))
+                (taken_skip chart p list r (get_or last p None) (λ i rq. other (sym rq))
+                (h.ends p (omega arith)))
           ];
       own = λ t o there.
           let u : ℕ = partner chart.events t in
           elim (cases_eq t s) [
             | inl same ↦
-                let u_is : u ≡ r = ap (λ (w : ℕ). partner chart.events w) same ∙ is_wired.matched.to_and_fro r r_below in
-                let q_is : queue chart t ≡ q = ap (λ (w : ℕ). queue chart w) same ∙ is_wired.one_queue r r_below in
+                let u_is : u ≡ r = ap (λ (w : ℕ). partner chart.events w) same
+                ∙ is_wired.matched.to_and_fro r r_below in
+                let q_is : queue chart t ≡ q =
+                ap (λ (w : ℕ). queue chart w) same ∙ is_wired.one_queue r r_below in
                 let front : until (list ++ r ∷ []) u ≡ list =
                 ap (λ (w : ℕ). until (list ++ r ∷ []) w) u_is ∙ until-new list [] r new in
                 let value : get_or (set before s (get_or last q None)) t None ≡ get_or last q None =
                 ap (λ (w : ℕ). get_or (set before s (get_or last q None)) w None) same
-                ∙ get_or-set_same before s (get_or last q None) None (omega (arith, s_below, h.long)) in
+                ∙ get_or-set_same before s (get_or last q None) None
+                (omega (arith, s_below, h.long)) in
                 rw (front, value, q_is) (h.ends q q_below)
             | inr other ↦
                 let ui = partner_of_output chart.events is_wired.matched t o in
@@ -164,7 +178,11 @@ taken_input chart is_wired {list} {before} {last} r ri new h =
                 let u_is = single r u (occurs-cases list (r ∷ []) u there fresh) in
                 absurd (other (sym (is_wired.matched.to_and_fro t (output_below chart.events t o))
                 ∙ ap (λ (w : ℕ). partner chart.events w) (sym u_is)))) in
-                rw (until-append list (r ∷ []) u old, get_or-set_other before s t (get_or last q None) None other)
+                rw (
+                  until-append list (r ∷ []) u old,
+                  get_or-set_other before s t
+                      (get_or last q None) None other,
+                )
                 (h.own t o old)
           ];
     }

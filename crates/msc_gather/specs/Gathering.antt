@@ -11,7 +11,9 @@ IsNotAfter (x ∷ xs) [] = ⊥
 IsNotAfter (x ∷ xs) (y ∷ ys) = (x < y) ⊎ ((x ≡ y) × IsNotAfter xs ys)
 
 -- of the runs whose lines are the logs, the one that is least event by event
-pub record IsGathered (chart : WiredChart) (instances : ℕ) (logs : List (List ℕ)) (events : List ℕ) : Type 0 where
+pub record IsGathered (chart : WiredChart) (instances : ℕ) (logs : List (List ℕ))
+    (events : List ℕ) : Type 0 where
   pub run : Run chart events
   pub lines : HasLines chart instances logs events
-  pub least : (other : List ℕ) → Run chart other → HasLines chart instances logs other → IsNotAfter events other
+  pub least : (other : List ℕ) → Run chart other → HasLines chart instances logs other
+      → IsNotAfter events other

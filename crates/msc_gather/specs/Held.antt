@@ -36,7 +36,8 @@ TookFrom w list t = HoldsTaken (wired_by w) list t.before.items t.last.items
 
 -- a part of the least run of the logs
 abbrev pub HoldsMerge : Wiring → List (Vec ℕ) → Merge → Type 0
-HoldsMerge w logs m = IsMerging (wired_by w) (events_of logs) m.past.items m.heads.items m.done.items
+HoldsMerge w logs m = IsMerging (wired_by w) (events_of logs) m.past.items m.heads.items
+    m.done.items
 
 -- x may follow it
 abbrev pub MayGoOn : Wiring → List (Vec ℕ) → Merge → ℕ → Type 0

@@ -35,7 +35,8 @@ TheLeastEventsGather =
 abbrev pub StuckLogsHaveNoMerge : Type 0
 StuckLogsHaveNoMerge =
     (queues : Queues) (d : Drawing) → IsAccepted d → (logs : List (List ℕ)) (past : List ℕ)
-    → SomeMissing (wired queues d) logs past → ((x : ℕ) → MayFollow (wired queues d) logs past x → ⊥)
+    → SomeMissing (wired queues d) logs past
+    → ((x : ℕ) → MayFollow (wired queues d) logs past x → ⊥)
     → HasNoMerge (wired queues d) (length d.instances) logs
 
 -- nor where the logs are no logs of the chart
@@ -66,8 +67,10 @@ FollowersAreHeads =
     (queues : Queues) (d : Drawing) → IsAccepted d → (logs : List (List ℕ))
     → AreLogs (wired queues d) (length d.instances) logs
     → (past : List ℕ) → Steps (MayFollow (wired queues d) logs) [] past
-    → (x k : ℕ) → IsFront past (log_of (wired queues d) logs x) k → MayFollow (wired queues d) logs past x
-    → (k < length (log_of (wired queues d) logs x)) × (get_or (log_of (wired queues d) logs x) k 0 ≡ x)
+    → (x k : ℕ) → IsFront past (log_of (wired queues d) logs x) k
+    → MayFollow (wired queues d) logs past x
+    → (k < length (log_of (wired queues d) logs x))
+    × (get_or (log_of (wired queues d) logs x) k 0 ≡ x)
 
 -- and the first that is left in a log may follow exactly where its link has occurred
 abbrev pub LinksTellFollowers : Type 0
@@ -76,7 +79,8 @@ LinksTellFollowers =
     → AreLogs (wired queues d) (length d.instances) logs
     → (past : List ℕ) → Steps (MayFollow (wired queues d) logs) [] past
     → (i k : ℕ) (link : Option ℕ) → i < length d.instances → IsFront past (get_or logs i []) k
-    → k < length (get_or logs i []) → IsLink (wired queues d) logs (get_or (get_or logs i []) k 0) link
+    → k < length (get_or logs i []) → IsLink (wired queues d) logs (get_or (get_or logs i []) k 0)
+    link
     → IsBehind past link ↔ MayFollow (wired queues d) logs past (get_or (get_or logs i []) k 0)
 
 -- where each log has all events of its line, a list with these lines is whole

@@ -17,14 +17,19 @@ IsLastTaken chart q list (Some s) =
 
 -- what was last taken from each queue in the list, and for each output whose input is in the list,
 -- what was taken from its queue before it
-pub record HoldsTaken (chart : WiredChart) (list : List ℕ) (before last : List (Option ℕ)) : Type 0 where
-  pub long : length before ≡ length chart.events
-  pub queues : (e : ℕ) → e < length chart.events → is_local chart.events e ≡ false → queue chart e < length last
-  pub ends : (q : ℕ) → q < length last → IsLastTaken chart q list (get_or last q None)
-  pub own : (s : ℕ) → IsTrue (is_output chart.events s) → IsTrue (occurs list (partner chart.events s))
-      → IsLastTaken chart (queue chart s) (until list (partner chart.events s)) (get_or before s None)
+pub record HoldsTaken (chart : WiredChart) (list : List ℕ) (before last : List (Option ℕ)) : Type 0
+  where
+    pub long : length before ≡ length chart.events
+    pub queues : (e : ℕ) → e < length chart.events → is_local chart.events e ≡ false
+        → queue chart e < length last
+    pub ends : (q : ℕ) → q < length last → IsLastTaken chart q list (get_or last q None)
+    pub own : (s : ℕ) → IsTrue (is_output chart.events s)
+        → IsTrue (occurs list (partner chart.events s))
+        → IsLastTaken chart (queue chart s) (until list (partner chart.events s))
+        (get_or before s None)
 
 -- a link for each event
-pub record AreLinks (chart : WiredChart) (logs : List (List ℕ)) (links : List (Option ℕ)) : Type 0 where
-  pub long : length links ≡ length chart.events
-  pub each : (e : ℕ) → e < length chart.events → IsLink chart logs e (get_or links e None)
+pub record AreLinks (chart : WiredChart) (logs : List (List ℕ)) (links : List (Option ℕ)) : Type 0
+  where
+    pub long : length links ≡ length chart.events
+    pub each : (e : ℕ) → e < length chart.events → IsLink chart logs e (get_or links e None)

@@ -49,7 +49,8 @@ pub record AreMarkedBeside (old new : List Bool) (events : List ℕ) : Type 0 wh
 -- the events of the line are those from start up to some number
 abbrev pub IsLineFrom : WiredChart → ℕ → ℕ → Type 0
 IsLineFrom chart i start =
-    (end : ℕ) × ((e : ℕ) → e < length chart.events → (line chart.events e ≡ i) ↔ ((start ≤ e) × (e < end)))
+    (end : ℕ) × ((e : ℕ) → e < length chart.events
+    → (line chart.events e ≡ i) ↔ ((start ≤ e) × (e < end)))
 
 -- no event of the line is marked
 abbrev pub IsUnmarked : WiredChart → ℕ → List Bool → Type 0
@@ -57,7 +58,8 @@ IsUnmarked chart i marks =
     (e : ℕ) → e < length chart.events → line chart.events e ≡ i → is_marked marks e ≡ false
 
 -- the logged events of the first n lines are marked, and no others
-pub record AreMarkedTo (chart : WiredChart) (logs : List (List ℕ)) (n : ℕ) (marks : List Bool) : Type 0 where
+pub record AreMarkedTo (chart : WiredChart) (logs : List (List ℕ)) (n : ℕ)
+    (marks : List Bool) : Type 0 where
   pub long : length marks ≡ length chart.events
   pub done : (e : ℕ) → e < length chart.events → line chart.events e < n
       → is_marked marks e ≡ is_logged chart logs e

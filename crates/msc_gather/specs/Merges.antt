@@ -8,7 +8,8 @@ use Rattle.msc_gather.specs.Heads.{IsFront}
 
 -- these events are the least that may follow one another; for each log so many of its events are
 -- among them, the first; and for each event it is told whether it is
-pub record IsMerging (chart : WiredChart) (logs : List (List ℕ)) (past heads : List ℕ) (done : List Bool) : Type 0 where
+pub record IsMerging (chart : WiredChart) (logs : List (List ℕ)) (past heads : List ℕ)
+    (done : List Bool) : Type 0 where
   pub steps : Steps (FollowsLeast chart logs) [] past
   pub many : length heads ≡ length logs
   pub fronts : (i : ℕ) → i < length logs → IsFront past (get_or logs i []) (get_or heads i 0)
@@ -25,6 +26,7 @@ IsUpTo None x = ⊥
 IsUpTo (Some y) x = y ≤ x
 
 -- the least event that may follow on the first n lines, or none where none may
-pub record IsBest (chart : WiredChart) (logs : List (List ℕ)) (past : List ℕ) (n : ℕ) (best : Option ℕ) : Type 0 where
+pub record IsBest (chart : WiredChart) (logs : List (List ℕ)) (past : List ℕ) (n : ℕ)
+    (best : Option ℕ) : Type 0 where
   pub itself : (x : ℕ) → best ≡ Some x → MayFollow chart logs past x
   pub least : (x : ℕ) → MayFollow chart logs past x → line chart.events x < n → IsUpTo best x

@@ -29,7 +29,8 @@ pub record AreLogs (chart : WiredChart) (instances : ℕ) (logs : List (List ℕ
 -- there
 abbrev pub is_taken_first : WiredChart → List (List ℕ) → ℕ → ℕ → Bool
 is_taken_first chart logs x y =
-    occurs (until (log_of chart logs (partner chart.events x)) (partner chart.events y)) (partner chart.events x)
+    occurs (until (log_of chart logs (partner chart.events x)) (partner chart.events y))
+    (partner chart.events x)
 
 -- x comes before y from another place than the log of y: it is the output of y; or both are outputs
 -- of one queue, and the input of x is taken first
@@ -44,11 +45,12 @@ unfoldable pub goes_first : WiredChart → List (List ℕ) → ℕ → ℕ → B
 goes_first chart logs x y = occurs (until (log_of chart logs y) y) x || crosses chart logs x y
 
 -- after these events x may follow: it is logged and new, and all that comes before it is behind it
-pub record MayFollow (chart : WiredChart) (logs : List (List ℕ)) (past : List ℕ) (x : ℕ) : Type 0 where
-  pub event : x < length chart.events
-  pub logged : IsTrue (is_logged chart logs x)
-  pub new : occurs past x ≡ false
-  pub behind : (y : ℕ) → IsTrue (goes_first chart logs y x) → IsTrue (occurs past y)
+pub record MayFollow (chart : WiredChart) (logs : List (List ℕ)) (past : List ℕ) (x : ℕ) : Type 0
+  where
+    pub event : x < length chart.events
+    pub logged : IsTrue (is_logged chart logs x)
+    pub new : occurs past x ≡ false
+    pub behind : (y : ℕ) → IsTrue (goes_first chart logs y x) → IsTrue (occurs past y)
 
 -- all that is logged is in the list
 abbrev pub HasAll : WiredChart → List (List ℕ) → List ℕ → Type 0
@@ -60,9 +62,10 @@ abbrev pub IsSchedule : WiredChart → List (List ℕ) → List ℕ → Type 0
 IsSchedule chart logs events = Steps (MayFollow chart logs) [] events × HasAll chart logs events
 
 -- the least event that may follow these events
-pub record FollowsLeast (chart : WiredChart) (logs : List (List ℕ)) (past : List ℕ) (x : ℕ) : Type 0 where
-  pub itself : MayFollow chart logs past x
-  pub none_below : (y : ℕ) → y < x → MayFollow chart logs past y → ⊥
+pub record FollowsLeast (chart : WiredChart) (logs : List (List ℕ)) (past : List ℕ) (x : ℕ) : Type 0
+  where
+    pub itself : MayFollow chart logs past x
+    pub none_below : (y : ℕ) → y < x → MayFollow chart logs past y → ⊥
 
 -- a logged event is not in the list
 abbrev pub SomeMissing : WiredChart → List (List ℕ) → List ℕ → Type 0

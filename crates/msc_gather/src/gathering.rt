@@ -20,8 +20,8 @@ fn are_done(marks: &[bool], done: &[bool]) -> bool
     requires { length marks.now ≡ length done.now }
     ensures all { IsTrue result → (e : ℕ) → e < length marks.now → IsTrue (is_marked marks.now e)
         → IsTrue (is_marked done.now e) }
-    ensures some { result ≡ false
-        → (e : ℕ) × (e < length marks.now) × IsTrue (is_marked marks.now e) × (is_marked done.now e ≡ false) }
+    ensures some { result ≡ false → (e : ℕ) × (e < length marks.now)
+        × IsTrue (is_marked marks.now e) × (is_marked done.now e ≡ false) }
 {
     for e in 0..marks.len() {
         if marks[e] && !done[e] {
@@ -31,19 +31,19 @@ fn are_done(marks: &[bool], done: &[bool]) -> bool
     true
 }
 
-/// The run of the chart that has these logs as its lines; of several, the one that is least event by
-/// event. There is a log for each instance, by its number. `NoMerge` is answered only where no run
-/// has these logs, `Memory` where a growth of memory was refused.
+/// The run of the chart that has these logs as its lines; of several, the one that is least event
+/// by event. There is a log for each instance, by its number. `NoMerge` is answered only where no
+/// run has these logs, `Memory` where a growth of memory was refused.
 pub fn gather(
     alloc: Global,
     chart: &Chart,
     queues: Queues,
     logs: &[Vec<Event>],
 ) -> Result<Vec<Event>, GatherFault>
-    ensures run { IfOk result (λ events. IsGathered (wired queues chart.now) (length chart.now.instances)
-        (map (λ v. v.items) logs.now) events.items) }
-    ensures no_merge { result ≡ Err NoMerge
-        → HasNoMerge (wired queues chart.now) (length chart.now.instances) (map (λ v. v.items) logs.now) }
+    ensures run { IfOk result (λ events. IsGathered (wired queues chart.now)
+        (length chart.now.instances) (map (λ v. v.items) logs.now) events.items) }
+    ensures no_merge { result ≡ Err NoMerge → HasNoMerge (wired queues chart.now)
+        (length chart.now.instances) (map (λ v. v.items) logs.now) }
 {
     charts_are_seated();
     chart.accepted();

@@ -3,5 +3,7 @@ use Rattle.msc_gather.proofs.linking.joined.Goals as goal
 
 pub loop-log-preserved : goal.loop-log-preserved
 loop-log-preserved c =
-    joined_more (λ v. v.items) c.args.logs.now c.loop-log.log-index c.log-item.result _ _ _ c.loop-log-test.true
-    c.log-item.is c.loop-log.invariant c.in_ok-extend_from_slice.ensures.items c.as_slice.ensures.value
+    joined_more (λ v. v.items) c.args.logs.now c.loop-log.log-index c.log-item.result _ _ _
+    c.loop-log-test.true
+    c.log-item.is c.loop-log.invariant c.in_ok-extend_from_slice.ensures.items
+    c.as_slice.ensures.value

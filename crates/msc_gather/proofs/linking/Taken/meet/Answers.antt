@@ -8,8 +8,10 @@ use Rattle.msc_gather.proofs.linking.Taken.meet.Goals as goal
 
 pub returns-then-is_controlled : goal.returns-then-is_controlled
 returns-then-is_controlled c = λ list new holds.
-    let is_wired = c.ends_share_queues.ensures c.args.w.now.queues c.args.w.now.chart.now c.accepted.ensures in
-    taken_other (wired_by c.args.w.now) is_wired c.args.r (sym c.is_controlled.ensures ∙ c.if-is_controlled.true) holds
+    let is_wired = c.ends_share_queues.ensures c.args.w.now.queues c.args.w.now.chart.now
+    c.accepted.ensures in
+    taken_other (wired_by c.args.w.now) is_wired c.args.r
+    (sym c.is_controlled.ensures ∙ c.if-is_controlled.true) holds
 
 pub queue-q-requires-clause-message : goal.queue-q-requires-clause-message
 queue-q-requires-clause-message c =
@@ -21,23 +23,28 @@ pub index-requires : goal.index-requires
 index-requires c =
     let other = sym c.is_controlled.ensures ∙ c.if-is_controlled.false in
     let input = input_from_other c.args.w.now.chart.now.events c.args.r c.requires.known other in
-    let inside = c.requires.queues c.args.r c.requires.known (input_not_local c.args.w.now.chart.now.events c.args.r input) in
+    let inside = c.requires.queues c.args.r c.requires.known
+    (input_not_local c.args.w.now.chart.now.events c.args.r input) in
     omega (arith, inside, c.queue-q.ensures, c.args.self.now.last.ok.0)
 
 pub index_mut-requires-2 : goal.index_mut-requires-2
 index_mut-requires-2 c =
     let other = sym c.is_controlled.ensures ∙ c.if-is_controlled.false in
     let input = input_from_other c.args.w.now.chart.now.events c.args.r c.requires.known other in
-    let inside = c.requires.queues c.args.r c.requires.known (input_not_local c.args.w.now.chart.now.events c.args.r input) in
+    let inside = c.requires.queues c.args.r c.requires.known
+    (input_not_local c.args.w.now.chart.now.events c.args.r input) in
     omega (arith, inside, c.queue-q.ensures, c.args.self.now.last.ok.0)
 
 pub returns : goal.returns
 returns c = λ list new holds.
-    let is_wired = c.ends_share_queues.ensures c.args.w.now.queues c.args.w.now.chart.now c.accepted.ensures in
+    let is_wired = c.ends_share_queues.ensures c.args.w.now.queues c.args.w.now.chart.now
+    c.accepted.ensures in
     let other = sym c.is_controlled.ensures ∙ c.if-is_controlled.false in
     let input = input_from_other c.args.w.now.chart.now.events c.args.r c.requires.known other in
-    let inside = c.requires.queues c.args.r c.requires.known (input_not_local c.args.w.now.chart.now.events c.args.r input) in
+    let inside = c.requires.queues c.args.r c.requires.known
+    (input_not_local c.args.w.now.chart.now.events c.args.r input) in
     let read = c.index.ensures
-    ∙ get_or_default c.args.self.now.last.items c.queue-q.result c.index.result.now None (omega (arith, inside, c.queue-q.ensures)) in
+    ∙ get_or_default c.args.self.now.last.items c.queue-q.result c.index.result.now None
+    (omega (arith, inside, c.queue-q.ensures)) in
     rw (read, c.queue-q.ensures, c.other_end-s.ensures.value)
     (taken_input (wired_by c.args.w.now) is_wired c.args.r input new holds)

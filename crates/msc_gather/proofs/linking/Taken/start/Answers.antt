@@ -7,5 +7,6 @@ pub returns : goal.returns
 returns c =
     let last = c.in_ok-vec.ensures.items_if_clones_equal (λ y e. search rules) in
     let before = c.in_ok-vec-2.ensures.items_if_clones_equal (λ y e. search rules) in
-    taken_begins (wired_by c.args.w.now) _ _ c.queue_count.result (rw c.events.ensures.number at before) last
+    taken_begins (wired_by c.args.w.now) _ _ c.queue_count.result
+    (rw c.events.ensures.number at before) last
     c.queue_count.ensures.past
