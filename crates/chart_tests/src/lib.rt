@@ -1,8 +1,10 @@
-//! Tests of charts: their events, orders, races and runs.
+//! Tests of charts: their events, orders, races and runs, and logs that are gathered into runs.
 #![tactic(auto)]
 
 #[cfg(test)]
 mod charts;
+#[cfg(test)]
+mod gathering;
 #[cfg(test)]
 mod orders;
 #[cfg(test)]

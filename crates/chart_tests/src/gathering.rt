@@ -1,0 +1,102 @@
+//! Logs that are gathered into the least run that has them as its lines, and logs of no run.
+
+use crate::charts::chart_of;
+use example_charts::{CROSSING, TWO_SENDERS};
+use msc_chart::{Event, Queues};
+use msc_gather::{GatherFault, gather};
+use std::alloc::{AllocError, Global};
+use std::test::Fail;
+
+/// Texts, architectures, logs, and the run that they are gathered into.
+const GATHERED: [(&[u8], Queues, &[&[Event]], &[Event]); 8] = [
+    (
+        TWO_SENDERS,
+        Queues::Pair,
+        &[&[0], &[1, 2], &[3]],
+        &[0, 1, 3, 2],
+    ),
+    (
+        TWO_SENDERS,
+        Queues::Pair,
+        &[&[0], &[2, 1], &[3]],
+        &[0, 3, 2, 1],
+    ),
+    (
+        TWO_SENDERS,
+        Queues::Mailbox,
+        &[&[0], &[2, 1], &[3]],
+        &[3, 0, 2, 1],
+    ),
+    (
+        TWO_SENDERS,
+        Queues::Mailbox,
+        &[&[0], &[2], &[3]],
+        &[3, 0, 2],
+    ),
+    (
+        TWO_SENDERS,
+        Queues::Single,
+        &[&[0], &[2, 1], &[3]],
+        &[0, 3, 2, 1],
+    ),
+    (CROSSING, Queues::Pair, &[&[0, 1], &[2, 3]], &[0, 2, 1, 3]),
+    (CROSSING, Queues::Pair, &[&[1, 0], &[2, 3]], &[2, 1, 0, 3]),
+    (CROSSING, Queues::Pair, &[&[], &[]], &[]),
+];
+
+/// Logs of `crossing` that no run has as its lines: each queue is in order by itself; a log too few;
+/// an event twice; events on another line; an event of no chart; an input without its output.
+const OF_NO_RUN: [&[&[Event]]; 6] = [
+    &[&[1, 0], &[3, 2]],
+    &[&[0, 1]],
+    &[&[0, 0], &[2]],
+    &[&[2], &[0]],
+    &[&[0, 9], &[2]],
+    &[&[0, 1], &[]],
+];
+
+/// The logs as lists of their own.
+fn owned(alloc: Global, logs: &[&[Event]]) -> Result<Vec<Vec<Event>>, AllocError> {
+    let mut all = Vec::new(alloc);
+    for log in logs {
+        let mut own = Vec::new(alloc);
+        own.extend_from_slice(log)?;
+        all.push(own)?;
+    }
+    Ok(all)
+}
+
+/// What the logs of a text's chart are gathered into.
+fn gathered(
+    alloc: Global,
+    text: &[u8],
+    queues: Queues,
+    logs: &[&[Event]],
+) -> Result<Result<Vec<Event>, GatherFault>, Fail> {
+    let chart = chart_of(alloc, text)?;
+    Ok(gather(alloc, &chart, queues, &owned(alloc, logs)?))
+}
+
+#[test]
+fn logs_of_runs(rt: HostRuntime) -> Result<(), Fail> {
+    for (text, queues, logs, wanted) in GATHERED {
+        let is = match gathered(rt.alloc(), text, queues, logs)? {
+            Ok(run) => run.as_slice() == wanted,
+            Err(_) => false,
+        };
+        assert!(rt; is, "{queues:?} {wanted:?}");
+    }
+    Ok(())
+}
+
+#[test]
+fn logs_of_no_run(rt: HostRuntime) -> Result<(), Fail> {
+    for logs in OF_NO_RUN {
+        let is = match gathered(rt.alloc(), CROSSING, Queues::Pair, logs)? {
+            Err(GatherFault::NoMerge) => true,
+            _ => false,
+        };
+        assert!(rt; is, "{}", logs.len());
+    }
+    Ok(())
+}
