@@ -46,11 +46,11 @@ module _ (counts : List ℕ) (q : ℕ) (within : q < length counts) where
     pub matched : {X : Type 0} (e : ℕ × A) → k < length ends → (get_or ends k e).0 ≡ q
         → X ↔ (numbers_of (drop k ends) ≡ numbers_from counts q (length counts - q))
         → X ↔ (numbers_of (drop (k + 1) ends) ≡ numbers_from counts (q + 1)
-            (length counts - (q + 1)))
+        (length counts - (q + 1)))
     unfolding rest
     matched e lt is h =
         let front : numbers_of (drop k ends) ≡ q ∷ numbers_of (drop (k + 1) ends) = next_is e lt
-            ∙ ap (λ x. x ∷ numbers_of (drop (k + 1) ends)) is in (
+        ∙ ap (λ x. x ∷ numbers_of (drop (k + 1) ends)) is in (
           λ x. let both : q ∷ numbers_of (drop (k + 1) ends) ≡ q ∷ rest = sym front ∙ h.0 x
               ∙ sends some in cc,
           λ same. h.1 (front ∙ ap (λ l. q ∷ l) same ∙ sym (sends some)),
@@ -61,7 +61,7 @@ module _ (counts : List ℕ) (q : ℕ) (within : q < length counts) where
         → numbers_of (drop k ends) ≡ numbers_from counts q (length counts - q) → ⊥
     mismatched e lt other same =
         let both : (get_or ends k e).0 ∷ numbers_of (drop (k + 1) ends) ≡ q ∷ rest =
-            sym (next_is e lt) ∙ same ∙ sends some in
+        sym (next_is e lt) ∙ same ∙ sends some in
         let wrong : (get_or ends k e).0 ≡ q = cc in
         other wrong
 
@@ -70,18 +70,22 @@ module _ (counts : List ℕ) (q : ℕ) (within : q < length counts) where
         ≡ numbers_from counts q (length counts - q) → ⊥
     exhausted le same =
         let both : [] ≡ q ∷ rest = sym (ap numbers_of (drop_all k ends le)) ∙ same ∙ sends some in
-            cc
+        cc
 
 -- after the last queue no end is left
 pub all_seen : {A : Type 0} {X : Type 0} (counts : List ℕ) (ends : List (ℕ × A)) (k q : ℕ)
     → length counts ≤ q
     → X ↔ (numbers_of (drop k ends) ≡ numbers_from counts q (length counts - q)) → X
-        ↔ (length ends ≤ k)
+    ↔ (length ends ≤ k)
 all_seen {A} counts ends k q done h =
     let none : numbers_from counts q (length counts - q) ≡ [] =
-        (let e : length counts - q ≡ 0 = omega arith in ap (numbers_from counts q) e) in (
-      λ x. let e = ap length (h.0 x ∙ none) in omega (arith, e,
-          length-map (drop k ends) (λ (y : ℕ × A). y.0), length-drop k ends),
+    (let e : length counts - q ≡ 0 = omega arith in ap (numbers_from counts q) e) in (
+      λ x. let e = ap length (h.0 x ∙ none) in omega (
+        arith,
+        e,
+        length-map (drop k ends) (λ (y : ℕ × A). y.0),
+        length-drop k ends,
+      ),
       λ le. h.1 (ap numbers_of (drop_all k ends le) ∙ sym none),
     )
 
@@ -98,12 +102,12 @@ module _ (g : ℕ → ℕ) (queues : Queues) (d : Drawing) (i : ℕ) (n : ℕ) w
       let h : ℕ → Bool = λ k. nat_eq (queue_of queues d k) q in
       let p : ℕ → Bool = λ k. nat_eq (g k) i in
       let grown : filter h (range_with_len 0 (n + 1)) ≡ filter h (range_with_len 0 n)
-          ++ cond (h n) (n ∷ []) [] =
+      ++ cond (h n) (n ∷ []) [] =
       ap (filter h) (sym (map-id (range_with_len 0 (n + 1))))
-          ∙ filter_of_map_range_with_len_more h (λ x. x) 0 n n (omega arith)
+      ∙ filter_of_map_range_with_len_more h (λ x. x) 0 n n (omega arith)
       ∙ ap (λ l. filter h l ++ cond (h n) (n ∷ []) []) (map-id (range_with_len 0 n)) in
       let sum = ap (count_by p) grown ∙ sum_by-append (λ k. cond (p k) 1 0)
-          (filter h (range_with_len 0 n)) (cond (h n) (n ∷ []) []) in
+      (filter h (range_with_len 0 n)) (cond (h n) (n ∷ []) []) in
       by_test (h n)
       (λ yes.
       let one = ap (λ b. count_by p (cond b (n ∷ []) [])) yes in
@@ -121,13 +125,19 @@ module _ (g : ℕ → ℕ) (queues : Queues) (d : Drawing) (i : ℕ) (n : ℕ) w
       let h : ℕ → Bool = λ k. nat_eq (queue_of queues d k) q in
       let few = count_by-le-length (λ k. nat_eq (g k) i) (filter h (range_with_len 0 n)) in
       let fewer = count_by-le-length h (range_with_len 0 n) in
-      omega (arith, counted q lt, few, fewer, length-filter h (range_with_len 0 n),
-          length-range_with_len 0 n)
+      omega (
+        arith,
+        counted q lt,
+        few,
+        fewer,
+        length-filter h (range_with_len 0 n),
+        length-range_with_len 0 n,
+      )
 
   pub own_counted : (counts : List ℕ) (q x : ℕ) → q ≡ queue_of queues d n
       → x ≡ cond (nat_eq (g n) i) 1 0
       → AreCountsOf g queues d i n counts → AreCountsOf g queues d i (n + 1)
-          (set counts q (get_or counts q 0 + x))
+      (set counts q (get_or counts q 0 + x))
   unfolding own
   own_counted counts q x is one counted k lt =
       let inside : k < length counts = omega (arith, length-set counts q (get_or counts q 0 + x)) in
@@ -136,12 +146,12 @@ module _ (g : ℕ → ℕ) (queues : Queues) (d : Drawing) (i : ℕ) (n : ℕ) w
       elim (cases_eq q k) [
         | inl same ↦
             let here = ap (λ b. cond b (cond {A = ℕ} (nat_eq (g n) i) 1 0) 0)
-                (eq-eqb (queue_of queues d n) k (sym is ∙ same)) in
+            (eq-eqb (queue_of queues d n) k (sym is ∙ same)) in
             let written = get_or-set_same counts k (get_or counts k 0 + x) 0 inside in
             rw same (omega (arith, before, grown, here, written, one))
         | inr other ↦
             let there = ap (λ b. cond b (cond {A = ℕ} (nat_eq (g n) i) 1 0) 0)
-                (ne_eqb (queue_of queues d n) k (λ e. other (is ∙ e))) in
+            (ne_eqb (queue_of queues d n) k (λ e. other (is ∙ e))) in
             let kept = get_or-set_other counts q k (get_or counts q 0 + x) 0 (λ e. other (sym e)) in
             omega (arith, before, grown, there, kept)
       ]

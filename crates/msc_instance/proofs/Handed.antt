@@ -20,12 +20,12 @@ module _ (all : List InstanceEnds) (i : ℕ) (x : InstanceEnds) where
   written within =
       ap (λ l. get_or l i no_ends) (map-set ends_of all i x)
       ∙ get_or-set_same (map ends_of all) i (ends_of x) no_ends
-          (omega (arith, length-map all ends_of))
+      (omega (arith, length-map all ends_of))
 
   pub others : (j : ℕ) → j ≢ i → ends_at (set all i x) j ≡ ends_at all j
   others j other =
       ap (λ l. get_or l j no_ends) (map-set ends_of all i x)
-          ∙ get_or-set_other (map ends_of all) i j (ends_of x) no_ends other
+      ∙ get_or-set_other (map ends_of all) i j (ends_of x) no_ends other
 
   pub there : (d : InstanceEnds) → i < length all → ends_at all i ≡ ends_of (get_or all i d)
   there d within = get_or-map ends_of all i d no_ends within
@@ -44,11 +44,11 @@ module _ {id : QueueId} {q : ℕ} {quotas : List ℕ} {old new : List InstanceEn
   passed {left} none h =
       let no : nat_lt 0 (get_or quotas n 0) ≡ false = le-ltb 0 _ (omega arith) in
       let ranks : senders_among (take (n + 1) quotas) ≡ senders_among (take n quotas) =
-          count_by_more_no (nat_lt 0) quotas n 0 within no in
+      count_by_more_no (nat_lt 0) quotas n 0 within no in
       let rest : filter (nat_lt 0) (drop n quotas) ≡ filter (nat_lt 0) (drop (n + 1) quotas) =
       ap (filter (nat_lt 0)) (drop_more quotas n 0 within)
-          ∙ ap (λ b. cond b (get_or quotas n 0 ∷ filter (nat_lt 0) (drop (n + 1) quotas))
-          (filter (nat_lt 0) (drop (n + 1) quotas))) no in
+      ∙ ap (λ b. cond b (get_or quotas n 0 ∷ filter (nat_lt 0) (drop (n + 1) quotas))
+      (filter (nat_lt 0) (drop (n + 1) quotas))) no in
       record {
         next = h.next ∙ ap (λ l. new_outlets id (senders_among (take n quotas)) l) rest
             ∙ ap (λ k. new_outlets id k (filter (nat_lt 0) (drop (n + 1) quotas))) (sym ranks);
@@ -57,11 +57,11 @@ module _ {id : QueueId} {q : ℕ} {quotas : List ℕ} {old new : List InstanceEn
           | inr late ↦
               let here : i ≡ n = omega arith in
               let none_here : outlet_for id q quotas i ≡ [] =
-                  rw here (ap (λ (b : Bool). cond b
-                  ((q, new_outlet id (senders_among (take n quotas)) (get_or quotas n 0)) ∷ []) [])
-                  no) in
+              rw here (ap (λ (b : Bool). cond b
+              ((q, new_outlet id (senders_among (take n quotas)) (get_or quotas n 0)) ∷ []) [])
+              no) in
               h.waiting i late ∙ sym (append-nil (ends_at old i).outlets)
-                  ∙ ap (λ l. (ends_at old i).outlets ++ l) (sym none_here)
+              ∙ ap (λ l. (ends_at old i).outlets ++ l) (sym none_here)
         ];
         waiting = λ i le. h.waiting i (omega arith);
         inlets = h.inlets;
@@ -72,20 +72,20 @@ module _ {id : QueueId} {q : ℕ} {quotas : List ℕ} {old new : List InstanceEn
   pub gave : {left : List OutletState} (rest : List OutletState) (o : OutletState)
       (x d : InstanceEnds) → 0 < get_or quotas n 0
       → left ≡ o ∷ rest → x.outlets.items ≡ (get_or new n d).outlets.items ++ (q, o) ∷ []
-          → x.inlets ≡ (get_or new n d).inlets
+      → x.inlets ≡ (get_or new n d).inlets
       → x.queues ≡ (get_or new n d).queues
       → IsHandingOut id q quotas old new left n → IsHandingOut id q quotas old (set new n x) rest
-          (n + 1)
+      (n + 1)
   gave {left} rest o x d some popped pushed inlets queues h =
       let yes : nat_lt 0 (get_or quotas n 0) ≡ true = lt-ltb 0 _ some in
       let ranks : senders_among (take (n + 1) quotas) ≡ senders_among (take n quotas) + 1 =
-          count_by_more_yes (nat_lt 0) quotas n 0 within yes in
+      count_by_more_yes (nat_lt 0) quotas n 0 within yes in
       let behind : List ℕ = filter (nat_lt 0) (drop (n + 1) quotas) in
       let rest_is : filter (nat_lt 0) (drop n quotas) ≡ get_or quotas n 0 ∷ behind =
       ap (filter (nat_lt 0)) (drop_more quotas n 0 within)
-          ∙ ap (λ b. cond b (get_or quotas n 0 ∷ behind) behind) yes in
+      ∙ ap (λ b. cond b (get_or quotas n 0 ∷ behind) behind) yes in
       let is : o ∷ rest ≡ new_outlet id (senders_among (take n quotas))
-          (get_or quotas n 0) ∷ new_outlets id (senders_among (take n quotas) + 1) behind =
+      (get_or quotas n 0) ∷ new_outlets id (senders_among (take n quotas) + 1) behind =
       sym popped ∙ h.next ∙ ap (λ l. new_outlets id (senders_among (take n quotas)) l) rest_is in
       let first : o ≡ new_outlet id (senders_among (take n quotas)) (get_or quotas n 0) = cc in
       let others_left : rest ≡ new_outlets id (senders_among (take n quotas) + 1) behind = cc in
@@ -97,11 +97,14 @@ module _ {id : QueueId} {q : ℕ} {quotas : List ℕ} {old new : List InstanceEn
           | inr late ↦
               let here : i ≡ n = omega arith in
               let its : outlet_for id q quotas n ≡ (q, o) ∷ [] =
-              ap (λ (b : Bool). cond b ((q, new_outlet id (senders_among (take n quotas))
-                  (get_or quotas n 0)) ∷ []) []) yes ∙ ap (λ p. (q, p) ∷ []) (sym first) in
+              ap (λ (b : Bool). cond b ((
+                q,
+                new_outlet id (senders_among (take n quotas))
+                    (get_or quotas n 0),
+              ) ∷ []) []) yes ∙ ap (λ p. (q, p) ∷ []) (sym first) in
               rw here (ap (λ e. e.outlets) (written new n x inside) ∙ pushed
               ∙ ap (λ l. l ++ (q, o) ∷ []) (ap (λ e. e.outlets) (sym (there new n x d inside))
-                  ∙ h.waiting n (omega arith))
+              ∙ h.waiting n (omega arith))
               ∙ ap (λ l. (ends_at old n).outlets ++ l) (sym its))
         ];
         waiting = λ i le. ap (λ e. e.outlets) (others new n x i (λ e. omega arith))
@@ -124,33 +127,33 @@ popped_first xs ys x is = ap reverse is ∙ reverse-append ys (x ∷ [])
 pub some_left : (id : QueueId) (q : ℕ) (quotas : List ℕ) (old new : List InstanceEnds) (n : ℕ)
     (left : List OutletState)
     → n < length quotas → 0 < get_or quotas n 0 → IsHandingOut id q quotas old new left n
-        → 0 < length left
+    → 0 < length left
 some_left id q quotas old new n left within some h =
     let behind : List ℕ = filter (nat_lt 0) (drop (n + 1) quotas) in
     let rest_is : filter (nat_lt 0) (drop n quotas) ≡ get_or quotas n 0 ∷ behind =
     ap (filter (nat_lt 0)) (drop_more quotas n 0 within)
-        ∙ ap (λ b. cond b (get_or quotas n 0 ∷ behind) behind) (lt-ltb 0 _ some) in
+    ∙ ap (λ b. cond b (get_or quotas n 0 ∷ behind) behind) (lt-ltb 0 _ some) in
     let is : left ≡ new_outlets id (senders_among (take n quotas)) (get_or quotas n 0 ∷ behind) =
-        h.next ∙ ap (λ l. new_outlets id (senders_among (take n quotas)) l) rest_is in
+    h.next ∙ ap (λ l. new_outlets id (senders_among (take n quotas)) l) rest_is in
     rw is (omega arith)
 
 -- all outlets are handed out, and the inlet goes to the receiver
 module _ {id : QueueId} {q : ℕ} {quotas : List ℕ} {receiver : ℕ} {old new : List InstanceEnds}
     {left : List OutletState} {n : ℕ}
     (done : n ≡ length quotas) (long : length quotas ≡ length old) (same : length new ≡ length old)
-        (known : receiver < length old) where
+    (known : receiver < length old) where
   pub ended : (x d : InstanceEnds) (inlet : InletState) → 0 < senders_among quotas
       → inlet ≡ new_inlet id (senders_among quotas)
       → x.inlets.items ≡ (get_or new receiver d).inlets.items ++ (q, inlet) ∷ []
-          → x.outlets ≡ (get_or new receiver d).outlets
+      → x.outlets ≡ (get_or new receiver d).outlets
       → x.queues ≡ (get_or new receiver d).queues
       → IsHandingOut id q quotas old new left n → AreHandedOut q quotas receiver old
-          (set new receiver x)
+      (set new receiver x)
   ended x d inlet some fresh pushed outlets queues h =
       let inside : receiver < length new = omega arith in
       let yes : nat_lt 0 (senders_among quotas) ≡ true = lt-ltb 0 _ some in
       let here : ends_at new receiver ≡ ends_of (get_or new receiver d) =
-          there new receiver x d inside in
+      there new receiver x d inside in
       record {
         id = id;
         outlets = λ i lt. elim (cases_eq i receiver) [
@@ -164,9 +167,9 @@ module _ {id : QueueId} {q : ℕ} {quotas : List ℕ} {receiver : ℕ} {old new 
           | inl is ↦
               let its : inlet_for id q quotas receiver receiver ≡ (q, inlet) ∷ [] =
               ap (λ (b : Bool). cond (b && nat_eq receiver receiver)
-                  ((q, new_inlet id (senders_among quotas)) ∷ []) []) yes
+              ((q, new_inlet id (senders_among quotas)) ∷ []) []) yes
               ∙ ap (λ (b : Bool). cond b ((q, new_inlet id (senders_among quotas)) ∷ []) [])
-                  (eq-eqb receiver receiver refl)
+              (eq-eqb receiver receiver refl)
               ∙ ap (λ v. (q, v) ∷ []) (sym fresh) in
               rw is (ap (λ e. e.inlets) (written new receiver x inside) ∙ pushed
               ∙ ap (λ l. l ++ (q, inlet) ∷ []) (ap (λ e. e.inlets) (sym here) ∙ h.inlets receiver)
@@ -174,10 +177,10 @@ module _ {id : QueueId} {q : ℕ} {quotas : List ℕ} {receiver : ℕ} {old new 
           | inr other ↦
               let none : inlet_for id q quotas receiver i ≡ [] =
               ap (λ (b : Bool). cond b ((q, new_inlet id (senders_among quotas)) ∷ []) [])
-                  (and_right (nat_lt 0 (senders_among quotas)) (nat_eq receiver i)
-                  (ne_eqb receiver i (λ e. other (sym e)))) in
+              (and_right (nat_lt 0 (senders_among quotas)) (nat_eq receiver i)
+              (ne_eqb receiver i (λ e. other (sym e)))) in
               ap (λ e. e.inlets) (others new receiver x i other) ∙ h.inlets i
-                  ∙ sym (append-nil (ends_at old i).inlets)
+              ∙ sym (append-nil (ends_at old i).inlets)
               ∙ ap (λ l. (ends_at old i).inlets ++ l) (sym none)
         ];
         under = λ a old_under. still_under new receiver x a d queues inside (h.under a old_under);
@@ -187,5 +190,10 @@ module _ {id : QueueId} {q : ℕ} {quotas : List ℕ} {receiver : ℕ} {old new 
 pub nothing_given : {id : QueueId} {q : ℕ} {quotas : List ℕ} {all : List InstanceEnds}
     {left : List OutletState}
     → left ≡ new_outlets id 0 (filter (nat_lt 0) quotas) → IsHandingOut id q quotas all all left 0
-nothing_given is = record { next = is; given = λ i lt. absurd (omega arith); waiting = λ i le. refl;
-    inlets = λ i. refl; under = λ a h. h }
+nothing_given is = record {
+  next = is;
+  given = λ i lt. absurd (omega arith);
+  waiting = λ i le. refl;
+  inlets = λ i. refl;
+  under = λ a h. h;
+}

@@ -22,13 +22,13 @@ use Rattle.msc_execution.specs.Logs.{Reading, IsLogOf, clock_along, sent, output
 use Rattle.msc_execution.specs.Fits.{LogsKeepQuotas}
 use Rattle.msc_execution.specs.Growth.{HasTaken, IsLeftBy, IsStrange, all_messages, clocks_at}
 use Rattle.msc_execution.specs.Running.{EndsAs, HasRun}
-use Rattle.msc_execution.proofs.Lists.Words.{IsOnce, once_filter, fails, at_head, in_tail}
+use Rattle.msc_execution.proofs.Lists.Words.{fails, at_head, in_tail}
 use Rattle.msc_execution.proofs.Lists.Ranges.{in_range}
 use Rattle.msc_instance.specs.Steps.{State, IsPutBy, IsGotBy, ArePutBy, HasBegun, with_event}
 use Rattle.msc_instance.specs.Active.{HasPut, HasGot, HasCome, IsClosedFrom}
 use Rattle.msc_instance.proofs.Growing.{clock_pushed, outputs_more, map_push}
 use Rattle.msc_instance.proofs.Stepped as stepped
-use Rattle.msc_instance.proofs.Zipped.{zip_map, zip_after, zip_numbers, zip_one, zip_set}
+use Rattle.msc_instance.proofs.Zipped.{IsOnce, once_filter, zip_map, zip_after, zip_numbers, zip_one, zip_set}
 
 abbrev pub outlet_number : NumberedOutlet → ℕ
 outlet_number o = o.0

@@ -57,14 +57,14 @@ first_passes f a (suc n) m rest is =
     by_test (f a)
     (λ yes.
     let front : a ∷ filter f (range_with_len (a + 1) n) ≡ m ∷ rest =
-        sym (ap (λ b. cond b (a ∷ filter f (range_with_len (a + 1) n))
-        (filter f (range_with_len (a + 1) n))) yes) ∙ is in
+    sym (ap (λ b. cond b (a ∷ filter f (range_with_len (a + 1) n))
+    (filter f (range_with_len (a + 1) n))) yes) ∙ is in
     let same : a ≡ m = cc in
     (ap f (sym same) ∙ yes, omega arith))
     (λ no.
     let later : filter f (range_with_len (a + 1) n) ≡ m ∷ rest =
-        sym (ap (λ b. cond b (a ∷ filter f (range_with_len (a + 1) n))
-        (filter f (range_with_len (a + 1) n))) no) ∙ is in
+    sym (ap (λ b. cond b (a ∷ filter f (range_with_len (a + 1) n))
+    (filter f (range_with_len (a + 1) n))) no) ∙ is in
     let r = first_passes f (a + 1) n m rest later in
     (r.0, omega (arith, r.1)))
 
@@ -89,7 +89,7 @@ module _ (g : ℕ → ℕ) (h : ℕ → Bool) (r i : ℕ) where
       (λ yes.
       ap (λ b. list_any (λ k. nat_eq (g k) i) (cond b (a ∷ rest) rest)) yes
       ∙ or_from (nat_eq (g a) i) (list_any (λ k. nat_eq (g k) i) rest)
-          (ap (λ x. nat_eq x i) (all a yes (omega arith)) ∙ fails) later)
+      (ap (λ x. nat_eq x i) (all a yes (omega arith)) ∙ fails) later)
       (λ gone. ap (λ b. list_any (λ k. nat_eq (g k) i) (cond b (a ∷ rest) rest)) gone ∙ later)
 
   -- where something is there, the test is one of that number
@@ -102,7 +102,7 @@ module _ (g : ℕ → ℕ) (h : ℕ → Bool) (r i : ℕ) where
       (λ yes.
       ap (list_any (λ k. nat_eq (g k) i)) is
       ∙ or_left (nat_eq (g m) i) (list_any (λ k. nat_eq (g k) i) rest)
-          (ap (λ x. nat_eq x i) (all m at.0 (omega (arith, at.1))) ∙ yes) ∙ sym yes)
+      (ap (λ x. nat_eq x i) (all m at.0 (omega (arith, at.1))) ∙ yes) ∙ sym yes)
       (λ no. other_number 0 n (λ k passes lt. all k passes (omega arith)) no ∙ sym no)
 
 -- one number more of a range
@@ -110,7 +110,7 @@ sum_more : (f : ℕ → ℕ) (n : ℕ) → sum_by f (range_with_len 0 (suc n))
     ≡ sum_by f (range_with_len 0 n) + f n
 sum_more f n =
     (let e : suc n ≡ n + 1 = omega arith in ap (λ (k : ℕ). sum_by f (range_with_len 0 k)) e)
-        ∙ ap (sum_by f) (sym (map-id (range_with_len 0 (n + 1))))
+    ∙ ap (sum_by f) (sym (map-id (range_with_len 0 (n + 1))))
     ∙ sum_by-map-range_with_len_more f (λ x. x) 0 n n (omega arith)
     ∙ ap (λ (l : List ℕ). sum_by f l + f n) (map-id (range_with_len 0 n))
 
@@ -164,6 +164,6 @@ parts_add_up g n (m ∷ ms) =
     let r = parts_add_up g n ms in
     let one = one_is (g m) n in
     let both = sum_both (is_one (g m)) (λ i. count_by (λ k. nat_eq (g k) i) ms)
-        (λ i. count_by (λ k. nat_eq (g k) i) (m ∷ ms)) (range_with_len 0 n)
+    (λ i. count_by (λ k. nat_eq (g k) i) (m ∷ ms)) (range_with_len 0 n)
     (λ i. sum_by-cons (λ k. cond (nat_eq (g k) i) 1 0) m ms) in
     omega (arith, r, one, both)

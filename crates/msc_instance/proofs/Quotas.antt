@@ -21,7 +21,7 @@ module _ (queues : Queues) (d : Drawing) where
   -- a place in the table is that of one queue and one sender
   place_test : (q k m : ℕ) → sender_of d m < length d.instances → k < length d.instances
       → nat_eq (place_of queues d m) (q * length d.instances + k)
-          ≡ (nat_eq (queue_of queues d m) q && nat_eq (sender_of d m) k)
+      ≡ (nat_eq (queue_of queues d m) q && nat_eq (sender_of d m) k)
   place_test q k m s_in k_in =
       by_test (nat_eq (queue_of queues d m) q)
       (λ yes.
@@ -30,37 +30,37 @@ module _ (queues : Queues) (d : Drawing) where
       (λ own.
       let here : place_of queues d m ≡ q * length d.instances + k =
       ap (λ (x : ℕ). x * length d.instances + sender_of d m) row
-          ∙ ap (λ (x : ℕ). q * length d.instances + x) (eqb-true _ _ own) in
+      ∙ ap (λ (x : ℕ). q * length d.instances + x) (eqb-true _ _ own) in
       eq-eqb _ _ here ∙ sym (ap (λ b. b && nat_eq (sender_of d m) k) yes ∙ own))
       (λ other.
       ne_eqb _ _ (λ e. eqb-false (sender_of d m) k other (same_from_place _ _ _ _ _ s_in k_in e).1)
-          ∙ sym (ap (λ b. b && nat_eq (sender_of d m) k) yes ∙ other)))
+      ∙ sym (ap (λ b. b && nat_eq (sender_of d m) k) yes ∙ other)))
       (λ no.
       ne_eqb _ _ (λ e. eqb-false (queue_of queues d m) q no
-          (same_from_place _ _ _ _ _ s_in k_in e).0)
-          ∙ sym (ap (λ b. b && nat_eq (sender_of d m) k) no))
+      (same_from_place _ _ _ _ _ s_in k_in e).0)
+      ∙ sym (ap (λ b. b && nat_eq (sender_of d m) k) no))
 
   -- a place of the table has the quota of its queue and sender
   counted_quota : (q k a n : ℕ) → k < length d.instances
       → ((m : ℕ) → m < a + n → sender_of d m < length d.instances)
       → count_by (λ m. nat_eq (place_of queues d m) (q * length d.instances + k))
-          (range_with_len a n)
+      (range_with_len a n)
       ≡ count_by (λ m. nat_eq (sender_of d m) k) (filter (λ m. nat_eq (queue_of queues d m) q)
-          (range_with_len a n))
+      (range_with_len a n))
   counted_quota q k a zero k_in known = refl
   counted_quota q k a (suc n) k_in known =
       let r = counted_quota q k (a + 1) n k_in (λ m lt. known m (omega arith)) in
       let c = sum_by-cons (λ m. cond (nat_eq (place_of queues d m) (q * length d.instances + k)) 1
-          0) a (range_with_len (a + 1) n) in
+      0) a (range_with_len (a + 1) n) in
       let b = both_tests (λ m. nat_eq (sender_of d m) k) (λ m. nat_eq (queue_of queues d m) q) a
-          (range_with_len (a + 1) n) in
+      (range_with_len (a + 1) n) in
       let t = ap (λ b. cond {A = ℕ} b 1 0) (place_test q k a (known a (omega arith)) k_in) in
       omega (arith, r, c, b, t)
 
   row_at : (q : ℕ) (counts : List ℕ) → IsAccepted d → AreCounted queues d (length d.messages) counts
       → q * length d.instances + length d.instances ≤ length counts
       → slice_range counts (q * length d.instances) (q * length d.instances + length d.instances)
-          ≡ quotas_of queues d q
+      ≡ quotas_of queues d q
   unfolding quota_of messages_in
   row_at q counts accepted counted long =
       let n : ℕ = length d.instances in
@@ -70,13 +70,13 @@ module _ (queues : Queues) (d : Drawing) where
       let there : get_or row k 0 ≡ get_or counts (q * n + k) 0 = search (rules, places) in
       there ∙ counted (q * n + k) (omega arith)
       ∙ counted_quota q k 0 (length d.messages) lt
-          (λ m below. sender_in d accepted m (omega arith)))
+      (λ m below. sender_in d accepted m (omega arith)))
 
   -- a row of the table has the quotas of its queue
   pub row_is : (q n : ℕ) (counts : List ℕ) → n ≡ length d.instances → IsAccepted d
       → AreCounted queues d (length d.messages) counts
       → (bound : ℕ) → length counts ≡ bound * length d.instances → q < bound
-          → slice_range counts (q * n) (q * n + n) ≡ quotas_of queues d q
+      → slice_range counts (q * n) (q * n + n) ≡ quotas_of queues d q
   unfolding quota_of messages_in
   row_is q n counts many accepted counted bound long low =
       let fits = row_fits q (length d.instances) bound (length d.instances) low (omega arith) in
@@ -94,14 +94,14 @@ module _ (queues : Queues) (d : Drawing) where
   ranks q i le =
       ap senders_among (take-map-range_with_len (quota_of queues d q) 0 (length d.instances) i le)
       ∙ count_mapped (nat_lt 0) (sends_to queues d q) (quota_of queues d q)
-          (λ x. sym (sender_has q x)) (range_with_len 0 i)
+      (λ x. sym (sender_has q x)) (range_with_len 0 i)
 
   -- the senders among all quotas are those of the queue
   pub all_senders : (q : ℕ) → senders_among (quotas_of queues d q) ≡ length (senders_in queues d q)
   unfolding senders_in
   all_senders q =
       count_mapped (nat_lt 0) (sends_to queues d q) (quota_of queues d q)
-          (λ x. sym (sender_has q x)) (range_with_len 0 (length d.instances))
+      (λ x. sym (sender_has q x)) (range_with_len 0 (length d.instances))
       ∙ sym (length-filter (sends_to queues d q) (range_with_len 0 (length d.instances)))
 
   -- the quotas of a queue add up to no more than a queue may have
@@ -113,8 +113,15 @@ module _ (queues : Queues) (d : Drawing) where
       let parts = parts_add_up (sender_of d) (length d.instances) (messages_in queues d q) in
       let few = length-filter h (range_with_len 0 (length d.messages)) in
       let fewer = count_by-le-length h (range_with_len 0 (length d.messages)) in
-      omega (arith, all, parts, few, fewer, length-range_with_len 0 (length d.messages),
-          accepted.few_messages)
+      omega (
+        arith,
+        all,
+        parts,
+        few,
+        fewer,
+        length-range_with_len 0 (length d.messages),
+        accepted.few_messages,
+      )
 
   -- a queue without a message has no sender and no receiver
   module _ (q : ℕ) (none : messages_in queues d q ≡ []) where
@@ -122,9 +129,9 @@ module _ (queues : Queues) (d : Drawing) where
     unfolding sends_to
     no_senders =
         count_mapped (nat_lt 0) (sends_to queues d q) (quota_of queues d q)
-            (λ x. sym (sender_has q x)) (range_with_len 0 (length d.instances))
+        (λ x. sym (sender_has q x)) (range_with_len 0 (length d.instances))
         ∙ count_none (sends_to queues d q) (λ i. ap (list_any (λ m. nat_eq (sender_of d m) i)) none)
-            (range_with_len 0 (length d.instances))
+        (range_with_len 0 (length d.instances))
 
     pub no_receiver : (i : ℕ) → takes_from queues d q i ≡ false
     unfolding takes_from
@@ -150,30 +157,30 @@ module _ (queues : Queues) (d : Drawing) where
     receiver_known =
         let at : queue_of queues d m ≡ q = eqb-true _ _ first_there.0 in
         let is : get_or receivers q 0 ≡ receiver_of d m = ap (λ k. get_or receivers k 0) (sym at)
-            ∙ noted m first_there.1 in
+        ∙ noted m first_there.1 in
         omega (arith, is, receiver_in d accepted m first_there.1)
 
     pub one_receiver : (i : ℕ) → takes_from queues d q i ≡ nat_eq (get_or receivers q 0) i
     unfolding takes_from messages_in
     one_receiver i =
         same_number (receiver_of d) (λ k. nat_eq (queue_of queues d k) q) (get_or receivers q 0) i
-            (length d.messages) m rest
+        (length d.messages) m rest
         (λ k passes lt. sym (noted k lt) ∙ ap (λ x. get_or receivers x 0) (eqb-true _ _ passes))
-            some
+        some
 
   -- who takes from a queue, told by its quotas and the list of receivers
   module _ (q : ℕ) (receivers : List ℕ) (accepted : IsAccepted d) (bounded : QueuesAreBounded)
       (noted : AreReceivers queues d (length d.messages) receivers) where
     told_takes : (ms : List ℕ) → messages_in queues d q ≡ ms → (i : ℕ)
         → takes_from queues d q i ≡ (nat_lt 0 (senders_among (quotas_of queues d q)) && nat_eq
-            (get_or receivers q 0) i)
+        (get_or receivers q 0) i)
     told_takes [] none i =
         no_receiver q none i ∙ sym (and_left (nat_lt 0 (senders_among (quotas_of queues d q)))
-            (nat_eq (get_or receivers q 0) i) (ap (nat_lt 0) (no_senders q none)))
+        (nat_eq (get_or receivers q 0) i) (ap (nat_lt 0) (no_senders q none)))
     told_takes (m ∷ rest) some i =
         one_receiver q m rest receivers accepted some noted i
         ∙ sym (ap (λ b. b && nat_eq (get_or receivers q 0) i)
-            (lt-ltb 0 _ (one_sender q m rest receivers accepted some noted bounded)))
+        (lt-ltb 0 _ (one_sender q m rest receivers accepted some noted bounded)))
 
     pub takes_is : (i : ℕ) → takes_from queues d q i
         ≡ (nat_lt 0 (senders_among (quotas_of queues d q)) && nat_eq (get_or receivers q 0) i)

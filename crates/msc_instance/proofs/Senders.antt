@@ -26,10 +26,10 @@ no_quota [] i none = refl
 no_quota (x ∷ xs) i none =
     by_test (nat_lt 0 x)
     (λ some. let is = ap (λ b. cond b (x ∷ filter (nat_lt 0) xs) (filter (nat_lt 0) xs)) some in
-        let wrong : x ∷ filter (nat_lt 0) xs ≡ [] = sym is ∙ none in cc)
+    let wrong : x ∷ filter (nat_lt 0) xs ≡ [] = sym is ∙ none in cc)
     (λ head.
     let rest : filter (nat_lt 0) xs ≡ [] = let is =
-        ap (λ b. cond b (x ∷ filter (nat_lt 0) xs) (filter (nat_lt 0) xs)) head in sym is ∙ none in
+    ap (λ b. cond b (x ∷ filter (nat_lt 0) xs) (filter (nat_lt 0) xs)) head in sym is ∙ none in
     at_either x xs i head (λ k. no_quota xs k rest))
 
 -- and nothing is handed out
@@ -38,19 +38,22 @@ pub none_handed : (id : QueueId) (q : ℕ) (quotas : List ℕ) (receiver : ℕ) 
     → AreHandedOut q quotas receiver all all
 none_handed id q quotas receiver all none =
     let no_senders : nat_lt 0 (senders_among quotas) ≡ false =
-        le-ltb 0 _ (omega (arith, length-filter (nat_lt 0) quotas, ap length none)) in
+    le-ltb 0 _ (omega (arith, length-filter (nat_lt 0) quotas, ap length none)) in
     record {
       id = id;
       outlets = λ i lt.
           let its : outlet_for id q quotas i ≡ [] =
-          ap (λ (b : Bool). cond b ((q, new_outlet id (senders_among (take i quotas))
-              (get_or quotas i 0)) ∷ []) []) (no_quota quotas i none) in
+          ap (λ (b : Bool). cond b ((
+            q,
+            new_outlet id (senders_among (take i quotas))
+                (get_or quotas i 0),
+          ) ∷ []) []) (no_quota quotas i none) in
           sym (append-nil (ends_at all i).outlets)
-              ∙ ap (λ l. (ends_at all i).outlets ++ l) (sym its);
+          ∙ ap (λ l. (ends_at all i).outlets ++ l) (sym its);
       inlets = λ i lt.
           let its : inlet_for id q quotas receiver i ≡ [] =
           ap (λ (b : Bool). cond b ((q, new_inlet id (senders_among quotas)) ∷ []) [])
-              (and_left (nat_lt 0 (senders_among quotas)) (nat_eq receiver i) no_senders) in
+          (and_left (nat_lt 0 (senders_among quotas)) (nat_eq receiver i) no_senders) in
           sym (append-nil (ends_at all i).inlets) ∙ ap (λ l. (ends_at all i).inlets ++ l) (sym its);
       under = λ a h. h;
     }
@@ -66,11 +69,11 @@ fewer (x ∷ xs) =
     by_test (nat_lt 0 x)
     (λ some.
     let is : filter (nat_lt 0) (x ∷ xs) ≡ x ∷ filter (nat_lt 0) xs =
-        ap (λ b. cond b (x ∷ filter (nat_lt 0) xs) (filter (nat_lt 0) xs)) some in
+    ap (λ b. cond b (x ∷ filter (nat_lt 0) xs) (filter (nat_lt 0) xs)) some in
     rw is (omega (arith, r), omega (arith, r, whole, kept)))
     (λ none.
     let is : filter (nat_lt 0) (x ∷ xs) ≡ filter (nat_lt 0) xs =
-        ap (λ b. cond b (x ∷ filter (nat_lt 0) xs) (filter (nat_lt 0) xs)) none in
+    ap (λ b. cond b (x ∷ filter (nat_lt 0) xs) (filter (nat_lt 0) xs)) none in
     rw is (omega (arith, r), omega (arith, r, whole)))
 
 -- so a queue is not too large for them

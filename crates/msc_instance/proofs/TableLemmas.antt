@@ -29,12 +29,12 @@ filter_twice p f g a (suc n) same =
     (λ yes.
     ap (λ b. cond b (a ∷ ps) ps) (here.0 ∙ yes) ∙ ap (λ l. a ∷ l) r
     ∙ sym (ap (λ b. filter g (cond b (a ∷ fs) fs)) (here.1 yes)
-        ∙ ap (λ b. cond b (a ∷ filter g fs) (filter g fs)) yes))
+    ∙ ap (λ b. cond b (a ∷ filter g fs) (filter g fs)) yes))
     (λ gone.
     ap (λ b. cond b (a ∷ ps) ps) (here.0 ∙ gone) ∙ r
     ∙ sym (by_test (f a)
     (λ kept. ap (λ b. filter g (cond b (a ∷ fs) fs)) kept
-        ∙ ap (λ b. cond b (a ∷ filter g fs) (filter g fs)) gone)
+    ∙ ap (λ b. cond b (a ∷ filter g fs) (filter g fs)) gone)
     (λ left. ap (λ b. filter g (cond b (a ∷ fs) fs)) left)))
 
 -- a test passes nowhere in an empty list
@@ -48,7 +48,7 @@ none_kept : (h : ℕ → Bool) (a n : ℕ) → ((m : ℕ) → m < a + n → h m 
 none_kept h a zero fails = refl
 none_kept h a (suc n) fails =
     ap (λ b. cond b (a ∷ filter h (range_with_len (a + 1) n)) (filter h (range_with_len (a + 1) n)))
-        (fails a (omega arith))
+    (fails a (omega arith))
     ∙ none_kept h (a + 1) n (λ m lt. fails m (omega arith))
 
 module _ (queues : Queues) (d : Drawing) (i : ℕ) (counts : List ℕ)
@@ -59,13 +59,13 @@ module _ (queues : Queues) (d : Drawing) (i : ℕ) (counts : List ℕ)
   unfolding sent_queues queues_below quota_of sends_to messages_in
   sent_numbers counted =
       filter_twice (λ q. nat_lt 0 (get_or counts q 0))
-          (λ q. nat_lt 0 (length (messages_in queues d q))) (λ q. sends_to queues d q i) 0
-          (length counts) (λ q lt. (
+      (λ q. nat_lt 0 (length (messages_in queues d q))) (λ q. sends_to queues d q i) 0
+      (length counts) (λ q lt. (
         ap (nat_lt 0) (counted q (omega arith)) ∙ sym (sender_has queues d q i),
         λ sends. any_has (λ m. nat_eq (sender_of d m) i) (messages_in queues d q) sends,
       ))
       ∙ ap (λ n. filter (λ q. sends_to queues d q i)
-          (filter (λ q. nat_lt 0 (length (messages_in queues d q))) (range_with_len 0 n))) long
+      (filter (λ q. nat_lt 0 (length (messages_in queues d q))) (range_with_len 0 n))) long
 
   -- those in a table of what is taken are the queues from which it takes
   pub taken_numbers : AreCountsOf (receiver_of d) queues d i (length d.messages) counts
@@ -73,14 +73,14 @@ module _ (queues : Queues) (d : Drawing) (i : ℕ) (counts : List ℕ)
   unfolding taken_queues queues_below takes_from messages_in
   taken_numbers counted =
       filter_twice (λ q. nat_lt 0 (get_or counts q 0))
-          (λ q. nat_lt 0 (length (messages_in queues d q))) (λ q. takes_from queues d q i) 0
-          (length counts) (λ q lt. (
+      (λ q. nat_lt 0 (length (messages_in queues d q))) (λ q. takes_from queues d q i) 0
+      (length counts) (λ q lt. (
         ap (nat_lt 0) (counted q (omega arith)) ∙ sym
             (any_counts (λ m. nat_eq (receiver_of d m) i) (messages_in queues d q)),
         λ takes. any_has (λ m. nat_eq (receiver_of d m) i) (messages_in queues d q) takes,
       ))
       ∙ ap (λ n. filter (λ q. takes_from queues d q i)
-          (filter (λ q. nat_lt 0 (length (messages_in queues d q))) (range_with_len 0 n))) long
+      (filter (λ q. nat_lt 0 (length (messages_in queues d q))) (range_with_len 0 n))) long
 
   -- each count of what is sent is the quota
   counts_all : IsAccepted d → EventsHaveQueues → QueueNumbersAreBounded
@@ -91,9 +91,9 @@ module _ (queues : Queues) (d : Drawing) (i : ℕ) (counts : List ℕ)
     | inl lt ↦ counted q lt
     | inr past ↦
         let none : messages_in queues d q ≡ [] = none_kept (λ m. nat_eq (queue_of queues d m) q) 0
-            (length d.messages) (λ m lt.
+        (length d.messages) (λ m lt.
         ne_eqb (queue_of queues d m) q (λ e. (let low = queue_small queues d accepted m
-            (omega arith) have bounded in omega (arith, low, e)))) in
+        (omega arith) have bounded in omega (arith, low, e)))) in
         get_or_past counts q 0 past ∙ sym (ap (count_by (λ m. nat_eq (sender_of d m) i)) none)
   ]
 
@@ -102,13 +102,17 @@ module _ (queues : Queues) (d : Drawing) (i : ℕ) (counts : List ℕ)
       → AreCountsOf (sender_of d) queues d i (length d.messages) counts
       → (outlets : List NumberedOutlet)
       → HaveRoom counts outlets ↔ All (λ (o : NumberedOutlet). (o.1.closed ≡ false)
-          × (length o.1.put + quota_of queues d o.0 i ≤ o.1.quota)) outlets
+      × (length o.1.put + quota_of queues d o.0 i ≤ o.1.quota)) outlets
   rooms accepted have bounded counted outlets =
       let same = counts_all accepted have bounded counted in (
-        λ room k o lt. (let r = room k o lt in (r.0,
-            omega (arith, r.1, same (get_or outlets k o).0))),
-        λ room k o lt. (let r = room k o lt in (r.0,
-            omega (arith, r.1, same (get_or outlets k o).0))),
+        λ room k o lt. (let r = room k o lt in (
+          r.0,
+          omega (arith, r.1, same (get_or outlets k o).0),
+        )),
+        λ room k o lt. (let r = room k o lt in (
+          r.0,
+          omega (arith, r.1, same (get_or outlets k o).0),
+        )),
       )
 
 -- ends that fit have the numbers of the tables, and room for the counts

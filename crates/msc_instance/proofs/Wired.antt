@@ -31,33 +31,33 @@ module _ (queues : Queues) (d : Drawing) (q i : ℕ) (id : ℕ
   -- what an instance gets of a queue is its fresh outlet there
   outlet_is : i < length d.instances
       → outlet_for new q (quotas_of queues d q) i ≡ cond (sends_to queues d q i)
-          (fresh_outlet id (role queues d i) q ∷ []) []
+      (fresh_outlet id (role queues d i) q ∷ []) []
   outlet_is known =
       let quota : get_or (quotas_of queues d q) i 0 ≡ quota_of queues d q i =
-          get_or-map-range_with_len (quota_of queues d q) 0 (length d.instances) i i 0 known
-          (omega arith) in
+      get_or-map-range_with_len (quota_of queues d q) 0 (length d.instances) i i 0 known
+      (omega arith) in
       let rank = ranks queues d q i (omega arith) in
       let one : QueueId → ℕ → ℕ → List NumberedOutlet =
-          λ k r n. cond (nat_lt 0 n) ((q, new_outlet k r n) ∷ []) [] in
+      λ k r n. cond (nat_lt 0 n) ((q, new_outlet k r n) ∷ []) [] in
       ap (λ k. one k (senders_among (take i (quotas_of queues d q)))
-          (get_or (quotas_of queues d q) i 0)) (sym here)
+      (get_or (quotas_of queues d q) i 0)) (sym here)
       ∙ ap (λ r. one (id q) r (get_or (quotas_of queues d q) i 0)) rank
       ∙ ap (λ n. one (id q) (rank_of queues d q i) n) quota
       ∙ ap (λ b. cond b (fresh_outlet id (role queues d i) q ∷ []) [])
-          (sym (sender_has queues d q i))
+      (sym (sender_has queues d q i))
 
   -- and so is its inlet
   inlet_is : (receiver : ℕ) → takes_from queues d q i
       ≡ (nat_lt 0 (senders_among (quotas_of queues d q)) && nat_eq receiver i)
       → inlet_for new q (quotas_of queues d q) receiver i
-          ≡ cond (takes_from queues d q i) (fresh_inlet id (role queues d i) q ∷ []) []
+      ≡ cond (takes_from queues d q i) (fresh_inlet id (role queues d i) q ∷ []) []
   inlet_is receiver takes =
       let one : QueueId → ℕ → Bool → List NumberedInlet =
-          λ k n b. cond b ((q, new_inlet k n) ∷ []) [] in
+      λ k n b. cond b ((q, new_inlet k n) ∷ []) [] in
       ap (λ k. one k (senders_among (quotas_of queues d q))
-          (nat_lt 0 (senders_among (quotas_of queues d q)) && nat_eq receiver i)) (sym here)
+      (nat_lt 0 (senders_among (quotas_of queues d q)) && nat_eq receiver i)) (sym here)
       ∙ ap (λ n. one (id q) n (nat_lt 0 (senders_among (quotas_of queues d q)) && nat_eq receiver
-          i)) (all_senders queues d q)
+      i)) (all_senders queues d q)
       ∙ ap (λ b. cond b (fresh_inlet id (role queues d i) q ∷ []) []) (sym takes)
 
 -- the ends of the queues below q, and then those of queue q, are those of the queues below q + 1
@@ -65,9 +65,9 @@ pub wired_more : WiringGrows → (queues : Queues) (d : Drawing) (q receiver : �
     (all new : List InstanceEnds)
     → quotas ≡ quotas_of queues d q → length new ≡ length all
     → ((i : ℕ) → takes_from queues d q i ≡ (nat_lt 0
-        (senders_among (quotas_of queues d q)) && nat_eq receiver i))
+    (senders_among (quotas_of queues d q)) && nat_eq receiver i))
     → AreWiredBelow queues d q all → AreHandedOut q quotas receiver all new
-        → AreWiredBelow queues d (q + 1) new
+    → AreWiredBelow queues d (q + 1) new
 unfolding with_queue ends_from
 wired_more grows queues d q receiver quotas all new is same takes before handed =
     let id : ℕ → QueueId = with_queue before.id q handed.id in
@@ -83,21 +83,21 @@ wired_more grows queues d q receiver quotas all new is same takes before handed 
           let step = grows.step r q in
           let earlier : ends_at all i ≡ wired_below id r q =
           before.each i inside ∙ step.same before.id id
-              (λ k low. sym (ap (λ b. cond b handed.id (before.id k))
-              (ne_eqb k q (λ e. omega arith)))) in
+          (λ k low. sym (ap (λ b. cond b handed.id (before.id k))
+          (ne_eqb k q (λ e. omega arith)))) in
           let outlets : (ends_at new i).outlets ≡ (wired_below id r (q + 1)).outlets =
           handed.outlets i inside ∙ ap (λ e. e.outlets ++ outlet_for handed.id q quotas i) earlier
           ∙ ap (λ l. (wired_below id r q).outlets ++ outlet_for handed.id q l i) is
           ∙ ap (λ l. (wired_below id r q).outlets ++ l)
-              (outlet_is queues d q i id handed.id here known) ∙ sym (step.outlets id) in
+          (outlet_is queues d q i id handed.id here known) ∙ sym (step.outlets id) in
           let inlets : (ends_at new i).inlets ≡ (wired_below id r (q + 1)).inlets =
           handed.inlets i inside ∙ ap (λ e. e.inlets ++ inlet_for handed.id q quotas receiver i)
-              earlier
+          earlier
           ∙ ap (λ l. (wired_below id r q).inlets ++ inlet_for handed.id q l receiver i) is
           ∙ ap (λ l. (wired_below id r q).inlets ++ l)
-              (inlet_is queues d q i id handed.id here receiver (takes i)) ∙ sym (step.inlets id) in
+          (inlet_is queues d q i id handed.id here receiver (takes i)) ∙ sym (step.inlets id) in
           ap (λ l. ends_from l (ends_at new i).inlets) outlets
-              ∙ ap (λ l. ends_from (wired_below id r (q + 1)).outlets l) inlets;
+          ∙ ap (λ l. ends_from (wired_below id r (q + 1)).outlets l) inlets;
     }
 
 -- before the first queue
@@ -121,8 +121,8 @@ all_wired grows queues d all wired = record {
   each = λ i e at.
       let lt = slice_get_within (map ends_of all) i e at in
       sym (get_or_from_slice_get (map ends_of all) i e no_ends at)
-          ∙ wired.each i (omega (arith, lt, length-map all ends_of))
-          ∙ grows.whole wired.id (role queues d i);
+      ∙ wired.each i (omega (arith, lt, length-map all ends_of))
+      ∙ grows.whole wired.id (role queues d i);
 }
 
 -- and what was handed out fits
@@ -131,4 +131,4 @@ pub all_fit : WiringsFit → (queues : Queues) (d : Drawing) (all : List Instanc
     → (i : ℕ) (e : InstanceEnds) → slice_get all i ≡ Some e → IsFit (role queues d i) (ends_of e)
 all_fit fits queues d all wiring i e at =
     fits queues d (map ends_of all) i (ends_of e) wiring (slice_get-map ends_of all i
-        ∙ ap (λ o. option_map ends_of o) at)
+    ∙ ap (λ o. option_map ends_of o) at)

@@ -1,9 +1,25 @@
 -- Lists of which a relation holds place by place, and what becomes of it where one place changes.
-use Rattle.std.proofs.Common.{◌≡◌, ◌≢◌, ℕ, zero, suc, ◌<◌, true, false, List, [], ◌∷◌, map, length, set, get_or, drop, ◌≤◌, refl, sym, ap, subst, arith}
+use Rattle.std.proofs.Common.{◌≡◌, ◌≢◌, ℕ, zero, suc, ◌<◌, Bool, true, false, filter, List, [], ◌∷◌, map, length, set, get_or, drop, ◌≤◌, refl, sym, ap, subst, arith}
 use Rattle.std.specs.List.{AllZip}
 use Rattle.msc_chart.specs.Lists.{occurs}
-use Rattle.msc_chart.proofs.ListLemmas.{clash}
-use Rattle.msc_execution.proofs.Lists.Words.{IsOnce, at_head, in_tail, fails}
+use Rattle.msc_chart.proofs.ListLemmas.{by_test, clash}
+use Rattle.msc_execution.proofs.Lists.Words.{at_head, in_tail, fails, passes, filter_yes, filter_no}
+
+-- numbers of which none stands twice
+abbrev pub IsOnce : List ℕ → Type 0
+IsOnce [] = Unit {0}
+IsOnce (x ∷ xs) = (occurs xs x ≡ false) × IsOnce xs
+
+-- nor among those that pass a test
+pub once_filter : (p : ℕ → Bool) (xs : List ℕ) → IsOnce xs → IsOnce (filter p xs)
+once_filter p [] h = tt
+once_filter p (x ∷ xs) h =
+    let r = once_filter p xs h.1 in
+    by_test (p x)
+    (λ yes.
+    let new : occurs (filter p xs) x ≡ false = fails (occurs (filter p xs) x) (λ there. clash (passes p xs x there).0 h.0) in
+    subst IsOnce (sym (filter_yes p x xs yes)) (new, r))
+    (λ no. subst IsOnce (sym (filter_no p x xs no)) r)
 
 -- a wider relation holds too
 pub zip_map : {X Y : Type 0} (R S : X → Y → Type 0) (xs : List X) (ys : List Y) → ((x : X) (y : Y) → R x y → S x y) → AllZip R xs ys → AllZip S xs ys

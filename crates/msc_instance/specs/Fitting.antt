@@ -14,7 +14,7 @@ abbrev pub AreCountsOf : (ℕ → ℕ) → Queues → Drawing → ℕ → ℕ �
 AreCountsOf instance queues d i n counts =
     (q : ℕ) → q < length counts → get_or counts q 0
     ≡ count_by (λ m. nat_eq (instance m) i) (filter (λ m. nat_eq (queue_of queues d m) q)
-        (range_with_len 0 n))
+    (range_with_len 0 n))
 
 -- the numbers of the queues that have a message in the table, from q on
 abbrev pub numbers_from : List ℕ → ℕ → ℕ → List ℕ

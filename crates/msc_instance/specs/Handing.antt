@@ -19,7 +19,7 @@ place_of queues d m = queue_of queues d m * length d.instances + sender_of d m
 abbrev pub AreCounted : Queues → Drawing → ℕ → List ℕ → Type 0
 AreCounted queues d n counts =
     (k : ℕ) → k < length counts → get_or counts k 0
-        ≡ count_by (λ m. nat_eq (place_of queues d m) k) (range_with_len 0 n)
+    ≡ count_by (λ m. nat_eq (place_of queues d m) k) (range_with_len 0 n)
 
 -- the list has the receiver of each queue that has a message below n
 abbrev pub AreReceivers : Queues → Drawing → ℕ → List ℕ → Type 0
@@ -41,14 +41,17 @@ ends_at all i = get_or (map ends_of all) i no_ends
 -- the outlet that instance i gets of queue q, where these are the quotas of all instances
 abbrev pub outlet_for : QueueId → ℕ → List ℕ → ℕ → List NumberedOutlet
 outlet_for id q quotas i =
-    cond (nat_lt 0 (get_or quotas i 0)) ((q, new_outlet id (senders_among (take i quotas))
-        (get_or quotas i 0)) ∷ []) []
+    cond (nat_lt 0 (get_or quotas i 0)) ((
+      q,
+      new_outlet id (senders_among (take i quotas))
+          (get_or quotas i 0),
+    ) ∷ []) []
 
 -- the inlet that instance i gets of it, where there is a sender
 abbrev pub inlet_for : QueueId → ℕ → List ℕ → ℕ → ℕ → List NumberedInlet
 inlet_for id q quotas receiver i =
     cond (nat_lt 0 (senders_among quotas) && nat_eq receiver i)
-        ((q, new_inlet id (senders_among quotas)) ∷ []) []
+    ((q, new_inlet id (senders_among quotas)) ∷ []) []
 
 -- all are of this architecture
 abbrev pub AreUnder : Queues → List InstanceEnds → Type 0
@@ -79,8 +82,8 @@ pub record AreHandedOut (q : ℕ) (quotas : List ℕ) (receiver : ℕ)
 
 -- the ends of the queues below n were handed out
 pub record AreWiredBelow (queues : Queues) (d : Drawing) (n : ℕ) (all : List InstanceEnds) : Type 0
-    where
-  pub many : length all ≡ length d.instances
-  pub under : AreUnder queues all
-  pub id : ℕ → QueueId
-  pub each : (i : ℕ) → i < length all → ends_at all i ≡ wired_below id (role queues d i) n
+  where
+    pub many : length all ≡ length d.instances
+    pub under : AreUnder queues all
+    pub id : ℕ → QueueId
+    pub each : (i : ℕ) → i < length all → ends_at all i ≡ wired_below id (role queues d i) n

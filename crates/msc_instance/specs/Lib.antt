@@ -6,3 +6,4 @@ pub mod Fitting
 pub mod Steps
 pub mod Active
 pub mod Threads
+pub mod Buckets

@@ -5,30 +5,30 @@ use Rattle.msc_instance.proofs.counting.count.Goals as goal
 pub bounds-counts-q : goal.bounds-counts-q
 bounds-counts-q c =
     place_in c.args.queues c.args.chart.now c.accepted.ensures c.loop-m.m (omega arith)
-        c.events_have_queues.ensures c.queue_numbers_are_bounded.ensures.numbers
+    c.events_have_queues.ensures c.queue_numbers_are_bounded.ensures.numbers
     c.instances-instances.result c.queue-q.result c.sender.result c.loop-m.counts
-        c.instances-instances.ensures.number c.queue-q.ensures c.sender.ensures.known
+    c.instances-instances.ensures.number c.queue-q.ensures c.sender.ensures.known
     (c.loop-m.auto.counts ∙ c.requires.counts)
 
 pub bounds-counts-q-in-loop-m : goal.bounds-counts-q-in-loop-m
 bounds-counts-q-in-loop-m c =
     place_in c.args.queues c.args.chart.now c.accepted.ensures c.loop-m.m (omega arith)
-        c.events_have_queues.ensures c.queue_numbers_are_bounded.ensures.numbers
+    c.events_have_queues.ensures c.queue_numbers_are_bounded.ensures.numbers
     c.instances-instances.result c.queue-q.result c.sender.result c.loop-m.counts
-        c.instances-instances.ensures.number c.queue-q.ensures c.sender.ensures.known
+    c.instances-instances.ensures.number c.queue-q.ensures c.sender.ensures.known
     (c.loop-m.auto.counts ∙ c.requires.counts)
 
 pub overflow_add-counts-in-loop-m : goal.overflow_add-counts-in-loop-m
 overflow_add-counts-in-loop-m c =
     let small = count_small c.args.queues c.args.chart.now c.loop-m.m c.loop-m.counts
-        (c.queue-q.result * c.instances-instances.result + c.sender.result)
+    (c.queue-q.result * c.instances-instances.result + c.sender.result)
     c.loop-m.invariant.counts (bounds-counts-q-in-loop-m c) in
     omega (arith, small)
 
 pub bounds-receivers-q : goal.bounds-receivers-q
 bounds-receivers-q c =
     let q = queue_small c.args.queues c.args.chart.now c.accepted.ensures c.loop-m.m (omega arith)
-        c.events_have_queues.ensures c.queue_numbers_are_bounded.ensures.numbers in
+    c.events_have_queues.ensures c.queue_numbers_are_bounded.ensures.numbers in
     omega (arith, q)
 
 pub loop-m-preserved : goal.loop-m-preserved
@@ -36,10 +36,10 @@ loop-m-preserved c =
     let d = c.args.chart.now in
     let place : ℕ = c.queue-q.result * c.instances-instances.result + c.sender.result in
     let place_is' = place_is c.args.queues d c.loop-m.m c.instances-instances.result
-        c.queue-q.result c.sender.result c.instances-instances.ensures.number c.queue-q.ensures
-        c.sender.ensures.value in
+    c.queue-q.result c.sender.result c.instances-instances.ensures.number c.queue-q.ensures
+    c.sender.ensures.value in
     let bounded = c.queues_are_bounded.ensures c.args.queues d c.loop-m.m c.accepted.ensures
-        (omega arith) in
+    (omega arith) in
     record {
       counts = counted_more c.args.queues d c.loop-m.m c.loop-m.counts place place_is'
           c.loop-m.invariant.counts;

@@ -10,11 +10,11 @@ returns-then-k-ends g c = (
   λ same. elim c.then-k-ends.branch [
     | then-k-ends-via-then-k-ends w ↦
         absurd (exhausted c.args.counts.now c.loop-q.q c.loop-q-test.true c.args.ends.now c.loop-q.k
-            c.if-counts-q-gt0.true (omega (arith, w.if-k-ends.true))
-            (c.loop-q.invariant.rest.0 same))
+        c.if-counts-q-gt0.true (omega (arith, w.if-k-ends.true))
+        (c.loop-q.invariant.rest.0 same))
     | then-k-ends-via-else-k-ends+then-ends-k w ↦
         absurd (mismatched c.args.counts.now c.loop-q.q c.loop-q-test.true c.args.ends.now
-            c.loop-q.k c.if-counts-q-gt0.true w.index-ends-k.result
+        c.loop-q.k c.if-counts-q-gt0.true w.index-ends-k.result
         (omega (arith, w.if-k-ends.false)) w.if-ends-k.true (c.loop-q.invariant.rest.0 same))
   ],
 )
@@ -26,7 +26,7 @@ loop-q-preserved g c = elim c.if-counts-q-gt0.branch [
     rest = matched c.args.counts.now c.loop-q.q c.loop-q-test.true c.args.ends.now c.loop-q.k
         w.if-counts-q-gt0.true w.index-ends-k.result
         (omega (arith, c.loop-q.invariant.within, w.if-k-ends.false)) w.if-ends-k.false
-            c.loop-q.invariant.rest;
+        c.loop-q.invariant.rest;
   })
   | else-counts-q-gt0 w ↦ rw w.k-is (record {
     within = c.loop-q.invariant.within;
@@ -38,6 +38,7 @@ loop-q-preserved g c = elim c.if-counts-q-gt0.branch [
 pub returns : goal.returns
 returns g c =
     let seen = all_seen c.args.counts.now c.args.ends.now c.loop-q.k c.loop-q.q
-        (omega (arith, c.loop-q-test.false)) c.loop-q.invariant.rest in
-    (λ same. seen.1 (omega (arith, eqb-true _ _ same)),
-        λ numbers. eq-eqb _ _ (omega (arith, seen.0 numbers, c.loop-q.invariant.within)))
+    (omega (arith, c.loop-q-test.false)) c.loop-q.invariant.rest in (
+      λ same. seen.1 (omega (arith, eqb-true _ _ same)),
+      λ numbers. eq-eqb _ _ (omega (arith, seen.0 numbers, c.loop-q.invariant.within)),
+    )

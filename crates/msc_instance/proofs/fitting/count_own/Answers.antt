@@ -7,40 +7,40 @@ use Rattle.msc_instance.proofs.fitting.count_own.Goals as goal
 pub bounds-sent-q : goal.bounds-sent-q
 bounds-sent-q c =
     let q = queue_small c.args.queues c.args.chart.now c.accepted.ensures c.loop-m.m (omega arith)
-        c.events_have_queues.ensures c.queue_numbers_are_bounded.ensures.numbers in
+    c.events_have_queues.ensures c.queue_numbers_are_bounded.ensures.numbers in
     omega (arith, q)
 
 pub bounds-sent-q-in-loop-m : goal.bounds-sent-q-in-loop-m
 bounds-sent-q-in-loop-m c =
     let q = queue_small c.args.queues c.args.chart.now c.accepted.ensures c.loop-m.m (omega arith)
-        c.events_have_queues.ensures c.queue_numbers_are_bounded.ensures.numbers in
+    c.events_have_queues.ensures c.queue_numbers_are_bounded.ensures.numbers in
     omega (arith, q)
 
 pub overflow_add-sent : goal.overflow_add-sent
 overflow_add-sent c =
     let small = own_small (sender_of c.args.chart.now) c.args.queues c.args.chart.now c.args.i
-        c.loop-m.m c.loop-m.sent c.queue-q.result c.loop-m.invariant.sent
-        (bounds-sent-q-in-loop-m c) in
+    c.loop-m.m c.loop-m.sent c.queue-q.result c.loop-m.invariant.sent
+    (bounds-sent-q-in-loop-m c) in
     let one = byte_small (nat_eq c.sender.result c.args.i) in
     omega (arith, small, one, c.from.ensures)
 
 pub bounds-taken-q : goal.bounds-taken-q
 bounds-taken-q c =
     let q = queue_small c.args.queues c.args.chart.now c.accepted.ensures c.loop-m.m (omega arith)
-        c.events_have_queues.ensures c.queue_numbers_are_bounded.ensures.numbers in
+    c.events_have_queues.ensures c.queue_numbers_are_bounded.ensures.numbers in
     omega (arith, q)
 
 pub bounds-taken-q-in-loop-m : goal.bounds-taken-q-in-loop-m
 bounds-taken-q-in-loop-m c =
     let q = queue_small c.args.queues c.args.chart.now c.accepted.ensures c.loop-m.m (omega arith)
-        c.events_have_queues.ensures c.queue_numbers_are_bounded.ensures.numbers in
+    c.events_have_queues.ensures c.queue_numbers_are_bounded.ensures.numbers in
     omega (arith, q)
 
 pub overflow_add-taken : goal.overflow_add-taken
 overflow_add-taken c =
     let small = own_small (receiver_of c.args.chart.now) c.args.queues c.args.chart.now c.args.i
-        c.loop-m.m c.loop-m.taken c.queue-q.result c.loop-m.invariant.taken
-        (bounds-taken-q-in-loop-m c) in
+    c.loop-m.m c.loop-m.taken c.queue-q.result c.loop-m.invariant.taken
+    (bounds-taken-q-in-loop-m c) in
     let one = byte_small (nat_eq c.receiver.result c.args.i) in
     omega (arith, small, one, c.from-in-loop-m.ensures)
 
@@ -49,9 +49,9 @@ loop-m-preserved c = record {
   sent = own_counted (sender_of c.args.chart.now) c.args.queues c.args.chart.now c.args.i c.loop-m.m
       c.loop-m.sent c.queue-q.result c.from.result c.queue-q.ensures
       (c.from.ensures ∙ byte_is _ ∙ ap (λ x. cond (nat_eq x c.args.i) 1 0) c.sender.ensures.value)
-          c.loop-m.invariant.sent;
+      c.loop-m.invariant.sent;
   taken = own_counted (receiver_of c.args.chart.now) c.args.queues c.args.chart.now c.args.i
       c.loop-m.m c.loop-m.taken c.queue-q.result c.from-in-loop-m.result c.queue-q.ensures
       (c.from-in-loop-m.ensures ∙ byte_is _ ∙ ap (λ x. cond (nat_eq x c.args.i) 1 0)
-          c.receiver.ensures.value) c.loop-m.invariant.taken;
+      c.receiver.ensures.value) c.loop-m.invariant.taken;
 }

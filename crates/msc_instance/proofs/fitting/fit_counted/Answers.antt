@@ -9,7 +9,7 @@ use Rattle.msc_instance.proofs.fitting.fit_counted.Goals as goal
 pub returns-then-not-are_numbered : goal.returns-then-not-are_numbered
 returns-then-not-are_numbered c =
     let tables : Tables c.args.ends.now.queues c.args.chart.now c.args.i c.count_own.new.sent
-        c.count_own.new.taken (ends_of c.args.ends.now) = record {
+    c.count_own.new.taken (ends_of c.args.ends.now) = record {
       accepted = c.accepted.ensures;
       have = c.events_have_queues.ensures;
       bounded = c.queue_numbers_are_bounded.ensures.numbers;
@@ -26,7 +26,7 @@ returns-then-not-are_numbered c =
 pub returns-then-not-are_numbered-2 : goal.returns-then-not-are_numbered-2
 returns-then-not-are_numbered-2 c =
     let tables : Tables c.args.ends.now.queues c.args.chart.now c.args.i c.count_own.new.sent
-        c.count_own.new.taken (ends_of c.args.ends.now) = record {
+    c.count_own.new.taken (ends_of c.args.ends.now) = record {
       accepted = c.accepted.ensures;
       have = c.events_have_queues.ensures;
       bounded = c.queue_numbers_are_bounded.ensures.numbers;
@@ -43,7 +43,7 @@ returns-then-not-are_numbered-2 c =
 pub returns : goal.returns
 returns c =
     let tables : Tables c.args.ends.now.queues c.args.chart.now c.args.i c.count_own.new.sent
-        c.count_own.new.taken (ends_of c.args.ends.now) = record {
+    c.count_own.new.taken (ends_of c.args.ends.now) = record {
       accepted = c.accepted.ensures;
       have = c.events_have_queues.ensures;
       bounded = c.queue_numbers_are_bounded.ensures.numbers;
@@ -54,9 +54,9 @@ returns c =
     } in (
       λ room. fitting _ _ _ _ _ _ tables
           (ap numbers_of (sym c.as_slice.ensures.value)
-              ∙ c.are_numbered.ensures.0 c.if-not-are_numbered.false)
+          ∙ c.are_numbered.ensures.0 c.if-not-are_numbered.false)
           (ap numbers_of (sym c.as_slice-2.ensures.value)
-              ∙ c.are_numbered-2.ensures.0 c.if-not-are_numbered-2.false)
+          ∙ c.are_numbered-2.ensures.0 c.if-not-are_numbered-2.false)
           (rw c.as_slice-3.ensures.value at (c.have_room.ensures.0 room)),
       λ fit. c.have_room.ensures.1 (rw c.as_slice-3.ensures.value
           (outlet_room _ _ _ _ _ _ tables fit)),

@@ -12,9 +12,12 @@ loop-i-init c = nothing_given (ap reverse c.reverse.ensures.items
 pub unreachable-requires : goal.unreachable-requires
 unreachable-requires c =
     let some = some_left _ _ _ _ _ _ _ c.loop-i-test.true c.if-quotas-i-gt0.true
-        c.loop-i.invariant in
-    let long : 0 < vec_len c.loop-i.outlets = omega (arith, some,
-        length-reverse c.loop-i.outlets.items) in
+    c.loop-i.invariant in
+    let long : 0 < vec_len c.loop-i.outlets = omega (
+      arith,
+      some,
+      length-reverse c.loop-i.outlets.items,
+    ) in
     false≢true (c.in_default.ensures.variant.1 long)
 
 pub loop-i-preserved : goal.loop-i-preserved
@@ -24,9 +27,9 @@ loop-i-preserved c =
       | then-quotas-i-gt0+in-Some+in_ok-push w ↦
           rw (w.all-is, w.outlets-is)
           (gave c.loop-i-test.true long _ w.in-Some.outlet _ w.index-all-i.result
-              w.if-quotas-i-gt0.true
+          w.if-quotas-i-gt0.true
           (popped_first _ _ _ w.in-Some.ensures.items) w.in_ok-push.ensures.items refl refl
-              c.loop-i.invariant)
+          c.loop-i.invariant)
       | else-quotas-i-gt0 w ↦ rw (w.all-is, w.outlets-is)
           (passed c.loop-i-test.true long (omega (arith, w.if-quotas-i-gt0.false))
           c.loop-i.invariant)
@@ -35,5 +38,5 @@ loop-i-preserved c =
 pub returns : goal.returns
 returns c =
     ended (omega arith) c.requires.each (omega arith) c.requires.receiver _
-        c.index-all-receiver.result c.args.inlet c.requires.some c.requires.inlet
+    c.index-all-receiver.result c.args.inlet c.requires.some c.requires.inlet
     c.in_ok-push-2.ensures.items refl refl c.loop-i.invariant

@@ -10,14 +10,14 @@ wire_each-requires-clause-none c =
     rw c.as_mut_slice-3.ensures.value
     (none_wired c.wiring_grows.ensures c.args.queues c.args.chart.now c.in_ok-all.all.items
     (c.in_ok-all.ensures.many ∙ c.instances-instances.ensures.number) c.in_ok-all.ensures.under
-        c.in_ok-all.ensures.none)
+    c.in_ok-all.ensures.none)
 
 pub returns-clause-wiring : goal.returns-clause-wiring
 returns-clause-wiring c =
     let back = with_items_is c.in_ok-all.all c.wire_each.new.all (omega arith) in
     subst (λ l. IsWiring c.args.queues c.args.chart.now (map ends_of l)) (sym back)
     (all_wired c.wiring_grows.ensures c.args.queues c.args.chart.now c.wire_each.new.all
-        c.in_ok-wire_each.ensures)
+    c.in_ok-wire_each.ensures)
 
 pub returns-clause-fit : goal.returns-clause-fit
 returns-clause-fit c i e at =

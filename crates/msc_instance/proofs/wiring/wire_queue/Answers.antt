@@ -11,16 +11,16 @@ use Rattle.msc_instance.proofs.wiring.wire_queue.Goals as goal
 pub returns-then-is_empty : goal.returns-then-is_empty
 returns-then-is_empty c =
     let none : vec_len c.in_ok-own.own ≡ 0 = eqb-true _ _ (sym c.is_empty.ensures
-        ∙ c.if-is_empty.true) in
+    ∙ c.if-is_empty.true) in
     none_handed no_queue _ _ _ _ (sym c.in_ok-own.ensures
-        ∙ nil_from_length c.in_ok-own.own.items (omega arith))
+    ∙ nil_from_length c.in_ok-own.own.items (omega arith))
 
 pub hand_out-requires-clause-some : goal.hand_out-requires-clause-some
 hand_out-requires-clause-some c =
     let apart = eqb-false (vec_len c.in_ok-own.own) 0 (sym c.is_empty.ensures
-        ∙ c.if-is_empty.false) in
+    ∙ c.if-is_empty.false) in
     let long : length c.in_ok-own.own.items ≡ senders_among c.args.quotas.now =
-        ap length c.in_ok-own.ensures ∙ length-filter (nat_lt 0) c.args.quotas.now in
+    ap length c.in_ok-own.ensures ∙ length-filter (nat_lt 0) c.args.quotas.now in
     omega (arith, apart, long)
 
 pub hand_out-requires-clause-receiver : goal.hand_out-requires-clause-receiver
@@ -30,11 +30,11 @@ pub hand_out-requires-clause-inlet : goal.hand_out-requires-clause-inlet
 hand_out-requires-clause-inlet c =
     let long : length c.as_slice.result.now ≡ senders_among c.args.quotas.now =
     ap length (c.as_slice.ensures.value ∙ c.in_ok-own.ensures)
-        ∙ length-filter (nat_lt 0) c.args.quotas.now in
+    ∙ length-filter (nat_lt 0) c.args.quotas.now in
     c.in-Ok.ensures.inlet ∙ ap (λ n. new_inlet c.in-Ok.inlet.queue n) long
 
 pub unreachable-requires-in-Err-TooLarge : goal.unreachable-requires-in-Err-TooLarge
 unreachable-requires-in-Err-TooLarge c =
     not_large c.as_slice.result.now c.args.quotas.now (c.as_slice.ensures.value
-        ∙ c.in_ok-own.ensures) c.requires.few c.requires.sum
+    ∙ c.in_ok-own.ensures) c.requires.few c.requires.sum
     (c.queue.ensures.too_large.0 (c.in-Err-TooLarge.is ∙ ap Err c.in-Err-TooLarge.field-0-is))
