@@ -20,3 +20,6 @@ pub mod Takes
 pub mod Rounds
 pub mod Ending
 pub mod Beginning
+pub mod Told
+pub mod Emptied
+pub mod Returned

@@ -6,3 +6,4 @@ pub mod Active
 pub mod Handing
 pub mod Fitting
 pub mod Threads
+pub mod Buckets

@@ -9,6 +9,7 @@
 mod active;
 mod counting;
 mod ends;
+mod execution;
 mod fault;
 mod fitting;
 mod gate;
@@ -18,11 +19,13 @@ mod outlets;
 mod round;
 mod running;
 mod sending;
+mod settling;
 mod taking;
 mod threads;
 mod wiring;
 
 pub use ends::{InstanceEnd, InstanceEnds};
+pub use execution::{Execution, run_chart};
 pub use fault::RunFault;
 pub use gate::{AlwaysOpen, Gate};
 pub use msc_execution::End;

@@ -1,0 +1,70 @@
+//! The execution of a chart: all its instances on threads, and then its queues settled.
+
+ghost use Rattle.std.specs.Prelude.{◌≡◌, ◌≢◌, ℕ, ◌<◌, length, IfOk, IfErr, IsTrue};
+ghost use Rattle.msc_execution.specs.declared.end.End.TheVariants.{Stopped};
+ghost use Rattle.msc_execution.specs.Executions.{AreFinished, IsExecution, IsFinished, end_at};
+ghost use Rattle.msc_instance.specs.Views.{outcome_of};
+
+use crate::fault::RunFault;
+use crate::gate::Gate;
+use crate::settling::settle_all;
+use crate::threads::{prepare_all, run_all};
+use msc_chart::{Chart, Event, Queues};
+use msc_execution::End;
+use msc_execution::laws::{
+    finished_executions_leave_nothing, no_clock_is_spent, runs_hold_queues,
+    settled_runs_are_executions,
+};
+use msc_fifo::Settled;
+use std::alloc::Global;
+use std::sync::Wait;
+use std::thread::Threads;
+
+/// What the run of a chart leaves.
+#[derive(Debug, Drop)]
+pub struct Execution {
+    /// What each instance logged, in order.
+    pub logs: Vec<Vec<Event>>,
+    /// How each instance ended.
+    pub ends: Vec<End>,
+    /// The queues that have a message, settled, each with its number, ascending.
+    pub queues: Vec<(u32, Settled)>,
+}
+
+/// Runs a chart under an architecture: each instance in a thread of its own, over fresh queues. All
+/// memory that the instances need is taken before the first thread is started. Where a thread can't
+/// be started, the outlets of its instance and of all later ones are closed, the earlier ones end,
+/// and nothing is handed back but the instance's number. `Memory` may come at any growth.
+pub fn run_chart<R: Threads + Wait + Sync, G: Gate + Sync>(
+    rt: &R,
+    alloc: Global,
+    chart: &Chart,
+    queues: Queues,
+    gate: &G,
+    patience: u32,
+) -> Result<Execution, RunFault>
+    ensures execution { IfOk result (λ x.
+        IsExecution queues chart.now G.is_open patience (outcome_of x)) }
+
+    // Where all have finished, all logs are whole and nothing is left in a queue.
+    ensures finished { IfOk result (λ x.
+        AreFinished x.ends.items → IsFinished chart.now (outcome_of x)) }
+
+    // A gate that is known to be open stops nobody.
+    ensures open { IfOk result (λ x.
+        IsTrue G.is_open → (i : ℕ) → end_at (outcome_of x) i ≢ Stopped) }
+    ensures started { IfErr result (λ f.
+        (i : ℕ) → f ≡ RunFault.NotStarted i → i < length chart.now.instances) }
+{
+    runs_hold_queues();
+    settled_runs_are_executions();
+    finished_executions_leave_nothing();
+    no_clock_is_spent();
+    chart.accepted();
+    let jobs = prepare_all(alloc, chart, queues)?;
+    let back = Vec::with_capacity(alloc, jobs.len())?;
+    match run_all(rt, chart, gate, patience, jobs, back) {
+        Ok(ran) => Ok(settle_all(alloc, chart, queues, ran)?),
+        Err(i) => Err(RunFault::NotStarted(i)),
+    }
+}
