@@ -1,5 +1,5 @@
 -- What came back of all instances holds the queues of the chart.
-use Rattle.std.proofs.Common.{◌≡◌, ℕ, ◌<◌, Bool, true, List, [], ◌∷◌, length, get_or, map, Some, slice_get, refl, sym, ap, ◌∙◌, arith, subst, option_map}
+use Rattle.std.proofs.Common.{◌≡◌, ℕ, Bool, true, List, length, get_or, map, ap, ◌∙◌, arith, subst, option_map}
 use Rattle.std.specs.Prelude.{All}
 use Rattle.std.proofs.lemmas.Option.{slice_get-get_or, slice_get-map}
 use Rattle.msc_chart.specs.declared.queue.Queues.{Queues}
