@@ -103,7 +103,9 @@ fn a_clock_that_is_spent(rt: HostRuntime) -> Result<(), Fail> {
     let mut ends = wire(rt.alloc(), &chart, Queues::Mailbox)?;
     let relays = ends.pop();
     let _ = ends.pop();
-    let put = ends.last_mut().is_some_and(|sends| is_put(sends, 1, u64::MAX - 1));
+    let put = ends
+        .last_mut()
+        .is_some_and(|sends| is_put(sends, 1, u64::MAX - 1));
     let relay = left(rt.alloc(), &chart, 2, relays, &AlwaysOpen)?;
     assert!(rt; put && is_left(&relay, End::Stopped, &[4]));
     Ok(())

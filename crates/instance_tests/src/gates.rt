@@ -13,6 +13,7 @@ use std::thread;
 const TURNS: u64 = 1_000_000_000;
 
 /// The gate at which the outputs of `two_senders` wait for each other.
+#[derive(Drop)]
 struct Meeting {
     first: AtomicBool,
     last: AtomicBool,
@@ -59,7 +60,10 @@ fn outputs_that_wait_for_each_other(rt: HostRuntime) -> Result<(), Fail> {
         let ends = [End::Finished, End::Finished, End::Finished];
         let one = is_execution(&execution, &ends, &[&[0], &[1, 2], &[3]]);
         let other = is_execution(&execution, &ends, &[&[0], &[2, 1], &[3]]);
-        assert!(rt; (one || other) && gate.asked.load(Ordering::SeqCst) == 4, "{queues:?}");
+        assert!(rt;
+            (one || other) && gate.asked.load(Ordering::SeqCst) == 4,
+            "{queues:?}"
+        );
     }
     Ok(())
 }

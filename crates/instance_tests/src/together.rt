@@ -43,12 +43,19 @@ fn actions_on_both_sides_of_a_message(rt: HostRuntime) -> Result<(), Fail> {
     let chart = chart_of(rt.alloc(), LOCAL_EVENTS)?;
     for queues in Queues::ALL {
         let execution = run_chart(&rt, rt.alloc(), &chart, queues, &AlwaysOpen, PATIENCE)?;
-        assert!(rt; is_execution(&execution, &[End::Finished, End::Finished], &[&[0, 1], &[2, 3]]));
+        assert!(rt;
+            is_execution(
+                &execution,
+                &[End::Finished, End::Finished],
+                &[&[0, 1], &[2, 3]]
+            )
+        );
     }
     Ok(())
 }
 
 /// The gate that says no to one event.
+#[derive(Clone, Copy)]
 struct Never(Event);
 
 impl Gate for Never {
@@ -63,10 +70,26 @@ impl Gate for Never {
 
 /// An event of `relay` at which the gate says no, and the ends and logs of the three instances.
 const STOPPED: [(Event, [End; 3], [&[Event]; 3]); 4] = [
-    (0, [End::Stopped, End::Starved, End::Starved], [&[], &[], &[]]),
-    (1, [End::Stopped, End::Starved, End::Starved], [&[0], &[2], &[]]),
-    (2, [End::Finished, End::Stopped, End::Finished], [&[0, 1], &[2], &[4, 5]]),
-    (4, [End::Finished, End::Starved, End::Stopped], [&[0, 1], &[2], &[4]]),
+    (
+        0,
+        [End::Stopped, End::Starved, End::Starved],
+        [&[], &[], &[]],
+    ),
+    (
+        1,
+        [End::Stopped, End::Starved, End::Starved],
+        [&[0], &[2], &[]],
+    ),
+    (
+        2,
+        [End::Finished, End::Stopped, End::Finished],
+        [&[0, 1], &[2], &[4, 5]],
+    ),
+    (
+        4,
+        [End::Finished, End::Starved, End::Stopped],
+        [&[0, 1], &[2], &[4]],
+    ),
 ];
 
 #[test]

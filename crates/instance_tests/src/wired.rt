@@ -12,9 +12,18 @@ type Wired = (&'static [(u32, u32)], &'static [u32]);
 
 /// The ends of the three instances of `relay` under an architecture.
 const RELAY_ENDS: [(Queues, [Wired; 3]); 3] = [
-    (Queues::Pair, [(&[(1, 1), (2, 1)], &[]), (&[], &[1, 7]), (&[(7, 1)], &[2])]),
-    (Queues::Mailbox, [(&[(1, 1), (2, 1)], &[]), (&[], &[1]), (&[(1, 1)], &[2])]),
-    (Queues::Single, [(&[(0, 1), (1, 1)], &[]), (&[], &[0, 2]), (&[(2, 1)], &[1])]),
+    (
+        Queues::Pair,
+        [(&[(1, 1), (2, 1)], &[]), (&[], &[1, 7]), (&[(7, 1)], &[2])],
+    ),
+    (
+        Queues::Mailbox,
+        [(&[(1, 1), (2, 1)], &[]), (&[], &[1]), (&[(1, 1)], &[2])],
+    ),
+    (
+        Queues::Single,
+        [(&[(0, 1), (1, 1)], &[]), (&[], &[0, 2]), (&[(2, 1)], &[1])],
+    ),
 ];
 
 /// Whether an instance has these ends.
@@ -57,7 +66,10 @@ fn outlets_that_fall_are_spent_or_closed(rt: HostRuntime) -> Result<(), Fail> {
         return Ok(());
     };
     let mut relays = relays;
-    relays.outlets.iter_mut().for_each(|outlet| outlet.1.close());
+    relays
+        .outlets
+        .iter_mut()
+        .for_each(|outlet| outlet.1.close());
     assert!(rt; !relays.fits(&chart, 2), "closed");
     let Some(mut sends) = all.into_iter().next() else {
         return Ok(());
@@ -65,7 +77,10 @@ fn outlets_that_fall_are_spent_or_closed(rt: HostRuntime) -> Result<(), Fail> {
     sends.outlets.reverse();
     assert!(rt; !sends.fits(&chart, 0), "falling");
     sends.outlets.reverse();
-    let put = sends.outlets.last_mut().is_some_and(|outlet| outlet.1.send(5, 0).is_ok());
+    let put = sends
+        .outlets
+        .last_mut()
+        .is_some_and(|outlet| outlet.1.send(5, 0).is_ok());
     assert!(rt; put && !sends.fits(&chart, 0), "spent");
     Ok(())
 }
