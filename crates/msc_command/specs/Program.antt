@@ -2,7 +2,7 @@
 use Rattle.std.specs.Prelude.{ℕ, List, Option, true, false}
 use Rattle.msc_chart.specs.declared.queue.Queues.{Queues}
 use Rattle.msc_report.specs.declared.fault.Fault.{Fault}
-use Rattle.msc_report.specs.declared.fault.Fault.TheVariants.{Parse, Chart, Memory, Device}
+use Rattle.msc_report.specs.declared.fault.Fault.TheVariants.{Parse, Chart, NotStarted, Memory, Device}
 use Rattle.msc_command.specs.declared.program.Status.{Status}
 use Rattle.msc_command.specs.declared.program.Status.TheVariants.{Done, Races, Refused, Failed}
 use Rattle.msc_command.specs.declared.program.Task.{Task}
@@ -21,6 +21,7 @@ status_code Failed = 4
 abbrev pub status_of : Fault → Status
 status_of (Parse f) = Refused
 status_of (Chart f) = Refused
+status_of (NotStarted i) = Failed
 status_of Memory = Failed
 status_of Device = Failed
 

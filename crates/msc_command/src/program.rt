@@ -155,7 +155,7 @@ fn end_with<E: Write>(faults: &mut E, fault: Fault) -> Status
     let _ = write_fault(faults, &fault);
     match fault {
         Fault::Parse(_) | Fault::Chart(_) => Status::Refused,
-        Fault::Memory | Fault::Device => Status::Failed,
+        Fault::NotStarted(_) | Fault::Memory | Fault::Device => Status::Failed,
     }
 }
 

@@ -2,3 +2,4 @@
 pub mod Refusals
 pub mod Texts
 pub mod Verdicts
+pub mod Traces

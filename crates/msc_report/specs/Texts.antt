@@ -10,7 +10,7 @@ use Rattle.msc_parser.specs.declared.fault.ParseFault.TheVariants as grammar
 use Rattle.msc_chart.specs.declared.fault.ChartFault.{ChartFault}
 use Rattle.msc_chart.specs.declared.fault.ChartFault.TheVariants as charts
 use Rattle.msc_report.specs.declared.fault.Fault.{Fault}
-use Rattle.msc_report.specs.declared.fault.Fault.TheVariants.{Parse, Chart, Memory, Device}
+use Rattle.msc_report.specs.declared.fault.Fault.TheVariants.{Parse, Chart, NotStarted, Memory, Device}
 
 -- one line of words
 abbrev pub line : List ℕ → List ℕ
@@ -60,5 +60,6 @@ chart_fault_line charts.Memory = line (codes "memory fault")
 abbrev pub fault_line : Fault → List ℕ
 fault_line (Parse f) = grammar_line f
 fault_line (Chart f) = chart_fault_line f
+fault_line (NotStarted i) = placed (codes "run fault 1: instance ") i (codes " could not be started")
 fault_line Memory = line (codes "memory fault")
 fault_line Device = line (codes "device fault")

@@ -20,6 +20,9 @@ pub enum Fault {
     /// The text's draft is no chart.
     #[error("{0}")]
     Chart(ChartFault),
+    /// The thread of this instance could not be started.
+    #[error("instance {0} could not be started")]
+    NotStarted(u32),
     /// A growth of memory was refused.
     #[error("memory fault")]
     Memory,

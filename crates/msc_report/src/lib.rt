@@ -1,4 +1,4 @@
-//! What the program prints: canonical texts, verdicts, races and fault lines.
+//! What the program prints: canonical texts, verdicts, races, executions and fault lines.
 //!
 //! Each call writes exactly its text or answers an `io::Error`; how much went out before an error
 //! is not said. The texts are definitions of their own, beside which each call's contract stands.
@@ -8,10 +8,12 @@
 
 mod fault;
 mod race;
+mod trace;
 mod verdict;
 mod writing;
 
 pub use fault::Fault;
 pub use race::{run_line, write_race};
+pub use trace::write_trace;
 pub use verdict::write_verdict;
 pub use writing::{write_draft, write_fault};

@@ -39,7 +39,7 @@ fn write_message<W: Write>(writer: &mut W, chart: &Chart, m: u32) -> io::Result<
 }
 
 /// Writes the name of an instance.
-fn write_instance<W: Write>(writer: &mut W, chart: &Chart, i: u32) -> io::Result<()>
+pub(crate) fn write_instance<W: Write>(writer: &mut W, chart: &Chart, i: u32) -> io::Result<()>
     requires { i < length chart.now.instances }
     ensures { OnOk result (Appends (W.contents writer.old) (W.contents writer.new)
         (instance_text chart.now i)) }
@@ -129,7 +129,7 @@ fn write_action<W: Write>(writer: &mut W, label: &[u8]) -> io::Result<()>
 }
 
 /// Writes what event `e` does, in the words of its statement.
-fn write_event<W: Write>(writer: &mut W, chart: &Chart, e: Event) -> io::Result<()>
+pub(crate) fn write_event<W: Write>(writer: &mut W, chart: &Chart, e: Event) -> io::Result<()>
     requires { e < length chart.now.events }
     ensures { OnOk result (Appends (W.contents writer.old) (W.contents writer.new)
         (event_text chart.now e)) }

@@ -10,7 +10,7 @@ use std::io;
 use std::io::Write;
 
 /// Writes the line of a chart's name.
-fn write_name_line<W: Write>(writer: &mut W, chart: &Chart) -> io::Result<()>
+pub(crate) fn write_name_line<W: Write>(writer: &mut W, chart: &Chart) -> io::Result<()>
     ensures { OnOk result (Appends (W.contents writer.old) (W.contents writer.new)
         (name_line chart.now)) }
 {
@@ -20,7 +20,7 @@ fn write_name_line<W: Write>(writer: &mut W, chart: &Chart) -> io::Result<()>
 }
 
 /// Writes the line of an architecture.
-fn write_queues_line<W: Write>(writer: &mut W, queues: Queues) -> io::Result<()>
+pub(crate) fn write_queues_line<W: Write>(writer: &mut W, queues: Queues) -> io::Result<()>
     ensures { OnOk result (Appends (W.contents writer.old) (W.contents writer.new)
         (queues_line queues)) }
 {

@@ -140,6 +140,14 @@ fn write_chart_fault<W: Write>(writer: &mut W, fault: ChartFault) -> io::Result<
     }
 }
 
+/// Writes the line of an instance that could not be started.
+fn write_not_started<W: Write>(writer: &mut W, i: u32) -> io::Result<()>
+    ensures { OnOk result (Appends (W.contents writer.old) (W.contents writer.new)
+        (fault_line (Fault.NotStarted i))) }
+{
+    writeln!(writer, "run fault 1: instance {i} could not be started")
+}
+
 /// Writes the line of a fault. The printed words of faults come from here alone.
 pub fn write_fault<W: Write>(writer: &mut W, fault: &Fault) -> io::Result<()>
     ensures { OnOk result (Appends (W.contents writer.old) (W.contents writer.new)
@@ -151,6 +159,7 @@ pub fn write_fault<W: Write>(writer: &mut W, fault: &Fault) -> io::Result<()>
         Fault::Parse(ParseFault::Expected(at, what)) => write_expected(writer, at, what),
         Fault::Parse(ParseFault::Memory) => write_line(writer, "memory fault"),
         Fault::Chart(fault) => write_chart_fault(writer, fault),
+        Fault::NotStarted(i) => write_not_started(writer, i),
         Fault::Memory => write_line(writer, "memory fault"),
         Fault::Device => write_line(writer, "device fault"),
     }

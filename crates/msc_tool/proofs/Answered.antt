@@ -18,7 +18,7 @@ use Rattle.msc_race.specs.declared.verdict.Verdict.TheVariants.{Pass, Races}
 use Rattle.msc_race.specs.Laws.{AChosenRunExists, ChosenRunsAreWhole, ChosenRunsReverseRaces}
 use Rattle.msc_race.specs.Races.{IsVerdict, TellsRuns}
 use Rattle.msc_report.specs.declared.fault.Fault.{Fault}
-use Rattle.msc_report.specs.declared.fault.Fault.TheVariants.{Parse, Chart, Memory, Device}
+use Rattle.msc_report.specs.declared.fault.Fault.TheVariants.{Parse, Chart, NotStarted, Memory, Device}
 use Rattle.msc_tool.proofs.Races.{pair_events}
 use Rattle.msc_tool.specs.Checking.{passes, checked_text, AreChosen, PrintsVerdict, ShowsRaces, Prints, WritesVerdict, BeginsVerdict}
 use Rattle.msc_tool.specs.Pages.{Writes}
@@ -30,6 +30,7 @@ writes_no_parse (Err Memory) before after text wrote f e = absurd cc
 writes_no_parse (Err Device) before after text wrote f e = absurd cc
 writes_no_parse (Err (Parse g)) before after text wrote f e = wrote
 writes_no_parse (Err (Chart g)) before after text wrote f e = wrote
+writes_no_parse (Err (NotStarted i)) before after text wrote f e = wrote
 
 -- and no draft
 pub writes_no_chart : (r : Result Bool Fault) (before after : Option (List ℕ)) (text : List ℕ) → Writes r before after text → (f : ChartFault) → r ≢ Err (Chart f)
@@ -38,6 +39,7 @@ writes_no_chart (Err Memory) before after text wrote f e = absurd cc
 writes_no_chart (Err Device) before after text wrote f e = absurd cc
 writes_no_chart (Err (Parse g)) before after text wrote f e = wrote
 writes_no_chart (Err (Chart g)) before after text wrote f e = wrote
+writes_no_chart (Err (NotStarted i)) before after text wrote f e = wrote
 
 -- it ends by want of memory or by the writer alone
 pub writes_or_fails : (A : Type 0) (r : Result Bool Fault) (before after : Option (List ℕ)) (text : List ℕ) → Writes r before after text
@@ -47,6 +49,7 @@ writes_or_fails A (Err Memory) before after text wrote = λ no_memory no_device.
 writes_or_fails A (Err Device) before after text wrote = λ no_memory no_device. absurd (no_device refl)
 writes_or_fails A (Err (Parse f)) before after text wrote = absurd wrote
 writes_or_fails A (Err (Chart f)) before after text wrote = absurd wrote
+writes_or_fails A (Err (NotStarted i)) before after text wrote = absurd wrote
 
 -- an event's chosen run, where it is an event
 chosen_run : (queues : Queues) (d : Drawing) → IsAccepted d → AChosenRunExists → (e : ℕ) → (run : List ℕ) × (e < length d.events → IsChosenRun (wired queues d) e run)
@@ -112,6 +115,7 @@ begins_verdict A (Err Memory) text queues show v printed before after wrote prin
 begins_verdict A (Err Device) text queues show v printed before after wrote prints = λ memory. absurd cc
 begins_verdict A (Err (Parse f)) text queues show v printed before after wrote prints = absurd wrote
 begins_verdict A (Err (Chart f)) text queues show v printed before after wrote prints = absurd wrote
+begins_verdict A (Err (NotStarted i)) text queues show v printed before after wrote prints = absurd wrote
 
 -- a beginning that has a draft is no longer than a text may be, so it is the whole input
 pub whole_input : (xs bytes : List ℕ) (draft : Tree) → xs ≡ take BYTE_LIMIT bytes → HasDraft xs draft → xs ≡ bytes

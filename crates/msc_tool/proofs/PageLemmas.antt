@@ -6,7 +6,7 @@ use Rattle.std.specs.Io.KnownBytes.{Appends}
 use Rattle.std.proofs.lemmas.List.{append-nil, take_more, take-append-drop}
 use Rattle.msc_report.proofs.KnownBytes.{Appends-append}
 use Rattle.msc_report.specs.declared.fault.Fault.{Fault}
-use Rattle.msc_report.specs.declared.fault.Fault.TheVariants.{Parse, Chart, Memory, Device}
+use Rattle.msc_report.specs.declared.fault.Fault.TheVariants.{Parse, Chart, NotStarted, Memory, Device}
 use Rattle.msc_tool.specs.Checking.{Begins}
 use Rattle.msc_tool.specs.Pages.{Pages, Puts, Writes}
 
@@ -45,6 +45,7 @@ puts_then A B Memory before mid after old one new last xs ys (f, first, out) (g,
 puts_then A B Device before mid after old one new last xs ys put then = tt
 puts_then A B (Parse fault) before mid after old one new last xs ys put then = absurd then
 puts_then A B (Chart fault) before mid after old one new last xs ys put then = absurd then
+puts_then A B (NotStarted i) before mid after old one new last xs ys put then = absurd then
 
 -- what ends by a fault is a beginning of a longer text too
 pub puts_longer : (A B : Type 0) (e : Fault) (before after : Option (List ℕ)) (old new last xs ys : List ℕ)
@@ -54,6 +55,7 @@ puts_longer A B Memory before after old new last xs ys (f, rest, split, out) =
 puts_longer A B Device before after old new last xs ys then = tt
 puts_longer A B (Parse fault) before after old new last xs ys then = absurd then
 puts_longer A B (Chart fault) before after old new last xs ys then = absurd then
+puts_longer A B (NotStarted i) before after old new last xs ys then = absurd then
 
 -- what was put before memory ran out went out in part
 pub pages_begin : (before after : Option (List ℕ)) (old new xs ys : List ℕ)
@@ -74,6 +76,7 @@ puts_written A B Memory before after old new text whole same (f, rest, is, out) 
 puts_written A B Device before after old new text whole same put = tt
 puts_written A B (Parse fault) before after old new text whole same put = absurd put
 puts_written A B (Chart fault) before after old new text whole same put = absurd put
+puts_written A B (NotStarted i) before after old new text whole same put = absurd put
 
 -- what is put behind what was put, whether it ends by a fault or not
 pub puts_on : (A : Type 0) (r : Result A Fault) (before mid after : Option (List ℕ)) (old one new xs ys : List ℕ)

@@ -12,6 +12,6 @@ mod showing;
 mod text;
 
 pub use checking::{check_input, check_text};
-pub use msc_report::{Fault, write_draft, write_fault, write_race, write_verdict};
+pub use msc_report::{Fault, write_draft, write_fault, write_race, write_trace, write_verdict};
 pub use reading::{CALL_LIMIT, read_all};
 pub use text::{read_input, read_text};

@@ -158,3 +158,34 @@ fn a_fault_without_a_number_is_printed_as_its_message(rt: HostRuntime) -> Result
     }
     Ok(())
 }
+
+/// A fault of running a chart and its line: its number stands before its message.
+const RUN_FAULTS: [(Fault, u32, &str); 3] = [
+    (
+        Fault::NotStarted(0),
+        1,
+        "run fault 1: instance 0 could not be started\n",
+    ),
+    (
+        Fault::NotStarted(31),
+        1,
+        "run fault 1: instance 31 could not be started\n",
+    ),
+    (
+        Fault::NotStarted(4294967295),
+        1,
+        "run fault 1: instance 4294967295 could not be started\n",
+    ),
+];
+
+#[test]
+fn a_run_fault_is_printed_as_its_number_and_its_message(rt: HostRuntime) -> Result<(), Fail> {
+    for (fault, number, wanted) in RUN_FAULTS {
+        let message = format!(in rt.alloc(); "run fault {number}: {fault}\n")?;
+        assert!(rt;
+            is_line(rt.alloc(), fault, wanted)? && message.as_str() == wanted,
+            "{wanted}"
+        );
+    }
+    Ok(())
+}

@@ -14,3 +14,5 @@ mod inputs;
 mod program;
 #[cfg(test)]
 mod shown;
+#[cfg(test)]
+mod traces;

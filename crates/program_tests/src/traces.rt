@@ -1,0 +1,148 @@
+//! The texts of executions: how the instances ended, and the trace.
+
+ghost use Rattle.std.specs.Prelude.{◌<◌, IsTrue, length};
+ghost use Rattle.std.specs.List.{All};
+
+use crate::devices::byte_writer;
+use example_charts::{EMPTY, LOCAL_EVENTS, NUMBERED, ONE_MESSAGE, RELAY};
+use msc_chart::{Chart, Event, Queues};
+use msc_execution::End;
+use msc_parser::parse;
+use msc_tool::write_trace;
+use std::alloc::Global;
+use std::test::Fail;
+
+/// A chart's text, the architecture, how each instance ended, the trace, and what is printed.
+type Printed = (
+    &'static [u8],
+    Queues,
+    &'static [End],
+    Option<&'static [Event]>,
+    &'static [u8],
+);
+
+/// Executions of worked charts, whole ones and such as stopped on the way.
+const PRINTED: [Printed; 8] = [
+    (
+        EMPTY,
+        Queues::Pair,
+        &[],
+        Some(&[]),
+        b"chart t\nqueues pair\ntrace 0\n",
+    ),
+    (
+        ONE_MESSAGE,
+        Queues::Single,
+        &[End::Finished, End::Finished],
+        Some(&[0, 1]),
+        b"chart t\nqueues single\ninstance a finished\ninstance b finished\n\
+trace 2\n0 a out m to b\n1 b in m from a\n",
+    ),
+    (
+        ONE_MESSAGE,
+        Queues::Pair,
+        &[End::Finished, End::Impatient],
+        Some(&[0]),
+        b"chart t\nqueues pair\ninstance a finished\ninstance b impatient\n\
+trace 1\n0 a out m to b\n",
+    ),
+    (
+        ONE_MESSAGE,
+        Queues::Mailbox,
+        &[End::Stopped, End::Starved],
+        None,
+        b"chart t\nqueues mailbox\ninstance a stopped\ninstance b starved\nno trace\n",
+    ),
+    (
+        ONE_MESSAGE,
+        Queues::Pair,
+        &[End::Foreign(0), End::Foreign(4294967295)],
+        Some(&[]),
+        b"chart t\nqueues pair\ninstance a foreign 0\ninstance b foreign 4294967295\ntrace 0\n",
+    ),
+    (
+        RELAY,
+        Queues::Mailbox,
+        &[End::Finished, End::Finished, End::Finished],
+        Some(&[0, 1, 2, 4, 5, 3]),
+        b"chart t\nqueues mailbox\n\
+instance a finished\ninstance b finished\ninstance c finished\n\
+trace 6\n0 a out m1 to b\n1 a out x to c\n2 b in m1 from a\n\
+4 c in x from a\n5 c out m2 to b\n3 b in m2 from c\n",
+    ),
+    (
+        LOCAL_EVENTS,
+        Queues::Single,
+        &[End::Finished, End::Finished],
+        Some(&[0, 1, 2, 3]),
+        b"chart t\nqueues single\ninstance a finished\ninstance b finished\n\
+trace 4\n0 a action 'go'\n1 a out m to b\n2 b in m from a\n3 b action 'done'\n",
+    ),
+    (
+        NUMBERED,
+        Queues::Pair,
+        &[End::Finished, End::Starved],
+        Some(&[0, 2, 1]),
+        b"chart t\nqueues pair\ninstance a finished\ninstance b starved\n\
+trace 3\n0 a out m, 1 to b\n2 b in m, 1 from a\n1 a out m, 2 to b\n",
+    ),
+];
+
+/// Whether these are all events of a chart.
+fn are_events(chart: &Chart, events: &[Event]) -> bool
+    ensures { IsTrue result → All (λ e. e < length chart.now.events) events.now }
+{
+    let count = chart.events();
+    events.iter().all(|e| *e < count)
+}
+
+/// What `write_trace` writes through a writer that takes a byte at a time and fails at this call,
+/// from 1, or at none where it is 0. Nothing, where it fails, and where the events are not the
+/// chart's or the ends not as many as its instances.
+fn written(alloc: Global, printed: &Printed, fails_at: u32) -> Result<Option<Vec<u8>>, Fail> {
+    let (text, queues, ends, trace, _) = *printed;
+    let chart = Chart::build(alloc, &parse(alloc, text)?)?;
+    if ends.len() != chart.instances() as usize {
+        return Ok(None);
+    }
+    let mut writer = byte_writer(alloc, fails_at);
+    let answer = match trace {
+        Some(events) if are_events(&chart, events) => {
+            write_trace(&mut writer, &chart, queues, ends, Some(events))
+        }
+        Some(_) => return Ok(None),
+        None => write_trace(&mut writer, &chart, queues, ends, None),
+    };
+    Ok(answer.ok().map(|()| writer.written))
+}
+
+/// Whether this is what is written.
+fn writes(alloc: Global, printed: &Printed) -> Result<bool, Fail> {
+    match written(alloc, printed, 0)? {
+        Some(bytes) => Ok(bytes.as_slice() == printed.4),
+        None => Ok(false),
+    }
+}
+
+#[test]
+fn executions_of_the_worked_charts(rt: HostRuntime) -> Result<(), Fail> {
+    for printed in PRINTED {
+        assert!(rt; writes(rt.alloc(), &printed)?, "{printed:?}");
+    }
+    Ok(())
+}
+
+#[test]
+fn a_failing_write_is_an_error(rt: HostRuntime) -> Result<(), Fail> {
+    for printed in PRINTED {
+        let calls = printed.4.len() as u32;
+        for before in 0..calls {
+            let call = before.wrapping_add(1);
+            assert!(rt;
+                written(rt.alloc(), &printed, call)?.is_none(),
+                "{printed:?} {call}"
+            );
+        }
+    }
+    Ok(())
+}
