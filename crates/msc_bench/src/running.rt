@@ -26,7 +26,11 @@ fn finishers(execution: &Execution) -> u64 {
     let ends = execution.ends.iter();
     ends.fold(
         0u64,
-        |count, end| if *end == End::Finished { count.wrapping_add(1) } else { count },
+        |count, end| if *end == End::Finished {
+            count.wrapping_add(1)
+        } else {
+            count
+        },
     )
 }
 
