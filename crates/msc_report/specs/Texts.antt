@@ -60,6 +60,7 @@ chart_fault_line charts.Memory = line (codes "memory fault")
 abbrev pub fault_line : Fault → List ℕ
 fault_line (Parse f) = grammar_line f
 fault_line (Chart f) = chart_fault_line f
-fault_line (NotStarted i) = placed (codes "run fault 1: instance ") i (codes " could not be started")
+fault_line (NotStarted i) =
+    placed (codes "run fault 1: instance ") i (codes " could not be started")
 fault_line Memory = line (codes "memory fault")
 fault_line Device = line (codes "device fault")

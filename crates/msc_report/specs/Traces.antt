@@ -30,13 +30,17 @@ end_lines d i (end ∷ ends) = end_line d i end ++ end_lines d (suc i) ends
 -- an event of a trace: its number, the name of its instance, and what it does
 abbrev pub event_line : Drawing → ℕ → List ℕ
 event_line d e =
-    decimal e ++ (codes " " ++ (instance_text d (charts.line d.events e) ++ (codes " " ++ line (event_text d e))))
+    decimal e ++ (codes " " ++ (instance_text d (charts.line d.events e)
+    ++ (codes " " ++ line (event_text d e))))
 
--- the number of a trace's events and a line for each, in the order of the trace; or that there is none
+-- the number of a trace's events and a line for each, in the order of the trace; or that there is
+-- none
 abbrev pub trace_lines : Drawing → Option (List ℕ) → List ℕ
 trace_lines d None = line (codes "no trace")
-trace_lines d (Some events) = codes "trace " ++ (line (decimal (length events)) ++ flat_map (event_line d) events)
+trace_lines d (Some events) =
+    codes "trace " ++ (line (decimal (length events)) ++ flat_map (event_line d) events)
 
 -- an execution: the chart's name, the architecture, how each instance ended, and the trace
 abbrev pub trace_text : Drawing → Queues → List End → Option (List ℕ) → List ℕ
-trace_text d queues ends trace = name_line d ++ (queues_line queues ++ (end_lines d 0 ends ++ trace_lines d trace))
+trace_text d queues ends trace =
+    name_line d ++ (queues_line queues ++ (end_lines d 0 ends ++ trace_lines d trace))
