@@ -3,7 +3,7 @@ use Rattle.msc_instance.proofs.Runs.{line_room}
 use Rattle.instance_tests.proofs.alone.left.Goals as goal
 
 pub run_instance-requires-clause-room : goal.run_instance-requires-clause-room
-run_instance-requires-clause-room c =
+run_instance-requires-clause-room g c =
     let line = c.line-start in
     let enough = line_room c.args.chart.now c.args.i line.result.0 line.result.1 line.ensures.range in
     omega (arith, enough, c.in_ok-log.ensures.capacity, c.saturating_sub.ensures)
