@@ -1,6 +1,9 @@
 pub mod ListLemmas
 pub mod Numbers
 pub mod Drawn
+pub mod KindTests
+pub mod Waiting
+pub mod Left
 pub mod Segments
 pub mod NumberingLemmas
 pub mod CycleLemmas

@@ -9,7 +9,8 @@ use Rattle.msc_chart.specs.Charts.{line}
 use Rattle.msc_chart.specs.Lists.{Steps, occurs}
 use Rattle.msc_chart.proofs.ListLemmas.{by_test, clash, until-within, Steps-map, Steps-push}
 use Rattle.msc_chart.proofs.Numbers.{count_below, find_below}
-use Rattle.msc_gather.proofs.Base.{output_below, is_left, left_from, left_parts, left_less}
+use Rattle.msc_chart.proofs.KindTests.{output_below}
+use Rattle.msc_chart.proofs.Left.{is_left, left_from, left_parts, left_less}
 use Rattle.msc_chart.specs.Runs.{HasNoMerge}
 use Rattle.msc_gather.specs.Gathering.{IsNotAfter, IsGathered}
 use Rattle.msc_gather.specs.Schedule.{log_of, is_logged, AreLogs, goes_first, MayFollow, HasAll, IsSchedule, IsSeated, FollowsLeast, SomeMissing}

@@ -1,4 +1,3 @@
-pub mod Base
 pub mod Once
 pub mod Filters
 pub mod ComesFirst

@@ -13,7 +13,7 @@ use Rattle.msc_gather.specs.Schedule.{log_of, is_logged, AreLogs, IsSeated, is_t
 use Rattle.msc_gather.specs.Heads.{IsLink}
 use Rattle.msc_gather.specs.Links.{IsLastTaken, HoldsTaken}
 use Rattle.msc_gather.specs.Marks.{is_marked, AreMarks}
-use Rattle.msc_gather.proofs.Base.{output_below, input_below}
+use Rattle.msc_chart.proofs.KindTests.{output_below, input_below}
 use Rattle.msc_gather.proofs.Once.{until-until, until-append-new, occurs-head, occurs-tail}
 use Rattle.msc_gather.proofs.Filters.{until-filter}
 use Rattle.msc_gather.proofs.Apart.{apart_of_once, once_of_apart, Apart-concat, of_concat, in_concat}

@@ -10,7 +10,7 @@ use Rattle.msc_chart.proofs.Numbers.{count_below}
 use Rattle.msc_gather.specs.Schedule.{log_of, is_logged, AreLogs, IsSeated, FollowsLeast}
 use Rattle.msc_gather.specs.Heads.{IsFront}
 use Rattle.msc_gather.specs.Merges.{IsMerging}
-use Rattle.msc_gather.proofs.Base.{is_left, left_less}
+use Rattle.msc_chart.proofs.Left.{is_left, left_less}
 use Rattle.msc_gather.proofs.Once.{until-self, occurs-cases}
 use Rattle.msc_gather.proofs.HeadLemmas.{head_of_follower, item_there, before_at}
 use Rattle.msc_gather.proofs.TakenLemmas.{single}

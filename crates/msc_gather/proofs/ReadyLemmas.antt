@@ -9,7 +9,7 @@ use Rattle.msc_gather.specs.Schedule.{log_of, AreLogs, MayFollow, FollowsLeast, 
 use Rattle.msc_gather.specs.Heads.{IsLink, IsBehind, IsFront}
 use Rattle.msc_gather.specs.Links.{AreLinks}
 use Rattle.msc_gather.specs.Merges.{IsMerging, MayFollowOn}
-use Rattle.msc_gather.proofs.Base.{output_below}
+use Rattle.msc_chart.proofs.KindTests.{output_below}
 use Rattle.msc_gather.proofs.HeadLemmas.{head_of_follower, head_follows, item_there}
 use Rattle.msc_gather.proofs.LinkLemmas.{crosses_cases}
 

@@ -8,7 +8,7 @@ use Rattle.msc_chart.specs.Orders.{WiredChart, IsWired, queue}
 use Rattle.msc_chart.proofs.ListLemmas.{by_test, clash, until-append, occurs-left, occurs-push}
 use Rattle.msc_chart.proofs.Drawn.{controlled_no_input, partner_of_output, input_not_local}
 use Rattle.msc_gather.specs.Links.{IsLastTaken, HoldsTaken}
-use Rattle.msc_gather.proofs.Base.{output_below, input_below}
+use Rattle.msc_chart.proofs.KindTests.{output_below, input_below}
 use Rattle.msc_gather.proofs.Once.{until-new, occurs-cases}
 use Rattle.msc_gather.proofs.Filters.{occurs-filter, filter-within, until-filter}
 

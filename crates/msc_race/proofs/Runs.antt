@@ -1,7 +1,6 @@
 -- Laws of runs and of the orders, over definitions alone.
 pub mod Standing
 pub mod EventLemmas
-pub mod QueueLemmas
 pub mod Respects
 pub mod EnforcedPairs
 pub mod Inside

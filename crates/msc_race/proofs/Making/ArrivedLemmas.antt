@@ -7,7 +7,7 @@ use Rattle.msc_chart.specs.Orders.{WiredChart, queue}
 use Rattle.msc_chart.specs.Runs.{Run, is_waiting, state}
 use Rattle.msc_race.specs.QueuedRuns.{IsQueue, IsArrived}
 use Rattle.msc_race.proofs.Runs.EventLemmas.{output_below}
-use Rattle.msc_race.proofs.Runs.QueueLemmas.{waiting_parts}
+use Rattle.msc_chart.proofs.Waiting.{waiting_parts}
 use Rattle.msc_race.proofs.Making.StateLemmas.{IsDistinct, distinct, distinct_filter}
 
 -- what occurs in a filter passes it

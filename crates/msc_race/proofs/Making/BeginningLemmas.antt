@@ -15,7 +15,7 @@ use Rattle.msc_race.specs.QueuedRuns.{IsArrived}
 use Rattle.msc_race.specs.Beginnings.{HoldsLeft}
 use Rattle.msc_race.proofs.Shared.{by_test, clash, occurs-push, first_occurs}
 use Rattle.msc_race.proofs.Runs.EventLemmas.{input_below, controlled_parts, controlled_or_input, controlled_no_input, before_parts}
-use Rattle.msc_race.proofs.Runs.QueueLemmas.{waiting_parts}
+use Rattle.msc_chart.proofs.Waiting.{waiting_parts}
 use Rattle.msc_race.proofs.Making.FrontLemmas.{still_in, was_in}
 use Rattle.msc_race.proofs.Runs.FreeRuns.{test_of_held}
 use Rattle.msc_race.proofs.Runs.FreeFirst.{held_queue}

@@ -2,9 +2,8 @@
 use Rattle.std.proofs.Common.{◌≡◌, ℕ, ◌<◌, ◌↔◌, List, [], ◌∷◌, ◌++◌, length, refl}
 use Rattle.msc_chart.specs.Orders.{WiredChart}
 use Rattle.msc_chart.specs.Chosen.{IsChosenNext}
+use Rattle.msc_chart.proofs.Left.{is_left, left_less}
 use Rattle.msc_race.proofs.Shared.{count_below}
-use Rattle.msc_race.proofs.Runs.Inside.{is_left}
-use Rattle.msc_race.proofs.Runs.Growing.{left_less}
 use Rattle.msc_race.proofs.Runs.WholeRuns.{everything}
 use Rattle.msc_race.proofs.Runs.ChosenRuns.{may_of_next}
 

@@ -10,7 +10,7 @@ use Rattle.msc_chart.specs.Runs.{Run, MayCome, is_waiting, state}
 use Rattle.msc_chart.proofs.ListLemmas.{occurs-append}
 use Rattle.msc_race.proofs.Shared.{by_test, clash, occurs-left, occurs-push, until-within, step_at, first_occurs}
 use Rattle.msc_race.proofs.Runs.EventLemmas.{input_not_local, output_below, output_not_local, not_both, partner_of_output}
-use Rattle.msc_race.proofs.Runs.QueueLemmas.{waiting_from, waiting_parts}
+use Rattle.msc_chart.proofs.Waiting.{waiting_from, waiting_parts}
 
 -- no number stands in the list twice
 abbrev pub IsDistinct : List ℕ → Type 0

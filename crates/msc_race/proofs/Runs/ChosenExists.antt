@@ -9,9 +9,10 @@ use Rattle.msc_chart.specs.Orders.{WiredChart, IsWired, Enforced, IsEnforcedOrde
 use Rattle.msc_chart.specs.Runs.{Run, MayCome, IsWhole}
 use Rattle.msc_chart.specs.Chosen.{MayComeFree, SomeFreeLeft, IsChosenNext, IsChosenRun}
 use Rattle.msc_race.proofs.Shared.{clash, count_below, find_below, occurs-left, Steps-map, Steps-push}
-use Rattle.msc_race.proofs.Runs.Inside.{MayComeInside, SomeLeft, run_inside, is_left, left_from, left_parts}
+use Rattle.msc_chart.proofs.Left.{is_left, left_from, left_parts, left_less}
+use Rattle.msc_race.proofs.Runs.Inside.{MayComeInside, SomeLeft, run_inside}
 use Rattle.msc_race.proofs.Runs.Progress.{progress}
-use Rattle.msc_race.proofs.Runs.Growing.{left_less, left_counted}
+use Rattle.msc_race.proofs.Runs.Growing.{left_counted}
 use Rattle.msc_race.proofs.Runs.WholeRuns.{everything, never_stuck}
 use Rattle.msc_race.proofs.Runs.FreeEvents.{is_free_of}
 use Rattle.msc_race.proofs.Runs.FreeFirst.{free_first}

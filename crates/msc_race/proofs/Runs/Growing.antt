@@ -1,25 +1,12 @@
 -- A run inside a set of events that can go first goes on to one with all of the set.
 use Rattle.std.proofs.Common.{◌≡◌, ℕ, zero, suc, ◌<◌, ◌≤◌, Bool, true, false, inl, inr, List, [], ◌∷◌, ◌++◌, length, refl, subst, append_assoc, arith}
-use Rattle.std.proofs.lemmas.Bool.{false_from_ne_true}
 use Rattle.std.proofs.lemmas.List.{append-nil}
 use Rattle.msc_chart.specs.Lists.{occurs, Steps}
 use Rattle.msc_chart.specs.Orders.{WiredChart, IsWired}
-use Rattle.msc_race.proofs.Shared.{by_test, clash, count_below, count-less, find_below, occurs-left, occurs-push, Steps-push}
-use Rattle.msc_race.proofs.Runs.Inside.{MayComeInside, is_left, left_from, left_parts}
+use Rattle.msc_race.proofs.Shared.{by_test, clash, count_below, count-less, find_below, Steps-push}
+use Rattle.msc_chart.proofs.Left.{is_left, left_from, left_less, left_parts}
+use Rattle.msc_race.proofs.Runs.Inside.{MayComeInside}
 use Rattle.msc_race.proofs.Runs.Progress.{CanGoFirst, progress}
-
--- one more event leaves less of the set
-pub left_less : (inside : ℕ → Bool) (past : List ℕ) (n x : ℕ) → x < n → inside x ≡ true
-    → occurs past x ≡ false
-    → count_below (is_left inside (past ++ x ∷ [])) n < count_below (is_left inside past) n
-left_less inside past n x below member out =
-    count-less (is_left inside past) (is_left inside (past ++ x ∷ [])) n x
-    (λ k lt h.
-    let k_left = left_parts inside (past ++ x ∷ []) k h in
-    let new = false_from_ne_true _ (λ there. clash (occurs-left past (x ∷ []) k there) k_left.1) in
-    left_from inside past k k_left.0 new)
-    below (left_from inside past x member out)
-    (false_from_ne_true _ (λ h. clash (occurs-push past x) (left_parts inside (past ++ x ∷ []) x h).1))
 
 -- what is left is counted
 pub left_counted : (inside : ℕ → Bool) (past : List ℕ) (n x : ℕ) → x < n → inside x ≡ true

@@ -79,18 +79,3 @@ module _ (chart : WiredChart) (inside : ℕ → Bool) where
             (λ out. clash (and_from _ _ (and_from _ _ passed (eq-eqb _ _ same)) (not_from_false _ out))
             (none t (output_below chart.events t (passed_on_parts t passed).0))))
       ]
-
-module _ (inside : ℕ → Bool) (past : List ℕ) where
-  -- an event of the set that has not occurred
-  pub is_left : ℕ → Bool
-  is_left x = inside x && not (occurs past x)
-
-  -- what makes an event one that is left
-  pub left_from : (x : ℕ) → inside x ≡ true → occurs past x ≡ false → is_left x ≡ true
-  unfolding is_left
-  left_from x member out = and_from _ _ member (not_from_false _ out)
-
-  -- and what is known of it
-  pub left_parts : (x : ℕ) → is_left x ≡ true → (inside x ≡ true) × (occurs past x ≡ false)
-  unfolding is_left
-  left_parts x h = let both = and_parts _ _ h in (both.0, not-true _ both.1)

@@ -9,8 +9,9 @@ use Rattle.msc_chart.specs.Orders.{WiredChart, IsWired, queue}
 use Rattle.msc_chart.specs.Runs.{MayCome, is_waiting}
 use Rattle.msc_race.proofs.Shared.{by_test, clash, count_below, find_below, descend, step_at, first_occurs, before_first_fails, filter-first}
 use Rattle.msc_race.proofs.Runs.EventLemmas.{output_below, input_below, controlled_or_input, controlled_no_input, not_both, before_parts, partner_of_output, partner_of_input}
-use Rattle.msc_race.proofs.Runs.QueueLemmas.{waiting_from, waiting_parts}
-use Rattle.msc_race.proofs.Runs.Inside.{is_held, is_passed_on, held_from, held_parts, passed_on_from, passed_on_parts, passed_on_told, MayComeInside, SomeLeft, is_left, left_from, left_parts}
+use Rattle.msc_chart.proofs.Waiting.{waiting_from, waiting_parts}
+use Rattle.msc_chart.proofs.Left.{is_left, left_from, left_parts}
+use Rattle.msc_race.proofs.Runs.Inside.{is_held, is_passed_on, held_from, held_parts, passed_on_from, passed_on_parts, passed_on_told, MayComeInside, SomeLeft}
 
 module _ (events : List ChartEvent) (x y : ℕ) where
   -- x has to come before y by a rule of a run: it is drawn before y, which is controlled, or is the

@@ -7,7 +7,7 @@ use Rattle.msc_chart.specs.Orders.Enforced.{drawn, sent, joined, queued}
 use Rattle.msc_chart.specs.Runs.{Run, MayCome, Reverses, is_waiting, state}
 use Rattle.msc_race.proofs.Shared.{clash, step_at, until-within, first_occurs, before_first_fails}
 use Rattle.msc_race.proofs.Runs.EventLemmas.{output_below, partner_of_output}
-use Rattle.msc_race.proofs.Runs.QueueLemmas.{taken}
+use Rattle.msc_chart.proofs.Waiting.{taken}
 
 module _ (chart : WiredChart) (is_wired : IsWired chart) where
   -- What is enforced before an event that may come next has occurred. By the rules of the order: a

@@ -8,7 +8,8 @@ use Rattle.msc_chart.specs.Orders.{WiredChart, IsWired, Enforced}
 use Rattle.msc_chart.specs.Runs.{Run, IsWhole, Reverses}
 use Rattle.msc_race.proofs.Shared.{count_below, step_at, until-within, until-append, occurs-left}
 use Rattle.msc_race.proofs.Runs.Respects.{never_reversed}
-use Rattle.msc_race.proofs.Runs.Inside.{MayComeInside, run_inside, is_left}
+use Rattle.msc_chart.proofs.Left.{is_left}
+use Rattle.msc_race.proofs.Runs.Inside.{MayComeInside, run_inside}
 use Rattle.msc_race.proofs.Runs.Growing.{all_of}
 use Rattle.msc_race.proofs.Runs.WholeRuns.{whole_after}
 use Rattle.msc_race.proofs.Runs.FreeEvents.{is_free_of, free_of_test, test_of_free}

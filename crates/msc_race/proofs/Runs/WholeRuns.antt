@@ -10,7 +10,8 @@ use Rattle.msc_chart.specs.Runs.{Run, MayCome, IsWhole}
 use Rattle.msc_race.proofs.Shared.{clash, count_below, find_below, step_at, Steps-map}
 use Rattle.msc_race.proofs.Runs.Respects.{earlier}
 use Rattle.msc_race.proofs.Runs.EnforcedPairs.{enforced_below}
-use Rattle.msc_race.proofs.Runs.Inside.{held_parts, MayComeInside, SomeLeft, run_inside, is_left}
+use Rattle.msc_chart.proofs.Left.{is_left}
+use Rattle.msc_race.proofs.Runs.Inside.{held_parts, MayComeInside, SomeLeft, run_inside}
 use Rattle.msc_race.proofs.Runs.Progress.{needed_cases, CanGoFirst, progress}
 use Rattle.msc_race.proofs.Runs.Growing.{all_of}
 

@@ -14,7 +14,7 @@ use Rattle.msc_race.specs.Samples.{crossed, mailboxes, NoRunReversesBoth}
 use Rattle.msc_race.proofs.Shared.{clash, step_at, until-within, first_occurs, before_first_fails}
 use Rattle.msc_race.proofs.Runs.Standing.{until_swapped, until_until, stands_trans, until_own}
 use Rattle.msc_race.proofs.Runs.EventLemmas.{output_below, partner_of_output}
-use Rattle.msc_race.proofs.Runs.QueueLemmas.{waiting_from}
+use Rattle.msc_chart.proofs.Waiting.{waiting_from}
 use Rattle.msc_race.proofs.Runs.Respects.{kept}
 use Rattle.msc_race.proofs.Worked.RunTests.{wired_from}
 

@@ -3,7 +3,7 @@ use Rattle.msc_chart.specs.Wirings.{size, wired_by}
 use Rattle.msc_chart.proofs.Numbers.{count_below}
 use Rattle.msc_gather.specs.Schedule.{is_logged}
 use Rattle.msc_gather.specs.Merges.{IsMerging}
-use Rattle.msc_gather.proofs.Base.{is_left}
+use Rattle.msc_chart.proofs.Left.{is_left}
 use Rattle.msc_gather.proofs.merging.merged.Given as goal
 
 abbrev pub invariant-loop-x : goal.invariant-loop-x

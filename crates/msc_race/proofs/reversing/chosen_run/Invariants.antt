@@ -1,7 +1,7 @@
 use Rattle.std.proofs.Common.{length}
 use Rattle.msc_race.specs.Beginnings.{IsBeginning, run_of}
 use Rattle.msc_race.proofs.Shared.{count_below}
-use Rattle.msc_race.proofs.Runs.Inside.{is_left}
+use Rattle.msc_chart.proofs.Left.{is_left}
 use Rattle.msc_race.proofs.Runs.WholeRuns.{everything}
 use Rattle.msc_race.proofs.reversing.chosen_run.Given as goal
 

@@ -5,7 +5,7 @@ use Rattle.msc_chart.specs.Lists.{occurs}
 use Rattle.msc_chart.specs.Charts.{partner, is_output}
 use Rattle.msc_chart.specs.Orders.{WiredChart, queue}
 use Rattle.msc_chart.specs.Runs.{is_waiting}
-use Rattle.msc_race.proofs.Shared.{clash}
+use Rattle.msc_chart.proofs.ListLemmas.{clash}
 
 module _ (chart : WiredChart) (q : ℕ) (past : List ℕ) (s : ℕ) where
   -- an output of the queue is in it while its input has not occurred
@@ -16,7 +16,8 @@ module _ (chart : WiredChart) (q : ℕ) (past : List ℕ) (s : ℕ) where
 
   -- and only then
   pub waiting_parts : is_waiting chart q past s ≡ true
-      → (is_output chart.events s ≡ true) × (queue chart s ≡ q) × (occurs past (partner chart.events s) ≡ false)
+      → (is_output chart.events s ≡ true) × (queue chart s ≡ q)
+      × (occurs past (partner chart.events s) ≡ false)
   unfolding is_waiting
   waiting_parts h =
       let both = and_parts _ _ h in
