@@ -15,7 +15,7 @@ use Rattle.msc_chart.specs.declared.end.Act.TheVariants as code_acts
 use Rattle.msc_chart.specs.Events.{Act, instances_of, header_of, acts_of, events_of, address_of, is_action}
 use Rattle.msc_chart.specs.Events.Act.{End}
 use Rattle.msc_chart.specs.Views.{act_view, event_view, mark_view, mark_of, marks_from}
-use Rattle.msc_chart.specs.Numbering.{AreNewBelow, IsFirstRepeat, AreNumbered}
+use Rattle.msc_chart.specs.Numbering.{AreNewBelow, IsFirstRepeat}
 use Rattle.msc_chart.specs.Lists.{IsLeast}
 use Rattle.msc_chart.specs.Faults.{Stands, HoldsAt, IsRepeat, IsTwice, IsUnknown, IsUnmatched, OfEnd, AreTooMany, IsFirstFault, IsClearBelow}
 use Rattle.msc_chart.proofs.FaultLemmas.{first_of, clear_next, clear_first}
@@ -197,40 +197,6 @@ module _ (d : Tree) where
     pub matched_inputs_clear : IsClearBelow d 9 → ((k : ℕ) → HoldsAt (OfEnd (IsUnmatched false (map mark_view marks))) (map mark_view marks) k → ⊥) → IsClearBelow d 10
     unfolding Stands Alone
     matched_inputs_clear clear none = clear_next d 9 clear (λ p s. none p (subst (λ ys. Alone false ys p) (sym drawn) s))
-
--- the same in one go, as far as the look-ups went: no fault of a lower rank than the next stands
-module _ (d : Tree) (names : List (Bor (List ℕ))) (seen : map deref names ≡ instances_of d) (marks : List code.Mark) (drawn : map mark_view marks ≡ acts_of d) (clear : IsClearBelow d 4)
-    (known : (k : ℕ) → HoldsAt (OfEnd (λ x. IsUnknown (map deref names) (address_of x))) (map mark_view marks) k → ⊥) (few : AreTooMany (map mark_view marks) → ⊥) where
-  -- where the addresses are known and the messages few enough
-  pub clear_with_few_messages : IsClearBelow d 6
-  clear_with_few_messages = few_messages_clear d marks drawn (known_addresses_clear d names seen marks drawn clear known) few
-
-  module _ (fewer : 1024 < count_by is_action (map mark_view marks) → ⊥) where
-    -- where also the actions are few enough
-    pub clear_with_few_actions : IsClearBelow d 7
-    clear_with_few_actions = few_actions_clear d marks drawn clear_with_few_messages fewer
-
-    module _ (keys : List code.Mark) (n : AreNumbered mark_same marks keys) where
-      -- where also the ends differ, so that each has its number
-      pub clear_with_distinct_ends : IsClearBelow d 8
-      clear_with_distinct_ends = distinct_ends_clear d marks drawn clear_with_few_actions n.new
-
-      -- an output whose other end is nowhere is the first fault
-      pub lone_output_first : (e : ℕ) → IsLeast (HoldsAt (OfEnd (IsUnmatched true (map mark_view marks))) (map mark_view marks)) e → IsFirstFault d (UnmatchedOut e)
-      lone_output_first e h = unmatched_output_first d marks drawn clear_with_distinct_ends e h
-
-      module _ (paired : (k : ℕ) → HoldsAt (OfEnd (IsUnmatched true (map mark_view marks))) (map mark_view marks) k → ⊥) where
-        -- where each output has its input
-        pub clear_with_matched_outputs : IsClearBelow d 9
-        clear_with_matched_outputs = matched_outputs_clear d marks drawn clear_with_distinct_ends paired
-
-        -- an input whose other end is nowhere is the first fault
-        pub lone_input_first : (e : ℕ) → IsLeast (HoldsAt (OfEnd (IsUnmatched false (map mark_view marks))) (map mark_view marks)) e → IsFirstFault d (UnmatchedIn e)
-        lone_input_first e h = unmatched_input_first d marks drawn clear_with_matched_outputs e h
-
-        -- where each input has its output too, no fault is left but a cycle
-        pub clear_with_matched_inputs : ((k : ℕ) → HoldsAt (OfEnd (IsUnmatched false (map mark_view marks))) (map mark_view marks) k → ⊥) → IsClearBelow d 10
-        clear_with_matched_inputs back = matched_inputs_clear d marks drawn clear_with_matched_outputs back
 
 -- the marks of the code's events show the draft's acts
 pub marks_seen : (d : Tree) (events : List coded.DraftEvent) (marks : List code.Mark) → marks ≡ marks_from 0 events → map event_view events ≡ events_of d → map mark_view marks ≡ acts_of d

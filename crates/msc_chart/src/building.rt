@@ -7,7 +7,7 @@ ghost use Rattle.msc_chart.specs.Charts.{IsLinearOrder};
 ghost use Rattle.msc_chart.specs.Drawings.{chart_events};
 ghost use Rattle.msc_chart.specs.Tables.{partners_of};
 ghost use Rattle.msc_chart.specs.Views.{event_view, mark_view, marks_from};
-ghost use Rattle.msc_chart.specs.Faults.{IsClearBelow, IsFaultless, IsFirstOrMemory};
+ghost use Rattle.msc_chart.specs.Faults.{IsClearBelow, IsFaultless, IsFirstFault, IsFirstOrMemory};
 
 use crate::charting::{chart_events, partners};
 use crate::check::{
@@ -48,6 +48,22 @@ fn marks_of<'d>(alloc: Global, events: &[DraftEvent<'d>]) -> Result<Vec<Mark<'d>
     Ok(marks)
 }
 
+/// The events of a draft, and their marks.
+fn marked_events<'d>(
+    alloc: Global,
+    draft: &'d Draft,
+) -> Result<(Vec<DraftEvent<'d>>, Vec<Mark<'d>>), AllocError>
+    requires sections { length draft.now.sections ≤ INSTANCE_LIMIT }
+    ensures events { IfOk result (λ r. map event_view r.0.items ≡ events_of draft.entry.now) }
+    ensures marks { IfOk result (λ r. r.1.items ≡ marks_from 0 r.0.items) }
+    ensures acts { IfOk result (λ r. map mark_view r.1.items ≡ acts_of draft.entry.now) }
+    ensures few { IfOk result (λ r. length r.1.items ≤ TEXT_LIMIT) }
+{
+    let events = events_of(alloc, draft)?;
+    let marks = marks_of(alloc, events.as_slice())?;
+    Ok((events, marks))
+}
+
 /// The instances by number, where the draft has none of the faults that concern their names.
 fn instances<'d>(alloc: Global, draft: &'d Draft) -> Result<IndexSet<&'d [u8]>, ChartFault>
     ensures names { IfOk result (λ names. map deref names.keys ≡ instances_of draft.entry.now) }
@@ -69,6 +85,60 @@ fn instances<'d>(alloc: Global, draft: &'d Draft) -> Result<IndexSet<&'d [u8]>, 
     Ok(numbers)
 }
 
+/// Refuses an end of a message whose address is the name of no instance.
+fn refuse_unknown_address<'d>(
+    draft: &Draft,
+    instances: &IndexSet<&'d [u8]>,
+    marks: &[Mark<'d>],
+) -> Result<(), ChartFault>
+    requires names { map deref instances.now.keys ≡ instances_of draft.now }
+    requires acts { map mark_view marks.now ≡ acts_of draft.now }
+    requires few { length marks.now ≤ TEXT_LIMIT }
+    requires clear { IsClearBelow draft.now 4 }
+    ensures clear { OnOk result (IsClearBelow draft.now 5) }
+    ensures fault { IfErr result (IsFirstFault draft.now) }
+{
+    match unknown_address(marks, instances) {
+        Some(e) => Err(ChartFault::UnknownAddress(e as u32)),
+        None => Ok(()),
+    }
+}
+
+/// Refuses more messages, and more actions, than a chart may have.
+fn refuse_too_many(draft: &Draft, marks: &[Mark]) -> Result<(), ChartFault>
+    requires acts { map mark_view marks.now ≡ acts_of draft.now }
+    requires clear { IsClearBelow draft.now 5 }
+    ensures few { OnOk result (length marks.now ≤ EVENT_LIMIT) }
+    ensures clear { OnOk result (IsClearBelow draft.now 7) }
+    ensures fault { IfErr result (IsFirstFault draft.now) }
+{
+    if are_too_many(marks) {
+        return Err(ChartFault::TooManyMessages);
+    }
+    if are_too_many_actions(marks) {
+        return Err(ChartFault::TooManyActions);
+    }
+    Ok(())
+}
+
+/// Refuses an end of a message whose other end is at no place, outputs first.
+fn refuse_unmatched(draft: &Draft, marks: &[Mark], partners: &[u32]) -> Result<(), ChartFault>
+    requires acts { map mark_view marks.now ≡ acts_of draft.now }
+    requires partners { partners.now ≡ partners_of (map mark_view marks.now) }
+    requires few { length marks.now ≤ EVENT_LIMIT }
+    requires clear { IsClearBelow draft.now 8 }
+    ensures clear { OnOk result (IsClearBelow draft.now 10) }
+    ensures fault { IfErr result (IsFirstFault draft.now) }
+{
+    if let Some(e) = unmatched(marks, partners, true) {
+        return Err(ChartFault::UnmatchedOut(e as u32));
+    }
+    if let Some(e) = unmatched(marks, partners, false) {
+        return Err(ChartFault::UnmatchedIn(e as u32));
+    }
+    Ok(())
+}
+
 /// The events of a draft, their marks by place, and their partners, where no fault stands that
 /// concerns messages or actions.
 fn matched_events<'d>(
@@ -86,29 +156,16 @@ fn matched_events<'d>(
     ensures clear { OnOk result (IsClearBelow draft.entry.now 10) }
     ensures fault { IfErr result (IsFirstOrMemory draft.entry.now) }
 {
-    let events = events_of(alloc, draft)?;
-    let kept = marks_of(alloc, events.as_slice())?;
+    let (events, kept) = marked_events(alloc, draft)?;
     let marks = kept.as_slice();
-    if let Some(e) = unknown_address(marks, instances) {
-        return Err(ChartFault::UnknownAddress(e as u32));
-    }
-    if are_too_many(marks) {
-        return Err(ChartFault::TooManyMessages);
-    }
-    if are_too_many_actions(marks) {
-        return Err(ChartFault::TooManyActions);
-    }
+    refuse_unknown_address(draft, instances, marks)?;
+    refuse_too_many(draft, marks)?;
     let (places, repeat) = numbered(alloc, marks)?;
     if let Some(e) = repeat {
         return Err(ChartFault::TwiceEvent(e as u32));
     }
     let partners = partners(alloc, &places)?;
-    if let Some(e) = unmatched(marks, partners.as_slice(), true) {
-        return Err(ChartFault::UnmatchedOut(e as u32));
-    }
-    if let Some(e) = unmatched(marks, partners.as_slice(), false) {
-        return Err(ChartFault::UnmatchedIn(e as u32));
-    }
+    refuse_unmatched(draft, marks, partners.as_slice())?;
     Ok((events, places, partners))
 }
 
