@@ -1,6 +1,5 @@
 -- An identity for where there is no queue: a function from numbers to identities has a value there too.
 use Rattle.std.specs.Prelude.{[]}
-use Rattle.atomic_table.specs.Seated.{TableId}
 use Rattle.msc_fifo.specs.Identity.{QueueId}
 
 -- nothing looks into it

@@ -95,7 +95,8 @@ impl Inlet {
         requires rooms { rooms.items ≡ map (λ o. length o.put) outlets.items }
         requires parts { (parts.items ≡ []) × (length outlets.items ≤ vec_capacity parts) }
         requires senders { vec_len senders ≡ length outlets.items }
-        requires places { (places.items ≡ []) × (1056 ≤ vec_capacity places) }
+        requires places { (places.items ≡ [])
+            × (self.queue.table.words ≤ vec_capacity places + vec_capacity places + 2) }
         ensures count { vec_len result.senders ≡ self.senders }
         ensures accounts { All (HasAccount result.senders.items self.got) outlets.items }
         ensures places { IsSettled self outlets.items result.places.items }
@@ -135,7 +136,7 @@ impl Inlet {
         ensures unended { unended_in self.new + ends_in result ≡ unended_in self.old }
     {
         let place = self.got.len();
-        if place >= (self.row.word_count() - 2) / 2 {
+        if place >= self.places() {
             return self.nothing();
         }
         match look(&self.row, &mut self.ticket, place) {
@@ -153,6 +154,13 @@ impl Inlet {
             }
             None => self.nothing(),
         }
+    }
+
+    /// How many places the queue has.
+    pub(crate) fn places(&self) -> usize
+        ensures { self.now.queue.table.words ≡ result + result + 2 }
+    {
+        (self.row.word_count() - 2) / 2
     }
 
     /// Counts a take that found nothing.

@@ -6,7 +6,6 @@ ghost use Rattle.msc_fifo.specs.Ends.{AreOutletsOf};
 ghost use Rattle.msc_fifo.specs.Entries.{IsOrderly};
 ghost use Rattle.msc_fifo.specs.Settlement.{HasAccount, IsSettled};
 
-use crate::PLACE_LIMIT;
 use crate::accounts::{Account, Room, Settled};
 use crate::inlet::Inlet;
 use crate::outlet::Outlet;
@@ -38,7 +37,7 @@ pub fn settle(
     let Ok(blanks) = blanks(alloc, outlets.len()) else {
         return Err((AllocError, inlet, outlets));
     };
-    let Ok(places) = Vec::with_capacity(alloc, PLACE_LIMIT) else {
+    let Ok(places) = Vec::with_capacity(alloc, inlet.places()) else {
         return Err((AllocError, inlet, outlets));
     };
     Ok(inlet.settle(outlets, rooms, parts, blanks, places))

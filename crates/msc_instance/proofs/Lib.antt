@@ -23,3 +23,4 @@ pub mod Beginning
 pub mod Told
 pub mod Emptied
 pub mod Returned
+pub mod Answered

@@ -1,5 +1,5 @@
 -- What the code keeps while the instances of a chart are started and joined.
-use Rattle.std.specs.Prelude.{◌≡◌, ℕ, ◌<◌, ◌≤◌, Bool, List, [], length, map, All, Some, slice_get, vec_capacity}
+use Rattle.std.specs.Prelude.{◌≡◌, ◌⊎◌, ℕ, ◌<◌, ◌≤◌, Bool, List, [], ◌∷◌, ◌++◌, length, map, All, Some, slice_get, vec_capacity}
 use Rattle.std.specs.List.{AllZip}
 use Rattle.msc_chart.specs.declared.queue.Queues.{Queues}
 use Rattle.msc_chart.specs.Drawings.{Drawing}
@@ -11,16 +11,26 @@ use Rattle.msc_instance.specs.declared.ends.InstanceEnd.{InstanceEnd}
 use Rattle.msc_instance.specs.declared.threads.Job.{Job}
 use Rattle.msc_instance.specs.declared.threads.Answer.{Answer}
 use Rattle.msc_instance.specs.declared.threads.Answer.TheVariants.{Ran, NotRun}
+use Rattle.msc_instance.specs.declared.threads.Gathered.{Gathered}
+use Rattle.msc_instance.specs.Active.{IsClosedFrom}
 use Rattle.msc_instance.specs.Views.{ends_of, left_by}
 
 -- what an instance left is the run of the instance of this number from these ends
 abbrev pub RunsFrom : Drawing → ℕ → Bool → ℕ → InstanceEnds → InstanceEnd → Type 0
 RunsFrom d i open' patience ends r = HasRun (role ends.queues d i) open' patience (ends_of ends) (left_by r)
 
--- what a thread answers is that run, where there is one
-abbrev pub AnswersRun : Drawing → ℕ → Bool → ℕ → InstanceEnds → Answer → Type 0
-AnswersRun d i open' patience ends (Ran r) = RunsFrom d i open' patience ends r
-AnswersRun d i open' patience ends NotRun = Unit {0}
+-- the job of an instance that was not begun, its outlets closed
+pub record IsClosedJob (old new : Job) : Type 0 where
+  pub number : new.number ≡ old.number
+  pub queues : new.ends.queues ≡ old.ends.queues
+  pub outlets : AllZip IsClosedFrom old.ends.outlets.items new.ends.outlets.items
+  pub inlets : new.ends.inlets.items ≡ old.ends.inlets.items
+  pub log : new.log.items ≡ old.log.items
+
+-- what a thread answers is the run from its job, or that job, not begun
+abbrev pub AnswersRun : Drawing → Bool → ℕ → Job → Answer → Type 0
+AnswersRun d open' patience j (Ran r) = RunsFrom d j.number open' patience j.ends r
+AnswersRun d open' patience j (NotRun k) = IsClosedJob j k
 
 -- an instance may be run from here
 pub record IsReady (d : Drawing) (j : Job) : Type 0 where
@@ -39,3 +49,35 @@ pub record AreJobs (queues : Queues) (d : Drawing) (jobs : List Job) : Type 0 wh
 -- each was run, in their order
 abbrev pub HaveRun : Drawing → Bool → ℕ → List Job → List InstanceEnd → Type 0
 HaveRun d open' patience jobs ran = AllZip (λ (j : Job) (r : InstanceEnd). RunsFrom d j.number open' patience j.ends r) jobs ran
+
+-- The later instances, whose jobs these were, are closed. Beside them stands the one whose thread was
+-- refused, or its answer beside the answers
+abbrev pub HaveStopped : Answer → List Job → List Answer → Gathered → Type 0
+HaveStopped (Ran r) jobs answers g =
+    AllZip IsClosedJob jobs g.unstarted.items × (g.answers.items ≡ answers ++ Ran r ∷ [])
+HaveStopped (NotRun k) jobs answers g =
+    (closed : List Job) × AllZip IsClosedJob jobs closed
+    × (g.unstarted.items ≡ closed ++ k ∷ []) × (g.answers.items ≡ answers)
+
+-- Of these jobs, in which the first instance stands last, a part was started, and each of its threads
+-- has answered; the others, which are all behind, were not begun and their outlets are closed
+pub record HaveAnswered (d : Drawing) (open' : Bool) (patience : ℕ) (jobs : List Job) (g : Gathered) : Type 0 where
+  pub others : List Job
+  pub started : List Job
+  pub whole : jobs ≡ others ++ started
+  pub answers : AllZip (AnswersRun d open' patience) started g.answers.items
+  pub closed : AllZip IsClosedJob others g.unstarted.items
+
+-- the instance of this number has answered that it was not begun
+abbrev pub HasNotRun : List Answer → ℕ → Type 0
+HasNotRun answers i = (n : ℕ) × (k : Job) × (slice_get answers n ≡ Some (NotRun k)) × (k.number ≡ i)
+
+-- the number of the first instance whose thread was not started, or of one that was told so
+abbrev pub IsRefused : Gathered → ℕ → Type 0
+IsRefused g i =
+    ((later : List Job) × (k : Job) × (g.unstarted.items ≡ later ++ k ∷ []) × (k.number ≡ i))
+    ⊎ ((g.unstarted.items ≡ []) × HasNotRun g.answers.items i)
+
+-- Instance i was refused: those before it have answered, and it and all behind it are closed
+abbrev pub WasRefused : Drawing → Bool → ℕ → List Job → ℕ → Type 0
+WasRefused d open' patience jobs i = (g : Gathered) × HaveAnswered d open' patience jobs g × IsRefused g i

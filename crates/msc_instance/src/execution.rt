@@ -62,8 +62,9 @@ pub fn run_chart<R: Threads + Wait + Sync, G: Gate + Sync>(
     no_clock_is_spent();
     chart.accepted();
     let jobs = prepare_all(alloc, chart, queues)?;
+    let answers = Vec::with_capacity(alloc, jobs.len())?;
     let back = Vec::with_capacity(alloc, jobs.len())?;
-    match run_all(rt, chart, gate, patience, jobs, back) {
+    match run_all(rt, chart, gate, patience, jobs, answers, back) {
         Ok(ran) => Ok(settle_all(alloc, chart, queues, ran)?),
         Err(i) => Err(RunFault::NotStarted(i)),
     }

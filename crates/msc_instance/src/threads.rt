@@ -1,12 +1,14 @@
 //! One thread for each instance, started one after the other, and all joined.
 
-ghost use Rattle.std.specs.Prelude.{◌≡◌, ◌<◌, ◌≤◌, ◌++◌, ◌∷◌, [], length, All, IfOk, IfErr, IsTrue, MatchOption, vec_len, vec_capacity};
+ghost use Rattle.std.specs.Prelude.{◌≡◌, ◌<◌, ◌≤◌, ◌++◌, ◌∷◌, [], length, map, reverse, All, IfOk, IfErr, MatchOption, vec_len, vec_capacity};
+ghost use Rattle.std.specs.List.{AllZip};
 ghost use Rattle.msc_execution.specs.Roles.{IsFit, role};
-ghost use Rattle.msc_instance.specs.Threads.{AnswersRun, AreJobs, HaveRun, IsReady};
+ghost use Rattle.msc_instance.specs.Threads.{AnswersRun, AreJobs, HasNotRun, HaveAnswered, HaveRun, HaveStopped, IsClosedJob, IsReady, WasRefused};
 ghost use Rattle.msc_instance.specs.Views.{ends_of};
 
 use crate::ends::{InstanceEnd, InstanceEnds};
 use crate::gate::Gate;
+use crate::outlets::close_all;
 use crate::running::run_instance;
 use crate::wiring::wire;
 use msc_chart::{Chart, Event, Queues};
@@ -28,27 +30,35 @@ pub(crate) struct Job {
     pub log: Vec<Event>,
 }
 
-/// What a thread answers: what its instance left, or nothing where another thread was refused.
+/// What a thread answers: what its instance left, or its job with the outlets closed, not begun,
+/// where another thread was refused.
 #[derive(Drop)]
-enum Answer {
+pub(crate) enum Answer {
     Ran(InstanceEnd),
-    NotRun,
+    NotRun(Job),
 }
 
-/// The promise of a thread: the run of its instance from these ends.
+/// What came of instances: the answers of those whose threads were started, and the jobs of the
+/// others, with their outlets closed. In both the first instance stands last.
+#[derive(Drop)]
+pub(crate) struct Gathered {
+    pub answers: Vec<Answer>,
+    pub unstarted: Vec<Job>,
+}
+
+/// The promise of a thread: the run of its instance from this job.
 #[derive(Drop)]
 struct Ran<'a, G> {
     chart: &'a Chart,
     gate: &'a G,
     patience: u32,
-    number: u32,
-    ends: Snapshot<InstanceEnds>,
+    job: Snapshot<Job>,
 }
 
 impl<'a, G: Gate> Promise<Answer> for Ran<'a, G> {
     ghost use Rattle.msc_instance.specs.Threads.{AnswersRun};
 
-    ghost kept_by = { λ p r. AnswersRun p.chart.now p.number G.is_open p.patience p.ends.value r };
+    ghost kept_by = { λ p r. AnswersRun p.chart.now G.is_open p.patience p.job.value r };
 }
 
 /// What an instance starts from, with these ends.
@@ -83,40 +93,38 @@ pub(crate) fn prepare_all(
     Ok(jobs)
 }
 
-/// Closes the outlets.
-fn close(ends: &mut InstanceEnds) {
-    for outlet in ends.outlets.iter_mut() {
-        outlet.1.close();
-    }
+/// Closes the outlets of an instance that is not begun.
+fn close(job: &mut Job)
+    ensures { IsClosedJob job.old job.new }
+{
+    close_all(job.ends.outlets.as_mut_slice());
 }
 
-/// Closes the outlets of all.
-fn close_all(jobs: &mut Vec<Job>) {
+/// Closes the outlets of all these.
+fn close_each(jobs: &mut [Job])
+    ensures { AllZip IsClosedJob jobs.old jobs.new }
+{
     for job in jobs.iter_mut() {
-        close(&mut job.ends);
+        close(job);
     }
 }
 
 /// Runs an instance, or closes its outlets where a thread was refused.
 fn run_job<G: Gate>(
     chart: &Chart,
-    job: Job,
+    mut job: Job,
     gate: &G,
     patience: u32,
     refused: &AtomicBool,
 ) -> Answer
     requires ready { IsReady chart.now job }
-    ensures { AnswersRun chart.now job.number G.is_open patience job.ends result }
+    ensures { AnswersRun chart.now G.is_open patience job result }
 {
-    let Job {
-        number,
-        mut ends,
-        log,
-    } = job;
     if refused.load(Ordering::SeqCst) {
-        close(&mut ends);
-        return Answer::NotRun;
+        close(&mut job);
+        return Answer::NotRun(job);
     }
+    let Job { number, ends, log } = job;
     Answer::Ran(run_instance(chart, number, ends, gate, patience, log))
 }
 
@@ -124,16 +132,38 @@ fn run_job<G: Gate>(
 fn next_job(chart: &Chart, jobs: &mut Vec<Job>) -> Option<Job>
     requires { All (IsReady chart.now) jobs.old.items }
     ensures rest { All (IsReady chart.now) jobs.new.items }
-    ensures next { MatchOption result (jobs.old.items ≡ [])
-        (λ j. IsReady chart.now j × (jobs.old.items ≡ jobs.new.items ++ j ∷ [])) }
+    ensures next { MatchOption result ((jobs.old.items ≡ []) × (jobs.new.items ≡ []))
+        (λ j. IsReady chart.now j × (jobs.old.items ≡ jobs.new.items ++ j ∷ [])
+        × (vec_len jobs.new < vec_capacity jobs.new)) }
+    ensures room { vec_capacity jobs.new ≡ vec_capacity jobs.old }
 {
     jobs.pop()
 }
 
+/// Closes the outlets of all later instances, once that one whose thread was refused has answered
+/// in this thread. It joins none, so whatever the earlier ones wait for has ended before they are
+/// joined.
+fn stop(answer: Answer, mut jobs: Vec<Job>, mut answers: Vec<Answer>) -> Gathered
+    requires later { vec_len jobs < vec_capacity jobs }
+    requires room { vec_len answers < vec_capacity answers }
+    ensures stopped { HaveStopped answer jobs.items answers.items result }
+    ensures room { vec_capacity result.answers ≡ vec_capacity answers }
+{
+    close_each(jobs.as_mut_slice());
+    match answer {
+        Answer::NotRun(job) => jobs.push_reserved(job),
+        Answer::Ran(end) => answers.push_reserved(Answer::Ran(end)),
+    }
+    Gathered {
+        answers,
+        unstarted: jobs,
+    }
+}
+
 /// Starts the thread of the first instance, does the same for the rest, and joins the first. The
 /// last job is the first instance's, and so is the last of what comes back. Where a thread can't be
-/// started, the outlets of that instance and of all later ones are closed, so that the earlier ones
-/// end, and its number is answered.
+/// started, no later one is, and the outlets of its instance and of all later ones are closed before
+/// an earlier one is joined, so that the earlier ones end.
 fn run_rest<'s, 'e, R: Threads + Wait + Sync, G: Gate + Sync>(
     rt: &'e R,
     scope: &Scope<'s, &'e ()>,
@@ -142,48 +172,41 @@ fn run_rest<'s, 'e, R: Threads + Wait + Sync, G: Gate + Sync>(
     patience: u32,
     refused: &'e AtomicBool,
     mut jobs: Vec<Job>,
-    back: Vec<InstanceEnd>,
-) -> Result<Vec<InstanceEnd>, u32>
+    answers: Vec<Answer>,
+) -> Gathered
     requires jobs { All (IsReady chart.now) jobs.items }
-    requires empty { back.items ≡ [] }
-    requires room { vec_len jobs ≤ vec_capacity back }
-    ensures runs { IfOk result (λ ran.
-        HaveRun chart.entry.now G.is_open patience jobs.items ran.items) }
-    ensures room { IfOk result (λ ran. vec_capacity ran ≡ vec_capacity back) }
-    ensures known { IfErr result (λ i. i < length chart.entry.now.instances) }
+    requires empty { answers.items ≡ [] }
+    requires room { vec_len jobs ≤ vec_capacity answers }
+    ensures answered { HaveAnswered chart.entry.now G.is_open patience jobs.items result }
+    ensures room { vec_capacity result.answers ≡ vec_capacity answers }
 {
     let Some(job) = next_job(chart, &mut jobs) else {
-        return Ok(back);
+        return Gathered {
+            answers,
+            unstarted: jobs,
+        };
     };
-    let number = job.number;
     let promise = Ran {
         chart,
         gate,
         patience,
-        number,
-        ends: Snapshot::of(&job.ends),
+        job: Snapshot::of(&job),
     };
     match scope.spawn_with(
         promise,
-        move || run_job(chart, job, gate, patience, refused),
+        move || -> Answer
+            requires ready { IsReady chart.now job }
+            ensures answered { AnswersRun chart.entry.now G.is_open patience job result }
+        { run_job(chart, job, gate, patience, refused) },
     ) {
         Err(refusal) => {
             refused.store(true, Ordering::SeqCst);
-            drop((refusal.value)());
-            close_all(&mut jobs);
-            Err(number)
+            stop((refusal.value)(), jobs, answers)
         }
         Ok(handle) => {
-            let rest = run_rest(rt, scope, chart, gate, patience, refused, jobs, back);
-            let answer = handle.join(rt);
-            let mut back = rest?;
-            match answer {
-                Answer::Ran(end) => {
-                    back.push_reserved(end);
-                    Ok(back)
-                }
-                Answer::NotRun => Err(number),
-            }
+            let mut all = run_rest(rt, scope, chart, gate, patience, refused, jobs, answers);
+            all.answers.push_reserved(handle.join(rt));
+            all
         }
     }
 }
@@ -195,29 +218,44 @@ fn in_scope<R: Threads + Wait + Sync, G: Gate + Sync>(
     gate: &G,
     patience: u32,
     jobs: Vec<Job>,
-    back: Vec<InstanceEnd>,
-) -> Result<Vec<InstanceEnd>, u32>
+    answers: Vec<Answer>,
+) -> Gathered
     requires jobs { All (IsReady chart.now) jobs.items }
-    requires empty { back.items ≡ [] }
-    requires room { vec_len jobs ≤ vec_capacity back }
-    ensures runs { IfOk result (λ ran.
-        HaveRun chart.now G.is_open patience jobs.items ran.items) }
-    ensures known { IfErr result (λ i. i < length chart.now.instances) }
+    requires empty { answers.items ≡ [] }
+    requires room { vec_len jobs ≤ vec_capacity answers }
+    ensures answered { HaveAnswered chart.now G.is_open patience jobs.items result }
+    ensures room { vec_capacity result.answers ≡ vec_capacity answers }
 {
     let refused = AtomicBool::new(false);
     let refused = &refused;
     thread::scope(
         thread::scope_env(),
         rt,
-        |scope| -> Result<Vec<InstanceEnd>, u32>
+        |scope| -> Gathered
             requires jobs { All (IsReady chart.now) jobs.items }
-            requires empty { back.items ≡ [] }
-            requires room { vec_len jobs ≤ vec_capacity back }
-            ensures runs { IfOk result (λ ran.
-                HaveRun chart.entry.now G.is_open patience jobs.items ran.items) }
-            ensures known { IfErr result (λ i. i < length chart.entry.now.instances) }
-        { run_rest(rt, scope, chart, gate, patience, refused, jobs, back) },
+            requires empty { answers.items ≡ [] }
+            requires room { vec_len jobs ≤ vec_capacity answers }
+            ensures answered { HaveAnswered chart.entry.now G.is_open patience jobs.items result }
+            ensures room { vec_capacity result.answers ≡ vec_capacity answers }
+        { run_rest(rt, scope, chart, gate, patience, refused, jobs, answers) },
     )
+}
+
+/// What the instances left, in the order of the chart, in the room that was made. Where one was not
+/// begun, its number is answered.
+fn all_left(mut answers: Vec<Answer>, mut ran: Vec<InstanceEnd>) -> Result<Vec<InstanceEnd>, u32>
+    requires empty { ran.items ≡ [] }
+    requires room { vec_len answers ≤ vec_capacity ran }
+    ensures left { IfOk result (λ r. answers.items ≡ reverse (map Answer.Ran r.items)) }
+    ensures told { IfErr result (HasNotRun answers.items) }
+{
+    while let Some(answer) = answers.pop() {
+        match answer {
+            Answer::Ran(end) => ran.push_reserved(end),
+            Answer::NotRun(job) => return Err(job.number),
+        }
+    }
+    Ok(ran)
 }
 
 /// Runs each instance in a thread of its own, and answers what they leave, in their order. Where a
@@ -228,17 +266,24 @@ pub(crate) fn run_all<R: Threads + Wait + Sync, G: Gate + Sync>(
     gate: &G,
     patience: u32,
     mut jobs: Vec<Job>,
+    answers: Vec<Answer>,
     back: Vec<InstanceEnd>,
 ) -> Result<Vec<InstanceEnd>, u32>
     requires jobs { All (IsReady chart.now) jobs.items }
-    requires empty { back.items ≡ [] }
-    requires room { vec_len jobs ≤ vec_capacity back }
+    requires empty { (answers.items ≡ []) × (back.items ≡ []) }
+    requires room { (vec_len jobs ≤ vec_capacity answers) × (vec_len jobs ≤ vec_capacity back) }
     ensures runs { IfOk result (λ ran.
         HaveRun chart.now G.is_open patience jobs.items ran.items) }
+    ensures refused { IfErr result (WasRefused chart.now G.is_open patience (reverse jobs.items)) }
     ensures known { IfErr result (λ i. i < length chart.now.instances) }
 {
     jobs.reverse();
-    let mut ran = in_scope(rt, chart, gate, patience, jobs, back)?;
-    ran.reverse();
-    Ok(ran)
+    let Gathered {
+        answers,
+        mut unstarted,
+    } = in_scope(rt, chart, gate, patience, jobs, answers);
+    match unstarted.pop() {
+        Some(first) => Err(first.number),
+        None => all_left(answers, back),
+    }
 }

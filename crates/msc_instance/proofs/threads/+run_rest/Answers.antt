@@ -1,15 +1,21 @@
-use Rattle.std.proofs.Common.{arith}
-use Rattle.msc_instance.specs.Threads.{RunsFrom}
-use Rattle.msc_instance.proofs.Runs.{put_first, shorter}
+use Rattle.std.proofs.Common.{arith, refl}
+use Rattle.msc_instance.proofs.Answered.{fewer_answers, one_answered, stopped}
 use Rattle.msc_instance.proofs.threads.+run_rest.Goals as goal
 
 pub push_reserved-requires : goal.push_reserved-requires
 push_reserved-requires g t c =
-    let fewer = shorter _ _ _ _ _ _ _ c.in-Some.ensures.next.1 c.in_ok-back-in-Ok.ensures.runs in
-    omega (arith, c.in_ok-back-in-Ok.ensures.room)
+    let fewer = fewer_answers c.args.chart.now g.G.Gate.is_open c.args.patience c.args.jobs.items _ _ _
+    c.in-Some.ensures.next.1 c.run_rest-all.ensures.answered in
+    omega (arith, fewer, c.run_rest-all.ensures.room, c.requires.room)
 
-pub returns-in-Ran-clause-runs : goal.returns-in-Ran-clause-runs
-returns-in-Ran-clause-runs g t c =
-    let run : RunsFrom c.args.chart.now c.in-Some.job.number g.G.Gate.is_open c.args.patience c.in-Some.job.ends c.in-Ran.end =
-    rw (c.in-Ok.ensures.ok, c.of.ensures) at c.in-Ran.ensures in
-    put_first _ _ _ _ _ _ _ _ _ c.in-Some.ensures.next.1 c.in_ok-back-in-Ok.ensures.runs run c.push_reserved.ensures.items
+pub returns-in-Err-clause-answered : goal.returns-in-Err-clause-answered
+returns-in-Err-clause-answered g t c =
+    stopped c.args.chart.now g.G.Gate.is_open c.args.patience c.args.jobs.items _ _ c.args.answers.items _ _
+    c.in-Some.ensures.next.1 c.requires.empty
+    (rw c.in-Err.ensures.err at c.spawn_with-in-Err.ensures.answered) c.stop.ensures.stopped
+
+pub returns-in-Ok-clause-answered : goal.returns-in-Ok-clause-answered
+returns-in-Ok-clause-answered g t c =
+    one_answered c.args.chart.now g.G.Gate.is_open c.args.patience c.args.jobs.items _ _ _ c.run_rest-all.result _
+    c.in-Some.ensures.next.1 c.run_rest-all.ensures.answered (rw (c.in-Ok.ensures.ok, c.of.ensures) at c.join.ensures)
+    c.push_reserved.ensures.items refl
