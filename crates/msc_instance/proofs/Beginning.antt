@@ -20,7 +20,7 @@ use Rattle.msc_instance.proofs.Growing.{clock_nil}
 use Rattle.msc_instance.proofs.Stepped as stepped
 use Rattle.msc_instance.proofs.Zipped.{zip_self}
 use Rattle.msc_instance.proofs.Logs.{none_below}
-use Rattle.msc_instance.proofs.Kept.{state}
+use Rattle.msc_instance.proofs.Begun.{state}
 
 start_le : (i : ℕ) (events : List ChartEvent) → line_start events i ≤ line_start events (i + 1)
 start_le i [] = omega arith

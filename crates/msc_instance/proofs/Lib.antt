@@ -14,6 +14,8 @@ pub mod Stepped
 pub mod Zipped
 pub mod Logs
 pub mod Finding
+pub mod Numbered
+pub mod Begun
 pub mod Kept
 pub mod Sound
 pub mod Takes

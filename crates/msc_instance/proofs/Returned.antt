@@ -27,10 +27,12 @@ numbered {A} numbers own ns is within k x lt =
     (among_occurs (map (λ (n : ℕ × A). n.0) ns) (get_or ns k x).0 k
     (slice_get-map (λ (n : ℕ × A). n.0) ns k ∙ ap (option_map (λ (n : ℕ × A). n.0)) (slice_get-get_or ns k x lt))))
 
+-- a queue to which an instance sends is one of the chart's
 sent_known : (r : Role) (q : ℕ) → occurs (sent_queues r) q ≡ true → occurs (queues_in r.queues r.chart) q ≡ true
 unfolding sent_queues
 sent_known r q h = (passes (λ k. sends_to r.queues r.chart k r.number) (queues_in r.queues r.chart) q h).0
 
+-- and one from which it takes
 taken_known : (r : Role) (q : ℕ) → occurs (taken_queues r) q ≡ true → occurs (queues_in r.queues r.chart) q ≡ true
 unfolding taken_queues
 taken_known r q h = (passes (λ k. takes_from r.queues r.chart k r.number) (queues_in r.queues r.chart) q h).0

@@ -19,7 +19,9 @@ use Rattle.msc_instance.specs.Steps.{ArePutBy, HasBegun}
 use Rattle.msc_instance.specs.Active.{IsSound, IsNext, HasPut, IsAscending, IsClosedFrom, log_of, post_role, first_ends}
 use Rattle.msc_instance.proofs.Finding.{sent_ascends}
 use Rattle.msc_instance.proofs.Logs.{on_post, not_logged, next_moves, log_due, log_shorter, upto_push}
-use Rattle.msc_instance.proofs.Kept.{state, outlet_number, outlet_numbers, has_room, begun_sent, begun_acted, begun_closed}
+use Rattle.msc_instance.proofs.Numbered.{outlet_number, outlet_numbers, has_room}
+use Rattle.msc_instance.proofs.Begun.{state, begun_sent, begun_acted}
+use Rattle.msc_instance.proofs.Kept.{begun_closed}
 
 module _ (d : Drawing) (p : Post) (a : Active) (s : IsSound d p a) where
   -- a look goes on along the line

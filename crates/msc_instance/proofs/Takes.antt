@@ -22,7 +22,9 @@ use Rattle.msc_instance.specs.declared.active.Post.{Post}
 use Rattle.msc_instance.specs.declared.journal.Journal.{Journal}
 use Rattle.msc_instance.specs.Active.{IsSound, IsNext, IsQuiet, EndsSo, HasGot, log_of, post_role, first_ends, weight}
 use Rattle.msc_instance.proofs.Logs.{log_input, log_shorter, upto_push}
-use Rattle.msc_instance.proofs.Kept.{inlet_number, inlet_numbers, number_there, begun_took, begun_ended, begun_nothing, comes_strange}
+use Rattle.msc_instance.proofs.Numbered.{inlet_number, inlet_numbers, number_there}
+use Rattle.msc_instance.proofs.Begun.{begun_took, begun_ended, begun_nothing}
+use Rattle.msc_instance.proofs.Kept.{comes_strange}
 
 -- the events of the line that are not logged become fewer
 left_fewer : (d : Drawing) (i : ℕ) (log after : List ℕ) (e : ℕ) → IsLogOf d i (log ++ e ∷ [])

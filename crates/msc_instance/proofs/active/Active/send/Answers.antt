@@ -7,7 +7,7 @@ use Rattle.msc_chart.proofs.Drawn.{output_not_local, output_controlled}
 use Rattle.msc_fifo.specs.Ends.{HasRoom}
 use Rattle.msc_execution.specs.Roles.{NumberedOutlet}
 use Rattle.msc_instance.specs.Active.{HasPut}
-use Rattle.msc_instance.proofs.Kept.{outlet_number}
+use Rattle.msc_instance.proofs.Numbered.{outlet_number}
 use Rattle.msc_instance.proofs.Sound.{due_fits, its_outlet, its_outlets, its_room, has_sent}
 use Rattle.msc_instance.proofs.active.Active.send.Goals as goal
 
