@@ -1,0 +1,484 @@
+//! Queues in one thread and in three. What clauses say is proved; these tests have the answers that
+//! no clause fixes: that what was put is found, that calls succeed with ample memory, and threads.
+
+ghost use Rattle.std.specs.Prelude.{◌≡◌, ◌≤◌, IfOk};
+ghost use Rattle.msc_fifo.specs.Ends.{new_inlet, new_outlet, IsSameInlet, IsSameOutlet};
+
+use msc_fifo::{Inlet, Outlet, QueueFault, SendFault, Sent, Settled, Taken, queue, settle};
+use std::alloc::{AllocError, Global};
+use std::marker::Model;
+use std::test::Fail;
+use std::thread;
+use std::thread::Threads;
+
+/// The greatest number of takes of a thread.
+const MOST_TAKES: u32 = 1_000_000_000;
+
+/// The ends of a queue of two senders.
+#[derive(Drop)]
+struct Ends {
+    zero: Outlet,
+    one: Outlet,
+    inlet: Inlet,
+}
+
+impl Model for Ends {
+    ghost use Rattle.std.specs.Prelude.{◌≡◌};
+
+    ghost Value = { Unit {0} };
+
+    ghost view = { λ e. tt };
+
+    ghost invariant = { λ e.
+        (e.inlet.senders ≡ 2)
+        × ((e.zero.queue ≡ e.inlet.queue) × (e.zero.sender ≡ 0))
+        × ((e.one.queue ≡ e.inlet.queue) × (e.one.sender ≡ 1)) };
+}
+
+/// A call on one of the ends, and what it answers.
+enum Call {
+    /// A sender puts a message with a clock, at a place with a clock.
+    Put(u32, u32, u64, u32, u64),
+    /// A sender tries to put a message with a clock, and is refused.
+    Refuse(u32, u32, u64, SendFault),
+    /// A sender closes its outlet.
+    Close(u32),
+    /// A sender has so many messages left, and is closed or open.
+    Left(u32, u32, bool),
+    /// A take with a clock.
+    Take(u64, Taken),
+    /// So many senders have not ended.
+    Unended(u32),
+}
+
+/// What an account shows: put, taken, left, and whether the outlet was closed.
+type Shown<'a> = (&'a [u32], &'a [u32], &'a [u32], bool);
+
+/// Calls on the ends of a queue with these quotas, and what is settled then.
+struct Row {
+    quotas: (u32, u32),
+    calls: &'static [Call],
+    zero: Shown<'static>,
+    one: Shown<'static>,
+    places: &'static [(u32, Option<u32>, u64)],
+}
+
+/// The ends of a new queue of two senders.
+fn pair(alloc: Global, first: u32, second: u32) -> Result<(Outlet, Outlet, Inlet), QueueFault>
+    ensures zero { IfOk result (λ r. r.0 ≡ new_outlet r.2.queue 0 first) }
+    ensures one { IfOk result (λ r. r.1 ≡ new_outlet r.2.queue 1 second) }
+    ensures inlet { IfOk result (λ r. r.2 ≡ new_inlet r.2.queue 2) }
+{
+    let (mut outlets, inlet) = queue(alloc, &[first, second])?;
+    let one = outlets.pop().unwrap();
+    let zero = outlets.pop().unwrap();
+    Ok((zero, one, inlet))
+}
+
+impl Ends {
+    /// The ends of a new queue with these quotas.
+    fn new(alloc: Global, quotas: (u32, u32)) -> Result<Ends, QueueFault> {
+        let (zero, one, inlet) = pair(alloc, quotas.0, quotas.1)?;
+        Ok(Ends { zero, one, inlet })
+    }
+
+    /// Makes a call, and says whether it answers what it should.
+    fn answers(&mut self, call: &Call) -> bool {
+        match *call {
+            Call::Put(0, m, handed, place, clock) => {
+                self.zero.send(m, handed) == Ok(Sent { place, clock })
+            }
+            Call::Put(_, m, handed, place, clock) => {
+                self.one.send(m, handed) == Ok(Sent { place, clock })
+            }
+            Call::Refuse(0, m, handed, fault) => self.zero.send(m, handed) == Err(fault),
+            Call::Refuse(_, m, handed, fault) => self.one.send(m, handed) == Err(fault),
+            Call::Close(0) => {
+                self.zero.close();
+                true
+            }
+            Call::Close(_) => {
+                self.one.close();
+                true
+            }
+            Call::Left(0, left, closed) => {
+                self.zero.left() == left && self.zero.is_closed() == closed
+            }
+            Call::Left(_, left, closed) => {
+                self.one.left() == left && self.one.is_closed() == closed
+            }
+            Call::Take(clock, want) => self.inlet.take(clock) == want,
+            Call::Unended(want) => self.inlet.unended() == want,
+        }
+    }
+
+    /// Settles the queue, the outlets handed over in the other order.
+    fn settled(self, alloc: Global) -> Result<Settled, QueueFault> {
+        let Ends { zero, one, inlet } = self;
+        let Ok(mut outlets) = Vec::with_capacity(alloc, 2) else {
+            return Err(QueueFault::Memory);
+        };
+        outlets.push_reserved(one);
+        outlets.push_reserved(zero);
+        match settle(alloc, inlet, outlets) {
+            Ok(settled) => Ok(settled),
+            Err(_) => Err(QueueFault::Memory),
+        }
+    }
+}
+
+/// Whether the account of a sender shows this.
+fn is_shown(settled: &Settled, sender: usize, shown: &Shown) -> bool {
+    let Some(account) = settled.senders.get(sender) else {
+        return false;
+    };
+    account.put.as_slice() == shown.0
+        && account.taken.as_slice() == shown.1
+        && account.left.as_slice() == shown.2
+        && account.closed == shown.3
+}
+
+/// Whether these senders, messages and clocks stand at the places.
+fn are_placed(settled: &Settled, places: &[(u32, Option<u32>, u64)]) -> bool {
+    for (place, (sender, message, clock)) in settled.places.iter().zip(places) {
+        if place.sender != *sender || place.message != *message || place.clock != *clock {
+            return false;
+        }
+    }
+    settled.places.len() == places.len()
+}
+
+/// Whether the calls of a row answer what they should, and then this is settled.
+fn is_as_said(alloc: Global, row: &Row) -> Result<bool, QueueFault> {
+    let mut ends = Ends::new(alloc, row.quotas)?;
+    for call in row.calls {
+        if !ends.answers(call) {
+            return Ok(false);
+        }
+    }
+    let settled = ends.settled(alloc)?;
+    let are_shown = is_shown(&settled, 0, &row.zero) && is_shown(&settled, 1, &row.one);
+    Ok(are_shown && settled.senders.len() == 2 && are_placed(&settled, row.places))
+}
+
+/// Two senders fill their quotas and close, and all is taken.
+const ONE_THREAD: Row = Row {
+    quotas: (2, 1),
+    calls: &[
+        Call::Put(0, 10, 0, 0, 1),
+        Call::Put(0, 11, 0, 1, 1),
+        Call::Refuse(0, 12, 0, SendFault::Full(12)),
+        Call::Put(1, 20, 0, 2, 1),
+        Call::Close(0),
+        Call::Refuse(0, 13, 0, SendFault::Closed(13)),
+        Call::Take(0, Taken::Message(0, 10, 0, 1)),
+        Call::Take(0, Taken::Message(0, 11, 1, 1)),
+        Call::Take(0, Taken::Message(1, 20, 2, 1)),
+        Call::Take(0, Taken::Ended(0)),
+        Call::Unended(1),
+        Call::Take(0, Taken::Nothing),
+        Call::Close(1),
+        Call::Take(0, Taken::Ended(1)),
+        Call::Unended(0),
+        Call::Take(0, Taken::Nothing),
+    ],
+    zero: (&[10, 11], &[10, 11], &[], true),
+    one: (&[20], &[20], &[], true),
+    places: &[
+        (0, Some(10), 1),
+        (0, Some(11), 1),
+        (1, Some(20), 1),
+        (0, None, 0),
+        (1, None, 0),
+    ],
+};
+
+/// The same, settled after the first take.
+const SETTLED_AFTER_THE_FIRST_TAKE: Row = Row {
+    quotas: (2, 1),
+    calls: &[
+        Call::Put(0, 10, 0, 0, 1),
+        Call::Put(0, 11, 0, 1, 1),
+        Call::Refuse(0, 12, 0, SendFault::Full(12)),
+        Call::Put(1, 20, 0, 2, 1),
+        Call::Close(0),
+        Call::Refuse(0, 13, 0, SendFault::Closed(13)),
+        Call::Take(0, Taken::Message(0, 10, 0, 1)),
+    ],
+    zero: (&[10, 11], &[10], &[11], true),
+    one: (&[20], &[], &[20], false),
+    places: &[
+        (0, Some(10), 1),
+        (0, Some(11), 1),
+        (1, Some(20), 1),
+        (0, None, 0),
+    ],
+};
+
+/// Clocks are raised by offers and by places; a fault of the clock is the last one.
+const CLOCKS: Row = Row {
+    quotas: (2, 1),
+    calls: &[
+        Call::Put(0, 10, 0, 0, 1),
+        Call::Put(1, 20, 5, 1, 6),
+        Call::Put(0, 11, 1, 2, 6),
+        Call::Refuse(0, 12, u64::MAX, SendFault::Full(12)),
+        Call::Close(1),
+        Call::Refuse(1, 21, u64::MAX, SendFault::Closed(21)),
+        Call::Take(0, Taken::Message(0, 10, 0, 1)),
+        Call::Take(1, Taken::Message(1, 20, 1, 6)),
+        Call::Take(9, Taken::Message(0, 11, 2, 9)),
+        Call::Take(9, Taken::Ended(1)),
+        Call::Take(9, Taken::Nothing),
+    ],
+    zero: (&[10, 11], &[10, 11], &[], false),
+    one: (&[20], &[20], &[], true),
+    places: &[
+        (0, Some(10), 1),
+        (1, Some(20), 6),
+        (0, Some(11), 6),
+        (1, None, 0),
+    ],
+};
+
+/// A second close changes nothing, and the end mark has a place beside the quota.
+const A_SECOND_CLOSE: Row = Row {
+    quotas: (2, 0),
+    calls: &[
+        Call::Put(0, u32::MAX, 0, 0, 1),
+        Call::Left(0, 1, false),
+        Call::Close(0),
+        Call::Close(0),
+        Call::Close(1),
+        Call::Left(0, 1, true),
+        Call::Left(1, 0, true),
+        Call::Take(0, Taken::Message(0, u32::MAX, 0, 1)),
+        Call::Take(0, Taken::Ended(0)),
+        Call::Take(0, Taken::Ended(1)),
+        Call::Take(0, Taken::Nothing),
+    ],
+    zero: (&[u32::MAX], &[u32::MAX], &[], true),
+    one: (&[], &[], &[], true),
+    places: &[(0, Some(u32::MAX), 1), (0, None, 0), (1, None, 0)],
+};
+
+/// The greatest clock is refused, and changes nothing; one less is not.
+const THE_GREATEST_CLOCKS: Row = Row {
+    quotas: (1, 0),
+    calls: &[
+        Call::Refuse(0, 7, u64::MAX, SendFault::ClockSpent(7)),
+        Call::Left(0, 1, false),
+        Call::Put(0, 7, u64::MAX - 1, 0, u64::MAX),
+        Call::Left(0, 0, false),
+    ],
+    zero: (&[7], &[], &[7], false),
+    one: (&[], &[], &[], false),
+    places: &[(0, Some(7), u64::MAX)],
+};
+
+/// The rows above.
+const ROWS: [&Row; 5] = [
+    &ONE_THREAD,
+    &SETTLED_AFTER_THE_FIRST_TAKE,
+    &CLOCKS,
+    &A_SECOND_CLOSE,
+    &THE_GREATEST_CLOCKS,
+];
+
+#[test]
+fn one_thread(rt: HostRuntime) -> Result<(), Fail> {
+    for row in ROWS {
+        assert!(rt; is_as_said(rt.alloc(), row)?, "{:?}", row.quotas);
+    }
+    Ok(())
+}
+
+/// Quotas, and why no queue has them, or none where a queue has them.
+const LIMITS: [(&[u32], Option<QueueFault>); 10] = [
+    (&[], Some(QueueFault::NoSender)),
+    (&[1024, 1], Some(QueueFault::TooLarge)),
+    (&[1025], Some(QueueFault::TooLarge)),
+    (&[u32::MAX, u32::MAX], Some(QueueFault::TooLarge)),
+    (&[0; 33], Some(QueueFault::TooLarge)),
+    (&[0], None),
+    (&[1], None),
+    (&[1024], None),
+    (&[1023, 1], None),
+    (&[32; 32], None),
+];
+
+/// Whether there is a queue with these quotas, and a new one is open, empty and can be settled.
+fn is_new(alloc: Global, quotas: &[u32]) -> Result<bool, QueueFault> {
+    let (outlets, inlet) = queue(alloc, quotas)?;
+    for (outlet, quota) in outlets.iter().zip(quotas) {
+        if outlet.left() != *quota || outlet.is_closed() {
+            return Ok(false);
+        }
+    }
+    let known = outlets.len() == quotas.len() && inlet.unended() as usize == quotas.len();
+    match settle(alloc, inlet, outlets) {
+        Ok(settled) => {
+            Ok(known && settled.senders.len() == quotas.len() && settled.places.is_empty())
+        }
+        Err(_) => Err(QueueFault::Memory),
+    }
+}
+
+/// Whether a queue with these quotas is new, or is refused so.
+fn is_made(alloc: Global, quotas: &[u32], refusal: Option<QueueFault>) -> bool {
+    match is_new(alloc, quotas) {
+        Ok(is_new) => is_new && refusal.is_none(),
+        Err(fault) => refusal == Some(fault),
+    }
+}
+
+#[test]
+fn limits(rt: HostRuntime) {
+    for (quotas, refusal) in LIMITS {
+        assert!(rt; is_made(rt.alloc(), quotas, refusal), "{quotas:?}");
+    }
+}
+
+/// Puts the messages 0 to 31 of a sender and closes; whether each was sent, and no more.
+fn fills(outlet: &mut Outlet) -> bool {
+    let mut all = true;
+    for m in 0..32 {
+        all &= outlet.send(m, 0).is_ok();
+    }
+    all &= outlet.send(32, 0) == Err(SendFault::Full(32));
+    outlet.close();
+    all
+}
+
+/// Takes the messages 0 to 31 of a sender, and its end mark; whether each was found.
+fn empties(inlet: &mut Inlet, sender: u32) -> bool
+    requires { sender ≤ 31 }
+{
+    let mut all = true;
+    for m in 0..32 {
+        all &= inlet.take(0) == Taken::Message(sender, m, sender * 33 + m, 1);
+    }
+    all & (inlet.take(0) == Taken::Ended(sender))
+}
+
+/// Whether the largest queue takes all that may be put into it, and gives it back.
+fn is_filled_and_emptied(alloc: Global) -> Result<bool, QueueFault> {
+    let (mut outlets, mut inlet) = queue(alloc, &[32; 32])?;
+    let mut all = true;
+    for outlet in outlets.iter_mut() {
+        all &= fills(outlet);
+    }
+    for sender in 0..32 {
+        all &= inlet.unended() == 32 - sender;
+        all &= empties(&mut inlet, sender);
+    }
+    Ok(all && inlet.unended() == 0 && inlet.take(0) == Taken::Nothing)
+}
+
+#[test]
+fn the_largest_queue_is_filled_and_emptied(rt: HostRuntime) -> Result<(), Fail> {
+    assert!(rt; is_filled_and_emptied(rt.alloc())?);
+    Ok(())
+}
+
+/// Whether a sender puts and closes where all other ends are gone.
+fn is_put_without_receiver(alloc: Global) -> Result<bool, QueueFault> {
+    let Ends {
+        mut zero,
+        one,
+        inlet,
+    } = Ends::new(alloc, (1, 1))?;
+    drop(one);
+    drop(inlet);
+    let is_put = zero.send(5, 0) == Ok(Sent { place: 0, clock: 1 });
+    zero.close();
+    Ok(is_put)
+}
+
+/// Whether the receiver takes what was put where all senders are gone.
+fn is_taken_without_senders(alloc: Global) -> Result<bool, QueueFault> {
+    let Ends {
+        mut zero,
+        one,
+        mut inlet,
+    } = Ends::new(alloc, (1, 1))?;
+    let is_put = zero.send(5, 3) == Ok(Sent { place: 0, clock: 4 });
+    drop(zero);
+    drop(one);
+    let is_taken = inlet.take(0) == Taken::Message(0, 5, 0, 4);
+    Ok(is_put && is_taken && inlet.take(0) == Taken::Nothing)
+}
+
+#[test]
+fn ends_that_are_gone_hold_up_nobody(rt: HostRuntime) -> Result<(), Fail> {
+    assert!(rt; is_put_without_receiver(rt.alloc())?);
+    assert!(rt; is_taken_without_senders(rt.alloc())?);
+    Ok(())
+}
+
+/// Sends the hundred messages from `first` on, and closes.
+fn send_all(mut outlet: Outlet, first: u32) -> Outlet
+    requires { first ≤ 1000 }
+    ensures { IsSameOutlet outlet result }
+{
+    for m in first..first + 100 {
+        let _ = outlet.send(m, 0);
+    }
+    outlet.close();
+    outlet
+}
+
+/// Takes until all senders have ended.
+fn take_all(mut inlet: Inlet) -> Inlet
+    ensures { IsSameInlet inlet result }
+{
+    for _ in 0..MOST_TAKES {
+        if inlet.unended() == 0 {
+            break;
+        }
+        if inlet.take(0) == Taken::Nothing {
+            thread::yield_now();
+        }
+    }
+    inlet
+}
+
+/// Two threads send and a third one takes; all ends come back.
+fn in_three_threads<R: Threads + Sync>(rt: &R, ends: Ends) -> Ends {
+    let Ends { zero, one, inlet } = ends;
+    let (zero, (one, inlet)) = thread::join(
+        rt,
+        move || send_all(zero, 0),
+        move || thread::join(rt, move || send_all(one, 1000), move || take_all(inlet)),
+    );
+    Ends { zero, one, inlet }
+}
+
+/// The hundred messages from `first` on.
+fn hundred(alloc: Global, first: u32) -> Result<Vec<u32>, AllocError>
+    requires { first ≤ 1000 }
+{
+    let mut all = Vec::new(alloc);
+    for m in first..first + 100 {
+        all.push(m)?;
+    }
+    Ok(all)
+}
+
+/// Whether two threads put a hundred messages each, a third takes them, and all is settled.
+fn are_taken<R: Threads + Sync>(rt: &R, alloc: Global) -> Result<bool, Fail> {
+    let ends = in_three_threads(rt, Ends::new(alloc, (100, 100))?);
+    let are_ended = ends.inlet.unended() == 0;
+    let settled = ends.settled(alloc)?;
+    let (low, high) = (hundred(alloc, 0)?, hundred(alloc, 1000)?);
+    let low = (low.as_slice(), low.as_slice(), [].as_slice(), true);
+    let high = (high.as_slice(), high.as_slice(), [].as_slice(), true);
+    let are_shown = is_shown(&settled, 0, &low) && is_shown(&settled, 1, &high);
+    Ok(are_ended && are_shown && settled.places.len() == 202)
+}
+
+#[test]
+fn three_threads(rt: HostRuntime) -> Result<(), Fail> {
+    assert!(rt; are_taken(&rt, rt.alloc())?);
+    Ok(())
+}
