@@ -1,112 +1,115 @@
 //! Instances run one by one in the thread of the test.
 
-use crate::together::chart_of;
+use crate::together::{Never, chart_of};
 use example_charts::{ONE_MESSAGE, RELAY};
 use msc_chart::{Chart, Event, Queues};
-use msc_instance::{AlwaysOpen, End, Gate, InstanceEnd, InstanceEnds, run_instance, wire};
+use msc_instance::{AlwaysOpen, End, Gate, InstanceEnds, run_instance, wire};
 use std::alloc::{AllocError, Global};
 use std::test::Fail;
 
-/// The gate that says no.
-struct Shut;
+/// How an instance ends, and its log.
+type Left<'a> = (End, &'a [Event]);
 
-impl Gate for Shut {
-    ghost use Rattle.std.specs.Prelude.{false};
-
-    ghost is_open = { false };
-
-    fn at(&self, _instance: u32, _event: Event) -> bool {
-        false
-    }
-}
-
-/// What an instance leaves with patience 3, where there are ends and they fit.
-fn left<G: Gate>(
+/// Whether an instance with these ends and patience 3 ends so; not where there are no ends, or they
+/// do not fit.
+fn is_left<G: Gate>(
     alloc: Global,
     chart: &Chart,
     i: u32,
     ends: Option<InstanceEnds>,
     gate: &G,
-) -> Result<Option<InstanceEnd>, AllocError> {
+    wanted: Left,
+) -> Result<bool, AllocError> {
     let Some(ends) = ends else {
-        return Ok(None);
+        return Ok(false);
     };
     if i >= chart.instances() || !ends.fits(chart, i) {
-        return Ok(None);
+        return Ok(false);
     }
     let (start, end) = chart.line(i);
     let log = Vec::with_capacity(alloc, end.saturating_sub(start) as usize)?;
-    Ok(Some(run_instance(chart, i, ends, gate, 3, log)))
+    let left = run_instance(chart, i, ends, gate, 3, log);
+    Ok(left.end == wanted.0 && left.log.as_slice() == wanted.1)
 }
 
-/// Whether an instance ended so, with this log.
-fn is_left(left: &Option<InstanceEnd>, end: End, log: &[Event]) -> bool {
-    match left {
-        Some(left) => left.end == end && left.log.as_slice() == log,
-        None => false,
-    }
-}
-
-#[test]
-fn one_message_that_nobody_sends(rt: HostRuntime) -> Result<(), Fail> {
-    let chart = chart_of(rt.alloc(), ONE_MESSAGE)?;
-    let mut ends = wire(rt.alloc(), &chart, Queues::Pair)?;
-    let taker = left(rt.alloc(), &chart, 1, ends.pop(), &AlwaysOpen)?;
-    assert!(rt; is_left(&taker, End::Impatient, &[]));
-    Ok(())
-}
-
-#[test]
-fn one_message_that_the_gate_stops(rt: HostRuntime) -> Result<(), Fail> {
-    let chart = chart_of(rt.alloc(), ONE_MESSAGE)?;
-    let mut ends = wire(rt.alloc(), &chart, Queues::Pair)?;
-    let takes = ends.pop();
-    let sender = left(rt.alloc(), &chart, 0, ends.pop(), &Shut)?;
-    let taker = left(rt.alloc(), &chart, 1, takes, &AlwaysOpen)?;
-    assert!(rt; is_left(&sender, End::Stopped, &[]) && is_left(&taker, End::Starved, &[]));
-    Ok(())
-}
-
-#[test]
-fn one_message_that_comes(rt: HostRuntime) -> Result<(), Fail> {
-    let chart = chart_of(rt.alloc(), ONE_MESSAGE)?;
-    let mut ends = wire(rt.alloc(), &chart, Queues::Pair)?;
-    let takes = ends.pop();
-    let sender = left(rt.alloc(), &chart, 0, ends.pop(), &AlwaysOpen)?;
-    let taker = left(rt.alloc(), &chart, 1, takes, &AlwaysOpen)?;
-    assert!(rt; is_left(&sender, End::Finished, &[0]) && is_left(&taker, End::Finished, &[1]));
-    Ok(())
-}
-
-/// Puts a message with a clock into the last outlet.
-fn is_put(ends: &mut InstanceEnds, m: u32, clock: u64) -> bool {
+/// Whether a message with a clock goes into the last outlet.
+pub fn is_put(ends: &mut InstanceEnds, m: u32, clock: u64) -> bool {
     match ends.outlets.last_mut() {
         Some((_, outlet)) => outlet.send(m, clock).is_ok(),
         None => false,
     }
 }
 
-#[test]
-fn a_message_of_no_chart(rt: HostRuntime) -> Result<(), Fail> {
-    let chart = chart_of(rt.alloc(), ONE_MESSAGE)?;
-    let mut ends = wire(rt.alloc(), &chart, Queues::Pair)?;
+/// What the sender of `one_message` does before its receiver is run.
+#[derive(Clone, Copy, Debug)]
+enum Before {
+    Nothing,
+    /// It is stopped by its gate.
+    Stops,
+    /// It sends the message, and finishes.
+    Sends,
+    /// Its outlet gets a message of no chart.
+    Strays,
+}
+
+/// Whether the sender of `one_message` does this.
+fn does(
+    alloc: Global,
+    chart: &Chart,
+    ends: Option<InstanceEnds>,
+    before: Before,
+) -> Result<bool, AllocError> {
+    match before {
+        Before::Nothing => Ok(true),
+        Before::Stops => is_left(alloc, chart, 0, ends, &Never(0), (End::Stopped, &[])),
+        Before::Sends => is_left(alloc, chart, 0, ends, &AlwaysOpen, (End::Finished, &[0])),
+        Before::Strays => match ends {
+            Some(mut ends) => Ok(is_put(&mut ends, 5, 0)),
+            None => Ok(false),
+        },
+    }
+}
+
+/// Whether the receiver of `one_message` ends so after that.
+fn is_received(alloc: Global, before: Before, wanted: Left) -> Result<bool, Fail> {
+    let chart = chart_of(alloc, ONE_MESSAGE)?;
+    let mut ends = wire(alloc, &chart, Queues::Pair)?;
     let takes = ends.pop();
-    let put = ends.last_mut().is_some_and(|sends| is_put(sends, 5, 0));
-    let taker = left(rt.alloc(), &chart, 1, takes, &AlwaysOpen)?;
-    assert!(rt; put && is_left(&taker, End::Foreign(5), &[]));
+    let is_done = does(alloc, &chart, ends.pop(), before)?;
+    Ok(is_done && is_left(alloc, &chart, 1, takes, &AlwaysOpen, wanted)?)
+}
+
+/// What the sender of `one_message` does, and how its receiver ends then.
+const RECEIVED: [(Before, Left); 4] = [
+    (Before::Nothing, (End::Impatient, &[])),
+    (Before::Stops, (End::Starved, &[])),
+    (Before::Sends, (End::Finished, &[1])),
+    (Before::Strays, (End::Foreign(5), &[])),
+];
+
+#[test]
+fn what_comes_of_one_message(rt: HostRuntime) -> Result<(), Fail> {
+    for (before, wanted) in RECEIVED {
+        assert!(rt; is_received(rt.alloc(), before, wanted)?, "{before:?}");
+    }
     Ok(())
+}
+
+/// Whether an instance of `relay` that takes a message with the last clock but one stops before it
+/// sends.
+fn is_spent(alloc: Global) -> Result<bool, Fail> {
+    let chart = chart_of(alloc, RELAY)?;
+    let mut ends = wire(alloc, &chart, Queues::Mailbox)?;
+    let relays = ends.pop();
+    let is_sent = match ends.first_mut() {
+        Some(sends) => is_put(sends, 1, u64::MAX - 1),
+        None => false,
+    };
+    Ok(is_sent && is_left(alloc, &chart, 2, relays, &AlwaysOpen, (End::Stopped, &[4]))?)
 }
 
 #[test]
 fn a_clock_that_is_spent(rt: HostRuntime) -> Result<(), Fail> {
-    let chart = chart_of(rt.alloc(), RELAY)?;
-    let mut ends = wire(rt.alloc(), &chart, Queues::Mailbox)?;
-    let relays = ends.pop();
-    let _ = ends.pop();
-    let put = ends
-        .last_mut()
-        .is_some_and(|sends| is_put(sends, 1, u64::MAX - 1));
-    let relay = left(rt.alloc(), &chart, 2, relays, &AlwaysOpen)?;
-    assert!(rt; put && is_left(&relay, End::Stopped, &[4]));
+    assert!(rt; is_spent(rt.alloc())?);
     Ok(())
 }

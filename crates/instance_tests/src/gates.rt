@@ -1,13 +1,16 @@
 //! Gates that make instances wait for each other, so that an execution shows which of them ran at
 //! the same time.
 
-use crate::together::{PATIENCE, chart_of, is_execution};
+use crate::together::{PATIENCE, Wanted, chart_of, is_execution};
 use example_charts::TWO_SENDERS;
 use msc_chart::{Event, Queues};
 use msc_instance::{End, Gate, run_chart};
+use std::alloc::Global;
+use std::sync::Wait;
 use std::sync::atomic::{AtomicBool, AtomicU64, Ordering};
 use std::test::Fail;
 use std::thread;
+use std::thread::Threads;
 
 /// How often a gate looks for another instance.
 const TURNS: u64 = 1_000_000_000;
@@ -47,23 +50,37 @@ impl Gate for Meeting {
     }
 }
 
+/// How the instances of `two_senders` end where the first message is taken first, and where the
+/// second is.
+const MET: [Wanted; 2] = [
+    (
+        &[End::Finished, End::Finished, End::Finished],
+        &[&[0], &[1, 2], &[3]],
+    ),
+    (
+        &[End::Finished, End::Finished, End::Finished],
+        &[&[0], &[2, 1], &[3]],
+    ),
+];
+
+/// Whether the instances of `two_senders` end in one of these ways, and the gate is asked four
+/// times.
+fn meet<R: Threads + Wait + Sync>(rt: &R, alloc: Global, queues: Queues) -> Result<bool, Fail> {
+    let gate = Meeting {
+        first: AtomicBool::new(false),
+        last: AtomicBool::new(false),
+        asked: AtomicU64::new(0),
+    };
+    let chart = chart_of(alloc, TWO_SENDERS)?;
+    let execution = run_chart(rt, alloc, &chart, queues, &gate, PATIENCE)?;
+    let is_met = is_execution(&execution, MET[0]) || is_execution(&execution, MET[1]);
+    Ok(is_met && gate.asked.load(Ordering::SeqCst) == 4)
+}
+
 #[test]
 fn outputs_that_wait_for_each_other(rt: HostRuntime) -> Result<(), Fail> {
-    let chart = chart_of(rt.alloc(), TWO_SENDERS)?;
     for queues in Queues::ALL {
-        let gate = Meeting {
-            first: AtomicBool::new(false),
-            last: AtomicBool::new(false),
-            asked: AtomicU64::new(0),
-        };
-        let execution = run_chart(&rt, rt.alloc(), &chart, queues, &gate, PATIENCE)?;
-        let ends = [End::Finished, End::Finished, End::Finished];
-        let one = is_execution(&execution, &ends, &[&[0], &[1, 2], &[3]]);
-        let other = is_execution(&execution, &ends, &[&[0], &[2, 1], &[3]]);
-        assert!(rt;
-            (one || other) && gate.asked.load(Ordering::SeqCst) == 4,
-            "{queues:?}"
-        );
+        assert!(rt; meet(&rt, rt.alloc(), queues)?, "{queues:?}");
     }
     Ok(())
 }

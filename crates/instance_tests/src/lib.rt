@@ -1,10 +1,12 @@
-//! Tests of instances, alone and on threads.
+//! Tests of queues, and of instances alone and on threads.
 #![tactic(auto)]
 
 #[cfg(test)]
 mod alone;
 #[cfg(test)]
 mod gates;
+#[cfg(test)]
+mod queues;
 #[cfg(test)]
 mod together;
 #[cfg(test)]

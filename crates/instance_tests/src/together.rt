@@ -3,7 +3,7 @@
 use example_charts::{EMPTY, LOCAL_EVENTS, RELAY};
 use msc_chart::{Chart, Event, Queues};
 use msc_fifo::Account;
-use msc_instance::{AlwaysOpen, End, Execution, Gate, RunFault, run_chart};
+use msc_instance::{AlwaysOpen, End, Execution, Gate, run_chart};
 use msc_parser::parse;
 use std::alloc::Global;
 use std::sync::Wait;
@@ -19,44 +19,25 @@ pub fn chart_of(alloc: Global, text: &[u8]) -> Result<Chart, Fail> {
     Ok(Chart::build(alloc, &draft)?)
 }
 
-/// Whether an execution has these ends, and these logs.
-pub fn is_execution(execution: &Execution, ends: &[End], logs: &[&[Event]]) -> bool {
-    if execution.ends.as_slice() != ends || execution.logs.len() != logs.len() {
+/// How each instance ends, and the log of each.
+pub type Wanted<'a> = (&'a [End], &'a [&'a [Event]]);
+
+/// Whether an execution has these ends and these logs.
+pub fn is_execution(execution: &Execution, wanted: Wanted) -> bool {
+    if execution.ends.as_slice() != wanted.0 || execution.logs.len() != wanted.1.len() {
         return false;
     }
-    let mut rows = execution.logs.iter().zip(logs);
-    rows.all(|(log, wanted)| log.as_slice() == *wanted)
-}
-
-#[test]
-fn no_instance(rt: HostRuntime) -> Result<(), Fail> {
-    let chart = chart_of(rt.alloc(), EMPTY)?;
-    for queues in Queues::ALL {
-        let execution = run_chart(&rt, rt.alloc(), &chart, queues, &AlwaysOpen, 0)?;
-        assert!(rt; is_execution(&execution, &[], &[]) && execution.queues.is_empty());
+    for (log, wanted) in execution.logs.iter().zip(wanted.1) {
+        if log.as_slice() != *wanted {
+            return false;
+        }
     }
-    Ok(())
-}
-
-#[test]
-fn actions_on_both_sides_of_a_message(rt: HostRuntime) -> Result<(), Fail> {
-    let chart = chart_of(rt.alloc(), LOCAL_EVENTS)?;
-    for queues in Queues::ALL {
-        let execution = run_chart(&rt, rt.alloc(), &chart, queues, &AlwaysOpen, PATIENCE)?;
-        assert!(rt;
-            is_execution(
-                &execution,
-                &[End::Finished, End::Finished],
-                &[&[0, 1], &[2, 3]]
-            )
-        );
-    }
-    Ok(())
+    true
 }
 
 /// The gate that says no to one event.
 #[derive(Clone, Copy)]
-struct Never(Event);
+pub struct Never(pub Event);
 
 impl Gate for Never {
     ghost use Rattle.std.specs.Prelude.{false};
@@ -68,37 +49,103 @@ impl Gate for Never {
     }
 }
 
-/// An event of `relay` at which the gate says no, and the ends and logs of the three instances.
-const STOPPED: [(Event, [End; 3], [&[Event]; 3]); 4] = [
+/// Whether the instances of a text's chart end so with a gate that is always open, and so many
+/// queues are settled.
+fn is_run<R: Threads + Wait + Sync>(
+    rt: &R,
+    alloc: Global,
+    text: &[u8],
+    queues: Queues,
+    wanted: Wanted,
+    count: usize,
+) -> Result<bool, Fail> {
+    let chart = chart_of(alloc, text)?;
+    let execution = run_chart(rt, alloc, &chart, queues, &AlwaysOpen, PATIENCE)?;
+    Ok(is_execution(&execution, wanted) && execution.queues.len() == count)
+}
+
+#[test]
+fn no_instance(rt: HostRuntime) -> Result<(), Fail> {
+    for queues in Queues::ALL {
+        assert!(rt;
+            is_run(&rt, rt.alloc(), EMPTY, queues, (&[], &[]), 0)?,
+            "{queues:?}"
+        );
+    }
+    Ok(())
+}
+
+/// How the instances of `local_events` end.
+const LOCAL: Wanted = (&[End::Finished, End::Finished], &[&[0, 1], &[2, 3]]);
+
+#[test]
+fn actions_on_both_sides_of_a_message(rt: HostRuntime) -> Result<(), Fail> {
+    for queues in Queues::ALL {
+        assert!(rt;
+            is_run(&rt, rt.alloc(), LOCAL_EVENTS, queues, LOCAL, 1)?,
+            "{queues:?}"
+        );
+    }
+    Ok(())
+}
+
+/// The execution of `relay` with mailboxes and a gate that says no to this event.
+fn stopped_at<R: Threads + Wait + Sync>(
+    rt: &R,
+    alloc: Global,
+    event: Event,
+) -> Result<Execution, Fail> {
+    let chart = chart_of(alloc, RELAY)?;
+    let gate = Never(event);
+    Ok(run_chart(rt, alloc, &chart, Queues::Mailbox, &gate, PATIENCE)?)
+}
+
+/// An event of `relay` at which the gate says no, and how the three instances end.
+const STOPPED: [(Event, Wanted); 4] = [
     (
         0,
-        [End::Stopped, End::Starved, End::Starved],
-        [&[], &[], &[]],
+        (
+            &[End::Stopped, End::Starved, End::Starved],
+            &[&[], &[], &[]],
+        ),
     ),
     (
         1,
-        [End::Stopped, End::Starved, End::Starved],
-        [&[0], &[2], &[]],
+        (
+            &[End::Stopped, End::Starved, End::Starved],
+            &[&[0], &[2], &[]],
+        ),
     ),
     (
         2,
-        [End::Finished, End::Stopped, End::Finished],
-        [&[0, 1], &[2], &[4, 5]],
+        (
+            &[End::Finished, End::Stopped, End::Finished],
+            &[&[0, 1], &[2], &[4, 5]],
+        ),
     ),
     (
         4,
-        [End::Finished, End::Starved, End::Stopped],
-        [&[0, 1], &[2], &[4]],
+        (
+            &[End::Finished, End::Starved, End::Stopped],
+            &[&[0, 1], &[2], &[4]],
+        ),
     ),
 ];
 
+/// Whether the instances of `relay` end so.
+fn is_stopped_at<R: Threads + Wait + Sync>(
+    rt: &R,
+    alloc: Global,
+    event: Event,
+    wanted: Wanted,
+) -> Result<bool, Fail> {
+    Ok(is_execution(&stopped_at(rt, alloc, event)?, wanted))
+}
+
 #[test]
 fn a_gate_that_says_no_to_an_event(rt: HostRuntime) -> Result<(), Fail> {
-    let chart = chart_of(rt.alloc(), RELAY)?;
-    for (event, ends, logs) in STOPPED {
-        let gate = Never(event);
-        let execution = run_chart(&rt, rt.alloc(), &chart, Queues::Mailbox, &gate, PATIENCE)?;
-        assert!(rt; is_execution(&execution, &ends, &logs), "{event}");
+    for (event, wanted) in STOPPED {
+        assert!(rt; is_stopped_at(&rt, rt.alloc(), event, wanted)?, "{event}");
     }
     Ok(())
 }
@@ -111,16 +158,25 @@ fn is_untaken(account: &Account, put: &[u32]) -> bool {
         && account.left.as_slice() == put
 }
 
+/// Whether an execution has first the mailbox of instance 1, whose last sender put this and nobody
+/// took it.
+fn is_left_in_mailbox(execution: &Execution, put: &[u32]) -> bool {
+    match execution.queues.first() {
+        Some((1, mailbox)) => match mailbox.senders.last() {
+            Some(account) => is_untaken(account, put),
+            None => false,
+        },
+        _ => false,
+    }
+}
+
+/// Whether it is so where the gate says no to the first input of `relay`.
+fn is_left<R: Threads + Wait + Sync>(rt: &R, alloc: Global, put: &[u32]) -> Result<bool, Fail> {
+    Ok(is_left_in_mailbox(&stopped_at(rt, alloc, 2)?, put))
+}
+
 #[test]
 fn what_nobody_takes_is_left_in_the_mailbox(rt: HostRuntime) -> Result<(), Fail> {
-    let chart = chart_of(rt.alloc(), RELAY)?;
-    let gate = Never(2);
-    let execution = run_chart(&rt, rt.alloc(), &chart, Queues::Mailbox, &gate, PATIENCE)?;
-    let Some((1, mailbox)) = execution.queues.first() else {
-        assert!(rt; false, "b's mailbox");
-        return Ok(());
-    };
-    let of_c = mailbox.senders.last();
-    assert!(rt; of_c.is_some_and(|account| is_untaken(account, &[2])));
+    assert!(rt; is_left(&rt, rt.alloc(), &[2])?);
     Ok(())
 }

@@ -1,9 +1,11 @@
 //! Fresh ends of instances, and ends that do not fit.
 
+use crate::alone::is_put;
 use crate::together::chart_of;
 use example_charts::RELAY;
 use msc_chart::Queues;
 use msc_instance::{InstanceEnds, wire};
+use std::alloc::Global;
 use std::test::Fail;
 
 /// The queues of an instance's outlets, each with how many messages it has left, and those of its
@@ -26,61 +28,114 @@ const RELAY_ENDS: [(Queues, [Wired; 3]); 3] = [
     ),
 ];
 
+/// Whether these are the queues of an instance's outlets, with as many messages left.
+fn are_outlets(ends: &InstanceEnds, wanted: &[(u32, u32)]) -> bool {
+    for (outlet, (queue, left)) in ends.outlets.iter().zip(wanted) {
+        if outlet.0 != *queue || outlet.1.left() != *left {
+            return false;
+        }
+    }
+    ends.outlets.len() == wanted.len()
+}
+
+/// Whether these are the queues of an instance's inlets.
+fn are_inlets(ends: &InstanceEnds, wanted: &[u32]) -> bool {
+    for (inlet, queue) in ends.inlets.iter().zip(wanted) {
+        if inlet.0 != *queue {
+            return false;
+        }
+    }
+    ends.inlets.len() == wanted.len()
+}
+
 /// Whether an instance has these ends.
 fn is_wired(ends: &InstanceEnds, wanted: Wired) -> bool {
-    if ends.outlets.len() != wanted.0.len() || ends.inlets.len() != wanted.1.len() {
-        return false;
+    are_outlets(ends, wanted.0) && are_inlets(ends, wanted.1)
+}
+
+/// Whether the instances of `relay` have these ends.
+fn are_wired(alloc: Global, queues: Queues, wanted: [Wired; 3]) -> Result<bool, Fail> {
+    let chart = chart_of(alloc, RELAY)?;
+    let all = wire(alloc, &chart, queues)?;
+    match all.as_slice() {
+        [a, b, c] => {
+            Ok(is_wired(a, wanted[0]) && is_wired(b, wanted[1]) && is_wired(c, wanted[2]))
+        }
+        _ => Ok(false),
     }
-    let mut outlets = ends.outlets.iter().zip(wanted.0);
-    let mut inlets = ends.inlets.iter().zip(wanted.1);
-    outlets.all(|(end, (queue, left))| end.0 == *queue && end.1.left() == *left)
-        && inlets.all(|(end, queue)| end.0 == *queue)
 }
 
 #[test]
 fn the_ends_of_relay(rt: HostRuntime) -> Result<(), Fail> {
-    let chart = chart_of(rt.alloc(), RELAY)?;
     for (queues, wanted) in RELAY_ENDS {
-        let all = wire(rt.alloc(), &chart, queues)?;
-        let mut rows = all.iter().zip(wanted);
-        let is = rows.all(|(ends, wanted)| is_wired(ends, wanted));
-        assert!(rt; all.len() == 3 && is, "{queues:?}");
+        assert!(rt; are_wired(rt.alloc(), queues, wanted)?, "{queues:?}");
     }
     Ok(())
 }
 
-#[test]
-fn ends_of_another_instance_and_of_none(rt: HostRuntime) -> Result<(), Fail> {
-    let chart = chart_of(rt.alloc(), RELAY)?;
-    let all = wire(rt.alloc(), &chart, Queues::Pair)?;
-    let fits = |i| all.first().is_some_and(|ends| ends.fits(&chart, i));
-    assert!(rt; fits(0) && !fits(1) && !fits(7));
-    Ok(())
+/// What is done to the ends of an instance before it is looked whether they fit.
+#[derive(Clone, Copy, Debug)]
+enum Change {
+    Nothing,
+    /// Its outlets are closed.
+    Closed,
+    /// Its outlets stand in falling order.
+    Falling,
+    /// Its last outlet gets a message.
+    Spent,
 }
 
+/// Closes all outlets of an instance.
+fn close_all(ends: &mut InstanceEnds) {
+    for outlet in ends.outlets.iter_mut() {
+        outlet.1.close();
+    }
+}
+
+/// Changes ends so, and says whether that could be done.
+fn is_changed(ends: &mut InstanceEnds, change: Change) -> bool {
+    match change {
+        Change::Nothing => true,
+        Change::Closed => {
+            close_all(ends);
+            true
+        }
+        Change::Falling => {
+            ends.outlets.reverse();
+            true
+        }
+        Change::Spent => is_put(ends, 5, 0),
+    }
+}
+
+/// Whether the ends of the first instance of `relay`, when they are changed so, fit an instance;
+/// none where they could not be.
+fn fit(alloc: Global, change: Change, i: u32) -> Result<Option<bool>, Fail> {
+    let chart = chart_of(alloc, RELAY)?;
+    let mut all = wire(alloc, &chart, Queues::Single)?;
+    let Some(ends) = all.first_mut() else {
+        return Ok(None);
+    };
+    if !is_changed(ends, change) {
+        return Ok(None);
+    }
+    Ok(Some(ends.fits(&chart, i)))
+}
+
+/// Changes of the ends of the first instance of `relay`, an instance, and whether they fit it.
+const FITTING: [(Change, u32, bool); 6] = [
+    (Change::Nothing, 0, true),
+    (Change::Nothing, 1, false),
+    (Change::Nothing, 7, false),
+    (Change::Closed, 0, false),
+    (Change::Falling, 0, false),
+    (Change::Spent, 0, false),
+];
+
 #[test]
-fn outlets_that_fall_are_spent_or_closed(rt: HostRuntime) -> Result<(), Fail> {
-    let chart = chart_of(rt.alloc(), RELAY)?;
-    let mut all = wire(rt.alloc(), &chart, Queues::Single)?;
-    let Some(relays) = all.pop() else {
-        return Ok(());
-    };
-    let mut relays = relays;
-    relays
-        .outlets
-        .iter_mut()
-        .for_each(|outlet| outlet.1.close());
-    assert!(rt; !relays.fits(&chart, 2), "closed");
-    let Some(mut sends) = all.into_iter().next() else {
-        return Ok(());
-    };
-    sends.outlets.reverse();
-    assert!(rt; !sends.fits(&chart, 0), "falling");
-    sends.outlets.reverse();
-    let put = sends
-        .outlets
-        .last_mut()
-        .is_some_and(|outlet| outlet.1.send(5, 0).is_ok());
-    assert!(rt; put && !sends.fits(&chart, 0), "spent");
+fn ends_that_fit_and_that_do_not(rt: HostRuntime) -> Result<(), Fail> {
+    for (change, i, wanted) in FITTING {
+        assert_eq!(rt; fit(rt.alloc(), change, i)?, Some(wanted), "{change:?} {i}");
+    }
     Ok(())
 }

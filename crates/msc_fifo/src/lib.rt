@@ -54,6 +54,3 @@ pub const QUOTA_LIMIT: usize = 1_024;
 
 /// The greatest number of places of a queue: one for each message and one for each end mark.
 pub const PLACE_LIMIT: usize = 1_056;
-
-#[cfg(test)]
-mod tests;

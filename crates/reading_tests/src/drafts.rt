@@ -1,7 +1,7 @@
 //! Drafts: the parts that the readers show, and the canonical text.
 
 use example_charts::ONE_MESSAGE;
-use msc_parser::{Decl, Draft, Item, ParseFault, Section, Signal, Statement, Way, parse};
+use msc_parser::{Draft, Item, ParseFault, Section, Signal, Statement, Way, parse};
 use std::alloc::Global;
 use std::test::Fail;
 
@@ -37,43 +37,39 @@ fn is_one_message(draft: &Draft) -> bool {
     }
 }
 
-/// Whether these are the names of decls.
-fn are_named(decls: &[Decl], names: &[&[u8]]) -> bool {
-    for (decl, name) in decls.iter().zip(names.iter()) {
-        if decl.name.as_slice() != *name {
-            return false;
-        }
-    }
-    decls.len() == names.len()
-}
-
 /// The canonical text of a text's draft.
 pub fn canonical(alloc: Global, text: &[u8]) -> Result<Vec<u8>, ParseFault> {
     Ok(parse(alloc, text)?.write(alloc)?)
 }
 
-#[test]
-fn the_parts_of_one_message(rt: HostRuntime) -> Result<(), Fail> {
-    let draft = parse(rt.alloc(), ONE_MESSAGE)?;
-    assert!(rt; is_one_message(&draft));
-    Ok(())
+/// Whether the draft of `ONE_MESSAGE` has its parts.
+fn has_parts(alloc: Global) -> Result<bool, ParseFault> {
+    Ok(is_one_message(&parse(alloc, ONE_MESSAGE)?))
 }
 
 #[test]
-fn header_names_of_all_inst_statements(rt: HostRuntime) -> Result<(), Fail> {
-    let draft = parse(rt.alloc(), b"msc t; inst a, b; inst a; endmsc;")?;
-    assert!(rt; are_named(draft.header(), &[b"a", b"b", b"a"]));
+fn the_parts_of_one_message(rt: HostRuntime) -> Result<(), Fail> {
+    assert!(rt; has_parts(rt.alloc())?);
     Ok(())
 }
+
+/// Whether a text is written as `wanted`, and `wanted` as itself.
+pub fn is_written_as(alloc: Global, text: &[u8], wanted: &[u8]) -> Result<bool, ParseFault> {
+    let first = canonical(alloc, text)?;
+    let again = canonical(alloc, wanted)?;
+    Ok(first.as_slice() == wanted && again.as_slice() == wanted)
+}
+
+/// A text; its header has the names of all `inst` statements.
+const TEXT: &[u8] = b"MSC t; inst a,b; /* a note */ inst a; instance a; out m to b;\t\
+endinstance; EndMsc;";
+
+/// Its canonical text.
+const CANONICAL: &[u8] = b"msc t;\ninst a, b, a;\ninstance a;\n  out m to b;\nendinstance;\n\
+endmsc;\n";
 
 #[test]
 fn a_written_draft_is_read_again(rt: HostRuntime) -> Result<(), Fail> {
-    let text =
-        b"MSC t; inst a,b; /* a note */ inst c; instance a; out m to b;\tendinstance; EndMsc;";
-    let wanted = b"msc t;\ninst a, b, c;\ninstance a;\n  out m to b;\nendinstance;\nendmsc;\n";
-    let first = canonical(rt.alloc(), text)?;
-    assert_eq!(rt; first.as_slice(), wanted.as_slice());
-    let again = canonical(rt.alloc(), &first)?;
-    assert_eq!(rt; again.as_slice(), wanted.as_slice());
+    assert!(rt; is_written_as(rt.alloc(), TEXT, CANONICAL)?);
     Ok(())
 }

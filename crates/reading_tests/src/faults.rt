@@ -2,67 +2,94 @@
 
 use msc_lexer::{LexFault, Word};
 use msc_parser::{ParseFault, What, parse};
+use std::alloc::{AllocError, Global};
 use std::test::Fail;
+
+/// The fault of a text that has no draft.
+pub fn fault(alloc: Global, text: &[u8]) -> Option<ParseFault> {
+    parse(alloc, text).err()
+}
+
+/// Texts without a draft, and their faults.
+const REFUSED: [(&[u8], ParseFault); 9] = [
+    (
+        b"msc t; instance a; out m to env; endinstance; endmsc;",
+        ParseFault::Unsupported(28, Word::Env),
+    ),
+    (b"msc t; /* x", ParseFault::Lex(LexFault::OpenNote(7))),
+    (b"msc t;", ParseFault::Expected(6, What::Section)),
+    (
+        b"msc t; instance a; out m t",
+        ParseFault::Expected(25, What::To),
+    ),
+    (b"msc t; endmsc; x", ParseFault::Expected(15, What::Nothing)),
+    (b"", ParseFault::Expected(0, What::Msc)),
+    (b"msc t; x /*", ParseFault::Lex(LexFault::OpenNote(9))),
+    (
+        b"msc t; instance a; out m to action;",
+        ParseFault::Expected(28, What::Name),
+    ),
+    (
+        b"msc t; instance a; out in to b;",
+        ParseFault::Expected(23, What::Name),
+    ),
+];
 
 #[test]
 fn refused_texts(rt: HostRuntime) {
-    let alloc = rt.alloc();
-    for (text, wanted) in [
-        (
-            b"msc t; instance a; out m to env; endinstance; endmsc;".as_slice(),
-            ParseFault::Unsupported(28, Word::Env),
-        ),
-        (b"msc t; /* x", ParseFault::Lex(LexFault::OpenNote(7))),
-        (b"msc t;", ParseFault::Expected(6, What::Section)),
-        (
-            b"msc t; instance a; out m t",
-            ParseFault::Expected(25, What::To),
-        ),
-        (b"msc t; endmsc; x", ParseFault::Expected(15, What::Nothing)),
-        (b"", ParseFault::Expected(0, What::Msc)),
-        (b"msc t; x /*", ParseFault::Lex(LexFault::OpenNote(9))),
-        (
-            b"msc t; instance a; out m to action;",
-            ParseFault::Expected(28, What::Name),
-        ),
-        (
-            b"msc t; instance a; out in to b;",
-            ParseFault::Expected(23, What::Name),
-        ),
-    ] {
-        assert_eq!(rt; parse(alloc, text).err(), Some(wanted), "{text:?}");
+    for (text, wanted) in REFUSED {
+        assert_eq!(rt; fault(rt.alloc(), text), Some(wanted), "{text:?}");
     }
 }
 
+/// Whether the message of a fault is this.
+fn has_message(alloc: Global, fault: ParseFault, wanted: &str) -> Result<bool, AllocError> {
+    Ok(fault.to_string(alloc)?.as_str() == wanted)
+}
+
+/// Faults and their messages.
+const MESSAGES: [(ParseFault, &str); 4] = [
+    (
+        ParseFault::Unsupported(28, Word::Env),
+        "env is not supported",
+    ),
+    (ParseFault::Expected(26, What::Text), "expected a text"),
+    (
+        ParseFault::Expected(6, What::End),
+        "expected the end of the statement",
+    ),
+    (ParseFault::Lex(LexFault::OpenNote(7)), "note without end"),
+];
+
 #[test]
 fn messages_are_the_printed_words(rt: HostRuntime) -> Result<(), Fail> {
-    for (fault, wanted) in [
-        (
-            ParseFault::Unsupported(28, Word::Env),
-            "env is not supported",
-        ),
-        (ParseFault::Expected(26, What::Text), "expected a text"),
-        (
-            ParseFault::Expected(6, What::End),
-            "expected the end of the statement",
-        ),
-        (ParseFault::Lex(LexFault::OpenNote(7)), "note without end"),
-    ] {
-        assert_eq!(rt; fault.to_string(rt.alloc())?.as_str(), wanted);
+    for (fault, wanted) in MESSAGES {
+        assert!(rt; has_message(rt.alloc(), fault, wanted)?, "{wanted}");
     }
     Ok(())
 }
 
+/// The fault of a text of one byte, so many times.
+fn fault_of_many(alloc: Global, byte: u8, count: usize) -> Result<Option<ParseFault>, AllocError> {
+    let text = vec![in alloc; byte; count]?;
+    Ok(fault(alloc, &text))
+}
+
+/// Bytes, how many of them make a text, and its fault.
+const LIMITS: [(u8, usize, ParseFault); 3] = [
+    (b' ', 1_048_577, ParseFault::Lex(LexFault::TooLong)),
+    (b' ', 1_048_576, ParseFault::Expected(1_048_576, What::Msc)),
+    (b'(', 1_048_576, ParseFault::Expected(0, What::Msc)),
+];
+
 #[test]
 fn texts_at_the_limit(rt: HostRuntime) -> Result<(), Fail> {
-    let alloc = rt.alloc();
-    let spaces = vec![in alloc; b' '; 1_048_577]?;
-    let too_long = Some(ParseFault::Lex(LexFault::TooLong));
-    assert_eq!(rt; parse(alloc, &spaces).err(), too_long);
-    let last = Some(ParseFault::Expected(1_048_576, What::Msc));
-    assert_eq!(rt; parse(alloc, spaces.get(1..).unwrap_or(b"")).err(), last);
-    let marks = vec![in alloc; b'('; 1_048_576]?;
-    let first = Some(ParseFault::Expected(0, What::Msc));
-    assert_eq!(rt; parse(alloc, &marks).err(), first);
+    for (byte, count, wanted) in LIMITS {
+        assert_eq!(rt;
+            fault_of_many(rt.alloc(), byte, count)?,
+            Some(wanted),
+            "{count}"
+        );
+    }
     Ok(())
 }

@@ -2,20 +2,19 @@
 //! refused text for each place.
 
 use crate::drafts::canonical;
+use crate::faults::fault;
 use example_charts::KINDS_AND_COMMENTS;
 use msc_lexer::LexFault;
 use msc_parser::{Draft, Item, Name, ParseFault, Signal, Statement, What, parse};
 use std::alloc::{AllocError, Global};
 use std::test::Fail;
 
-/// Whether these are the names.
-fn are_names(names: &[Name], wanted: &[&[u8]]) -> bool {
-    for (name, want) in names.iter().zip(wanted.iter()) {
-        if name.as_slice() != *want {
-            return false;
-        }
+/// Whether these are the two names.
+fn are_names(names: &[Name], first: &[u8], second: &[u8]) -> bool {
+    match names {
+        [one, other] => one.as_slice() == first && other.as_slice() == second,
+        _ => false,
     }
-    names.len() == wanted.len()
 }
 
 /// Whether an event has the message instance name `1` and the parameters `x` and `y`.
@@ -23,7 +22,7 @@ fn has_number_and_parameters(signal: &Signal) -> bool {
     match &signal.number {
         Some(number) => {
             number.as_slice() == b"1".as_slice()
-                && are_names(signal.parameters.as_slice(), &[b"x", b"y"])
+                && are_names(signal.parameters.as_slice(), b"x", b"y")
         }
         None => false,
     }
@@ -34,7 +33,7 @@ fn has_kinds_numbers_and_parameters(draft: &Draft) -> bool {
     let [a, _b] = draft.sections() else {
         return false;
     };
-    if draft.header().len() != 2 || !are_names(a.decl.kind.as_slice(), &[b"process", b"p"]) {
+    if draft.header().len() != 2 || !are_names(a.decl.kind.as_slice(), b"process", b"p") {
         return false;
     }
     match a.items.as_slice() {
@@ -56,6 +55,144 @@ fn has_coregions(draft: &Draft) -> bool {
     }
 }
 
+/// A text with a coregion of no events and one of two.
+const COREGIONS: &[u8] = b"msc t; instance a; concurrent comment 'c'; endconcurrent; \
+concurrent; in m() from b; out n to b; endconcurrent; endinstance; endmsc;";
+
+/// Whether the drafts of `KINDS_AND_COMMENTS` and of `COREGIONS` have their parts.
+fn have_parts(alloc: Global) -> Result<(bool, bool), ParseFault> {
+    let kinds = has_kinds_numbers_and_parameters(&parse(alloc, KINDS_AND_COMMENTS)?);
+    Ok((kinds, has_coregions(&parse(alloc, COREGIONS)?)))
+}
+
+#[test]
+fn kinds_numbers_parameters_and_coregions(rt: HostRuntime) -> Result<(), Fail> {
+    assert_eq!(rt; have_parts(rt.alloc())?, (true, true));
+    Ok(())
+}
+
+/// Texts without a draft, where the first token stands that is not expected, and what is expected
+/// there.
+const PLACES: [(&[u8], usize, What); 45] = [
+    (b"x", 0, What::Msc),
+    (b"msc ;", 4, What::Name),
+    (b"msc t; inst ;", 12, What::Name),
+    (b"msc t; instance ;", 16, What::Name),
+    (b"msc t; instance a; out ;", 23, What::Name),
+    (b"msc t; instance a; in ;", 22, What::Name),
+    (b"msc t; instance a; out m to ;", 28, What::Name),
+    (b"msc t; instance a; in m from ;", 29, What::Name),
+    (b"msc t; instance a : ;", 20, What::Name),
+    (b"msc t; inst a, ;", 15, What::Name),
+    (b"msc t; instance a; out m, ;", 26, What::Name),
+    (b"msc t; instance a; out m(x, ;", 28, What::Name),
+    (b"msc t comment ;", 14, What::Text),
+    (b"msc t; instance a; action x;", 26, What::Text),
+    (b"msc t; instance a; action 'x' x", 30, What::End),
+    (b"msc t; instance a; out action", 23, What::Name),
+    (b"msc t x", 6, What::End),
+    (b"msc t; instance a; out m to b x", 30, What::End),
+    (b"msc t; endmsc x", 14, What::End),
+    (b"msc t; instance a; endinstance x", 31, What::End),
+    (b"msc t; instance a; concurrent x", 30, What::End),
+    (
+        b"msc t; instance a; concurrent; endconcurrent x",
+        45,
+        What::End,
+    ),
+    (b"msc t comment 'c' x", 18, What::End),
+    (b"msc t; inst a b;", 14, What::End),
+    (b"msc t; inst a : p (", 18, What::End),
+    (b"msc t; inst a : p q r", 20, What::End),
+    (b"msc t; instance a, b;", 17, What::End),
+    (b"msc t; instance a : p, q", 21, What::End),
+    (b"msc t; instance a : p q r", 24, What::End),
+    (b"msc t; out m to b;", 7, What::Section),
+    (b"msc t; action 'x';", 7, What::Section),
+    (b"msc t; inst a; x", 15, What::Section),
+    (
+        b"msc t; instance a; endinstance; inst b;",
+        32,
+        What::Section,
+    ),
+    (b"msc t; instance a; endmsc;", 19, What::Item),
+    (
+        b"msc t; instance a; concurrent; concurrent;",
+        31,
+        What::Event,
+    ),
+    (
+        b"msc t; instance a; concurrent; endinstance;",
+        31,
+        What::Event,
+    ),
+    (b"msc t; instance a; out m from b", 25, What::To),
+    (b"msc t; instance a; out m, 1, 2", 27, What::To),
+    (b"msc t; instance a; out m() (", 27, What::To),
+    (b"msc t; instance a; in m to b", 24, What::From),
+    (b"msc t; instance a; in m, 1 to b", 27, What::From),
+    (b"msc t; instance a; in m() to b", 26, What::From),
+    (b"msc t; instance a; out m(;", 25, What::Parameter),
+    (b"msc t; instance a; out m(x y", 27, What::Parameter),
+    (b"msc t; endmsc; msc", 15, What::Nothing),
+];
+
+#[test]
+fn a_refused_text_for_each_place(rt: HostRuntime) {
+    for (text, at, what) in PLACES {
+        let wanted = Some(ParseFault::Expected(at, what));
+        assert_eq!(rt; fault(rt.alloc(), text), wanted, "{text:?}");
+    }
+}
+
+/// The fault of the first bytes of `KINDS_AND_COMMENTS`, so many of them.
+fn fault_of_beginning(alloc: Global, length: usize) -> Option<ParseFault> {
+    fault(alloc, KINDS_AND_COMMENTS.get(..length).unwrap_or(b""))
+}
+
+/// Numbers of bytes, and the faults of so many.
+const CUT: [(usize, ParseFault); 13] = [
+    (50, ParseFault::Lex(LexFault::OpenText(49))),
+    (51, ParseFault::Lex(LexFault::OpenText(49))),
+    (52, ParseFault::Lex(LexFault::OpenText(49))),
+    (53, ParseFault::Expected(53, What::End)),
+    (54, ParseFault::Lex(LexFault::OpenText(49))),
+    (55, ParseFault::Lex(LexFault::OpenText(49))),
+    (56, ParseFault::Expected(56, What::End)),
+    (57, ParseFault::Expected(57, What::Item)),
+    (58, ParseFault::Expected(58, What::Item)),
+    (59, ParseFault::Lex(LexFault::BadByte(58))),
+    (60, ParseFault::Lex(LexFault::OpenNote(58))),
+    (67, ParseFault::Lex(LexFault::OpenNote(58))),
+    (68, ParseFault::Expected(68, What::Item)),
+];
+
+#[test]
+fn a_text_that_is_cut(rt: HostRuntime) {
+    for (length, wanted) in CUT {
+        assert_eq!(rt;
+            fault_of_beginning(rt.alloc(), length),
+            Some(wanted),
+            "{length}"
+        );
+    }
+}
+
+/// Whether the first bytes are refused, and not as unsupported.
+fn is_refused_beginning(alloc: Global, length: usize) -> bool {
+    match fault_of_beginning(alloc, length) {
+        Some(ParseFault::Lex(_) | ParseFault::Expected(_, _)) => true,
+        _ => false,
+    }
+}
+
+#[test]
+fn every_beginning_is_refused_and_none_as_unsupported(rt: HostRuntime) {
+    for length in 0..KINDS_AND_COMMENTS.len() {
+        assert!(rt; is_refused_beginning(rt.alloc(), length), "{length}");
+    }
+}
+
 /// A text of forty thousand empty coregions.
 fn empty_coregions(alloc: Global) -> Result<Vec<u8>, AllocError> {
     let mut text = Vec::new(alloc);
@@ -67,141 +204,17 @@ fn empty_coregions(alloc: Global) -> Result<Vec<u8>, AllocError> {
     Ok(text)
 }
 
-#[test]
-fn kinds_numbers_and_parameters(rt: HostRuntime) -> Result<(), Fail> {
-    let draft = parse(rt.alloc(), KINDS_AND_COMMENTS)?;
-    assert!(rt; has_kinds_numbers_and_parameters(&draft));
-    Ok(())
-}
-
-#[test]
-fn coregions(rt: HostRuntime) -> Result<(), Fail> {
-    let text = b"msc t; instance a; concurrent comment 'c'; endconcurrent; \
-concurrent; in m() from b; out n to b; endconcurrent; endinstance; endmsc;";
-    let draft = parse(rt.alloc(), text)?;
-    assert!(rt; has_coregions(&draft));
-    Ok(())
-}
-
-#[test]
-fn a_refused_text_for_each_place(rt: HostRuntime) {
-    for (text, at, what) in [
-        (b"x".as_slice(), 0, What::Msc),
-        (b"msc ;", 4, What::Name),
-        (b"msc t; inst ;", 12, What::Name),
-        (b"msc t; instance ;", 16, What::Name),
-        (b"msc t; instance a; out ;", 23, What::Name),
-        (b"msc t; instance a; in ;", 22, What::Name),
-        (b"msc t; instance a; out m to ;", 28, What::Name),
-        (b"msc t; instance a; in m from ;", 29, What::Name),
-        (b"msc t; instance a : ;", 20, What::Name),
-        (b"msc t; inst a, ;", 15, What::Name),
-        (b"msc t; instance a; out m, ;", 26, What::Name),
-        (b"msc t; instance a; out m(x, ;", 28, What::Name),
-        (b"msc t comment ;", 14, What::Text),
-        (b"msc t; instance a; action x;", 26, What::Text),
-        (b"msc t; instance a; action 'x' x", 30, What::End),
-        (b"msc t; instance a; out action", 23, What::Name),
-        (b"msc t x", 6, What::End),
-        (b"msc t; instance a; out m to b x", 30, What::End),
-        (b"msc t; endmsc x", 14, What::End),
-        (b"msc t; instance a; endinstance x", 31, What::End),
-        (b"msc t; instance a; concurrent x", 30, What::End),
-        (
-            b"msc t; instance a; concurrent; endconcurrent x",
-            45,
-            What::End,
-        ),
-        (b"msc t comment 'c' x", 18, What::End),
-    ] {
-        let wanted = Some(ParseFault::Expected(at, what));
-        assert_eq!(rt; parse(rt.alloc(), text).err(), wanted, "{text:?}");
-    }
-}
-
-#[test]
-fn a_refused_text_for_each_later_place(rt: HostRuntime) {
-    for (text, at, what) in [
-        (b"msc t; inst a b;".as_slice(), 14, What::End),
-        (b"msc t; inst a : p (", 18, What::End),
-        (b"msc t; inst a : p q r", 20, What::End),
-        (b"msc t; instance a, b;", 17, What::End),
-        (b"msc t; instance a : p, q", 21, What::End),
-        (b"msc t; instance a : p q r", 24, What::End),
-        (b"msc t; out m to b;", 7, What::Section),
-        (b"msc t; action 'x';", 7, What::Section),
-        (b"msc t; inst a; x", 15, What::Section),
-        (
-            b"msc t; instance a; endinstance; inst b;",
-            32,
-            What::Section,
-        ),
-        (b"msc t; instance a; endmsc;", 19, What::Item),
-        (
-            b"msc t; instance a; concurrent; concurrent;",
-            31,
-            What::Event,
-        ),
-        (
-            b"msc t; instance a; concurrent; endinstance;",
-            31,
-            What::Event,
-        ),
-        (b"msc t; instance a; out m from b", 25, What::To),
-        (b"msc t; instance a; out m, 1, 2", 27, What::To),
-        (b"msc t; instance a; out m() (", 27, What::To),
-        (b"msc t; instance a; in m to b", 24, What::From),
-        (b"msc t; instance a; in m, 1 to b", 27, What::From),
-        (b"msc t; instance a; in m() to b", 26, What::From),
-        (b"msc t; instance a; out m(;", 25, What::Parameter),
-        (b"msc t; instance a; out m(x y", 27, What::Parameter),
-        (b"msc t; endmsc; msc", 15, What::Nothing),
-    ] {
-        let wanted = Some(ParseFault::Expected(at, what));
-        assert_eq!(rt; parse(rt.alloc(), text).err(), wanted, "{text:?}");
-    }
-}
-
-#[test]
-fn a_text_that_is_cut(rt: HostRuntime) {
-    for (length, wanted) in [
-        (50, ParseFault::Lex(LexFault::OpenText(49))),
-        (51, ParseFault::Lex(LexFault::OpenText(49))),
-        (52, ParseFault::Lex(LexFault::OpenText(49))),
-        (53, ParseFault::Expected(53, What::End)),
-        (54, ParseFault::Lex(LexFault::OpenText(49))),
-        (55, ParseFault::Lex(LexFault::OpenText(49))),
-        (56, ParseFault::Expected(56, What::End)),
-        (57, ParseFault::Expected(57, What::Item)),
-        (58, ParseFault::Expected(58, What::Item)),
-        (59, ParseFault::Lex(LexFault::BadByte(58))),
-        (60, ParseFault::Lex(LexFault::OpenNote(58))),
-        (67, ParseFault::Lex(LexFault::OpenNote(58))),
-        (68, ParseFault::Expected(68, What::Item)),
-    ] {
-        let text = KINDS_AND_COMMENTS.get(..length).unwrap_or(b"");
-        assert_eq!(rt; parse(rt.alloc(), text).err(), Some(wanted), "{length}");
-    }
-}
-
-#[test]
-fn every_beginning_is_refused_and_none_as_unsupported(rt: HostRuntime) {
-    for length in 0..KINDS_AND_COMMENTS.len() {
-        let text = KINDS_AND_COMMENTS.get(..length).unwrap_or(b"");
-        match parse(rt.alloc(), text).err() {
-            Some(ParseFault::Lex(_) | ParseFault::Expected(_, _)) => {}
-            _ => assert!(rt; false, "{length} bytes are refused"),
-        }
-    }
+/// The lengths of that text and of its canonical text, and the fault of the latter.
+fn of_empty_coregions(alloc: Global) -> Result<(usize, usize, Option<ParseFault>), ParseFault> {
+    let text = empty_coregions(alloc)?;
+    let written = canonical(alloc, &text)?;
+    Ok((text.len(), written.len(), fault(alloc, &written)))
 }
 
 #[test]
 fn forty_thousand_empty_coregions(rt: HostRuntime) -> Result<(), Fail> {
-    let text = empty_coregions(rt.alloc())?;
-    assert_eq!(rt; text.len(), 1_000_036);
-    let written = canonical(rt.alloc(), &text)?;
-    assert_eq!(rt; written.len(), 1_240_040);
     let too_long = Some(ParseFault::Lex(LexFault::TooLong));
-    assert_eq!(rt; parse(rt.alloc(), &written).err(), too_long);
+    let wanted = (1_000_036, 1_240_040, too_long);
+    assert_eq!(rt; of_empty_coregions(rt.alloc())?, wanted);
     Ok(())
 }

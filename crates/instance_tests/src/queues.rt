@@ -4,10 +4,10 @@
 ghost use Rattle.std.specs.Prelude.{◌≡◌, ◌≤◌, IfOk};
 ghost use Rattle.msc_fifo.specs.Ends.{new_inlet, new_outlet, IsSameInlet, IsSameOutlet};
 
-use super::*;
-use std::alloc::Global;
+use msc_fifo::{Inlet, Outlet, QueueFault, SendFault, Sent, Settled, Taken, queue, settle};
+use std::alloc::{AllocError, Global};
 use std::marker::Model;
-use std::test::*;
+use std::test::Fail;
 use std::thread;
 use std::thread::Threads;
 
@@ -61,17 +61,6 @@ struct Row {
     zero: Shown<'static>,
     one: Shown<'static>,
     places: &'static [(u32, Option<u32>, u64)],
-}
-
-/// Where a row goes wrong.
-#[derive(Clone, Copy, Debug, PartialEq, Eq)]
-enum Wrong {
-    Nowhere,
-    /// The call of this number.
-    Call(usize),
-    /// The account of this sender.
-    Account(usize),
-    Places,
 }
 
 /// The ends of a new queue of two senders.
@@ -159,25 +148,17 @@ fn are_placed(settled: &Settled, places: &[(u32, Option<u32>, u64)]) -> bool {
     settled.places.len() == places.len()
 }
 
-/// Where the calls of a row, or what is settled then, are not as the row says.
-fn first_wrong(alloc: Global, row: &Row) -> Result<Wrong, QueueFault> {
+/// Whether the calls of a row answer what they should, and then this is settled.
+fn is_as_said(alloc: Global, row: &Row) -> Result<bool, QueueFault> {
     let mut ends = Ends::new(alloc, row.quotas)?;
-    for (k, call) in row.calls.iter().enumerate() {
+    for call in row.calls {
         if !ends.answers(call) {
-            return Ok(Wrong::Call(k));
+            return Ok(false);
         }
     }
     let settled = ends.settled(alloc)?;
-    if !is_shown(&settled, 0, &row.zero) {
-        return Ok(Wrong::Account(0));
-    }
-    if !is_shown(&settled, 1, &row.one) || settled.senders.len() != 2 {
-        return Ok(Wrong::Account(1));
-    }
-    if !are_placed(&settled, row.places) {
-        return Ok(Wrong::Places);
-    }
-    Ok(Wrong::Nowhere)
+    let are_shown = is_shown(&settled, 0, &row.zero) && is_shown(&settled, 1, &row.one);
+    Ok(are_shown && settled.senders.len() == 2 && are_placed(&settled, row.places))
 }
 
 /// Two senders fill their quotas and close, and all is taken.
@@ -295,32 +276,36 @@ const THE_GREATEST_CLOCKS: Row = Row {
     places: &[(0, Some(7), u64::MAX)],
 };
 
+/// The rows above.
+const ROWS: [&Row; 5] = [
+    &ONE_THREAD,
+    &SETTLED_AFTER_THE_FIRST_TAKE,
+    &CLOCKS,
+    &A_SECOND_CLOSE,
+    &THE_GREATEST_CLOCKS,
+];
+
 #[test]
 fn one_thread(rt: HostRuntime) -> Result<(), Fail> {
-    let rows = [
-        &ONE_THREAD,
-        &SETTLED_AFTER_THE_FIRST_TAKE,
-        &CLOCKS,
-        &A_SECOND_CLOSE,
-        &THE_GREATEST_CLOCKS,
-    ];
-    for row in rows {
-        assert_eq!(rt; first_wrong(rt.alloc(), row), Ok(Wrong::Nowhere));
+    for row in ROWS {
+        assert!(rt; is_as_said(rt.alloc(), row)?, "{:?}", row.quotas);
     }
     Ok(())
 }
 
-/// Quotas that no queue has.
-const REFUSED: [(&[u32], QueueFault); 5] = [
-    (&[], QueueFault::NoSender),
-    (&[1024, 1], QueueFault::TooLarge),
-    (&[1025], QueueFault::TooLarge),
-    (&[u32::MAX, u32::MAX], QueueFault::TooLarge),
-    (&[0; 33], QueueFault::TooLarge),
+/// Quotas, and why no queue has them, or none where a queue has them.
+const LIMITS: [(&[u32], Option<QueueFault>); 10] = [
+    (&[], Some(QueueFault::NoSender)),
+    (&[1024, 1], Some(QueueFault::TooLarge)),
+    (&[1025], Some(QueueFault::TooLarge)),
+    (&[u32::MAX, u32::MAX], Some(QueueFault::TooLarge)),
+    (&[0; 33], Some(QueueFault::TooLarge)),
+    (&[0], None),
+    (&[1], None),
+    (&[1024], None),
+    (&[1023, 1], None),
+    (&[32; 32], None),
 ];
-
-/// Quotas of queues.
-const ACCEPTED: [&[u32]; 5] = [&[0], &[1], &[1024], &[1023, 1], &[32; 32]];
 
 /// Whether there is a queue with these quotas, and a new one is open, empty and can be settled.
 fn is_new(alloc: Global, quotas: &[u32]) -> Result<bool, QueueFault> {
@@ -339,15 +324,19 @@ fn is_new(alloc: Global, quotas: &[u32]) -> Result<bool, QueueFault> {
     }
 }
 
+/// Whether a queue with these quotas is new, or is refused so.
+fn is_made(alloc: Global, quotas: &[u32], refusal: Option<QueueFault>) -> bool {
+    match is_new(alloc, quotas) {
+        Ok(is_new) => is_new && refusal.is_none(),
+        Err(fault) => refusal == Some(fault),
+    }
+}
+
 #[test]
-fn limits(rt: HostRuntime) -> Result<(), Fail> {
-    for (quotas, fault) in REFUSED {
-        assert_eq!(rt; is_new(rt.alloc(), quotas), Err(fault));
+fn limits(rt: HostRuntime) {
+    for (quotas, refusal) in LIMITS {
+        assert!(rt; is_made(rt.alloc(), quotas, refusal), "{quotas:?}");
     }
-    for quotas in ACCEPTED {
-        assert_eq!(rt; is_new(rt.alloc(), quotas), Ok(true));
-    }
-    Ok(())
 }
 
 /// Puts the messages 0 to 31 of a sender and closes; whether each was sent, and no more.
@@ -372,9 +361,9 @@ fn empties(inlet: &mut Inlet, sender: u32) -> bool
     all & (inlet.take(0) == Taken::Ended(sender))
 }
 
-#[test]
-fn the_largest_queue_is_filled_and_emptied(rt: HostRuntime) -> Result<(), Fail> {
-    let (mut outlets, mut inlet) = queue(rt.alloc(), &[32; 32])?;
+/// Whether the largest queue takes all that may be put into it, and gives it back.
+fn is_filled_and_emptied(alloc: Global) -> Result<bool, QueueFault> {
+    let (mut outlets, mut inlet) = queue(alloc, &[32; 32])?;
     let mut all = true;
     for outlet in outlets.iter_mut() {
         all &= fills(outlet);
@@ -383,31 +372,47 @@ fn the_largest_queue_is_filled_and_emptied(rt: HostRuntime) -> Result<(), Fail> 
         all &= inlet.unended() == 32 - sender;
         all &= empties(&mut inlet, sender);
     }
-    assert!(rt; all && inlet.unended() == 0 && inlet.take(0) == Taken::Nothing);
-    Ok(())
+    Ok(all && inlet.unended() == 0 && inlet.take(0) == Taken::Nothing)
 }
 
 #[test]
-fn ends_that_are_gone_hold_up_nobody(rt: HostRuntime) -> Result<(), Fail> {
+fn the_largest_queue_is_filled_and_emptied(rt: HostRuntime) -> Result<(), Fail> {
+    assert!(rt; is_filled_and_emptied(rt.alloc())?);
+    Ok(())
+}
+
+/// Whether a sender puts and closes where all other ends are gone.
+fn is_put_without_receiver(alloc: Global) -> Result<bool, QueueFault> {
     let Ends {
         mut zero,
         one,
         inlet,
-    } = Ends::new(rt.alloc(), (1, 1))?;
+    } = Ends::new(alloc, (1, 1))?;
     drop(one);
     drop(inlet);
-    assert_eq!(rt; zero.send(5, 0), Ok(Sent { place: 0, clock: 1 }));
+    let is_put = zero.send(5, 0) == Ok(Sent { place: 0, clock: 1 });
     zero.close();
+    Ok(is_put)
+}
+
+/// Whether the receiver takes what was put where all senders are gone.
+fn is_taken_without_senders(alloc: Global) -> Result<bool, QueueFault> {
     let Ends {
         mut zero,
         one,
         mut inlet,
-    } = Ends::new(rt.alloc(), (1, 1))?;
-    assert_eq!(rt; zero.send(5, 3), Ok(Sent { place: 0, clock: 4 }));
+    } = Ends::new(alloc, (1, 1))?;
+    let is_put = zero.send(5, 3) == Ok(Sent { place: 0, clock: 4 });
     drop(zero);
     drop(one);
-    assert_eq!(rt; inlet.take(0), Taken::Message(0, 5, 0, 4));
-    assert_eq!(rt; inlet.take(0), Taken::Nothing);
+    let is_taken = inlet.take(0) == Taken::Message(0, 5, 0, 4);
+    Ok(is_put && is_taken && inlet.take(0) == Taken::Nothing)
+}
+
+#[test]
+fn ends_that_are_gone_hold_up_nobody(rt: HostRuntime) -> Result<(), Fail> {
+    assert!(rt; is_put_without_receiver(rt.alloc())?);
+    assert!(rt; is_taken_without_senders(rt.alloc())?);
     Ok(())
 }
 
@@ -449,20 +454,31 @@ fn in_three_threads<R: Threads + Sync>(rt: &R, ends: Ends) -> Ends {
     Ends { zero, one, inlet }
 }
 
+/// The hundred messages from `first` on.
+fn hundred(alloc: Global, first: u32) -> Result<Vec<u32>, AllocError>
+    requires { first ≤ 1000 }
+{
+    let mut all = Vec::new(alloc);
+    for m in first..first + 100 {
+        all.push(m)?;
+    }
+    Ok(all)
+}
+
+/// Whether two threads put a hundred messages each, a third takes them, and all is settled.
+fn are_taken<R: Threads + Sync>(rt: &R, alloc: Global) -> Result<bool, Fail> {
+    let ends = in_three_threads(rt, Ends::new(alloc, (100, 100))?);
+    let are_ended = ends.inlet.unended() == 0;
+    let settled = ends.settled(alloc)?;
+    let (low, high) = (hundred(alloc, 0)?, hundred(alloc, 1000)?);
+    let low = (low.as_slice(), low.as_slice(), [].as_slice(), true);
+    let high = (high.as_slice(), high.as_slice(), [].as_slice(), true);
+    let are_shown = is_shown(&settled, 0, &low) && is_shown(&settled, 1, &high);
+    Ok(are_ended && are_shown && settled.places.len() == 202)
+}
+
 #[test]
 fn three_threads(rt: HostRuntime) -> Result<(), Fail> {
-    let ends = in_three_threads(&rt, Ends::new(rt.alloc(), (100, 100))?);
-    assert_eq!(rt; ends.inlet.unended(), 0);
-    let settled = ends.settled(rt.alloc())?;
-    let mut low = Vec::new(rt.alloc());
-    let mut high = Vec::new(rt.alloc());
-    for m in 0..100u32 {
-        low.push(m)?;
-        high.push(1000 + m)?;
-    }
-    let (low, high) = (low.as_slice(), high.as_slice());
-    assert!(rt; is_shown(&settled, 0, &(low, low, &[], true)));
-    assert!(rt; is_shown(&settled, 1, &(high, high, &[], true)));
-    assert_eq!(rt; settled.places.len(), 202);
+    assert!(rt; are_taken(&rt, rt.alloc())?);
     Ok(())
 }
