@@ -5,7 +5,7 @@ use Rattle.msc_chart.specs.Orders.{WiredChart, queue}
 use Rattle.msc_chart.specs.Charts.{line, partner, is_output, is_input}
 use Rattle.msc_chart.specs.Lists.{occurs, until}
 use Rattle.msc_chart.proofs.ListLemmas.{by_test, parts, until-within}
-use Rattle.msc_gather.proofs.Base.{output_below}
+use Rattle.msc_chart.proofs.KindTests.{output_below}
 use Rattle.msc_chart.proofs.Drawn.{not_both, partner_of_output}
 use Rattle.msc_gather.specs.Schedule.{log_of, is_logged, is_taken_first, IsSeated}
 use Rattle.msc_gather.proofs.Once.{until-until}

@@ -5,7 +5,7 @@ use Rattle.msc_chart.specs.Orders.{WiredChart, IsWired, queue}
 use Rattle.msc_chart.specs.Charts.{partner, is_input}
 use Rattle.msc_chart.specs.Lists.{occurs, until}
 use Rattle.msc_chart.proofs.ListLemmas.{clash, by_test}
-use Rattle.msc_gather.proofs.Base.{input_below}
+use Rattle.msc_chart.proofs.KindTests.{input_below}
 use Rattle.msc_execution.specs.Clocks.{Place, messages, place_of, greatest_offer}
 use Rattle.msc_execution.specs.Clocks.Place.{Message, EndMark}
 use Rattle.msc_execution.specs.Timed.{taken_from}

@@ -6,7 +6,7 @@ use Rattle.msc_chart.specs.Charts.{line, partner, is_input}
 use Rattle.msc_chart.specs.Runs.{Run, HasLines}
 use Rattle.msc_chart.specs.Lists.{occurs, until}
 use Rattle.msc_chart.proofs.ListLemmas.{by_test, clash, until-within, occurs-left}
-use Rattle.msc_gather.proofs.Base.{output_below}
+use Rattle.msc_chart.proofs.KindTests.{output_below}
 use Rattle.msc_chart.proofs.Drawn.{partner_of_output}
 use Rattle.msc_gather.specs.Schedule.{log_of, is_logged, AreLogs, goes_first, MayFollow, IsSchedule, IsSeated}
 use Rattle.msc_gather.proofs.Once.{until-self, until-total, steps_from}

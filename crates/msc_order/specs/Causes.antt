@@ -5,6 +5,7 @@ use Rattle.msc_chart.specs.declared.event.ChartEvent.{ChartEvent}
 use Rattle.msc_chart.specs.Lists.{occurs}
 use Rattle.msc_chart.specs.Charts.{partner, is_output, is_input, is_controlled, before}
 use Rattle.msc_chart.specs.Orders.{WiredChart, queue, Enforced}
+use Rattle.bit_rows.specs.Rows.{has}
 use Rattle.bit_rows.specs.Tables.{cell}
 
 -- The least transitive relation that puts each output before its input, and what is drawn before an
@@ -64,7 +65,7 @@ pub record IsBegun (events : List ChartEvent) (inputs : Bool) (test : ℕ → �
 
 -- the same of the pairs of a table, and of one row of marks
 abbrev pub AreBegun : List ChartEvent → Bool → List ℕ → List ℕ → Type 0
-AreBegun events inputs words begun = IsBegun events inputs (cell (length events) words) (cell (length events) begun 0)
+AreBegun events inputs words begun = IsBegun events inputs (cell (length events) words) (has begun)
 
 -- event x does not stand among the first k of the order
 abbrev pub IsBehind : List ℕ → ℕ → ℕ → Type 0

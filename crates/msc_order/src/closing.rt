@@ -5,16 +5,17 @@
 //! that is reached takes in the rows of the next segment, and the rows of the others are begun as
 //! its row.
 
-ghost use Rattle.std.specs.Prelude.{◌≡◌, ℕ, ◌*◌, ◌<◌, ◌||◌, ◌&&◌, ◌↔◌, length, nat_eq};
+ghost use Rattle.std.specs.Prelude.{◌≡◌, ℕ, ◌*◌, ◌<◌, ◌≤◌, ◌||◌, ◌&&◌, ◌↔◌, length, nat_eq};
 ghost use Rattle.std.specs.Prelude.{IsTrue, OnOk, false};
 ghost use Rattle.msc_chart.specs.Charts.{before, is_controlled, Visual};
-ghost use Rattle.bit_rows.specs.Rows.{word_count};
+ghost use Rattle.bit_rows.specs.Rows.{has, word_count};
 ghost use Rattle.bit_rows.specs.Tables.{cell, HasRow};
 ghost use Rattle.msc_order.specs.Causes.{Led, LedByLine, IsNextSegment, IsSound, IsTestOf};
 ghost use Rattle.msc_order.specs.Causes.{AreBegun, HasRowOf, Keeps, KeepsOthers};
 
 use crate::segments::next_segment;
-use bit_rows::table::{blank, has, merge, put, take_in};
+use bit_rows::row;
+use bit_rows::table::{merge, take_in};
 use msc_chart::{Chart, Event};
 use std::alloc::{AllocError, Global};
 
@@ -53,19 +54,18 @@ fn add_lines(words: &mut [u64], chart: &Chart, inputs: bool, e: Event, start: Ev
 fn begin_as(words: &mut [u64], begun: &mut [u64], n: u32, e: Event, f: Event, more: bool)
     requires row { HasRow n words.old f }
     requires other { HasRow n words.old e }
-    requires marks { HasRow n begun.old 0 }
+    requires marks { n ≤ 64 * length begun.old }
     requires column { f < n }
     requires more { more ≡ false
         → (y : ℕ) → IsTrue (cell n words.old e y) → IsTrue (cell n words.old f y) }
     ensures rows { (x y : ℕ) → cell n words.new x y
         ≡ (cell n words.old x y || (nat_eq x f && cell n words.old e y)) }
-    ensures begun { (x y : ℕ) → cell n begun.new x y
-        ≡ (cell n begun.old x y || (nat_eq x 0 && nat_eq y f)) }
+    ensures begun { (y : ℕ) → has begun.new y ≡ (has begun.old y || nat_eq y f) }
 {
     if more {
         merge(words, n, f, e);
     }
-    put(begun, n, 0, f);
+    row::put(begun, f);
 }
 
 /// Begins the rows of the segment of `e`, unless they are begun, where the rows of all that is
@@ -73,7 +73,7 @@ fn begin_as(words: &mut [u64], begun: &mut [u64], n: u32, e: Event, f: Event, mo
 fn begin_segment(words: &mut [u64], begun: &mut [u64], chart: &Chart, inputs: bool, e: Event)
     requires square { length words.old
         ≡ length chart.now.events * word_count (length chart.now.events) }
-    requires marks { HasRow (length chart.now.events) begun.old 0 }
+    requires marks { length chart.now.events ≤ 64 * length begun.old }
     requires known { e < length chart.now.events }
     requires begun { AreBegun chart.now.events inputs words.old begun.old }
     requires later { (f : ℕ) → IsTrue (before chart.now.events e f)
@@ -81,15 +81,15 @@ fn begin_segment(words: &mut [u64], begun: &mut [u64], chart: &Chart, inputs: bo
     ensures begun { AreBegun chart.now.events inputs words.new begun.new }
     ensures kept { Keeps (cell (length chart.now.events) words.old)
         (cell (length chart.now.events) words.new) }
-    ensures here { IsTrue (cell (length chart.now.events) begun.new 0 e) }
+    ensures here { IsTrue (has begun.new e) }
 {
     let events = chart.events();
-    if has(begun, events, 0, e) {
+    if row::has(begun, e) {
         return;
     }
     let (start, end) = next_segment(chart, e);
     add_lines(words, chart, inputs, e, start, end);
-    put(begun, events, 0, e);
+    row::put(begun, e);
     for passed in 0..start {
         let f = start - 1 - passed;
         if !chart.share_segment(e, f) {
@@ -103,7 +103,7 @@ fn begin_segment(words: &mut [u64], begun: &mut [u64], chart: &Chart, inputs: bo
 fn add_row(words: &mut [u64], begun: &mut [u64], chart: &Chart, inputs: bool, e: Event)
     requires square { length words.old
         ≡ length chart.now.events * word_count (length chart.now.events) }
-    requires marks { HasRow (length chart.now.events) begun.old 0 }
+    requires marks { length chart.now.events ≤ 64 * length begun.old }
     requires known { e < length chart.now.events }
     requires begun { AreBegun chart.now.events inputs words.old begun.old }
     requires later { (f : ℕ) → Visual chart.now.events e f
@@ -125,7 +125,7 @@ fn add_row(words: &mut [u64], begun: &mut [u64], chart: &Chart, inputs: bool, e:
 fn add_rows(words: &mut [u64], begun: &mut [u64], chart: &Chart, inputs: bool)
     requires square { length words.old
         ≡ length chart.now.events * word_count (length chart.now.events) }
-    requires marks { HasRow (length chart.now.events) begun.old 0 }
+    requires marks { length chart.now.events ≤ 64 * length begun.old }
     requires begun { AreBegun chart.now.events inputs words.old begun.old }
     ensures { IsTestOf (Led chart.now.events inputs) (cell (length chart.now.events) words.new) }
 {
@@ -151,7 +151,7 @@ pub fn close(
     ensures { OnOk result
         (IsTestOf (Led chart.now.events inputs) (cell (length chart.now.events) words.new)) }
 {
-    let mut begun = blank(alloc, 1, chart.events())?;
+    let mut begun = row::blank(alloc, chart.events())?;
     add_rows(words, &mut begun, chart, inputs);
     Ok(())
 }
