@@ -27,7 +27,7 @@ trace 6
 3 b in m2 from c
 """)
 
-# m2 is taken first, though it was sent last
+# m2 is taken first, though m1 was sent before it
 OVERTAKEN = ("relay", "pair", PATIENCE, 0, """chart t
 queues pair
 instance a finished
@@ -42,7 +42,7 @@ trace 6
 2 b in m1 from a
 """)
 
-# c loses its patience before x comes; b takes what a sent, and the end of both
+# c loses its patience before x comes; b takes what a sent, and the end marks of both
 GIVEN_UP = ("relay", "pair", 7, 3, """chart t
 queues pair
 instance a finished
@@ -54,7 +54,7 @@ trace 3
 2 b in m1 from a
 """)
 
-# m2 is taken first, and m1 was there before it only under the mailbox
+# m2 is taken first; so under the mailbox it was sent first
 REVERSED = ("two_senders", "mailbox", PATIENCE, 0, """chart t
 queues mailbox
 instance a finished
