@@ -1,15 +1,17 @@
 #!/usr/bin/env python3
 """Runs random charts, and looks whether what is printed is an execution of them, by traces.py.
 
-    executions.py [--charts N] [--messages M] [--seed S] PROGRAM WORD ..
+    executions.py [--charts N] [--messages M] [--seed S] [--plain] PROGRAM WORD ..
 
 Of the words, QUEUES stands for the architecture and PATIENCE for the patience; the chart is given
 on standard input. For instance
 
     executions.py crates/msc/out/msc run --queues QUEUES --patience PATIENCE -
+    executions.py --plain bench/plain/out/release/executions QUEUES
 
 Each chart, one of those of compare.py, is run under each architecture with the patience that
-`msc run` has without one, and with small ones, so that instances do not finish. Prints how many
+`msc run` has without one, and with small ones, so that instances do not finish. With --plain there
+are no actions, and no other patience: the plain program of bench/ knows neither. Prints how many
 executions there were, how many of them reverse a race, and how many instances ended in each way.
 The exit status is 1 at the first that is no execution, whose chart is printed.
 """
@@ -33,10 +35,11 @@ def tasks(options):
     """Texts of charts, the charts under an architecture, and how patient their instances are."""
     pick = random.Random(options.seed)
     for _ in range(options.charts):
-        text = chart(pick, options.messages, True)
+        text = chart(pick, options.messages, not options.plain)
+        few = () if options.plain else (0, pick.randint(1, 30))
         for queues in QUEUES:
             drawn = Chart(text, queues)
-            for patience in (PATIENCE, PATIENCE, 0, pick.randint(1, 30)):
+            for patience in (PATIENCE, PATIENCE, *few):
                 yield text, drawn, patience
 
 
@@ -60,6 +63,7 @@ def main():
     words.add_argument("--charts", type=int, default=100, metavar="N")
     words.add_argument("--messages", type=int, default=16, metavar="M")
     words.add_argument("--seed", type=int, default=1, metavar="S")
+    words.add_argument("--plain", action="store_true")
     words.add_argument("program", nargs=argparse.REMAINDER)
     options = words.parse_args()
     runs = reversing = 0
