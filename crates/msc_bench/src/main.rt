@@ -20,9 +20,9 @@ use msc_chart::{Chart, Queues};
 use msc_order::Order;
 use msc_parser::parse;
 use msc_race::races;
-use msc_tool::read_all;
 use std::alloc::Global;
 use std::env;
+use std::io::Read;
 
 /// Parses a text.
 fn parse_often(alloc: Global, text: &[u8], count: u32) -> Result<u64> {
@@ -95,7 +95,8 @@ fn main(rt: HostRuntime) -> Result<()> {
         eprintln!(rt; "{time} nanoseconds")?;
         return Ok(());
     }
-    let text = read_all(alloc, &mut rt.stdin())?;
+    let mut text = Vec::new(alloc);
+    rt.stdin().read_to_end(&mut text)?;
     let phase = phase_of(&word).context("no such phase")?;
     println!(rt; "{}", go_through(alloc, &text, phase, first)?)?;
     Ok(())
