@@ -25,6 +25,8 @@ def missing_words(crate, cell):
     """The names of a cell that do not stand in the file behind them."""
     waiting = []
     for name, other, place in NAMED.findall(cell):
+        if "laws::" in name:
+            continue
         if re.fullmatch(r"(specs|proofs)/[\w/]+", name):
             if not (CRATES / crate / f"{name}.antt").is_file():
                 yield name
