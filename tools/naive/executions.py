@@ -1,5 +1,6 @@
 #!/usr/bin/env python3
-"""Runs random charts, and looks whether what is printed is an execution of them, by traces.py.
+"""Runs random charts, and looks whether what is printed is an execution of them, by traces.py, and
+whether what its trace reverses is a race, by verdict.py.
 
     executions.py [--charts N] [--messages M] [--seed S] [--plain] PROGRAM WORD ..
 
@@ -23,7 +24,7 @@ import sys
 
 sys.dont_write_bytecode = True
 from compare import chart
-from traces import PATIENCE, Wrong, is_execution, reversals
+from traces import PATIENCE, Wrong, expect, is_execution, reversals
 from verdict import Chart
 
 QUEUES = ("pair", "mailbox", "single")
@@ -44,14 +45,18 @@ def tasks(options):
 
 
 def run(words, drawn, text, patience):
-    """The ends and the trace of an execution of the chart; None where it is none."""
+    """The ends of an execution of the chart, and the races that it reverses; None where it is
+    none."""
     given = {"QUEUES": drawn.queues, "PATIENCE": str(patience)}
     program = [given.get(word, word) for word in words]
     chart, printed = text.encode("latin-1"), ""
     try:
         done = subprocess.run(program, input=chart, capture_output=True, timeout=MOST)
         printed = done.stdout.decode("latin-1")
-        return is_execution(drawn, patience, printed, done.returncode)
+        ends, trace = is_execution(drawn, patience, printed, done.returncode)
+        reversed_pairs = reversals(drawn, trace)
+        expect(set(reversed_pairs) <= set(drawn.races()), "what the trace reverses is no race")
+        return ends, reversed_pairs
     except (Wrong, subprocess.TimeoutExpired) as wrong:
         print(f"{text!r}\n{drawn.queues}, patience {patience}: {wrong}\n{printed}")
         return None
@@ -72,8 +77,8 @@ def main():
         execution = run(options.program, drawn, text, patience)
         if execution is None:
             return 1
-        ends, trace = execution
-        runs, reversing = runs + 1, reversing + bool(reversals(drawn, trace))
+        ends, races = execution
+        runs, reversing = runs + 1, reversing + bool(races)
         counts.update(ends)
     ways = ", ".join(f"{counts[end]} {end}" for end in ("finished", "starved", "impatient"))
     print(f"{runs} executions, of which {reversing} reverse a race; instances: {ways}")

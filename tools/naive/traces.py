@@ -10,6 +10,7 @@ schedule. Each of that is a function of its own, written for a reader and not fo
 shared with the crates. The exit status is 1 where something is wrong.
 """
 import argparse
+import collections
 import sys
 
 sys.dont_write_bytecode = True
@@ -63,8 +64,31 @@ def on_line(drawn, i, events):
     return [e for e in events if drawn.events[e].line == i]
 
 
-def drawn_before(drawn, e):
-    return [d for d in drawn.all if drawn.before(d, e)]
+class Past:
+    """What has occurred, as a set, and the outputs in each queue whose input has not, in order."""
+
+    def __init__(self, drawn):
+        self.drawn, self.events, self.queues = drawn, 0, collections.defaultdict(list)
+
+    def has(self, events):
+        """Whether all of a set of events have occurred."""
+        return not events & ~self.events
+
+    def allows(self, e):
+        """Whether e may come next in a run: it has not occurred; all that is drawn before a
+        controlled event has; the message of an input is the first of its queue."""
+        if self.has(1 << e):
+            return False
+        if self.drawn.is_controlled(e):
+            return self.has(self.drawn.drawn_before[e])
+        return self.queues[self.drawn.queue(e)][:1] == [self.drawn.partner[e]]
+
+    def add(self, e):
+        self.events |= 1 << e
+        if self.drawn.is_output(e):
+            self.queues[self.drawn.queue(e)].append(e)
+        elif self.drawn.events[e].is_input:
+            self.queues[self.drawn.queue(e)].remove(self.drawn.partner[e])
 
 
 def follows_its_line(drawn, i, log):
@@ -74,93 +98,90 @@ def follows_its_line(drawn, i, log):
     due = [e for e in on_line(drawn, i, drawn.all) if drawn.is_controlled(e)]
     done = [e for e in log if drawn.is_controlled(e)]
     expect(done == due[:len(done)], f"not the first ones in the order of the text: {log}")
-    for e in done:
-        earlier = set(log[:log.index(e)])
-        expect(set(drawn_before(drawn, e)) <= earlier, f"{e} before what is drawn before it: {log}")
+    past = 0
+    for e in log:
+        is_late = not drawn.is_controlled(e) or not drawn.drawn_before[e] & ~past
+        expect(is_late, f"{e} before what is drawn before it: {log}")
+        past |= 1 << e
 
 
-def in_queue(drawn, past, q):
-    """The outputs of queue q that have occurred and whose input has not, in their order."""
-    sent = [s for s in past if drawn.is_output(s) and drawn.queue(s) == q]
-    return [s for s in sent if drawn.partner[s] not in past]
-
-
-def may_come(drawn, past, e):
-    """Whether e may come next in a run: all that is drawn before a controlled event has occurred;
-    the message of an input is the first of its queue."""
-    if e in past:
-        return False
-    if drawn.is_controlled(e):
-        return set(drawn_before(drawn, e)) <= set(past)
-    return in_queue(drawn, past, drawn.queue(e))[:1] == [drawn.partner[e]]
-
-
-def is_run(drawn, trace):
+def past_of_run(drawn, trace):
+    """What has occurred after the trace, each event of which may come next where it stands."""
+    past = Past(drawn)
     for place, e in enumerate(trace):
-        expect(may_come(drawn, trace[:place], e), f"{e} may not come behind {trace[:place]}")
+        expect(past.allows(e), f"{e} may not come behind {trace[:place]}")
+        past.add(e)
+    return past
+
+
+def sent_earlier(drawn, logs):
+    """For each logged output those that come before it in every run with these logs as its lines.
+    A queue gives its messages in the order in which they were put: so they are those whose
+    messages are taken from its queue before its own, or at all, if its own is not."""
+    events, earlier, taken = [e for log in logs for e in log], {}, collections.defaultdict(int)
+    for e in events:
+        if drawn.events[e].is_input:
+            earlier[drawn.partner[e]] = taken[drawn.queue(e)]
+            taken[drawn.queue(e)] |= 1 << drawn.partner[e]
+    for e in events:
+        if drawn.is_output(e):
+            earlier.setdefault(e, taken[drawn.queue(e)])
+    return earlier
 
 
 def least_run(drawn, logs):
-    """Of the runs that have these logs as their lines the one that is least event by event.
-
-    A queue gives its messages in the order in which they were put. So in each of these runs an
-    output comes only once all messages are sent that are taken from its queue before its own, or
-    all that are taken from it, if its own is not. Nothing else is passed over here of what may
-    come next: so a list that has all events of the logs in the end is the least of the runs."""
-    inputs = [e for log in logs for e in log if drawn.events[e].is_input]
-    run, left = [], [list(log) for log in logs]
-
-    def waits(e):
-        if not drawn.is_output(e):
-            return False
-        taken = [drawn.partner[f] for f in inputs if drawn.queue(f) == drawn.queue(e)]
-        earlier = taken[:taken.index(e)] if e in taken else taken
-        return not set(earlier) <= set(run)
-
-    while any(left):
-        heads = [log[0] for log in left if log]
-        coming = [e for e in heads if not waits(e) and may_come(drawn, run, e)]
+    """Of the runs that have these logs as their lines the one that is least event by event: what
+    comes next is the least event that may come, but for outputs of which others come first in every
+    such run. So a list that has all events of the logs in the end is the least of the runs."""
+    earlier, past, run, heads = sent_earlier(drawn, logs), Past(drawn), [], [0 for _ in logs]
+    while len(run) < sum(map(len, logs)):
+        left = [log[head] for log, head in zip(logs, heads) if head < len(log)]
+        coming = [e for e in left if past.has(earlier.get(e, 0)) and past.allows(e)]
         expect(coming, f"no run has these logs: {logs}")
         run.append(min(coming))
-        left[drawn.events[run[-1]].line].pop(0)
+        past.add(run[-1])
+        heads[drawn.events[run[-1]].line] += 1
     return run
 
 
 def reversals(drawn, trace):
     """The pairs that are drawn in an order, of which the second occurs, and the first not
     earlier."""
-    place = {e: k for k, e in enumerate(trace)}
-    return [(e, f) for f in trace for e in drawn_before(drawn, f) if e not in trace[:place[f]]]
+    pairs, past = [], 0
+    for f in trace:
+        missing = drawn.drawn_before[f] & ~past
+        pairs += [(e, f) for e in drawn.all if missing >> e & 1]
+        past |= 1 << f
+    return pairs
 
 
-def is_hungry(drawn, i, log):
+def is_hungry(drawn, i, past):
     """The first output or local event of the line that is not logged, if there is one, lacks
     something that is drawn before it."""
     line = on_line(drawn, i, drawn.all)
-    due = [e for e in line if drawn.is_controlled(e) and e not in log]
-    return not due or not set(drawn_before(drawn, due[0])) <= set(log)
+    due = [e for e in line if drawn.is_controlled(e) and not past.has(1 << e)]
+    return not due or not past.has(drawn.drawn_before[due[0]])
 
 
-def can_starve(drawn, i, trace):
+def can_starve(drawn, i, past):
     """Whether instance i can have found the end marks of all senders of its queues: all that was
     sent there is taken, and where it sends there itself it has sent everything."""
     line = on_line(drawn, i, drawn.all)
     queues = {drawn.queue(e) for e in line if drawn.events[e].is_input}
     outputs = [e for e in line if drawn.is_output(e)]
     is_sender = any(drawn.queue(e) in queues for e in outputs)
-    has_closed = all(e in trace for e in outputs)
-    return (has_closed or not is_sender) and not any(in_queue(drawn, trace, q) for q in queues)
+    has_closed = past.has(drawn.set_of(outputs))
+    return (has_closed or not is_sender) and not any(past.queues[q] for q in queues)
 
 
-def ended_so(drawn, i, end, trace, patience):
+def ended_so(drawn, i, end, log, past, patience):
     """What the end of an instance says. The program has no gate that could say no."""
-    log, name = on_line(drawn, i, trace), drawn.names[i]
-    is_whole = len(log) == len(on_line(drawn, i, drawn.all))
+    name, is_whole = drawn.names[i], len(log) == len(on_line(drawn, i, drawn.all))
     expect(end in ("finished", "starved", "impatient"), f"{name} cannot end as {end}")
     expect(is_whole == (end == "finished"), f"{name} is {end} with the log {log}")
-    expect(is_whole or is_hungry(drawn, i, log), f"{name} ends before what could come: {log}")
+    expect(is_whole or is_hungry(drawn, i, past), f"{name} ends before what could come: {log}")
     if end == "starved":
-        expect(can_starve(drawn, i, trace), f"{name} is starved, but some sender has not ended")
+        expect(can_starve(drawn, i, past), f"{name} is starved, but some sender has not ended")
     if patience == 0:
         took = not all(drawn.is_controlled(e) for e in log)
         expect(end != "starved" and not took, f"{name} takes with a patience of 0")
@@ -173,12 +194,11 @@ def is_execution(drawn, patience, text, status):
     logs = [on_line(drawn, i, trace) for i in range(len(drawn.names))]
     for i, log in enumerate(logs):
         follows_its_line(drawn, i, log)
-    is_run(drawn, trace)
+    past = past_of_run(drawn, trace)
     least = least_run(drawn, logs)
     expect(trace == least, f"a lesser run has these logs: {least}")
-    expect(set(reversals(drawn, trace)) <= set(drawn.races()), "what it reverses is no race")
     for i, end in enumerate(ends):
-        ended_so(drawn, i, end, trace, patience)
+        ended_so(drawn, i, end, logs[i], past, patience)
     finished = all(end == "finished" for end in ends)
     # no run of a chart is stuck, so whoever is patient finishes
     expect(finished or patience < PATIENCE, "an instance lost its patience")
