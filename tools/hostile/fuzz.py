@@ -8,8 +8,8 @@ it. Text T of a seed is always the same. Some go from place to place of the gram
 that may not follow; some are charts with header, kinds, message instance names, parameters and coregions,
 spelled with any white space and notes; some are tokens in any order. Of each sort many are then changed:
 tokens or bytes are taken away, put in, doubled, exchanged, or the text is cut. Each text is given to `msc
-read` and to `msc check` under one architecture with some number of runs: both streams and the status are to be
-the same. Prints what differs, how many texts got which answer, and last `N passed, M failed`.
+read`, and to `msc check` and `msc run` under one architecture: both streams and the status are to be the same, and
+for a chart that is run the trace has to be a whole run of it. Prints what differs, how many texts got which answer, and last `N passed, M failed`.
 """
 import argparse
 import collections
@@ -24,6 +24,7 @@ from program import QUEUES, Count, check_words, run
 from answer import ALL, check_answer, read_answer
 from compare import chart
 from reading import PLACES, SUPPORTED, UNSUPPORTED, Draft, Event, tokens
+from whole_runs import Drawn
 
 MARKS = [";", ",", ":", "(", ")"]
 NAMES = [b"a", b"b", b"c", b"m", b"x1", b"1", b"_", b"i0", b"i1", b"A", b"outer", b"x" * 64, b"x" * 65]
@@ -48,14 +49,30 @@ def any_kind(pick):
     return pick.choice([*MARKS, "text", "name", "name", *SUPPORTED, pick.choice(UNSUPPORTED)])
 
 
+def steps():
+    """For each place of the grammar how many tokens stand at least between it and the end of the text."""
+    left, length = {"past": 0}, 0
+    while len(left) < len(PLACES):
+        length += 1
+        nearer = set(left)
+        left |= {place: length for place, (_, follow) in PLACES.items()
+                 if place not in left and nearer & set(follow.values())}
+    return left
+
+
+STEPS = steps()
+
+
 def walk(pick):
-    """The tokens of a way through the grammar, which may stop before its end; at some steps of some ways
-    stands a token that may not follow."""
+    """The tokens of a way through the grammar, which may stop before its end, or goes there straight from some
+    token on; at some steps of some ways stands a token that may not follow."""
     place, found = "start", []
-    wrong, most = pick.choice([0, 0, 0.01, 0.05]), pick.randrange(1, 120)
+    wrong, most, straight = pick.choice([0, 0, 0.01, 0.05]), pick.randrange(1, 150), pick.randrange(100)
     while place != "past" and len(found) < most:
         follow = PLACES[place][1]
         kinds = [kind for kind in follow if kind != "comment" or pick.random() < 0.1]
+        if len(found) > straight:
+            kinds = [min(follow, key=lambda kind: STEPS[follow[kind]])]
         kind = pick.choice(kinds or list(follow))
         if pick.random() < wrong:
             found.append(spelled(pick, any_kind(pick)))
@@ -89,9 +106,12 @@ def drawn(pick):
         draft.sections[number] = section._replace(decl=section.decl._replace(kind=kind), items=items)
     if pick.random() < 0.4:
         draft.header = [pick.choice(draft.sections).decl for _ in range(pick.randrange(4))]
+    section = pick.choice(draft.sections)
     if pick.random() < 0.1:
-        section = pick.choice(draft.sections)
         section.items.insert(0, (Event("in", b"m0", None, [], section.decl.name),))
+    if pick.random() < 0.2:
+        # perhaps an event comes before itself then
+        pick.shuffle(section.items)
     return [it.bytes for it in tokens(draft.canonical())]
 
 
@@ -153,14 +173,30 @@ def kind_of(answer):
     return "pass" if answer[2] == 0 else "races"
 
 
+def wrong_run(text, queues, wanted, got):
+    """What is wrong with a run of a text of which this is wanted of `msc check`, or None."""
+    if wanted[2] == 2:
+        return None if got == wanted else wanted
+    if got[1:] != (b"", 0):
+        return "a whole run"
+    return Drawn(text).wrong(queues, got.output.decode("latin-1"))
+
+
 def tried(program, seed, number):
-    """What differs for a text, as runs, and its kind of answer."""
+    """What differs for a text, as the words of a run, what it answered and what it should; and its kind of
+    answer."""
     text, queues, show = text_of(seed, number)
-    wanted = read_answer(text), check_answer(text, queues, ALL if show is None else show)
-    words = [program, "read", "-"], check_words(program, queues, show)
-    got = [run(it, text) for it in words]
-    told = [(number, it[1:], text, run, want) for it, run, want in zip(words, got, wanted) if run != want]
-    return told, kind_of(wanted[1])
+    checked = check_answer(text, queues, ALL if show is None else show)
+    told = []
+    for words, wanted in (([program, "read", "-"], read_answer(text)), (check_words(program, queues, show), checked)):
+        got = run(words, text)
+        if got != wanted:
+            told.append((words[1:], text, got, wanted))
+    got = run([program, "run", "--queues", queues, "-"], text)
+    wrong = wrong_run(text, queues, checked, got)
+    if wrong:
+        told.append((["run", "--queues", queues], text, got, wrong))
+    return told, number, kind_of(checked)
 
 
 def batch(task):
@@ -186,11 +222,11 @@ def main():
     tasks = ((options.program, options.seed, part, until) for part in parts)
     count, kinds = Count(), collections.Counter()
     with multiprocessing.Pool(options.jobs) as pool:
-        for told, kind in (one for part in pool.imap(batch, tasks) for one in part):
+        for told, number, kind in (one for part in pool.imap(batch, tasks) for one in part):
             kinds[kind] += 1
-            for number, word, text, got, wanted in told:
-                count.compare(got, wanted, f"text {number} of seed {options.seed}:", *word, text)
-            count.passed += 2 - len(told)
+            count.passed += 3 - len(told)
+            for words, text, got, wanted in told:
+                count.compare(got, wanted, f"text {number} of seed {options.seed}:", *words, text)
     print(", ".join(f"{kind}: {times}" for kind, times in sorted(kinds.items())))
     return count.end()
 

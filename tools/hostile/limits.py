@@ -1,0 +1,139 @@
+#!/usr/bin/env python3
+"""Meets each limit of docs/LANGUAGE.md from both sides, and looks at the answers.
+
+    limits.py PROGRAM
+
+Texts at the limit are read or checked, and texts one past it are refused with the limit's line; texts that are
+as large as a text may be, each made of one thing, are read. Wanted answers are those of tools/naive/reading.py
+or stand here. Prints what differs, and last `N passed, M failed`.
+"""
+import sys
+
+from program import QUEUES, Answer, Count, check_words, run
+from answer import read_answer
+
+LIMIT = 1048576
+TOO_LONG = "lexical fault 1: text longer than 1048576 bytes"
+# the texts of a chart's head, and of its ends
+HEAD, END = b"msc t;", b"endmsc;"
+
+
+def filled(before, some, behind, length=LIMIT):
+    """A text of this length: a beginning, as many of these bytes as have room, and an end."""
+    times = (length - len(before) - len(behind)) // len(some)
+    text = before + some * times + behind
+    return text + b" " * (length - len(text))
+
+
+def long_texts():
+    """Texts at the limit, each made of one thing, and what is one byte past it."""
+    section = HEAD + b"instance a;", b"endinstance;" + END
+    in_parameters = section[0] + b"out m(x", b") to a;" + section[1]
+    whole = [
+        (b"", b" ", HEAD + END),
+        (HEAD, b" ", END),
+        (HEAD, b"/**/", END),
+        (HEAD + b"/*", b"*", b"*/" + END),
+        (b"msc t comment '", b"''", b"';" + END),
+        (HEAD + b"inst a", b",a", b";" + END),
+        (HEAD, b"inst a : process p;", END),
+        (HEAD, b"instance a;endinstance;", END),
+        (section[0], b"concurrent;endconcurrent;", section[1]),
+        (section[0], b"action '';", section[1]),
+        (section[0] + b"action '", b"\xff", b"';" + section[1]),
+        (section[0], b"in m from a;", section[1]),
+        (in_parameters[0], b",x", in_parameters[1]),
+    ]
+    refused = [
+        (b"", b"(", b""), (b"", b"/*", b""), (b"", b"'a", b""), (b"", b"'", b""), (b"", b"x", b""), (b"", b"/", b""),
+        (b"", b" ", b""), (b"", b"msc ", b""), (b"", b"x ", b""), (b"", b"\0", b""),
+        (HEAD, b"inst ", b""), (section[0], b"concurrent;", b""), (in_parameters[0], b",", b""),
+    ]
+    for part in whole + refused:
+        yield filled(*part), read_answer(filled(*part))
+        for more in (1, 2, LIMIT):
+            yield filled(*part, LIMIT + more), (b"", f"{TOO_LONG}\n".encode(), 2)
+
+
+def named(length, count=1):
+    """A chart's name of this length, and as many instances of such names."""
+    names = [str(number).encode().rjust(length, b"n") for number in range(count)]
+    return b"msc " + names[0] + b";" + b"".join(b"instance " + name + b";endinstance;" for name in names) + END
+
+
+def of_instances(count):
+    return HEAD + b"".join(f"instance i{number};endinstance;".encode() for number in range(count)) + END
+
+
+def of_events(messages, actions=0, inputs=None):
+    """A chart with so many messages from a to b, and actions of b."""
+    out = "".join(f"out m{number} to b;" for number in range(messages))
+    taken = "".join(f"in m{number} from a;" for number in range(messages if inputs is None else inputs))
+    own = "action '';" * actions
+    text = f"msc t;instance a;{out}endinstance;instance b;{taken}{own}endinstance;endmsc;"
+    return text.encode()
+
+
+def verdict(queues, races=0, text=""):
+    """What is printed of a chart, in which so many races are shown as this text."""
+    head = f"chart t\nqueues {queues}\n"
+    return Answer((head + (f"races {races}\n{text}" if races else "pass\n")).encode(), b"", int(races > 0))
+
+
+def fault(line):
+    return Answer(b"", f"{line}\n".encode(), 2)
+
+
+def charts():
+    """Texts, architectures, how many races get a run, and what is printed."""
+    passing = [of_instances(0), of_instances(32), of_events(1024), of_events(1024, 1024), of_events(0, 1024)]
+    yield from ((text, queues, None, verdict(queues)) for text in passing for queues in ("pair", "mailbox"))
+    for text, line in [
+        (of_instances(33), "chart fault 1: more than 32 instances"),
+        (of_instances(30000), "chart fault 1: more than 32 instances"),
+        (of_events(1025), "chart fault 5: more than 1024 messages"),
+        (of_events(1025, 1025), "chart fault 5: more than 1024 messages"),
+        (of_events(1025, 0, 0), "chart fault 5: more than 1024 messages"),
+        (of_events(0, 0, 1025), "chart fault 5: more than 1024 messages"),
+        (of_events(20000), "chart fault 5: more than 1024 messages"),
+        (of_events(1024, 1025), "chart fault 11: more than 1024 actions"),
+        (of_events(0, 60000), "chart fault 11: more than 1024 actions"),
+        (of_events(1024, 1024, 1023), "chart fault 7: output 1023 has no input"),
+        (of_events(1023, 1024, 1024), "chart fault 8: input 2046 has no output"),
+    ]:
+        yield from ((text, queues, None, fault(line)) for queues in QUEUES)
+
+
+def numbers_of_races():
+    """The first line of a chart's races, at the limits: how many there are where no run is shown."""
+    # 1,024 messages of one sender under `single`: each two of them race
+    yield of_events(1024), "single", 1024 * 1023 // 2
+    # an action of another instance is drawn before each of 1,024 inputs
+    many = of_events(1024).replace(b"in m0 ", b"action '';" * 1024 + b"in m0 ")
+    yield many, "pair", 1024 * 1024
+
+
+def main():
+    program, count = sys.argv[1], Count()
+    for text, wanted in long_texts():
+        count.compare(run([program, "read", "-"], text), wanted, len(text), text[:60])
+    for length in (1, 63, 64, 65, 66, 1000):
+        for instances in (1, 32):
+            text = named(length, min(instances, 10 ** length))
+            count.compare(run([program, "read", "-"], text), read_answer(text), f"names of {length}")
+    empty = HEAD + b"instance a;" + b"concurrent;endconcurrent;" * 40000 + b"endinstance;" + END
+    written = run([program, "read", "-"], empty)
+    count.add((len(empty), len(written.output), written.status) == (1000036, 1240040, 0), "empty coregions")
+    count.compare(run([program, "read", "-"], written.output), fault(TOO_LONG), "their canonical text")
+    for text, queues, show, wanted in charts():
+        count.compare(run(check_words(program, queues, show), text), wanted, queues, text[:100])
+    for text, queues, races in numbers_of_races():
+        answer = run(check_words(program, queues, 0), text)
+        lines = answer.output.split(b"\n")
+        is_right = lines[2] == f"races {races}".encode() and len(lines) == races + 4 and answer.status == 1
+        count.add(is_right, queues, races, lines[:4])
+    return count.end()
+
+
+if __name__ == "__main__":
+    sys.exit(main())
