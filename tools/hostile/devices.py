@@ -1,13 +1,14 @@
 #!/usr/bin/env python3
 """Gives the program devices that fail, and looks at each answer.
 
-    devices.py PROGRAM
+    devices.py [--commands C,..] PROGRAM
 
 Outputs that are closed, full, or have lost their reader; inputs that are folders, missing, not permitted, that
 never end, that come in pieces, or that are removed, cut or grow while they are read; and, by tools/refuse, reads
 and writes that are interrupted, that move a byte at a time, and that fail at each call. Prints what differs, and
 last `N passed, M failed`. What needs another user is tried where this is root.
 """
+import argparse
 import os
 import pathlib
 import signal
@@ -15,7 +16,7 @@ import subprocess
 import sys
 import tempfile
 
-from program import MOST, QUEUES, TOP, Answer, Count, check_words, run
+from program import MOST, QUEUES, TOP, Answer, Count, add_commands, check_words, run
 from answer import check_answer, read_answer
 from refuse import Shim
 
@@ -32,20 +33,31 @@ def redirected(words, streams, before="true"):
     return ["sh", "-c", f'{before}; exec "$@" {streams}', "sh", *map(str, words)]
 
 
-def commands(program, file="-"):
-    """A run of each command, and what is printed of CHART; for `run` nothing is said."""
-    yield [program, "read", file], Answer(*read_answer(CHART))
-    for queues in QUEUES:
-        yield [*check_words(program, queues)[:-1], file], Answer(*check_answer(CHART, queues))
-        yield [program, "run", "--queues", queues, file], None
+class Commands:
+    """The runs of the program that are tried."""
+
+    def __init__(self, program, wanted):
+        self.program, self.wanted = program, wanted
+
+    def on(self, file="-", program=None):
+        """A run of each command, and what is printed of CHART; for `run`, which may print one of several traces,
+        None."""
+        program = program or self.program
+        if "read" in self.wanted:
+            yield [program, "read", file], Answer(*read_answer(CHART))
+        for queues in QUEUES:
+            if "check" in self.wanted:
+                yield [*check_words(program, queues)[:-1], file], Answer(*check_answer(CHART, queues))
+            if "run" in self.wanted:
+                yield [program, "run", "--queues", queues, file], None
 
 
-def outputs(count, program, folder):
+def outputs(count, commands, folder):
     """Standard output closed, full, not to be written, without a reader; standard error closed and full."""
     chart = folder / "chart"
     chart.write_bytes(CHART)
     for file in ("-", chart):
-        for words, wanted in commands(program, file):
+        for words, wanted in commands.on(file):
             for streams in (">&-", ">/dev/full", f"1<{chart}"):
                 count.compare(run(redirected(words, streams), CHART), FAULT, *words[1:], streams)
                 count.compare(run(redirected(words, f"{streams} 2>&-"), CHART), SILENT, *words[1:], streams, "2>&-")
@@ -57,24 +69,23 @@ def outputs(count, program, folder):
                 count.add(file != "-" or answer == Answer(b"", b"", 2), *words[1:], streams, answer)
             without_reader(count, words)
     for words in (["--help"], ["--version"]):
-        count.compare(run(redirected([program, *words], ">/dev/full")), FAULT, *words, ">/dev/full")
+        count.compare(run(redirected([commands.program, *words], ">/dev/full")), FAULT, *words, ">/dev/full")
     for words in ([], ["read"], ["check", "--queues", "none", "-"]):
-        answer = run(redirected([program, *words], "2>/dev/full"))
+        answer = run(redirected([commands.program, *words], "2>/dev/full"))
         count.compare(answer, Answer(b"", b"", 2), *words, "2>/dev/full")
 
 
 def without_reader(count, words):
-    """Standard output is a pipe whose reader has gone: by custom the signal SIGPIPE ends the program; where it is
-    ignored, that is a device fault."""
-    for before, wanted in (("true", Answer(b"", b"", -signal.SIGPIPE)), ("trap '' PIPE", FAULT)):
+    """Standard output is a pipe whose reader has gone: whether or not SIGPIPE is ignored, a device fault."""
+    for before in ("true", "trap '' PIPE"):
         reader, writer = os.pipe()
         os.close(reader)
         done = subprocess.run(redirected(words, "", before), input=CHART, stdout=writer, stderr=subprocess.PIPE)
         os.close(writer)
-        count.compare(Answer(b"", done.stderr, done.returncode), wanted, *words[1:], "no reader", before)
+        count.compare(Answer(b"", done.stderr, done.returncode), FAULT, *words[1:], "no reader", before)
 
 
-def inputs(count, program, folder):
+def inputs(count, commands, folder):
     """FILE and standard input of every sort."""
     (folder / "dangling").symlink_to("nothing")
     (folder / "round").symlink_to("round")
@@ -82,40 +93,38 @@ def inputs(count, program, folder):
     (folder / "denied").chmod(0)
     missing = [folder, folder / "dangling", folder / "round", "", folder / "none", "x" * 5000, folder / "denied/x"]
     too_long = Answer(*read_answer(b" " * 2 ** 21))
-    zeros = Answer(*read_answer(b"\0"))
     nothing = Answer(*read_answer(b""))
     wanted = [*((file, FAULT) for file in [*missing, "/proc/self/mem"]), ("/dev/zero", too_long), ("/dev/full", too_long),
               ("/dev/null", nothing)]
     for file, answer in wanted:
-        for words, _ in commands(program, file):
+        for words, _ in commands.on(file):
             count.compare(run(words), answer, *words[1:])
-    for words, _ in commands(program):
+    for words, _ in commands.on():
         for streams, answer in (("<&-", FAULT), (f"<{folder}", FAULT), ("0>/dev/null", FAULT), ("</dev/null", nothing),
                                 ("</dev/zero", too_long)):
             count.compare(run(redirected(words, streams)), answer, *words[1:], streams)
-    empty_pipe(count, program)
-    denied(count, program, folder)
-    del zeros
+    empty_pipe(count, commands)
+    denied(count, commands, folder)
 
 
-def empty_pipe(count, program):
+def empty_pipe(count, commands):
     """Standard input is a pipe that has nothing now and does not wait."""
     reader, writer = os.pipe2(os.O_NONBLOCK)
-    for words, _ in commands(program):
+    for words, _ in commands.on():
         done = subprocess.run(words, stdin=reader, capture_output=True, timeout=MOST)
         count.compare(Answer(done.stdout, done.stderr, done.returncode), FAULT, *words[1:], "an empty pipe")
     os.close(reader)
     os.close(writer)
 
 
-def denied(count, program, folder):
+def denied(count, commands, folder):
     """FILE may not be read."""
     if os.geteuid() == 0:
         folder.chmod(0o755)
         reachable = folder / "msc"
-        reachable.write_bytes(pathlib.Path(program).read_bytes())
+        reachable.write_bytes(pathlib.Path(commands.program).read_bytes())
         reachable.chmod(0o755)
-        for words, _ in commands(reachable, folder / "denied"):
+        for words, _ in commands.on(folder / "denied", reachable):
             count.compare(run(words, user=NOBODY, cwd="/"), FAULT, *words[1:], "without permission")
 
 
@@ -128,17 +137,17 @@ def ended(process):
     return Answer(output, error, process.returncode)
 
 
-def pieces(count, program, folder):
+def pieces(count, commands, folder):
     """FILE is a FIFO, or standard input a pipe, whose bytes come one by one."""
     pipe = folder / "pipe"
     os.mkfifo(pipe)
-    for words, wanted in commands(program, pipe):
+    for words, wanted in commands.on(pipe):
         process = begun(words)
         with open(pipe, "wb", buffering=0) as file:
             for byte in CHART:
                 file.write(bytes([byte]))
         is_right(count, ended(process), wanted, *words[1:], "a FIFO")
-    for words, wanted in commands(program):
+    for words, wanted in commands.on():
         process = begun(words, stdin=subprocess.PIPE, bufsize=0)
         for byte in CHART:
             process.stdin.write(bytes([byte]))
@@ -150,7 +159,7 @@ def is_right(count, answer, wanted, *told):
     count.add(answer == wanted if wanted else answer[1:] == (b"", 0), *told, answer)
 
 
-def while_read(count, program, folder, shim):
+def while_read(count, commands, folder, shim):
     """FILE is removed, cut or grows when a part of it has been read."""
     blank, length = b" " * 200000, 200000 + len(CHART)
     too_long = Answer(*read_answer(b" " * 2 ** 21))
@@ -168,7 +177,7 @@ def while_read(count, program, folder, shim):
         ("grown past the limit", lambda file: append(file, b" " * 2 ** 20), too_long),
     ):
         file = folder / "changing"
-        for words, wanted in commands(program, file):
+        for words, wanted in commands.on(file):
             file.write_bytes(blank + CHART)
             process = begun(words, env=shim.env(HOLD_READ="2"))
             os.waitid(os.P_PID, process.pid, os.WSTOPPED)
@@ -177,9 +186,9 @@ def while_read(count, program, folder, shim):
             is_right(count, ended(process), other or wanted, *words[1:], how)
 
 
-def calls(count, program, shim):
+def calls(count, commands, shim):
     """Reads and writes are interrupted, move a byte, or fail."""
-    for words, wanted in commands(program):
+    for words, wanted in commands.on():
         is_right(count, run(words, CHART, env=shim.env()), wanted, *words[1:], "in full")
         made = dict(zip(("READ", "WRITE"), shim.made()[2:]))
         is_right(count, run(words, CHART, env=shim.env(SHORT="1+")), wanted, *words[1:], "a byte at a time")
@@ -202,15 +211,19 @@ def fails(answer, wanted, call):
 
 
 def main():
-    program, count = str(pathlib.Path(sys.argv[1]).resolve()), Count()
+    words = argparse.ArgumentParser(description=__doc__, formatter_class=argparse.RawDescriptionHelpFormatter)
+    words.add_argument("program")
+    add_commands(words)
+    options = words.parse_args()
+    commands, count = Commands(str(pathlib.Path(options.program).resolve()), options.commands), Count(60)
     with tempfile.TemporaryDirectory() as name:
         folder = pathlib.Path(name)
         shim = Shim(name)
-        outputs(count, program, folder)
-        inputs(count, program, folder)
-        pieces(count, program, folder)
-        while_read(count, program, folder, shim)
-        calls(count, program, shim)
+        outputs(count, commands, folder)
+        inputs(count, commands, folder)
+        pieces(count, commands, folder)
+        while_read(count, commands, folder, shim)
+        calls(count, commands, shim)
     return count.end()
 
 

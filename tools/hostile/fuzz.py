@@ -1,7 +1,7 @@
 #!/usr/bin/env python3
 """Gives a program random texts, and compares what it answers with what tools/naive/answer.py does.
 
-    fuzz.py [--texts N] [--seconds S] [--seed S] [--only T] [--jobs J] PROGRAM
+    fuzz.py [--texts N] [--seconds S] [--seed S] [--only T] [--jobs J] [--commands C,..] PROGRAM
 
 The texts 0 to N - 1 of a seed are tried (for at most S seconds), and `--only T` prints one of them and tries
 it. Text T of a seed is always the same. Some go from place to place of the grammar, now and then to a token
@@ -20,7 +20,7 @@ import re
 import sys
 import time
 
-from program import QUEUES, Count, check_words, run
+from program import QUEUES, Count, add_commands, check_words, run
 from answer import ALL, check_answer, read_answer
 from compare import chart
 from reading import PLACES, SUPPORTED, UNSUPPORTED, Draft, Event, tokens
@@ -182,26 +182,27 @@ def wrong_run(text, queues, wanted, got):
     return Drawn(text).wrong(queues, got.output.decode("latin-1"))
 
 
-def tried(program, seed, number):
+def tried(program, seed, number, commands):
     """What differs for a text, as the words of a run, what it answered and what it should; and its kind of
     answer."""
     text, queues, show = text_of(seed, number)
     checked = check_answer(text, queues, ALL if show is None else show)
     told = []
     for words, wanted in (([program, "read", "-"], read_answer(text)), (check_words(program, queues, show), checked)):
-        got = run(words, text)
+        got = run(words, text) if words[1] in commands else wanted
         if got != wanted:
             told.append((words[1:], text, got, wanted))
-    got = run([program, "run", "--queues", queues, "-"], text)
-    wrong = wrong_run(text, queues, checked, got)
-    if wrong:
-        told.append((["run", "--queues", queues], text, got, wrong))
+    if "run" in commands:
+        got = run([program, "run", "--queues", queues, "-"], text)
+        wrong = wrong_run(text, queues, checked, got)
+        if wrong:
+            told.append((["run", "--queues", queues], text, got, wrong))
     return told, number, kind_of(checked)
 
 
 def batch(task):
-    program, seed, numbers, until = task
-    return [tried(program, seed, number) for number in numbers if time.time() < until]
+    program, seed, numbers, commands, until = task
+    return [tried(program, seed, number, commands) for number in numbers if time.time() < until]
 
 
 def main():
@@ -211,6 +212,7 @@ def main():
     words.add_argument("--seed", type=int, default=1, metavar="S")
     words.add_argument("--only", type=int, metavar="T")
     words.add_argument("--jobs", type=int, default=len(os.sched_getaffinity(0)), metavar="J")
+    add_commands(words)
     words.add_argument("program")
     options = words.parse_args()
     numbers = range(options.texts)
@@ -219,12 +221,12 @@ def main():
         print(*text_of(options.seed, options.only))
     until = time.time() + options.seconds
     parts = (numbers[first:first + BATCH] for first in range(0, len(numbers), BATCH))
-    tasks = ((options.program, options.seed, part, until) for part in parts)
+    tasks = ((options.program, options.seed, part, options.commands, until) for part in parts)
     count, kinds = Count(), collections.Counter()
     with multiprocessing.Pool(options.jobs) as pool:
         for told, number, kind in (one for part in pool.imap(batch, tasks) for one in part):
             kinds[kind] += 1
-            count.passed += 3 - len(told)
+            count.passed += len(options.commands) - len(told)
             for words, text, got, wanted in told:
                 count.compare(got, wanted, f"text {number} of seed {options.seed}:", *words, text)
     print(", ".join(f"{kind}: {times}" for kind, times in sorted(kinds.items())))

@@ -1,7 +1,7 @@
 #!/usr/bin/env python3
 """Refuses each allocation of each command on charts of charts/, by tools/refuse.
 
-    memory.py [--most N] [--every K] [--commands read,check,run] PROGRAM [CHART ..]
+    memory.py [--most N] [--every K] [--commands C,..] PROGRAM [CHART ..]
 
 Every chart of charts/ and of charts/refused/ is read, and checked and run under each architecture, where these
 are not given; of the runs with more than N allocations (400 where it is not said) each K-th allocation alone is
@@ -13,7 +13,7 @@ import pathlib
 import sys
 import tempfile
 
-from program import QUEUES, TOP
+from program import QUEUES, TOP, add_commands
 from refuse import Program, Shim, refuse_each
 
 
@@ -21,8 +21,8 @@ def commands(wanted):
     """The words of each command, and whether it has threads."""
     if "read" in wanted:
         yield ["read", "-"], False
-    for command in ("check", "run"):
-        if command in wanted:
+    for command in wanted:
+        if command != "read":
             yield from (([command, "--queues", queues, "-"], command == "run") for queues in QUEUES)
 
 
@@ -30,7 +30,7 @@ def main():
     words = argparse.ArgumentParser(description=__doc__, formatter_class=argparse.RawDescriptionHelpFormatter)
     words.add_argument("--most", type=int, default=400, metavar="N")
     words.add_argument("--every", type=int, default=97, metavar="K")
-    words.add_argument("--commands", default="read,check,run")
+    add_commands(words)
     words.add_argument("program")
     words.add_argument("charts", nargs="*", metavar="CHART")
     options = words.parse_args()
@@ -39,7 +39,7 @@ def main():
     with tempfile.TemporaryDirectory() as folder:
         shim = Shim(folder)
         for chart in map(pathlib.Path, charts):
-            for words, has_threads in commands(options.commands.split(",")):
+            for words, has_threads in commands(options.commands):
                 program = Program([options.program, *words], chart.read_bytes(), shim)
                 told = f"msc {' '.join(words)} < {chart.name}"
                 right, wrong = refuse_each(program, told, has_threads, options.most, options.every)

@@ -31,6 +31,12 @@ def run(words, stdin=b"", **options):
     return Answer(done.stdout, done.stderr, done.returncode)
 
 
+def add_commands(words):
+    """Puts the option for the commands that are tried."""
+    words.add_argument("--commands", default="read,check,run", type=lambda text: text.split(","), metavar="C,..",
+                       help="those of read, check and run that are tried")
+
+
 def check_words(program, queues, show=None):
     return [program, "check", "--queues", queues, *([] if show is None else ["--show", str(show)]), "-"]
 
