@@ -1,12 +1,14 @@
 #!/usr/bin/env python3
 """Meets each limit of docs/LANGUAGE.md from both sides, and looks at the answers.
 
-    limits.py PROGRAM
+    limits.py [--quick] PROGRAM
 
 Texts at the limit are read or checked, and texts one past it are refused with the limit's line; texts that are
-as large as a text may be, each made of one thing, are read. Wanted answers are those of tools/naive/reading.py
-or stand here. Prints what differs, and last `N passed, M failed`.
+as large as a text may be, each made of one thing, are read (with --quick those of few tokens alone, since the
+naive reader takes its time for the others). Wanted answers are those of tools/naive/reading.py or stand here.
+Prints what differs, and last `N passed, M failed`.
 """
+import argparse
 import sys
 
 from program import QUEUES, Answer, Count, check_words, run
@@ -25,31 +27,26 @@ def filled(before, some, behind, length=LIMIT):
     return text + b" " * (length - len(text))
 
 
-def long_texts():
-    """Texts at the limit, each made of one thing, and what is one byte past it."""
-    section = HEAD + b"instance a;", b"endinstance;" + END
-    in_parameters = section[0] + b"out m(x", b") to a;" + section[1]
-    whole = [
-        (b"", b" ", HEAD + END),
-        (HEAD, b" ", END),
-        (HEAD, b"/**/", END),
-        (HEAD + b"/*", b"*", b"*/" + END),
-        (b"msc t comment '", b"''", b"';" + END),
-        (HEAD + b"inst a", b",a", b";" + END),
-        (HEAD, b"inst a : process p;", END),
-        (HEAD, b"instance a;endinstance;", END),
-        (section[0], b"concurrent;endconcurrent;", section[1]),
-        (section[0], b"action '';", section[1]),
-        (section[0] + b"action '", b"\xff", b"';" + section[1]),
-        (section[0], b"in m from a;", section[1]),
-        (in_parameters[0], b",x", in_parameters[1]),
-    ]
-    refused = [
-        (b"", b"(", b""), (b"", b"/*", b""), (b"", b"'a", b""), (b"", b"'", b""), (b"", b"x", b""), (b"", b"/", b""),
-        (b"", b" ", b""), (b"", b"msc ", b""), (b"", b"x ", b""), (b"", b"\0", b""),
-        (HEAD, b"inst ", b""), (section[0], b"concurrent;", b""), (in_parameters[0], b",", b""),
-    ]
-    for part in whole + refused:
+SECTION, REST = HEAD + b"instance a;", b"endinstance;" + END
+# what texts of few tokens, and of as many as have room, are made of: a beginning, what is repeated, and an end
+FEW = [
+    (b"", b" ", HEAD + END), (HEAD, b" ", END), (HEAD, b"/**/", END), (HEAD + b"/*", b"*", b"*/" + END),
+    (b"msc t comment '", b"''", b"';" + END), (SECTION + b"action '", b"\xff", b"';" + REST),
+    (b"", b"/*", b""), (b"", b"'a", b""), (b"", b"'", b""), (b"", b"x", b""), (b"", b"/", b""), (b"", b" ", b""),
+    (b"", b"\0", b""),
+]
+MANY = [
+    (HEAD + b"inst a", b",a", b";" + END), (HEAD, b"inst a : process p;", END),
+    (HEAD, b"instance a;endinstance;", END), (SECTION, b"concurrent;endconcurrent;", REST),
+    (SECTION, b"action '';", REST), (SECTION, b"in m from a;", REST), (SECTION + b"out m(x", b",x", b") to a;" + REST),
+    (b"", b"(", b""), (b"", b"msc ", b""), (b"", b"x ", b""), (HEAD, b"inst ", b""), (SECTION, b"concurrent;", b""),
+    (SECTION + b"out m(x", b",", b""),
+]
+
+
+def long_texts(parts):
+    """Texts at the limit and past it, and what is answered."""
+    for part in parts:
         yield filled(*part), read_answer(filled(*part))
         for more in (1, 2, LIMIT):
             yield filled(*part, LIMIT + more), (b"", f"{TOO_LONG}\n".encode(), 2)
@@ -114,8 +111,12 @@ def numbers_of_races():
 
 
 def main():
-    program, count = sys.argv[1], Count()
-    for text, wanted in long_texts():
+    words = argparse.ArgumentParser(description=__doc__, formatter_class=argparse.RawDescriptionHelpFormatter)
+    words.add_argument("program")
+    words.add_argument("--quick", action="store_true")
+    options = words.parse_args()
+    program, count = options.program, Count()
+    for text, wanted in long_texts(FEW if options.quick else FEW + MANY):
         count.compare(run([program, "read", "-"], text), wanted, len(text), text[:60])
     for length in (1, 63, 64, 65, 66, 1000):
         for instances in (1, 32):

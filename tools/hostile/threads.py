@@ -87,7 +87,8 @@ def limit_each(count, program, folder):
     for threads in range(9):
         for queues in QUEUES:
             options = {"user": NOBODY, "preexec_fn": limited(threads + 1), "cwd": "/"}
-            answer = run([reachable, "run", "--queues", queues, "-"], ring(9), **options)
+            # whoever is started waits for the last, so no thread ends that the next could take the place of
+            answer = run([reachable, "run", "--queues", queues, "-"], star(9), **options)
             count.compare(answer, not_started(threads), f"{threads} threads", queues)
 
 

@@ -16,13 +16,9 @@ from typing import NamedTuple
 MOST, LONGEST, INSTANCES, MESSAGES, ACTIONS = 1048576, 64, 32, 1024, 1024
 SUPPORTED = "msc endmsc inst instance endinstance in from out to action concurrent endconcurrent comment".split()
 UNSUPPORTED = "env condition set reset timeout create stop".split()
-PIECES = [
-    ("space", re.compile(rb"[ \t\r\n]+")),
-    ("note", re.compile(rb"/\*.*?\*/", re.DOTALL)),
-    ("text", re.compile(rb"'(?:[^']|'')*'(?!')")),
-    ("run", re.compile(rb"[A-Za-z0-9_]+")),
-    ("mark", re.compile(rb"[;,:()]")),
-]
+# the sorts of pieces that a text is made of
+PIECE = re.compile(rb"""(?P<space>[ \t\r\n]+) | (?P<note>/\*.*?\*/) | (?P<text>'(?:[^']|'')*'(?!'))
+                        | (?P<run>[A-Za-z0-9_]+) | (?P<mark>[;,:()])""", re.DOTALL | re.VERBOSE)
 
 
 class Refused(Exception):
@@ -62,12 +58,11 @@ def tokens(text):
         raise Refused(f"lexical fault 1: text longer than {MOST} bytes")
     found, at = [], 0
     while at < len(text):
-        pieces = ((name, form.match(text, at)) for name, form in PIECES)
-        name, piece = next((pair for pair in pieces if pair[1]), (None, None))
+        piece = PIECE.match(text, at)
         if not piece:
             raise flaw(text, at)
-        if name not in ("space", "note"):
-            found.append(token(at, name, piece[0]))
+        if piece.lastgroup not in ("space", "note"):
+            found.append(token(at, piece.lastgroup, piece[0]))
         at = piece.end()
     return found
 
