@@ -1,20 +1,26 @@
 #!/usr/bin/env python3
 """Meets each limit of docs/LANGUAGE.md from both sides, and looks at the answers.
 
-    limits.py [--quick] PROGRAM
+    limits.py [--quick] [--commands C,..] PROGRAM
 
 Texts at the limit are read or checked, and texts one past it are refused with the limit's line; texts that are
 as large as a text may be, each made of one thing, are read (with --quick those of few tokens alone, since the
 naive reader takes its time for the others). Wanted answers are those of tools/naive/reading.py or stand here.
+The largest charts are answered the same with a stack of 128 KiB, for each thread too.
 Prints what differs, and last `N passed, M failed`.
 """
 import argparse
+import random
+import resource
 import sys
 
-from program import QUEUES, Answer, Count, check_words, run
+from load import INSTANCES, MESSAGES, drawn
+from program import QUEUES, Answer, Count, add_commands, check_words, run
 from answer import read_answer
 
 LIMIT = 1048576
+# bytes of a small stack
+STACK = 128 * 1024
 TOO_LONG = "lexical fault 1: text longer than 1048576 bytes"
 # the texts of a chart's head, and of its ends
 HEAD, END = b"msc t;", b"endmsc;"
@@ -110,10 +116,28 @@ def numbers_of_races():
     yield many, "pair", 1024 * 1024
 
 
+def small_stack():
+    resource.setrlimit(resource.RLIMIT_STACK, (STACK, STACK))
+
+
+def stacks(count, program, commands):
+    """Runs the largest charts with a small stack; of `run`, whose traces differ, only that it succeeds."""
+    for text in (of_events(1024, 1024), drawn(random.Random(1), INSTANCES, MESSAGES)):
+        ways = [[program, "read", "-"], *(check_words(program, queues, 3) for queues in QUEUES)]
+        if "run" in commands:
+            ways += [[program, "run", "--queues", queues, "-"] for queues in QUEUES]
+        for words in ways:
+            full = run(words, text)
+            small = run(words, text, preexec_fn=small_stack, env={})
+            is_same = small[1:] == (b"", 0) if words[1] == "run" else small == full
+            count.add(is_same, *words[1:], f"with a stack of {STACK} bytes", small.error, small.status)
+
+
 def main():
     words = argparse.ArgumentParser(description=__doc__, formatter_class=argparse.RawDescriptionHelpFormatter)
     words.add_argument("program")
     words.add_argument("--quick", action="store_true")
+    add_commands(words)
     options = words.parse_args()
     program, count = options.program, Count()
     for text, wanted in long_texts(FEW if options.quick else FEW + MANY):
@@ -133,6 +157,7 @@ def main():
         lines = answer.output.split(b"\n")
         is_right = lines[2] == f"races {races}".encode() and len(lines) == races + 4 and answer.status == 1
         count.add(is_right, queues, races, lines[:4])
+    stacks(count, program, options.commands)
     return count.end()
 
 
