@@ -3,12 +3,12 @@
 
     devices.py [--commands C,..] PROGRAM
 
-Outputs that are closed, full, or have lost their reader; inputs that are folders, missing, not permitted, that
-never end, that come in pieces, or that are removed, cut or grow while they are read; and, by tools/refuse, reads
-and writes that are interrupted, that move a byte at a time, and that fail at each call. Prints what differs, and
-last `N passed, M failed`. What needs another user is tried where this is root.
+Outputs that are closed, full, or have lost their reader; inputs that are folders, missing, not
+permitted, that never end, that come in pieces, or that are removed, cut or grow while they are
+read; and, by tools/refuse, reads and writes that are interrupted, that move a byte at a time, and
+that fail at each call. Prints what differs, and last `N passed, M failed`. What needs another user
+is tried where this is root.
 """
-import argparse
 import os
 import pathlib
 import signal
@@ -16,7 +16,7 @@ import subprocess
 import sys
 import tempfile
 
-from program import MOST, QUEUES, TOP, Answer, Count, add_commands, check_words, run
+from program import MOST, QUEUES, TOP, Answer, Count, add_commands, arguments, check_words, run
 from answer import check_answer, read_answer
 from refuse import Shim
 
@@ -40,49 +40,57 @@ class Commands:
         self.program, self.wanted = program, wanted
 
     def on(self, file="-", program=None):
-        """A run of each command, and what is printed of CHART; for `run`, which may print one of several traces,
-        None."""
+        """A run of each command, and what is printed of CHART; for `run`, which may print one of
+        several traces, None."""
         program = program or self.program
         if "read" in self.wanted:
             yield [program, "read", file], Answer(*read_answer(CHART))
         for queues in QUEUES:
             if "check" in self.wanted:
-                yield [*check_words(program, queues)[:-1], file], Answer(*check_answer(CHART, queues))
+                words = [program, "check", "--queues", queues, file]
+                yield words, Answer(*check_answer(CHART, queues))
             if "run" in self.wanted:
                 yield [program, "run", "--queues", queues, file], None
 
 
 def outputs(count, commands, folder):
-    """Standard output closed, full, not to be written, without a reader; standard error closed and full."""
+    """Standard output closed, full, not to be written, without a reader; standard error closed and
+    full."""
     chart = folder / "chart"
     chart.write_bytes(CHART)
     for file in ("-", chart):
         for words, wanted in commands.on(file):
             for streams in (">&-", ">/dev/full", f"1<{chart}"):
                 count.compare(run(redirected(words, streams), CHART), FAULT, *words[1:], streams)
-                count.compare(run(redirected(words, f"{streams} 2>&-"), CHART), SILENT, *words[1:], streams, "2>&-")
+                answer = run(redirected(words, f"{streams} 2>&-"), CHART)
+                count.compare(answer, SILENT, *words[1:], streams, "2>&-")
             # a run of two_senders prints one of two traces
             whole = run(redirected(words, "2>&-"), CHART)
-            count.add(whole == wanted or not wanted and whole.status == 0, *words[1:], "2>&-", whole)
+            is_whole = whole == wanted if wanted else whole.status == 0
+            count.add(is_whole, *words[1:], "2>&-", whole)
             for streams in ("2>&-", "2>/dev/full"):
                 answer = run(redirected(words, streams), REFUSED)
                 count.add(file != "-" or answer == Answer(b"", b"", 2), *words[1:], streams, answer)
             without_reader(count, words)
     for words in (["--help"], ["--version"]):
-        count.compare(run(redirected([commands.program, *words], ">/dev/full")), FAULT, *words, ">/dev/full")
+        answer = run(redirected([commands.program, *words], ">/dev/full"))
+        count.compare(answer, FAULT, *words, ">/dev/full")
     for words in ([], ["read"], ["check", "--queues", "none", "-"]):
         answer = run(redirected([commands.program, *words], "2>/dev/full"))
         count.compare(answer, Answer(b"", b"", 2), *words, "2>/dev/full")
 
 
 def without_reader(count, words):
-    """Standard output is a pipe whose reader has gone: whether or not SIGPIPE is ignored, a device fault."""
+    """Standard output is a pipe whose reader has gone: whether or not SIGPIPE is ignored, a device
+    fault."""
     for before in ("true", "trap '' PIPE"):
         reader, writer = os.pipe()
         os.close(reader)
-        done = subprocess.run(redirected(words, "", before), input=CHART, stdout=writer, stderr=subprocess.PIPE)
+        process = begun(redirected(words, "", before), stdin=subprocess.PIPE, stdout=writer)
+        error = process.communicate(CHART, timeout=MOST)[1]
         os.close(writer)
-        count.compare(Answer(b"", done.stderr, done.returncode), FAULT, *words[1:], "no reader", before)
+        answer = Answer(b"", error, process.returncode)
+        count.compare(answer, FAULT, *words[1:], "no reader", before)
 
 
 def inputs(count, commands, folder):
@@ -91,17 +99,18 @@ def inputs(count, commands, folder):
     (folder / "round").symlink_to("round")
     (folder / "denied").write_bytes(CHART)
     (folder / "denied").chmod(0)
-    missing = [folder, folder / "dangling", folder / "round", "", folder / "none", "x" * 5000, folder / "denied/x"]
+    names = ["dangling", "round", "none", "denied/x"]
+    faulty = [folder, *(folder / name for name in names), "", "x" * 5000, "/proc/self/mem"]
     too_long = Answer(*read_answer(b" " * 2 ** 21))
     nothing = Answer(*read_answer(b""))
-    wanted = [*((file, FAULT) for file in [*missing, "/proc/self/mem"]), ("/dev/zero", too_long), ("/dev/full", too_long),
-              ("/dev/null", nothing)]
+    endless = [("/dev/zero", too_long), ("/dev/full", too_long)]
+    wanted = [*((file, FAULT) for file in faulty), *endless, ("/dev/null", nothing)]
     for file, answer in wanted:
         for words, _ in commands.on(file):
             count.compare(run(words), answer, *words[1:])
     for words, _ in commands.on():
-        for streams, answer in (("<&-", FAULT), (f"<{folder}", FAULT), ("0>/dev/null", FAULT), ("</dev/null", nothing),
-                                ("</dev/zero", too_long)):
+        for streams, answer in (("<&-", FAULT), (f"<{folder}", FAULT), ("0>/dev/null", FAULT),
+                                ("</dev/null", nothing), ("</dev/zero", too_long)):
             count.compare(run(redirected(words, streams)), answer, *words[1:], streams)
     empty_pipe(count, commands)
     denied(count, commands, folder)
@@ -111,8 +120,8 @@ def empty_pipe(count, commands):
     """Standard input is a pipe that has nothing now and does not wait."""
     reader, writer = os.pipe2(os.O_NONBLOCK)
     for words, _ in commands.on():
-        done = subprocess.run(words, stdin=reader, capture_output=True, timeout=MOST)
-        count.compare(Answer(done.stdout, done.stderr, done.returncode), FAULT, *words[1:], "an empty pipe")
+        answer = ended(begun(words, stdin=reader))
+        count.compare(answer, FAULT, *words[1:], "an empty pipe")
     os.close(reader)
     os.close(writer)
 
@@ -128,8 +137,8 @@ def denied(count, commands, folder):
             count.compare(run(words, user=NOBODY, cwd="/"), FAULT, *words[1:], "without permission")
 
 
-def begun(words, **options):
-    return subprocess.Popen(words, stdout=subprocess.PIPE, stderr=subprocess.PIPE, **options)
+def begun(words, stdout=subprocess.PIPE, **options):
+    return subprocess.Popen(words, stdout=stdout, stderr=subprocess.PIPE, **options)
 
 
 def ended(process):
@@ -191,31 +200,36 @@ def calls(count, commands, shim):
     for words, wanted in commands.on():
         is_right(count, run(words, CHART, env=shim.env()), wanted, *words[1:], "in full")
         made = dict(zip(("READ", "WRITE"), shim.made()[2:]))
-        is_right(count, run(words, CHART, env=shim.env(SHORT="1+")), wanted, *words[1:], "a byte at a time")
+        narrow = run(words, CHART, env=shim.env(SHORT="1+"))
+        is_right(count, narrow, wanted, *words[1:], "a byte at a time")
         for call, times in made.items():
             for number in range(1, times + 1):
                 again = run(words, CHART, env=shim.env(**{f"INTERRUPT_{call}": str(number)}))
                 is_right(count, again, wanted, *words[1:], call, number, "interrupted")
                 for later in ("", "+"):
-                    answer = run(words, CHART, env=shim.env(**{f"REFUSE_{call}": f"{number}{later}"}))
-                    count.add(fails(answer, wanted, call), *words[1:], call, f"{number}{later}", "refused", answer)
+                    rule = {f"REFUSE_{call}": f"{number}{later}"}
+                    answer = run(words, CHART, env=shim.env(**rule))
+                    count.add(fails(answer, wanted, call), *words[1:], rule, answer)
         always = run(words, CHART, env=shim.env(INTERRUPT_READ="1+"))
         count.compare(always, FAULT, *words[1:], "always interrupted")
 
 
 def fails(answer, wanted, call):
-    """Whether an answer is that a device failed; where it was a write, a beginning was written, and nothing can be
-    said of standard error, which is written too."""
-    is_beginning = answer.output == b"" or call == "WRITE" and (not wanted or wanted.output.startswith(answer.output))
-    return answer.status == 4 and answer.error in (FAULT.error, b"" if call == "WRITE" else FAULT.error) and is_beginning
+    """Whether an answer is that a device failed; where it was a write, a beginning was written, and
+    nothing can be said of standard error, which is written too."""
+    output, error, status = answer
+    if call == "READ":
+        return answer == FAULT
+    is_beginning = not wanted or wanted.output.startswith(output)
+    return status == 4 and error in (b"", FAULT.error) and is_beginning
 
 
 def main():
-    words = argparse.ArgumentParser(description=__doc__, formatter_class=argparse.RawDescriptionHelpFormatter)
-    words.add_argument("program")
+    words = arguments(__doc__)
     add_commands(words)
     options = words.parse_args()
-    commands, count = Commands(str(pathlib.Path(options.program).resolve()), options.commands), Count(60)
+    program = str(pathlib.Path(options.program).resolve())
+    commands, count = Commands(program, options.commands), Count()
     with tempfile.TemporaryDirectory() as name:
         folder = pathlib.Path(name)
         shim = Shim(name)

@@ -3,15 +3,16 @@
 
     fuzz.py [--texts N] [--seconds S] [--seed S] [--only T] [--jobs J] [--commands C,..] PROGRAM
 
-The texts 0 to N - 1 of a seed are tried (for at most S seconds), and `--only T` prints one of them and tries
-it. Text T of a seed is always the same. Some go from place to place of the grammar, now and then to a token
-that may not follow; some are charts with header, kinds, message instance names, parameters and coregions,
-spelled with any white space and notes; some are tokens in any order. Of each sort many are then changed:
-tokens or bytes are taken away, put in, doubled, exchanged, or the text is cut. Each text is given to `msc
-read`, and to `msc check` and `msc run` under one architecture: both streams and the status are to be the same, and
-for a chart that is run the trace has to be a whole run of it. Prints what differs, how many texts got which answer, and last `N passed, M failed`.
+The texts 0 to N - 1 of a seed are tried (for at most S seconds), and `--only T` prints one of them
+and tries it. Text T of a seed is always the same. Some go from place to place of the grammar, now
+and then to a token that may not follow; some are charts with header, kinds, message instance names,
+parameters and coregions, spelled with any white space and notes; some are tokens in any order. Of
+each sort many are then changed: tokens or bytes are taken away, put in, doubled, exchanged, or the
+text is cut. Each text is given to `msc read`, and to `msc check` and `msc run` under one
+architecture: both streams and the status are to be the same, and for a chart that is run the trace
+has to be a whole run of it. Prints what differs, how many texts got which answer, and last `N
+passed, M failed`.
 """
-import argparse
 import collections
 import multiprocessing
 import os
@@ -20,16 +21,19 @@ import re
 import sys
 import time
 
-from program import QUEUES, Count, add_commands, check_words, run
+from program import QUEUES, Count, add_commands, arguments, check_words, run
 from answer import ALL, check_answer, read_answer
 from compare import chart
 from reading import PLACES, SUPPORTED, UNSUPPORTED, Draft, Event, tokens
 from whole_runs import Drawn
 
 MARKS = [";", ",", ":", "(", ")"]
-NAMES = [b"a", b"b", b"c", b"m", b"x1", b"1", b"_", b"i0", b"i1", b"A", b"outer", b"x" * 64, b"x" * 65]
+# the first nine are those that are drawn mostly
+NAMES = [b"a", b"b", b"c", b"m", b"x1", b"1", b"_", b"i0", b"i1",
+         b"A", b"outer", b"x" * 64, b"x" * 65]
 TEXTS = [b"''", b"'go'", b"'it''s'", b"''''", b"'; /* */'", b"'\n\xff\x00'", b"' comment '"]
-SPACES = [b" ", b" ", b" ", b"\n", b"\t", b"\r\n", b"/**/", b"/* ' ; */", b"/***/ ", b" /* endmsc; /* */"]
+SPACES = [b" ", b" ", b" ", b"\n", b"\t", b"\r\n",
+          b"/**/", b"/* ' ; */", b"/***/ ", b" /* endmsc; /* */"]
 # how many texts a process tries at a time
 BATCH = 50
 
@@ -50,7 +54,8 @@ def any_kind(pick):
 
 
 def steps():
-    """For each place of the grammar how many tokens stand at least between it and the end of the text."""
+    """For each place of the grammar how many tokens stand at least between it and the end of the
+    text."""
     left, length = {"past": 0}, 0
     while len(left) < len(PLACES):
         length += 1
@@ -64,10 +69,11 @@ STEPS = steps()
 
 
 def walk(pick):
-    """The tokens of a way through the grammar, which may stop before its end, or goes there straight from some
-    token on; at some steps of some ways stands a token that may not follow."""
+    """The tokens of a way through the grammar, which may stop before its end, or goes there
+    straight from some token on; at some steps of some ways stands a token that may not follow."""
     place, found = "start", []
-    wrong, most, straight = pick.choice([0, 0, 0.01, 0.05]), pick.randrange(1, 150), pick.randrange(100)
+    wrong = pick.choice([0, 0, 0.01, 0.05])
+    most, straight = pick.randrange(1, 150), pick.randrange(100)
     while place != "past" and len(found) < most:
         follow = PLACES[place][1]
         kinds = [kind for kind in follow if kind != "comment" or pick.random() < 0.1]
@@ -88,7 +94,7 @@ def soup(pick):
 
 
 def renamed(pick, event, numbered):
-    """An event, its message perhaps told apart by a message instance name, and with any parameters."""
+    """An event with any parameters, its message perhaps told apart by a message instance name."""
     if event.way == "action":
         return event
     parameters = [pick.choice(NAMES[:9]) for _ in range(pick.choice([0, 0, 1, 3]))]
@@ -102,8 +108,10 @@ def drawn(pick):
     numbered = pick.random() < 0.3
     for number, section in enumerate(draft.sections):
         kind = [pick.choice(NAMES[:9]) for _ in range(pick.choice([0, 0, 0, 1, 2]))]
-        items = [type(item)(renamed(pick, event, numbered) for event in item) for item in section.items]
-        draft.sections[number] = section._replace(decl=section.decl._replace(kind=kind), items=items)
+        items = [type(item)(renamed(pick, event, numbered) for event in item)
+                 for item in section.items]
+        decl = section.decl._replace(kind=kind)
+        draft.sections[number] = section._replace(decl=decl, items=items)
     if pick.random() < 0.4:
         draft.header = [pick.choice(draft.sections).decl for _ in range(pick.randrange(4))]
     section = pick.choice(draft.sections)
@@ -116,8 +124,8 @@ def drawn(pick):
 
 
 def changed(pick, found):
-    """A list in which one or two items of it, from a place on, are taken away, doubled, or exchanged with
-    others."""
+    """A list in which one or two items of it, from a place on, are taken away, doubled, or
+    exchanged with others."""
     place, other = sorted(pick.randrange(len(found) + 1) for _ in range(2))
     some = found[place:place + pick.choice([1, 1, 2, 5])]
     past = place + len(some)
@@ -130,8 +138,8 @@ def changed(pick, found):
 
 
 def joined(pick, found):
-    """The text of these tokens, with white space and notes between them: always between two words or names and
-    between two quoted texts."""
+    """The text of these tokens, with white space and notes between them: always between two words
+    or names and between two quoted texts."""
     text, wide = b"", pick.random() < 0.5
     for token in found:
         is_close = re.search(rb"[A-Za-z0-9_]$", text) and re.match(rb"[A-Za-z0-9_]", token)
@@ -151,7 +159,8 @@ def random_bytes(pick, text):
 
 
 def text_of(seed, number):
-    """The text of this number, and how it is checked: the architecture, and how many races get a run."""
+    """The text of this number, and how it is checked: the architecture, and how many races get a
+    run."""
     pick = random.Random(f"{seed} {number}")
     found = pick.choice([walk, walk, drawn, drawn, drawn, soup])(pick)
     for _ in range(pick.choice([0, 0, 0, 1, 2])):
@@ -183,12 +192,13 @@ def wrong_run(text, queues, wanted, got):
 
 
 def tried(program, seed, number, commands):
-    """What differs for a text, as the words of a run, what it answered and what it should; and its kind of
-    answer."""
+    """What differs for a text, as the words of a run, what it answered and what it should; and its
+    kind of answer."""
     text, queues, show = text_of(seed, number)
     checked = check_answer(text, queues, ALL if show is None else show)
     told = []
-    for words, wanted in (([program, "read", "-"], read_answer(text)), (check_words(program, queues, show), checked)):
+    read, check = [program, "read", "-"], check_words(program, queues, show)
+    for words, wanted in ((read, read_answer(text)), (check, checked)):
         got = run(words, text) if words[1] in commands else wanted
         if got != wanted:
             told.append((words[1:], text, got, wanted))
@@ -206,14 +216,13 @@ def batch(task):
 
 
 def main():
-    words = argparse.ArgumentParser(description=__doc__, formatter_class=argparse.RawDescriptionHelpFormatter)
+    words = arguments(__doc__)
     words.add_argument("--texts", type=int, default=2000, metavar="N")
     words.add_argument("--seconds", type=float, default=float("inf"), metavar="S")
     words.add_argument("--seed", type=int, default=1, metavar="S")
     words.add_argument("--only", type=int, metavar="T")
     words.add_argument("--jobs", type=int, default=len(os.sched_getaffinity(0)), metavar="J")
     add_commands(words)
-    words.add_argument("program")
     options = words.parse_args()
     numbers = range(options.texts)
     if options.only is not None:

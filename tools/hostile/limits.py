@@ -3,19 +3,18 @@
 
     limits.py [--quick] [--commands C,..] PROGRAM
 
-Texts at the limit are read or checked, and texts one past it are refused with the limit's line; texts that are
-as large as a text may be, each made of one thing, are read (with --quick those of few tokens alone, since the
-naive reader takes its time for the others). Wanted answers are those of tools/naive/reading.py or stand here.
-The largest charts are answered the same with a stack of 128 KiB, for each thread too.
-Prints what differs, and last `N passed, M failed`.
+Texts at the limit are read or checked, and texts one past it are refused with the limit's line;
+texts that are as large as a text may be, each made of one thing, are read (with --quick those of
+few tokens alone, since the naive reader takes its time for the others). Wanted answers are those of
+tools/naive/reading.py or stand here. The largest charts are answered the same with a stack of 128
+KiB, for each thread too. Prints what differs, and last `N passed, M failed`.
 """
-import argparse
 import random
 import resource
 import sys
 
 from load import INSTANCES, MESSAGES, drawn
-from program import QUEUES, Answer, Count, add_commands, check_words, run
+from program import QUEUES, Answer, Count, add_commands, arguments, check_words, run
 from answer import read_answer
 
 LIMIT = 1048576
@@ -34,18 +33,23 @@ def filled(before, some, behind, length=LIMIT):
 
 
 SECTION, REST = HEAD + b"instance a;", b"endinstance;" + END
-# what texts of few tokens, and of as many as have room, are made of: a beginning, what is repeated, and an end
+# what texts of few tokens, and of as many as have room, are made of: a beginning, what is repeated,
+# and an end
 FEW = [
-    (b"", b" ", HEAD + END), (HEAD, b" ", END), (HEAD, b"/**/", END), (HEAD + b"/*", b"*", b"*/" + END),
+    (b"", b" ", HEAD + END), (HEAD, b" ", END),
+    (HEAD, b"/**/", END), (HEAD + b"/*", b"*", b"*/" + END),
     (b"msc t comment '", b"''", b"';" + END), (SECTION + b"action '", b"\xff", b"';" + REST),
-    (b"", b"/*", b""), (b"", b"'a", b""), (b"", b"'", b""), (b"", b"x", b""), (b"", b"/", b""), (b"", b" ", b""),
+    (b"", b"/*", b""), (b"", b"'a", b""), (b"", b"'", b""), (b"", b"x", b""), (b"", b"/", b""),
+    (b"", b" ", b""),
     (b"", b"\0", b""),
 ]
 MANY = [
     (HEAD + b"inst a", b",a", b";" + END), (HEAD, b"inst a : process p;", END),
     (HEAD, b"instance a;endinstance;", END), (SECTION, b"concurrent;endconcurrent;", REST),
-    (SECTION, b"action '';", REST), (SECTION, b"in m from a;", REST), (SECTION + b"out m(x", b",x", b") to a;" + REST),
-    (b"", b"(", b""), (b"", b"msc ", b""), (b"", b"x ", b""), (HEAD, b"inst ", b""), (SECTION, b"concurrent;", b""),
+    (SECTION, b"action '';", REST), (SECTION, b"in m from a;", REST),
+    (SECTION + b"out m(x", b",x", b") to a;" + REST),
+    (b"", b"(", b""), (b"", b"msc ", b""), (b"", b"x ", b""),
+    (HEAD, b"inst ", b""), (SECTION, b"concurrent;", b""),
     (SECTION + b"out m(x", b",", b""),
 ]
 
@@ -61,26 +65,28 @@ def long_texts(parts):
 def named(length, count=1):
     """A chart's name of this length, and as many instances of such names."""
     names = [str(number).encode().rjust(length, b"n") for number in range(count)]
-    return b"msc " + names[0] + b";" + b"".join(b"instance " + name + b";endinstance;" for name in names) + END
+    sections = (b"instance " + name + b";endinstance;" for name in names)
+    return b"msc " + names[0] + b";" + b"".join(sections) + END
 
 
 def of_instances(count):
-    return HEAD + b"".join(f"instance i{number};endinstance;".encode() for number in range(count)) + END
+    sections = (f"instance i{number};endinstance;".encode() for number in range(count))
+    return HEAD + b"".join(sections) + END
 
 
 def of_events(messages, actions=0, inputs=None):
     """A chart with so many messages from a to b, and actions of b."""
     out = "".join(f"out m{number} to b;" for number in range(messages))
-    taken = "".join(f"in m{number} from a;" for number in range(messages if inputs is None else inputs))
+    inputs = messages if inputs is None else inputs
+    taken = "".join(f"in m{number} from a;" for number in range(inputs))
     own = "action '';" * actions
     text = f"msc t;instance a;{out}endinstance;instance b;{taken}{own}endinstance;endmsc;"
     return text.encode()
 
 
-def verdict(queues, races=0, text=""):
-    """What is printed of a chart, in which so many races are shown as this text."""
-    head = f"chart t\nqueues {queues}\n"
-    return Answer((head + (f"races {races}\n{text}" if races else "pass\n")).encode(), b"", int(races > 0))
+def passes(queues):
+    """What is printed of a chart without races."""
+    return Answer(f"chart t\nqueues {queues}\npass\n".encode(), b"", 0)
 
 
 def fault(line):
@@ -89,8 +95,9 @@ def fault(line):
 
 def charts():
     """Texts, architectures, how many races get a run, and what is printed."""
-    passing = [of_instances(0), of_instances(32), of_events(1024), of_events(1024, 1024), of_events(0, 1024)]
-    yield from ((text, queues, None, verdict(queues)) for text in passing for queues in ("pair", "mailbox"))
+    for text in (of_instances(0), of_instances(32), of_events(1024), of_events(1024, 1024),
+                 of_events(0, 1024)):
+        yield from ((text, queues, None, passes(queues)) for queues in ("pair", "mailbox"))
     for text, line in [
         (of_instances(33), "chart fault 1: more than 32 instances"),
         (of_instances(30000), "chart fault 1: more than 32 instances"),
@@ -108,7 +115,7 @@ def charts():
 
 
 def numbers_of_races():
-    """The first line of a chart's races, at the limits: how many there are where no run is shown."""
+    """Charts at the limits, architectures, and how many races there are."""
     # 1,024 messages of one sender under `single`: each two of them race
     yield of_events(1024), "single", 1024 * 1023 // 2
     # an action of another instance is drawn before each of 1,024 inputs
@@ -121,7 +128,8 @@ def small_stack():
 
 
 def stacks(count, program, commands):
-    """Runs the largest charts with a small stack; of `run`, whose traces differ, only that it succeeds."""
+    """Runs the largest charts with a small stack; of `run`, whose traces differ, only that it
+    succeeds."""
     for text in (of_events(1024, 1024), drawn(random.Random(1), INSTANCES, MESSAGES)):
         ways = [[program, "read", "-"], *(check_words(program, queues, 3) for queues in QUEUES)]
         if "run" in commands:
@@ -130,12 +138,11 @@ def stacks(count, program, commands):
             full = run(words, text)
             small = run(words, text, preexec_fn=small_stack, env={})
             is_same = small[1:] == (b"", 0) if words[1] == "run" else small == full
-            count.add(is_same, *words[1:], f"with a stack of {STACK} bytes", small.error, small.status)
+            count.add(is_same, *words[1:], f"with a stack of {STACK} bytes", small[1:])
 
 
 def main():
-    words = argparse.ArgumentParser(description=__doc__, formatter_class=argparse.RawDescriptionHelpFormatter)
-    words.add_argument("program")
+    words = arguments(__doc__)
     words.add_argument("--quick", action="store_true")
     add_commands(words)
     options = words.parse_args()
@@ -145,18 +152,21 @@ def main():
     for length in (1, 63, 64, 65, 66, 1000):
         for instances in (1, 32):
             text = named(length, min(instances, 10 ** length))
-            count.compare(run([program, "read", "-"], text), read_answer(text), f"names of {length}")
+            answer = run([program, "read", "-"], text)
+            count.compare(answer, read_answer(text), f"names of {length}")
     empty = HEAD + b"instance a;" + b"concurrent;endconcurrent;" * 40000 + b"endinstance;" + END
     written = run([program, "read", "-"], empty)
-    count.add((len(empty), len(written.output), written.status) == (1000036, 1240040, 0), "empty coregions")
-    count.compare(run([program, "read", "-"], written.output), fault(TOO_LONG), "their canonical text")
+    lengths = len(empty), len(written.output), written.status
+    count.add(lengths == (1000036, 1240040, 0), "empty coregions", lengths)
+    answer = run([program, "read", "-"], written.output)
+    count.compare(answer, fault(TOO_LONG), "their canonical text")
     for text, queues, show, wanted in charts():
         count.compare(run(check_words(program, queues, show), text), wanted, queues, text[:100])
     for text, queues, races in numbers_of_races():
         answer = run(check_words(program, queues, 0), text)
         lines = answer.output.split(b"\n")
-        is_right = lines[2] == f"races {races}".encode() and len(lines) == races + 4 and answer.status == 1
-        count.add(is_right, queues, races, lines[:4])
+        is_told = lines[2] == f"races {races}".encode() and answer.status == 1
+        count.add(is_told and len(lines) == races + 4, queues, races, lines[:4])
     stacks(count, program, options.commands)
     return count.end()
 

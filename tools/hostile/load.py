@@ -3,22 +3,22 @@
 
     load.py [--beside N] [--times N] [--one-processor] PROGRAM
 
-N runs of `msc run` are started side by side (200 where it is not said), over charts of 2 to 32 instances and
-the architectures in turn; then charts of 32 instances with 1,024 messages are run N times one after the other
-(20 where it is not said). With --one-processor all of it has one processor. Every instance has to finish, the
-trace has to be a run in which every event occurs, and the status 0; standard error has to be empty. That is
-looked at by whole_runs.py; tools/naive/traces.py takes too long for charts of this size. Prints what
-differs, the longest times, and last `N passed, M failed`.
+N runs of `msc run` are started side by side (200 where it is not said), over charts of 2 to 32
+instances and the architectures in turn; then charts of 32 instances with 1,024 messages are run N
+times one after the other (20 where it is not said). With --one-processor all of it has one
+processor. Every instance has to finish, the trace has to be a run in which every event occurs, and
+the status 0; standard error has to be empty. That is looked at by whole_runs.py;
+tools/naive/traces.py takes too long for charts of this size. Prints what differs, the longest
+times, and last `N passed, M failed`.
 """
-import argparse
-import collections
 import os
 import random
 import subprocess
 import sys
 import time
+from subprocess import PIPE
 
-from program import MOST, QUEUES, Count, run
+from program import MOST, QUEUES, Answer, Count, arguments, run
 from whole_runs import Drawn, spoiled
 
 # the messages and instances of the largest charts
@@ -26,14 +26,16 @@ MESSAGES, INSTANCES = 1024, 32
 
 
 def drawn(pick, instances, messages):
-    """A chart drawn as a list of events in which each output comes before its input: so it has a run. A third
-    of the messages are taken at once, and those that wait are taken in any order; coregions stand in it."""
+    """A chart drawn as a list of events in which each output comes before its input: so it has a
+    run. A third of the messages are taken at once, and those that wait are taken in any order;
+    coregions stand in it."""
     lines, sent = [[] for _ in range(instances)], []
 
     def add(line, event):
-        if pick.random() < 0.05 and len(lines[line]) > 1:
-            event = f"concurrent;{lines[line].pop()}{event}endconcurrent;" if "conc" not in lines[line][-1] else event
-        lines[line].append(event)
+        above = lines[line]
+        if above and pick.random() < 0.05 and not above[-1].startswith("concurrent"):
+            event = f"concurrent;{above.pop()}{event}endconcurrent;"
+        above.append(event)
 
     number = 0
     while number < messages or sent:
@@ -61,7 +63,7 @@ def side_by_side(count, program, pick, runs):
     for number in range(runs):
         queues, text = QUEUES[number % 3], texts[number % len(texts)]
         words = [program, "run", "--queues", queues, "-"]
-        process = subprocess.Popen(words, stdin=subprocess.PIPE, stdout=subprocess.PIPE, stderr=subprocess.PIPE)
+        process = subprocess.Popen(words, stdin=PIPE, stdout=PIPE, stderr=PIPE)
         process.stdin.write(text)
         process.stdin.close()
         process.stdin = None
@@ -69,18 +71,16 @@ def side_by_side(count, program, pick, runs):
     for number, (process, chart, queues) in enumerate(begun):
         try:
             output, error = process.communicate(timeout=10 * MOST)
-            judge(count, chart, queues, Ended(output, error, process.returncode), f"run {number} of {runs}")
+            answer = Answer(output, error, process.returncode)
+            judge(count, chart, queues, answer, f"run {number} of {runs}")
         except subprocess.TimeoutExpired:
             process.kill()
             count.add(False, f"run {number} of {runs} has not ended")
 
 
-Ended = collections.namedtuple("Ended", "output error status")
-
-
 def one_by_one(count, program, pick, times):
-    """Runs charts at the limits; answers the longest time of each architecture. Of one of them is looked whether
-    what is no execution of it would be told."""
+    """Runs charts at the limits; answers the longest time of each architecture. Of one of them is
+    looked whether what is no execution of it would be told."""
     longest = dict.fromkeys(QUEUES, 0)
     for number in range(times):
         if number % 50 == 0:
@@ -97,12 +97,11 @@ def one_by_one(count, program, pick, times):
 
 
 def main():
-    words = argparse.ArgumentParser(description=__doc__, formatter_class=argparse.RawDescriptionHelpFormatter)
+    words = arguments(__doc__)
     words.add_argument("--beside", type=int, default=200, metavar="N")
     words.add_argument("--times", type=int, default=20, metavar="N")
     words.add_argument("--seed", type=int, default=1, metavar="S")
     words.add_argument("--one-processor", action="store_true")
-    words.add_argument("program")
     options = words.parse_args()
     if options.one_processor:
         os.sched_setaffinity(0, {min(os.sched_getaffinity(0))})

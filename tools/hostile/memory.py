@@ -1,24 +1,25 @@
 #!/usr/bin/env python3
-"""Refuses each allocation of each command on charts of charts/, by tools/refuse; or lets the system do so.
+"""Refuses each allocation of each command on charts of charts/, by tools/refuse; or lets the system
+do so.
 
     memory.py [--most N] [--every K] [--commands C,..] [--limit] PROGRAM [CHART ..]
 
-Every chart of charts/ and of charts/refused/ is read, and checked and run under each architecture, where these
-are not given; of the runs with more than N allocations (400 where it is not said) each K-th allocation alone is
-refused. What a refused run has to answer says tools/refuse/refuse.py. With --limit no call is refused, but each
-command has less and less address space for a chart at the limits, down to too little for the program to begin.
-Prints for each run how many allocations it makes or how many limits there are, what does not end well, and last
-`N passed, M failed`.
+Every chart of charts/ and of charts/refused/ is read, and checked and run under each architecture,
+where these are not given; of the runs with more than N allocations (400 where it is not said) each
+K-th allocation alone is refused. What a refused run has to answer says tools/refuse/refuse.py. With
+--limit no call is refused, but each command has less and less address space for a chart at the
+limits, down to too little for the program to begin. Prints for each run how many allocations it
+makes or how many limits there are, what does not end well, and last `N passed, M failed`.
 """
-import argparse
 import pathlib
 import random
 import resource
+import signal
 import sys
 import tempfile
 
 from load import INSTANCES, MESSAGES, drawn
-from program import QUEUES, TOP, Count, add_commands, run
+from program import QUEUES, TOP, Count, add_commands, arguments, run
 from refuse import Program, Shim, is_well, refuse_each
 
 # the steps of address space, in bytes
@@ -35,8 +36,13 @@ def commands(wanted):
 
 
 def in_space(most):
-    """What is done in a process before it becomes the program: it may have so much address space."""
+    """What is done in a process before it becomes the program: it may have so much space."""
     return lambda: resource.setrlimit(resource.RLIMIT_AS, (most, most))
+
+
+def is_unborn(ended):
+    """Whether the loader had no room for the program and its libraries."""
+    return ended.status == 127 or ended.status == -signal.SIGSEGV and not ended.error
 
 
 def limit_each(program, wanted):
@@ -48,10 +54,11 @@ def limit_each(program, wanted):
         full = run([program, *words], text)
         full = full.status, full.output, full.error
         limits = refused = 0
-        for space in range(STEP, 2 ** 30 if has_threads else 2 ** 24, 16 * STEP if has_threads else STEP):
+        # each thread has a stack of its own
+        step = 16 * STEP if has_threads else STEP
+        for space in range(step, 64 * step, step):
             ended = run([program, *words], text, preexec_fn=in_space(space))
-            if ended.status == 127 or ended.status is not None and ended.status < 0 and not ended.error:
-                # the loader had no room for the program and its libraries
+            if is_unborn(ended):
                 continue
             limits, refused = limits + 1, refused + (ended.status == 4)
             ended = ended.status, ended.output, ended.error
@@ -77,12 +84,11 @@ def refuse_all(options):
 
 
 def main():
-    words = argparse.ArgumentParser(description=__doc__, formatter_class=argparse.RawDescriptionHelpFormatter)
+    words = arguments(__doc__)
     words.add_argument("--most", type=int, default=400, metavar="N")
     words.add_argument("--every", type=int, default=97, metavar="K")
     words.add_argument("--limit", action="store_true")
     add_commands(words)
-    words.add_argument("program")
     words.add_argument("charts", nargs="*", metavar="CHART")
     options = words.parse_args()
     return limit_each(options.program, options.commands) if options.limit else refuse_all(options)

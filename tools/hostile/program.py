@@ -1,4 +1,5 @@
 """Runs of the program, for the commands beside this file."""
+import argparse
 import pathlib
 import subprocess
 import sys
@@ -15,8 +16,8 @@ QUEUES = ("pair", "mailbox", "single")
 
 
 class Answer(NamedTuple):
-    """What a run wrote to standard output and to standard error, and its exit status: below 0 where a signal
-    ended it, and None where it did not end in time."""
+    """What a run wrote to standard output and to standard error, and its exit status: below 0 where
+    a signal ended it, and None where it did not end in time."""
     output: bytes
     error: bytes
     status: int
@@ -31,14 +32,23 @@ def run(words, stdin=b"", **options):
     return Answer(done.stdout, done.stderr, done.returncode)
 
 
+def arguments(about):
+    """The words of a command, of which the program is one."""
+    words = argparse.ArgumentParser(description=about,
+                                    formatter_class=argparse.RawDescriptionHelpFormatter)
+    words.add_argument("program", metavar="PROGRAM")
+    return words
+
+
 def add_commands(words):
     """Puts the option for the commands that are tried."""
-    words.add_argument("--commands", default="read,check,run", type=lambda text: text.split(","), metavar="C,..",
-                       help="those of read, check and run that are tried")
+    words.add_argument("--commands", default=["read", "check", "run"], metavar="C,..",
+                       type=lambda text: text.split(","))
 
 
 def check_words(program, queues, show=None):
-    return [program, "check", "--queues", queues, *([] if show is None else ["--show", str(show)]), "-"]
+    shown = [] if show is None else ["--show", str(show)]
+    return [program, "check", "--queues", queues, *shown, "-"]
 
 
 class Count:
@@ -61,7 +71,8 @@ class Count:
         self.add(got == wanted, *told, f"\n  wanted {brief(wanted)}\n  got    {brief(got)}")
 
     def end(self):
-        """Prints the sum; answers the exit status of a command: 1 where one failed, or none was tried."""
+        """Prints the sum; answers the exit status of a command: 1 where one failed, or none was
+        tried."""
         print(f"{self.passed} passed, {self.failed} failed")
         return int(self.failed > 0 or self.passed == 0)
 

@@ -1,23 +1,23 @@
 #!/usr/bin/env python3
-"""Cuts texts at every byte, leaves every byte out, and puts each of 40 telling bytes in the place of every
-byte; compares what the program answers with what tools/naive/answer.py does.
+"""Cuts texts at every byte, leaves every byte out, and puts each of 40 telling bytes in the place
+of every byte; compares what the program answers with what tools/naive/answer.py does.
 
     texts.py [--every K] PROGRAM [CHART ..]
 
-The charts are charts/kinds_and_comments.msc and charts/texts_of_actions.msc where none is given. Each text, or
-each K-th, is given to `msc read`, and where it has a draft also to `msc check` under each architecture. Prints
-what differs, for each chart how many texts had a draft, and last `N passed, M failed`.
+The charts are charts/kinds_and_comments.msc and charts/texts_of_actions.msc where none is given.
+Each text, or each K-th, is given to `msc read`, and where it has a draft also to `msc check` under
+each architecture. Prints what differs, for each chart how many texts had a draft, and last `N
+passed, M failed`.
 """
-import argparse
 import pathlib
 import sys
 
-from program import QUEUES, TOP, Count, check_words, run
+from program import QUEUES, TOP, Count, arguments, check_words, run
 from answer import check_answer, read_answer
 
 CHARTS = [TOP / "charts/kinds_and_comments.msc", TOP / "charts/texts_of_actions.msc"]
-# marks and white space, the first and last bytes of what names are made of with their neighbours, letters that
-# make other words of reserved ones, and bytes that begin no token
+# marks and white space, the first and last bytes of what names are made of with their neighbours,
+# letters that make other words of reserved ones, and bytes that begin no token
 TELLING = b";,:()'/* \t\r\n09AZaz_^@[`{emotEM\0\x0b\x1f.\"\\-\x7f\xc3\xff"
 
 
@@ -40,9 +40,8 @@ def replaced(text):
 
 def main():
     assert len(set(TELLING)) == 40
-    words = argparse.ArgumentParser(description=__doc__, formatter_class=argparse.RawDescriptionHelpFormatter)
+    words = arguments(__doc__)
     words.add_argument("--every", type=int, default=1, metavar="K")
-    words.add_argument("program")
     words.add_argument("charts", nargs="*", default=CHARTS, metavar="CHART")
     options = words.parse_args()
     program, count = options.program, Count()
@@ -54,7 +53,8 @@ def main():
             count.compare(run([program, "read", "-"], made), wanted, made)
             tried, drafts = tried + 1, drafts + (wanted[2] == 0)
             for queues in QUEUES if wanted[2] == 0 else ():
-                count.compare(run(check_words(program, queues), made), check_answer(made, queues), queues, made)
+                answer = run(check_words(program, queues), made)
+                count.compare(answer, check_answer(made, queues), queues, made)
         print(f"{pathlib.Path(chart).name}: {tried} texts, {drafts} of them have a draft")
     return count.end()
 

@@ -1,5 +1,5 @@
-"""Whether what `msc run` printed is a whole run of a chart, in time that grows with the chart alone: for large
-charts and many runs. tools/naive/traces.py says more of small ones."""
+"""Whether what `msc run` printed is a whole run of a chart, in time that grows with the chart
+alone: for large charts and many runs. tools/naive/traces.py says more of small ones."""
 import collections
 
 from reading import Draft, key
@@ -7,7 +7,8 @@ from verdict import action_text
 
 
 def shown(event):
-    """What is printed of an event: a message without its parameters, an action with its text as it is shown."""
+    """What is printed of an event: a message without its parameters, an action with its text as it
+    is shown."""
     if event.way == "action":
         return action_text("'" + event.name.decode("latin-1") + "'")
     return event._replace(parameters=[]).text().decode()
@@ -18,8 +19,10 @@ class Drawn:
 
     def __init__(self, text):
         draft = Draft(text)
-        self.name, self.names, self.events = draft.name.decode(), draft.instances(), list(draft.events())
-        self.keys = [event.way != "action" and key(line, event, self.names) for line, _, event in self.events]
+        self.name, self.names = draft.name.decode(), draft.instances()
+        self.events = list(draft.events())
+        self.keys = [event.way != "action" and key(line, event, self.names)
+                     for line, _, event in self.events]
         self.lines = [f"{e} {self.names[line].decode()} {shown(event)}"
                       for e, (line, _, event) in enumerate(self.events)]
         self.known = set(self.lines)
@@ -42,8 +45,8 @@ class Drawn:
         return next((f"event {e} may not come there" for e in self.misplaced(queues, trace)), None)
 
     def misplaced(self, queues, trace):
-        """The events of a list that may not come where they do, in a run: outputs and actions before what is
-        drawn before them, inputs whose message is not the first of its queue."""
+        """The events of a list that may not come where they do, in a run: outputs and actions
+        before what is drawn before them, inputs whose message is not the first of its queue."""
         left, waiting = collections.Counter((line, item) for line, item, _ in self.events), {}
         above = collections.defaultdict(list)
         for line, item in left:
@@ -62,10 +65,12 @@ class Drawn:
 
 
 def spoiled(printed):
-    """Texts that are no execution in which all finish, made of one that is and whose last event is an input: its
-    last event is left out, comes first, and twice; an instance ends otherwise; a line has another number."""
+    """Texts that are no execution in which all finish, made of one that is and whose last event is
+    an input: its last event is left out, comes first, and twice; an instance ends otherwise; a line
+    has another number."""
     *lines, last, _ = printed.split("\n")
     first = next(n for n, line in enumerate(lines) if line.startswith("trace ")) + 1
-    for wrong in ([*lines], [*lines[:first], last, *lines[first:]], [*lines[:-1], last, last],
-                  [line.replace("finished", "starved") for line in [*lines, last]], [*lines, f"1{last}"]):
+    starved = [line.replace("finished", "starved") for line in [*lines, last]]
+    early = [*lines[:first], last, *lines[first:]]
+    for wrong in (lines, early, [*lines[:-1], last, last], starved, [*lines, f"1{last}"]):
         yield "".join(line + "\n" for line in wrong)

@@ -1,5 +1,6 @@
-"""What `msc read -` and `msc check --queues QUEUES --show SHOW -` answer to a text: what goes to standard
-output and to standard error, and the exit status. All of it by reading.py and verdict.py."""
+"""What `msc read -` and `msc check --queues QUEUES --show SHOW -` answer to a text: what goes to
+standard output and to standard error, and the exit status. All of it by reading.py and verdict.py.
+"""
 from reading import Draft, Refused
 from verdict import Chart
 

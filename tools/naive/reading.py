@@ -1,12 +1,13 @@
 #!/usr/bin/env python3
-"""Reads a text as docs/LANGUAGE.md says, and prints what `msc read` prints: its canonical text, or on standard
-error the line of its first fault.
+"""Reads a text as docs/LANGUAGE.md says, and prints what `msc read` prints: its canonical text, or
+on standard error the line of its first fault.
 
     reading.py [--chart] < TEXT
 
-With --chart faults of charts are named too, as `msc check` does. Words, the places of the grammar and faults
-are tables as there, written for a reader and not for speed. It shares nothing with the crates, so that what a
-text is answered can be taken from it. The exit status is 0, or 2 where the text is refused.
+With --chart faults of charts are named too, as `msc check` does. Words, the places of the grammar
+and faults are tables as there, written for a reader and not for speed. It shares nothing with the
+crates, so that what a text is answered can be taken from it. The exit status is 0, or 2 where the
+text is refused.
 """
 import re
 import sys
@@ -14,7 +15,8 @@ from typing import NamedTuple
 
 # bytes of a text, bytes of a name, instances, messages, actions
 MOST, LONGEST, INSTANCES, MESSAGES, ACTIONS = 1048576, 64, 32, 1024, 1024
-SUPPORTED = "msc endmsc inst instance endinstance in from out to action concurrent endconcurrent comment".split()
+SUPPORTED = ("msc endmsc inst instance endinstance in from out to action"
+             " concurrent endconcurrent comment").split()
 UNSUPPORTED = "env condition set reset timeout create stop".split()
 # the sorts of pieces that a text is made of
 PIECE = re.compile(rb"""(?P<space>[ \t\r\n]+) | (?P<note>/\*.*?\*/) | (?P<text>'(?:[^']|'')*'(?!'))
@@ -68,12 +70,13 @@ def tokens(text):
 
 
 def places():
-    """What is expected at each place, and for each token that may follow there the place behind it."""
+    """What is expected at each place, and for each token that may follow there the next place."""
     table = {}
 
     def end(place, then, **more):
         """A place where a statement ends, or one of these tokens follows."""
-        table[place] = "the end of the statement", {";": then, "comment": f"{place} comment", **more}
+        follow = {";": then, "comment": f"{place} comment", **more}
+        table[place] = "the end of the statement", follow
         table[f"{place} comment"] = "a text", {"text": f"{place} comment text"}
         table[f"{place} comment text"] = "the end of the statement", {";": then}
 
@@ -261,13 +264,14 @@ class Draft:
                 yield from ((line, place, it) for it in item)
 
     def fault(self):
-        """Why the draft is no chart, or None: the fault that stands first in docs/LANGUAGE.md, at its least
-        place."""
+        """Why the draft is no chart, or None: the fault that stands first in docs/LANGUAGE.md, at
+        its least place."""
         return next((f"chart fault {line}" for line in chart_faults(self)), None)
 
 
 def key(line, event, names):
-    """What tells a message from others: its sender, its receiver, its name and its message instance name."""
+    """What tells a message from others: its sender, its receiver, its name and its message instance
+    name."""
     own, other = names[line], event.address
     return (own, other, *event[1:3]) if event.way == "out" else (other, own, *event[1:3])
 
@@ -310,8 +314,8 @@ def end_faults(ends):
 
 
 def followers(e, events, names):
-    """The events that a rule of the visual order puts right after e: those drawn after it on its line, and the
-    input of its message."""
+    """The events that a rule of the visual order puts right after e: those drawn after it on its
+    line, and the input of its message."""
     line, place, it = events[e]
     for f, (other, later, end) in enumerate(events):
         if line == other and place < later:
