@@ -5,6 +5,7 @@ import pathlib
 import re
 import shutil
 import subprocess
+import time
 
 HERE = pathlib.Path(__file__).resolve().parent
 
@@ -23,14 +24,21 @@ def answer(words, file):
     return done.returncode, done.stdout, done.stderr
 
 
-def processor_time(words, file):
-    """The user and system time of one run, in seconds."""
+def times(words, file):
+    """The wall time and the processor time (user and system) of one run, in seconds."""
     with open(file, "rb") as text, open(os.devnull, "wb") as nowhere:
         streams = [(os.POSIX_SPAWN_DUP2, text.fileno(), 0)]
         streams += [(os.POSIX_SPAWN_DUP2, nowhere.fileno(), stream) for stream in (1, 2)]
+        start = time.perf_counter()
         child = os.posix_spawn(words[0], words, os.environ, file_actions=streams)
         used = os.wait4(child, 0)[2]
-    return used.ru_utime + used.ru_stime
+        wall = time.perf_counter() - start
+    return wall, used.ru_utime + used.ru_stime
+
+
+def processor_time(words, file):
+    """The user and system time of one run, in seconds."""
+    return times(words, file)[1]
 
 
 def reported(tool, words, file, pattern):

@@ -6,9 +6,12 @@
 #
 # PROGRAM is ./msc where it is left out. Beside charts/NAME.msc stand NAME.read.txt, the output of
 # `msc read`, and NAME.pair.txt, NAME.mailbox.txt and NAME.single.txt, those of `msc check`, whose status is
-# 1 where there are races. Beside charts/refused/NAME.msc stands NAME.txt: what is written to standard
-# error, and then the status. `msc check` refuses each of them. `msc read` meets no fault of charts; charts
-# with such a fault are canonical texts, so it prints them as they are.
+# 1 where there are races. NAME.run.QUEUES.txt is the output of `msc run`, where no schedule of the threads
+# gives another one, and NAME.impatient.QUEUES.txt that with a patience of 0, with which nobody takes
+# anything; the status is 3 where some instance did not finish. Beside charts/refused/NAME.msc stands
+# NAME.txt: what is written to standard error, and then the status. `msc check` and `msc run` refuse each of
+# them. `msc read` meets no fault of charts; charts with such a fault are canonical texts, so it prints them
+# as they are.
 set -u
 cd "$(dirname "$(readlink -f "${BASH_SOURCE[0]}")")/.." || exit 1
 program=${1-./msc}
@@ -40,12 +43,27 @@ for chart in charts/*.msc; do
   done
 done
 
+# Compares each stored output of `msc run`, NAME.$1.QUEUES.txt; $2 .. are more of its words.
+compare_runs() {
+  local file rest status
+  for file in charts/*."$1".*.txt; do
+    rest=${file%.txt}
+    status=0
+    if grep '^instance ' "$file" | grep -qv ' finished$'; then status=3; fi
+    compare "$file" /dev/null "$status" run --queues "${rest##*.}" "${@:2}" "${rest%."$1".*}.msc"
+  done
+}
+
+compare_runs run
+compare_runs impatient --patience 0
+
 for chart in charts/refused/*.msc; do
   name=${chart%.msc}
   sed '/^status /d' "$name.txt" >"$room/fault"
   status=$(sed -n 's/^status //p' "$name.txt")
   for queues in pair mailbox single; do
     compare /dev/null "$room/fault" "$status" check --queues "$queues" "$chart"
+    compare /dev/null "$room/fault" "$status" run --queues "$queues" "$chart"
   done
   if grep -q '^chart fault ' "$room/fault"; then
     compare "$chart" /dev/null 0 read "$chart"

@@ -1,6 +1,7 @@
 #!/usr/bin/env python3
 """Looks whether what docs/PROMISES.md names is there: source files, definitions and lemmas in the files
-that it names for them, edits, and tests. Prints what is not, with its line; the exit status is 1 then.
+that it names for them, laws, edits, and tests. Prints what is not, with its line; the exit status is 1
+then.
 """
 import pathlib
 import re
@@ -24,6 +25,8 @@ def missing_words(crate, cell):
     """The names of a cell that do not stand in the file behind them."""
     waiting = []
     for name, other, place in NAMED.findall(cell):
+        if "laws::" in name:
+            continue
         if re.fullmatch(r"(specs|proofs)/[\w/]+", name):
             if not (CRATES / crate / f"{name}.antt").is_file():
                 yield name
@@ -50,6 +53,14 @@ def missing_tests(cell, crates):
             yield f"{module}::{name}"
 
 
+def missing_laws(crate, line):
+    """The laws of a line that are not there: `laws::NAME` of this crate, or that of another."""
+    for other, name in re.findall(r"`(?:(\w+)::)?laws::(\w+)`", line):
+        file = CRATES / (other or crate or "") / "src/laws.rt"
+        if not file.is_file() or f"pub fn {name}(" not in file.read_text():
+            yield f"law {name}"
+
+
 def missing(text):
     """Each line's number and what it names that is not there."""
     crate = None
@@ -58,7 +69,7 @@ def missing(text):
             named = re.search(r"\(`(\w+)`\)", line)
             crate = named and named[1]
         cells = line.strip("| ").split(" | ")
-        found = []
+        found = list(missing_laws(crate, line))
         if crate and line.startswith("| ") and len(cells) == 5:
             for cell in cells[2:4]:
                 found += missing_words(crate, cell)
@@ -68,6 +79,9 @@ def missing(text):
             found += [it for it in sources if not (CRATES / crate / it).is_file()]
         elif line.startswith("| ") and len(cells) == 3:
             found += missing_tests(cells[1], cells[2])
+        elif line.startswith("| ") and len(cells) == 4:
+            # a definition of another crate than the table's has its crate beside its file
+            found += missing_words("", cells[3])
         yield from ((number, it) for it in found)
 
 

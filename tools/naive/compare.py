@@ -11,7 +11,7 @@ chart is given on standard input. For instance
 
 Each chart is drawn as a list of events in which an output comes before its input, with up to 8 lines, up
 to M messages, actions, and coregions; each is compared under each architecture. With --plain there are
-no actions, and `single` is left out: the plain programs of bench/ know neither. Prints how many outputs
+no actions, which the plain programs of bench/ do not know. Prints how many outputs
 were compared and how many races they had. The exit status is 1 at the first difference, whose chart is
 printed.
 """
@@ -79,7 +79,7 @@ def main():
     compared = races = 0
     for _ in range(options.charts):
         text = chart(pick, options.messages, not options.plain)
-        for queues in ("pair", "mailbox", "single")[:2 if options.plain else 3]:
+        for queues in ("pair", "mailbox", "single"):
             show = pick.choice([0, 1, 3, 2 ** 32 - 1])
             drawn = Chart(text, queues)
             wanted = "".join(line + "\n" for line in drawn.verdict(show))

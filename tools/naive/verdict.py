@@ -9,6 +9,7 @@ taken from it. The text has to be a chart: it names no fault. It is read as byte
 character here. The exit status is 0 for `pass`, 1 for races.
 """
 import argparse
+import functools
 import re
 import sys
 
@@ -80,7 +81,6 @@ class Chart:
         self.all = range(len(self.events))
         self.partner = [self.partner_of(e) for e in self.all]
         self.drawn_before = [self.set_of(d for d in self.all if self.before(d, e)) for e in self.all]
-        self.enforced = self.enforced_order()
 
     @staticmethod
     def set_of(numbers):
@@ -111,7 +111,8 @@ class Chart:
         queues = {"pair": (event.sender, event.receiver), "mailbox": event.receiver, "single": event.key}
         return queues[self.queues]
 
-    def enforced_order(self):
+    @functools.cached_property
+    def enforced(self):
         """For each event the set of those that are enforced after it: the least relation of four rules,
         made by adding what a rule asks for until none asks for more."""
         after = [0 for _ in self.all]

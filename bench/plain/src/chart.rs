@@ -17,6 +17,28 @@ pub enum Queues {
     Pair,
     /// Those to one receiver.
     Mailbox,
+    /// None: each has one of its own.
+    Single,
+}
+
+impl Queues {
+    /// The architecture of this word.
+    pub fn of(word: &str) -> Option<Queues> {
+        match word {
+            "pair" => Some(Queues::Pair),
+            "mailbox" => Some(Queues::Mailbox),
+            "single" => Some(Queues::Single),
+            _ => None,
+        }
+    }
+
+    pub fn word(self) -> &'static str {
+        match self {
+            Queues::Pair => "pair",
+            Queues::Mailbox => "mailbox",
+            Queues::Single => "single",
+        }
+    }
 }
 
 pub struct Event {
@@ -191,6 +213,7 @@ impl Chart {
         match queues {
             Queues::Pair => self.instances * self.instances,
             Queues::Mailbox => self.instances,
+            Queues::Single => self.events.len() / 2,
         }
     }
 
@@ -201,6 +224,7 @@ impl Chart {
         match queues {
             Queues::Pair => event.line * self.instances + receiver,
             Queues::Mailbox => receiver,
+            Queues::Single => event.message,
         }
     }
 }

@@ -3,7 +3,8 @@
 
 pub mod chart;
 pub mod draft;
+pub mod gather;
 pub mod order;
 pub mod rows;
 pub mod run;
-mod writing;
+pub mod writing;

@@ -1,7 +1,8 @@
-//! From a draft to its canonical text.
+//! From a draft to its canonical text, and the texts of events.
 
 use crate::draft::{Decl, Draft, Item, Name, Section, Signal, Way};
 use std::io::{self, Write};
+use std::slice;
 
 /// Writes the names with `, ` between them.
 fn write_list(out: &mut impl Write, names: &[Name]) -> io::Result<()> {
@@ -100,4 +101,35 @@ impl Draft {
         }
         out.write_all(b"endmsc;\n")
     }
+}
+
+/// The outputs and inputs of a draft in the order of the text, each with the name of its instance.
+pub fn signals(draft: &Draft) -> Vec<(&[u8], &Signal)> {
+    let mut signals = Vec::new();
+    for section in &draft.sections {
+        for item in &section.items {
+            let group = match item {
+                Item::Single(signal) => slice::from_ref(signal),
+                Item::Coregion(signals) => signals,
+            };
+            signals.extend(group.iter().map(|signal| (&*section.decl.name, signal)));
+        }
+    }
+    signals
+}
+
+/// Writes an event as verdicts and traces have it, without parameters.
+pub fn write_event(out: &mut impl Write, signal: &Signal) -> io::Result<()> {
+    let (way, link): (&[u8], &[u8]) = match signal.way {
+        Way::Output => (b"out ", b" to "),
+        Way::Input => (b"in ", b" from "),
+    };
+    out.write_all(way)?;
+    out.write_all(&signal.name)?;
+    if let Some(number) = &signal.number {
+        out.write_all(b", ")?;
+        out.write_all(number)?;
+    }
+    out.write_all(link)?;
+    out.write_all(&signal.address)
 }

@@ -1,12 +1,8 @@
-//! Does what is to be measured (`bench/charts`, `checks`, `executions`, `orders`, `queues`).
+//! Does what is to be measured (`bench/charts`, `checks`, `orders`, `queues`).
 //!
 //! Words: a phase of what is made of the chart on standard input, and a count. What stands before
 //! the phase is done once, the phase as often as the count says, and at least once. A number that
 //! every part of the phase's answer goes into is printed.
-//!
-//! With `run-pair`, `run-mailbox` or `run-single` in place of a phase the chart is run so often, a
-//! thread for each instance: how many instances finished is printed, and the nanoseconds of the
-//! fastest execution to standard error.
 //!
 //! Or the word `queues`, a number of senders from 1 to 32, and a number of queues: how many
 //! messages went through them is printed, and how many nanoseconds they took to standard error.
@@ -14,21 +10,19 @@
 
 mod digest;
 mod phase;
-mod running;
 mod sending;
 
 use crate::digest::{built, listed, ordered, parsed};
 use crate::phase::{Phase, phase_of};
-use crate::running::{run_of, run_often};
 use crate::sending::measured;
 use anyhow::{Context, Result};
 use msc_chart::{Chart, Queues};
 use msc_order::Order;
 use msc_parser::parse;
 use msc_race::races;
-use msc_tool::read_all;
 use std::alloc::Global;
 use std::env;
+use std::io::Read;
 
 /// Parses a text.
 fn parse_often(alloc: Global, text: &[u8], count: u32) -> Result<u64> {
@@ -101,14 +95,8 @@ fn main(rt: HostRuntime) -> Result<()> {
         eprintln!(rt; "{time} nanoseconds")?;
         return Ok(());
     }
-    let text = read_all(alloc, &mut rt.stdin())?;
-    if let Some(queues) = run_of(&word) {
-        let chart = chart_of(alloc, &text)?;
-        let (finished, time) = run_often(&rt, alloc, &chart, queues, first)?;
-        println!(rt; "{finished} finished")?;
-        eprintln!(rt; "{time} nanoseconds")?;
-        return Ok(());
-    }
+    let mut text = Vec::new(alloc);
+    rt.stdin().read_to_end(&mut text)?;
     let phase = phase_of(&word).context("no such phase")?;
     println!(rt; "{}", go_through(alloc, &text, phase, first)?)?;
     Ok(())

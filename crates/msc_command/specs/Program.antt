@@ -4,17 +4,19 @@ use Rattle.msc_chart.specs.declared.queue.Queues.{Queues}
 use Rattle.msc_report.specs.declared.fault.Fault.{Fault}
 use Rattle.msc_report.specs.declared.fault.Fault.TheVariants.{Parse, Chart, NotStarted, Memory, Device}
 use Rattle.msc_command.specs.declared.program.Status.{Status}
-use Rattle.msc_command.specs.declared.program.Status.TheVariants.{Done, Races, Refused, Failed}
+use Rattle.msc_command.specs.declared.program.Status.TheVariants.{Done, Races, Refused, Unfinished, Failed}
 use Rattle.msc_command.specs.declared.program.Task.{Task}
-use Rattle.msc_command.specs.declared.program.Task.TheVariants.{Read, Check}
+use Rattle.msc_command.specs.declared.program.Task.TheVariants.{Read, Check, Run}
 use Rattle.msc_tool.specs.Answers.{WritesDraft}
 use Rattle.msc_tool.specs.Checking.{WritesVerdict}
+use Rattle.msc_tool.specs.Running.{WritesTrace}
 
 -- the exit status for how a run ended
 abbrev pub status_code : Status → ℕ
 status_code Done = 0
 status_code Races = 1
 status_code Refused = 2
+status_code Unfinished = 3
 status_code Failed = 4
 
 -- how a run ends that meets a fault
@@ -25,14 +27,31 @@ status_of (NotStarted i) = Failed
 status_of Memory = Failed
 status_of Device = Failed
 
--- the whole answer of a task to a text went behind the known bytes of a writer, the answer that is told
+-- the whole answer of a task to a text went behind the known bytes of a writer, the answer that is
+-- told; no instance is stopped by its gate
 abbrev pub WritesAnswer : Task → List ℕ → Status → Option (List ℕ) → Option (List ℕ) → Type 0
 WritesAnswer Read text Done before after = WritesDraft text before after
 WritesAnswer (Check queues show) text Done before after = WritesVerdict text queues show true before after
 WritesAnswer (Check queues show) text Races before after = WritesVerdict text queues show false before after
+WritesAnswer (Run queues patience) text Done before after =
+    WritesTrace text queues true patience true before after
+WritesAnswer (Run queues patience) text Unfinished before after =
+    WritesTrace text queues true patience false before after
 WritesAnswer task text status before after = ⊥
 
 -- a whole verdict with races went behind the known bytes of a writer
 abbrev pub PrintsRaces : Option (List ℕ) → Option (List ℕ) → Type 0
 PrintsRaces before after =
     (text : List ℕ) × (queues : Queues) × (show : ℕ) × WritesVerdict text queues show false before after
+
+-- a whole answer went behind the known bytes of a writer, of an execution that is not finished
+abbrev pub PrintsUnfinished : Option (List ℕ) → Option (List ℕ) → Type 0
+PrintsUnfinished before after =
+    (text : List ℕ) × (queues : Queues) × (patience : ℕ)
+    × WritesTrace text queues true patience false before after
+
+-- what the status tells of the answer that went out
+abbrev pub Prints : Status → Option (List ℕ) → Option (List ℕ) → Type 0
+Prints Races before after = PrintsRaces before after
+Prints Unfinished before after = PrintsUnfinished before after
+Prints status before after = Unit {0}

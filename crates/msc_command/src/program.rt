@@ -1,30 +1,35 @@
 //! The command line.
 
-ghost use Rattle.std.specs.Prelude.{◌≡◌, ◌≢◌, ◌⊎◌, codes, IfOk, List, ℕ};
+ghost use Rattle.std.specs.Prelude.{◌≡◌, ◌≢◌, ◌⊎◌, codes, IfOk, List, Option, ℕ};
 ghost use Rattle.std.specs.IoError.{error_kind};
 ghost use Rattle.std.specs.declared.io.ErrorKind.TheVariants.{OutOfMemory};
-ghost use Rattle.msc_command.specs.Program.{status_code, status_of, PrintsRaces, WritesAnswer};
+ghost use Rattle.msc_command.specs.Program.{status_code, status_of, Prints, PrintsRaces, PrintsUnfinished, WritesAnswer};
 ghost use Rattle.msc_tool.specs.Reading.{IsReadFrom};
 
 use clap::{Arg, ArgMatches, Command, Error, value_parser};
 use msc_chart::Queues;
+use msc_instance::AlwaysOpen;
 use msc_report::{Fault, write_fault};
-use msc_tool::{check_input, read_input};
+use msc_tool::{check_input, read_input, run_input};
 use std::alloc::{AllocError, Global};
 use std::io::{ErrorKind, Read, Write};
 use std::rt::Files;
+use std::sync::Wait;
+use std::thread::Threads;
 use std::{fs, io};
 
 /// How a run of the program ended.
 #[derive(Clone, Copy, Debug, PartialEq, Eq)]
 enum Status {
-    /// The answer was written, and names no race.
+    /// The answer was written: it names no race, and each instance that was run has finished.
     Done,
     /// The answer was written: the chart has races.
     Races,
     /// The text was refused, or the words are no command.
     Refused,
-    /// Memory or a device failed.
+    /// The answer was written: some instance has not finished.
+    Unfinished,
+    /// Memory, a device or the start of a thread failed.
     Failed,
 }
 
@@ -37,6 +42,7 @@ impl Status {
             Status::Done => 0,
             Status::Races => 1,
             Status::Refused => 2,
+            Status::Unfinished => 3,
             Status::Failed => 4,
         }
     }
@@ -49,6 +55,8 @@ enum Task {
     Read,
     /// The verdict under an architecture, and how many races are shown with a run.
     Check(Queues, u32),
+    /// An execution under an architecture, and how many rounds in a row an instance looks in vain.
+    Run(Queues, u32),
 }
 
 /// The words for the architectures.
@@ -75,6 +83,9 @@ fn joined(alloc: Global, words: &[&str]) -> Result<String, AllocError> {
 /// What `msc --version` prints behind the program's name.
 const VERSION: &str = "0.1.0";
 
+/// How many rounds in a row an instance looks for messages in vain, where the words do not say.
+const PATIENCE: u32 = 1_000_000_000;
+
 /// What stands below the help of `msc read`.
 const READ_NOTES: &str = "\
 Exit status:
@@ -96,11 +107,41 @@ Exit status:
 Example:
   msc check --queues pair --show 1 relay.msc";
 
+/// What stands below the help of `msc run`.
+const RUN_NOTES: &str = "\
+Exit status:
+  0  all instances have finished
+  2  the text was refused, or the words are no command
+  3  some instance has not finished; how each ended was written, and the trace
+  4  memory ran out, a thread could not be started, or a file or the output failed
+
+Example:
+  msc run --queues mailbox relay.msc";
+
 /// The chart that a command reads.
 fn file<'a>(alloc: Global) -> Arg<'a> {
     Arg::new(alloc, "FILE")
         .help("The chart's text; - is standard input")
         .required(true)
+}
+
+/// The architecture, one of `words`, shown as `shown`.
+fn queues<'a>(alloc: Global, words: &'a [&'a str], shown: &'a str) -> Arg<'a> {
+    Arg::new(alloc, "queues")
+        .long("queues")
+        .value_name(shown)
+        .help("A queue for each sender and receiver, for each receiver, or for each message")
+        .value_parser(words)
+        .required(true)
+}
+
+/// A number of 32 bits, with what it is for.
+fn number<'a>(alloc: Global, name: &'static str, help: &'static str) -> Arg<'a> {
+    Arg::new(alloc, name)
+        .long(name)
+        .value_name("N")
+        .help(help)
+        .value_parser(value_parser!(u32))
 }
 
 /// The words that the program takes. The architectures are those of `words`, shown as `shown`.
@@ -113,30 +154,28 @@ fn grammar<'a>(
         .about("Print the chart's canonical text")
         .after_help(READ_NOTES)
         .arg(file(alloc))?;
-    let queues = Arg::new(alloc, "queues")
-        .long("queues")
-        .value_name(shown)
-        .help("A queue for each sender and receiver, for each receiver, or for each message")
-        .value_parser(words)
-        .required(true);
-    let show = Arg::new(alloc, "show")
-        .long("show")
-        .value_name("N")
-        .help("Print a run for each of the first N races; without it, for all")
-        .value_parser(value_parser!(u32));
+    let show = "Print a run for each of the first N races; without it, for all";
     let check = Command::new(alloc, "check")
         .about("Print whether the chart has races, and for each a run that shows it")
         .after_help(CHECK_NOTES)
-        .arg(queues)?
-        .arg(show)?
+        .arg(queues(alloc, words, shown))?
+        .arg(number(alloc, "show", show))?
+        .arg(file(alloc))?;
+    let patience = "End an instance that looked in vain N times in a row; without it, 1000000000";
+    let run = Command::new(alloc, "run")
+        .about("Run the chart on threads, and print how each instance ended and the trace")
+        .after_help(RUN_NOTES)
+        .arg(queues(alloc, words, shown))?
+        .arg(number(alloc, "patience", patience))?
         .arg(file(alloc))?;
     Command::new(alloc, "msc")
         .bin_name("msc")?
         .version(VERSION)
-        .about("Check message sequence charts for races")
+        .about("Check message sequence charts for races, and run them")
         .subcommand_required(true)
         .subcommand(read)?
-        .subcommand(check)
+        .subcommand(check)?
+        .subcommand(run)
 }
 
 /// The task that a command's words name, if they name one.
@@ -145,6 +184,10 @@ fn task_of(command: &str, words: &ArgMatches) -> Option<Task> {
         return Some(Task::Read);
     }
     let queues = Queues::of(words.get_str("queues")?)?;
+    if command == "run" {
+        let patience = words.get_one("patience").unwrap_or(PATIENCE);
+        return Some(Task::Run(queues, patience));
+    }
     Some(Task::Check(queues, words.get_one("show").unwrap_or(u32::MAX)))
 }
 
@@ -160,7 +203,8 @@ fn end_with<E: Write>(faults: &mut E, fault: Fault) -> Status
 }
 
 /// Writes the answer of a task to an input.
-fn answer<I: Read, O: Write>(
+fn answer<R: Threads + Wait + Sync, I: Read, O: Write>(
+    rt: &R,
     alloc: Global,
     task: Task,
     input: &mut I,
@@ -179,11 +223,18 @@ fn answer<I: Read, O: Write>(
             true => Ok(Status::Done),
             false => Ok(Status::Races),
         },
+        Task::Run(queues, patience) => {
+            match run_input(rt, alloc, input, queues, &AlwaysOpen, patience, output)? {
+                true => Ok(Status::Done),
+                false => Ok(Status::Unfinished),
+            }
+        }
     }
 }
 
 /// Does a task over an input. The whole answer goes out before it is told.
-fn perform<I: Read, O: Write>(
+fn perform<R: Threads + Wait + Sync, I: Read, O: Write>(
+    rt: &R,
     alloc: Global,
     task: Task,
     input: &mut I,
@@ -193,13 +244,13 @@ fn perform<I: Read, O: Write>(
         × IsReadFrom (I.remaining input.old) (I.remaining input.new) text
         × WritesAnswer task text status (O.contents output.old) (O.contents output.new)) }
 {
-    let status = answer(alloc, task, input, output)?;
+    let status = answer(rt, alloc, task, input, output)?;
     output.flush()?;
     Ok(status)
 }
 
 /// Does a task over a file, or over `input` where it is `-`.
-fn perform_on<R: Files, I: Read, O: Write>(
+fn perform_on<R: Files + Threads + Wait + Sync, I: Read, O: Write>(
     rt: &R,
     alloc: Global,
     task: Task,
@@ -212,17 +263,17 @@ fn perform_on<R: Files, I: Read, O: Write>(
         × WritesAnswer task text status (O.contents output.old) (O.contents output.new)) }
 {
     if file == "-" {
-        return perform(alloc, task, input, output);
+        return perform(rt, alloc, task, input, output);
     }
     match fs::open(rt, file) {
-        Ok(mut opened) => perform(alloc, task, &mut opened, output),
+        Ok(mut opened) => perform(rt, alloc, task, &mut opened, output),
         Err(_) => Err(Fault::Device),
     }
 }
 
 /// Writes what `clap` says of words that are no command, or the help that they ask for.
 fn explain<O: Write, E: Write>(output: &mut O, faults: &mut E, error: &Error) -> Status
-    ensures { result ≢ Status.Races }
+    ensures { (before after : Option (List ℕ)) → Prints result before after }
 {
     if error.kind() == clap::error::ErrorKind::OutOfMemory {
         return end_with(faults, Fault::Memory);
@@ -238,7 +289,7 @@ fn explain<O: Write, E: Write>(output: &mut O, faults: &mut E, error: &Error) ->
 }
 
 /// Does what the words of a command ask for, and tells how the run ended.
-fn obey<R: Files, I: Read, O: Write, E: Write>(
+fn obey<R: Files + Threads + Wait + Sync, I: Read, O: Write, E: Write>(
     rt: &R,
     alloc: Global,
     matches: &ArgMatches,
@@ -246,7 +297,7 @@ fn obey<R: Files, I: Read, O: Write, E: Write>(
     output: &mut O,
     faults: &mut E,
 ) -> Status
-    ensures { result ≡ Status.Races → PrintsRaces (O.contents output.old) (O.contents output.new) }
+    ensures { Prints result (O.contents output.old) (O.contents output.new) }
 {
     let Some((command, words)) = matches.subcommand() else {
         return Status::Refused;
@@ -263,7 +314,7 @@ fn obey<R: Files, I: Read, O: Write, E: Write>(
 
 /// Does what the words ask for, and tells how the run ended. An error is a growth of memory that
 /// was refused before the words were known.
-fn run<R: Files, I: Read, O: Write, E: Write>(
+fn run<R: Files + Threads + Wait + Sync, I: Read, O: Write, E: Write>(
     rt: &R,
     alloc: Global,
     words: &[String],
@@ -271,8 +322,8 @@ fn run<R: Files, I: Read, O: Write, E: Write>(
     output: &mut O,
     faults: &mut E,
 ) -> Result<Status, AllocError>
-    ensures { IfOk result (λ status. status ≡ Status.Races
-        → PrintsRaces (O.contents output.old) (O.contents output.new)) }
+    ensures { IfOk result (λ status.
+        Prints status (O.contents output.old) (O.contents output.new)) }
 {
     let architectures = architectures(alloc)?;
     let shown = joined(alloc, architectures.as_slice())?;
@@ -300,14 +351,17 @@ pub fn refuse_words<E: Write>(faults: &mut E, error: &io::Error) -> u8
 ///
 /// `msc read FILE` writes the canonical text of FILE to `output`, `msc check --queues QUEUES
 /// [--show N] FILE`, where QUEUES is `pair`, `mailbox` or `single`, the verdict on its chart and
-/// each race, the first N with a run that shows it. N is from 0 to 4294967295, by default
-/// 4294967295. FILE `-` is `input`, any other FILE is opened through `rt`. What goes wrong is found
-/// in the order: the words, opening FILE, reading it, its text. A fault's line, and what `clap`
-/// says of wrong words, go to `faults`; where that writing fails the status stays. The status is 0
-/// where the answer or the help asked for was written, 1 where the answer names races, 2 where the
-/// text was refused or the words are no command, and 4 where memory ran out, a file could not be
-/// opened or read, or the output could not be written.
-pub fn command<R: Files, I: Read, O: Write, E: Write>(
+/// each race, the first N with a run that shows it, and `msc run --queues QUEUES [--patience N]
+/// FILE` an execution of its chart, in which an instance gives up after N rounds in a row without a
+/// message. N is from 0 to 4294967295, by default 4294967295 races and 1000000000 rounds. FILE `-`
+/// is `input`, any other FILE is opened through `rt`. What goes wrong is found in the order: the
+/// words, opening FILE, reading it, its text, running it. A fault's line, and what `clap` says of
+/// wrong words, go to `faults`; where that writing fails the status stays. The status is 0 where
+/// the answer or the help asked for was written, 1 where the answer names races, 2 where the text
+/// was refused or the words are no command, 3 where some instance of the execution has not
+/// finished, and 4 where memory ran out, a thread could not be started, a file could not be opened
+/// or read, or the output could not be written.
+pub fn command<R: Files + Threads + Wait + Sync, I: Read, O: Write, E: Write>(
     rt: &R,
     alloc: Global,
     words: Vec<String>,
@@ -315,8 +369,10 @@ pub fn command<R: Files, I: Read, O: Write, E: Write>(
     output: &mut O,
     faults: &mut E,
 ) -> u8
-    ensures status { (result ≡ 0) ⊎ (result ≡ 1) ⊎ (result ≡ 2) ⊎ (result ≡ 4) }
+    ensures status { (result ≡ 0) ⊎ (result ≡ 1) ⊎ (result ≡ 2) ⊎ (result ≡ 3) ⊎ (result ≡ 4) }
     ensures races { result ≡ 1 → PrintsRaces (O.contents output.old) (O.contents output.new) }
+    ensures unfinished { result ≡ 3
+        → PrintsUnfinished (O.contents output.old) (O.contents output.new) }
 {
     match run(rt, alloc, words.as_slice(), input, output, faults) {
         Ok(status) => status.code(),

@@ -2,46 +2,17 @@
 //! verdict and each race, the first of them with a run that shows it. It is the yardstick of
 //! `bench/checks` and `bench/shown_runs`.
 //!
-//! Two words: `pair` or `mailbox`, and how many races get a run, by default all. The exit status is 0
+//! Two words: `pair`, `mailbox` or `single`, and how many races get a run, by default all. The exit status is 0
 //! for `pass`, 1 for races, and 2 for a text that is no chart.
 
 use plain::chart::{Chart, Queues};
-use plain::draft::{parse, Draft, Item, Signal, Way, TEXT_LIMIT};
+use plain::draft::{parse, Draft, TEXT_LIMIT};
 use plain::order::{races, Order};
 use plain::run::Runs;
+use plain::writing::{signals, write_event};
 use std::io::{self, BufWriter, Read, Write};
 use std::process::ExitCode;
-use std::{env, slice};
-
-/// The outputs and inputs of a draft in the order of the text, each with the name of its instance.
-fn signals(draft: &Draft) -> Vec<(&[u8], &Signal)> {
-    let mut signals = Vec::new();
-    for section in &draft.sections {
-        for item in &section.items {
-            let group = match item {
-                Item::Single(signal) => slice::from_ref(signal),
-                Item::Coregion(signals) => signals,
-            };
-            signals.extend(group.iter().map(|signal| (&*section.decl.name, signal)));
-        }
-    }
-    signals
-}
-
-fn write_event(out: &mut impl Write, signal: &Signal) -> io::Result<()> {
-    let (way, link): (&[u8], &[u8]) = match signal.way {
-        Way::Output => (b"out ", b" to "),
-        Way::Input => (b"in ", b" from "),
-    };
-    out.write_all(way)?;
-    out.write_all(&signal.name)?;
-    if let Some(number) = &signal.number {
-        out.write_all(b", ")?;
-        out.write_all(number)?;
-    }
-    out.write_all(link)?;
-    out.write_all(&signal.address)
-}
+use std::env;
 
 /// The lines `run` of races, each made once for all races of one event.
 struct RunLines<'a> {
@@ -91,11 +62,7 @@ fn check(
     let races = races(chart, &order);
     out.write_all(b"chart ")?;
     out.write_all(&draft.name)?;
-    let architecture = match queues {
-        Queues::Pair => "pair",
-        Queues::Mailbox => "mailbox",
-    };
-    writeln!(out, "\nqueues {architecture}")?;
+    writeln!(out, "\nqueues {}", queues.word())?;
     if races.is_empty() {
         writeln!(out, "pass")?;
         return Ok(true);
@@ -136,11 +103,8 @@ fn read_and_check(queues: Queues, show: u32) -> io::Result<Option<bool>> {
 }
 
 fn main() -> ExitCode {
-    let mailbox = env::args().nth(1).as_deref() == Some("mailbox");
-    let queues = if mailbox {
-        Queues::Mailbox
-    } else {
-        Queues::Pair
+    let Some(queues) = env::args().nth(1).and_then(|word| Queues::of(&word)) else {
+        return ExitCode::from(2);
     };
     let show = match env::args().nth(2).map(|word| word.parse()) {
         None => u32::MAX,

@@ -1,18 +1,20 @@
-//! Does what `msc_bench run-pair` and `run-mailbox` do, in plain Rust: runs a chart with a thread for
-//! each instance over queues as rows of words, and settles the queues. It is the yardstick of
-//! `bench/executions`.
+//! Does what `msc run` does, in plain Rust: reads a chart's text from standard input, runs it with a
+//! thread for each instance over queues as rows of words, settles the queues, gathers the logs, and
+//! prints how each instance ended and the trace. It is the yardstick of `bench/executions`.
 //!
-//! Words: the architecture and a count; the chart is on standard input. How many instances finished
-//! in all runs is printed, and the nanoseconds of the fastest run to standard error.
+//! One word: `pair`, `mailbox` or `single`. The exit status is 0 where all instances finished, 3
+//! where one has not, and 2 for a text that is no chart.
 
 use plain::chart::{Chart, Queues};
-use plain::draft::parse;
+use plain::draft::{parse, Draft, TEXT_LIMIT};
+use plain::gather::gather;
 use plain::rows::{queue, Accounts, Entry, Inlet, Outlet};
+use plain::writing::{signals, write_event};
 use std::hint::black_box;
-use std::io::Read;
+use std::io::{self, BufWriter, Read, Write};
 use std::ops::Range;
-use std::time::Instant;
-use std::{env, io, thread};
+use std::process::ExitCode;
+use std::{env, thread};
 
 /// How many empty rounds an instance bears.
 const PATIENCE: u32 = 1_000_000_000;
@@ -29,9 +31,8 @@ struct Wired {
 }
 
 impl Wired {
-    fn new(chart: Chart, queues: Queues) -> Wired {
-        let count = chart.events.iter().map(|event| event.line + 1).max().unwrap_or(0);
-        let mut lines = vec![0..0; count];
+    fn new(chart: Chart, queues: Queues, instances: usize) -> Wired {
+        let mut lines = vec![0..0; instances];
         let mut inputs = vec![0; chart.events.len() / 2];
         for (e, event) in chart.events.iter().enumerate() {
             if lines[event.line].is_empty() {
@@ -80,8 +81,11 @@ fn wire(wired: &Wired) -> (Vec<Ends>, Vec<usize>) {
     (ends, senders)
 }
 
-/// What an instance leaves: its log, its inlets, and whether it finished.
-type Left = (Vec<usize>, Vec<(usize, Inlet)>, bool);
+/// How an instance ended.
+type End = &'static str;
+
+/// What an instance leaves: its log, its inlets, and how it ended.
+type Left = (Vec<usize>, Vec<(usize, Inlet)>, End);
 
 /// Runs an instance.
 fn run(wired: &Wired, line: Range<usize>, mut ends: Ends) -> Left {
@@ -89,7 +93,7 @@ fn run(wired: &Wired, line: Range<usize>, mut ends: Ends) -> Left {
     let mut log = Vec::with_capacity(line.len());
     let mut logged = vec![false; line.len()];
     let (mut next, mut first, mut clock, mut empty) = (line.start, line.start, 0, 0);
-    loop {
+    let end = loop {
         while next < line.end {
             if !chart.is_output(next) {
                 next += 1;
@@ -111,9 +115,14 @@ fn run(wired: &Wired, line: Range<usize>, mut ends: Ends) -> Left {
         if next == line.end {
             ends.outlets.drain(..).for_each(|(_, mut outlet)| outlet.close());
         }
-        let starved = ends.inlets.iter().all(|(_, inlet)| inlet.unended == 0);
-        if log.len() == line.len() || starved || empty == PATIENCE {
-            break;
+        if log.len() == line.len() {
+            break "finished";
+        }
+        if ends.inlets.iter().all(|(_, inlet)| inlet.unended == 0) {
+            break "starved";
+        }
+        if empty == PATIENCE {
+            break "impatient";
         }
         let before = empty;
         empty += 1;
@@ -130,14 +139,13 @@ fn run(wired: &Wired, line: Range<usize>, mut ends: Ends) -> Left {
         if empty > TURNS && before < empty {
             thread::yield_now();
         }
-    }
+    };
     ends.outlets.drain(..).for_each(|(_, mut outlet)| outlet.close());
-    let finished = log.len() == line.len();
-    (log, ends.inlets, finished)
+    (log, ends.inlets, end)
 }
 
-/// Runs all instances and settles all queues; answers how many finished.
-fn execution(wired: &Wired) -> usize {
+/// Runs all instances and settles all queues; answers what each logged, and how it ended.
+fn execution(wired: &Wired) -> (Vec<Vec<usize>>, Vec<End>) {
     let (ends, senders) = wire(wired);
     let left: Vec<Left> = thread::scope(|scope| {
         let start = |(line, ends)| scope.spawn(move || run(wired, line, ends));
@@ -145,36 +153,68 @@ fn execution(wired: &Wired) -> usize {
         threads.into_iter().map(|thread| thread.join().expect("an instance")).collect()
     });
     let mut settled: Vec<(usize, Accounts)> = Vec::new();
-    let mut finished = 0;
-    for (log, inlets, whole) in left {
-        black_box(log);
-        finished += usize::from(whole);
+    let (mut logs, mut how) = (Vec::new(), Vec::new());
+    for (log, inlets, end) in left {
+        logs.push(log);
+        how.push(end);
         settled.extend(inlets.into_iter().map(|(q, inlet)| (q, inlet.settle(senders[q]))));
     }
     settled.sort_by_key(|queue| queue.0);
     black_box(settled);
-    finished
+    (logs, how)
 }
 
-fn main() {
-    let mut words = env::args().skip(1);
-    let queues = match words.next().expect("an architecture").as_str() {
-        "run-pair" => Queues::Pair,
-        "run-mailbox" => Queues::Mailbox,
-        _ => panic!("no such architecture"),
-    };
-    let count: u32 = words.next().expect("a count").parse().expect("a number");
-    let mut text = Vec::new();
-    io::stdin().read_to_end(&mut text).expect("a text");
-    let draft = parse(&text).unwrap_or_else(|_| panic!("no draft"));
-    let wired = Wired::new(Chart::build(&draft).expect("a chart"), queues);
-    let mut finished = 0;
-    let mut best = u128::MAX;
-    for _ in 0..count {
-        let start = Instant::now();
-        finished += execution(&wired);
-        best = best.min(start.elapsed().as_nanos());
+/// Prints how each instance ended, and the trace.
+fn print(draft: &Draft, queues: Queues, ends: &[End], trace: &[usize]) -> io::Result<()> {
+    let mut out = BufWriter::with_capacity(65_536, io::stdout().lock());
+    out.write_all(b"chart ")?;
+    out.write_all(&draft.name)?;
+    writeln!(out, "\nqueues {}", queues.word())?;
+    for (section, end) in draft.sections.iter().zip(ends) {
+        out.write_all(b"instance ")?;
+        out.write_all(&section.decl.name)?;
+        writeln!(out, " {end}")?;
     }
-    println!("{finished} finished");
-    eprintln!("{best} nanoseconds");
+    writeln!(out, "trace {}", trace.len())?;
+    let signals = signals(draft);
+    for e in trace {
+        let (line, signal) = signals[*e];
+        write!(out, "{e} ")?;
+        out.write_all(line)?;
+        out.write_all(b" ")?;
+        write_event(&mut out, signal)?;
+        out.write_all(b"\n")?;
+    }
+    out.flush()
+}
+
+/// Runs the chart on standard input; answers whether all instances finished, and nothing where
+/// there is no chart.
+fn read_and_run(queues: Queues) -> io::Result<Option<bool>> {
+    let mut text = Vec::new();
+    let limit = TEXT_LIMIT as u64 + 1;
+    io::stdin().lock().take(limit).read_to_end(&mut text)?;
+    let Ok(draft) = parse(&text) else {
+        return Ok(None);
+    };
+    let Some(chart) = Chart::build(&draft) else {
+        return Ok(None);
+    };
+    let wired = Wired::new(chart, queues, draft.sections.len());
+    let (logs, ends) = execution(&wired);
+    let trace = gather(&wired.chart, queues, &logs);
+    print(&draft, queues, &ends, &trace)?;
+    Ok(Some(ends.iter().all(|end| *end == "finished")))
+}
+
+fn main() -> ExitCode {
+    let Some(queues) = env::args().nth(1).and_then(|word| Queues::of(&word)) else {
+        return ExitCode::from(2);
+    };
+    match read_and_run(queues) {
+        Ok(Some(true)) => ExitCode::SUCCESS,
+        Ok(Some(false)) => ExitCode::from(3),
+        Ok(None) => ExitCode::from(2),
+        Err(_) => ExitCode::from(4),
+    }
 }

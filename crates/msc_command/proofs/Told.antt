@@ -1,0 +1,48 @@
+-- What the status tells of an answer, and that a flush keeps it.
+use Rattle.std.proofs.Common.{ℕ, List, Option, Some, None, ◌∙◌}
+use Rattle.std.specs.Io.KnownBytes.{Appends, Keeps}
+use Rattle.msc_command.specs.declared.program.Status.{Status}
+use Rattle.msc_command.specs.declared.program.Status.TheVariants.{Done, Races, Refused, Unfinished, Failed}
+use Rattle.msc_command.specs.declared.program.Task.{Task}
+use Rattle.msc_command.specs.declared.program.Task.TheVariants.{Read, Check, Run}
+use Rattle.msc_command.specs.Program.{Prints, WritesAnswer}
+
+-- the answer of a task is what its status tells
+pub prints : (task : Task) (text : List ℕ) (status : Status) (before after : Option (List ℕ))
+    → WritesAnswer task text status before after → Prints status before after
+prints task text Done before after told = tt
+prints task text Refused before after told = tt
+prints task text Failed before after told = tt
+prints Read text Races before after told = absurd told
+prints (Check queues show) text Races before after told = (text, queues, show, told)
+prints (Run queues patience) text Races before after told = absurd told
+prints Read text Unfinished before after told = absurd told
+prints (Check queues show) text Unfinished before after told = absurd told
+prints (Run queues patience) text Unfinished before after told = (text, queues, patience, told)
+
+-- bytes that are kept were written
+kept : (before mid after : Option (List ℕ)) (bytes : List ℕ) → Appends before mid bytes → Keeps mid after → Appends before after bytes
+kept None mid after bytes wrote keeps = tt
+kept (Some xs) None after bytes wrote keeps = absurd wrote
+kept (Some xs) (Some ys) None bytes wrote keeps = absurd keeps
+kept (Some xs) (Some ys) (Some zs) bytes wrote keeps = keeps ∙ wrote
+
+-- and so is an answer
+pub answer_kept : (task : Task) (text : List ℕ) (status : Status) (before mid after : Option (List ℕ))
+    → WritesAnswer task text status before mid → Keeps mid after → WritesAnswer task text status before after
+answer_kept Read text Done before mid after told keeps =
+    record { draft = told.draft; has = told.has; written = kept before mid after _ told.written keeps }
+answer_kept Read text Races before mid after told keeps = told
+answer_kept Read text Refused before mid after told keeps = told
+answer_kept Read text Unfinished before mid after told keeps = told
+answer_kept Read text Failed before mid after told keeps = told
+answer_kept (Check queues show) text Done before mid after told keeps = (told.0, told.1, kept before mid after _ told.2 keeps)
+answer_kept (Check queues show) text Races before mid after told keeps = (told.0, told.1, kept before mid after _ told.2 keeps)
+answer_kept (Check queues show) text Refused before mid after told keeps = told
+answer_kept (Check queues show) text Unfinished before mid after told keeps = told
+answer_kept (Check queues show) text Failed before mid after told keeps = told
+answer_kept (Run queues patience) text Done before mid after told keeps = (told.0, told.1, kept before mid after _ told.2 keeps)
+answer_kept (Run queues patience) text Unfinished before mid after told keeps = (told.0, told.1, kept before mid after _ told.2 keeps)
+answer_kept (Run queues patience) text Races before mid after told keeps = told
+answer_kept (Run queues patience) text Refused before mid after told keeps = told
+answer_kept (Run queues patience) text Failed before mid after told keeps = told

@@ -1,0 +1,69 @@
+-- What running a text answers.
+use Rattle.std.specs.Prelude.{◌≡◌, ℕ, ◌<◌, ◌↔◌, Bool, true, List, length, Option, Some, Result, Err, IfOk, IfSome}
+use Rattle.std.specs.Io.KnownBytes.{Appends}
+use Rattle.msc_parser.specs.Grammar.{Tree}
+use Rattle.msc_parser.specs.Parsing.{HasDraft}
+use Rattle.msc_chart.specs.declared.queue.Queues.{Queues}
+use Rattle.msc_chart.specs.Drawings.{Drawing, chart_of}
+use Rattle.msc_chart.specs.Faults.{IsFaultless}
+use Rattle.msc_chart.specs.Orders.{wired}
+use Rattle.msc_chart.specs.Runs.{IsWhole}
+use Rattle.msc_execution.specs.Executions.{Outcome, IsExecution, AreFinished}
+use Rattle.msc_gather.specs.Gathering.{IsGathered}
+use Rattle.msc_report.specs.declared.fault.Fault.{Fault}
+use Rattle.msc_report.specs.declared.fault.Fault.TheVariants.{NotStarted}
+use Rattle.msc_report.specs.Traces.{trace_text}
+use Rattle.msc_tool.specs.Answers.{RefusesText}
+use Rattle.msc_tool.specs.Checking.{RefusesDraft}
+
+-- What is printed of a chart: how each instance of one of its executions ended, and the execution's
+-- trace, the least run that has the instances' logs as its lines. Whether all have finished is told;
+-- where they have, the trace is a whole run.
+pub record PrintsExecution (d : Drawing) (queues : Queues) (open' : Bool) (patience : ℕ)
+    (finished : Bool) (printed : List ℕ) : Type 0 where
+  pub outcome : Outcome
+  pub execution : IsExecution queues d open' patience outcome
+  pub trace : List ℕ
+  pub gathered : IsGathered (wired queues d) (length d.instances) outcome.logs trace
+  pub answered : (finished ≡ true) ↔ AreFinished outcome.ends
+  pub whole : finished ≡ true → IsWhole (wired queues d) trace
+  pub text : printed ≡ trace_text d queues outcome.ends (Some trace)
+
+-- What is printed of a text: an execution of its draft's chart. No fault stands in the draft.
+pub record PrintsTrace (text : List ℕ) (queues : Queues) (open' : Bool) (patience : ℕ)
+    (finished : Bool) (printed : List ℕ) : Type 0 where
+  pub draft : Tree
+  pub has : HasDraft text draft
+  pub faultless : IsFaultless draft
+  pub shown : PrintsExecution (chart_of draft) queues open' patience finished printed
+
+-- what is printed of the text went behind the known bytes of a writer
+abbrev pub WritesTrace : List ℕ → Queues → Bool → ℕ → Bool → Option (List ℕ) → Option (List ℕ)
+    → Type 0
+WritesTrace text queues open' patience finished before after =
+    (printed : List ℕ) × PrintsTrace text queues open' patience finished printed
+    × Appends before after printed
+
+-- i is the number of an instance of the text's chart
+abbrev pub HasInstance : List ℕ → ℕ → Type 0
+HasInstance text i =
+    (draft : Tree) × HasDraft text draft × IsFaultless draft
+    × (i < length (chart_of draft).instances)
+
+-- an instance that could not be started is one of the text's chart
+abbrev pub NamesAnInstance : {A : Type 0} → List ℕ → Result A Fault → Type 0
+NamesAnInstance text answer = (i : ℕ) → answer ≡ Err (NotStarted i) → HasInstance text i
+
+-- what running a text answers and writes
+pub record RunsText (text : List ℕ) (queues : Queues) (open' : Bool) (patience : ℕ)
+    (answer : Result Bool Fault) (before after : Option (List ℕ)) : Type 0 where
+  pub written : IfOk answer (λ finished.
+      WritesTrace text queues open' patience finished before after)
+  pub refused : RefusesText text answer
+  pub no_chart : RefusesDraft text answer
+  pub started : NamesAnInstance text answer
+
+-- an instance that could not be started is one of the chart of an input whose bytes are told
+abbrev pub NamesAnInstanceOf : {A : Type 0} → Option (List ℕ) → Result A Fault → Type 0
+NamesAnInstanceOf input answer =
+    (i : ℕ) → answer ≡ Err (NotStarted i) → IfSome input (λ bytes. HasInstance bytes i)
