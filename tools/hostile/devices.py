@@ -1,0 +1,245 @@
+#!/usr/bin/env python3
+"""Gives the program devices that fail, and looks at each answer.
+
+    devices.py [--commands C,..] PROGRAM
+
+Outputs that are closed, full, or have lost their reader; inputs that are folders, missing, not
+permitted, that never end, that come in pieces, or that are removed, cut or grow while they are
+read; and, by tools/refuse, reads and writes that are interrupted, that move a byte at a time, and
+that fail at each call. Prints what differs, and last `N passed, M failed`. What needs another user
+is tried where this is root.
+"""
+import os
+import pathlib
+import signal
+import subprocess
+import sys
+import tempfile
+
+from program import MOST, QUEUES, TOP, Answer, Count, add_commands, arguments, check_words, run
+from answer import check_answer, read_answer
+from refuse import Shim
+
+CHART = (TOP / "charts/two_senders.msc").read_bytes()
+REFUSED = b"msc t;"
+FAULT = Answer(b"", b"device fault\n", 4)
+SILENT = Answer(b"", b"", 4)
+# a user that owns nothing here
+NOBODY = 64321
+
+
+def redirected(words, streams, before="true"):
+    """The words under a shell that redirects these streams."""
+    return ["sh", "-c", f'{before}; exec "$@" {streams}', "sh", *map(str, words)]
+
+
+class Commands:
+    """The runs of the program that are tried."""
+
+    def __init__(self, program, wanted):
+        self.program, self.wanted = program, wanted
+
+    def on(self, file="-", program=None):
+        """A run of each command, and what is printed of CHART; for `run`, which may print one of
+        several traces, None."""
+        program = program or self.program
+        if "read" in self.wanted:
+            yield [program, "read", file], Answer(*read_answer(CHART))
+        for queues in QUEUES:
+            if "check" in self.wanted:
+                words = [program, "check", "--queues", queues, file]
+                yield words, Answer(*check_answer(CHART, queues))
+            if "run" in self.wanted:
+                yield [program, "run", "--queues", queues, file], None
+
+
+def outputs(count, commands, folder):
+    """Standard output closed, full, not to be written, without a reader; standard error closed and
+    full."""
+    chart = folder / "chart"
+    chart.write_bytes(CHART)
+    for file in ("-", chart):
+        for words, wanted in commands.on(file):
+            for streams in (">&-", ">/dev/full", f"1<{chart}"):
+                count.compare(run(redirected(words, streams), CHART), FAULT, *words[1:], streams)
+                answer = run(redirected(words, f"{streams} 2>&-"), CHART)
+                count.compare(answer, SILENT, *words[1:], streams, "2>&-")
+            # a run of two_senders prints one of two traces
+            whole = run(redirected(words, "2>&-"), CHART)
+            is_whole = whole == wanted if wanted else whole.status == 0
+            count.add(is_whole, *words[1:], "2>&-", whole)
+            for streams in ("2>&-", "2>/dev/full"):
+                answer = run(redirected(words, streams), REFUSED)
+                count.add(file != "-" or answer == Answer(b"", b"", 2), *words[1:], streams, answer)
+            without_reader(count, words)
+    for words in (["--help"], ["--version"]):
+        answer = run(redirected([commands.program, *words], ">/dev/full"))
+        count.compare(answer, FAULT, *words, ">/dev/full")
+    for words in ([], ["read"], ["check", "--queues", "none", "-"]):
+        answer = run(redirected([commands.program, *words], "2>/dev/full"))
+        count.compare(answer, Answer(b"", b"", 2), *words, "2>/dev/full")
+
+
+def without_reader(count, words):
+    """Standard output is a pipe whose reader has gone: whether or not SIGPIPE is ignored, a device
+    fault."""
+    for before in ("true", "trap '' PIPE"):
+        reader, writer = os.pipe()
+        os.close(reader)
+        process = begun(redirected(words, "", before), stdin=subprocess.PIPE, stdout=writer)
+        error = process.communicate(CHART, timeout=MOST)[1]
+        os.close(writer)
+        answer = Answer(b"", error, process.returncode)
+        count.compare(answer, FAULT, *words[1:], "no reader", before)
+
+
+def inputs(count, commands, folder):
+    """FILE and standard input of every sort."""
+    (folder / "dangling").symlink_to("nothing")
+    (folder / "round").symlink_to("round")
+    (folder / "denied").write_bytes(CHART)
+    (folder / "denied").chmod(0)
+    names = ["dangling", "round", "none", "denied/x"]
+    faulty = [folder, *(folder / name for name in names), "", "x" * 5000, "/proc/self/mem"]
+    too_long = Answer(*read_answer(b" " * 2 ** 21))
+    nothing = Answer(*read_answer(b""))
+    endless = [("/dev/zero", too_long), ("/dev/full", too_long)]
+    wanted = [*((file, FAULT) for file in faulty), *endless, ("/dev/null", nothing)]
+    for file, answer in wanted:
+        for words, _ in commands.on(file):
+            count.compare(run(words), answer, *words[1:])
+    for words, _ in commands.on():
+        for streams, answer in (("<&-", FAULT), (f"<{folder}", FAULT), ("0>/dev/null", FAULT),
+                                ("</dev/null", nothing), ("</dev/zero", too_long)):
+            count.compare(run(redirected(words, streams)), answer, *words[1:], streams)
+    empty_pipe(count, commands)
+    denied(count, commands, folder)
+
+
+def empty_pipe(count, commands):
+    """Standard input is a pipe that has nothing now and does not wait."""
+    reader, writer = os.pipe2(os.O_NONBLOCK)
+    for words, _ in commands.on():
+        answer = ended(begun(words, stdin=reader))
+        count.compare(answer, FAULT, *words[1:], "an empty pipe")
+    os.close(reader)
+    os.close(writer)
+
+
+def denied(count, commands, folder):
+    """FILE may not be read."""
+    if os.geteuid() == 0:
+        folder.chmod(0o755)
+        reachable = folder / "msc"
+        reachable.write_bytes(pathlib.Path(commands.program).read_bytes())
+        reachable.chmod(0o755)
+        for words, _ in commands.on(folder / "denied", reachable):
+            count.compare(run(words, user=NOBODY, cwd="/"), FAULT, *words[1:], "without permission")
+
+
+def begun(words, stdout=subprocess.PIPE, **options):
+    return subprocess.Popen(words, stdout=stdout, stderr=subprocess.PIPE, **options)
+
+
+def ended(process):
+    output, error = process.communicate(timeout=MOST)
+    return Answer(output, error, process.returncode)
+
+
+def pieces(count, commands, folder):
+    """FILE is a FIFO, or standard input a pipe, whose bytes come one by one."""
+    pipe = folder / "pipe"
+    os.mkfifo(pipe)
+    for words, wanted in commands.on(pipe):
+        process = begun(words)
+        with open(pipe, "wb", buffering=0) as file:
+            for byte in CHART:
+                file.write(bytes([byte]))
+        is_right(count, ended(process), wanted, *words[1:], "a FIFO")
+    for words, wanted in commands.on():
+        process = begun(words, stdin=subprocess.PIPE, bufsize=0)
+        for byte in CHART:
+            process.stdin.write(bytes([byte]))
+        is_right(count, ended(process), wanted, *words[1:], "byte by byte")
+
+
+def is_right(count, answer, wanted, *told):
+    """An answer is this; of `run` alone, that it succeeded."""
+    count.add(answer == wanted if wanted else answer[1:] == (b"", 0), *told, answer)
+
+
+def while_read(count, commands, folder, shim):
+    """FILE is removed, cut or grows when a part of it has been read."""
+    blank, length = b" " * 200000, 200000 + len(CHART)
+    too_long = Answer(*read_answer(b" " * 2 ** 21))
+    cut = Answer(b"", b"grammar fault 3 at 100000: expected msc\n", 2)
+    grown = Answer(b"", f"grammar fault 3 at {length}: expected the end of the text\n".encode(), 2)
+
+    def append(file, more):
+        with open(file, "ab") as opened:
+            opened.write(more)
+
+    for how, change, other in (
+        ("removed", lambda file: file.unlink(), None),
+        ("cut", lambda file: os.truncate(file, 100000), cut),
+        ("grown", lambda file: append(file, b"x"), grown),
+        ("grown past the limit", lambda file: append(file, b" " * 2 ** 20), too_long),
+    ):
+        file = folder / "changing"
+        for words, wanted in commands.on(file):
+            file.write_bytes(blank + CHART)
+            process = begun(words, env=shim.env(HOLD_READ="2"))
+            os.waitid(os.P_PID, process.pid, os.WSTOPPED)
+            change(file)
+            process.send_signal(signal.SIGCONT)
+            is_right(count, ended(process), other or wanted, *words[1:], how)
+
+
+def calls(count, commands, shim):
+    """Reads and writes are interrupted, move a byte, or fail."""
+    for words, wanted in commands.on():
+        is_right(count, run(words, CHART, env=shim.env()), wanted, *words[1:], "in full")
+        made = dict(zip(("READ", "WRITE"), shim.made()[2:]))
+        narrow = run(words, CHART, env=shim.env(SHORT="1+"))
+        is_right(count, narrow, wanted, *words[1:], "a byte at a time")
+        for call, times in made.items():
+            for number in range(1, times + 1):
+                again = run(words, CHART, env=shim.env(**{f"INTERRUPT_{call}": str(number)}))
+                is_right(count, again, wanted, *words[1:], call, number, "interrupted")
+                for later in ("", "+"):
+                    rule = {f"REFUSE_{call}": f"{number}{later}"}
+                    answer = run(words, CHART, env=shim.env(**rule))
+                    count.add(fails(answer, wanted, call), *words[1:], rule, answer)
+        always = run(words, CHART, env=shim.env(INTERRUPT_READ="1+"))
+        count.compare(always, FAULT, *words[1:], "always interrupted")
+
+
+def fails(answer, wanted, call):
+    """Whether an answer is that a device failed; where it was a write, a beginning was written, and
+    nothing can be said of standard error, which is written too."""
+    output, error, status = answer
+    if call == "READ":
+        return answer == FAULT
+    is_beginning = not wanted or wanted.output.startswith(output)
+    return status == 4 and error in (b"", FAULT.error) and is_beginning
+
+
+def main():
+    words = arguments(__doc__)
+    add_commands(words)
+    options = words.parse_args()
+    program = str(pathlib.Path(options.program).resolve())
+    commands, count = Commands(program, options.commands), Count()
+    with tempfile.TemporaryDirectory() as name:
+        folder = pathlib.Path(name)
+        shim = Shim(name)
+        outputs(count, commands, folder)
+        inputs(count, commands, folder)
+        pieces(count, commands, folder)
+        while_read(count, commands, folder, shim)
+        calls(count, commands, shim)
+    return count.end()
+
+
+if __name__ == "__main__":
+    sys.exit(main())

@@ -1,0 +1,175 @@
+#!/usr/bin/env python3
+"""Meets each limit of docs/LANGUAGE.md from both sides, and looks at the answers.
+
+    limits.py [--quick] [--commands C,..] PROGRAM
+
+Texts at the limit are read or checked, and texts one past it are refused with the limit's line;
+texts that are as large as a text may be, each made of one thing, are read (with --quick those of
+few tokens alone, since the naive reader takes its time for the others). Wanted answers are those of
+tools/naive/reading.py or stand here. The largest charts are answered the same with a stack of 128
+KiB, for each thread too. Prints what differs, and last `N passed, M failed`.
+"""
+import random
+import resource
+import sys
+
+from load import INSTANCES, MESSAGES, drawn
+from program import QUEUES, Answer, Count, add_commands, arguments, check_words, run
+from answer import read_answer
+
+LIMIT = 1048576
+# bytes of a small stack
+STACK = 128 * 1024
+TOO_LONG = "lexical fault 1: text longer than 1048576 bytes"
+# the texts of a chart's head, and of its ends
+HEAD, END = b"msc t;", b"endmsc;"
+
+
+def filled(before, some, behind, length=LIMIT):
+    """A text of this length: a beginning, as many of these bytes as have room, and an end."""
+    times = (length - len(before) - len(behind)) // len(some)
+    text = before + some * times + behind
+    return text + b" " * (length - len(text))
+
+
+SECTION, REST = HEAD + b"instance a;", b"endinstance;" + END
+# what texts of few tokens, and of as many as have room, are made of: a beginning, what is repeated,
+# and an end
+FEW = [
+    (b"", b" ", HEAD + END), (HEAD, b" ", END),
+    (HEAD, b"/**/", END), (HEAD + b"/*", b"*", b"*/" + END),
+    (b"msc t comment '", b"''", b"';" + END), (SECTION + b"action '", b"\xff", b"';" + REST),
+    (b"", b"/*", b""), (b"", b"'a", b""), (b"", b"'", b""), (b"", b"x", b""), (b"", b"/", b""),
+    (b"", b" ", b""),
+    (b"", b"\0", b""),
+]
+MANY = [
+    (HEAD + b"inst a", b",a", b";" + END), (HEAD, b"inst a : process p;", END),
+    (HEAD, b"instance a;endinstance;", END), (SECTION, b"concurrent;endconcurrent;", REST),
+    (SECTION, b"action '';", REST), (SECTION, b"in m from a;", REST),
+    (SECTION + b"out m(x", b",x", b") to a;" + REST),
+    (b"", b"(", b""), (b"", b"msc ", b""), (b"", b"x ", b""),
+    (HEAD, b"inst ", b""), (SECTION, b"concurrent;", b""),
+    (SECTION + b"out m(x", b",", b""),
+]
+
+
+def long_texts(parts):
+    """Texts at the limit and past it, and what is answered."""
+    for part in parts:
+        yield filled(*part), read_answer(filled(*part))
+        for more in (1, 2, LIMIT):
+            yield filled(*part, LIMIT + more), (b"", f"{TOO_LONG}\n".encode(), 2)
+
+
+def named(length, count=1):
+    """A chart's name of this length, and as many instances of such names."""
+    names = [str(number).encode().rjust(length, b"n") for number in range(count)]
+    sections = (b"instance " + name + b";endinstance;" for name in names)
+    return b"msc " + names[0] + b";" + b"".join(sections) + END
+
+
+def of_instances(count):
+    sections = (f"instance i{number};endinstance;".encode() for number in range(count))
+    return HEAD + b"".join(sections) + END
+
+
+def of_events(messages, actions=0, inputs=None):
+    """A chart with so many messages from a to b, and actions of b."""
+    out = "".join(f"out m{number} to b;" for number in range(messages))
+    inputs = messages if inputs is None else inputs
+    taken = "".join(f"in m{number} from a;" for number in range(inputs))
+    own = "action '';" * actions
+    text = f"msc t;instance a;{out}endinstance;instance b;{taken}{own}endinstance;endmsc;"
+    return text.encode()
+
+
+def passes(queues):
+    """What is printed of a chart without races."""
+    return Answer(f"chart t\nqueues {queues}\npass\n".encode(), b"", 0)
+
+
+def fault(line):
+    return Answer(b"", f"{line}\n".encode(), 2)
+
+
+def charts():
+    """Texts, architectures, how many races get a run, and what is printed."""
+    for text in (of_instances(0), of_instances(32), of_events(1024), of_events(1024, 1024),
+                 of_events(0, 1024)):
+        yield from ((text, queues, None, passes(queues)) for queues in ("pair", "mailbox"))
+    for text, line in [
+        (of_instances(33), "chart fault 1: more than 32 instances"),
+        (of_instances(30000), "chart fault 1: more than 32 instances"),
+        (of_events(1025), "chart fault 5: more than 1024 messages"),
+        (of_events(1025, 1025), "chart fault 5: more than 1024 messages"),
+        (of_events(1025, 0, 0), "chart fault 5: more than 1024 messages"),
+        (of_events(0, 0, 1025), "chart fault 5: more than 1024 messages"),
+        (of_events(20000), "chart fault 5: more than 1024 messages"),
+        (of_events(1024, 1025), "chart fault 11: more than 1024 actions"),
+        (of_events(0, 60000), "chart fault 11: more than 1024 actions"),
+        (of_events(1024, 1024, 1023), "chart fault 7: output 1023 has no input"),
+        (of_events(1023, 1024, 1024), "chart fault 8: input 2046 has no output"),
+    ]:
+        yield from ((text, queues, None, fault(line)) for queues in QUEUES)
+
+
+def numbers_of_races():
+    """Charts at the limits, architectures, and how many races there are."""
+    # 1,024 messages of one sender under `single`: each two of them race
+    yield of_events(1024), "single", 1024 * 1023 // 2
+    # an action of another instance is drawn before each of 1,024 inputs
+    many = of_events(1024).replace(b"in m0 ", b"action '';" * 1024 + b"in m0 ")
+    yield many, "pair", 1024 * 1024
+
+
+def small_stack():
+    resource.setrlimit(resource.RLIMIT_STACK, (STACK, STACK))
+
+
+def stacks(count, program, commands):
+    """Runs the largest charts with a small stack; of `run`, whose traces differ, only that it
+    succeeds."""
+    for text in (of_events(1024, 1024), drawn(random.Random(1), INSTANCES, MESSAGES)):
+        ways = [[program, "read", "-"], *(check_words(program, queues, 3) for queues in QUEUES)]
+        if "run" in commands:
+            ways += [[program, "run", "--queues", queues, "-"] for queues in QUEUES]
+        for words in ways:
+            full = run(words, text)
+            small = run(words, text, preexec_fn=small_stack, env={})
+            is_same = small[1:] == (b"", 0) if words[1] == "run" else small == full
+            count.add(is_same, *words[1:], f"with a stack of {STACK} bytes", small[1:])
+
+
+def main():
+    words = arguments(__doc__)
+    words.add_argument("--quick", action="store_true")
+    add_commands(words)
+    options = words.parse_args()
+    program, count = options.program, Count()
+    for text, wanted in long_texts(FEW if options.quick else FEW + MANY):
+        count.compare(run([program, "read", "-"], text), wanted, len(text), text[:60])
+    for length in (1, 63, 64, 65, 66, 1000):
+        for instances in (1, 32):
+            text = named(length, min(instances, 10 ** length))
+            answer = run([program, "read", "-"], text)
+            count.compare(answer, read_answer(text), f"names of {length}")
+    empty = HEAD + b"instance a;" + b"concurrent;endconcurrent;" * 40000 + b"endinstance;" + END
+    written = run([program, "read", "-"], empty)
+    lengths = len(empty), len(written.output), written.status
+    count.add(lengths == (1000036, 1240040, 0), "empty coregions", lengths)
+    answer = run([program, "read", "-"], written.output)
+    count.compare(answer, fault(TOO_LONG), "their canonical text")
+    for text, queues, show, wanted in charts():
+        count.compare(run(check_words(program, queues, show), text), wanted, queues, text[:100])
+    for text, queues, races in numbers_of_races():
+        answer = run(check_words(program, queues, 0), text)
+        lines = answer.output.split(b"\n")
+        is_told = lines[2] == f"races {races}".encode() and answer.status == 1
+        count.add(is_told and len(lines) == races + 4, queues, races, lines[:4])
+    stacks(count, program, options.commands)
+    return count.end()
+
+
+if __name__ == "__main__":
+    sys.exit(main())

@@ -1,0 +1,98 @@
+#!/usr/bin/env python3
+"""Refuses each allocation of each command on charts of charts/, by tools/refuse; or lets the system
+do so.
+
+    memory.py [--most N] [--every K] [--commands C,..] [--limit] PROGRAM [CHART ..]
+
+Every chart of charts/ and of charts/refused/ is read, and checked and run under each architecture,
+where these are not given; of the runs with more than N allocations (400 where it is not said) each
+K-th allocation alone is refused. What a refused run has to answer says tools/refuse/refuse.py. With
+--limit no call is refused, but each command has less and less address space for a chart at the
+limits, down to too little for the program to begin. Prints for each run how many allocations it
+makes or how many limits there are, what does not end well, and last `N passed, M failed`.
+"""
+import pathlib
+import random
+import resource
+import signal
+import sys
+import tempfile
+
+from load import INSTANCES, MESSAGES, drawn
+from program import QUEUES, TOP, Count, add_commands, arguments, run
+from refuse import Program, Shim, is_well, refuse_each
+
+# the steps of address space, in bytes
+STEP = 256 * 1024
+
+
+def commands(wanted):
+    """The words of each command, and whether it has threads."""
+    if "read" in wanted:
+        yield ["read", "-"], False
+    for command in wanted:
+        if command != "read":
+            yield from (([command, "--queues", queues, "-"], command == "run") for queues in QUEUES)
+
+
+def in_space(most):
+    """What is done in a process before it becomes the program: it may have so much space."""
+    return lambda: resource.setrlimit(resource.RLIMIT_AS, (most, most))
+
+
+def is_unborn(ended):
+    """Whether the loader had no room for the program and its libraries."""
+    return ended.status == 127 or ended.status == -signal.SIGSEGV and not ended.error
+
+
+def limit_each(program, wanted):
+    """Runs each command with less and less address space."""
+    count, text = Count(), drawn(random.Random(1), INSTANCES, MESSAGES)
+    for words, has_threads in commands(wanted):
+        if words[0] == "check":
+            words[-1:] = ["--show", "0", "-"]
+        full = run([program, *words], text)
+        full = full.status, full.output, full.error
+        limits = refused = 0
+        # each thread has a stack of its own
+        step = 16 * STEP if has_threads else STEP
+        for space in range(step, 64 * step, step):
+            ended = run([program, *words], text, preexec_fn=in_space(space))
+            if is_unborn(ended):
+                continue
+            limits, refused = limits + 1, refused + (ended.status == 4)
+            ended = ended.status, ended.output, ended.error
+            count.add(is_well(full, ended, has_threads), *words, f"{space} bytes", ended)
+        count.add(0 < refused < limits, *words, "some limits are to be too small, and some not")
+        print(f"msc {' '.join(words)}: {limits} limits, {refused} of them too small")
+    return count.end()
+
+
+def refuse_all(options):
+    charts = options.charts or sorted(TOP.glob("charts/**/*.msc"))
+    passed = failed = 0
+    with tempfile.TemporaryDirectory() as folder:
+        shim = Shim(folder)
+        for chart in map(pathlib.Path, charts):
+            for words, has_threads in commands(options.commands):
+                program = Program([options.program, *words], chart.read_bytes(), shim)
+                told = f"msc {' '.join(words)} < {chart.name}"
+                right, wrong = refuse_each(program, told, has_threads, options.most, options.every)
+                passed, failed = passed + right, failed + wrong
+    print(f"{passed} passed, {failed} failed")
+    return int(failed > 0 or passed == 0)
+
+
+def main():
+    words = arguments(__doc__)
+    words.add_argument("--most", type=int, default=400, metavar="N")
+    words.add_argument("--every", type=int, default=97, metavar="K")
+    words.add_argument("--limit", action="store_true")
+    add_commands(words)
+    words.add_argument("charts", nargs="*", metavar="CHART")
+    options = words.parse_args()
+    return limit_each(options.program, options.commands) if options.limit else refuse_all(options)
+
+
+if __name__ == "__main__":
+    sys.exit(main())

@@ -1,0 +1,82 @@
+"""Runs of the program, for the commands beside this file."""
+import argparse
+import pathlib
+import subprocess
+import sys
+from typing import NamedTuple
+
+sys.dont_write_bytecode = True
+TOP = pathlib.Path(__file__).resolve().parent.parent.parent
+sys.path += [str(TOP / "tools/naive"), str(TOP / "tools/refuse")]
+
+# the most seconds that a run may take
+MOST = 60
+# the architectures
+QUEUES = ("pair", "mailbox", "single")
+
+
+class Answer(NamedTuple):
+    """What a run wrote to standard output and to standard error, and its exit status: below 0 where
+    a signal ended it, and None where it did not end in time."""
+    output: bytes
+    error: bytes
+    status: int
+
+
+def run(words, stdin=b"", **options):
+    """Runs these words with this standard input, and with options of subprocess."""
+    try:
+        done = subprocess.run(words, input=stdin, capture_output=True, timeout=MOST, **options)
+    except subprocess.TimeoutExpired as late:
+        return Answer(late.stdout or b"", late.stderr or b"", None)
+    return Answer(done.stdout, done.stderr, done.returncode)
+
+
+def arguments(about):
+    """The words of a command, of which the program is one."""
+    words = argparse.ArgumentParser(description=about,
+                                    formatter_class=argparse.RawDescriptionHelpFormatter)
+    words.add_argument("program", metavar="PROGRAM")
+    return words
+
+
+def add_commands(words):
+    """Puts the option for the commands that are tried."""
+    words.add_argument("--commands", default=["read", "check", "run"], metavar="C,..",
+                       type=lambda text: text.split(","))
+
+
+def check_words(program, queues, show=None):
+    shown = [] if show is None else ["--show", str(show)]
+    return [program, "check", "--queues", queues, *shown, "-"]
+
+
+class Count:
+    """How many checks passed and failed. What failed is printed, at most so many times."""
+
+    def __init__(self, most=20):
+        self.passed = self.failed = 0
+        self.most = most
+
+    def add(self, is_right, *told):
+        """Counts a check; `told` says what it was."""
+        if is_right:
+            self.passed += 1
+            return
+        self.failed += 1
+        if self.failed <= self.most:
+            print("failed:", *told)
+
+    def compare(self, got, wanted, *told):
+        self.add(got == wanted, *told, f"\n  wanted {brief(wanted)}\n  got    {brief(got)}")
+
+    def end(self):
+        """Prints the sum; answers the exit status of a command: 1 where one failed, or none was
+        tried."""
+        print(f"{self.passed} passed, {self.failed} failed")
+        return int(self.failed > 0 or self.passed == 0)
+
+
+def brief(value):
+    text = repr(tuple(value) if isinstance(value, tuple) else value)
+    return text if len(text) <= 600 else f"{text[:300]} .. {text[-300:]}"

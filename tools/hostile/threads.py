@@ -1,0 +1,114 @@
+#!/usr/bin/env python3
+"""Refuses each thread of `msc run` in turn, and looks at the answer.
+
+    threads.py [--instances N ..] [--limit] PROGRAM
+
+For charts of 1 to 32 instances, or of these numbers alone, under each architecture, each thread is
+refused alone, and with all later ones. Each answer has to be the fault line of the instance whose
+thread was refused first, nothing on standard output, and status 4; the process has to end by itself
+at once. Two charts are run for each number: in the one each instance waits for the one before it
+and the first for the last, so each waits for the one that is missing; in the other the last
+instance sends to all others, which act when they have it. With --limit, as root, no call is
+refused, but the program runs as a user that may have 1 to 9 processes and threads, so that the
+system itself says no. Prints what differs, and last `N passed, M failed`.
+"""
+import os
+import pathlib
+import resource
+import shutil
+import sys
+import tempfile
+import time
+
+from program import QUEUES, Answer, Count, arguments, run
+from refuse import Shim
+
+# the most seconds after which an answer comes at once
+SOON = 10
+# a user that has no process
+NOBODY = 64321
+
+
+def section(name, events):
+    return f"instance i{name};" + "".join(f"{event};" for event in events) + "endinstance;"
+
+
+def text_of(sections):
+    return ("msc t;" + "".join(sections) + "endmsc;").encode()
+
+
+def ring(count):
+    """Each instance waits for the one before it; the first sends, and then waits for the last."""
+    last = count - 1
+    first = section(0, ["out m0 to i1", f"in m{last} from i{last}"])
+    rest = [section(i, [f"in m{i - 1} from i{i - 1}", f"out m{i} to i{(i + 1) % count}"])
+            for i in range(1, count)]
+    return text_of([first, *rest] if rest else [section(0, ["out m to i0", "in m from i0"])])
+
+
+def star(count):
+    """The last instance sends to all others."""
+    last = count - 1
+    some = [section(i, [f"in m{i} from i{last}", f"action 'a{i}'"]) for i in range(last)]
+    return text_of([*some, section(last, [f"out m{i} to i{i}" for i in range(last)])])
+
+
+def not_started(instance):
+    return Answer(b"", f"run fault 1: instance {instance} could not be started\n".encode(), 4)
+
+
+def refuse_each(count, program, shim, instances):
+    """Refuses each thread of charts with so many instances."""
+    for chart in (ring, star):
+        for queues in QUEUES:
+            words, text = [program, "run", "--queues", queues, "-"], chart(instances)
+            answer = run(words, text, env=shim.env())
+            is_full = answer.status == 0 and shim.made()[1] == instances
+            count.add(is_full, chart.__name__, instances, queues, "in full", shim.made(), answer)
+            for instance in range(instances):
+                for later in ("", "+"):
+                    began = time.monotonic()
+                    answer = run(words, text, env=shim.env(REFUSE_THREAD=f"{instance + 1}{later}"))
+                    told = chart.__name__, instances, queues, f"thread {instance}{later}"
+                    count.compare(answer, not_started(instance), *told)
+                    is_soon = time.monotonic() - began < SOON
+                    count.add(is_soon, *told, f"has not ended after {SOON} seconds")
+
+
+def limited(most):
+    """What is done in a process before it becomes the program: it may have so many threads and
+    processes."""
+    return lambda: resource.setrlimit(resource.RLIMIT_NPROC, (most, most))
+
+
+def limit_each(count, program, folder):
+    """Runs charts as a user that may have few threads."""
+    reachable = pathlib.Path(folder) / "msc"
+    shutil.copy(program, reachable)
+    os.chmod(folder, 0o755)
+    os.chmod(reachable, 0o755)
+    for threads in range(9):
+        for queues in QUEUES:
+            options = {"user": NOBODY, "preexec_fn": limited(threads + 1), "cwd": "/"}
+            # all wait for the last, so no thread ends whose place another could take
+            answer = run([reachable, "run", "--queues", queues, "-"], star(9), **options)
+            count.compare(answer, not_started(threads), f"{threads} threads", queues)
+
+
+def main():
+    words = arguments(__doc__)
+    words.add_argument("--instances", type=int, nargs="+", default=range(1, 33), metavar="N")
+    words.add_argument("--limit", action="store_true")
+    options = words.parse_args()
+    count = Count()
+    with tempfile.TemporaryDirectory() as folder:
+        if options.limit:
+            limit_each(count, options.program, folder)
+        else:
+            for instances in options.instances:
+                refuse_each(count, options.program, Shim(folder), instances)
+    return count.end()
+
+
+if __name__ == "__main__":
+    sys.exit(main())
