@@ -17,7 +17,8 @@ use Rattle.msc_instance.specs.Views.{ends_of, left_by}
 
 -- what an instance left is the run of the instance of this number from these ends
 abbrev pub RunsFrom : Drawing → ℕ → Bool → ℕ → InstanceEnds → InstanceEnd → Type 0
-RunsFrom d i open' patience ends r = HasRun (role ends.queues d i) open' patience (ends_of ends) (left_by r)
+RunsFrom d i open' patience ends r =
+    HasRun (role ends.queues d i) open' patience (ends_of ends) (left_by r)
 
 -- the job of an instance that was not begun, its outlets closed
 pub record IsClosedJob (old new : Job) : Type 0 where
@@ -48,10 +49,11 @@ pub record AreJobs (queues : Queues) (d : Drawing) (jobs : List Job) : Type 0 wh
 
 -- each was run, in their order
 abbrev pub HaveRun : Drawing → Bool → ℕ → List Job → List InstanceEnd → Type 0
-HaveRun d open' patience jobs ran = AllZip (λ (j : Job) (r : InstanceEnd). RunsFrom d j.number open' patience j.ends r) jobs ran
+HaveRun d open' patience jobs ran =
+    AllZip (λ (j : Job) (r : InstanceEnd). RunsFrom d j.number open' patience j.ends r) jobs ran
 
--- The later instances, whose jobs these were, are closed. Beside them stands the one whose thread was
--- refused, or its answer beside the answers
+-- The later instances, whose jobs these were, are closed. Beside them stands the one whose thread
+-- was refused, or its answer beside the answers
 abbrev pub HaveStopped : Answer → List Job → List Answer → Gathered → Type 0
 HaveStopped (Ran r) jobs answers g =
     AllZip IsClosedJob jobs g.unstarted.items × (g.answers.items ≡ answers ++ Ran r ∷ [])
@@ -59,9 +61,10 @@ HaveStopped (NotRun k) jobs answers g =
     (closed : List Job) × AllZip IsClosedJob jobs closed
     × (g.unstarted.items ≡ closed ++ k ∷ []) × (g.answers.items ≡ answers)
 
--- Of these jobs, in which the first instance stands last, a part was started, and each of its threads
--- has answered; the others, which are all behind, were not begun and their outlets are closed
-pub record HaveAnswered (d : Drawing) (open' : Bool) (patience : ℕ) (jobs : List Job) (g : Gathered) : Type 0 where
+-- Of these jobs, in which the first instance stands last, the first ones were started, and each of
+-- their threads has answered; the others were not begun and their outlets are closed
+pub record HaveAnswered (d : Drawing) (open' : Bool) (patience : ℕ) (jobs : List Job) (g : Gathered)
+    : Type 0 where
   pub others : List Job
   pub started : List Job
   pub whole : jobs ≡ others ++ started
@@ -80,4 +83,5 @@ IsRefused g i =
 
 -- Instance i was refused: those before it have answered, and it and all behind it are closed
 abbrev pub WasRefused : Drawing → Bool → ℕ → List Job → ℕ → Type 0
-WasRefused d open' patience jobs i = (g : Gathered) × HaveAnswered d open' patience jobs g × IsRefused g i
+WasRefused d open' patience jobs i =
+    (g : Gathered) × HaveAnswered d open' patience jobs g × IsRefused g i
