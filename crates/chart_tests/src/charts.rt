@@ -12,11 +12,11 @@ pub(crate) fn chart_of(alloc: Global, text: &[u8]) -> Result<Chart, Fail> {
     Ok(Chart::build(alloc, &parse(alloc, text)?)?)
 }
 
-/// The fault of a text whose draft is no chart.
-fn fault(alloc: Global, text: &[u8]) -> Option<ChartFault> {
+/// Whether a text has a draft with this fault, or whose chart is built where there is none.
+fn has_fault(alloc: Global, text: &[u8], wanted: Option<ChartFault>) -> bool {
     match parse(alloc, text) {
-        Ok(draft) => Chart::build(alloc, &draft).err(),
-        Err(_) => None,
+        Ok(draft) => Chart::build(alloc, &draft).err() == wanted,
+        Err(_) => false,
     }
 }
 
@@ -70,7 +70,7 @@ instance b; in m from a; in m from a; endinstance; endmsc;",
 #[test]
 fn drafts_and_their_faults(rt: HostRuntime) {
     for (text, wanted) in DRAFTS {
-        assert_eq!(rt; fault(rt.alloc(), text), wanted, "{text:?}");
+        assert!(rt; has_fault(rt.alloc(), text, wanted), "{text:?}");
     }
 }
 
@@ -88,13 +88,19 @@ fn add_part(text: &mut String, part: Part) -> Result<(), AllocError> {
     Ok(())
 }
 
-/// The fault of the draft of a text of these parts.
-fn fault_of(alloc: Global, parts: &[Part]) -> Result<Option<ChartFault>, AllocError> {
+/// The text of these parts.
+fn text_of(alloc: Global, parts: &[Part]) -> Result<String, AllocError> {
     let mut text = String::new(alloc);
     for part in parts {
         add_part(&mut text, *part)?;
     }
-    Ok(fault(alloc, text.as_bytes()))
+    Ok(text)
+}
+
+/// Whether the draft of that text has this fault, or none.
+fn is_limit(alloc: Global, parts: &[Part], wanted: Option<ChartFault>) -> Result<bool, AllocError> {
+    let text = text_of(alloc, parts)?;
+    Ok(has_fault(alloc, text.as_bytes(), wanted))
 }
 
 /// The beginning of a text, with its first section.
@@ -154,35 +160,32 @@ const LIMITS: [(&[Part], Option<ChartFault>); 7] = [
 #[test]
 fn the_limits_of_charts(rt: HostRuntime) -> Result<(), Fail> {
     for (parts, wanted) in LIMITS {
-        assert_eq!(rt; fault_of(rt.alloc(), parts)?, wanted, "{parts:?}");
+        assert!(rt; is_limit(rt.alloc(), parts, wanted)?, "{wanted:?}");
     }
     Ok(())
 }
 
-/// How many events a text's chart has, the segments of two of them, and whether the first is drawn
-/// before the second; none where it has no such events.
-fn drawn(
-    alloc: Global,
-    text: &[u8],
-    e: Event,
-    f: Event,
-) -> Result<Option<(u32, u32, u32, bool)>, Fail> {
+/// How many events a chart has, the segments of two of them, and whether the first is drawn before
+/// the second.
+type Drawn = (u32, u32, u32, bool);
+
+/// Whether this is drawn of two events of a text's chart.
+fn is_drawn(alloc: Global, text: &[u8], e: Event, f: Event, wanted: Drawn) -> Result<bool, Fail> {
     let chart = chart_of(alloc, text)?;
     let events = chart.events();
     if e >= events || f >= events {
-        return Ok(None);
+        return Ok(false);
     }
     let segments = (chart.segment(e), chart.segment(f));
-    Ok(Some((events, segments.0, segments.1, chart.before(e, f))))
+    Ok((events, segments.0, segments.1, chart.before(e, f)) == wanted)
 }
 
 /// A chart in which a coregion without events stands between two events.
 const EMPTY_COREGION: &[u8] = b"msc t; instance a; out m to a; concurrent; endconcurrent; \
 in m from a; endinstance; endmsc;";
 
-/// Texts, two events, and what is drawn of them: how many events there are, their segments, and
-/// whether the first is drawn before the second.
-const DRAWN: [(&[u8], Event, Event, (u32, u32, u32, bool)); 4] = [
+/// Texts, two events, and what is drawn of them.
+const DRAWN: [(&[u8], Event, Event, Drawn); 4] = [
     (COREGION, 1, 2, (4, 0, 0, false)),
     (TWO_SENDERS, 1, 2, (4, 0, 1, true)),
     (EMPTY_COREGION, 0, 1, (2, 0, 1, true)),
@@ -192,8 +195,8 @@ const DRAWN: [(&[u8], Event, Event, (u32, u32, u32, bool)); 4] = [
 #[test]
 fn segments_and_what_is_drawn_before(rt: HostRuntime) -> Result<(), Fail> {
     for (text, e, f, wanted) in DRAWN {
-        let drawn = drawn(rt.alloc(), text, e, f)?;
-        assert_eq!(rt; drawn, Some(wanted), "({e}, {f}): {text:?}");
+        let is = is_drawn(rt.alloc(), text, e, f, wanted)?;
+        assert!(rt; is, "({e}, {f}): {text:?}");
     }
     Ok(())
 }
@@ -208,20 +211,30 @@ fn has_names(chart: &Chart, [name, instance, message]: [&[u8]; 3]) -> bool {
     of_message && chart.instance_name(2) == instance
 }
 
+/// Whether the chart of a text has these names.
+fn is_named(alloc: Global, text: &[u8], names: [&[u8]; 3]) -> Result<bool, Fail> {
+    Ok(has_names(&chart_of(alloc, text)?, names))
+}
+
 #[test]
 fn names_of_relay(rt: HostRuntime) -> Result<(), Fail> {
-    let chart = chart_of(rt.alloc(), RELAY)?;
-    assert!(rt; has_names(&chart, [b"t", b"c", b"x"]));
+    assert!(rt; is_named(rt.alloc(), RELAY, [b"t", b"c", b"x"])?);
     Ok(())
 }
 
-/// The line of an instance of a text's chart, if it has it.
-fn line_of(alloc: Global, text: &[u8], i: u32) -> Result<Option<(Event, Event)>, Fail> {
+/// Whether a text's chart has an instance with this line, or where there is none, no instance of
+/// this number.
+fn is_line(
+    alloc: Global,
+    text: &[u8],
+    i: u32,
+    wanted: Option<(Event, Event)>,
+) -> Result<bool, Fail> {
     let chart = chart_of(alloc, text)?;
     if i >= chart.instances() {
-        return Ok(None);
+        return Ok(wanted.is_none());
     }
-    Ok(Some(chart.line(i)))
+    Ok(Some(chart.line(i)) == wanted)
 }
 
 /// The instances of `relay` and their lines, and the number past the last instance.
@@ -235,27 +248,26 @@ const LINES: [(u32, Option<(Event, Event)>); 4] = [
 #[test]
 fn lines_of_relay(rt: HostRuntime) -> Result<(), Fail> {
     for (i, wanted) in LINES {
-        assert_eq!(rt; line_of(rt.alloc(), RELAY, i)?, wanted, "{i}");
+        assert!(rt; is_line(rt.alloc(), RELAY, i, wanted)?, "{i}");
     }
     Ok(())
 }
 
-/// The instance, the kind, the partner and the message of an event of a text's chart, if it has it.
-fn event_of(
-    alloc: Global,
-    text: &[u8],
-    e: Event,
-) -> Result<Option<(u32, EventKind, Option<Event>, Option<u32>)>, Fail> {
+/// The instance, the kind, the partner and the message of an event.
+type Shown = (u32, EventKind, Option<Event>, Option<u32>);
+
+/// Whether a text's chart has an event of which this is shown.
+fn is_event(alloc: Global, text: &[u8], e: Event, wanted: Shown) -> Result<bool, Fail> {
     let chart = chart_of(alloc, text)?;
     if e >= chart.events() {
-        return Ok(None);
+        return Ok(false);
     }
     let ends = (chart.partner(e), chart.message(e));
-    Ok(Some((chart.instance_of(e), chart.kind(e), ends.0, ends.1)))
+    Ok((chart.instance_of(e), chart.kind(e), ends.0, ends.1) == wanted)
 }
 
-/// Texts, an event, and its instance, its kind, its partner and its message.
-const EVENTS: [(&[u8], Event, (u32, EventKind, Option<Event>, Option<u32>)); 6] = [
+/// Texts, an event, and what is shown of it.
+const EVENTS: [(&[u8], Event, Shown); 6] = [
     (RELAY, 1, (0, EventKind::Output, Some(4), Some(1))),
     (RELAY, 2, (1, EventKind::Input, Some(0), Some(0))),
     (RELAY, 3, (1, EventKind::Input, Some(5), Some(2))),
@@ -267,11 +279,7 @@ const EVENTS: [(&[u8], Event, (u32, EventKind, Option<Event>, Option<u32>)); 6] 
 #[test]
 fn events_of_charts(rt: HostRuntime) -> Result<(), Fail> {
     for (text, e, wanted) in EVENTS {
-        assert_eq!(rt;
-            event_of(rt.alloc(), text, e)?,
-            Some(wanted),
-            "{e}: {text:?}"
-        );
+        assert!(rt; is_event(rt.alloc(), text, e, wanted)?, "{e}: {text:?}");
     }
     Ok(())
 }
@@ -303,43 +311,39 @@ fn labels_of_local_events(rt: HostRuntime) -> Result<(), Fail> {
     Ok(())
 }
 
-/// The output, the input, the sender and the receiver of a message of a text's chart, if it has it.
-fn message_of(
-    alloc: Global,
-    text: &[u8],
-    m: u32,
-) -> Result<Option<(Event, Event, u32, u32)>, Fail> {
-    let chart = chart_of(alloc, text)?;
+/// The output, the input, the sender and the receiver of a message, and its queue under each
+/// architecture.
+type Sent = ((Event, Event, u32, u32), [u32; 3]);
+
+/// What is shown of a message of a chart, if it has the message.
+fn sent(chart: &Chart, m: u32) -> Option<Sent> {
     if m >= chart.messages() {
-        return Ok(None);
+        return None;
     }
     let ends = (chart.output_of(m), chart.input_of(m));
-    Ok(Some((ends.0, ends.1, chart.sender(m), chart.receiver(m))))
-}
-
-#[test]
-fn messages_of_relay(rt: HostRuntime) -> Result<(), Fail> {
-    for (m, wanted) in [(1, Some((1, 4, 0, 2))), (2, Some((5, 3, 2, 1))), (3, None)] {
-        assert_eq!(rt; message_of(rt.alloc(), RELAY, m)?, wanted, "{m}");
-    }
-    Ok(())
-}
-
-/// The queue of a message of a text's chart under each architecture, if it has the message.
-fn queues_of(alloc: Global, text: &[u8], m: u32) -> Result<Option<(u32, u32, u32)>, Fail> {
-    let chart = chart_of(alloc, text)?;
-    if m >= chart.messages() {
-        return Ok(None);
-    }
+    let pair = chart.queue(m, Queues::Pair);
     let mailbox = chart.queue(m, Queues::Mailbox);
-    let single = chart.queue(m, Queues::Single);
-    Ok(Some((chart.queue(m, Queues::Pair), mailbox, single)))
+    let queues = [pair, mailbox, chart.queue(m, Queues::Single)];
+    Some(((ends.0, ends.1, chart.sender(m), chart.receiver(m)), queues))
 }
 
+/// Whether this is shown of a message of a text's chart.
+fn is_sent(alloc: Global, text: &[u8], m: u32, wanted: Option<Sent>) -> Result<bool, Fail> {
+    Ok(sent(&chart_of(alloc, text)?, m) == wanted)
+}
+
+/// The messages of `relay`, and the number past the last one.
+const SENT: [(u32, Option<Sent>); 4] = [
+    (0, Some(((0, 2, 0, 1), [1, 1, 0]))),
+    (1, Some(((1, 4, 0, 2), [2, 2, 1]))),
+    (2, Some(((5, 3, 2, 1), [7, 1, 2]))),
+    (3, None),
+];
+
 #[test]
-fn queues_of_relay(rt: HostRuntime) -> Result<(), Fail> {
-    for (m, wanted) in [(0, (1, 1, 0)), (1, (2, 2, 1)), (2, (7, 1, 2))] {
-        assert_eq!(rt; queues_of(rt.alloc(), RELAY, m)?, Some(wanted), "{m}");
+fn messages_of_relay_and_their_queues(rt: HostRuntime) -> Result<(), Fail> {
+    for (m, wanted) in SENT {
+        assert!(rt; is_sent(rt.alloc(), RELAY, m, wanted)?, "{m}");
     }
     Ok(())
 }

@@ -44,8 +44,8 @@ const GATHERED: [(&[u8], Queues, &[&[Event]], &[Event]); 8] = [
     (CROSSING, Queues::Pair, &[&[], &[]], &[]),
 ];
 
-/// Logs of `crossing` that no run has as its lines: each queue is in order by itself; a log too few;
-/// an event twice; events on another line; an event of no chart; an input without its output.
+/// Logs of `crossing` that no run has as its lines: each queue is in order by itself; a log too
+/// few; an event twice; events on another line; an event of no chart; an input without its output.
 const OF_NO_RUN: [&[&[Event]]; 6] = [
     &[&[1, 0], &[3, 2]],
     &[&[0, 1]],
@@ -66,24 +66,27 @@ fn owned(alloc: Global, logs: &[&[Event]]) -> Result<Vec<Vec<Event>>, AllocError
     Ok(all)
 }
 
-/// What the logs of a text's chart are gathered into.
-fn gathered(
+/// Whether the logs of a text's chart are gathered into this run, or where there is none, no run
+/// has them as its lines.
+fn is_gathered(
     alloc: Global,
     text: &[u8],
     queues: Queues,
     logs: &[&[Event]],
-) -> Result<Result<Vec<Event>, GatherFault>, Fail> {
+    wanted: Option<&[Event]>,
+) -> Result<bool, Fail> {
     let chart = chart_of(alloc, text)?;
-    Ok(gather(alloc, &chart, queues, &owned(alloc, logs)?))
+    Ok(match gather(alloc, &chart, queues, &owned(alloc, logs)?) {
+        Ok(run) => Some(run.as_slice()) == wanted,
+        Err(GatherFault::NoMerge) => wanted.is_none(),
+        Err(_) => false,
+    })
 }
 
 #[test]
 fn logs_of_runs(rt: HostRuntime) -> Result<(), Fail> {
     for (text, queues, logs, wanted) in GATHERED {
-        let is = match gathered(rt.alloc(), text, queues, logs)? {
-            Ok(run) => run.as_slice() == wanted,
-            Err(_) => false,
-        };
+        let is = is_gathered(rt.alloc(), text, queues, logs, Some(wanted))?;
         assert!(rt; is, "{queues:?} {wanted:?}");
     }
     Ok(())
@@ -92,10 +95,7 @@ fn logs_of_runs(rt: HostRuntime) -> Result<(), Fail> {
 #[test]
 fn logs_of_no_run(rt: HostRuntime) -> Result<(), Fail> {
     for logs in OF_NO_RUN {
-        let is = match gathered(rt.alloc(), CROSSING, Queues::Pair, logs)? {
-            Err(GatherFault::NoMerge) => true,
-            _ => false,
-        };
+        let is = is_gathered(rt.alloc(), CROSSING, Queues::Pair, logs, None)?;
         assert!(rt; is, "{}", logs.len());
     }
     Ok(())

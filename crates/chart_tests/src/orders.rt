@@ -11,37 +11,41 @@ use std::test::Fail;
 
 /// How many events an order is of, and whether it holds two of them in this order, and in the
 /// other.
-fn held(order: &Order, events: u32, e: Event, f: Event) -> (u32, bool, bool)
+type Held = (u32, bool, bool);
+
+/// Whether this is held of two events by an order of so many events.
+fn is_held(order: &Order, events: u32, e: Event, f: Event, wanted: Held) -> bool
     requires { events ≡ length order.now }
 {
     if e >= events || f >= events {
-        return (events, false, false);
+        return false;
     }
-    (events, order.holds(e, f), order.holds(f, e))
+    (events, order.holds(e, f), order.holds(f, e)) == wanted
 }
 
-/// The same of the visual order of a text's chart.
-fn seen(alloc: Global, text: &[u8], e: Event, f: Event) -> Result<(u32, bool, bool), Fail> {
+/// Whether this is held by the visual order of a text's chart.
+fn is_seen(alloc: Global, text: &[u8], e: Event, f: Event, wanted: Held) -> Result<bool, Fail> {
     let chart = chart_of(alloc, text)?;
     let order = Order::visual(alloc, &chart)?;
-    Ok(held(&order, chart.events(), e, f))
+    Ok(is_held(&order, chart.events(), e, f, wanted))
 }
 
-/// The same of the enforced order of a text's chart.
-fn enforced(
+/// Whether this is held by the enforced order of a text's chart.
+fn is_enforced(
     alloc: Global,
     text: &[u8],
     queues: Queues,
     e: Event,
     f: Event,
-) -> Result<(u32, bool, bool), Fail> {
+    wanted: Held,
+) -> Result<bool, Fail> {
     let chart = chart_of(alloc, text)?;
     let order = Order::enforced(alloc, &chart, queues)?;
-    Ok(held(&order, chart.events(), e, f))
+    Ok(is_held(&order, chart.events(), e, f, wanted))
 }
 
 /// Texts, two events, and what the visual order holds of them.
-const SEEN: [(&[u8], Event, Event, (u32, bool, bool)); 2] = [
+const SEEN: [(&[u8], Event, Event, Held); 2] = [
     (OVERTAKING, 2, 3, (4, true, false)),
     (WAITS, 1, 2, (3, true, false)),
 ];
@@ -49,13 +53,13 @@ const SEEN: [(&[u8], Event, Event, (u32, bool, bool)); 2] = [
 #[test]
 fn what_is_drawn_is_in_the_visual_order(rt: HostRuntime) -> Result<(), Fail> {
     for (text, e, f, wanted) in SEEN {
-        assert_eq!(rt; seen(rt.alloc(), text, e, f)?, wanted, "{text:?}");
+        assert!(rt; is_seen(rt.alloc(), text, e, f, wanted)?, "{text:?}");
     }
     Ok(())
 }
 
 /// Texts, architectures, two events, and what the enforced order holds of them.
-const ENFORCED: [(&[u8], Queues, Event, Event, (u32, bool, bool)); 8] = [
+const ENFORCED: [(&[u8], Queues, Event, Event, Held); 8] = [
     (OVERTAKING, Queues::Pair, 2, 3, (4, false, true)),
     (OVERTAKING, Queues::Mailbox, 2, 3, (4, false, true)),
     (OVERTAKING, Queues::Single, 2, 3, (4, false, false)),
@@ -69,8 +73,8 @@ const ENFORCED: [(&[u8], Queues, Event, Event, (u32, bool, bool)); 8] = [
 #[test]
 fn what_an_architecture_enforces(rt: HostRuntime) -> Result<(), Fail> {
     for (text, queues, e, f, wanted) in ENFORCED {
-        let held = enforced(rt.alloc(), text, queues, e, f)?;
-        assert_eq!(rt; held, wanted, "{queues:?}: {text:?}");
+        let is = is_enforced(rt.alloc(), text, queues, e, f, wanted)?;
+        assert!(rt; is, "{queues:?}: {text:?}");
     }
     Ok(())
 }

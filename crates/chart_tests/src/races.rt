@@ -57,13 +57,25 @@ fn messages(alloc: Global, count: u32, reversed: bool) -> Result<String, AllocEr
 /// How many races there are, the first and the last.
 type Summary = (usize, Option<(Event, Event)>, Option<(Event, Event)>);
 
-/// The races of so many messages from a to b, in one order or the inputs in reverse.
-fn races_of(alloc: Global, count: u32, reversed: bool, queues: Queues) -> Result<Summary, Fail> {
-    let text = messages(alloc, count, reversed)?;
-    let chart = chart_of(alloc, text.as_bytes())?;
+/// How many races there are of a text's chart under an architecture, the first and the last.
+fn summary(alloc: Global, text: &[u8], queues: Queues) -> Result<Summary, Fail> {
+    let chart = chart_of(alloc, text)?;
     let verdict = check(alloc, &chart, queues)?;
     let list = listed(&verdict);
     Ok((list.len(), list.first().copied(), list.last().copied()))
+}
+
+/// Whether these are the races of so many messages from a to b, in one order or the inputs in
+/// reverse.
+fn are_many(
+    alloc: Global,
+    count: u32,
+    reversed: bool,
+    queues: Queues,
+    wanted: Summary,
+) -> Result<bool, Fail> {
+    let text = messages(alloc, count, reversed)?;
+    Ok(summary(alloc, text.as_bytes(), queues)? == wanted)
 }
 
 /// Numbers of messages, whether their inputs are in reverse, architectures, and the races.
@@ -105,8 +117,8 @@ const MANY: [(u32, bool, Queues, Summary); 7] = [
 #[test]
 fn many_messages(rt: HostRuntime) -> Result<(), Fail> {
     for (count, reversed, queues, wanted) in MANY {
-        let races = races_of(rt.alloc(), count, reversed, queues)?;
-        assert_eq!(rt; races, wanted, "{count} messages, {queues:?}");
+        let are = are_many(rt.alloc(), count, reversed, queues, wanted)?;
+        assert!(rt; are, "{count} messages, {queues:?}");
     }
     Ok(())
 }
