@@ -51,6 +51,3 @@ pub const SENDER_LIMIT: usize = 32;
 
 /// The greatest sum of the quotas of a queue, in messages.
 pub const QUOTA_LIMIT: usize = 1_024;
-
-/// The greatest number of places of a queue: one for each message and one for each end mark.
-pub const PLACE_LIMIT: usize = 1_056;
