@@ -21,6 +21,7 @@ import tempfile
 from load import INSTANCES, MESSAGES, drawn
 from program import QUEUES, TOP, Count, add_commands, arguments, run
 from refuse import Program, Shim, is_well, refuse_each
+from threads import star
 
 # the steps of address space, in bytes
 STEP = 256 * 1024
@@ -47,8 +48,9 @@ def is_unborn(ended):
 
 def limit_each(program, wanted):
     """Runs each command with less and less address space."""
-    count, text = Count(), drawn(random.Random(1), INSTANCES, MESSAGES)
+    count = Count()
     for words, has_threads in commands(wanted):
+        text = star(INSTANCES) if has_threads else drawn(random.Random(1), INSTANCES, MESSAGES)
         if words[0] == "check":
             words[-1:] = ["--show", "0", "-"]
         full = run([program, *words], text)
@@ -56,7 +58,7 @@ def limit_each(program, wanted):
         limits = refused = 0
         # each thread has a stack of its own
         step = 16 * STEP if has_threads else STEP
-        for space in range(step, 64 * step, step):
+        for space in range(step, 96 * step, step):
             ended = run([program, *words], text, preexec_fn=in_space(space))
             if is_unborn(ended):
                 continue

@@ -1,14 +1,15 @@
 #!/usr/bin/env python3
 """Refuses each thread of `msc run` in turn, and looks at the answer.
 
-    threads.py [--instances N ..] [--limit] PROGRAM
+    threads.py [--instances N ..] [--limit] [--knot] PROGRAM
 
 For charts of 1 to 32 instances, or of these numbers alone, under each architecture, each thread is
 refused alone, and with all later ones. Each answer has to be the fault line of the instance whose
 thread was refused first, nothing on standard output, and status 4; the process has to end by itself
 at once. Two charts are run for each number: in the one each instance waits for the one before it
 and the first for the last, so each waits for the one that is missing; in the other the last
-instance sends to all others, which act when they have it. With --limit, as root, no call is
+instance sends to all others, which act when they have it. With --knot another chart is run, in
+which two instances wait for the third, and then for each other. With --limit, as root, no call is
 refused, but the program runs as a user that may have 1 to 9 processes and threads, so that the
 system itself says no. Prints what differs, and last `N passed, M failed`.
 """
@@ -53,13 +54,20 @@ def star(count):
     return text_of([*some, section(last, [f"out m{i} to i{i}" for i in range(last)])])
 
 
+def knot(_):
+    """Two instances wait for the third, and then for each other."""
+    waiting = [section(i, [f"in p{i} from i2", f"out q{i} to i{1 - i}", f"in q{1 - i} from i{1 - i}"])
+               for i in range(2)]
+    return text_of([*waiting, section(2, ["out p0 to i0", "out p1 to i1"])])
+
+
 def not_started(instance):
     return Answer(b"", f"run fault 1: instance {instance} could not be started\n".encode(), 4)
 
 
-def refuse_each(count, program, shim, instances):
+def refuse_each(count, program, shim, instances, charts=(ring, star)):
     """Refuses each thread of charts with so many instances."""
-    for chart in (ring, star):
+    for chart in charts:
         for queues in QUEUES:
             words, text = [program, "run", "--queues", queues, "-"], chart(instances)
             answer = run(words, text, env=shim.env())
@@ -99,11 +107,14 @@ def main():
     words = arguments(__doc__)
     words.add_argument("--instances", type=int, nargs="+", default=range(1, 33), metavar="N")
     words.add_argument("--limit", action="store_true")
+    words.add_argument("--knot", action="store_true")
     options = words.parse_args()
     count = Count()
     with tempfile.TemporaryDirectory() as folder:
         if options.limit:
             limit_each(count, options.program, folder)
+        elif options.knot:
+            refuse_each(count, options.program, Shim(folder), 3, [knot])
         else:
             for instances in options.instances:
                 refuse_each(count, options.program, Shim(folder), instances)
