@@ -1,7 +1,7 @@
 //! `msc check`: the verdicts, races and runs of charts, what it prints, and its exit statuses.
 
 use crate::devices::byte_writer;
-use crate::program::{answers, run};
+use crate::program::{Host, answers, run};
 use example_charts::{
     COREGION, CROSSING, EMPTY, LOCAL_EVENTS, NUMBERED, ONE_MESSAGE, OVERTAKING, RELAY,
     TEXTS_OF_ACTIONS, TWO_MAILBOXES, TWO_SENDERS, WAITS,
@@ -104,7 +104,7 @@ race 6 7 on z: in m4 from b; in m3 from a\nrun 0 1 2 3 4 5 7 6\n",
 
 /// Whether `msc check` prints of a text under an architecture a verdict on a chart named `t`, with
 /// this behind its first two lines, and ends with the status of that verdict.
-fn prints(rt: &HostRuntime, text: &[u8], queues: &str, rest: &[u8]) -> Result<bool, AllocError> {
+fn prints<R: Host>(rt: &R, text: &[u8], queues: &str, rest: &[u8]) -> Result<bool, AllocError> {
     let run = run(rt, &["check", "--queues", queues, "-"], text)?;
     let head = format!(in rt.alloc(); "chart t\nqueues {queues}\n")?;
     let is_right = run.output.as_slice().strip_prefix(head.as_bytes()) == Some(rest);
@@ -113,7 +113,7 @@ fn prints(rt: &HostRuntime, text: &[u8], queues: &str, rest: &[u8]) -> Result<bo
 }
 
 /// Whether it prints these under the three architectures.
-fn prints_each(rt: &HostRuntime, text: &[u8], rests: Rests) -> Result<bool, AllocError> {
+fn prints_each<R: Host>(rt: &R, text: &[u8], rests: Rests) -> Result<bool, AllocError> {
     let [pair, mailbox, single] = rests;
     let without_order = prints(rt, text, "single", single)?;
     Ok(without_order && prints(rt, text, "pair", pair)? && prints(rt, text, "mailbox", mailbox)?)
@@ -145,7 +145,7 @@ instance b; in m from a; in m from a; endinstance; endmsc;",
 ];
 
 /// Whether `msc check` refuses a text with this line under each architecture.
-fn refuses(rt: &HostRuntime, text: &[u8], line: &[u8]) -> Result<bool, AllocError> {
+fn refuses<R: Host>(rt: &R, text: &[u8], line: &[u8]) -> Result<bool, AllocError> {
     for queues in ARCHITECTURES {
         let words = ["check", "--queues", queues, "-"];
         if !answers(rt, &words, text, (b"", line, 2))? {

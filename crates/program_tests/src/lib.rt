@@ -13,6 +13,8 @@ mod inputs;
 #[cfg(test)]
 mod program;
 #[cfg(test)]
+mod runs;
+#[cfg(test)]
 mod shown;
 #[cfg(test)]
 mod traces;

@@ -3,9 +3,17 @@
 use crate::devices::{Narrow, Unflushed};
 use example_charts::{EMPTY, KINDS_AND_COMMENTS, ONE_MESSAGE, TEXTS_OF_ACTIONS};
 use msc_command::command;
-use std::alloc::{AllocError, Global};
+use std::alloc::{AllocError, AllocGlobal, Global};
 use std::io::Write;
+use std::rt::Files;
+use std::sync::Wait;
 use std::test::Fail;
+use std::thread::Threads;
+
+/// What the program needs of the machine.
+pub trait Host: AllocGlobal + Files + Threads + Wait + Sync {}
+
+impl<R: AllocGlobal + Files + Threads + Wait + Sync> Host for R {}
 
 /// What a run of the program printed, and its exit status.
 #[derive(Drop)]
@@ -26,7 +34,7 @@ fn words_of(alloc: Global, words: &[&str]) -> Result<Vec<String>, AllocError> {
 }
 
 /// Runs the program over these words and this standard input.
-pub fn run(rt: &HostRuntime, words: &[&str], stdin: &[u8]) -> Result<Outcome, AllocError> {
+pub fn run<R: Host>(rt: &R, words: &[&str], stdin: &[u8]) -> Result<Outcome, AllocError> {
     let mut output = Vec::new(rt.alloc());
     let (status, faults) = run_into(rt, words, stdin, &mut output)?;
     Ok(Outcome {
@@ -38,8 +46,8 @@ pub fn run(rt: &HostRuntime, words: &[&str], stdin: &[u8]) -> Result<Outcome, Al
 
 /// Runs the program over these words and this standard input, into this output; gives its exit
 /// status and what went to standard error.
-fn run_into<O: Write>(
-    rt: &HostRuntime,
+fn run_into<R: Host, O: Write>(
+    rt: &R,
     words: &[&str],
     stdin: &[u8],
     output: &mut O,
@@ -56,8 +64,8 @@ fn run_into<O: Write>(
 pub type Answer<'a> = (&'a [u8], &'a [u8], u8);
 
 /// Whether a run over these words and this standard input ends so.
-pub fn answers(
-    rt: &HostRuntime,
+pub fn answers<R: Host>(
+    rt: &R,
     words: &[&str],
     stdin: &[u8],
     wanted: Answer,
@@ -69,7 +77,7 @@ pub fn answers(
 }
 
 /// Whether a run over these words is refused with words of `clap` on standard error alone.
-fn is_wrong(rt: &HostRuntime, words: &[&str]) -> Result<bool, AllocError> {
+fn is_wrong<R: Host>(rt: &R, words: &[&str]) -> Result<bool, AllocError> {
     let run = run(rt, words, ONE_MESSAGE)?;
     Ok(run.output.len() == 0 && run.faults.len() > 0 && run.status == 2)
 }
@@ -106,11 +114,12 @@ fn texts_that_are_read(rt: HostRuntime) -> Result<(), Fail> {
 }
 
 /// The words of one run of each command and architecture.
-const RUNS: [&[&str]; 4] = [
+const RUNS: [&[&str]; 5] = [
     &["read", "-"],
     &["check", "--queues", "pair", "-"],
     &["check", "--queues", "mailbox", "-"],
     &["check", "--queues", "single", "-"],
+    &["run", "--queues", "pair", "-"],
 ];
 
 /// Texts without a draft, and the line of their fault.
@@ -188,9 +197,10 @@ fn texts_at_the_limit(rt: HostRuntime) -> Result<(), Fail> {
 }
 
 /// Words that name a file that is not there.
-const NO_FILES: [&[&str]; 2] = [
+const NO_FILES: [&[&str]; 3] = [
     &["read", "no/such/file.msc"],
     &["check", "--queues", "pair", "no/such/file.msc"],
+    &["run", "--queues", "pair", "no/such/file.msc"],
 ];
 
 #[test]
@@ -203,7 +213,7 @@ fn a_file_that_is_not_there(rt: HostRuntime) -> Result<(), Fail> {
 }
 
 /// Words that are no command.
-const WRONG: [&[&str]; 14] = [
+const WRONG: [&[&str]; 18] = [
     &[],
     &["read"],
     &["read", "-", "-"],
@@ -218,6 +228,10 @@ const WRONG: [&[&str]; 14] = [
     &["check", "--queues", "pair", "--show", "x", "-"],
     &["read", "--show", "0", "-"],
     &["read", "--queues", "pair", "-"],
+    &["run", "-"],
+    &["run", "--queues", "pair", "--patience", "4294967296", "-"],
+    &["run", "--queues", "pair", "--show", "1", "-"],
+    &["check", "--queues", "pair", "--patience", "1", "-"],
 ];
 
 #[test]
@@ -229,7 +243,7 @@ fn wrong_usage(rt: HostRuntime) -> Result<(), Fail> {
 }
 
 /// Whether a run over these words answers that the first call of its output failed.
-fn fails_at_once(rt: &HostRuntime, words: &[&str]) -> Result<bool, AllocError> {
+fn fails_at_once<R: Host>(rt: &R, words: &[&str]) -> Result<bool, AllocError> {
     let mut output = Narrow {
         written: Vec::new(rt.alloc()),
         step: usize::MAX,
@@ -241,7 +255,7 @@ fn fails_at_once(rt: &HostRuntime, words: &[&str]) -> Result<bool, AllocError> {
 }
 
 /// Whether a run over these words flushes its output once, and answers that this failed.
-fn fails_when_flushed(rt: &HostRuntime, words: &[&str]) -> Result<bool, AllocError> {
+fn fails_when_flushed<R: Host>(rt: &R, words: &[&str]) -> Result<bool, AllocError> {
     let mut output = Unflushed { flushes: 0 };
     let (status, faults) = run_into(rt, words, ONE_MESSAGE, &mut output)?;
     let told = faults.as_slice() == b"device fault\n".as_slice() && status == 4;
@@ -281,14 +295,14 @@ fn has(text: &[u8], part: &str) -> bool {
 }
 
 /// Whether a run over these words prints help that has this part, and nothing else.
-fn helps(rt: &HostRuntime, words: &[&str], part: &str) -> Result<bool, AllocError> {
+fn helps<R: Host>(rt: &R, words: &[&str], part: &str) -> Result<bool, AllocError> {
     let run = run(rt, words, b"")?;
     let is_help = run.faults.len() == 0 && run.status == 0;
     Ok(is_help && has(run.output.as_slice(), part))
 }
 
 /// Words that ask for help, and a part of it.
-const HELP: [(&[&str], &str); 10] = [
+const HELP: [(&[&str], &str); 13] = [
     (&["--help"], "Usage: msc"),
     (&["help"], "Usage: msc"),
     (&["read", "--help"], "Usage: msc read <FILE>\n"),
@@ -304,6 +318,15 @@ const HELP: [(&[&str], &str); 10] = [
     (
         &["check", "--help"],
         "Example:\n  msc check --queues pair --show 1 relay.msc\n",
+    ),
+    (
+        &["run", "--help"],
+        "Usage: msc run [OPTIONS] --queues <pair|mailbox|single> <FILE>\n",
+    ),
+    (&["run", "--help"], "  3  some instance has not finished"),
+    (
+        &["run", "--help"],
+        "Example:\n  msc run --queues mailbox relay.msc\n",
     ),
 ];
 

@@ -1,0 +1,231 @@
+//! Executions of texts: what is printed of them, and what gates force.
+
+use crate::program::{Host, answers, run};
+use example_charts::{EMPTY, LOCAL_EVENTS, NUMBERED, ONE_MESSAGE, RELAY, TWO_SENDERS};
+use msc_chart::{Event, Queues};
+use msc_instance::Gate;
+use msc_tool::run_text;
+use std::alloc::AllocError;
+use std::sync::atomic::{AtomicU64, Ordering};
+use std::test::Fail;
+use std::thread;
+
+/// The words of a run of the program, its text, what it prints to standard output and to standard
+/// error, and its exit status.
+type Run = (
+    &'static [&'static str],
+    &'static [u8],
+    &'static [u8],
+    &'static [u8],
+    u8,
+);
+
+/// Executions that are the same whatever the schedule, and texts that are refused.
+const RUN: [Run; 6] = [
+    (
+        &["run", "--queues", "single", "-"],
+        EMPTY,
+        b"chart t\nqueues single\ntrace 0\n",
+        b"",
+        0,
+    ),
+    (
+        &["run", "--queues", "pair", "--patience", "0", "-"],
+        ONE_MESSAGE,
+        b"chart t\nqueues pair\ninstance a finished\ninstance b impatient\n\
+trace 1\n0 a out m to b\n",
+        b"",
+        3,
+    ),
+    (
+        &["run", "--queues", "mailbox", "-"],
+        RELAY,
+        b"chart t\nqueues mailbox\n\
+instance a finished\ninstance b finished\ninstance c finished\n\
+trace 6\n0 a out m1 to b\n1 a out x to c\n2 b in m1 from a\n\
+4 c in x from a\n5 c out m2 to b\n3 b in m2 from c\n",
+        b"",
+        0,
+    ),
+    (
+        &["run", "--queues", "pair", "--patience", "4294967295", "-"],
+        LOCAL_EVENTS,
+        b"chart t\nqueues pair\ninstance a finished\ninstance b finished\n\
+trace 4\n0 a action 'go'\n1 a out m to b\n2 b in m from a\n3 b action 'done'\n",
+        b"",
+        0,
+    ),
+    (
+        &["run", "--queues", "pair", "-"],
+        b"",
+        b"",
+        b"grammar fault 3 at 0: expected msc\n",
+        2,
+    ),
+    (
+        &["run", "--queues", "pair", "-"],
+        b"msc t; instance a; in m from a; endinstance; endmsc;",
+        b"",
+        b"chart fault 8: input 0 has no output\n",
+        2,
+    ),
+];
+
+#[test]
+fn executions_that_rest_on_no_schedule(rt: HostRuntime) -> Result<(), Fail> {
+    for (words, text, output, faults, status) in RUN {
+        let is = answers(&rt, words, text, (output, faults, status))?;
+        assert!(rt; is, "{words:?}");
+    }
+    Ok(())
+}
+
+/// What is printed of `numbered` under `single`, where b takes either message first.
+const NUMBERED_RUNS: [&[u8]; 2] = [
+    b"chart t\nqueues single\ninstance a finished\ninstance b finished\n\
+trace 4\n0 a out m, 1 to b\n1 a out m, 2 to b\n2 b in m, 1 from a\n3 b in m, 2 from a\n",
+    b"chart t\nqueues single\ninstance a finished\ninstance b finished\n\
+trace 4\n0 a out m, 1 to b\n1 a out m, 2 to b\n3 b in m, 2 from a\n2 b in m, 1 from a\n",
+];
+
+/// Whether a run of `numbered` under `single` finishes, and prints one of its two executions.
+fn runs_numbered<R: Host>(rt: &R) -> Result<bool, AllocError> {
+    let ran = run(rt, &["run", "--queues", "single", "-"], NUMBERED)?;
+    let printed = ran.output.as_slice();
+    Ok(ran.status == 0 && NUMBERED_RUNS.iter().any(|text| printed == *text))
+}
+
+#[test]
+fn two_messages_that_come_in_any_order(rt: HostRuntime) -> Result<(), Fail> {
+    assert!(rt; runs_numbered(&rt)?);
+    Ok(())
+}
+
+/// How often a gate looks whether it was asked for another event.
+const TURNS: u64 = 1_000_000_000;
+
+/// A gate of `two_senders` at which events wait until it was asked for others.
+#[derive(Drop)]
+struct Waiting {
+    /// For each event the one that it waits for, if it waits.
+    awaited: Awaited,
+    /// How often the gate was asked for each event.
+    asked: [AtomicU64; 4],
+}
+
+impl Waiting {
+    /// A gate that was asked for nothing.
+    fn new(awaited: Awaited) -> Waiting {
+        Waiting {
+            awaited,
+            asked: [
+                AtomicU64::new(0),
+                AtomicU64::new(0),
+                AtomicU64::new(0),
+                AtomicU64::new(0),
+            ],
+        }
+    }
+
+    /// How often it was asked for an event.
+    fn count(&self, event: Event) -> u64 {
+        match self.asked.get(event as usize) {
+            Some(count) => count.load(Ordering::SeqCst),
+            None => 0,
+        }
+    }
+
+    /// Waits until it was asked for an event, or has looked in vain too often.
+    fn waits_for(&self, event: Event) -> bool {
+        for _ in 0..TURNS {
+            if self.count(event) > 0 {
+                return true;
+            }
+            thread::yield_now();
+        }
+        false
+    }
+}
+
+impl Gate for Waiting {
+    ghost use Rattle.std.specs.Prelude.{false};
+
+    ghost is_open = { false };
+
+    fn at(&self, _instance: u32, event: Event) -> bool {
+        let Some(asked) = self.asked.get(event as usize) else {
+            return false;
+        };
+        asked.fetch_add(1, Ordering::SeqCst);
+        match self.awaited.get(event as usize) {
+            Some(Some(other)) => self.waits_for(*other),
+            _ => true,
+        }
+    }
+}
+
+/// The trace in which b takes m1 before c sends m2.
+const M1_ALONE: &[u8] = b"instance a finished\ninstance b finished\ninstance c finished\n\
+trace 4\n0 a out m1 to b\n1 b in m1 from a\n3 c out m2 to b\n2 b in m2 from c\n";
+
+/// The traces in which b takes m2 before m1, from queues of their own and from one queue.
+const M2_FIRST: &[u8] = b"instance a finished\ninstance b finished\ninstance c finished\n\
+trace 4\n0 a out m1 to b\n3 c out m2 to b\n2 b in m2 from c\n1 b in m1 from a\n";
+
+const M2_AHEAD: &[u8] = b"instance a finished\ninstance b finished\ninstance c finished\n\
+trace 4\n3 c out m2 to b\n0 a out m1 to b\n2 b in m2 from c\n1 b in m1 from a\n";
+
+/// For each event of `two_senders` the one that it waits for.
+type Awaited = [Option<Event>; 4];
+
+/// c sends once b has m1.
+const AFTER_M1: Awaited = [None, None, None, Some(1)];
+
+/// a sends once b has m2.
+const AFTER_M2: Awaited = [Some(2), None, None, None];
+
+/// Both outputs wait for each other.
+const MEETING: Awaited = [Some(3), None, None, Some(0)];
+
+/// What events wait for, an architecture, and the traces that may come of that.
+const FORCED: [(Awaited, Queues, [&[u8]; 2]); 9] = [
+    (AFTER_M1, Queues::Pair, [M1_ALONE, M1_ALONE]),
+    (AFTER_M1, Queues::Mailbox, [M1_ALONE, M1_ALONE]),
+    (AFTER_M1, Queues::Single, [M1_ALONE, M1_ALONE]),
+    (AFTER_M2, Queues::Pair, [M2_FIRST, M2_FIRST]),
+    (AFTER_M2, Queues::Mailbox, [M2_AHEAD, M2_AHEAD]),
+    (AFTER_M2, Queues::Single, [M2_FIRST, M2_FIRST]),
+    (MEETING, Queues::Pair, [M1_ALONE, M2_FIRST]),
+    (MEETING, Queues::Mailbox, [M1_ALONE, M2_AHEAD]),
+    (MEETING, Queues::Single, [M1_ALONE, M2_FIRST]),
+];
+
+/// Whether the run of `two_senders` with such a gate finishes with one of these traces, and asks
+/// the gate once for each event.
+fn is_forced<R: Host>(rt: &R, queues: Queues, awaited: Awaited, traces: &[&[u8]]) -> bool {
+    let mut output = Vec::new(rt.alloc());
+    let gate = Waiting::new(awaited);
+    let patience = u32::MAX;
+    let answer = run_text(
+        rt,
+        rt.alloc(),
+        TWO_SENDERS,
+        queues,
+        &gate,
+        patience,
+        &mut output,
+    );
+    let printed = output.as_slice();
+    answer.ok() == Some(true)
+        && traces.iter().any(|trace| printed.ends_with(trace))
+        && (0..4).all(|e| gate.count(e) == 1)
+}
+
+#[test]
+fn gates_force_traces(rt: HostRuntime) -> Result<(), Fail> {
+    for (awaited, queues, traces) in FORCED {
+        let is = is_forced(&rt, queues, awaited, &traces);
+        assert!(rt; is, "{queues:?}: {awaited:?}");
+    }
+    Ok(())
+}
