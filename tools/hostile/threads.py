@@ -1,15 +1,15 @@
 #!/usr/bin/env python3
 """Refuses each thread of `msc run` in turn, and looks at the answer.
 
-    threads.py [--instances N ..] [--limit] [--knot] PROGRAM
+    threads.py [--instances N ..] [--limit] PROGRAM
 
 For charts of 1 to 32 instances, or of these numbers alone, under each architecture, each thread is
 refused alone, and with all later ones. Each answer has to be the fault line of the instance whose
 thread was refused first, nothing on standard output, and status 4; the process has to end by itself
 at once. Two charts are run for each number: in the one each instance waits for the one before it
 and the first for the last, so each waits for the one that is missing; in the other the last
-instance sends to all others, which act when they have it. With --knot another chart is run, in
-which two instances wait for the third, and then for each other. With --limit, as root, no call is
+instance sends to all others, which act when they have it. A third chart is
+run once: two instances wait for the third, and then for each other. With --limit, as root, no call is
 refused, but the program runs as a user that may have 1 to 9 processes and threads, so that the
 system itself says no. Prints what differs, and last `N passed, M failed`.
 """
@@ -107,15 +107,13 @@ def main():
     words = arguments(__doc__)
     words.add_argument("--instances", type=int, nargs="+", default=range(1, 33), metavar="N")
     words.add_argument("--limit", action="store_true")
-    words.add_argument("--knot", action="store_true")
     options = words.parse_args()
     count = Count()
     with tempfile.TemporaryDirectory() as folder:
         if options.limit:
             limit_each(count, options.program, folder)
-        elif options.knot:
-            refuse_each(count, options.program, Shim(folder), 3, [knot])
         else:
+            refuse_each(count, options.program, Shim(folder), 3, [knot])
             for instances in options.instances:
                 refuse_each(count, options.program, Shim(folder), instances)
     return count.end()

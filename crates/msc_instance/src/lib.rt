@@ -20,6 +20,7 @@ mod round;
 mod running;
 mod sending;
 mod settling;
+mod start;
 mod taking;
 mod threads;
 mod wiring;

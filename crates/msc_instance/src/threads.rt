@@ -10,12 +10,12 @@ use crate::ends::{InstanceEnd, InstanceEnds};
 use crate::gate::Gate;
 use crate::outlets::close_all;
 use crate::running::run_instance;
+use crate::start::Start;
 use crate::wiring::wire;
 use msc_chart::{Chart, Event, Queues};
 use std::alloc::{AllocError, Global};
 use std::snapshot::Snapshot;
 use std::sync::Wait;
-use std::sync::atomic::{AtomicBool, Ordering};
 use std::thread;
 use std::thread::{Promise, Scope, Threads};
 
@@ -109,18 +109,12 @@ fn close_each(jobs: &mut [Job])
     }
 }
 
-/// Runs an instance, or closes its outlets where a thread was refused.
-fn run_job<G: Gate>(
-    chart: &Chart,
-    mut job: Job,
-    gate: &G,
-    patience: u32,
-    refused: &AtomicBool,
-) -> Answer
+/// Runs an instance once all threads were started, or closes its outlets where one was refused.
+fn run_job<G: Gate>(chart: &Chart, mut job: Job, gate: &G, patience: u32, start: &Start) -> Answer
     requires ready { IsReady chart.now job }
     ensures { AnswersRun chart.now G.is_open patience job result }
 {
-    if refused.load(Ordering::SeqCst) {
+    if start.was_refused() {
         close(&mut job);
         return Answer::NotRun(job);
     }
@@ -170,7 +164,7 @@ fn run_rest<'s, 'e, R: Threads + Wait + Sync, G: Gate + Sync>(
     chart: &'e Chart,
     gate: &'e G,
     patience: u32,
-    refused: &'e AtomicBool,
+    start: &'e Start,
     mut jobs: Vec<Job>,
     answers: Vec<Answer>,
 ) -> Gathered
@@ -181,6 +175,7 @@ fn run_rest<'s, 'e, R: Threads + Wait + Sync, G: Gate + Sync>(
     ensures room { vec_capacity result.answers ≡ vec_capacity answers }
 {
     let Some(job) = next_job(chart, &mut jobs) else {
+        start.complete();
         return Gathered {
             answers,
             unstarted: jobs,
@@ -197,14 +192,14 @@ fn run_rest<'s, 'e, R: Threads + Wait + Sync, G: Gate + Sync>(
         move || -> Answer
             requires ready { IsReady chart.now job }
             ensures answered { AnswersRun chart.entry.now G.is_open patience job result }
-        { run_job(chart, job, gate, patience, refused) },
+        { run_job(chart, job, gate, patience, start) },
     ) {
         Err(refusal) => {
-            refused.store(true, Ordering::SeqCst);
+            start.refuse();
             stop((refusal.value)(), jobs, answers)
         }
         Ok(handle) => {
-            let mut all = run_rest(rt, scope, chart, gate, patience, refused, jobs, answers);
+            let mut all = run_rest(rt, scope, chart, gate, patience, start, jobs, answers);
             all.answers.push_reserved(handle.join(rt));
             all
         }
@@ -226,8 +221,8 @@ fn in_scope<R: Threads + Wait + Sync, G: Gate + Sync>(
     ensures answered { HaveAnswered chart.now G.is_open patience jobs.items result }
     ensures room { vec_capacity result.answers ≡ vec_capacity answers }
 {
-    let refused = AtomicBool::new(false);
-    let refused = &refused;
+    let start = Start::new();
+    let start = &start;
     thread::scope(
         thread::scope_env(),
         rt,
@@ -237,7 +232,7 @@ fn in_scope<R: Threads + Wait + Sync, G: Gate + Sync>(
             requires room { vec_len jobs ≤ vec_capacity answers }
             ensures answered { HaveAnswered chart.entry.now G.is_open patience jobs.items result }
             ensures room { vec_capacity result.answers ≡ vec_capacity answers }
-        { run_rest(rt, scope, chart, gate, patience, refused, jobs, answers) },
+        { run_rest(rt, scope, chart, gate, patience, start, jobs, answers) },
     )
 }
 
