@@ -28,7 +28,7 @@ status_of Memory = Failed
 status_of Device = Failed
 
 -- the whole answer of a task to a text went behind the known bytes of a writer, the answer that is
--- told; no instance is stopped by its gate
+-- told; a chart is run with a gate that is known to be open
 abbrev pub WritesAnswer : Task → List ℕ → Status → Option (List ℕ) → Option (List ℕ) → Type 0
 WritesAnswer Read text Done before after = WritesDraft text before after
 WritesAnswer (Check queues show) text Done before after = WritesVerdict text queues show true before after
