@@ -7,8 +7,8 @@ use Rattle.msc_command.specs.declared.program.Status.{Status}
 use Rattle.msc_command.specs.declared.program.Status.TheVariants.{Done, Races, Refused, Unfinished, Failed}
 use Rattle.msc_command.specs.declared.program.Task.{Task}
 use Rattle.msc_command.specs.declared.program.Task.TheVariants.{Read, Check, Run}
-use Rattle.msc_tool.specs.Answers.{WritesDraft}
-use Rattle.msc_tool.specs.Checking.{WritesVerdict}
+use Rattle.msc_text.specs.Answers.{WritesDraft}
+use Rattle.msc_text.specs.Checking.{WritesVerdict}
 use Rattle.msc_tool.specs.Running.{WritesTrace}
 
 -- the exit status for how a run ended

@@ -4,7 +4,7 @@ ghost use Rattle.std.specs.Prelude.{◌≡◌, ◌≢◌, ◌⊎◌, codes, IfOk
 ghost use Rattle.std.specs.IoError.{error_kind};
 ghost use Rattle.std.specs.declared.io.ErrorKind.TheVariants.{OutOfMemory};
 ghost use Rattle.msc_command.specs.Program.{status_code, status_of, Prints, PrintsRaces, PrintsUnfinished, WritesAnswer};
-ghost use Rattle.msc_tool.specs.Reading.{IsReadFrom};
+ghost use Rattle.msc_text.specs.Reading.{IsReadFrom};
 
 use clap::{Arg, ArgMatches, Command, Error, value_parser};
 use msc_chart::Queues;

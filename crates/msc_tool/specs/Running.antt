@@ -13,8 +13,8 @@ use Rattle.msc_gather.specs.Gathering.{IsGathered}
 use Rattle.msc_report.specs.declared.fault.Fault.{Fault}
 use Rattle.msc_report.specs.declared.fault.Fault.TheVariants.{NotStarted}
 use Rattle.msc_report.specs.Traces.{trace_text}
-use Rattle.msc_tool.specs.Answers.{RefusesText}
-use Rattle.msc_tool.specs.Checking.{RefusesDraft}
+use Rattle.msc_text.specs.Answers.{RefusesText}
+use Rattle.msc_text.specs.Checking.{RefusesDraft}
 
 -- What is printed of a chart: how each instance of one of its executions ended, and the execution's
 -- trace, the least run that has the instances' logs as its lines. Whether all have finished is told;

@@ -9,13 +9,11 @@ ghost use Rattle.msc_execution.specs.Executions.{AreFinished, IsExecution, IsFin
 ghost use Rattle.msc_gather.specs.Gathering.{IsGathered};
 ghost use Rattle.msc_instance.specs.Views.{outcome_of};
 ghost use Rattle.msc_report.specs.Traces.{trace_text};
-ghost use Rattle.msc_tool.specs.Answers.{OnRead, RefusesInput, RefusesText};
-ghost use Rattle.msc_tool.specs.Checking.{RefusesDraft, RefusesInputDraft};
+ghost use Rattle.msc_text.specs.Answers.{OnRead, RefusesInput, RefusesText};
+ghost use Rattle.msc_text.specs.Checking.{RefusesDraft, RefusesInputDraft};
 ghost use Rattle.msc_tool.specs.Ran.{IsRunFault};
 ghost use Rattle.msc_tool.specs.Running.{NamesAnInstance, NamesAnInstanceOf, PrintsExecution, RunsText, WritesTrace};
 
-use crate::page::Page;
-use crate::reading::read_all;
 use msc_chart::{Chart, Event, Queues};
 use msc_execution::End;
 use msc_execution::laws::executions_are_runs;
@@ -24,6 +22,7 @@ use msc_gather::{GatherFault, gather};
 use msc_instance::{Execution, Gate, RunFault, run_chart};
 use msc_parser::parse;
 use msc_report::{Fault, write_trace};
+use msc_text::{Page, read_all};
 use std::alloc::{AllocError, Global};
 use std::io::{Read, Write};
 use std::sync::Wait;

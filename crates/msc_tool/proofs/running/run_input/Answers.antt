@@ -1,5 +1,5 @@
 use Rattle.std.proofs.Common.{sym}
-use Rattle.msc_tool.proofs.Inputs.{refuses_input, refuses_input_draft}
+use Rattle.msc_text.proofs.Inputs.{refuses_input, refuses_input_draft}
 use Rattle.msc_tool.proofs.running.run_input.Goals as goal
 
 pub returns-clause-refused : goal.returns-clause-refused

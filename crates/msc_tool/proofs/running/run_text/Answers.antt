@@ -1,6 +1,6 @@
 use Rattle.std.proofs.lemmas.Result.{err_from_is_err_and}
 use Rattle.msc_tool.proofs.Ran.{ran_no_chart, writes_trace}
-use Rattle.msc_tool.proofs.Refusals.{refuses, no_draft, no_chart, chart_stands}
+use Rattle.msc_text.proofs.Refusals.{refuses, no_draft, no_chart, chart_stands}
 use Rattle.msc_tool.proofs.running.run_text.Goals as goal
 
 pub returns-in_err-draft-clause-refused : goal.returns-in_err-draft-clause-refused

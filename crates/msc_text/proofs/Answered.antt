@@ -1,0 +1,130 @@
+-- What writing a verdict and its races answers.
+use Rattle.msc_text.specs.declared.reading.TheConstants.{BYTE_LIMIT}
+use Rattle.std.proofs.Common.{◌≡◌, ◌≢◌, ◌⊎◌, ℕ, ◌<◌, min, Bool, List, [], length, take, Option, None, Some, ◌∙◌, Result, Ok, Err, subst, ap, refl, sym, inl, inr, arith}
+use Rattle.std.specs.Prelude.{IfOk, IfErr, IfSome}
+use Rattle.std.proofs.lemmas.List.{take_all, length-take}
+use Rattle.std.proofs.lemmas.Bool.{cases_lt}
+use Rattle.msc_chart.specs.declared.fault.ChartFault.{ChartFault}
+use Rattle.msc_chart.specs.declared.queue.Queues.{Queues}
+use Rattle.msc_chart.specs.Chosen.{IsChosenRun}
+use Rattle.msc_chart.specs.Drawings.{Drawing, IsAccepted, chart_of}
+use Rattle.msc_chart.specs.Faults.{IsFaultless}
+use Rattle.msc_chart.specs.Orders.{wired}
+use Rattle.msc_parser.specs.declared.fault.ParseFault.{ParseFault}
+use Rattle.msc_parser.specs.Grammar.{Tree}
+use Rattle.msc_parser.specs.Parsing.{HasDraft}
+use Rattle.msc_race.specs.declared.verdict.Verdict.{Verdict}
+use Rattle.msc_race.specs.declared.verdict.Verdict.TheVariants.{Pass, Races}
+use Rattle.msc_race.specs.Laws.{AChosenRunExists, ChosenRunsAreWhole, ChosenRunsReverseRaces}
+use Rattle.msc_race.specs.Races.{IsVerdict, TellsRuns}
+use Rattle.msc_report.specs.declared.fault.Fault.{Fault}
+use Rattle.msc_report.specs.declared.fault.Fault.TheVariants.{Parse, Chart, NotStarted, Memory, Device}
+use Rattle.msc_text.proofs.Races.{pair_events}
+use Rattle.msc_text.specs.Checking.{passes, checked_text, AreChosen, PrintsVerdict, ShowsRaces, Prints, WritesVerdict, BeginsVerdict}
+use Rattle.msc_text.specs.Pages.{Writes}
+
+-- writing refuses no text
+pub writes_no_parse : (r : Result Bool Fault) (before after : Option (List ℕ)) (text : List ℕ) → Writes r before after text → (f : ParseFault) → r ≢ Err (Parse f)
+writes_no_parse (Ok a) before after text wrote f e = absurd cc
+writes_no_parse (Err Memory) before after text wrote f e = absurd cc
+writes_no_parse (Err Device) before after text wrote f e = absurd cc
+writes_no_parse (Err (Parse g)) before after text wrote f e = wrote
+writes_no_parse (Err (Chart g)) before after text wrote f e = wrote
+writes_no_parse (Err (NotStarted i)) before after text wrote f e = wrote
+
+-- and no draft
+pub writes_no_chart : (r : Result Bool Fault) (before after : Option (List ℕ)) (text : List ℕ) → Writes r before after text → (f : ChartFault) → r ≢ Err (Chart f)
+writes_no_chart (Ok a) before after text wrote f e = absurd cc
+writes_no_chart (Err Memory) before after text wrote f e = absurd cc
+writes_no_chart (Err Device) before after text wrote f e = absurd cc
+writes_no_chart (Err (Parse g)) before after text wrote f e = wrote
+writes_no_chart (Err (Chart g)) before after text wrote f e = wrote
+writes_no_chart (Err (NotStarted i)) before after text wrote f e = wrote
+
+-- it ends by want of memory or by the writer alone
+pub writes_or_fails : (A : Type 0) (r : Result Bool Fault) (before after : Option (List ℕ)) (text : List ℕ) → Writes r before after text
+    → IfErr r (λ e. e ≢ Memory → e ≢ Device → A)
+writes_or_fails A (Ok a) before after text wrote = tt
+writes_or_fails A (Err Memory) before after text wrote = λ no_memory no_device. absurd (no_memory refl)
+writes_or_fails A (Err Device) before after text wrote = λ no_memory no_device. absurd (no_device refl)
+writes_or_fails A (Err (Parse f)) before after text wrote = absurd wrote
+writes_or_fails A (Err (Chart f)) before after text wrote = absurd wrote
+writes_or_fails A (Err (NotStarted i)) before after text wrote = absurd wrote
+
+-- an event's chosen run, where it is an event
+chosen_run : (queues : Queues) (d : Drawing) → IsAccepted d → AChosenRunExists → (e : ℕ) → (run : List ℕ) × (e < length d.events → IsChosenRun (wired queues d) e run)
+chosen_run queues d accepted exists e = elim (cases_lt e (length d.events)) [
+  | inl within ↦ let run = exists queues d accepted e within in (run.0, λ _. run.1)
+  | inr past ↦ ([], λ within. absurd (omega (arith, within, past)))
+]
+
+-- each event has one
+chosen_runs : (queues : Queues) (d : Drawing) → IsAccepted d → AChosenRunExists → (runs : ℕ → List ℕ) × AreChosen (wired queues d) runs
+chosen_runs queues d accepted exists = (λ e. (chosen_run queues d accepted exists e).0, λ e within. (chosen_run queues d accepted exists e).1 within)
+
+-- and it reverses the races of its event
+shows_races : (queues : Queues) (d : Drawing) (runs : ℕ → List ℕ) (v : Verdict) → AreChosen (wired queues d) runs → IsVerdict (wired queues d) v
+    → ChosenRunsAreWhole → ChosenRunsReverseRaces → ShowsRaces (wired queues d) runs v
+shows_races queues d runs Pass chosen said whole reverses e f (k, there) = absurd cc
+shows_races queues d runs (Races pairs) chosen said whole reverses e f there =
+    let run = chosen e (pair_events queues d pairs (e, f) said.0.races there).0 in
+    let is_whole = whole queues d e (runs e) run in
+    (is_whole.0, is_whole.1, reverses queues d e (runs e) run f ((said.0.races e f).1 there))
+
+-- what is written with chosen runs is what is printed of a verdict
+pub prints_verdict : (r : Result Bool Fault) (before after : Option (List ℕ)) (queues : Queues) (d : Drawing) (show : ℕ) (v : Verdict)
+    → IsAccepted d → IsVerdict (wired queues d) v → AChosenRunExists → ChosenRunsAreWhole → ChosenRunsReverseRaces
+    → ((runs : ℕ → List ℕ) → AreChosen (wired queues d) runs → Writes r before after (checked_text d queues runs show v))
+    → (printed : List ℕ) × PrintsVerdict d queues show v printed × Writes r before after printed
+prints_verdict r before after queues d show v accepted said exists whole reverses wrote =
+    let runs = chosen_runs queues d accepted exists in (
+      checked_text d queues runs.0 show v,
+      record { runs = runs.0; chosen = runs.1; reverse = shows_races queues d runs.0 v runs.1 said whole reverses; text = refl },
+      wrote runs.0 runs.1,
+    )
+
+-- a verdict on the chart of a text's draft is printed of the text
+pub prints : (text : List ℕ) (queues : Queues) (show : ℕ) (draft : Tree) (d : Drawing) (v : Verdict) (printed : List ℕ)
+    → HasDraft text draft → IsFaultless draft → d ≡ chart_of draft → IsVerdict (wired queues d) v → TellsRuns (wired queues d) v
+    → PrintsVerdict d queues show v printed → Prints text queues show (passes v) printed
+prints text queues show draft d v printed has faultless same races reversed shown = record {
+  draft = draft;
+  has = has;
+  faultless = faultless;
+  verdict = v;
+  races = subst (λ (d : Drawing). IsVerdict (wired queues d) v) same races;
+  reversed = subst (λ (d : Drawing). TellsRuns (wired queues d) v) same reversed;
+  answered = refl;
+  shown = subst (λ (d : Drawing). PrintsVerdict d queues show v printed) same shown;
+}
+
+-- what was written is what is printed of the text
+pub writes_verdict : (r : Result Bool Fault) (text : List ℕ) (queues : Queues) (show : ℕ) (v : Verdict) (printed : List ℕ) (before after : Option (List ℕ))
+    → Writes r before after printed → IfOk r (λ passed. passed ≡ passes v) → Prints text queues show (passes v) printed
+    → IfOk r (λ passed. WritesVerdict text queues show passed before after)
+writes_verdict (Ok passed) text queues show v printed before after wrote answered prints =
+    (printed, subst (λ (b : Bool). Prints text queues show b printed) (sym answered) prints, wrote)
+writes_verdict (Err e) text queues show v printed before after wrote answered prints = tt
+
+-- or, where memory ran out, a beginning of it
+pub begins_verdict : (A : Type 0) (r : Result Bool Fault) (text : List ℕ) (queues : Queues) (show : ℕ) (v : Verdict) (printed : List ℕ) (before after : Option (List ℕ))
+    → Writes r before after printed → Prints text queues show (passes v) printed
+    → IfErr r (λ e. e ≡ Memory → A ⊎ BeginsVerdict text queues show before after)
+begins_verdict A (Ok passed) text queues show v printed before after wrote prints = tt
+begins_verdict A (Err Memory) text queues show v printed before after wrote prints = λ _. inr (passes v, printed, prints, wrote)
+begins_verdict A (Err Device) text queues show v printed before after wrote prints = λ memory. absurd cc
+begins_verdict A (Err (Parse f)) text queues show v printed before after wrote prints = absurd wrote
+begins_verdict A (Err (Chart f)) text queues show v printed before after wrote prints = absurd wrote
+begins_verdict A (Err (NotStarted i)) text queues show v printed before after wrote prints = absurd wrote
+
+-- a beginning that has a draft is no longer than a text may be, so it is the whole input
+pub whole_input : (xs bytes : List ℕ) (draft : Tree) → xs ≡ take BYTE_LIMIT bytes → HasDraft xs draft → xs ≡ bytes
+whole_input xs bytes draft front (tokens, has, chart) =
+    let long : length xs ≡ min BYTE_LIMIT (length bytes) = ap length front ∙ length-take BYTE_LIMIT bytes in
+    front ∙ take_all BYTE_LIMIT bytes (omega (arith, long, has.short))
+
+-- what is said of the text that was read holds of the input
+pub of_input : (xs : List ℕ) (input : Option (List ℕ)) (Q : List ℕ → Type 0) → IfSome input (λ bytes. xs ≡ take BYTE_LIMIT bytes) → (draft : Tree) → HasDraft xs draft → Q xs
+    → IfSome input Q
+of_input xs None Q read draft has told = tt
+of_input xs (Some bytes) Q read draft has told = subst Q (whole_input xs bytes draft read has) told

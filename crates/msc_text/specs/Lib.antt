@@ -1,0 +1,7 @@
+-- what is promised
+pub mod Reading
+pub mod Answers
+pub mod Checking
+-- what the code keeps
+pub mod Calls
+pub mod Pages

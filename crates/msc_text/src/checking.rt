@@ -1,0 +1,152 @@
+//! From a text to the verdict on its chart, bytes to bytes.
+
+ghost use Rattle.std.specs.Prelude.{◌≡◌, ◌≢◌, ◌⊎◌, ℕ, List, length, IfErr, IfOk, IfSome};
+ghost use Rattle.msc_chart.specs.Orders.{wired, IsEnforcedOrder};
+ghost use Rattle.msc_order.specs.Tables.{orders};
+ghost use Rattle.msc_race.specs.Races.{IsVerdict};
+ghost use Rattle.msc_report.specs.Verdicts.{verdict_text};
+ghost use Rattle.msc_text.specs.Answers.{OnRead, RefusesInput, RefusesText};
+ghost use Rattle.msc_text.specs.Checking.{passes, races_of, BeginsVerdict, ChecksText, PrintsVerdict, RefusesDraft, RefusesInputDraft, WritesVerdict};
+ghost use Rattle.msc_text.specs.Pages.{Writes};
+
+use crate::page::Page;
+use crate::reading::read_all;
+use crate::showing::put_races;
+use msc_chart::{Chart, Event, Queues};
+use msc_order::Order;
+use msc_parser::parse;
+use msc_race::laws::the_chosen_run_reverses;
+use msc_race::{Verdict, check_order};
+use msc_report::{Fault, write_verdict};
+use std::alloc::{AllocError, Global};
+use std::io::{Read, Write};
+
+/// Whether a verdict is `pass`.
+fn passes(verdict: &Verdict) -> bool
+    ensures { result ≡ passes verdict.now }
+{
+    match verdict {
+        Verdict::Pass => true,
+        Verdict::Races(_) => false,
+    }
+}
+
+/// The races of a verdict.
+fn races_of<'v>(verdict: &'v Verdict) -> &'v [(Event, Event)]
+    ensures { result.now ≡ races_of verdict.entry.now }
+{
+    match verdict {
+        Verdict::Pass => &[],
+        Verdict::Races(races) => races.as_slice(),
+    }
+}
+
+/// The head of a verdict, a page for what follows it.
+fn head_of(
+    alloc: Global,
+    chart: &Chart,
+    queues: Queues,
+    verdict: &Verdict,
+) -> Result<Page, AllocError>
+    ensures { IfOk result (λ page. page.bytes.items ≡ verdict_text chart.now queues verdict.now) }
+{
+    let mut page = Page::new(alloc);
+    match write_verdict(&mut page, chart, queues, verdict) {
+        Ok(()) => Ok(page),
+        Err(_) => Err(AllocError),
+    }
+}
+
+/// Writes the head of a verdict and each race, the first `show` with the chosen run of their first
+/// event; answers whether the verdict is `pass`.
+fn write_checked<W: Write>(
+    alloc: Global,
+    writer: &mut W,
+    chart: &Chart,
+    queues: Queues,
+    order: &Order,
+    verdict: &Verdict,
+    show: u32,
+) -> Result<bool, Fault>
+    requires enforced { IsEnforcedOrder (wired queues chart.now) (orders order.now) }
+    requires square { length order.now ≡ length chart.now.events }
+    requires verdict { IsVerdict (wired queues chart.now) verdict.now }
+    ensures answered { IfOk result (λ passed. passed ≡ passes verdict.now) }
+    ensures written { (printed : List ℕ)
+        × PrintsVerdict chart.now queues show verdict.now printed
+        × Writes result (W.contents writer.old) (W.contents writer.new) printed }
+{
+    the_chosen_run_reverses();
+    chart.accepted();
+    let mut page = head_of(alloc, chart, queues, verdict)?;
+    put_races(
+        alloc,
+        writer,
+        &mut page,
+        chart,
+        queues,
+        order,
+        races_of(verdict),
+        show,
+    )?;
+    writer.write_all(page.bytes.as_slice())?;
+    Ok(passes(verdict))
+}
+
+/// Writes the verdict on a text's chart under an architecture, and each race in order, the first
+/// `show` with the chosen run of their first event, which reverses them; answers whether the
+/// verdict is `pass`.
+///
+/// A text without a draft is refused with its first fault, a draft that is no chart with its own,
+/// and want of memory is answered as `Memory`. After `Memory` a beginning of the answer may have
+/// been written, after the other refusals the writer has had no call. `Device` is answered where
+/// the writer fails.
+pub fn check_text<W: Write>(
+    alloc: Global,
+    text: &[u8],
+    queues: Queues,
+    show: u32,
+    writer: &mut W,
+) -> Result<bool, Fault>
+    ensures written { IfOk result (λ passed.
+        WritesVerdict text.now queues show passed (W.contents writer.old) (W.contents writer.new)) }
+    ensures refused { RefusesText text.now result }
+    ensures no_chart { RefusesDraft text.now result }
+    ensures begun { IfErr result (λ e. e ≡ Fault.Memory → (writer.new ≡ writer.old)
+        ⊎ BeginsVerdict text.now queues show (W.contents writer.old) (W.contents writer.new)) }
+    ensures untouched { IfErr result
+        (λ e. e ≢ Fault.Memory → e ≢ Fault.Device → writer.new ≡ writer.old) }
+{
+    let draft = parse(alloc, text)?;
+    let chart = Chart::build(alloc, &draft)?;
+    let order = Order::enforced(alloc, &chart, queues)?;
+    let verdict = check_order(alloc, &chart, queues, &order)?;
+    write_checked(alloc, writer, &chart, queues, &order, &verdict, show)
+}
+
+/// Reads an input to its end, and writes the verdict on its chart and each race in order, as
+/// [`check_text`]; answers whether the verdict is `pass`.
+///
+/// The faults are those of [`read_all`](crate::read_all) and then those of [`check_text`].
+pub fn check_input<R: Read, W: Write>(
+    alloc: Global,
+    reader: &mut R,
+    queues: Queues,
+    show: u32,
+    writer: &mut W,
+) -> Result<bool, Fault>
+    ensures written { IfOk result (λ passed. IfSome (R.remaining reader.old) (λ bytes.
+        WritesVerdict bytes queues show passed (W.contents writer.old) (W.contents writer.new))) }
+    ensures refused { RefusesInput (R.remaining reader.old) result }
+    ensures no_chart { RefusesInputDraft (R.remaining reader.old) result }
+    ensures read { OnRead (R.remaining reader.old) (R.remaining reader.new) result (λ bytes.
+        ChecksText bytes queues show result (W.contents writer.old) (W.contents writer.new)) }
+    ensures begun { IfErr result (λ e. e ≡ Fault.Memory → (writer.new ≡ writer.old)
+        ⊎ IfSome (R.remaining reader.old) (λ bytes.
+        BeginsVerdict bytes queues show (W.contents writer.old) (W.contents writer.new))) }
+    ensures untouched { IfErr result
+        (λ e. e ≢ Fault.Memory → e ≢ Fault.Device → writer.new ≡ writer.old) }
+{
+    let text = read_all(alloc, reader)?;
+    check_text(alloc, text.as_slice(), queues, show, writer)
+}

@@ -1,0 +1,16 @@
+//! The answers of the program on a text alone: its canonical text, and the verdict on its chart.
+//!
+//! Each call speaks of the bytes that it takes from a reader and gives to a writer, so what the
+//! program prints is a stated function of what it reads.
+#![tactic(auto)]
+
+mod checking;
+mod page;
+mod reading;
+mod showing;
+mod text;
+
+pub use checking::{check_input, check_text};
+pub use page::Page;
+pub use reading::{CALL_LIMIT, read_all};
+pub use text::{read_input, read_text};

@@ -1,0 +1,144 @@
+//! Races, and the runs that show them.
+
+ghost use Rattle.std.specs.Prelude.{◌≡◌, ℕ, ◌<◌, ◌++◌, List, [], None, Some, IfOk, length};
+ghost use Rattle.msc_chart.specs.Orders.{wired, IsEnforcedOrder};
+ghost use Rattle.msc_order.specs.Tables.{orders};
+ghost use Rattle.msc_report.specs.Verdicts.{race_text, run_line};
+ghost use Rattle.msc_text.specs.Checking.{races_text, shown_text, unshown_text, AreChosen};
+ghost use Rattle.msc_text.specs.Pages.{AreEvents, Puts};
+
+use crate::page::Page;
+use msc_chart::{Chart, Event, Queues};
+use msc_order::Order;
+use msc_race::chosen_run;
+use msc_race::laws::the_chosen_run_reverses;
+use msc_report::{Fault, run_line, write_race};
+use std::alloc::{AllocError, Global};
+use std::io::Write;
+
+/// The line of the chosen run of event `e`.
+fn line_of(
+    alloc: Global,
+    chart: &Chart,
+    queues: Queues,
+    order: &Order,
+    e: Event,
+) -> Result<Vec<u8>, AllocError>
+    requires enforced { IsEnforcedOrder (wired queues chart.now) (orders order.now) }
+    requires square { length order.now ≡ length chart.now.events }
+    requires known { e < length chart.now.events }
+    ensures { IfOk result (λ line. (runs : ℕ → List ℕ) → AreChosen (wired queues chart.now) runs
+        → line.items ≡ run_line (Some (runs e))) }
+{
+    the_chosen_run_reverses();
+    let run = chosen_run(alloc, chart, queues, order, e)?;
+    run_line(alloc, run.as_slice())
+}
+
+/// Lets a page go out where it is full.
+fn turn<W: Write>(writer: &mut W, page: &mut Page) -> Result<(), Fault>
+    ensures { Puts result (W.contents writer.old) (W.contents writer.new)
+        page.old.bytes.items page.new.bytes.items [] }
+{
+    if !page.is_full() {
+        return Ok(());
+    }
+    writer.write_all(page.bytes.as_slice())?;
+    page.bytes.clear();
+    Ok(())
+}
+
+/// Puts a race, and behind it a line, behind a page.
+fn put_race<W: Write>(
+    writer: &mut W,
+    page: &mut Page,
+    chart: &Chart,
+    race: (Event, Event),
+    line: &[u8],
+) -> Result<(), Fault>
+    requires first { race.0 < length chart.now.events }
+    requires second { race.1 < length chart.now.events }
+    ensures { Puts result (W.contents writer.old) (W.contents writer.new)
+        page.old.bytes.items page.new.bytes.items
+        (race_text chart.now race.0 race.1 None ++ line.now) }
+{
+    turn(writer, page)?;
+    match write_race(page, chart, race.0, race.1, None) {
+        Ok(()) => {
+            page.bytes.extend_from_slice(line)?;
+            Ok(())
+        }
+        Err(_) => Err(Fault::Memory),
+    }
+}
+
+/// Puts each of these races with the chosen run of its first event behind a page. One run serves
+/// all races of an event that stand in a row.
+fn put_shown<W: Write>(
+    alloc: Global,
+    writer: &mut W,
+    page: &mut Page,
+    chart: &Chart,
+    queues: Queues,
+    order: &Order,
+    races: &[(Event, Event)],
+) -> Result<(), Fault>
+    requires enforced { IsEnforcedOrder (wired queues chart.now) (orders order.now) }
+    requires square { length order.now ≡ length chart.now.events }
+    requires known { AreEvents chart.now races.now }
+    ensures { (runs : ℕ → List ℕ) → AreChosen (wired queues chart.now) runs
+        → Puts result (W.contents writer.old) (W.contents writer.new)
+        page.old.bytes.items page.new.bytes.items (shown_text chart.now runs races.now) }
+{
+    let mut of = chart.events();
+    let mut line = Vec::new(alloc);
+    for race in races {
+        if race.0 != of {
+            line = line_of(alloc, chart, queues, order, race.0)?;
+            of = race.0;
+        }
+        put_race(writer, page, chart, *race, line.as_slice())?;
+    }
+    Ok(())
+}
+
+/// Puts each of these races behind a page, without a run.
+fn put_unshown<W: Write>(
+    writer: &mut W,
+    page: &mut Page,
+    chart: &Chart,
+    races: &[(Event, Event)],
+) -> Result<(), Fault>
+    requires { AreEvents chart.now races.now }
+    ensures { Puts result (W.contents writer.old) (W.contents writer.new)
+        page.old.bytes.items page.new.bytes.items (unshown_text chart.now races.now) }
+{
+    for race in races {
+        put_race(writer, page, chart, *race, b"")?;
+    }
+    Ok(())
+}
+
+/// Puts each of these races behind a page, the first `show` with the chosen run of their first
+/// event. Full pages go out.
+pub fn put_races<W: Write>(
+    alloc: Global,
+    writer: &mut W,
+    page: &mut Page,
+    chart: &Chart,
+    queues: Queues,
+    order: &Order,
+    races: &[(Event, Event)],
+    show: u32,
+) -> Result<(), Fault>
+    requires enforced { IsEnforcedOrder (wired queues chart.now) (orders order.now) }
+    requires square { length order.now ≡ length chart.now.events }
+    requires known { AreEvents chart.now races.now }
+    ensures { (runs : ℕ → List ℕ) → AreChosen (wired queues chart.now) runs
+        → Puts result (W.contents writer.old) (W.contents writer.new)
+        page.old.bytes.items page.new.bytes.items (races_text chart.now runs show races.now) }
+{
+    let (shown, others) = races.split_at((show as usize).min(races.len()));
+    put_shown(alloc, writer, page, chart, queues, order, shown)?;
+    put_unshown(writer, page, chart, others)
+}
