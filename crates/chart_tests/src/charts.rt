@@ -169,15 +169,19 @@ fn the_limits_of_charts(rt: HostRuntime) -> Result<(), Fail> {
 /// the second.
 type Drawn = (u32, u32, u32, bool);
 
-/// Whether this is drawn of two events of a text's chart.
-fn is_drawn(alloc: Global, text: &[u8], e: Event, f: Event, wanted: Drawn) -> Result<bool, Fail> {
-    let chart = chart_of(alloc, text)?;
+/// What is drawn of two events of a chart, if it has them.
+fn drawn(chart: &Chart, e: Event, f: Event) -> Option<Drawn> {
     let events = chart.events();
     if e >= events || f >= events {
-        return Ok(false);
+        return None;
     }
     let segments = (chart.segment(e), chart.segment(f));
-    Ok((events, segments.0, segments.1, chart.before(e, f)) == wanted)
+    Some((events, segments.0, segments.1, chart.before(e, f)))
+}
+
+/// Whether this is drawn of two events of a text's chart.
+fn is_drawn(alloc: Global, text: &[u8], e: Event, f: Event, wanted: Drawn) -> Result<bool, Fail> {
+    Ok(drawn(&chart_of(alloc, text)?, e, f) == Some(wanted))
 }
 
 /// A chart in which a coregion without events stands between two events.
@@ -222,6 +226,14 @@ fn names_of_relay(rt: HostRuntime) -> Result<(), Fail> {
     Ok(())
 }
 
+/// The line of an instance of a chart, if it has the instance.
+fn line(chart: &Chart, i: u32) -> Option<(Event, Event)> {
+    if i >= chart.instances() {
+        return None;
+    }
+    Some(chart.line(i))
+}
+
 /// Whether a text's chart has an instance with this line, or where there is none, no instance of
 /// this number.
 fn is_line(
@@ -230,11 +242,7 @@ fn is_line(
     i: u32,
     wanted: Option<(Event, Event)>,
 ) -> Result<bool, Fail> {
-    let chart = chart_of(alloc, text)?;
-    if i >= chart.instances() {
-        return Ok(wanted.is_none());
-    }
-    Ok(Some(chart.line(i)) == wanted)
+    Ok(line(&chart_of(alloc, text)?, i) == wanted)
 }
 
 /// The instances of `relay` and their lines, and the number past the last instance.
@@ -256,14 +264,18 @@ fn lines_of_relay(rt: HostRuntime) -> Result<(), Fail> {
 /// The instance, the kind, the partner and the message of an event.
 type Shown = (u32, EventKind, Option<Event>, Option<u32>);
 
-/// Whether a text's chart has an event of which this is shown.
-fn is_event(alloc: Global, text: &[u8], e: Event, wanted: Shown) -> Result<bool, Fail> {
-    let chart = chart_of(alloc, text)?;
+/// What is shown of an event of a chart, if it has the event.
+fn shown(chart: &Chart, e: Event) -> Option<Shown> {
     if e >= chart.events() {
-        return Ok(false);
+        return None;
     }
     let ends = (chart.partner(e), chart.message(e));
-    Ok((chart.instance_of(e), chart.kind(e), ends.0, ends.1) == wanted)
+    Some((chart.instance_of(e), chart.kind(e), ends.0, ends.1))
+}
+
+/// Whether a text's chart has an event of which this is shown.
+fn is_event(alloc: Global, text: &[u8], e: Event, wanted: Shown) -> Result<bool, Fail> {
+    Ok(shown(&chart_of(alloc, text)?, e) == Some(wanted))
 }
 
 /// Texts, an event, and what is shown of it.
@@ -284,10 +296,14 @@ fn events_of_charts(rt: HostRuntime) -> Result<(), Fail> {
     Ok(())
 }
 
+/// Whether an event of a chart has this label.
+fn has_label(chart: &Chart, e: Event, label: Option<&[u8]>) -> bool {
+    e < chart.events() && chart.label(e) == label
+}
+
 /// Whether an event of a text's chart has this label.
-fn has_label(alloc: Global, text: &[u8], e: Event, label: Option<&[u8]>) -> Result<bool, Fail> {
-    let chart = chart_of(alloc, text)?;
-    Ok(e < chart.events() && chart.label(e) == label)
+fn is_label(alloc: Global, text: &[u8], e: Event, label: Option<&[u8]>) -> Result<bool, Fail> {
+    Ok(has_label(&chart_of(alloc, text)?, e, label))
 }
 
 /// A chart with actions: one with apostrophes, one without a text.
@@ -306,7 +322,7 @@ const LABELS: [(&[u8], Event, Option<&[u8]>); 5] = [
 #[test]
 fn labels_of_local_events(rt: HostRuntime) -> Result<(), Fail> {
     for (text, e, wanted) in LABELS {
-        assert!(rt; has_label(rt.alloc(), text, e, wanted)?, "{e}: {text:?}");
+        assert!(rt; is_label(rt.alloc(), text, e, wanted)?, "{e}: {text:?}");
     }
     Ok(())
 }

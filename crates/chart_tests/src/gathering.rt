@@ -55,13 +55,18 @@ const OF_NO_RUN: [&[&[Event]]; 6] = [
     &[&[0, 1], &[]],
 ];
 
+/// A log as a list of its own.
+fn own(alloc: Global, log: &[Event]) -> Result<Vec<Event>, AllocError> {
+    let mut own = Vec::new(alloc);
+    own.extend_from_slice(log)?;
+    Ok(own)
+}
+
 /// The logs as lists of their own.
 fn owned(alloc: Global, logs: &[&[Event]]) -> Result<Vec<Vec<Event>>, AllocError> {
     let mut all = Vec::new(alloc);
     for log in logs {
-        let mut own = Vec::new(alloc);
-        own.extend_from_slice(log)?;
-        all.push(own)?;
+        all.push(own(alloc, log)?)?;
     }
     Ok(all)
 }

@@ -1,6 +1,6 @@
 //! Orders of charts, and their rows of bits.
 
-ghost use Rattle.std.specs.Prelude.{◌≡◌, length};
+ghost use Rattle.std.specs.Prelude.{◌≡◌, ◌<◌, length};
 
 use crate::charts::chart_of;
 use example_charts::{LOCAL_EVENTS, OVERTAKING, RELAY, TWO_MAILBOXES, TWO_SENDERS, WAITS};
@@ -79,17 +79,31 @@ fn what_an_architecture_enforces(rt: HostRuntime) -> Result<(), Fail> {
     Ok(())
 }
 
+/// Adds the pairs that an order holds of one first event, ascending.
+fn add_pairs(
+    pairs: &mut Vec<(Event, Event)>,
+    order: &Order,
+    events: u32,
+    e: Event,
+) -> Result<(), AllocError>
+    requires events { events ≡ length order.now }
+    requires known { e < events }
+{
+    for f in 0..events {
+        if order.holds(e, f) {
+            pairs.push((e, f))?;
+        }
+    }
+    Ok(())
+}
+
 /// The pairs that an order holds, ascending.
 fn pairs(alloc: Global, order: &Order, events: u32) -> Result<Vec<(Event, Event)>, AllocError>
     requires { events ≡ length order.now }
 {
     let mut pairs = Vec::new(alloc);
     for e in 0..events {
-        for f in 0..events {
-            if order.holds(e, f) {
-                pairs.push((e, f))?;
-            }
-        }
+        add_pairs(&mut pairs, order, events, e)?;
     }
     Ok(pairs)
 }
@@ -125,11 +139,18 @@ fn the_enforced_pairs_of_two_mailboxes(rt: HostRuntime) -> Result<(), Fail> {
     Ok(())
 }
 
+/// Whether an event's row of an order of so many events is this word.
+fn has_row(order: &Order, events: u32, e: Event, wanted: u64) -> bool
+    requires { events ≡ length order.now }
+{
+    e < events && order.row(e) == [wanted].as_slice()
+}
+
 /// Whether an event's row of the enforced order of a text's chart under `Pair` is this word.
 fn is_row(alloc: Global, text: &[u8], e: Event, wanted: u64) -> Result<bool, Fail> {
     let chart = chart_of(alloc, text)?;
     let order = Order::enforced(alloc, &chart, Queues::Pair)?;
-    Ok(e < chart.events() && order.row(e) == [wanted].as_slice())
+    Ok(has_row(&order, chart.events(), e, wanted))
 }
 
 #[test]

@@ -13,11 +13,11 @@ const REPLY: &[u8] = b"msc t; instance a; out m1 to b; out m2 to b; endinstance;
 instance b; in m2 from a; out x to c; in m1 from a; in y from c; endinstance; \
 instance c; in x from b; out y to b; endinstance; endmsc;";
 
-/// The list of a verdict, empty where it passes.
-fn listed(verdict: &Verdict) -> &[(Event, Event)] {
+/// Whether these are the races of a verdict, none where it passes.
+fn are_listed(verdict: &Verdict, wanted: &[(Event, Event)]) -> bool {
     match verdict {
-        Verdict::Pass => &[],
-        Verdict::Races(list) => list.as_slice(),
+        Verdict::Pass => wanted.is_empty(),
+        Verdict::Races(list) => list.as_slice() == wanted,
     }
 }
 
@@ -29,8 +29,7 @@ fn are_races(
     wanted: &[(Event, Event)],
 ) -> Result<bool, Fail> {
     let chart = chart_of(alloc, text)?;
-    let verdict = check(alloc, &chart, queues)?;
-    Ok(listed(&verdict) == wanted)
+    Ok(are_listed(&check(alloc, &chart, queues)?, wanted))
 }
 
 #[test]
@@ -57,12 +56,21 @@ fn messages(alloc: Global, count: u32, reversed: bool) -> Result<String, AllocEr
 /// How many races there are, the first and the last.
 type Summary = (usize, Option<(Event, Event)>, Option<(Event, Event)>);
 
+/// How many races a verdict has, the first and the last.
+fn summary_of(verdict: &Verdict) -> Summary {
+    match verdict {
+        Verdict::Pass => (0, None, None),
+        Verdict::Races(list) => {
+            let list = list.as_slice();
+            (list.len(), list.first().copied(), list.last().copied())
+        }
+    }
+}
+
 /// How many races there are of a text's chart under an architecture, the first and the last.
 fn summary(alloc: Global, text: &[u8], queues: Queues) -> Result<Summary, Fail> {
     let chart = chart_of(alloc, text)?;
-    let verdict = check(alloc, &chart, queues)?;
-    let list = listed(&verdict);
-    Ok((list.len(), list.first().copied(), list.last().copied()))
+    Ok(summary_of(&check(alloc, &chart, queues)?))
 }
 
 /// Whether these are the races of so many messages from a to b, in one order or the inputs in
