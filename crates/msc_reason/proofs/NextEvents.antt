@@ -1,14 +1,14 @@
 -- The events that are next to an event: those of the next segment of its line.
-use Rattle.std.proofs.Common.{◌≡◌, ℕ, ◌+◌, ◌<◌, ◌≤◌, Bool, true, false, not, ◌&&◌, ◌↔◌, inl, inr, List, length, refl, sym, ap, ◌∙◌, subst, arith}
+use Rattle.std.proofs.Common.{◌≡◌, ℕ, ◌+◌, ◌<◌, ◌≤◌, Bool, true, false, not, ◌&&◌, inl, inr, List, length, sym, ap, ◌∙◌, subst, arith}
 use Rattle.std.specs.Prelude.{nat_le}
 use Rattle.std.proofs.lemmas.Bool.{and_parts, and_from, cases_lt, le-leb, lt-leb, not-true, not_from_false, false_from_ne_true}
 use Rattle.msc_chart.specs.declared.event.ChartEvent.{ChartEvent}
-use Rattle.msc_chart.specs.Charts.{line, segment, before, IsInTextOrder, IsSegmentEnd, ShareSegment}
+use Rattle.msc_chart.specs.Charts.{line, before, IsInTextOrder, IsSegmentEnd, ShareSegment}
 use Rattle.msc_chart.specs.Lists.{Occurs, pairs_of}
 use Rattle.msc_chart.specs.Orders.{WiredChart, IsEnforcedOrder}
 use Rattle.msc_chart.proofs.Drawn.{before_from, before_parts}
-use Rattle.msc_chart.proofs.Numbers.{any_below, any_from, none_of_any, some_of_any}
-use Rattle.msc_chart.proofs.ListLemmas.{by_test, clash}
+use Rattle.msc_chart.proofs.Numbers.{any_below, none_of_any, some_of_any}
+use Rattle.msc_chart.proofs.ListLemmas.{clash}
 use Rattle.bit_rows.specs.Rows.{has}
 use Rattle.msc_order.specs.Tables.{Table, orders}
 use Rattle.msc_order.proofs.Drawing.{before_later}
@@ -17,7 +17,7 @@ use Rattle.msc_race.specs.Races.{AreAscending}
 use Rattle.msc_race.proofs.Listing.Ascending.{of_ascends}
 use Rattle.msc_race.proofs.Listing.DrawnPairs.{segment_goes_on}
 use Rattle.msc_race.proofs.Listing.Pairs.{of_from, of_parts}
-use Rattle.msc_reason.specs.Closest.{IsNext, IsClosest, IsClosestList}
+use Rattle.msc_reason.specs.Closest.{IsNext, IsClosestList}
 use Rattle.msc_reason.specs.Ranges.{IsNextRange}
 
 module _ (events : List ChartEvent) where
@@ -84,12 +84,15 @@ module _ (events : List ChartEvent) where
           segment = s;
           within = t.within;
           exact = λ f. (
-            λ h. (past_segment e start f s h.drawn, elim (cases_lt f end) [
-              | inl inside ↦ inside
-              | inr out ↦
-                  let p = before_parts events e f h.drawn in
-                  absurd (h.none_between start b (t.past f out p.1 (sym q.2 ∙ p.2)))
-            ]),
+            λ h. (
+              past_segment e start f s h.drawn,
+              elim (cases_lt f end) [
+                | inl inside ↦ inside
+                | inr out ↦
+                    let p = before_parts events e f h.drawn in
+                    absurd (h.none_between start b (t.past f out p.1 (sym q.2 ∙ p.2)))
+              ],
+            ),
             λ inside.
                 let g = t.together f inside.0 inside.1 in
                 record {
