@@ -1,0 +1,239 @@
+//! Closest races, and why races are races. The expected values are read off the charts by hand, from
+//! the definitions in `docs/MODEL.md`.
+
+use crate::charts::chart_of;
+use example_charts::{
+    BELOW_COREGION, CROSSING, OVERTAKING, RELAY, TWO_MAILBOXES, TWO_SENDERS, WAITS,
+};
+use msc_chart::{Event, Queues};
+use msc_order::Order;
+use msc_race::races;
+use msc_reason::{RaceKind, closest, is_race, lack_of};
+use std::alloc::{AllocError, Global};
+use std::fmt::Write;
+use std::test::Fail;
+
+/// An output between two inputs of one queue, which are taken in the order in which they were not
+/// sent: the later input always comes first, and before the output.
+const OUTPUT_BETWEEN: &[u8] = b"msc t; instance a; out m1 to b; out m2 to b; endinstance; \
+instance b; in m2 from a; out k to c; in m1 from a; endinstance; \
+instance c; in k from b; endinstance; endmsc;";
+
+/// Charts, architectures, and the closest races.
+const CLOSEST: [(&[u8], Queues, &[(Event, Event)]); 9] = [
+    (TWO_SENDERS, Queues::Pair, &[(1, 2)]),
+    (RELAY, Queues::Mailbox, &[]),
+    (OVERTAKING, Queues::Single, &[(2, 3)]),
+    (CROSSING, Queues::Pair, &[(0, 1), (2, 3)]),
+    (WAITS, Queues::Pair, &[(1, 2)]),
+    (TWO_MAILBOXES, Queues::Mailbox, &[(4, 5), (6, 7)]),
+    // The events of a coregion are next to what is drawn above it and below it.
+    (
+        BELOW_COREGION,
+        Queues::Pair,
+        &[(1, 2), (1, 3), (2, 4), (3, 4)],
+    ),
+    // The race (2, 4) spans (3, 4).
+    (OUTPUT_BETWEEN, Queues::Pair, &[(3, 4)]),
+    (OUTPUT_BETWEEN, Queues::Single, &[(3, 4)]),
+];
+
+/// Whether these are the closest races of a text's chart under an architecture.
+fn are_closest(
+    alloc: Global,
+    text: &[u8],
+    queues: Queues,
+    wanted: &[(Event, Event)],
+) -> Result<bool, Fail> {
+    let chart = chart_of(alloc, text)?;
+    let order = Order::enforced(alloc, &chart, queues)?;
+    let list = closest(alloc, &chart, queues, &order)?;
+    Ok(list.as_slice() == wanted)
+}
+
+#[test]
+fn closest_races(rt: HostRuntime) -> Result<(), Fail> {
+    for (text, queues, wanted) in CLOSEST {
+        let are = are_closest(rt.alloc(), text, queues, wanted)?;
+        assert!(rt; are, "{wanted:?}, {queues:?}");
+    }
+    Ok(())
+}
+
+/// So many messages from each of two senders, drawn one stream below the other.
+fn two_streams(alloc: Global, count: u32) -> Result<String, AllocError> {
+    let mut text = String::from_str(alloc, "msc t;instance a;")?;
+    for m in 0..count {
+        write!(text, "out m{m} to b;")?;
+    }
+    text.push_str("endinstance;instance b;")?;
+    for m in 0..count {
+        write!(text, "in m{m} from a;")?;
+    }
+    for m in 0..count {
+        write!(text, "in n{m} from c;")?;
+    }
+    text.push_str("endinstance;instance c;")?;
+    for m in 0..count {
+        write!(text, "out n{m} to b;")?;
+    }
+    text.push_str("endinstance;endmsc;")?;
+    Ok(text)
+}
+
+/// How many races and how many closest races two streams of so many messages have, and the first
+/// of these.
+fn of_streams(alloc: Global, count: u32) -> Result<(usize, usize, Option<(Event, Event)>), Fail> {
+    let text = two_streams(alloc, count)?;
+    let chart = chart_of(alloc, text.as_bytes())?;
+    let order = Order::enforced(alloc, &chart, Queues::Pair)?;
+    let all = races(alloc, &chart, &order)?;
+    let near = closest(alloc, &chart, Queues::Pair, &order)?;
+    Ok((all.len(), near.len(), near.first().copied()))
+}
+
+#[test]
+fn two_streams_have_one_closest_race(rt: HostRuntime) -> Result<(), Fail> {
+    for (count, all, pair) in [(20, 400, (39, 40)), (512, 262_144, (1_023, 1_024))] {
+        let is = of_streams(rt.alloc(), count)? == (all, 1, Some(pair));
+        assert!(rt; is, "{count} messages");
+    }
+    Ok(())
+}
+
+/// The kind of a race, what it needs before which output, and whether it is reversed always.
+type Reason = (RaceKind, Event, Event, bool);
+
+/// Charts, architectures, pairs of events, and why they are races where they are.
+const REASONS: [(&[u8], Queues, (Event, Event), Option<Reason>); 18] = [
+    (
+        TWO_SENDERS,
+        Queues::Pair,
+        (1, 2),
+        Some((RaceKind::Queues, 1, 3, false)),
+    ),
+    (
+        TWO_SENDERS,
+        Queues::Mailbox,
+        (1, 2),
+        Some((RaceKind::Unordered, 0, 3, false)),
+    ),
+    (
+        TWO_SENDERS,
+        Queues::Single,
+        (1, 2),
+        Some((RaceKind::Queues, 1, 3, false)),
+    ),
+    (
+        RELAY,
+        Queues::Pair,
+        (2, 3),
+        Some((RaceKind::Queues, 2, 5, false)),
+    ),
+    (RELAY, Queues::Mailbox, (2, 3), None),
+    (RELAY, Queues::Pair, (0, 1), None),
+    (RELAY, Queues::Pair, (3, 2), None),
+    (
+        OVERTAKING,
+        Queues::Pair,
+        (2, 3),
+        Some((RaceKind::Overtaken, 1, 0, true)),
+    ),
+    (
+        OVERTAKING,
+        Queues::Mailbox,
+        (2, 3),
+        Some((RaceKind::Overtaken, 1, 0, true)),
+    ),
+    (
+        OVERTAKING,
+        Queues::Single,
+        (2, 3),
+        Some((RaceKind::Queues, 2, 0, false)),
+    ),
+    (
+        CROSSING,
+        Queues::Pair,
+        (0, 1),
+        Some((RaceKind::Early, 0, 2, false)),
+    ),
+    (
+        CROSSING,
+        Queues::Mailbox,
+        (2, 3),
+        Some((RaceKind::Early, 2, 0, false)),
+    ),
+    (
+        WAITS,
+        Queues::Pair,
+        (1, 2),
+        Some((RaceKind::Early, 1, 0, false)),
+    ),
+    (
+        TWO_MAILBOXES,
+        Queues::Pair,
+        (6, 7),
+        Some((RaceKind::Queues, 6, 1, false)),
+    ),
+    (
+        TWO_MAILBOXES,
+        Queues::Mailbox,
+        (6, 7),
+        Some((RaceKind::Unordered, 2, 1, false)),
+    ),
+    (
+        OUTPUT_BETWEEN,
+        Queues::Pair,
+        (2, 4),
+        Some((RaceKind::Overtaken, 1, 0, true)),
+    ),
+    (
+        OUTPUT_BETWEEN,
+        Queues::Pair,
+        (3, 4),
+        Some((RaceKind::Early, 3, 0, true)),
+    ),
+    (
+        OUTPUT_BETWEEN,
+        Queues::Single,
+        (3, 4),
+        Some((RaceKind::Early, 3, 0, false)),
+    ),
+];
+
+/// Why a pair of events of a text's chart is a race under an architecture, where it is one.
+fn reason_of(
+    alloc: Global,
+    text: &[u8],
+    queues: Queues,
+    pair: (Event, Event),
+) -> Result<Option<Reason>, Fail> {
+    let chart = chart_of(alloc, text)?;
+    let order = Order::enforced(alloc, &chart, queues)?;
+    let (e, f) = pair;
+    if e >= chart.events() || f >= chart.events() || !is_race(&chart, queues, &order, e, f) {
+        return Ok(None);
+    }
+    let lack = lack_of(&chart, queues, &order, e, f);
+    Ok(Some((lack.kind, lack.needed, lack.output, lack.always)))
+}
+
+#[test]
+fn reasons_of_races(rt: HostRuntime) -> Result<(), Fail> {
+    for (text, queues, pair, wanted) in REASONS {
+        let reason = reason_of(rt.alloc(), text, queues, pair)?;
+        assert!(rt; reason == wanted, "{pair:?}, {queues:?}");
+    }
+    Ok(())
+}
+
+#[test]
+fn words_of_kinds(rt: HostRuntime) -> Result<(), Fail> {
+    let words = ["early", "queues", "unordered", "overtaken"];
+    for (kind, word) in RaceKind::ALL.into_iter().zip(words) {
+        let is = kind.word() == word && RaceKind::of(word) == Some(kind);
+        assert!(rt; is, "{word}");
+    }
+    assert!(rt; RaceKind::of("late").is_none());
+    Ok(())
+}
