@@ -2,3 +2,4 @@ pub mod Spans
 pub mod OnePair
 pub mod KindLemmas
 pub mod NextEvents
+pub mod ChainLemmas

@@ -8,6 +8,8 @@ use Rattle.msc_chart.specs.Orders.{wired, Enforced, IsRace}
 use Rattle.msc_race.specs.Laws.{HasNoRace}
 use Rattle.msc_reason.specs.declared.lack.RaceKind.{RaceKind}
 use Rattle.msc_reason.specs.declared.lack.RaceKind.TheVariants.{Early, Overtaken}
+use Rattle.msc_reason.specs.declared.why.Why.{Why}
+use Rattle.msc_reason.specs.Chains.{IsWhy}
 use Rattle.msc_reason.specs.Closest.{IsClosest, HasNoClosestRace, IsWithin}
 use Rattle.msc_reason.specs.Lacks.{IsKindOf, needed}
 
@@ -57,3 +59,15 @@ abbrev pub WhatIsOvertakenIsAlwaysReversed : Type 0
 WhatIsOvertakenIsAlwaysReversed =
     (queues : Queues) (d : Drawing) → IsAccepted d → (e f : ℕ) → IsRace (wired queues d) e f
     → IsKindOf (wired queues d) e f Overtaken → Enforced (wired queues d) f e
+
+-- what shows that an event is enforced before another is right
+abbrev pub AWhyIsEnough : Type 0
+AWhyIsEnough =
+    (queues : Queues) (d : Drawing) → IsAccepted d → (e f : ℕ) → (why : Why)
+    → IsWhy (wired queues d) e f why → Enforced (wired queues d) e f
+
+-- and there is one wherever it is enforced: the rule of queues is needed once at most
+abbrev pub AWhyExists : Type 0
+AWhyExists =
+    (queues : Queues) (d : Drawing) → IsAccepted d → (e f : ℕ) → Enforced (wired queues d) e f
+    → (why : Why) × IsWhy (wired queues d) e f why

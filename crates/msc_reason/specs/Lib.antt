@@ -1,6 +1,7 @@
 -- what is promised
 pub mod Closest
 pub mod Lacks
+pub mod Chains
 pub mod Laws
 -- what the code keeps
 pub mod Ranges

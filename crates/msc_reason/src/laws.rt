@@ -2,7 +2,8 @@
 //! nothing when they run: a caller calls one to rest its own proof on the law. Each law holds of
 //! every accepted chart under each architecture.
 
-ghost use Rattle.msc_reason.specs.Laws.{ARaceLacksOnePair, EachRaceHasOneKind};
+ghost use Rattle.msc_reason.specs.Laws.{ARaceLacksOnePair, AWhyExists, AWhyIsEnough};
+ghost use Rattle.msc_reason.specs.Laws.{EachRaceHasOneKind};
 ghost use Rattle.msc_reason.specs.Laws.{EveryRaceSpansAClosestRace, RacesAreToldByTheClosest};
 ghost use Rattle.msc_reason.specs.Laws.{RacesEndInInputs, SingleRacesAreOfTwoKinds};
 ghost use Rattle.msc_reason.specs.Laws.{WhatIsOvertakenIsAlwaysReversed};
@@ -32,6 +33,14 @@ pub fn each_race_has_one_kind()
     ensures one { EachRaceHasOneKind }
     ensures single { SingleRacesAreOfTwoKinds }
     ensures always { WhatIsOvertakenIsAlwaysReversed }
+{
+    ends_share_queues();
+}
+
+/// What shows that an event is enforced before another is right, and there is one wherever it is.
+pub fn a_why_is_enough()
+    ensures enough { AWhyIsEnough }
+    ensures exists { AWhyExists }
 {
     ends_share_queues();
 }

@@ -10,7 +10,9 @@ mod lack;
 mod lacking;
 pub mod laws;
 mod listing;
+mod why;
 
 pub use lack::{Lack, RaceKind};
 pub use lacking::{is_race, kind_of, lack_of};
 pub use listing::closest;
+pub use why::Why;
