@@ -3,3 +3,4 @@ pub mod OnePair
 pub mod KindLemmas
 pub mod NextEvents
 pub mod ChainLemmas
+pub mod Walking

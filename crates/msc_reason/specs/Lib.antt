@@ -5,3 +5,4 @@ pub mod Chains
 pub mod Laws
 -- what the code keeps
 pub mod Ranges
+pub mod Links

@@ -6,12 +6,14 @@
 //! kinds and lacks are this project's own. Events are numbered from 0, over all lines.
 #![tactic(auto)]
 
+mod explaining;
 mod lack;
 mod lacking;
 pub mod laws;
 mod listing;
 mod why;
 
+pub use explaining::explain;
 pub use lack::{Lack, RaceKind};
 pub use lacking::{is_race, kind_of, lack_of};
 pub use listing::closest;
