@@ -1,14 +1,14 @@
-//! Closest races, and why races are races. The expected values are read off the charts by hand, from
-//! the definitions in `docs/MODEL.md`.
+//! Closest races, why races are races, and why pairs are enforced. The expected values are read off
+//! the charts by hand, from the definitions in `docs/MODEL.md`.
 
 use crate::charts::chart_of;
 use example_charts::{
-    BELOW_COREGION, CROSSING, OVERTAKING, RELAY, TWO_MAILBOXES, TWO_SENDERS, WAITS,
+    BELOW_COREGION, CROSSING, LOCAL_EVENTS, OVERTAKING, RELAY, TWO_MAILBOXES, TWO_SENDERS, WAITS,
 };
 use msc_chart::{Event, Queues};
 use msc_order::Order;
 use msc_race::races;
-use msc_reason::{RaceKind, closest, is_race, lack_of};
+use msc_reason::{RaceKind, Why, closest, explain, is_race, lack_of};
 use std::alloc::{AllocError, Global};
 use std::fmt::Write;
 use std::test::Fail;
@@ -235,5 +235,91 @@ fn words_of_kinds(rt: HostRuntime) -> Result<(), Fail> {
         assert!(rt; is, "{word}");
     }
     assert!(rt; RaceKind::of("late").is_none());
+    Ok(())
+}
+
+/// Three messages from a to b, in their order.
+const THREE: &[u8] = b"msc t; instance a; out m1 to b; out m2 to b; out m3 to b; endinstance; \
+instance b; in m1 from a; in m2 from a; in m3 from a; endinstance; endmsc;";
+
+/// What shows that an event is enforced before another: the input that the rule of queues leads to,
+/// where it is needed; a chain, there of the outputs; and what leads on from that input.
+type Shown<'a> = (Option<Event>, &'a [Event], &'a [Event]);
+
+/// Charts, architectures, pairs of events, and why they are enforced where they are.
+const WHYS: [(&[u8], Queues, (Event, Event), Option<Shown>); 11] = [
+    (RELAY, Queues::Pair, (0, 5), Some((None, &[1, 4, 5], &[]))),
+    (
+        RELAY,
+        Queues::Mailbox,
+        (2, 3),
+        Some((Some(3), &[1, 4, 5], &[])),
+    ),
+    (RELAY, Queues::Pair, (2, 3), None),
+    (OVERTAKING, Queues::Pair, (3, 2), Some((Some(2), &[1], &[]))),
+    (OVERTAKING, Queues::Single, (3, 2), None),
+    (
+        OUTPUT_BETWEEN,
+        Queues::Pair,
+        (4, 3),
+        Some((Some(2), &[1], &[3])),
+    ),
+    (
+        OUTPUT_BETWEEN,
+        Queues::Mailbox,
+        (4, 5),
+        Some((Some(2), &[1], &[3, 5])),
+    ),
+    (
+        LOCAL_EVENTS,
+        Queues::Pair,
+        (0, 3),
+        Some((None, &[1, 2, 3], &[])),
+    ),
+    // The last output that leads to the end is the next one of a chain.
+    (THREE, Queues::Pair, (0, 5), Some((None, &[2, 5], &[]))),
+    (THREE, Queues::Pair, (3, 5), Some((Some(5), &[2], &[]))),
+    (THREE, Queues::Single, (3, 5), None),
+];
+
+/// Whether this is what shows that an event is enforced before another.
+fn shows(why: &Why, wanted: Shown) -> bool {
+    let (mate, chain, onward) = wanted;
+    match why {
+        Why::Straight(steps) => mate.is_none() && steps.as_slice() == chain && onward.is_empty(),
+        Why::ByQueue(u, outputs, rest) => {
+            mate == Some(*u) && outputs.as_slice() == chain && rest.as_slice() == onward
+        }
+    }
+}
+
+/// Whether a pair of events of a text's chart is enforced under an architecture for this reason, or
+/// not enforced where none is wanted.
+fn is_explained(
+    alloc: Global,
+    text: &[u8],
+    queues: Queues,
+    pair: (Event, Event),
+    wanted: Option<Shown>,
+) -> Result<bool, Fail> {
+    let chart = chart_of(alloc, text)?;
+    let order = Order::enforced(alloc, &chart, queues)?;
+    let (e, f) = pair;
+    if e >= chart.events() || f >= chart.events() || !order.holds(e, f) {
+        return Ok(wanted.is_none());
+    }
+    let why = explain(alloc, &chart, queues, &order, e, f)?;
+    match wanted {
+        Some(wanted) => Ok(shows(&why, wanted)),
+        None => Ok(false),
+    }
+}
+
+#[test]
+fn reasons_of_enforced_pairs(rt: HostRuntime) -> Result<(), Fail> {
+    for (text, queues, pair, wanted) in WHYS {
+        let is = is_explained(rt.alloc(), text, queues, pair, wanted)?;
+        assert!(rt; is, "{pair:?}, {queues:?}");
+    }
     Ok(())
 }

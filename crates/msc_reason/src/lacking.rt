@@ -10,8 +10,8 @@ use crate::laws::a_race_lacks_one_pair;
 use msc_chart::{Chart, Event, Queues, Wiring};
 use msc_order::Order;
 
-/// Whether (`e`, `f`) is a race. Both are numbers of events, and `order` is the enforced order of the
-/// chart. It takes no memory.
+/// Whether (`e`, `f`) is a race. Both are numbers of events, and `order` is the enforced order of
+/// the chart. It takes no memory.
 pub fn is_race(chart: &Chart, queues: Queues, order: &Order, e: Event, f: Event) -> bool
     requires enforced { IsEnforcedOrder (wired queues chart.now) (orders order.now) }
     requires square { length order.now ≡ length chart.now.events }

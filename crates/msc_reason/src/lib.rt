@@ -2,8 +2,9 @@
 //!
 //! [`closest`] lists the races between whose events nothing is drawn: every race spans one of them.
 //! [`lack_of`] says of a race of which kind it is, and which one pair of events would have to be
-//! enforced so that it were none. Races are after Alur, Holzmann and Peled (1996); closest races,
-//! kinds and lacks are this project's own. Events are numbered from 0, over all lines.
+//! enforced so that it were none. [`explain`] shows why a pair of events is enforced. Races are
+//! after Alur, Holzmann and Peled (1996); closest races, kinds, lacks and chains are this project's
+//! own. Events are numbered from 0, over all lines.
 #![tactic(auto)]
 
 mod explaining;
