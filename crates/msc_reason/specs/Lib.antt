@@ -2,6 +2,7 @@
 pub mod Closest
 pub mod Lacks
 pub mod Chains
+pub mod Reasons
 pub mod Laws
 -- what the code keeps
 pub mod Ranges

@@ -1,7 +1,7 @@
 use Rattle.std.proofs.Common.{ℕ, ◌<◌}
 use Rattle.msc_chart.specs.Orders.{wired}
 use Rattle.msc_reason.specs.Links.{IsMate}
-use Rattle.msc_reason.proofs.explaining.first_mate.Given as goal
+use Rattle.msc_reason.proofs.chaining.first_mate.Given as goal
 
 -- none of the events so far is one
 abbrev pub invariant-loop-u : goal.invariant-loop-u

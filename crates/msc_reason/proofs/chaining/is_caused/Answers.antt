@@ -9,7 +9,7 @@ use Rattle.msc_order.specs.Causes.{Caused}
 use Rattle.msc_order.proofs.Once.{caused_enforced}
 use Rattle.msc_reason.specs.Links.{HasNoLink, IsLink}
 use Rattle.msc_reason.proofs.Walking.{controlled_caused, link_caused, over_step}
-use Rattle.msc_reason.proofs.explaining.is_caused.Goals as goal
+use Rattle.msc_reason.proofs.chaining.is_caused.Goals as goal
 
 pub returns-then-is_controlled : goal.returns-then-is_controlled
 returns-then-is_controlled c =

@@ -1,6 +1,6 @@
 use Rattle.std.proofs.Common.{arith}
 use Rattle.msc_chart.proofs.Drawn.{input_parts}
-use Rattle.msc_reason.proofs.explaining.first_mate.Goals as goal
+use Rattle.msc_reason.proofs.chaining.first_mate.Goals as goal
 
 pub returns : goal.returns
 returns c =

@@ -5,7 +5,7 @@ use Rattle.msc_race.proofs.Runs.EnforcedPairs.{enforced_below}
 use Rattle.msc_reason.specs.Chains.{LeadsTo}
 use Rattle.msc_reason.proofs.ChainLemmas.{leads_on, step_enforced}
 use Rattle.msc_reason.proofs.Walking.{fewer_after}
-use Rattle.msc_reason.proofs.explaining.walk.Goals as goal
+use Rattle.msc_reason.proofs.chaining.walk.Goals as goal
 
 pub loop-at-smaller : goal.loop-at-smaller
 loop-at-smaller c =

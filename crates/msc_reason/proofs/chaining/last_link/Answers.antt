@@ -1,6 +1,6 @@
 use Rattle.std.proofs.Common.{arith}
 use Rattle.msc_reason.proofs.Walking.{drawn_range}
-use Rattle.msc_reason.proofs.explaining.last_link.Goals as goal
+use Rattle.msc_reason.proofs.chaining.last_link.Goals as goal
 
 pub returns : goal.returns
 returns c = λ z link.

@@ -4,7 +4,7 @@ use Rattle.msc_chart.proofs.ListLemmas.{clash}
 use Rattle.msc_race.proofs.Runs.EnforcedPairs.{enforced_below}
 use Rattle.msc_reason.proofs.OnePair.{share_from}
 use Rattle.msc_reason.proofs.Walking.{chain_from, mate_exists}
-use Rattle.msc_reason.proofs.explaining.explain.Goals as goal
+use Rattle.msc_reason.proofs.chaining.why_of.Goals as goal
 
 pub is_caused-requires-clause-x_known : goal.is_caused-requires-clause-x_known
 is_caused-requires-clause-x_known c =

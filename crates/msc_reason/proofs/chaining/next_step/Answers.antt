@@ -5,7 +5,7 @@ use Rattle.msc_race.proofs.Runs.EnforcedPairs.{enforced_below}
 use Rattle.msc_reason.specs.Chains.Step.{over}
 use Rattle.msc_reason.specs.Links.{Follows}
 use Rattle.msc_reason.proofs.Walking.{link_step, over_step}
-use Rattle.msc_reason.proofs.explaining.next_step.Goals as goal
+use Rattle.msc_reason.proofs.chaining.next_step.Goals as goal
 
 pub last_link-requires-clause-x_known : goal.last_link-requires-clause-x_known
 last_link-requires-clause-x_known c =

@@ -3,7 +3,7 @@ use Rattle.msc_chart.proofs.Numbers.{count_below}
 use Rattle.msc_order.specs.Tables.{orders}
 use Rattle.msc_reason.specs.Chains.{LeadsTo}
 use Rattle.msc_reason.specs.Links.{Follows}
-use Rattle.msc_reason.proofs.explaining.walk.Given as goal
+use Rattle.msc_reason.proofs.chaining.walk.Given as goal
 
 -- the chain so far, and that it can go on
 abbrev pub invariant-loop-at : goal.invariant-loop-at

@@ -6,7 +6,7 @@ use Rattle.msc_chart.proofs.KindTests.{input_from_rest}
 use Rattle.msc_chart.proofs.ListLemmas.{clash}
 use Rattle.msc_order.proofs.Once.{caused_enforced}
 use Rattle.msc_reason.proofs.Walking.{controlled_caused}
-use Rattle.msc_reason.proofs.explaining.comes_by_queue.Goals as goal
+use Rattle.msc_reason.proofs.chaining.comes_by_queue.Goals as goal
 
 pub returns-then-is_controlled : goal.returns-then-is_controlled
 returns-then-is_controlled c = (
