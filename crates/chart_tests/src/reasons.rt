@@ -8,7 +8,7 @@ use example_charts::{
 use msc_chart::{Event, Queues};
 use msc_order::Order;
 use msc_race::races;
-use msc_reason::{RaceKind, Why, closest, explain, is_race, lack_of};
+use msc_reason::{RaceKind, Reason, Why, closest, explain, is_race, lack_of};
 use std::alloc::{AllocError, Global};
 use std::fmt::Write;
 use std::test::Fail;
@@ -102,10 +102,10 @@ fn two_streams_have_one_closest_race(rt: HostRuntime) -> Result<(), Fail> {
 }
 
 /// The kind of a race, what it needs before which output, and whether it is reversed always.
-type Reason = (RaceKind, Event, Event, bool);
+type Cause = (RaceKind, Event, Event, bool);
 
 /// Charts, architectures, pairs of events, and why they are races where they are.
-const REASONS: [(&[u8], Queues, (Event, Event), Option<Reason>); 18] = [
+const REASONS: [(&[u8], Queues, (Event, Event), Option<Cause>); 18] = [
     (
         TWO_SENDERS,
         Queues::Pair,
@@ -207,7 +207,7 @@ fn reason_of(
     text: &[u8],
     queues: Queues,
     pair: (Event, Event),
-) -> Result<Option<Reason>, Fail> {
+) -> Result<Option<Cause>, Fail> {
     let chart = chart_of(alloc, text)?;
     let order = Order::enforced(alloc, &chart, queues)?;
     let (e, f) = pair;
@@ -293,6 +293,14 @@ fn shows(why: &Why, wanted: Shown) -> bool {
     }
 }
 
+/// Whether this is what shows that an event is enforced before another, where something is wanted.
+fn shows_this(why: &Why, wanted: Option<Shown>) -> bool {
+    match wanted {
+        Some(wanted) => shows(why, wanted),
+        None => false,
+    }
+}
+
 /// Whether a pair of events of a text's chart is enforced under an architecture for this reason, or
 /// not enforced where none is wanted.
 fn is_explained(
@@ -305,13 +313,12 @@ fn is_explained(
     let chart = chart_of(alloc, text)?;
     let order = Order::enforced(alloc, &chart, queues)?;
     let (e, f) = pair;
-    if e >= chart.events() || f >= chart.events() || !order.holds(e, f) {
-        return Ok(wanted.is_none());
+    if e >= chart.events() || f >= chart.events() || e == f {
+        return Ok(false);
     }
-    let why = explain(alloc, &chart, queues, &order, e, f)?;
-    match wanted {
-        Some(wanted) => Ok(shows(&why, wanted)),
-        None => Ok(false),
+    match explain(alloc, &chart, queues, &order, e, f)? {
+        Reason::Enforced(why) => Ok(shows_this(&why, wanted)),
+        Reason::Free(_, _, _) => Ok(wanted.is_none()),
     }
 }
 
@@ -319,6 +326,73 @@ fn is_explained(
 fn reasons_of_enforced_pairs(rt: HostRuntime) -> Result<(), Fail> {
     for (text, queues, pair, wanted) in WHYS {
         let is = is_explained(rt.alloc(), text, queues, pair, wanted)?;
+        assert!(rt; is, "{pair:?}, {queues:?}");
+    }
+    Ok(())
+}
+
+/// A run that reverses a pair of events, the kind of the race where it is one, and what shows that
+/// the second is enforced before the first, where it is.
+type Reversed<'a> = (&'a [Event], Option<RaceKind>, Option<Shown<'a>>);
+
+/// Charts, architectures, pairs of events that are not enforced, and what is said of them.
+const FREE: [(&[u8], Queues, (Event, Event), Reversed); 3] = [
+    (
+        TWO_SENDERS,
+        Queues::Pair,
+        (0, 3),
+        (&[3, 2, 0, 1], None, None),
+    ),
+    (
+        RELAY,
+        Queues::Pair,
+        (2, 3),
+        (&[0, 1, 4, 5, 3, 2], Some(RaceKind::Queues), None),
+    ),
+    (
+        OVERTAKING,
+        Queues::Pair,
+        (2, 3),
+        (
+            &[0, 1, 3, 2],
+            Some(RaceKind::Overtaken),
+            Some((Some(2), &[1], &[])),
+        ),
+    ),
+];
+
+/// Whether this is said of a pair of events of a text's chart that is not enforced.
+fn is_free(
+    alloc: Global,
+    text: &[u8],
+    queues: Queues,
+    pair: (Event, Event),
+    wanted: Reversed,
+) -> Result<bool, Fail> {
+    let chart = chart_of(alloc, text)?;
+    let order = Order::enforced(alloc, &chart, queues)?;
+    let (e, f) = pair;
+    if e >= chart.events() || f >= chart.events() || e == f {
+        return Ok(false);
+    }
+    let (events, kind, turned) = wanted;
+    match explain(alloc, &chart, queues, &order, e, f)? {
+        Reason::Enforced(_) => Ok(false),
+        Reason::Free(run, lack, late) => {
+            let one_kind = lack.map(|lack| lack.kind) == kind;
+            let one_chain = match late {
+                Some(why) => shows_this(&why, turned),
+                None => turned.is_none(),
+            };
+            Ok(run.as_slice() == events && one_kind && one_chain)
+        }
+    }
+}
+
+#[test]
+fn reasons_of_free_pairs(rt: HostRuntime) -> Result<(), Fail> {
+    for (text, queues, pair, wanted) in FREE {
+        let is = is_free(rt.alloc(), text, queues, pair, wanted)?;
         assert!(rt; is, "{pair:?}, {queues:?}");
     }
     Ok(())
