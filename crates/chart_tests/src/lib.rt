@@ -10,4 +10,6 @@ mod orders;
 #[cfg(test)]
 mod races;
 #[cfg(test)]
+mod reasons;
+#[cfg(test)]
 mod runs;

@@ -1,0 +1,9 @@
+use Rattle.std.proofs.Common.{arith}
+use Rattle.msc_reason.proofs.Walking.{drawn_range}
+use Rattle.msc_reason.proofs.chaining.last_link.Goals as goal
+
+pub returns : goal.returns
+returns c = λ z link.
+    let range = drawn_range c.args.chart.now.events c.accepted.ensures.in_text_order c.args.x c.segment_end-start.result c.line_end-end.result z
+    c.segment_end-start.ensures c.line_end-end.ensures link.0 in
+    c.loop-k.invariant z (omega (arith, range.0, range.1, c.saturating_sub-k-end.ensures, c.loop-k-test.false)) range.1 link.1

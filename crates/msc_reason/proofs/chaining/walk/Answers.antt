@@ -1,0 +1,27 @@
+use Rattle.std.proofs.Common.{ℕ, List, [], ◌∷◌, refl, sym, subst}
+use Rattle.msc_chart.specs.Orders.{wired}
+use Rattle.msc_order.specs.Tables.{orders}
+use Rattle.msc_race.proofs.Runs.EnforcedPairs.{enforced_below}
+use Rattle.msc_reason.specs.Chains.{LeadsTo}
+use Rattle.msc_reason.proofs.ChainLemmas.{leads_on, step_enforced}
+use Rattle.msc_reason.proofs.Walking.{fewer_after}
+use Rattle.msc_reason.proofs.chaining.walk.Goals as goal
+
+pub loop-at-smaller : goal.loop-at-smaller
+loop-at-smaller c =
+    let chart = wired c.args.queues c.args.chart.now in
+    let is_wired = c.ends_share_queues.ensures c.args.queues c.args.chart.now c.accepted.ensures in
+    let step = step_enforced chart c.loop-at.at c.next_step-at.result c.next_step-at.ensures.step in
+    let known = enforced_below chart is_wired c.loop-at.at c.next_step-at.result step in
+    fewer_after chart (c.the_enforced_order_has_no_cycle.ensures c.args.queues c.args.chart.now c.accepted.ensures)
+    (orders c.args.order.now) c.requires.enforced c.loop-at.at c.next_step-at.result known.0 known.1 step
+
+pub loop-at-preserved : goal.loop-at-preserved
+loop-at-preserved c =
+    let events = c.args.chart.now.events in
+    let next : ℕ = c.next_step-at.result in
+    record {
+      chain = subst (λ (l : List ℕ). LeadsTo events c.args.x l next) (sym c.in_ok-push.ensures.items)
+          (leads_on events c.args.x c.loop-at.steps.items c.loop-at.at (next ∷ []) next c.loop-at.invariant.chain (c.next_step-at.ensures.step, refl));
+      onward = c.next_step-at.ensures.onward;
+    }

@@ -1,0 +1,48 @@
+use Rattle.msc_chart.specs.Orders.{wired}
+use Rattle.msc_chart.proofs.Drawn.{input_parts}
+use Rattle.msc_chart.proofs.ListLemmas.{clash}
+use Rattle.msc_race.proofs.Runs.EnforcedPairs.{enforced_below}
+use Rattle.msc_reason.proofs.OnePair.{share_from}
+use Rattle.msc_reason.proofs.Walking.{chain_from, mate_exists}
+use Rattle.msc_reason.proofs.chaining.why_of.Goals as goal
+
+pub is_caused-requires-clause-x_known : goal.is_caused-requires-clause-x_known
+is_caused-requires-clause-x_known c =
+    (enforced_below (wired c.args.queues c.args.chart.now) (c.ends_share_queues.ensures c.args.queues c.args.chart.now c.accepted.ensures) c.args.e c.args.f c.requires.pair).0
+
+pub is_caused-requires-clause-y_known : goal.is_caused-requires-clause-y_known
+is_caused-requires-clause-y_known c =
+    (enforced_below (wired c.args.queues c.args.chart.now) (c.ends_share_queues.ensures c.args.queues c.args.chart.now c.accepted.ensures) c.args.e c.args.f c.requires.pair).1
+
+pub first_mate-u-requires-clause-input : goal.first_mate-u-requires-clause-input
+first_mate-u-requires-clause-input c =
+    (mate_exists (wired c.args.queues c.args.chart.now) (c.ends_share_queues.ensures c.args.queues c.args.chart.now c.accepted.ensures) c.args.e c.args.f c.requires.pair
+    (λ caused. clash (c.is_caused.ensures.1 caused) c.if-is_caused.false)).1.0.first
+
+pub first_mate-u-requires-clause-f_known : goal.first_mate-u-requires-clause-f_known
+first_mate-u-requires-clause-f_known c =
+    (enforced_below (wired c.args.queues c.args.chart.now) (c.ends_share_queues.ensures c.args.queues c.args.chart.now c.accepted.ensures) c.args.e c.args.f c.requires.pair).1
+
+pub first_mate-u-requires-clause-some : goal.first_mate-u-requires-clause-some
+first_mate-u-requires-clause-some c =
+    mate_exists (wired c.args.queues c.args.chart.now) (c.ends_share_queues.ensures c.args.queues c.args.chart.now c.accepted.ensures) c.args.e c.args.f c.requires.pair
+    (λ caused. clash (c.is_caused.ensures.1 caused) c.if-is_caused.false)
+
+pub other_end-output-requires : goal.other_end-output-requires
+other_end-output-requires c =
+    (enforced_below (wired c.args.queues c.args.chart.now) (c.ends_share_queues.ensures c.args.queues c.args.chart.now c.accepted.ensures) c.args.e c.args.f c.requires.pair).0
+
+pub other_end-requires : goal.other_end-requires
+other_end-requires c = (input_parts c.args.chart.now.events c.first_mate-u.result c.first_mate-u.ensures.0.second).0
+
+pub returns : goal.returns
+returns c =
+    let chart = wired c.args.queues c.args.chart.now in
+    let mate = c.first_mate-u.ensures.0 in
+    let h = c.in_ok-outputs.ensures in
+    record {
+      mates = share_from chart c.args.e c.first_mate-u.result mate.first mate.second mate.one_queue;
+      chain = chain_from chart (c.the_enforced_order_has_no_cycle.ensures c.args.queues c.args.chart.now c.accepted.ensures) _ _ _ mate.outputs
+          (rw (← c.other_end-output.ensures.value, ← c.other_end.ensures.value) h);
+      rest = c.in_ok-onward.ensures;
+    }

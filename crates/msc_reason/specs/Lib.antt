@@ -1,0 +1,9 @@
+-- what is promised
+pub mod Closest
+pub mod Lacks
+pub mod Chains
+pub mod Reasons
+pub mod Laws
+-- what the code keeps
+pub mod Ranges
+pub mod Links

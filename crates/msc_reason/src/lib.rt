@@ -1,0 +1,25 @@
+//! Which races of a chart to look at, and why they are races.
+//!
+//! [`closest`] lists the races between whose events nothing is drawn: every race spans one of them.
+//! [`lack_of`] says of a race of which kind it is, and which one pair of events would have to be
+//! enforced so that it were none. [`explain`] shows why a pair of events is enforced, or a run that
+//! reverses it. Races are after Alur, Holzmann and Peled (1996); closest races, kinds, lacks and
+//! chains are this project's own. Events are numbered from 0, over all lines.
+#![tactic(auto)]
+
+mod chaining;
+mod explaining;
+mod lack;
+mod lacking;
+pub mod laws;
+mod listing;
+mod reason;
+mod why;
+
+pub use chaining::why_of;
+pub use explaining::explain;
+pub use lack::{Lack, RaceKind};
+pub use lacking::{is_race, kind_of, lack_of};
+pub use listing::closest;
+pub use reason::Reason;
+pub use why::Why;
