@@ -6,12 +6,14 @@
 //! over all lines.
 #![tactic(auto)]
 
+mod event_texts;
 mod fault;
 mod race;
 mod trace;
 mod verdict;
 mod writing;
 
+pub use event_texts::EventTexts;
 pub use fault::Fault;
 pub use race::{run_line, write_race};
 pub use trace::write_trace;
