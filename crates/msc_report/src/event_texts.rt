@@ -1,10 +1,11 @@
 //! The texts of a chart's events, made once.
 
-ghost use Rattle.std.specs.Prelude.{◌≡◌, ℕ, ◌<◌, ◌++◌, IfOk, None, OnOk, get_or, length};
+ghost use Rattle.std.specs.Prelude.{◌≡◌, ℕ, ◌<◌, ◌++◌, IfOk, None, OnOk, Some, get_or, length};
+ghost use Rattle.std.specs.List.{All};
 ghost use Rattle.msc_chart.specs.Drawings.{Drawing};
 ghost use Rattle.msc_report.specs.EventTexts.{no_text, AreTextsOf};
 ghost use Rattle.msc_report.specs.Spans.{HasPut};
-ghost use Rattle.msc_report.specs.Verdicts.{race_text};
+ghost use Rattle.msc_report.specs.Verdicts.{race_text, run_line};
 
 use crate::race::{write_event, write_instance, write_numbers};
 use msc_chart::{Chart, Event};
@@ -140,5 +141,20 @@ impl EventTexts {
         page.extend_from_slice(b"; ")?;
         page.extend_from_slice(self.second(f))?;
         Ok(())
+    }
+
+    /// The line of a run, for a caller that puts it behind more than one race. An error is a growth
+    /// of memory that was refused.
+    pub fn run_line(&self, alloc: Global, run: &[Event]) -> Result<Vec<u8>, AllocError>
+        requires { All (λ e. e < length self.now) run.now }
+        ensures { (d : Drawing) → AreTextsOf d self.now
+            → IfOk result (λ line. line.items ≡ run_line (Some run.now)) }
+    {
+        let mut line = Vec::from_slice(alloc, b"run")?;
+        for e in run {
+            line.extend_from_slice(self.number(*e))?;
+        }
+        line.extend_from_slice(b"\n")?;
+        Ok(line)
     }
 }

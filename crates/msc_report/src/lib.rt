@@ -2,8 +2,8 @@
 //!
 //! Each call writes exactly its text or answers an `io::Error`; how much went out before an error
 //! is not said. The texts are definitions of their own, beside which each call's contract stands.
-//! No call but `run_line` takes memory, beyond what the writer does. Events are numbered from 0,
-//! over all lines.
+//! No call but `run_line` and those of `EventTexts` takes memory, beyond what the writer does.
+//! Events are numbered from 0, over all lines.
 #![tactic(auto)]
 
 mod event_texts;

@@ -14,7 +14,7 @@ use msc_chart::{Chart, Event, Queues};
 use msc_order::Order;
 use msc_race::chosen_run;
 use msc_race::laws::the_chosen_run_reverses;
-use msc_report::{EventTexts, Fault, run_line};
+use msc_report::{EventTexts, Fault};
 use std::alloc::{AllocError, Global};
 use std::io::Write;
 
@@ -24,8 +24,10 @@ fn line_of(
     chart: &Chart,
     queues: Queues,
     order: &Order,
+    texts: &EventTexts,
     e: Event,
 ) -> Result<Vec<u8>, AllocError>
+    requires texts { AreTextsOf chart.now texts.now }
     requires enforced { IsEnforcedOrder (wired queues chart.now) (orders order.now) }
     requires square { length order.now ≡ length chart.now.events }
     requires known { e < length chart.now.events }
@@ -34,7 +36,7 @@ fn line_of(
 {
     the_chosen_run_reverses();
     let run = chosen_run(alloc, chart, queues, order, e)?;
-    run_line(alloc, run.as_slice())
+    texts.run_line(alloc, run.as_slice())
 }
 
 /// Lets a page go out where it is full.
@@ -50,8 +52,8 @@ fn turn<W: Write>(writer: &mut W, page: &mut Page) -> Result<(), Fault>
     Ok(())
 }
 
-/// Puts a race, and behind it a line, behind a page.
-fn put_race<W: Write>(
+/// Puts a race, and behind it the line of a run, behind a page.
+fn put_with_run<W: Write>(
     writer: &mut W,
     page: &mut Page,
     texts: &EventTexts,
@@ -95,10 +97,10 @@ fn put_shown<W: Write>(
     let mut line = Vec::new(alloc);
     for race in races {
         if race.0 != of {
-            line = line_of(alloc, chart, queues, order, race.0)?;
+            line = line_of(alloc, chart, queues, order, texts, race.0)?;
             of = race.0;
         }
-        put_race(writer, page, texts, *race, line.as_slice())?;
+        put_with_run(writer, page, texts, *race, line.as_slice())?;
     }
     Ok(())
 }
@@ -116,7 +118,8 @@ fn put_unshown<W: Write>(
         page.old.bytes.items page.new.bytes.items (unshown_text d races.now) }
 {
     for race in races {
-        put_race(writer, page, texts, *race, b"")?;
+        turn(writer, page)?;
+        texts.put_race(&mut page.bytes, race.0, race.1)?;
     }
     Ok(())
 }
