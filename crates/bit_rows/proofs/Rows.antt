@@ -6,7 +6,7 @@ use Rattle.std.proofs.lemmas.List.{get_or_past, get_or-replicate, length-replica
 use Rattle.std.proofs.lemmas.Nat.Bits.{bit_at-trailing_zeros}
 use Rattle.std.proofs.Math.Bool.{or-false, and-true}
 use Rattle.bit_rows.specs.Rows.{bit_of, has}
-use Rattle.bit_rows.proofs.Bits.{bit_put, bit_meet, bit_other, bit_alone, bit_zero}
+use Rattle.bit_rows.proofs.Bits.{clash, bit_put, bit_meet, bit_other, bit_alone, bit_zero}
 
 -- numbers of one word differ as their bits do
 pub same_bit : (y z : ℕ) → z / 64 ≡ y / 64 → eqb (z % 64) (y % 64) ≡ eqb z y
@@ -79,6 +79,19 @@ none_further row k none empty y below =
       | inr after ↦
           let same : y / 64 ≡ k = omega (arith, after, below) in
           has_none row y (rw same empty)
+    ]
+
+-- and one that has none below word k has none below the next word
+pub above_further : (row : List ℕ) (k : ℕ) → ((y : ℕ) → has row y ≡ true → 64 * k ≤ y)
+    → get_or row k 0 ≡ 0 → (y : ℕ) → has row y ≡ true → 64 * (k + 1) ≤ y
+above_further row k above empty y h =
+    elim (cases_lt y (64 * (k + 1))) [
+      | inr past ↦ past
+      | inl here ↦
+          let low = above y h in
+          let same : y / 64 ≡ k = omega (arith, here, low) in
+          let none = has_none row y (rw same empty) in
+          clash h none
     ]
 
 -- a number of a row, by its word and its bit

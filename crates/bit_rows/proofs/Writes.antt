@@ -1,13 +1,12 @@
 -- What writing one word after the other does to a row of bits.
-use Rattle.std.proofs.Common.{◌≡◌, ℕ, ◌+◌, ◌*◌, ◌/◌, ◌%◌, ◌^◌, ◌<◌, Bool, true, false, not, ◌&&◌, ◌||◌, cond, inl, inr, ltb, List, length, get_or, set, refl, ap, ◌∙◌, arith, get_or-set_same, get_or-set_other, bit_and, w64}
+use Rattle.std.proofs.Common.{◌≡◌, ℕ, ◌+◌, ◌/◌, ◌%◌, ◌^◌, ◌<◌, ◌≤◌, Bool, true, false, not, ◌&&◌, ◌||◌, cond, inl, inr, ltb, List, length, get_or, set, refl, ap, ◌∙◌, arith, get_or-set_same, get_or-set_other, bit_and, w64, sym}
 use Rattle.std.proofs.lemmas.Bool.{lt-ltb, le-ltb, ne_eqb, cases_lt, cases_eq}
 use Rattle.std.specs.Int.{bit_not}
-use Rattle.bit_rows.specs.Rows.{bit_of, has, word_count}
-use Rattle.bit_rows.specs.Tables.{cell}
+use Rattle.std.specs.Int.Bits.{and_zero_l}
+use Rattle.std.proofs.lemmas.List.{get_or_past}
+use Rattle.bit_rows.specs.Rows.{bit_of, has}
 use Rattle.std.proofs.Math.Bool.{or-false}
-use Rattle.bit_rows.proofs.Bits.{word_below, below-suc, bit_meet, bit_other}
-use Rattle.bit_rows.proofs.Rows.{has_past}
-use Rattle.bit_rows.proofs.Cells.{cell_in, cell_out}
+use Rattle.bit_rows.proofs.Bits.{below-suc, bit_meet, bit_other}
 
 -- the words of a row below k are written
 pub written : (ℕ → ℕ) → List ℕ → ℕ → ℕ → ℕ
@@ -33,33 +32,36 @@ write_step value row now k word inside is h w =
       | inr other ↦ get_or-set_other now k w word 0 other ∙ h w ∙ rw (below-suc w k, ne_eqb w k other, or-false (ltb w k)) refl
     ]
 
--- the numbers that two rows have in common
-pub common_end : (n : ℕ) (words masks row now : List ℕ) (e q : ℕ) → length now ≡ word_count n
-    → ((w : ℕ) → get_or now w 0 ≡ written (λ k. bit_and (get_or words (e * word_count n + k) 0) (get_or masks (q * word_count n + k) 0)) row (word_count n) w)
-    → (y : ℕ) → has now y ≡ (cell n words e y && cell n masks q y)
-unfolding written has
-common_end n words masks row now e q size h y =
-    elim (cases_lt y (64 * word_count n)) [
-      | inr out ↦ rw (cell_out n words e y out) (has_past now y (omega (arith, size, out)))
-      | inl column ↦ rw (cell_in n words e y column, cell_in n masks q y column, h (y / 64), lt-ltb (y / 64) (word_count n) (word_below n y column))
-          (bit_meet (get_or words (e * word_count n + y / 64) 0) (get_or masks (q * word_count n + y / 64) 0) (y % 64))
+-- when all words are written, each has its value, where that of a word past the end is 0
+pub all_written : (value : ℕ → ℕ) (row now : List ℕ) (k : ℕ) → length row ≤ k → ((w : ℕ) → length row ≤ w → value w ≡ 0)
+    → ((w : ℕ) → get_or now w 0 ≡ written value row k w) → (w : ℕ) → get_or now w 0 ≡ value w
+unfolding written
+all_written value row now k done past h w =
+    elim (cases_lt w k) [
+      | inl less ↦ h w ∙ rw (lt-ltb w k less) refl
+      | inr more ↦ h w ∙ rw (le-ltb w k more) (get_or_past row w 0 (omega (arith, done, more)) ∙ sym (past w (omega (arith, done, more))))
     ]
 
+-- past a row there is no bit in it and another word
+pub meet_past : (row : List ℕ) (other w : ℕ) → length row ≤ w → bit_and (get_or row w 0) other ≡ 0
+meet_past row other w past = rw (get_or_past row w 0 past) (and_zero_l other)
+
+-- the numbers that two rows have in common
+pub has_meet : (one other now : List ℕ) → ((w : ℕ) → get_or now w 0 ≡ bit_and (get_or one w 0) (get_or other w 0))
+    → (y : ℕ) → has now y ≡ (has one y && has other y)
+unfolding has
+has_meet one other now h y = rw (h (y / 64)) (bit_meet (get_or one (y / 64) 0) (get_or other (y / 64) 0) (y % 64))
+
 -- the numbers that one row has and another has not
-pub others_end : (n : ℕ) (words row now : List ℕ) (c : ℕ) → length row ≡ word_count n → length now ≡ word_count n
-    → ((i : ℕ) → get_or words i 0 < 2 ^ 64)
-    → ((w : ℕ) → get_or now w 0 ≡ written (λ k. bit_and (get_or row k 0) (bit_not w64 (get_or words (c * word_count n + k) 0))) row (word_count n) w)
-    → (y : ℕ) → has now y ≡ (has row y && not (cell n words c y))
-unfolding written has
-others_end n words row now c size same fits h y =
-    elim (cases_lt y (64 * word_count n)) [
-      | inr out ↦ rw (has_past row y (omega (arith, size, out))) (has_past now y (omega (arith, same, out)))
-      | inl column ↦
-          let word : ℕ = get_or words (c * word_count n + y / 64) 0 in
-          rw (cell_in n words c y column, h (y / 64), lt-ltb (y / 64) (word_count n) (word_below n y column))
-          (bit_meet (get_or row (y / 64) 0) (bit_not w64 word) (y % 64)
-          ∙ ap (λ b. bit_of (get_or row (y / 64) 0) (y % 64) && b) (bit_other word (y % 64) (fits (c * word_count n + y / 64)) (omega arith)))
-    ]
+pub has_part : (row other now : List ℕ) → ((w : ℕ) → get_or other w 0 < 2 ^ 64)
+    → ((w : ℕ) → get_or now w 0 ≡ bit_and (get_or row w 0) (bit_not w64 (get_or other w 0)))
+    → (y : ℕ) → has now y ≡ (has row y && not (has other y))
+unfolding has
+has_part row other now fits h y =
+    let word : ℕ = get_or other (y / 64) 0 in
+    rw (h (y / 64))
+    (bit_meet (get_or row (y / 64) 0) (bit_not w64 word) (y % 64)
+    ∙ ap (λ b. bit_of (get_or row (y / 64) 0) (y % 64) && b) (bit_other word (y % 64) (fits (y / 64)) (omega arith)))
 
 -- without a row, and then without its number
 pub drop_both : (a c e : Bool) → ((a && not c) && not e) ≡ (a && not (e || c))

@@ -1,7 +1,7 @@
 //! One row of bits.
 
 ghost use Rattle.std.specs.Prelude.{◌≡◌, ◌≢◌, ℕ, ◌+◌, ◌*◌, ◌/◌, ◌%◌, ◌<◌, ◌≤◌, ◌||◌, false, length};
-ghost use Rattle.std.specs.Prelude.{nat_eq, replicate, IsTrue, IfOk};
+ghost use Rattle.std.specs.Prelude.{◌&&◌, not, nat_eq, replicate, IsTrue, IfOk};
 ghost use Rattle.bit_rows.specs.Rows.{bit_of, has, word_count, IsBlankTo, IsFirstWord, IsWith, IsWithout};
 
 use std::alloc::{AllocError, Global};
@@ -64,6 +64,27 @@ pub fn clear(row: &mut [u64], y: u32)
     ensures { IsWithout row.old row.new y }
 {
     row[y as usize / 64] &= !(1 << (y % 64));
+}
+
+/// Makes the row the numbers that two others of its length have in common.
+pub(crate) fn meet(row: &mut [u64], one: &[u64], other: &[u64])
+    requires one { length one.now ≡ length row.old }
+    requires other { length other.now ≡ length row.old }
+    ensures { (y : ℕ) → has row.new y ≡ (has one.now y && has other.now y) }
+{
+    for (k, word) in row.iter_mut().enumerate() {
+        *word = one[k] & other[k];
+    }
+}
+
+/// Takes the numbers of another row of its length out of the row.
+pub(crate) fn part(row: &mut [u64], other: &[u64])
+    requires { length other.now ≡ length row.old }
+    ensures { (y : ℕ) → has row.new y ≡ (has row.old y && not (has other.now y)) }
+{
+    for (k, word) in row.iter_mut().enumerate() {
+        *word &= !other[k];
+    }
 }
 
 /// The lowest number that `word` has as word `k` of a row.

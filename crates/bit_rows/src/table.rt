@@ -6,7 +6,7 @@ ghost use Rattle.bit_rows.specs.Rows.{has, word_count};
 ghost use Rattle.bit_rows.specs.Tables.{cell, with_row, HasRow};
 
 use crate::row;
-use crate::row::{clear, word_count, zeros};
+use crate::row::{clear, meet, part, word_count, zeros};
 use std::alloc::{AllocError, Global};
 
 /// So many rows without a number. An error is a growth of memory that was refused.
@@ -82,10 +82,7 @@ pub fn common(left: &mut [u64], words: &[u64], masks: &[u64], n: u32, e: u32, q:
     requires mask { HasRow n masks.now q }
     ensures { (y : ℕ) → has left.new y ≡ (cell n words.now e y && cell n masks.now q y) }
 {
-    let count = word_count(n);
-    for k in 0..count {
-        left[k] = words[e as usize * count + k] & masks[q as usize * count + k];
-    }
+    meet(left, row_of(words, n, e), row_of(masks, n, q));
 }
 
 /// Takes the numbers of row `c`, and `c` itself, out of `left`.
@@ -96,9 +93,6 @@ pub fn drop_row(left: &mut [u64], words: &[u64], n: u32, c: u32)
     ensures { (y : ℕ) → has left.new y
         ≡ (has left.old y && not (nat_eq y c || cell n words.now c y)) }
 {
-    let count = word_count(n);
-    for k in 0..count {
-        left[k] &= !words[c as usize * count + k];
-    }
+    part(left, row_of(words, n, c));
     clear(left, c);
 }

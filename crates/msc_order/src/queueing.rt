@@ -37,6 +37,7 @@ fn take_input(words: &mut [u64], wiring: &Wiring, s: Event, c: Event)
 
 /// The input of output `s` takes in the inputs of those outputs that are left in word `k`. Whatever
 /// is caused after one of them is left no more.
+#[inline(never)]
 fn take_word(words: &mut [u64], left: &mut [u64], wiring: &Wiring, s: Event, k: usize)
     requires square { length words.old ≡ size wiring.now * word_count (size wiring.now) }
     requires row { length left.old ≡ word_count (size wiring.now) }
@@ -74,7 +75,9 @@ fn take_left(words: &mut [u64], left: &mut [u64], wiring: &Wiring, s: Event)
     ensures queue { HasQueueOf (wired_by wiring.now) (cell (size wiring.now) words.new) s }
 {
     for k in 0..left.len() {
-        take_word(words, left, wiring, s, k);
+        if left[k] != 0 {
+            take_word(words, left, wiring, s, k);
+        }
     }
 }
 

@@ -1,3 +1,4 @@
 pub mod KnownBytes
 pub mod KindLemmas
 pub mod EndLines
+pub mod MadeTexts

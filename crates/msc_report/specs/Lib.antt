@@ -1,5 +1,8 @@
--- what is promised; the code keeps nothing besides
+-- what is promised
 pub mod Refusals
 pub mod Texts
 pub mod Verdicts
 pub mod Traces
+pub mod EventTexts
+-- what the code keeps
+pub mod Spans

@@ -2,16 +2,18 @@
 //!
 //! Each call writes exactly its text or answers an `io::Error`; how much went out before an error
 //! is not said. The texts are definitions of their own, beside which each call's contract stands.
-//! No call but `run_line` takes memory, beyond what the writer does. Events are numbered from 0,
-//! over all lines.
+//! No call but `run_line` and those of `EventTexts` takes memory, beyond what the writer does.
+//! Events are numbered from 0, over all lines.
 #![tactic(auto)]
 
+mod event_texts;
 mod fault;
 mod race;
 mod trace;
 mod verdict;
 mod writing;
 
+pub use event_texts::EventTexts;
 pub use fault::Fault;
 pub use race::{run_line, write_race};
 pub use trace::write_trace;

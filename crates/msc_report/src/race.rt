@@ -141,7 +141,7 @@ pub(crate) fn write_event<W: Write>(writer: &mut W, chart: &Chart, e: Event) -> 
 }
 
 /// Writes numbers with a space before each.
-fn write_numbers<W: Write>(writer: &mut W, numbers: &[u32]) -> io::Result<()>
+pub(crate) fn write_numbers<W: Write>(writer: &mut W, numbers: &[u32]) -> io::Result<()>
     ensures { OnOk result (Appends (W.contents writer.old) (W.contents writer.new)
         (flat_map spaced numbers.now)) }
 {

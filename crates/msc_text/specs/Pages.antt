@@ -26,6 +26,10 @@ Writes (Err Memory) before after text = Begins before after text
 Writes (Err Device) before after text = Unit {0}
 Writes (Err fault) before after text = ⊥
 
+-- both numbers of each pair are below n
+abbrev pub AreBelow : ℕ → List (ℕ × ℕ) → Type 0
+AreBelow n pairs = All (λ p. (p.0 < n) × (p.1 < n)) pairs
+
 -- both numbers of each pair are those of events
 abbrev pub AreEvents : Drawing → List (ℕ × ℕ) → Type 0
-AreEvents d pairs = All (λ p. (p.0 < length d.events) × (p.1 < length d.events)) pairs
+AreEvents d pairs = AreBelow (length d.events) pairs

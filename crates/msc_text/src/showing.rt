@@ -1,18 +1,20 @@
 //! Races, and the runs that show them.
 
 ghost use Rattle.std.specs.Prelude.{◌≡◌, ℕ, ◌<◌, ◌++◌, List, [], None, Some, IfOk, length};
+ghost use Rattle.msc_chart.specs.Drawings.{Drawing};
 ghost use Rattle.msc_chart.specs.Orders.{wired, IsEnforcedOrder};
 ghost use Rattle.msc_order.specs.Tables.{orders};
+ghost use Rattle.msc_report.specs.EventTexts.{AreTextsOf};
 ghost use Rattle.msc_report.specs.Verdicts.{race_text, run_line};
 ghost use Rattle.msc_text.specs.Checking.{races_text, shown_text, unshown_text, AreChosen};
-ghost use Rattle.msc_text.specs.Pages.{AreEvents, Puts};
+ghost use Rattle.msc_text.specs.Pages.{AreBelow, AreEvents, Puts};
 
 use crate::page::Page;
 use msc_chart::{Chart, Event, Queues};
 use msc_order::Order;
 use msc_race::chosen_run;
 use msc_race::laws::the_chosen_run_reverses;
-use msc_report::{Fault, run_line, write_race};
+use msc_report::{EventTexts, Fault};
 use std::alloc::{AllocError, Global};
 use std::io::Write;
 
@@ -22,8 +24,10 @@ fn line_of(
     chart: &Chart,
     queues: Queues,
     order: &Order,
+    texts: &EventTexts,
     e: Event,
 ) -> Result<Vec<u8>, AllocError>
+    requires texts { AreTextsOf chart.now texts.now }
     requires enforced { IsEnforcedOrder (wired queues chart.now) (orders order.now) }
     requires square { length order.now ≡ length chart.now.events }
     requires known { e < length chart.now.events }
@@ -32,7 +36,7 @@ fn line_of(
 {
     the_chosen_run_reverses();
     let run = chosen_run(alloc, chart, queues, order, e)?;
-    run_line(alloc, run.as_slice())
+    texts.run_line(alloc, run.as_slice())
 }
 
 /// Lets a page go out where it is full.
@@ -48,28 +52,25 @@ fn turn<W: Write>(writer: &mut W, page: &mut Page) -> Result<(), Fault>
     Ok(())
 }
 
-/// Puts a race, and behind it a line, behind a page.
-fn put_race<W: Write>(
+/// Puts a race, and behind it the line of a run, behind a page.
+fn put_with_run<W: Write>(
     writer: &mut W,
     page: &mut Page,
-    chart: &Chart,
+    texts: &EventTexts,
     race: (Event, Event),
     line: &[u8],
 ) -> Result<(), Fault>
-    requires first { race.0 < length chart.now.events }
-    requires second { race.1 < length chart.now.events }
-    ensures { Puts result (W.contents writer.old) (W.contents writer.new)
+    requires first { race.0 < length texts.now }
+    requires second { race.1 < length texts.now }
+    ensures { (d : Drawing) → AreTextsOf d texts.now
+        → Puts result (W.contents writer.old) (W.contents writer.new)
         page.old.bytes.items page.new.bytes.items
-        (race_text chart.now race.0 race.1 None ++ line.now) }
+        (race_text d race.0 race.1 None ++ line.now) }
 {
     turn(writer, page)?;
-    match write_race(page, chart, race.0, race.1, None) {
-        Ok(()) => {
-            page.bytes.extend_from_slice(line)?;
-            Ok(())
-        }
-        Err(_) => Err(Fault::Memory),
-    }
+    texts.put_race(&mut page.bytes, race.0, race.1)?;
+    page.bytes.extend_from_slice(line)?;
+    Ok(())
 }
 
 /// Puts each of these races with the chosen run of its first event behind a page. One run serves
@@ -81,8 +82,10 @@ fn put_shown<W: Write>(
     chart: &Chart,
     queues: Queues,
     order: &Order,
+    texts: &EventTexts,
     races: &[(Event, Event)],
 ) -> Result<(), Fault>
+    requires texts { AreTextsOf chart.now texts.now }
     requires enforced { IsEnforcedOrder (wired queues chart.now) (orders order.now) }
     requires square { length order.now ≡ length chart.now.events }
     requires known { AreEvents chart.now races.now }
@@ -94,10 +97,10 @@ fn put_shown<W: Write>(
     let mut line = Vec::new(alloc);
     for race in races {
         if race.0 != of {
-            line = line_of(alloc, chart, queues, order, race.0)?;
+            line = line_of(alloc, chart, queues, order, texts, race.0)?;
             of = race.0;
         }
-        put_race(writer, page, chart, *race, line.as_slice())?;
+        put_with_run(writer, page, texts, *race, line.as_slice())?;
     }
     Ok(())
 }
@@ -106,15 +109,17 @@ fn put_shown<W: Write>(
 fn put_unshown<W: Write>(
     writer: &mut W,
     page: &mut Page,
-    chart: &Chart,
+    texts: &EventTexts,
     races: &[(Event, Event)],
 ) -> Result<(), Fault>
-    requires { AreEvents chart.now races.now }
-    ensures { Puts result (W.contents writer.old) (W.contents writer.new)
-        page.old.bytes.items page.new.bytes.items (unshown_text chart.now races.now) }
+    requires { AreBelow (length texts.now) races.now }
+    ensures { (d : Drawing) → AreTextsOf d texts.now
+        → Puts result (W.contents writer.old) (W.contents writer.new)
+        page.old.bytes.items page.new.bytes.items (unshown_text d races.now) }
 {
     for race in races {
-        put_race(writer, page, chart, *race, b"")?;
+        turn(writer, page)?;
+        texts.put_race(&mut page.bytes, race.0, race.1)?;
     }
     Ok(())
 }
@@ -138,7 +143,11 @@ pub fn put_races<W: Write>(
         → Puts result (W.contents writer.old) (W.contents writer.new)
         page.old.bytes.items page.new.bytes.items (races_text chart.now runs show races.now) }
 {
+    if races.is_empty() {
+        return Ok(());
+    }
+    let texts = EventTexts::new(alloc, chart)?;
     let (shown, others) = races.split_at((show as usize).min(races.len()));
-    put_shown(alloc, writer, page, chart, queues, order, shown)?;
-    put_unshown(writer, page, chart, others)
+    put_shown(alloc, writer, page, chart, queues, order, &texts, shown)?;
+    put_unshown(writer, page, &texts, others)
 }

@@ -13,7 +13,7 @@ use Rattle.msc_chart.specs.Drawings.{Drawing, IsAccepted, chart_of}
 use Rattle.msc_chart.specs.Faults.{IsFaultless}
 use Rattle.msc_chart.specs.Lists.{Steps}
 use Rattle.msc_chart.specs.Orders.{WiredChart, wired}
-use Rattle.msc_chart.specs.Runs.{MayCome}
+use Rattle.msc_chart.specs.Runs.{Run, MayCome}
 use Rattle.msc_execution.specs.declared.end.End.{End}
 use Rattle.msc_execution.specs.Executions.{Outcome, IsExecution, AreFinished, IsFinished}
 use Rattle.msc_gather.specs.Gathering.{IsGathered}
@@ -64,7 +64,11 @@ steps_events chart past [] steps = λ k x within. absurd (omega (arith, within))
 steps_events chart past (e ∷ es) steps =
     All-cons (λ e. e < length chart.events) e es steps.0.event (steps_events chart (past ++ e ∷ []) es steps.1)
 
--- so a trace is of events of the chart
+-- so a run is of events of the chart
+pub run_events : (chart : WiredChart) (events : List ℕ) → Run chart events → All (λ e. e < length chart.events) events
+run_events chart events run = steps_events chart [] events run
+
+-- and so is a trace
 pub trace_events : (queues : Queues) (d : Drawing) (logs : List (List ℕ)) (events : List ℕ)
     → IsGathered (wired queues d) (length d.instances) logs events → All (λ e. e < length d.events) events
 trace_events queues d logs events gathered = steps_events (wired queues d) [] events gathered.run

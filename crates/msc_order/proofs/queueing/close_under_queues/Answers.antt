@@ -1,6 +1,4 @@
-use Rattle.std.proofs.Common.{sym, ◌∙◌, arith, rules}
-use Rattle.msc_chart.specs.Orders.{queue}
-use Rattle.msc_chart.specs.Wirings.{wired_by}
+use Rattle.std.proofs.Common.{sym, rules}
 use Rattle.msc_chart.proofs.Drawn.{output_parts, output_not_local}
 use Rattle.msc_order.proofs.queueing.close_under_queues.Goals as goal
 

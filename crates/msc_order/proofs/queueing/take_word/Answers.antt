@@ -1,15 +1,14 @@
-use Rattle.std.proofs.Common.{◌≡◌, ℕ, ◌+◌, ◌*◌, ◌/◌, ◌<◌, ◌≤◌, inl, inr, ◌∙◌, arith}
+use Rattle.std.proofs.Common.{ℕ, ◌<◌, ◌∙◌, arith}
 use Rattle.std.proofs.Math.Facts.{Fits-of_lt}
-use Rattle.std.proofs.lemmas.Bool.{cases_lt}
 use Rattle.msc_chart.specs.Charts.{partner}
 use Rattle.msc_chart.specs.Wirings.{size, wired_by}
 use Rattle.msc_chart.proofs.Numbers.{count-less}
 use Rattle.msc_chart.proofs.Drawn.{output_parts}
 use Rattle.bit_rows.specs.Rows.{has}
 use Rattle.bit_rows.specs.Tables.{cell}
-use Rattle.bit_rows.proofs.Bits.{clash, words_few}
+use Rattle.bit_rows.proofs.Bits.{words_few}
 use Rattle.bit_rows.proofs.Cells.{row_fits}
-use Rattle.bit_rows.proofs.Rows.{has_at, has_none}
+use Rattle.bit_rows.proofs.Rows.{above_further, has_at}
 use Rattle.msc_order.proofs.Between.{in_order, keeps_trans, left_gone, left_less, left_next, taken_between, taken_kept}
 use Rattle.msc_order.proofs.queueing.take_word.Goals as goal
 
@@ -96,11 +95,5 @@ loop-left-preserved c =
     }
 
 pub returns-clause-above : goal.returns-clause-above
-returns-clause-above c d h =
-    let low : 64 * c.args.k ≤ d = c.loop-left.invariant.above d h in
-    elim (cases_lt d (64 * (c.args.k + 1))) [
-      | inr ge ↦ ge
-      | inl lt ↦
-          let here : d / 64 ≡ c.args.k = omega (arith, low, lt) in
-          clash h (has_none c.loop-left.left d (rw here c.loop-left-test.false))
-    ]
+returns-clause-above c =
+    above_further c.loop-left.left c.args.k c.loop-left.invariant.above c.loop-left-test.false

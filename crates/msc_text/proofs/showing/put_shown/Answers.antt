@@ -17,9 +17,9 @@ returns-in_err-line g c runs chosen =
     rw (exit.1, exit.2) (pages_stop (λ (p : ℕ × ℕ). race_text c.args.chart.now p.0 p.1 (Some (runs p.0)))
     c.args.races.now c.loop-race.race-index _ _ _ _ (c.loop-race.invariant runs chosen).0)
 
-pub returns-in_err-put_race : goal.returns-in_err-put_race
-returns-in_err-put_race g c runs chosen =
-    let exit = err_from_is_err_and c.from_residual-in_err-put_race.result c.from_residual-in_err-put_race.ensures.1 in
+pub returns-in_err-put_with_run : goal.returns-in_err-put_with_run
+returns-in_err-put_with_run g c runs chosen =
+    let exit = err_from_is_err_and c.from_residual-in_err-put_with_run.result c.from_residual-in_err-put_with_run.ensures.1 in
     let races = c.args.races.now in
     let i = c.loop-race.race-index in
     let race = get_or races i (0, 0) in
@@ -32,8 +32,8 @@ returns-in_err-put_race g c runs chosen =
     ] in
     let text = race_and_line c.args.chart.now race.0 race.1 (runs race.0) c.as_slice.result.now (c.as_slice.ensures.value ∙ line) in
     rw (exit.1, exit.2) (puts_more (Unit {0}) (Unit {0}) _ (λ (p : ℕ × ℕ). race_text c.args.chart.now p.0 p.1 (Some (runs p.0)))
-    races i (omega (arith, c.loop-race-test.true)) _ _ _ _ _ c.put_race.new.page.bytes.items _ (c.loop-race.invariant runs chosen).0
-    (subst (λ (t : List ℕ). Puts {A = Unit {0}} (Err c.in_err-put_race.field-0.0) (g.W.Write.contents c.loop-race.writer) (g.W.Write.contents c.put_race.new.writer) c.loop-race.page.bytes.items c.put_race.new.page.bytes.items t) text c.in_err-put_race.ensures))
+    races i (omega (arith, c.loop-race-test.true)) _ _ _ _ _ c.put_with_run.new.page.bytes.items _ (c.loop-race.invariant runs chosen).0
+    (subst (λ (t : List ℕ). Puts {A = Unit {0}} (Err c.in_err-put_with_run.field-0.0) (g.W.Write.contents c.loop-race.writer) (g.W.Write.contents c.put_with_run.new.writer) c.loop-race.page.bytes.items c.put_with_run.new.page.bytes.items t) text (c.in_err-put_with_run.ensures c.args.chart.now c.requires.texts)))
 
 pub loop-race-preserved : goal.loop-race-preserved
 loop-race-preserved g c runs chosen =
@@ -52,7 +52,7 @@ loop-race-preserved g c runs chosen =
     ] in
     let text = race_and_line c.args.chart.now race.0 race.1 (runs race.0) c.as_slice.result.now (c.as_slice.ensures.value ∙ line.1) in (
       pages_more (λ (p : ℕ × ℕ). race_text c.args.chart.now p.0 p.1 (Some (runs p.0))) races i (omega (arith, c.loop-race-test.true)) _ _ _ _ _ _ (c.loop-race.invariant runs chosen).0
-          (subst (λ (t : List ℕ). Pages (g.W.Write.contents c.loop-race.writer) (g.W.Write.contents c.put_race.new.writer) c.loop-race.page.bytes.items c.put_race.new.page.bytes.items t) text c.in_ok-put_race.ensures),
+          (subst (λ (t : List ℕ). Pages (g.W.Write.contents c.loop-race.writer) (g.W.Write.contents c.put_with_run.new.writer) c.loop-race.page.bytes.items c.put_with_run.new.page.bytes.items t) text (c.in_ok-put_with_run.ensures c.args.chart.now c.requires.texts)),
       λ within. line.1 ∙ ap (λ (e : ℕ). run_line (Some (runs e))) (sym line.0),
     )
 

@@ -1,0 +1,29 @@
+-- The texts of a chart's events, made once, of which the lines of races and runs are put together.
+use Rattle.std.specs.Prelude.{◌≡◌, ℕ, ◌<◌, List, [], ◌++◌, codes, get_or, length}
+use Rattle.msc_chart.specs.Charts as charts
+use Rattle.msc_chart.specs.Drawings.{Drawing}
+use Rattle.msc_report.specs.Texts.{line}
+use Rattle.msc_report.specs.Verdicts.{event_text, instance_text, spaced}
+
+-- What is printed of an event: its number after a space; of the first of two that race, the name of
+-- its instance and what it does; of the second, what it does, to the end of the line.
+pub record EventText : Type 0 where
+  pub number : List ℕ
+  pub first : List ℕ
+  pub second : List ℕ
+
+-- what is printed of event e
+abbrev pub text_of : Drawing → ℕ → EventText
+text_of d e = record {
+  number = spaced e;
+  first = codes " on " ++ (instance_text d (charts.line d.events e) ++ (codes ": " ++ event_text d e));
+  second = line (event_text d e);
+}
+
+abbrev pub no_text : EventText
+no_text = record { number = []; first = []; second = [] }
+
+-- these are the texts of the events of a chart, in order
+pub record AreTextsOf (d : Drawing) (texts : List EventText) : Type 0 where
+  pub size : length texts ≡ length d.events
+  pub each : (e : ℕ) → e < length d.events → get_or texts e no_text ≡ text_of d e

@@ -1,0 +1,37 @@
+-- What the code keeps of the texts of events: where their parts stand in one list of bytes.
+use Rattle.std.specs.Prelude.{◌≡◌, ℕ, ◌<◌, ◌≤◌, List, ◌++◌, get_or, length, slice_range}
+use Rattle.std.specs.List.{All}
+use Rattle.msc_chart.specs.Drawings.{Drawing}
+use Rattle.msc_report.specs.declared.event_texts.Span.{Span}
+use Rattle.msc_report.specs.EventTexts.{EventText, text_of}
+
+-- the parts that stand at these places
+abbrev pub text_at : List ℕ → Span → EventText
+text_at bytes s = record {
+  number = slice_range bytes s.number s.first;
+  first = slice_range bytes s.first s.past_first;
+  second = slice_range bytes s.second s.end;
+}
+
+-- the places are in order, and none is past the bytes
+pub record IsWithin (bytes : List ℕ) (s : Span) : Type 0 where
+  pub number : s.number ≤ s.first
+  pub first : s.first ≤ s.past_first
+  pub second : s.second ≤ s.end
+  pub past_first : s.past_first ≤ s.end
+  pub end : s.end ≤ length bytes
+
+-- the text of event e was put behind the bytes, and stands at these places
+pub record HasPut (d : Drawing) (e : ℕ) (old new : List ℕ) (s : Span) : Type 0 where
+  pub kept : (rest : List ℕ) × (new ≡ old ++ rest)
+  pub within : IsWithin new s
+  pub text : text_at new s ≡ text_of d e
+
+abbrev pub no_span : Span
+no_span = record { number = 0; first = 0; second = 0; past_first = 0; end = 0 }
+
+-- the texts of the events below e were put one after the other
+pub record AreMade (d : Drawing) (bytes : List ℕ) (spans : List Span) (e : ℕ) : Type 0 where
+  pub size : length spans ≡ e
+  pub within : All (IsWithin bytes) spans
+  pub each : (k : ℕ) → k < e → text_at bytes (get_or spans k no_span) ≡ text_of d k

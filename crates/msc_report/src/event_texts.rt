@@ -1,0 +1,160 @@
+//! The texts of a chart's events, made once.
+
+ghost use Rattle.std.specs.Prelude.{◌≡◌, ℕ, ◌<◌, ◌++◌, IfOk, None, OnOk, Some, get_or, length};
+ghost use Rattle.std.specs.List.{All};
+ghost use Rattle.msc_chart.specs.Drawings.{Drawing};
+ghost use Rattle.msc_report.specs.EventTexts.{no_text, AreTextsOf};
+ghost use Rattle.msc_report.specs.Spans.{HasPut};
+ghost use Rattle.msc_report.specs.Verdicts.{race_text, run_line};
+
+use crate::race::{write_event, write_instance, write_numbers};
+use msc_chart::{Chart, Event};
+use std::alloc::{AllocError, Global};
+use std::io;
+use std::io::Write;
+use std::marker::Model;
+
+/// Where the parts of an event's text stand: from `number` up to `first` its number after a space,
+/// up to `past_first` the name of its instance and what it does, and from `second` up to `end` what
+/// it does, to the end of the line.
+#[derive(Clone, Copy)]
+pub(crate) struct Span {
+    pub number: usize,
+    pub first: usize,
+    pub second: usize,
+    pub past_first: usize,
+    pub end: usize,
+}
+
+/// The texts of the events of a chart, of which lines that name many events are put together.
+///
+/// Contracts see what is printed of each event, in order.
+#[derive(Drop)]
+pub struct EventTexts {
+    bytes: Vec<u8>,
+    spans: Vec<Span>,
+}
+
+impl Model for EventTexts {
+    ghost use Rattle.std.specs.Prelude.{List, map};
+    ghost use Rattle.std.specs.List.{All};
+    ghost use Rattle.msc_report.specs.EventTexts.{EventText};
+
+    ghost Value = { List EventText };
+
+    ghost use Rattle.msc_report.specs.Spans.{text_at, IsWithin};
+
+    ghost view = { λ t. map (text_at t.bytes.items) t.spans.items };
+
+    ghost invariant = { λ t. All (IsWithin t.bytes.items) t.spans.items };
+}
+
+/// Puts the text of event `e` behind the bytes, and answers where its parts stand.
+fn write_parts(bytes: &mut Vec<u8>, chart: &Chart, e: Event) -> io::Result<Span>
+    requires { e < length chart.now.events }
+    ensures { IfOk result (HasPut chart.now e bytes.old.items bytes.new.items) }
+{
+    chart.accepted();
+    let number = bytes.len();
+    write_numbers(bytes, &[e])?;
+    let first = bytes.len();
+    bytes.write_all(b" on ")?;
+    write_instance(bytes, chart, chart.instance_of(e))?;
+    bytes.write_all(b": ")?;
+    let second = bytes.len();
+    write_event(bytes, chart, e)?;
+    let past_first = bytes.len();
+    bytes.write_all(b"\n")?;
+    Ok(Span {
+        number,
+        first,
+        second,
+        past_first,
+        end: bytes.len(),
+    })
+}
+
+/// The same, where want of memory is the only error.
+fn put_parts(bytes: &mut Vec<u8>, chart: &Chart, e: Event) -> Result<Span, AllocError>
+    requires { e < length chart.now.events }
+    ensures { IfOk result (HasPut chart.now e bytes.old.items bytes.new.items) }
+{
+    match write_parts(bytes, chart, e) {
+        Ok(span) => Ok(span),
+        Err(_) => Err(AllocError),
+    }
+}
+
+impl EventTexts {
+    /// The texts of a chart's events. An error is a growth of memory that was refused.
+    pub fn new(alloc: Global, chart: &Chart) -> Result<EventTexts, AllocError>
+        ensures { IfOk result (AreTextsOf chart.now) }
+    {
+        let mut bytes = Vec::new(alloc);
+        let mut spans = Vec::with_capacity(alloc, chart.events() as usize)?;
+        for e in 0..chart.events() {
+            let span = put_parts(&mut bytes, chart, e)?;
+            spans.push(span)?;
+        }
+        Ok(EventTexts { bytes, spans })
+    }
+
+    /// The number of event `e`, after a space.
+    fn number(&self, e: Event) -> &[u8]
+        requires { e < length self.now }
+        ensures { result.now ≡ (get_or self.now e no_text).number }
+    {
+        let span = self.spans[e as usize];
+        &self.bytes[span.number..span.first]
+    }
+
+    /// The name of the instance of event `e`, and what it does.
+    fn first(&self, e: Event) -> &[u8]
+        requires { e < length self.now }
+        ensures { result.now ≡ (get_or self.now e no_text).first }
+    {
+        let span = self.spans[e as usize];
+        &self.bytes[span.first..span.past_first]
+    }
+
+    /// What event `e` does, to the end of the line.
+    fn second(&self, e: Event) -> &[u8]
+        requires { e < length self.now }
+        ensures { result.now ≡ (get_or self.now e no_text).second }
+    {
+        let span = self.spans[e as usize];
+        &self.bytes[span.second..span.end]
+    }
+
+    /// Puts the text of the race of `e` and `f`, two events of one line, behind a page. An error is
+    /// a growth of memory that was refused; the page then has a beginning of the text.
+    pub fn put_race(&self, page: &mut Vec<u8>, e: Event, f: Event) -> Result<(), AllocError>
+        requires e_known { e < length self.now }
+        requires f_known { f < length self.now }
+        ensures { (d : Drawing) → AreTextsOf d self.now
+            → OnOk result (page.new.items ≡ page.old.items ++ race_text d e f None) }
+    {
+        page.extend_from_slice(b"race")?;
+        page.extend_from_slice(self.number(e))?;
+        page.extend_from_slice(self.number(f))?;
+        page.extend_from_slice(self.first(e))?;
+        page.extend_from_slice(b"; ")?;
+        page.extend_from_slice(self.second(f))?;
+        Ok(())
+    }
+
+    /// The line of a run, for a caller that puts it behind more than one race. An error is a growth
+    /// of memory that was refused.
+    pub fn run_line(&self, alloc: Global, run: &[Event]) -> Result<Vec<u8>, AllocError>
+        requires { All (λ e. e < length self.now) run.now }
+        ensures { (d : Drawing) → AreTextsOf d self.now
+            → IfOk result (λ line. line.items ≡ run_line (Some run.now)) }
+    {
+        let mut line = Vec::from_slice(alloc, b"run")?;
+        for e in run {
+            line.extend_from_slice(self.number(*e))?;
+        }
+        line.extend_from_slice(b"\n")?;
+        Ok(line)
+    }
+}
