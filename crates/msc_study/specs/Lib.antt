@@ -1,0 +1,7 @@
+-- what is promised
+pub mod Laws
+pub mod Lines
+pub mod Listing
+pub mod Studying
+-- what the code keeps
+pub mod Counting

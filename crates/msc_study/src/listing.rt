@@ -1,0 +1,105 @@
+//! Which races a study lists.
+
+ghost use Rattle.std.specs.Prelude.{◌↔◌, List, ℕ, IfOk, IsTrue, length};
+ghost use Rattle.msc_chart.specs.Lists.{Occurs};
+ghost use Rattle.msc_chart.specs.Orders.{wired, IsEnforcedOrder};
+ghost use Rattle.msc_order.specs.Tables.{orders};
+ghost use Rattle.msc_race.specs.Races.{IsVerdict};
+ghost use Rattle.msc_study.specs.Counting.{Allowed, AreRacesOf, Counts, IsListing, Splits};
+ghost use Rattle.msc_tool.specs.Checking.{races_of};
+
+use crate::view::View;
+use msc_chart::{Chart, Event, Queues};
+use msc_order::Order;
+use msc_race::Verdict;
+use msc_reason::{RaceKind, closest, lack_of};
+use msc_tool::races_of;
+use std::alloc::{AllocError, Global};
+
+/// What a study lists.
+#[derive(Drop)]
+pub struct Listing {
+    /// How many races are of a kind that is left out.
+    pub allowed: usize,
+    /// Whether all of them are.
+    pub passed: bool,
+    /// The races that are wanted, ascending.
+    pub listed: Vec<(Event, Event)>,
+}
+
+/// Whether a kind is one of these.
+fn is_named(allowed: &[RaceKind], kind: RaceKind) -> bool
+    ensures { IsTrue result ↔ Occurs allowed.now kind }
+{
+    for named in allowed {
+        if *named == kind {
+            return true;
+        }
+    }
+    false
+}
+
+/// The races of these that are of none of the kinds that are left out, in their order.
+fn counted(
+    alloc: Global,
+    chart: &Chart,
+    queues: Queues,
+    order: &Order,
+    allowed: &[RaceKind],
+    races: &[(Event, Event)],
+) -> Result<Vec<(Event, Event)>, AllocError>
+    requires enforced { IsEnforcedOrder (wired queues chart.now) (orders order.now) }
+    requires square { length order.now ≡ length chart.now.events }
+    requires races { AreRacesOf (wired queues chart.now) races.now }
+    ensures { IfOk result (λ some. (others : List (ℕ × ℕ))
+        × Splits (Counts (wired queues chart.now) allowed.now)
+        (Allowed (wired queues chart.now) allowed.now) races.now some.items others) }
+{
+    let mut some = Vec::new(alloc);
+    for race in races {
+        let lack = lack_of(chart, queues, order, race.0, race.1);
+        if !is_named(allowed, lack.kind) {
+            some.push(*race)?;
+        }
+    }
+    Ok(some)
+}
+
+/// The closest races of these, or all of them, that are of none of the kinds that are left out.
+fn wanted(
+    alloc: Global,
+    chart: &Chart,
+    queues: Queues,
+    order: &Order,
+    view: &View,
+) -> Result<Vec<(Event, Event)>, AllocError> 
+{
+    let near = closest(alloc, chart, queues, order)?;
+    counted(alloc, chart, queues, order, view.allowed.as_slice(), near.as_slice())
+}
+
+/// The races of a verdict that a study lists.
+pub fn listing(
+    alloc: Global,
+    chart: &Chart,
+    queues: Queues,
+    order: &Order,
+    verdict: &Verdict,
+    view: &View,
+) -> Result<Listing, AllocError>
+    requires enforced { IsEnforcedOrder (wired queues chart.now) (orders order.now) }
+    requires square { length order.now ≡ length chart.now.events }
+    requires verdict { IsVerdict (wired queues chart.now) verdict.now }
+    ensures { IfOk result (λ made. IsListing (wired queues chart.now) view.now
+        made.allowed made.passed made.listed.items) }
+{
+    let races = races_of(verdict);
+    let some = counted(alloc, chart, queues, order, view.allowed.as_slice(), races)?;
+    let allowed = races.len() - some.len();
+    let passed = some.is_empty();
+    if view.closest {
+        let near = wanted(alloc, chart, queues, order, view)?;
+        return Ok(Listing { allowed, passed, listed: near });
+    }
+    Ok(Listing { allowed, passed, listed: some })
+}

@@ -1,0 +1,113 @@
+//! Races, why they are races, and the runs that show them.
+
+ghost use Rattle.std.specs.Prelude.{◌≡◌, ℕ, ◌<◌, List, [], None, Some, IfOk, cond, length};
+ghost use Rattle.msc_chart.specs.Orders.{wired, IsEnforcedOrder, IsRace};
+ghost use Rattle.msc_order.specs.Tables.{orders};
+ghost use Rattle.msc_reason.specs.declared.lack.Lack.{Lack};
+ghost use Rattle.msc_report.specs.Verdicts.{run_line};
+ghost use Rattle.msc_study.specs.Counting.{AreRacesOf};
+ghost use Rattle.msc_study.specs.Lines.{part_text, races_text, tail_text, why_text};
+ghost use Rattle.msc_study.specs.Studying.{AreLacks};
+ghost use Rattle.msc_tool.specs.Checking.{AreChosen};
+ghost use Rattle.msc_tool.specs.Pages.{Puts};
+
+use crate::lines::write_why;
+use crate::view::View;
+use msc_chart::{Chart, Event, Queues};
+use msc_order::Order;
+use msc_reason::lack_of;
+use msc_report::Fault;
+use msc_tool::{Page, line_of, put_race};
+use std::alloc::{AllocError, Global};
+use std::io::Write;
+
+/// What stands behind the line of a race: why it is one, where that is wanted, and the line of a
+/// run.
+fn tail_of(
+    alloc: Global,
+    chart: &Chart,
+    queues: Queues,
+    order: &Order,
+    why: bool,
+    race: (Event, Event),
+    line: &[u8],
+) -> Result<Vec<u8>, AllocError>
+    requires enforced { IsEnforcedOrder (wired queues chart.now) (orders order.now) }
+    requires square { length order.now ≡ length chart.now.events }
+    requires race { IsRace (wired queues chart.now) race.0 race.1 }
+    ensures { (lacks : ℕ → ℕ → Lack) → AreLacks (wired queues chart.now) lacks
+        → IfOk result (λ tail.
+        tail.items ≡ why_text why chart.now (lacks race.0 race.1) ++ line.now) }
+{
+    let mut tail = Vec::new(alloc);
+    if why {
+        let lack = lack_of(chart, queues, order, race.0, race.1);
+        if write_why(&mut tail, chart, &lack).is_err() {
+            return Err(AllocError);
+        }
+    }
+    tail.extend_from_slice(line)?;
+    Ok(tail)
+}
+
+/// Puts each of these races behind a page, where it is wanted with the chosen run of its first
+/// event. One run serves all races of an event that stand in a row.
+fn put_part<W: Write>(
+    alloc: Global,
+    writer: &mut W,
+    page: &mut Page,
+    chart: &Chart,
+    queues: Queues,
+    order: &Order,
+    why: bool,
+    shown: bool,
+    races: &[(Event, Event)],
+) -> Result<(), Fault>
+    requires enforced { IsEnforcedOrder (wired queues chart.now) (orders order.now) }
+    requires square { length order.now ≡ length chart.now.events }
+    requires races { AreRacesOf (wired queues chart.now) races.now }
+    ensures { (lacks : ℕ → ℕ → Lack) (runs : ℕ → List ℕ) → AreLacks (wired queues chart.now) lacks
+        → AreChosen (wired queues chart.now) runs
+        → Puts result (W.contents writer.old) (W.contents writer.new)
+        page.old.bytes.items page.new.bytes.items
+        (part_text why shown chart.now lacks runs races.now) }
+{
+    let mut of = chart.events();
+    let mut line = Vec::new(alloc);
+    for race in races {
+        if shown && race.0 != of {
+            line = line_of(alloc, chart, queues, order, race.0)?;
+            of = race.0;
+        }
+        let tail = tail_of(alloc, chart, queues, order, why, *race, line.as_slice())?;
+        put_race(writer, page, chart, *race, tail.as_slice())?;
+    }
+    Ok(())
+}
+
+/// Puts the first of these races behind a page, as many as the view wants, and of them the first
+/// with the chosen runs of their first events. Full pages go out.
+pub fn put_races<W: Write>(
+    alloc: Global,
+    writer: &mut W,
+    page: &mut Page,
+    chart: &Chart,
+    queues: Queues,
+    order: &Order,
+    view: &View,
+    races: &[(Event, Event)],
+) -> Result<(), Fault>
+    requires enforced { IsEnforcedOrder (wired queues chart.now) (orders order.now) }
+    requires square { length order.now ≡ length chart.now.events }
+    requires races { AreRacesOf (wired queues chart.now) races.now }
+    ensures { (lacks : ℕ → ℕ → Lack) (runs : ℕ → List ℕ) → AreLacks (wired queues chart.now) lacks
+        → AreChosen (wired queues chart.now) runs
+        → Puts result (W.contents writer.old) (W.contents writer.new)
+        page.old.bytes.items page.new.bytes.items
+        (races_text view.now chart.now lacks runs (take view.now.most races.now)) }
+{
+    let (printed, _) = races.split_at((view.most as usize).min(races.len()));
+    let (shown, others) = printed.split_at((view.show as usize).min(printed.len()));
+    put_part(alloc, writer, page, chart, queues, order, view.why, true, shown)?;
+    put_part(alloc, writer, page, chart, queues, order, view.why, false, others)
+}
