@@ -1,0 +1,4 @@
+pub mod Spans
+pub mod OnePair
+pub mod KindLemmas
+pub mod NextEvents

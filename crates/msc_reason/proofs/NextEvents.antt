@@ -1,0 +1,181 @@
+-- The events that are next to an event: those of the next segment of its line.
+use Rattle.std.proofs.Common.{◌≡◌, ℕ, ◌+◌, ◌<◌, ◌≤◌, Bool, true, false, not, ◌&&◌, ◌↔◌, inl, inr, List, length, refl, sym, ap, ◌∙◌, subst, arith}
+use Rattle.std.specs.Prelude.{nat_le}
+use Rattle.std.proofs.lemmas.Bool.{and_parts, and_from, cases_lt, le-leb, lt-leb, not-true, not_from_false, false_from_ne_true}
+use Rattle.msc_chart.specs.declared.event.ChartEvent.{ChartEvent}
+use Rattle.msc_chart.specs.Charts.{line, segment, before, IsInTextOrder, IsSegmentEnd, ShareSegment}
+use Rattle.msc_chart.specs.Lists.{Occurs, pairs_of}
+use Rattle.msc_chart.specs.Orders.{WiredChart, IsEnforcedOrder}
+use Rattle.msc_chart.proofs.Drawn.{before_from, before_parts}
+use Rattle.msc_chart.proofs.Numbers.{any_below, any_from, none_of_any, some_of_any}
+use Rattle.msc_chart.proofs.ListLemmas.{by_test, clash}
+use Rattle.bit_rows.specs.Rows.{has}
+use Rattle.msc_order.specs.Tables.{Table, orders}
+use Rattle.msc_order.proofs.Drawing.{before_later}
+use Rattle.msc_race.specs.Gaps.{is_gap}
+use Rattle.msc_race.specs.Races.{AreAscending}
+use Rattle.msc_race.proofs.Listing.Ascending.{of_ascends}
+use Rattle.msc_race.proofs.Listing.DrawnPairs.{segment_goes_on}
+use Rattle.msc_race.proofs.Listing.Pairs.{of_from, of_parts}
+use Rattle.msc_reason.specs.Closest.{IsNext, IsClosest, IsClosestList}
+use Rattle.msc_reason.specs.Ranges.{IsNextRange}
+
+module _ (events : List ChartEvent) where
+  -- what is drawn after an event is drawn after all of its segment
+  before_shared : (e g x : ℕ) → ShareSegment events e g → g < length events → before events e x ≡ true → before events g x ≡ true
+  before_shared e g x share known h =
+      let p = before_parts events e x h in
+      before_from events g x known p.1 (sym share.0 ∙ p.2) (omega (arith, share.1, p.3))
+
+  -- and what is next to it is next to all of its segment
+  next_shared : (e g f : ℕ) → ShareSegment events e g → e < length events → g < length events → IsNext events e f → IsNext events g f
+  next_shared e g f share e_known g_known h = record {
+    drawn = before_shared e g f share g_known h.drawn;
+    none_between = λ x low high. h.none_between x (before_shared g e x (sym share.0, sym share.1) e_known low) high;
+  }
+
+  -- so the next event of a segment has the same range
+  pub range_goes_on : (e start end : ℕ) → IsNextRange events e start end → e + 1 < start → IsNextRange events (e + 1) start end
+  range_goes_on e start end r more =
+      let share = r.segment.together (e + 1) (omega arith) more in
+      let within = r.segment.within in
+      record {
+        segment = segment_goes_on events e start r.segment more;
+        within = r.within;
+        exact = λ f. (
+          λ h. (r.exact f).0 (next_shared (e + 1) e f (sym share.0, sym share.1) (omega (arith, within, more)) (omega (arith, within, more)) h),
+          λ inside. next_shared e (e + 1) f share (omega (arith, within, more)) (omega (arith, within, more)) ((r.exact f).1 inside),
+        );
+      }
+
+  module _ (text : IsInTextOrder events) where
+    -- what is drawn after e stands past its segment
+    past_segment : (e start x : ℕ) → IsSegmentEnd events e start → before events e x ≡ true → start ≤ x
+    past_segment e start x s h =
+        let p = before_parts events e x h in
+        let later : e < x = before_later events text e x h in
+        elim (cases_lt x start) [
+          | inl within ↦ let t = s.together x (omega arith) within in absurd (omega (arith, t.1, p.3))
+          | inr past ↦ past
+        ]
+
+    -- where the event past a segment is not drawn after it, nothing is
+    pub none_next : (e start : ℕ) → IsSegmentEnd events e start → (start < length events → before events e start ≡ false) → IsNextRange events e start start
+    none_next e start s none = record {
+      segment = s;
+      within = s.within;
+      exact = λ f. (
+        λ h.
+            let p = before_parts events e f h.drawn in
+            let past : start ≤ f = past_segment e start f s h.drawn in
+            let within : start < length events = omega (arith, past, p.1) in
+            let up : line events e ≤ line events start = text.lines e start (let l = s.later in omega (arith, l)) within in
+            let down : line events start ≤ line events f = text.lines start f past p.1 in
+            clash (s.past start (omega arith) within (omega (arith, up, down, p.2))) (none within),
+        λ inside. absurd (omega (arith, inside)),
+      );
+    }
+
+    -- otherwise the segment of that event is what is next
+    pub some_next : (e start end : ℕ) → IsSegmentEnd events e start → before events e start ≡ true → IsSegmentEnd events start end → IsNextRange events e start end
+    some_next e start end s b t =
+        let q = before_parts events e start b in
+        record {
+          segment = s;
+          within = t.within;
+          exact = λ f. (
+            λ h. (past_segment e start f s h.drawn, elim (cases_lt f end) [
+              | inl inside ↦ inside
+              | inr out ↦
+                  let p = before_parts events e f h.drawn in
+                  absurd (h.none_between start b (t.past f out p.1 (sym q.2 ∙ p.2)))
+            ]),
+            λ inside.
+                let g = t.together f inside.0 inside.1 in
+                record {
+                  drawn = before_from events e f q.0 (let w = t.within in omega (arith, inside.1, w)) (q.2 ∙ g.0) (omega (arith, q.3, g.1));
+                  none_between = λ x low high.
+                      let x_past : start ≤ x = past_segment e start x s low in
+                      let p = before_parts events x f high in
+                      let later : x < f = before_later events text x f high in
+                      let u = t.together x x_past (omega (arith, later, inside.1)) in
+                      omega (arith, u.1, g.1, p.3);
+                },
+          );
+        }
+
+  -- whether f is next to e
+  unfoldable pub is_next : ℕ → ℕ → Bool
+  is_next e f = before events e f && not (any_below (λ x. before events e x && before events x f) (length events))
+
+  -- what is next passes
+  pub next_from : (e f : ℕ) → IsNext events e f → is_next e f ≡ true
+  unfolding is_next
+  next_from e f h =
+      and_from _ _ h.drawn (not_from_false _ (false_from_ne_true _ (λ some.
+      let x = some_of_any (λ x. before events e x && before events x f) (length events) some in
+      let both = and_parts _ _ x.2 in
+      h.none_between x.0 both.0 both.1)))
+
+  -- and nothing else does
+  pub next_parts : (e f : ℕ) → is_next e f ≡ true → IsNext events e f
+  unfolding is_next
+  next_parts e f h =
+      let both = and_parts _ _ h in
+      record {
+        drawn = both.0;
+        none_between = λ x low high.
+            clash (and_from _ _ low high)
+            (none_of_any (λ x. before events e x && before events x f) (length events) (not-true _ both.1) x (before_parts events e x low).1);
+      }
+
+  -- f is next to e, and the table has the pair not
+  unfoldable pub is_close : Table → ℕ → ℕ → Bool
+  is_close order e f = is_next e f && not (orders order e f)
+
+  module _ (e start end : ℕ) (range : IsNextRange events e start end) where
+    -- up to its end the numbers of the range are what is next
+    next_in : (f : ℕ) → f < end → nat_le start f ≡ is_next e f
+    next_in f inside =
+        elim (cases_lt f start) [
+          | inl less ↦ lt-leb start f less ∙ sym (false_from_ne_true (is_next e f) (λ h. let r = (range.exact f).0 (next_parts e f h) in omega (arith, less, r.0)))
+          | inr past ↦ le-leb start f past ∙ sym (next_from e f ((range.exact f).1 (past, inside)))
+        ]
+
+    -- so the gaps of the row are the closest races of e
+    pub gaps_are_close : (order : Table) (row : List ℕ) → ((f : ℕ) → has row f ≡ orders order e f)
+        → (f : ℕ) → f < end → is_gap row start e f ≡ is_close order e f
+    unfolding is_gap is_close
+    gaps_are_close order row bits f inside =
+        ap (λ (b : Bool). b && not (has row f)) (next_in f inside)
+        ∙ ap (λ (b : Bool). is_next e f && not b) (bits f)
+
+    -- past the range is none
+    pub none_close : (order : Table) (f : ℕ) → end ≤ f → is_close order e f ≡ false
+    unfolding is_close
+    none_close order f past =
+        false_from_ne_true _ (λ h. let r = (range.exact f).0 (next_parts e f (and_parts _ _ h).0) in omega (arith, past, r.1))
+
+-- the pairs that are close by the enforced order are the closest races
+pub list_of_closest : (chart : WiredChart) (order : Table) → IsEnforcedOrder chart (orders order) → (pairs : List (ℕ × ℕ))
+    → pairs ≡ pairs_of (is_close chart.events order) (length chart.events) → IsClosestList chart pairs
+unfolding is_close
+list_of_closest chart order exact pairs is = record {
+  ascending = subst AreAscending (sym is) (of_ascends (is_close chart.events order) (length chart.events));
+  closest = λ e f. (
+    λ c.
+        let p = before_parts chart.events e f c.race.0 in
+        let next = next_from chart.events e f (record { drawn = c.race.0; none_between = c.next }) in
+        let out = false_from_ne_true (orders order e f) (λ holds. c.race.1 (exact.holds e f p.0 p.1 holds)) in
+        subst (λ (l : List (ℕ × ℕ)). Occurs l (e, f)) (sym is)
+        (of_from (is_close chart.events order) (length chart.events) e f p.0 p.1 (and_from _ _ next (not_from_false _ out))),
+    λ there.
+        let p = of_parts (is_close chart.events order) (length chart.events) e f (subst (λ (l : List (ℕ × ℕ)). Occurs l (e, f)) is there) in
+        let both = and_parts (is_next chart.events e f) (not (orders order e f)) p.2 in
+        let next = next_parts chart.events e f both.0 in
+        record {
+          race = (next.drawn, λ enforced. clash (exact.complete e f enforced) (not-true (orders order e f) both.1));
+          next = next.none_between;
+        },
+  );
+}

@@ -1,0 +1,59 @@
+-- Laws of closest races and of what races lack, of accepted charts under each architecture.
+use Rattle.std.specs.Prelude.{◌≡◌, ℕ, ◌⊎◌, ◌↔◌, IsTrue}
+use Rattle.msc_chart.specs.declared.queue.Queues.{Queues}
+use Rattle.msc_chart.specs.declared.queue.Queues.TheVariants.{Single}
+use Rattle.msc_chart.specs.Charts.{before, partner, is_input}
+use Rattle.msc_chart.specs.Drawings.{Drawing, IsAccepted}
+use Rattle.msc_chart.specs.Orders.{wired, Enforced, IsRace}
+use Rattle.msc_race.specs.Laws.{HasNoRace}
+use Rattle.msc_reason.specs.declared.lack.RaceKind.{RaceKind}
+use Rattle.msc_reason.specs.declared.lack.RaceKind.TheVariants.{Early, Overtaken}
+use Rattle.msc_reason.specs.Closest.{IsClosest, HasNoClosestRace, IsWithin}
+use Rattle.msc_reason.specs.Lacks.{IsKindOf, needed}
+
+-- within each race stands a closest race, of the same line
+abbrev pub EveryRaceSpansAClosestRace : Type 0
+EveryRaceSpansAClosestRace =
+    (queues : Queues) (d : Drawing) → IsAccepted d → (e f : ℕ) → IsRace (wired queues d) e f
+    → (g : ℕ) × (h : ℕ) × IsClosest (wired queues d) g h × IsWithin d.events e f g h
+
+-- a chart has no race exactly where it has no closest race
+abbrev pub RacesAreToldByTheClosest : Type 0
+RacesAreToldByTheClosest =
+    (queues : Queues) (d : Drawing) → IsAccepted d
+    → HasNoRace (wired queues d) ↔ HasNoClosestRace (wired queues d)
+
+-- the second event of a race is an input
+abbrev pub RacesEndInInputs : Type 0
+RacesEndInInputs =
+    (queues : Queues) (d : Drawing) → IsAccepted d → (e f : ℕ) → IsRace (wired queues d) e f
+    → IsTrue (is_input d.events f)
+
+-- An event is enforced before an input that is drawn after it exactly where what is needed is the
+-- output of the input, or is enforced before it. So a race lacks this one pair.
+abbrev pub ARaceLacksOnePair : Type 0
+ARaceLacksOnePair =
+    (queues : Queues) (d : Drawing) → IsAccepted d → (e f : ℕ)
+    → IsTrue (before d.events e f) → IsTrue (is_input d.events f)
+    → Enforced (wired queues d) e f
+    ↔ ((needed (wired queues d) e f ≡ partner d.events f)
+    ⊎ Enforced (wired queues d) (needed (wired queues d) e f) (partner d.events f))
+
+-- each race has a kind, and no other
+abbrev pub EachRaceHasOneKind : Type 0
+EachRaceHasOneKind =
+    (queues : Queues) (d : Drawing) → IsAccepted d → (e f : ℕ) → IsRace (wired queues d) e f
+    → (kind : RaceKind) × IsKindOf (wired queues d) e f kind
+    × ((other : RaceKind) → IsKindOf (wired queues d) e f other → other ≡ kind)
+
+-- where each message has a queue of its own, a race is early or of two queues
+abbrev pub SingleRacesAreOfTwoKinds : Type 0
+SingleRacesAreOfTwoKinds =
+    (d : Drawing) → IsAccepted d → (e f : ℕ) → IsRace (wired Single d) e f
+    → (kind : RaceKind) → IsKindOf (wired Single d) e f kind → (kind ≡ Early) ⊎ (kind ≡ RaceKind.Queues)
+
+-- an overtaken race is reversed always: its second event is enforced before its first
+abbrev pub WhatIsOvertakenIsAlwaysReversed : Type 0
+WhatIsOvertakenIsAlwaysReversed =
+    (queues : Queues) (d : Drawing) → IsAccepted d → (e f : ℕ) → IsRace (wired queues d) e f
+    → IsKindOf (wired queues d) e f Overtaken → Enforced (wired queues d) f e

@@ -1,0 +1,37 @@
+//! Laws of closest races and of what races lack, over the definitions alone. The functions do
+//! nothing when they run: a caller calls one to rest its own proof on the law. Each law holds of
+//! every accepted chart under each architecture.
+
+ghost use Rattle.msc_reason.specs.Laws.{ARaceLacksOnePair, EachRaceHasOneKind};
+ghost use Rattle.msc_reason.specs.Laws.{EveryRaceSpansAClosestRace, RacesAreToldByTheClosest};
+ghost use Rattle.msc_reason.specs.Laws.{RacesEndInInputs, SingleRacesAreOfTwoKinds};
+ghost use Rattle.msc_reason.specs.Laws.{WhatIsOvertakenIsAlwaysReversed};
+
+use msc_chart::laws::ends_share_queues;
+
+/// Within each race stands a closest race; so a chart has no race exactly where it has no closest
+/// race.
+pub fn every_race_spans_a_closest_race()
+    ensures spans { EveryRaceSpansAClosestRace }
+    ensures none { RacesAreToldByTheClosest }
+{
+    ends_share_queues();
+}
+
+/// The second event of a race is an input, and what is not enforced before its output is one event.
+pub fn a_race_lacks_one_pair()
+    ensures input { RacesEndInInputs }
+    ensures lacks { ARaceLacksOnePair }
+{
+    ends_share_queues();
+}
+
+/// Each race has exactly one kind. Where each message has a queue of its own, it is early or of two
+/// queues. An overtaken race is reversed always.
+pub fn each_race_has_one_kind()
+    ensures one { EachRaceHasOneKind }
+    ensures single { SingleRacesAreOfTwoKinds }
+    ensures always { WhatIsOvertakenIsAlwaysReversed }
+{
+    ends_share_queues();
+}
