@@ -12,8 +12,10 @@ mod running;
 mod showing;
 mod text;
 
-pub use checking::{check_input, check_text};
+pub use checking::{check_input, check_text, races_of};
+pub use page::Page;
 pub use msc_report::{Fault, write_draft, write_fault, write_race, write_trace, write_verdict};
 pub use reading::{CALL_LIMIT, read_all};
 pub use running::{run_input, run_text};
+pub use showing::{line_of, put_race};
 pub use text::{read_input, read_text};

@@ -17,7 +17,7 @@ use std::alloc::{AllocError, Global};
 use std::io::Write;
 
 /// The line of the chosen run of event `e`.
-fn line_of(
+pub fn line_of(
     alloc: Global,
     chart: &Chart,
     queues: Queues,
@@ -49,7 +49,7 @@ fn turn<W: Write>(writer: &mut W, page: &mut Page) -> Result<(), Fault>
 }
 
 /// Puts a race, and behind it a line, behind a page.
-fn put_race<W: Write>(
+pub fn put_race<W: Write>(
     writer: &mut W,
     page: &mut Page,
     chart: &Chart,

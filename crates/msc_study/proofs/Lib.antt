@@ -1,0 +1,3 @@
+pub mod Splitting
+pub mod Listings
+pub mod Lacking
