@@ -1,11 +1,12 @@
 -- what is promised
 pub mod Laws
 pub mod Races
+pub mod Gaps
 pub mod Samples
 -- what the code keeps
 pub mod Choices
 pub mod Rows
-pub mod Gaps
+pub mod Words
 pub mod Remainders
 pub mod Fronts
 pub mod QueuedRuns

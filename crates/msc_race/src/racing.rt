@@ -11,8 +11,9 @@ ghost use Rattle.msc_chart.specs.Charts.{IsLineEnd, IsSegmentEnd};
 ghost use Rattle.msc_chart.specs.Orders.{wired, IsEnforcedOrder};
 ghost use Rattle.bit_rows.specs.Rows.{bit_of};
 ghost use Rattle.msc_order.specs.Tables.{orders};
-ghost use Rattle.msc_race.specs.Gaps.{is_gap, is_in_word};
+ghost use Rattle.msc_race.specs.Gaps.{is_gap};
 ghost use Rattle.msc_race.specs.Races.{all_races, IsVerdict, TellsRuns};
+ghost use Rattle.msc_race.specs.Words.{is_in_word};
 
 use crate::laws::races_are_what_runs_reverse;
 use crate::verdict::Verdict;
@@ -49,8 +50,9 @@ fn push_word(list: &mut Vec<(Event, Event)>, word: u64, e: Event, k: u32) -> Res
     Ok(())
 }
 
-/// Appends the pairs of `e` with the numbers from `start` up to `end` whose bit is 0.
-fn push_gaps(
+/// Appends the pairs of `e` with the numbers from `start` up to `end` whose bit in a row is 0
+/// ([`bit_rows`]). An error is a growth of memory that was refused.
+pub fn push_gaps(
     list: &mut Vec<(Event, Event)>,
     row: &[u64],
     e: Event,

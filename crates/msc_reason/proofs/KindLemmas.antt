@@ -1,7 +1,7 @@
 -- Each race has one kind.
-use Rattle.std.proofs.Common.{◌≡◌, ◌≢◌, ℕ, true, ◌⊎◌, inl, inr, length, refl, sym, ap, ◌∙◌, subst}
+use Rattle.std.proofs.Common.{◌≡◌, ◌≢◌, ℕ, true, ◌⊎◌, inl, inr, refl, sym, ap, ◌∙◌}
 use Rattle.std.proofs.lemmas.Bool.{cases_eq}
-use Rattle.msc_chart.specs.Charts.{partner, message, is_input, is_controlled}
+use Rattle.msc_chart.specs.Charts.{partner, is_input, is_controlled}
 use Rattle.msc_chart.specs.declared.queue.Queues.TheVariants.{Single}
 use Rattle.msc_chart.specs.Drawings.{Drawing, IsAccepted, output_of}
 use Rattle.msc_chart.specs.Orders.{WiredChart, IsWired, queue, queue_number, wired, Enforced, IsRace}

@@ -1,23 +1,23 @@
 -- The events that are next to an event: those of the next segment of its line.
-use Rattle.std.proofs.Common.{◌≡◌, ℕ, ◌+◌, ◌<◌, ◌≤◌, Bool, true, false, not, ◌&&◌, ◌↔◌, inl, inr, List, length, refl, sym, ap, ◌∙◌, subst, arith}
+use Rattle.std.proofs.Common.{◌≡◌, ℕ, ◌+◌, ◌<◌, ◌≤◌, Bool, true, false, not, ◌&&◌, inl, inr, List, length, sym, ap, ◌∙◌, subst, arith}
 use Rattle.std.specs.Prelude.{nat_le}
 use Rattle.std.proofs.lemmas.Bool.{and_parts, and_from, cases_lt, le-leb, lt-leb, not-true, not_from_false, false_from_ne_true}
 use Rattle.msc_chart.specs.declared.event.ChartEvent.{ChartEvent}
-use Rattle.msc_chart.specs.Charts.{line, segment, before, IsInTextOrder, IsSegmentEnd, ShareSegment}
+use Rattle.msc_chart.specs.Charts.{before, IsSegmentEnd, ShareSegment}
 use Rattle.msc_chart.specs.Lists.{Occurs, pairs_of}
 use Rattle.msc_chart.specs.Orders.{WiredChart, IsEnforcedOrder}
 use Rattle.msc_chart.proofs.Drawn.{before_from, before_parts}
-use Rattle.msc_chart.proofs.Numbers.{any_below, any_from, none_of_any, some_of_any}
-use Rattle.msc_chart.proofs.ListLemmas.{by_test, clash}
+use Rattle.msc_chart.proofs.Numbers.{any_below, none_of_any, some_of_any}
+use Rattle.msc_chart.proofs.ListLemmas.{clash}
 use Rattle.bit_rows.specs.Rows.{has}
 use Rattle.msc_order.specs.Tables.{Table, orders}
-use Rattle.msc_order.proofs.Drawing.{before_later}
+use Rattle.msc_order.specs.Causes.{IsNextSegment}
 use Rattle.msc_race.specs.Gaps.{is_gap}
 use Rattle.msc_race.specs.Races.{AreAscending}
 use Rattle.msc_race.proofs.Listing.Ascending.{of_ascends}
 use Rattle.msc_race.proofs.Listing.DrawnPairs.{segment_goes_on}
 use Rattle.msc_race.proofs.Listing.Pairs.{of_from, of_parts}
-use Rattle.msc_reason.specs.Closest.{IsNext, IsClosest, IsClosestList}
+use Rattle.msc_reason.specs.Closest.{IsNext, IsClosestList}
 use Rattle.msc_reason.specs.Ranges.{IsNextRange}
 
 module _ (events : List ChartEvent) where
@@ -48,61 +48,31 @@ module _ (events : List ChartEvent) where
         );
       }
 
-  module _ (text : IsInTextOrder events) where
-    -- what is drawn after e stands past its segment
-    past_segment : (e start x : ℕ) → IsSegmentEnd events e start → before events e x ≡ true → start ≤ x
-    past_segment e start x s h =
-        let p = before_parts events e x h in
-        let later : e < x = before_later events text e x h in
-        elim (cases_lt x start) [
-          | inl within ↦ let t = s.together x (omega arith) within in absurd (omega (arith, t.1, p.3))
-          | inr past ↦ past
-        ]
-
-    -- where the event past a segment is not drawn after it, nothing is
-    pub none_next : (e start : ℕ) → IsSegmentEnd events e start → (start < length events → before events e start ≡ false) → IsNextRange events e start start
-    none_next e start s none = record {
-      segment = s;
-      within = s.within;
-      exact = λ f. (
-        λ h.
-            let p = before_parts events e f h.drawn in
-            let past : start ≤ f = past_segment e start f s h.drawn in
-            let within : start < length events = omega (arith, past, p.1) in
-            let up : line events e ≤ line events start = text.lines e start (let l = s.later in omega (arith, l)) within in
-            let down : line events start ≤ line events f = text.lines start f past p.1 in
-            clash (s.past start (omega arith) within (omega (arith, up, down, p.2))) (none within),
-        λ inside. absurd (omega (arith, inside)),
-      );
-    }
-
-    -- otherwise the segment of that event is what is next
-    pub some_next : (e start end : ℕ) → IsSegmentEnd events e start → before events e start ≡ true → IsSegmentEnd events start end → IsNextRange events e start end
-    some_next e start end s b t =
-        let q = before_parts events e start b in
-        record {
-          segment = s;
-          within = t.within;
-          exact = λ f. (
-            λ h. (past_segment e start f s h.drawn, elim (cases_lt f end) [
-              | inl inside ↦ inside
-              | inr out ↦
-                  let p = before_parts events e f h.drawn in
-                  absurd (h.none_between start b (t.past f out p.1 (sym q.2 ∙ p.2)))
-            ]),
-            λ inside.
-                let g = t.together f inside.0 inside.1 in
-                record {
-                  drawn = before_from events e f q.0 (let w = t.within in omega (arith, inside.1, w)) (q.2 ∙ g.0) (omega (arith, q.3, g.1));
-                  none_between = λ x low high.
-                      let x_past : start ≤ x = past_segment e start x s low in
-                      let p = before_parts events x f high in
-                      let later : x < f = before_later events text x f high in
-                      let u = t.together x x_past (omega (arith, later, inside.1)) in
-                      omega (arith, u.1, g.1, p.3);
-                },
-          );
-        }
+  -- the next segment, where it is one, is the range of what is next
+  pub range_from : (e start end : ℕ) → IsSegmentEnd events e start → IsNextSegment events e start end
+      → ((f : ℕ) → start ≤ f → f < end → ShareSegment events start f) → IsNextRange events e start end
+  range_from e start end s n together = record {
+    segment = s;
+    within = n.within;
+    exact = λ f. (
+      λ h.
+          let after = n.next f h.drawn in
+          elim after.1 [
+            | inl inside ↦ inside
+            | inr more ↦ absurd (h.none_between start (n.drawn start (omega arith) after.0) more)
+          ],
+      λ inside. record {
+        drawn = n.drawn f inside.0 inside.1;
+        none_between = λ x low high.
+            let one = together f inside.0 inside.1 in
+            let rising = before_parts events x f high in
+            elim (n.next x low).1 [
+              | inl here ↦ let two = together x here.0 here.1 in omega (arith, one.1, two.1, rising.3)
+              | inr more ↦ let p = before_parts events start x more in omega (arith, one.1, p.3, rising.3)
+            ];
+      },
+    );
+  }
 
   -- whether f is next to e
   unfoldable pub is_next : ℕ → ℕ → Bool

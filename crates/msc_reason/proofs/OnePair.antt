@@ -1,14 +1,23 @@
 -- What a race lacks is one pair of events.
-use Rattle.std.proofs.Common.{◌≡◌, ◌≢◌, ℕ, true, false, ◌&&◌, ◌⊎◌, ◌↔◌, inl, inr, eqb, refl, sym, ap, ◌∙◌, subst}
-use Rattle.std.proofs.lemmas.Bool.{and_parts, and_from, eqb-true, eq-eqb}
+use Rattle.std.proofs.Common.{◌≡◌, ◌≢◌, ℕ, true, false, ◌⊎◌, ◌↔◌, inl, inr, refl, sym, ap, ◌∙◌, subst}
+use Rattle.std.proofs.lemmas.Bool.{and_parts, and_from, eqb-true, eq-eqb, false_from_ne_true}
 use Rattle.msc_chart.specs.Charts.{partner, is_input, before}
 use Rattle.msc_chart.specs.Orders.{WiredChart, IsWired, queue, Enforced, IsRace}
 use Rattle.msc_chart.specs.Orders.Enforced.{drawn, sent, joined, queued}
-use Rattle.msc_chart.proofs.Drawn.{before_parts, controlled_or_input, input_parts, not_both, partner_of_input}
+use Rattle.msc_chart.proofs.Drawn.{before_parts, controlled_no_input, controlled_or_input, input_parts, not_both, partner_of_input}
 use Rattle.msc_chart.proofs.ListLemmas.{by_test, clash}
 use Rattle.msc_race.proofs.Runs.EventLemmas.{before_differs}
 use Rattle.msc_race.proofs.Runs.EnforcedPairs.{into_input}
-use Rattle.msc_reason.specs.Lacks.{share_queue, needed}
+use Rattle.msc_reason.specs.declared.lack.RaceKind.{RaceKind}
+use Rattle.msc_reason.specs.declared.lack.RaceKind.TheVariants.{Early, Queues, Unordered, Overtaken}
+use Rattle.msc_reason.specs.Lacks.{IsKindOf, share_queue, needed}
+
+-- an event or its output, by the kind of its race
+abbrev pub needed_first : RaceKind → ℕ → ℕ → ℕ
+needed_first Early e output = e
+needed_first Queues e output = e
+needed_first Unordered e output = output
+needed_first Overtaken e output = output
 
 module _ (chart : WiredChart) where
   -- what the test for inputs of one queue says
@@ -33,6 +42,13 @@ module _ (chart : WiredChart) where
   pub needed_itself : (e f : ℕ) → share_queue chart e f ≡ false → needed chart e f ≡ e
   unfolding needed
   needed_itself e f apart = rw apart refl
+
+  -- what a race of a kind needs
+  pub needed_by : (e f : ℕ) (kind : RaceKind) → IsKindOf chart e f kind → needed chart e f ≡ needed_first kind e (partner chart.events e)
+  needed_by e f Early h = needed_itself e f (false_from_ne_true _ (λ share. controlled_no_input chart.events e h (share_parts e f share).0))
+  needed_by e f Queues h = needed_itself e f (false_from_ne_true _ (λ share. h.1 (share_parts e f share).2))
+  needed_by e f Unordered h = needed_output e f h.0
+  needed_by e f Overtaken h = needed_output e f h.0
 
   -- the second event of a race is an input, since what is drawn before another event is enforced
   pub race_input : (e f : ℕ) → IsRace chart e f → is_input chart.events f ≡ true

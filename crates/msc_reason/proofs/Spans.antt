@@ -1,10 +1,10 @@
 -- Each race spans a closest race: what is drawn between its events parts it into two pairs, of which
 -- one is a race.
-use Rattle.std.proofs.Common.{◌≡◌, ℕ, zero, suc, ◌+◌, ◌<◌, ◌≤◌, true, ◌&&◌, ◌⊎◌, inl, inr, List, length, refl, sym, ◌∙◌, subst, arith}
+use Rattle.std.proofs.Common.{◌≡◌, ℕ, zero, suc, ◌+◌, ◌≤◌, true, ◌&&◌, ◌⊎◌, inl, inr, List, length, refl, sym, ◌∙◌, subst, arith}
 use Rattle.std.proofs.lemmas.Bool.{and_parts, and_from}
 use Rattle.msc_chart.specs.declared.event.ChartEvent.{ChartEvent}
 use Rattle.msc_chart.specs.Charts.{segment, before}
-use Rattle.msc_chart.specs.Orders.{WiredChart, IsWired, Enforced, IsRace}
+use Rattle.msc_chart.specs.Orders.{WiredChart, IsWired, IsRace}
 use Rattle.msc_chart.specs.Orders.Enforced.{joined}
 use Rattle.msc_chart.proofs.Drawn.{before_from, before_parts}
 use Rattle.msc_chart.proofs.Numbers.{find_below}

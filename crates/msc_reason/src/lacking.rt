@@ -1,14 +1,48 @@
 //! Why a race is one.
 
-ghost use Rattle.std.specs.Prelude.{◌≡◌, ◌≢◌, length};
+ghost use Rattle.std.specs.Prelude.{◌≡◌, ◌≢◌, ◌<◌, length};
 ghost use Rattle.msc_chart.specs.Orders.{wired, Enforced, IsEnforcedOrder, IsRace};
 ghost use Rattle.msc_order.specs.Tables.{orders};
-ghost use Rattle.msc_reason.specs.Lacks.{IsLackOf};
+ghost use Rattle.msc_reason.specs.Lacks.{IsKindOf, IsLackOf, needed};
 
 use crate::lack::{Lack, RaceKind};
 use crate::laws::a_race_lacks_one_pair;
 use msc_chart::{Chart, Event, Queues, Wiring};
 use msc_order::Order;
+
+/// Of which kind the race (`e`, `f`) is. `order` is the enforced order of the chart. It takes no
+/// memory.
+pub fn kind_of(chart: &Chart, queues: Queues, order: &Order, e: Event, f: Event) -> RaceKind
+    requires enforced { IsEnforcedOrder (wired queues chart.now) (orders order.now) }
+    requires square { length order.now ≡ length chart.now.events }
+    requires race { IsRace (wired queues chart.now) e f }
+    ensures { IsKindOf (wired queues chart.now) e f result }
+{
+    chart.accepted();
+    let wiring = Wiring { chart, queues };
+    if chart.is_controlled(e) {
+        return RaceKind::Early;
+    }
+    if wiring.queue(e) != wiring.queue(f) {
+        return RaceKind::Queues;
+    }
+    if order.holds(chart.other_end(f), chart.other_end(e)) {
+        return RaceKind::Overtaken;
+    }
+    RaceKind::Unordered
+}
+
+/// What would have to come before the output of `f`, in a race (`e`, `f`) of a kind.
+fn needed_of(chart: &Chart, queues: Queues, kind: RaceKind, e: Event, f: Event) -> Event
+    requires known { e < length chart.now.events }
+    requires kind { IsKindOf (wired queues chart.now) e f kind }
+    ensures { result ≡ needed (wired queues chart.now) e f }
+{
+    match kind {
+        RaceKind::Early | RaceKind::Queues => e,
+        RaceKind::Unordered | RaceKind::Overtaken => chart.other_end(e),
+    }
+}
 
 /// Why the race (`e`, `f`) is one: its kind, and what is not enforced. `order` is the enforced order
 /// of the chart. It takes no memory.
@@ -24,20 +58,11 @@ pub fn lack_of(chart: &Chart, queues: Queues, order: &Order, e: Event, f: Event)
 {
     a_race_lacks_one_pair();
     chart.accepted();
-    let wiring = Wiring { chart, queues };
-    let output = chart.other_end(f);
-    let always = order.holds(f, e);
-    if chart.is_controlled(e) {
-        return Lack { kind: RaceKind::Early, needed: e, output, always };
+    let kind = kind_of(chart, queues, order, e, f);
+    Lack {
+        kind,
+        needed: needed_of(chart, queues, kind, e, f),
+        output: chart.other_end(f),
+        always: order.holds(f, e),
     }
-    if wiring.queue(e) != wiring.queue(f) {
-        return Lack { kind: RaceKind::Queues, needed: e, output, always };
-    }
-    let needed = chart.other_end(e);
-    let kind = if order.holds(output, needed) {
-        RaceKind::Overtaken
-    } else {
-        RaceKind::Unordered
-    };
-    Lack { kind, needed, output, always }
 }

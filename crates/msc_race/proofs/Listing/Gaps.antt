@@ -8,7 +8,8 @@ use Rattle.std.proofs.lemmas.Nat.Bits.{bit_at_ones, bit_at_ones_above, bit_at_ma
 use Rattle.bit_rows.specs.Rows.{bit_of, has}
 use Rattle.bit_rows.proofs.Bits.{bit_meet, bit_other}
 use Rattle.msc_chart.specs.Lists.{pairs_to}
-use Rattle.msc_race.specs.Gaps.{is_gap, is_in_word}
+use Rattle.msc_race.specs.Gaps.{is_gap}
+use Rattle.msc_race.specs.Words.{is_in_word}
 use Rattle.msc_race.proofs.Listing.Pairs.{pairs_between, pairs_join, pairs_none}
 use Rattle.msc_race.proofs.Listing.Words.{in_word, out_of_word}
 

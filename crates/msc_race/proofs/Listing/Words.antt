@@ -7,7 +7,7 @@ use Rattle.std.proofs.lemmas.Nat.Bits.{bit_at_lowest, bit_at-suc, bit_at-trailin
 use Rattle.bit_rows.specs.Rows.{bit_of}
 use Rattle.bit_rows.proofs.Bits.{bit_meet, bit_zero}
 use Rattle.msc_chart.specs.Lists.{pairs_to}
-use Rattle.msc_race.specs.Gaps.{is_in_word}
+use Rattle.msc_race.specs.Words.{is_in_word}
 use Rattle.msc_race.proofs.Listing.Pairs.{pairs_between, pairs_join, pairs_more, pairs_none}
 
 -- 1 less has a zero where the lowest one was, and above it the same bits

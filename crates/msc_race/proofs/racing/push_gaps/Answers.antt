@@ -2,7 +2,8 @@ use Rattle.std.proofs.Common.{◌≡◌, ℕ, ◌*◌, ◌/◌, ◌+◌, ◌++�
 use Rattle.std.proofs.lemmas.Grind.{div_ceil_times}
 use Rattle.std.proofs.lemmas.List.{append-nil, append_assoc}
 use Rattle.msc_chart.specs.Lists.{pairs_to}
-use Rattle.msc_race.specs.Gaps.{is_gap, is_in_word}
+use Rattle.msc_race.specs.Gaps.{is_gap}
+use Rattle.msc_race.specs.Words.{is_in_word}
 use Rattle.msc_race.proofs.Listing.Gaps.{gaps_more, no_gaps_yet}
 use Rattle.msc_race.proofs.racing.push_gaps.Goals as goal
 

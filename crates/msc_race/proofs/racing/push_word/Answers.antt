@@ -2,7 +2,7 @@ use Rattle.std.proofs.Common.{ℕ, ◌+◌, ◌-◌, ◌*◌, List, ◌++◌, sy
 use Rattle.std.proofs.Math.Facts.{Fits-lt-pow}
 use Rattle.std.proofs.lemmas.List.{append-nil, append_assoc}
 use Rattle.msc_chart.specs.Lists.{pairs_to}
-use Rattle.msc_race.specs.Gaps.{is_in_word}
+use Rattle.msc_race.specs.Words.{is_in_word}
 use Rattle.msc_race.proofs.Listing.Words.{lowest_first, none_of_word}
 use Rattle.msc_race.proofs.racing.push_word.Goals as goal
 

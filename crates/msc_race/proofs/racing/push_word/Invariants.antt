@@ -1,6 +1,6 @@
 use Rattle.std.proofs.Common.{◌≡◌, ◌+◌, ◌*◌, ◌++◌}
 use Rattle.msc_chart.specs.Lists.{pairs_to}
-use Rattle.msc_race.specs.Gaps.{is_in_word}
+use Rattle.msc_race.specs.Words.{is_in_word}
 use Rattle.msc_race.proofs.racing.push_word.Given as goal
 
 -- what is listed and what is left are all
