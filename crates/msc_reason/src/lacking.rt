@@ -51,6 +51,8 @@ pub fn lack_of(chart: &Chart, queues: Queues, order: &Order, e: Event, f: Event)
     requires square { length order.now ≡ length chart.now.events }
     requires race { IsRace (wired queues chart.now) e f }
     ensures lack { IsLackOf (wired queues chart.now) e f result }
+    ensures needed { result.needed < length chart.now.events }
+    ensures output { result.output < length chart.now.events }
 
     // So what is needed is another event than the output, and not enforced before it.
     ensures apart { result.needed ≢ result.output }

@@ -18,7 +18,7 @@ use Rattle.msc_tool.specs.Checking.{races_of}
 module _ (chart : WiredChart) where
   -- a verdict's races are all races
   pub verdict_races : (v : Verdict) → IsVerdict chart v → AreRaces chart (races_of v)
-  verdict_races Pass none e f = (λ race. absurd (none e f race), λ there. absurd cc)
+  verdict_races Pass none = λ e f. (λ race. absurd (none e f race), λ there. absurd cc)
   verdict_races (Races pairs) said = said.0.races
 
   -- and they ascend
@@ -65,7 +65,7 @@ module _ (chart : WiredChart) where
 
     -- the kept ones are what is wanted, where it need not be closest
     kept_wanted : view.closest ≡ false → AreListed chart view some
-    kept_wanted open = record {
+    kept_wanted every = record {
       each = λ e f. (
         λ wanted. elim (in_one _ _ (e, f) split ((verdict_races v said e f).0 wanted.race)) [
           | inl kept ↦ kept
@@ -83,12 +83,12 @@ module _ (chart : WiredChart) where
     -- what is listed, where it need not be closest
     pub lists_all : (count : ℕ) (passed : Bool) → count + length some ≡ length (races_of v) → (IsTrue passed ↔ some ≡ [])
         → view.closest ≡ false → IsListing chart view count passed some
-    lists_all count passed counted empty open = record {
+    lists_all count passed counted empty every = record {
       left_out = others;
       allowed = left_out;
       counted = omega (arith, counted, both_count _ _ split);
       answered = (λ told. all_allowed (empty.0 told), λ all. empty.1 (none_kept some refl all));
-      wanted = kept_wanted open;
+      wanted = kept_wanted every;
     }
 
     module _ (near more rest : List (ℕ × ℕ)) (are : IsClosestList chart near)

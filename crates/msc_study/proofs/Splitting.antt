@@ -1,5 +1,5 @@
 -- Lists of pairs that are split in two.
-use Rattle.std.proofs.Common.{zero, suc, ◌≡◌, ◌⊎◌, ℕ, ◌+◌, ◌<◌, List, [], ◌∷◌, ◌++◌, length, take, get_or, inl, inr, refl, ap, ◌∙◌, sym, subst, arith}
+use Rattle.std.proofs.Common.{zero, suc, ◌≡◌, ◌⊎◌, ℕ, ◌+◌, ◌<◌, List, [], ◌∷◌, ◌++◌, Some, length, take, get_or, inl, inr, refl, ap, ◌∙◌, sym, subst, arith}
 use Rattle.std.proofs.lemmas.List.{take_more, append-nil}
 use Rattle.msc_chart.specs.Lists.{Occurs}
 use Rattle.msc_race.proofs.Listing.Ascending.{first_ascends, none_ascend}
@@ -31,7 +31,8 @@ module _ (P Q : ℕ × ℕ → Type 0) where
       → Q (get_or all i (0, 0)) → Splits P Q (take (i + 1) all) some (others ++ get_or all i (0, 0) ∷ [])
   left_more all some others i lt first is =
       subst (λ (xs : List (ℕ × ℕ)). Splits P Q xs some (others ++ get_or all i (0, 0) ∷ [])) (sym (take_more all i (0, 0) lt))
-      (subst (λ (xs : List (ℕ × ℕ)). Splits P Q _ xs _) (append-nil some) (behind first (Splits.left is Splits.done)))
+      (subst (λ (xs : List (ℕ × ℕ)). Splits P Q (take i all ++ get_or all i (0, 0) ∷ []) xs (others ++ get_or all i (0, 0) ∷ []))
+      (append-nil some) (behind first (Splits.left is Splits.done)))
 
   -- each pair is in one of both
   pub both_count : {all some others : List (ℕ × ℕ)} → Splits P Q all some others → length some + length others ≡ length all

@@ -1,6 +1,6 @@
 //! The lines that a study adds to those of a verdict and its races.
 
-ghost use Rattle.std.specs.Prelude.{◌<◌, ◌++◌, List, ℕ, OnOk, None, length};
+ghost use Rattle.std.specs.Prelude.{◌<◌, ◌++◌, OnOk, length, true};
 ghost use Rattle.std.specs.Io.KnownBytes.{Appends};
 ghost use Rattle.msc_report.specs.Verdicts.{race_text};
 ghost use Rattle.msc_study.specs.Lines.{allowed_line, always_text, closest_line, kind_line, needs_line, why_text};

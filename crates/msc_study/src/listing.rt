@@ -1,10 +1,11 @@
 //! Which races a study lists.
 
-ghost use Rattle.std.specs.Prelude.{◌↔◌, List, ℕ, IfOk, IsTrue, length};
+ghost use Rattle.std.specs.Prelude.{◌≡◌, ◌↔◌, List, ℕ, IfOk, IsTrue, length};
 ghost use Rattle.msc_chart.specs.Lists.{Occurs};
 ghost use Rattle.msc_chart.specs.Orders.{wired, IsEnforcedOrder};
 ghost use Rattle.msc_order.specs.Tables.{orders};
 ghost use Rattle.msc_race.specs.Races.{IsVerdict};
+ghost use Rattle.msc_reason.specs.Closest.{IsClosestList};
 ghost use Rattle.msc_study.specs.Counting.{Allowed, AreRacesOf, Counts, IsListing, Splits};
 ghost use Rattle.msc_tool.specs.Checking.{races_of};
 
@@ -12,7 +13,8 @@ use crate::view::View;
 use msc_chart::{Chart, Event, Queues};
 use msc_order::Order;
 use msc_race::Verdict;
-use msc_reason::{RaceKind, closest, lack_of};
+use msc_reason::laws::each_race_has_one_kind;
+use msc_reason::{RaceKind, closest, kind_of};
 use msc_tool::races_of;
 use std::alloc::{AllocError, Global};
 
@@ -55,31 +57,39 @@ fn counted(
         × Splits (Counts (wired queues chart.now) allowed.now)
         (Allowed (wired queues chart.now) allowed.now) races.now some.items others) }
 {
+    each_race_has_one_kind();
+    chart.accepted();
     let mut some = Vec::new(alloc);
     for race in races {
-        let lack = lack_of(chart, queues, order, race.0, race.1);
-        if !is_named(allowed, lack.kind) {
+        let kind = kind_of(chart, queues, order, race.0, race.1);
+        if !is_named(allowed, kind) {
             some.push(*race)?;
         }
     }
     Ok(some)
 }
 
-/// The closest races of these, or all of them, that are of none of the kinds that are left out.
-fn wanted(
+/// The closest races that are of none of the kinds that are left out.
+fn near_races(
     alloc: Global,
     chart: &Chart,
     queues: Queues,
     order: &Order,
     view: &View,
-) -> Result<Vec<(Event, Event)>, AllocError> 
+) -> Result<Vec<(Event, Event)>, AllocError>
+    requires enforced { IsEnforcedOrder (wired queues chart.now) (orders order.now) }
+    requires square { length order.now ≡ length chart.now.events }
+    ensures { IfOk result (λ more. (near others : List (ℕ × ℕ))
+        × IsClosestList (wired queues chart.now) near
+        × Splits (Counts (wired queues chart.now) view.now.allowed)
+        (Allowed (wired queues chart.now) view.now.allowed) near more.items others) }
 {
     let near = closest(alloc, chart, queues, order)?;
     counted(alloc, chart, queues, order, view.allowed.as_slice(), near.as_slice())
 }
 
 /// The races of a verdict that a study lists.
-pub fn listing(
+pub fn list_races(
     alloc: Global,
     chart: &Chart,
     queues: Queues,
@@ -98,7 +108,7 @@ pub fn listing(
     let allowed = races.len() - some.len();
     let passed = some.is_empty();
     if view.closest {
-        let near = wanted(alloc, chart, queues, order, view)?;
+        let near = near_races(alloc, chart, queues, order, view)?;
         return Ok(Listing { allowed, passed, listed: near });
     }
     Ok(Listing { allowed, passed, listed: some })

@@ -1,6 +1,6 @@
 //! Races, why they are races, and the runs that show them.
 
-ghost use Rattle.std.specs.Prelude.{◌≡◌, ℕ, ◌<◌, List, [], None, Some, IfOk, cond, length};
+ghost use Rattle.std.specs.Prelude.{◌≡◌, ℕ, ◌<◌, ◌++◌, List, IfOk, length, take};
 ghost use Rattle.msc_chart.specs.Orders.{wired, IsEnforcedOrder, IsRace};
 ghost use Rattle.msc_order.specs.Tables.{orders};
 ghost use Rattle.msc_reason.specs.declared.lack.Lack.{Lack};
@@ -16,6 +16,7 @@ use crate::view::View;
 use msc_chart::{Chart, Event, Queues};
 use msc_order::Order;
 use msc_reason::lack_of;
+use msc_reason::laws::each_race_has_one_kind;
 use msc_report::Fault;
 use msc_tool::{Page, line_of, put_race};
 use std::alloc::{AllocError, Global};
@@ -39,6 +40,8 @@ fn tail_of(
         → IfOk result (λ tail.
         tail.items ≡ why_text why chart.now (lacks race.0 race.1) ++ line.now) }
 {
+    each_race_has_one_kind();
+    chart.accepted();
     let mut tail = Vec::new(alloc);
     if why {
         let lack = lack_of(chart, queues, order, race.0, race.1);

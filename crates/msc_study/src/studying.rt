@@ -1,6 +1,7 @@
 //! From a text to a study of its chart's races, bytes to bytes.
 
-ghost use Rattle.std.specs.Prelude.{◌≡◌, ◌≢◌, ◌⊎◌, ℕ, ◌×◌, Bool, List, length, IfErr, IfOk, IfSome};
+ghost use Rattle.std.specs.Prelude.{◌≡◌, ◌≢◌, ◌⊎◌, ℕ, List, length, IfErr, IfOk, IfSome, OnOk};
+ghost use Rattle.std.specs.Io.KnownBytes.{Appends};
 ghost use Rattle.msc_chart.specs.Orders.{wired, IsEnforcedOrder};
 ghost use Rattle.msc_order.specs.Tables.{orders};
 ghost use Rattle.msc_race.specs.Races.{IsVerdict};
@@ -12,7 +13,7 @@ ghost use Rattle.msc_tool.specs.Checking.{RefusesDraft, RefusesInputDraft};
 ghost use Rattle.msc_tool.specs.Pages.{Writes};
 
 use crate::lines::{write_allowed, write_closest};
-use crate::listing::{Listing, listing};
+use crate::listing::{Listing, list_races};
 use crate::showing::put_races;
 use crate::view::View;
 use msc_chart::{Chart, Queues};
@@ -20,6 +21,7 @@ use msc_order::Order;
 use msc_parser::parse;
 use msc_race::laws::the_chosen_run_reverses;
 use msc_race::{Verdict, check_order};
+use msc_reason::laws::each_race_has_one_kind;
 use msc_report::{Fault, write_verdict};
 use msc_tool::{Page, read_all};
 use std::alloc::{AllocError, Global};
@@ -86,6 +88,7 @@ fn write_study<W: Write>(
         × Writes result (W.contents writer.old) (W.contents writer.new) printed }
 {
     the_chosen_run_reverses();
+    each_race_has_one_kind();
     chart.accepted();
     let mut page = head_of(alloc, chart, queues, verdict, view, made)?;
     let races = made.listed.as_slice();
@@ -119,7 +122,7 @@ pub fn study_text<W: Write>(
     let chart = Chart::build(alloc, &draft)?;
     let order = Order::enforced(alloc, &chart, queues)?;
     let verdict = check_order(alloc, &chart, queues, &order)?;
-    let made = listing(alloc, &chart, queues, &order, &verdict, view)?;
+    let made = list_races(alloc, &chart, queues, &order, &verdict, view)?;
     write_study(alloc, writer, &chart, queues, &order, &verdict, view, &made)
 }
 
