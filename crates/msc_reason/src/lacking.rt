@@ -1,6 +1,6 @@
 //! Why a race is one.
 
-ghost use Rattle.std.specs.Prelude.{◌≡◌, ◌≢◌, ◌<◌, length};
+ghost use Rattle.std.specs.Prelude.{◌≡◌, ◌≢◌, ◌<◌, ◌↔◌, length, IsTrue};
 ghost use Rattle.msc_chart.specs.Orders.{wired, Enforced, IsEnforcedOrder, IsRace};
 ghost use Rattle.msc_order.specs.Tables.{orders};
 ghost use Rattle.msc_reason.specs.Lacks.{IsKindOf, IsLackOf, needed};
@@ -9,6 +9,18 @@ use crate::lack::{Lack, RaceKind};
 use crate::laws::a_race_lacks_one_pair;
 use msc_chart::{Chart, Event, Queues, Wiring};
 use msc_order::Order;
+
+/// Whether (`e`, `f`) is a race. Both are numbers of events, and `order` is the enforced order of the
+/// chart. It takes no memory.
+pub fn is_race(chart: &Chart, queues: Queues, order: &Order, e: Event, f: Event) -> bool
+    requires enforced { IsEnforcedOrder (wired queues chart.now) (orders order.now) }
+    requires square { length order.now ≡ length chart.now.events }
+    requires e_known { e < length chart.now.events }
+    requires f_known { f < length chart.now.events }
+    ensures { IsTrue result ↔ IsRace (wired queues chart.now) e f }
+{
+    chart.before(e, f) && !order.holds(e, f)
+}
 
 /// Of which kind the race (`e`, `f`) is. `order` is the enforced order of the chart. It takes no
 /// memory.
@@ -44,8 +56,8 @@ fn needed_of(chart: &Chart, queues: Queues, kind: RaceKind, e: Event, f: Event) 
     }
 }
 
-/// Why the race (`e`, `f`) is one: its kind, and what is not enforced. `order` is the enforced order
-/// of the chart. It takes no memory.
+/// Why the race (`e`, `f`) is one: its kind, and what is not enforced. `order` is the enforced
+/// order of the chart. It takes no memory.
 pub fn lack_of(chart: &Chart, queues: Queues, order: &Order, e: Event, f: Event) -> Lack
     requires enforced { IsEnforcedOrder (wired queues chart.now) (orders order.now) }
     requires square { length order.now ≡ length chart.now.events }

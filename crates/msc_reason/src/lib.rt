@@ -12,5 +12,5 @@ pub mod laws;
 mod listing;
 
 pub use lack::{Lack, RaceKind};
-pub use lacking::{kind_of, lack_of};
+pub use lacking::{is_race, kind_of, lack_of};
 pub use listing::closest;

@@ -1,4 +1,4 @@
-use Rattle.std.proofs.Common.{sym, ◌∙◌}
+use Rattle.std.proofs.Common.{sym, ◌∙◌, arith}
 use Rattle.msc_chart.proofs.Drawn.{before_parts}
 use Rattle.msc_reason.proofs.lacking.lack_of.Goals as goal
 
@@ -9,10 +9,14 @@ pub other_end-requires : goal.other_end-requires
 other_end-requires c = (before_parts c.args.chart.now.events c.args.e c.args.f c.requires.race.0).1
 
 pub holds-requires-clause-e_known : goal.holds-requires-clause-e_known
-holds-requires-clause-e_known c = rw c.requires.square (before_parts c.args.chart.now.events c.args.e c.args.f c.requires.race.0).1
+holds-requires-clause-e_known c =
+    let p = before_parts c.args.chart.now.events c.args.e c.args.f c.requires.race.0 in
+    omega (arith, c.requires.square, p.0, p.1)
 
 pub holds-requires-clause-f_known : goal.holds-requires-clause-f_known
-holds-requires-clause-f_known c = rw c.requires.square (before_parts c.args.chart.now.events c.args.e c.args.f c.requires.race.0).0
+holds-requires-clause-f_known c =
+    let p = before_parts c.args.chart.now.events c.args.e c.args.f c.requires.race.0 in
+    omega (arith, c.requires.square, p.0, p.1)
 
 pub returns-clause-lack : goal.returns-clause-lack
 returns-clause-lack c =
