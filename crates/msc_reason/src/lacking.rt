@@ -48,7 +48,8 @@ pub fn kind_of(chart: &Chart, queues: Queues, order: &Order, e: Event, f: Event)
 fn needed_of(chart: &Chart, queues: Queues, kind: RaceKind, e: Event, f: Event) -> Event
     requires known { e < length chart.now.events }
     requires kind { IsKindOf (wired queues chart.now) e f kind }
-    ensures { result ≡ needed (wired queues chart.now) e f }
+    ensures value { result ≡ needed (wired queues chart.now) e f }
+    ensures known { result < length chart.now.events }
 {
     match kind {
         RaceKind::Early | RaceKind::Queues => e,

@@ -13,7 +13,10 @@ use Rattle.msc_reason.specs.Laws.{EachRaceHasOneKind}
 use Rattle.msc_reason.specs.declared.lack.Lack.{Lack}
 use Rattle.msc_reason.specs.declared.lack.RaceKind.{RaceKind}
 use Rattle.msc_reason.specs.declared.lack.RaceKind.TheVariants.{Early}
+use Rattle.msc_study.specs.declared.view.KindSet.{KindSet}
+use Rattle.msc_study.specs.Listing.{IsAllowed}
 use Rattle.msc_study.specs.Studying.{AreLacks}
+use Rattle.msc_study.specs.Views.{has_kind}
 
 -- two truth values that say the same are the same
 same_truth : {X : Type 0} (a b : Bool) → (IsTrue a ↔ X) → (IsTrue b ↔ X) → a ≡ b
@@ -60,3 +63,10 @@ module _ (queues : Queues) (d : Drawing) (accepted : IsAccepted d) (law : EachRa
         always = (enforced.holds f e both.1 both.0, enforced.complete f e);
       },
     )
+
+  -- a race whose kind is not left out is not
+  pub counts : (allowed : KindSet) (e f : ℕ) → IsRace (wired queues d) e f → (kind : RaceKind) → IsKindOf (wired queues d) e f kind
+      → has_kind allowed kind ≡ false → IsAllowed (wired queues d) allowed e f → ⊥
+  counts allowed e f race kind is none its =
+      let one = law queues d accepted e f race in
+      clash (ap (has_kind allowed) (one.2 kind is ∙ sym (one.2 its.kind its.its)) ∙ its.named) none

@@ -1,3 +1,5 @@
 pub mod Splitting
 pub mod Listings
 pub mod Lacking
+pub mod Shown
+pub mod Studied

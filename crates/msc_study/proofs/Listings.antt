@@ -1,6 +1,6 @@
 -- What a study lists of a verdict's races.
 use Rattle.std.proofs.Common.{zero, ◌≡◌, ◌⊎◌, ℕ, ◌+◌, Bool, true, false, List, [], ◌∷◌, length, inl, inr, refl, sym, ap, ◌∙◌, subst, arith}
-use Rattle.std.specs.Prelude.{◌↔◌, IsTrue, slice_get}
+use Rattle.std.specs.Prelude.{◌↔◌, ◌==◌, IsTrue, slice_get}
 use Rattle.msc_chart.specs.Lists.{Occurs}
 use Rattle.msc_chart.specs.Orders.{WiredChart, IsRace}
 use Rattle.msc_race.proofs.Listing.Ascending.{none_ascend}
@@ -8,12 +8,16 @@ use Rattle.msc_race.specs.Races.{AreAscending, AreRaces, IsVerdict}
 use Rattle.msc_race.specs.declared.verdict.Verdict.{Verdict}
 use Rattle.msc_race.specs.declared.verdict.Verdict.TheVariants.{Pass, Races}
 use Rattle.msc_reason.specs.Closest.{IsClosestList}
-use Rattle.msc_reason.specs.declared.lack.RaceKind.{RaceKind}
 use Rattle.msc_study.proofs.Splitting.{both_count, in_one, kept_ascends, left_ascends, of_kept, of_left}
 use Rattle.msc_study.specs.declared.view.View.{View}
 use Rattle.msc_study.specs.Counting.{Allowed, AreRacesOf, Counts, IsListing, Splits}
 use Rattle.msc_study.specs.Listing.{AreAllAllowed, AreLeftOut, AreListed}
 use Rattle.msc_tool.specs.Checking.{races_of}
+
+-- what is told of an empty list
+pub empty_told : (xs : List (ℕ × ℕ)) (told : Bool) → told ≡ (length xs == 0) → IsTrue told ↔ xs ≡ []
+empty_told [] told says = (λ _. refl, λ _. says)
+empty_told (x ∷ xs) told says = (λ yes. grind (arith, says, yes), λ same. absurd cc)
 
 module _ (chart : WiredChart) where
   -- a verdict's races are all races

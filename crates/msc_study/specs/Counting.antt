@@ -1,8 +1,10 @@
 -- What the code keeps of the races that it lists.
-use Rattle.std.specs.Prelude.{◌≡◌, ℕ, ◌↔◌, Bool, List, [], ◌∷◌, Vec, length, IsTrue}
+use Rattle.std.specs.Prelude.{◌≡◌, ℕ, ◌<◌, ◌↔◌, Bool, cond, List, [], ◌∷◌, None, Some, length, IsTrue}
 use Rattle.msc_chart.specs.Lists.{Occurs}
 use Rattle.msc_chart.specs.Orders.{WiredChart, IsRace}
-use Rattle.msc_reason.specs.declared.lack.RaceKind.{RaceKind}
+use Rattle.msc_report.specs.Verdicts.{run_line}
+use Rattle.msc_tool.specs.Checking.{AreChosen}
+use Rattle.msc_study.specs.declared.view.KindSet.{KindSet}
 use Rattle.msc_study.specs.declared.view.View.{View}
 use Rattle.msc_study.specs.Listing.{IsAllowed, AreAllAllowed, AreLeftOut, AreListed}
 
@@ -18,11 +20,11 @@ pub data Splits (P Q : ℕ × ℕ → Type 0) : List (ℕ × ℕ) → List (ℕ 
       → Splits P Q (p ∷ all) some (p ∷ others)
 
 -- the pair is of one of the kinds
-abbrev pub Allowed : WiredChart → List RaceKind → ℕ × ℕ → Type 0
+abbrev pub Allowed : WiredChart → KindSet → ℕ × ℕ → Type 0
 Allowed chart allowed p = IsAllowed chart allowed p.0 p.1
 
 -- the pair is of none of them
-abbrev pub Counts : WiredChart → List RaceKind → ℕ × ℕ → Type 0
+abbrev pub Counts : WiredChart → KindSet → ℕ × ℕ → Type 0
 Counts chart allowed p = Allowed chart allowed p → ⊥
 
 -- each pair of the list is a race
@@ -36,3 +38,9 @@ pub record IsListing (chart : WiredChart) (view : View) (count : ℕ) (passed : 
   pub counted : length left_out ≡ count
   pub answered : IsTrue passed ↔ AreAllAllowed chart view.allowed
   pub wanted : AreListed chart view listed
+
+-- the line is that of the chosen run of this event, where it is one and runs are shown, else nothing
+abbrev pub IsLine : WiredChart → Bool → ℕ → List ℕ → Type 0
+IsLine chart shown of line =
+    (runs : ℕ → List ℕ) → AreChosen chart runs → of < length chart.events
+    → line ≡ run_line (cond shown (Some (runs of)) None)

@@ -3,5 +3,6 @@ pub mod Laws
 pub mod Lines
 pub mod Listing
 pub mod Studying
+pub mod Views
 -- what the code keeps
 pub mod Counting

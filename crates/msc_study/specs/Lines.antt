@@ -1,5 +1,5 @@
 -- The texts that a study is printed as. This project's own formats.
-use Rattle.std.specs.Prelude.{ℕ, Bool, true, false, cond, List, [], ◌∷◌, ◌++◌, None, Some, codes, length, take, drop}
+use Rattle.std.specs.Prelude.{ℕ, Bool, true, false, cond, List, [], ◌++◌, None, Some, codes, length, take, drop}
 use Rattle.std.specs.Fmt.{decimal}
 use Rattle.std.specs.List.{flat_map}
 use Rattle.msc_chart.specs.declared.queue.Queues.{Queues}
@@ -7,15 +7,15 @@ use Rattle.msc_chart.specs.Drawings.{Drawing}
 use Rattle.msc_race.specs.declared.verdict.Verdict.{Verdict}
 use Rattle.msc_reason.specs.Lacks.{kind_word}
 use Rattle.msc_reason.specs.declared.lack.Lack.{Lack}
-use Rattle.msc_reason.specs.declared.lack.RaceKind.{RaceKind}
 use Rattle.msc_report.specs.Texts.{line}
 use Rattle.msc_report.specs.Verdicts.{event_at, race_text, run_line, verdict_text}
+use Rattle.msc_study.specs.declared.view.KindSet.{KindSet}
 use Rattle.msc_study.specs.declared.view.View.{View}
+use Rattle.msc_study.specs.Views.{is_empty}
 
 -- how many races are left out, where kinds are
-abbrev pub allowed_line : List RaceKind → ℕ → List ℕ
-allowed_line [] count = []
-allowed_line (kind ∷ kinds) count = codes "allowed " ++ line (decimal count)
+abbrev pub allowed_line : KindSet → ℕ → List ℕ
+allowed_line allowed count = cond (is_empty allowed) [] (codes "allowed " ++ line (decimal count))
 
 -- how many races are listed, where the closest alone are
 abbrev pub closest_line : Bool → ℕ → List ℕ

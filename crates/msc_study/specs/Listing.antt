@@ -6,13 +6,15 @@ use Rattle.msc_race.specs.Races.{AreAscending}
 use Rattle.msc_reason.specs.Closest.{IsClosest}
 use Rattle.msc_reason.specs.Lacks.{IsKindOf}
 use Rattle.msc_reason.specs.declared.lack.RaceKind.{RaceKind}
+use Rattle.msc_study.specs.declared.view.KindSet.{KindSet}
 use Rattle.msc_study.specs.declared.view.View.{View}
+use Rattle.msc_study.specs.Views.{has_kind}
 
 -- the pair is of one of these kinds
-pub record IsAllowed (chart : WiredChart) (allowed : List RaceKind) (e f : ℕ) : Type 0 where
+pub record IsAllowed (chart : WiredChart) (allowed : KindSet) (e f : ℕ) : Type 0 where
   pub kind : RaceKind
   pub its : IsKindOf chart e f kind
-  pub named : Occurs allowed kind
+  pub named : IsTrue (has_kind allowed kind)
 
 -- a race that is of none of the kinds which are left out, and a closest one where these alone are wanted
 pub record IsWanted (chart : WiredChart) (view : View) (e f : ℕ) : Type 0 where
@@ -21,7 +23,7 @@ pub record IsWanted (chart : WiredChart) (view : View) (e f : ℕ) : Type 0 wher
   pub closest : IsTrue view.closest → IsClosest chart e f
 
 -- the list of all races that are left out, ascending, each once
-pub record AreLeftOut (chart : WiredChart) (allowed : List RaceKind) (pairs : List (ℕ × ℕ)) : Type 0 where
+pub record AreLeftOut (chart : WiredChart) (allowed : KindSet) (pairs : List (ℕ × ℕ)) : Type 0 where
   pub each : (e f : ℕ) → (IsRace chart e f × IsAllowed chart allowed e f) ↔ Occurs pairs (e, f)
   pub ascending : AreAscending pairs
 
@@ -31,5 +33,5 @@ pub record AreListed (chart : WiredChart) (view : View) (pairs : List (ℕ × �
   pub ascending : AreAscending pairs
 
 -- each race is left out
-abbrev pub AreAllAllowed : WiredChart → List RaceKind → Type 0
+abbrev pub AreAllAllowed : WiredChart → KindSet → Type 0
 AreAllAllowed chart allowed = (e f : ℕ) → IsRace chart e f → IsAllowed chart allowed e f

@@ -13,4 +13,4 @@ mod studying;
 mod view;
 
 pub use studying::{study_input, study_text};
-pub use view::View;
+pub use view::{KindSet, View};

@@ -5,8 +5,9 @@ ghost use Rattle.std.specs.Io.KnownBytes.{Appends};
 ghost use Rattle.msc_report.specs.Verdicts.{race_text};
 ghost use Rattle.msc_study.specs.Lines.{allowed_line, always_text, closest_line, kind_line, needs_line, why_text};
 
+use crate::view::KindSet;
 use msc_chart::{Chart, Event};
-use msc_reason::{Lack, RaceKind};
+use msc_reason::Lack;
 use msc_report::write_event_at;
 use std::io;
 use std::io::Write;
@@ -51,9 +52,9 @@ pub fn write_why<W: Write>(writer: &mut W, chart: &Chart, lack: &Lack) -> io::Re
 }
 
 /// Writes how many races are left out, where kinds are.
-pub fn write_allowed<W: Write>(writer: &mut W, allowed: &[RaceKind], count: usize) -> io::Result<()>
+pub fn write_allowed<W: Write>(writer: &mut W, allowed: KindSet, count: usize) -> io::Result<()>
     ensures { OnOk result (Appends (W.contents writer.old) (W.contents writer.new)
-        (allowed_line allowed.now count)) }
+        (allowed_line allowed count)) }
 {
     if allowed.is_empty() {
         return Ok(());

@@ -1,7 +1,6 @@
 //! Which races a study lists.
 
-ghost use Rattle.std.specs.Prelude.{◌≡◌, ◌↔◌, List, ℕ, IfOk, IsTrue, length};
-ghost use Rattle.msc_chart.specs.Lists.{Occurs};
+ghost use Rattle.std.specs.Prelude.{◌≡◌, List, ℕ, IfOk, length};
 ghost use Rattle.msc_chart.specs.Orders.{wired, IsEnforcedOrder};
 ghost use Rattle.msc_order.specs.Tables.{orders};
 ghost use Rattle.msc_race.specs.Races.{IsVerdict};
@@ -9,12 +8,12 @@ ghost use Rattle.msc_reason.specs.Closest.{IsClosestList};
 ghost use Rattle.msc_study.specs.Counting.{Allowed, AreRacesOf, Counts, IsListing, Splits};
 ghost use Rattle.msc_tool.specs.Checking.{races_of};
 
-use crate::view::View;
+use crate::view::{KindSet, View};
 use msc_chart::{Chart, Event, Queues};
 use msc_order::Order;
 use msc_race::Verdict;
 use msc_reason::laws::each_race_has_one_kind;
-use msc_reason::{RaceKind, closest, kind_of};
+use msc_reason::{closest, kind_of};
 use msc_tool::races_of;
 use std::alloc::{AllocError, Global};
 
@@ -29,40 +28,28 @@ pub struct Listing {
     pub listed: Vec<(Event, Event)>,
 }
 
-/// Whether a kind is one of these.
-fn is_named(allowed: &[RaceKind], kind: RaceKind) -> bool
-    ensures { IsTrue result ↔ Occurs allowed.now kind }
-{
-    for named in allowed {
-        if *named == kind {
-            return true;
-        }
-    }
-    false
-}
-
 /// The races of these that are of none of the kinds that are left out, in their order.
 fn counted(
     alloc: Global,
     chart: &Chart,
     queues: Queues,
     order: &Order,
-    allowed: &[RaceKind],
+    allowed: KindSet,
     races: &[(Event, Event)],
 ) -> Result<Vec<(Event, Event)>, AllocError>
     requires enforced { IsEnforcedOrder (wired queues chart.now) (orders order.now) }
     requires square { length order.now ≡ length chart.now.events }
     requires races { AreRacesOf (wired queues chart.now) races.now }
     ensures { IfOk result (λ some. (others : List (ℕ × ℕ))
-        × Splits (Counts (wired queues chart.now) allowed.now)
-        (Allowed (wired queues chart.now) allowed.now) races.now some.items others) }
+        × Splits (Counts (wired queues chart.now) allowed)
+        (Allowed (wired queues chart.now) allowed) races.now some.items others) }
 {
     each_race_has_one_kind();
     chart.accepted();
     let mut some = Vec::new(alloc);
     for race in races {
         let kind = kind_of(chart, queues, order, race.0, race.1);
-        if !is_named(allowed, kind) {
+        if !allowed.has(kind) {
             some.push(*race)?;
         }
     }
@@ -75,17 +62,17 @@ fn near_races(
     chart: &Chart,
     queues: Queues,
     order: &Order,
-    view: &View,
+    view: View,
 ) -> Result<Vec<(Event, Event)>, AllocError>
     requires enforced { IsEnforcedOrder (wired queues chart.now) (orders order.now) }
     requires square { length order.now ≡ length chart.now.events }
     ensures { IfOk result (λ more. (near others : List (ℕ × ℕ))
         × IsClosestList (wired queues chart.now) near
-        × Splits (Counts (wired queues chart.now) view.now.allowed)
-        (Allowed (wired queues chart.now) view.now.allowed) near more.items others) }
+        × Splits (Counts (wired queues chart.now) view.allowed)
+        (Allowed (wired queues chart.now) view.allowed) near more.items others) }
 {
     let near = closest(alloc, chart, queues, order)?;
-    counted(alloc, chart, queues, order, view.allowed.as_slice(), near.as_slice())
+    counted(alloc, chart, queues, order, view.allowed, near.as_slice())
 }
 
 /// The races of a verdict that a study lists.
@@ -95,16 +82,16 @@ pub fn list_races(
     queues: Queues,
     order: &Order,
     verdict: &Verdict,
-    view: &View,
+    view: View,
 ) -> Result<Listing, AllocError>
     requires enforced { IsEnforcedOrder (wired queues chart.now) (orders order.now) }
     requires square { length order.now ≡ length chart.now.events }
     requires verdict { IsVerdict (wired queues chart.now) verdict.now }
-    ensures { IfOk result (λ made. IsListing (wired queues chart.now) view.now
+    ensures { IfOk result (λ made. IsListing (wired queues chart.now) view
         made.allowed made.passed made.listed.items) }
 {
     let races = races_of(verdict);
-    let some = counted(alloc, chart, queues, order, view.allowed.as_slice(), races)?;
+    let some = counted(alloc, chart, queues, order, view.allowed, races)?;
     let allowed = races.len() - some.len();
     let passed = some.is_empty();
     if view.closest {

@@ -5,7 +5,7 @@ ghost use Rattle.msc_chart.specs.Orders.{wired, IsEnforcedOrder, IsRace};
 ghost use Rattle.msc_order.specs.Tables.{orders};
 ghost use Rattle.msc_reason.specs.declared.lack.Lack.{Lack};
 ghost use Rattle.msc_report.specs.Verdicts.{run_line};
-ghost use Rattle.msc_study.specs.Counting.{AreRacesOf};
+ghost use Rattle.msc_study.specs.Counting.{AreRacesOf, IsLine};
 ghost use Rattle.msc_study.specs.Lines.{part_text, races_text, tail_text, why_text};
 ghost use Rattle.msc_study.specs.Studying.{AreLacks};
 ghost use Rattle.msc_tool.specs.Checking.{AreChosen};
@@ -53,6 +53,42 @@ fn tail_of(
     Ok(tail)
 }
 
+/// The line of the chosen run of an event, where runs are shown.
+#[derive(Drop)]
+struct Line {
+    of: Event,
+    bytes: Vec<u8>,
+}
+
+/// The line of the chosen run of `e`, where runs are shown. The last one serves again where it is
+/// of the same event.
+fn line_for(
+    alloc: Global,
+    chart: &Chart,
+    queues: Queues,
+    order: &Order,
+    shown: bool,
+    e: Event,
+    last: Line,
+) -> Result<Line, AllocError>
+    requires enforced { IsEnforcedOrder (wired queues chart.now) (orders order.now) }
+    requires square { length order.now ≡ length chart.now.events }
+    requires known { e < length chart.now.events }
+    requires last { IsLine (wired queues chart.now) shown last.of last.bytes.items }
+    ensures of { IfOk result (λ next. next.of ≡ e) }
+    ensures line { IfOk result (λ next.
+        IsLine (wired queues chart.now) shown next.of next.bytes.items) }
+{
+    if !shown {
+        return Ok(Line { of: e, bytes: Vec::new(alloc) });
+    }
+    if last.of == e {
+        return Ok(last);
+    }
+    let bytes = line_of(alloc, chart, queues, order, e)?;
+    Ok(Line { of: e, bytes })
+}
+
 /// Puts each of these races behind a page, where it is wanted with the chosen run of its first
 /// event. One run serves all races of an event that stand in a row.
 fn put_part<W: Write>(
@@ -75,14 +111,11 @@ fn put_part<W: Write>(
         page.old.bytes.items page.new.bytes.items
         (part_text why shown chart.now lacks runs races.now) }
 {
-    let mut of = chart.events();
-    let mut line = Vec::new(alloc);
+    let mut line = Line { of: chart.events(), bytes: Vec::new(alloc) };
     for race in races {
-        if shown && race.0 != of {
-            line = line_of(alloc, chart, queues, order, race.0)?;
-            of = race.0;
-        }
-        let tail = tail_of(alloc, chart, queues, order, why, *race, line.as_slice())?;
+        line = line_for(alloc, chart, queues, order, shown, race.0, line)?;
+        let bytes = line.bytes.as_slice();
+        let tail = tail_of(alloc, chart, queues, order, why, *race, bytes)?;
         put_race(writer, page, chart, *race, tail.as_slice())?;
     }
     Ok(())
@@ -97,7 +130,7 @@ pub fn put_races<W: Write>(
     chart: &Chart,
     queues: Queues,
     order: &Order,
-    view: &View,
+    view: View,
     races: &[(Event, Event)],
 ) -> Result<(), Fault>
     requires enforced { IsEnforcedOrder (wired queues chart.now) (orders order.now) }
@@ -107,7 +140,7 @@ pub fn put_races<W: Write>(
         → AreChosen (wired queues chart.now) runs
         → Puts result (W.contents writer.old) (W.contents writer.new)
         page.old.bytes.items page.new.bytes.items
-        (races_text view.now chart.now lacks runs (take view.now.most races.now)) }
+        (races_text view chart.now lacks runs (take view.most races.now)) }
 {
     let (printed, _) = races.split_at((view.most as usize).min(races.len()));
     let (shown, others) = printed.split_at((view.show as usize).min(printed.len()));

@@ -35,15 +35,15 @@ fn write_head<W: Write>(
     chart: &Chart,
     queues: Queues,
     verdict: &Verdict,
-    view: &View,
+    view: View,
     made: &Listing,
 ) -> io::Result<()>
     ensures { OnOk result (Appends (W.contents writer.old) (W.contents writer.new)
-        (head_text chart.now queues view.now verdict.now made.now.allowed
+        (head_text chart.now queues view verdict.now made.now.allowed
         (length made.now.listed.items))) }
 {
     write_verdict(writer, chart, queues, verdict)?;
-    write_allowed(writer, view.allowed.as_slice(), made.allowed)?;
+    write_allowed(writer, view.allowed, made.allowed)?;
     write_closest(writer, view.closest, made.listed.len())
 }
 
@@ -53,10 +53,10 @@ fn head_of(
     chart: &Chart,
     queues: Queues,
     verdict: &Verdict,
-    view: &View,
+    view: View,
     made: &Listing,
 ) -> Result<Page, AllocError>
-    ensures { IfOk result (λ page. page.bytes.items ≡ head_text chart.now queues view.now verdict.now
+    ensures { IfOk result (λ page. page.bytes.items ≡ head_text chart.now queues view verdict.now
         made.now.allowed (length made.now.listed.items)) }
 {
     let mut page = Page::new(alloc);
@@ -74,17 +74,17 @@ fn write_study<W: Write>(
     queues: Queues,
     order: &Order,
     verdict: &Verdict,
-    view: &View,
+    view: View,
     made: &Listing,
 ) -> Result<bool, Fault>
     requires enforced { IsEnforcedOrder (wired queues chart.now) (orders order.now) }
     requires square { length order.now ≡ length chart.now.events }
     requires verdict { IsVerdict (wired queues chart.now) verdict.now }
-    requires made { IsListing (wired queues chart.now) view.now
+    requires made { IsListing (wired queues chart.now) view
         made.now.allowed made.now.passed made.now.listed.items }
     ensures answered { IfOk result (λ passed. passed ≡ made.now.passed) }
     ensures written { (printed : List ℕ)
-        × PrintsStudy chart.now queues view.now verdict.now made.now.passed printed
+        × PrintsStudy chart.now queues view verdict.now made.now.passed printed
         × Writes result (W.contents writer.old) (W.contents writer.new) printed }
 {
     the_chosen_run_reverses();
@@ -106,15 +106,15 @@ pub fn study_text<W: Write>(
     alloc: Global,
     text: &[u8],
     queues: Queues,
-    view: &View,
+    view: View,
     writer: &mut W,
 ) -> Result<bool, Fault>
-    ensures written { IfOk result (λ passed. WritesStudy text.now queues view.now passed
+    ensures written { IfOk result (λ passed. WritesStudy text.now queues view passed
         (W.contents writer.old) (W.contents writer.new)) }
     ensures refused { RefusesText text.now result }
     ensures no_chart { RefusesDraft text.now result }
     ensures begun { IfErr result (λ e. e ≡ Fault.Memory → (writer.new ≡ writer.old)
-        ⊎ BeginsStudy text.now queues view.now (W.contents writer.old) (W.contents writer.new)) }
+        ⊎ BeginsStudy text.now queues view (W.contents writer.old) (W.contents writer.new)) }
     ensures untouched { IfErr result
         (λ e. e ≢ Fault.Memory → e ≢ Fault.Device → writer.new ≡ writer.old) }
 {
@@ -134,18 +134,18 @@ pub fn study_input<R: Read, W: Write>(
     alloc: Global,
     reader: &mut R,
     queues: Queues,
-    view: &View,
+    view: View,
     writer: &mut W,
 ) -> Result<bool, Fault>
     ensures written { IfOk result (λ passed. IfSome (R.remaining reader.old) (λ bytes. WritesStudy
-        bytes queues view.now passed (W.contents writer.old) (W.contents writer.new))) }
+        bytes queues view passed (W.contents writer.old) (W.contents writer.new))) }
     ensures refused { RefusesInput (R.remaining reader.old) result }
     ensures no_chart { RefusesInputDraft (R.remaining reader.old) result }
     ensures read { OnRead (R.remaining reader.old) (R.remaining reader.new) result (λ bytes. StudiesText
-        bytes queues view.now result (W.contents writer.old) (W.contents writer.new)) }
+        bytes queues view result (W.contents writer.old) (W.contents writer.new)) }
     ensures begun { IfErr result (λ e. e ≡ Fault.Memory → (writer.new ≡ writer.old)
         ⊎ IfSome (R.remaining reader.old) (λ bytes. BeginsStudy
-        bytes queues view.now (W.contents writer.old) (W.contents writer.new))) }
+        bytes queues view (W.contents writer.old) (W.contents writer.new))) }
     ensures untouched { IfErr result
         (λ e. e ≢ Fault.Memory → e ≢ Fault.Device → writer.new ≡ writer.old) }
 {
