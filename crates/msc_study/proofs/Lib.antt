@@ -3,3 +3,4 @@ pub mod Listings
 pub mod Lacking
 pub mod Shown
 pub mod Studied
+pub mod Plain

@@ -26,7 +26,7 @@ module _ (chart : WiredChart) where
   verdict_races (Races pairs) said = said.0.races
 
   -- and they ascend
-  verdict_ascends : (v : Verdict) → IsVerdict chart v → AreAscending (races_of v)
+  pub verdict_ascends : (v : Verdict) → IsVerdict chart v → AreAscending (races_of v)
   verdict_ascends Pass none = none_ascend
   verdict_ascends (Races pairs) said = said.0.ascending
 

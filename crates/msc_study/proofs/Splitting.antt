@@ -11,6 +11,10 @@ pub first_or_rest : (x p : ℕ × ℕ) (xs : List (ℕ × ℕ)) → Occurs (x �
 first_or_rest x p xs (zero, h) = inl cc
 first_or_rest x p xs (suc j, h) = inr (j, h)
 
+-- the rest of an ascending list ascends
+pub rest_ascends : (x : ℕ × ℕ) (xs : List (ℕ × ℕ)) → AreAscending (x ∷ xs) → AreAscending xs
+rest_ascends x xs ascends i j p q less h k = ascends (suc i) (suc j) p q (omega (arith, less)) h k
+
 module _ (P Q : ℕ × ℕ → Type 0) where
   -- two splits one behind the other
   behind : {all some others rest more left : List (ℕ × ℕ)} → Splits P Q all some others → Splits P Q rest more left
@@ -69,10 +73,6 @@ module _ (P Q : ℕ × ℕ → Type 0) where
     | inl same ↦ inr (zero, ap Some same)
     | inr later ↦ elim (in_one p rest later) [ inl some ↦ inl some | inr (j, h) ↦ inr (suc j, h) ]
   ]
-
-  -- the rest of an ascending list ascends
-  rest_ascends : (x : ℕ × ℕ) (xs : List (ℕ × ℕ)) → AreAscending (x ∷ xs) → AreAscending xs
-  rest_ascends x xs ascends i j p q less h k = ascends (suc i) (suc j) p q (omega (arith, less)) h k
 
   -- what is kept of an ascending list ascends
   pub kept_ascends : {all some others : List (ℕ × ℕ)} → Splits P Q all some others → AreAscending all → AreAscending some
