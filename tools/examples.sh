@@ -10,8 +10,8 @@
 # gives another one, and NAME.impatient.QUEUES.txt that with a patience of 0, with which nobody takes
 # anything; the status is 3 where some instance did not finish. Beside charts/refused/NAME.msc stands
 # NAME.txt: what is written to standard error, and then the status. `msc check` and `msc run` refuse each of
-# them. `msc read` meets no fault of charts; charts with such a fault are canonical texts, so it prints them
-# as they are.
+# them. `msc read` meets no fault of charts: where such a fault stands, it prints NAME.read.txt, or the chart
+# as it is where that is missing.
 set -u
 cd "$(dirname "$(readlink -f "${BASH_SOURCE[0]}")")/.." || exit 1
 program=${1-./msc}
@@ -66,7 +66,9 @@ for chart in charts/refused/*.msc; do
     compare /dev/null "$room/fault" "$status" run --queues "$queues" "$chart"
   done
   if grep -q '^chart fault ' "$room/fault"; then
-    compare "$chart" /dev/null 0 read "$chart"
+    canonical=$name.read.txt
+    if ! [ -e "$canonical" ]; then canonical=$chart; fi
+    compare "$canonical" /dev/null 0 read "$chart"
   else
     compare /dev/null "$room/fault" "$status" read "$chart"
   fi

@@ -1,10 +1,10 @@
 -- What the status tells of an answer, and that a flush keeps it.
-use Rattle.std.proofs.Common.{ℕ, List, Option, Some, None, ◌∙◌}
+use Rattle.std.proofs.Common.{ℕ, List, Option, Some, None, inl, inr, refl, ◌∙◌}
 use Rattle.std.specs.Io.KnownBytes.{Appends, Keeps}
 use Rattle.msc_command.specs.declared.program.Status.{Status}
 use Rattle.msc_command.specs.declared.program.Status.TheVariants.{Done, Races, Refused, Unfinished, Failed}
-use Rattle.msc_command.specs.declared.program.Task.{Task}
-use Rattle.msc_command.specs.declared.program.Task.TheVariants.{Read, Check, Run}
+use Rattle.msc_command.specs.declared.words.Task.{Task}
+use Rattle.msc_command.specs.declared.words.Task.TheVariants.{Read, Check, Study, Judge, Run}
 use Rattle.msc_command.specs.Program.{Prints, WritesAnswer}
 
 -- the answer of a task is what its status tells
@@ -14,10 +14,14 @@ prints task text Done before after told = tt
 prints task text Refused before after told = tt
 prints task text Failed before after told = tt
 prints Read text Races before after told = absurd told
-prints (Check queues show) text Races before after told = (text, queues, show, told)
+prints (Check queues show) text Races before after told = inl (text, queues, show, told)
+prints (Study queues view) text Races before after told = inr (inl (text, queues, view, told))
+prints (Judge queues view) text Races before after told = inr (inr (text, queues, view, told))
 prints (Run queues patience) text Races before after told = absurd told
 prints Read text Unfinished before after told = absurd told
 prints (Check queues show) text Unfinished before after told = absurd told
+prints (Study queues view) text Unfinished before after told = absurd told
+prints (Judge queues view) text Unfinished before after told = absurd told
 prints (Run queues patience) text Unfinished before after told = (text, queues, patience, told)
 
 -- bytes that are kept were written
@@ -26,6 +30,18 @@ kept None mid after bytes wrote keeps = tt
 kept (Some xs) None after bytes wrote keeps = absurd wrote
 kept (Some xs) (Some ys) None bytes wrote keeps = absurd keeps
 kept (Some xs) (Some ys) (Some zs) bytes wrote keeps = keeps ∙ wrote
+
+-- what nobody writes to keeps its bytes
+pub keeps_itself : (now : Option (List ℕ)) → Keeps now now
+keeps_itself None = tt
+keeps_itself (Some xs) = refl
+
+-- and what is kept twice is kept
+kept_on : (before mid after : Option (List ℕ)) → Keeps before mid → Keeps mid after → Keeps before after
+kept_on None mid after first then = tt
+kept_on (Some xs) None after first then = absurd first
+kept_on (Some xs) (Some ys) None first then = absurd then
+kept_on (Some xs) (Some ys) (Some zs) first then = then ∙ first
 
 -- and so is an answer
 pub answer_kept : (task : Task) (text : List ℕ) (status : Status) (before mid after : Option (List ℕ))
@@ -41,6 +57,16 @@ answer_kept (Check queues show) text Races before mid after told keeps = (told.0
 answer_kept (Check queues show) text Refused before mid after told keeps = told
 answer_kept (Check queues show) text Unfinished before mid after told keeps = told
 answer_kept (Check queues show) text Failed before mid after told keeps = told
+answer_kept (Study queues view) text Done before mid after told keeps = (told.0, told.1, kept before mid after _ told.2 keeps)
+answer_kept (Study queues view) text Races before mid after told keeps = (told.0, told.1, kept before mid after _ told.2 keeps)
+answer_kept (Study queues view) text Refused before mid after told keeps = told
+answer_kept (Study queues view) text Unfinished before mid after told keeps = told
+answer_kept (Study queues view) text Failed before mid after told keeps = told
+answer_kept (Judge queues view) text Done before mid after told keeps = (told.0, told.1, kept_on before mid after told.2 keeps)
+answer_kept (Judge queues view) text Races before mid after told keeps = (told.0, told.1, kept_on before mid after told.2 keeps)
+answer_kept (Judge queues view) text Refused before mid after told keeps = told
+answer_kept (Judge queues view) text Unfinished before mid after told keeps = told
+answer_kept (Judge queues view) text Failed before mid after told keeps = told
 answer_kept (Run queues patience) text Done before mid after told keeps = (told.0, told.1, kept before mid after _ told.2 keeps)
 answer_kept (Run queues patience) text Unfinished before mid after told keeps = (told.0, told.1, kept before mid after _ told.2 keeps)
 answer_kept (Run queues patience) text Races before mid after told keeps = told

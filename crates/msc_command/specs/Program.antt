@@ -1,12 +1,15 @@
 -- What the program answers, and its exit statuses.
-use Rattle.std.specs.Prelude.{ℕ, List, Option, true, false}
+use Rattle.std.specs.Prelude.{◌⊎◌, ℕ, Bool, List, Option, true, false}
+use Rattle.std.specs.Io.KnownBytes.{Keeps}
 use Rattle.msc_chart.specs.declared.queue.Queues.{Queues}
 use Rattle.msc_report.specs.declared.fault.Fault.{Fault}
 use Rattle.msc_report.specs.declared.fault.Fault.TheVariants.{Parse, Chart, NotStarted, Memory, Device}
 use Rattle.msc_command.specs.declared.program.Status.{Status}
 use Rattle.msc_command.specs.declared.program.Status.TheVariants.{Done, Races, Refused, Unfinished, Failed}
-use Rattle.msc_command.specs.declared.program.Task.{Task}
-use Rattle.msc_command.specs.declared.program.Task.TheVariants.{Read, Check, Run}
+use Rattle.msc_command.specs.declared.words.Task.{Task}
+use Rattle.msc_command.specs.declared.words.Task.TheVariants.{Read, Check, Study, Judge, Run}
+use Rattle.msc_study.specs.declared.view.View.{View}
+use Rattle.msc_study.specs.Studying.{Studies, WritesStudy}
 use Rattle.msc_text.specs.Answers.{WritesDraft}
 use Rattle.msc_text.specs.Checking.{WritesVerdict}
 use Rattle.msc_tool.specs.Running.{WritesTrace}
@@ -27,12 +30,21 @@ status_of (NotStarted i) = Failed
 status_of Memory = Failed
 status_of Device = Failed
 
+-- a study has been made of a text, whose answer is told, and the known bytes of a writer are kept
+abbrev pub JudgesText : List ℕ → Queues → View → Bool → Option (List ℕ) → Option (List ℕ) → Type 0
+JudgesText text queues view passed before after =
+    (printed : List ℕ) × Studies text queues view passed printed × Keeps before after
+
 -- the whole answer of a task to a text went behind the known bytes of a writer, the answer that is
 -- told; a chart is run with a gate that is known to be open
 abbrev pub WritesAnswer : Task → List ℕ → Status → Option (List ℕ) → Option (List ℕ) → Type 0
 WritesAnswer Read text Done before after = WritesDraft text before after
 WritesAnswer (Check queues show) text Done before after = WritesVerdict text queues show true before after
 WritesAnswer (Check queues show) text Races before after = WritesVerdict text queues show false before after
+WritesAnswer (Study queues view) text Done before after = WritesStudy text queues view true before after
+WritesAnswer (Study queues view) text Races before after = WritesStudy text queues view false before after
+WritesAnswer (Judge queues view) text Done before after = JudgesText text queues view true before after
+WritesAnswer (Judge queues view) text Races before after = JudgesText text queues view false before after
 WritesAnswer (Run queues patience) text Done before after =
     WritesTrace text queues true patience true before after
 WritesAnswer (Run queues patience) text Unfinished before after =
@@ -44,6 +56,21 @@ abbrev pub PrintsRaces : Option (List ℕ) → Option (List ℕ) → Type 0
 PrintsRaces before after =
     (text : List ℕ) × (queues : Queues) × (show : ℕ) × WritesVerdict text queues show false before after
 
+-- a whole study with races that count went behind the known bytes of a writer
+abbrev pub PrintsStudied : Option (List ℕ) → Option (List ℕ) → Type 0
+PrintsStudied before after =
+    (text : List ℕ) × (queues : Queues) × (view : View) × WritesStudy text queues view false before after
+
+-- a study has races that count, and the known bytes of a writer are kept
+abbrev pub FindsRaces : Option (List ℕ) → Option (List ℕ) → Type 0
+FindsRaces before after =
+    (text : List ℕ) × (queues : Queues) × (view : View) × JudgesText text queues view false before after
+
+-- what tells of races: a whole verdict that has them, a whole study of some that count, or nothing
+-- where nothing is to be printed
+abbrev pub TellsRaces : Option (List ℕ) → Option (List ℕ) → Type 0
+TellsRaces before after = PrintsRaces before after ⊎ (PrintsStudied before after ⊎ FindsRaces before after)
+
 -- a whole answer went behind the known bytes of a writer, of an execution that is not finished
 abbrev pub PrintsUnfinished : Option (List ℕ) → Option (List ℕ) → Type 0
 PrintsUnfinished before after =
@@ -52,6 +79,6 @@ PrintsUnfinished before after =
 
 -- what the status tells of the answer that went out
 abbrev pub Prints : Status → Option (List ℕ) → Option (List ℕ) → Type 0
-Prints Races before after = PrintsRaces before after
+Prints Races before after = TellsRaces before after
 Prints Unfinished before after = PrintsUnfinished before after
 Prints status before after = Unit {0}

@@ -5,5 +5,6 @@
 #![tactic(auto)]
 
 mod program;
+mod words;
 
 pub use program::{command, refuse_words};

@@ -1,15 +1,16 @@
-//! The command line.
+//! What the program does, and how it ends.
 
 ghost use Rattle.std.specs.Prelude.{◌≡◌, ◌≢◌, ◌⊎◌, codes, IfOk, List, Option, ℕ};
 ghost use Rattle.std.specs.IoError.{error_kind};
 ghost use Rattle.std.specs.declared.io.ErrorKind.TheVariants.{OutOfMemory};
-ghost use Rattle.msc_command.specs.Program.{status_code, status_of, Prints, PrintsRaces, PrintsUnfinished, WritesAnswer};
+ghost use Rattle.msc_command.specs.Program.{status_code, status_of, Prints, PrintsUnfinished, TellsRaces, WritesAnswer};
 ghost use Rattle.msc_text.specs.Reading.{IsReadFrom};
 
-use clap::{Arg, ArgMatches, Command, Error, value_parser};
-use msc_chart::Queues;
+use crate::words::{Choice, Task, architectures, grammar, joined, kinds, task_of};
+use clap::{ArgMatches, Error};
 use msc_instance::AlwaysOpen;
 use msc_report::{Fault, write_fault};
+use msc_study::study_input;
 use msc_tool::{check_input, read_input, run_input};
 use std::alloc::{AllocError, Global};
 use std::io::{ErrorKind, Read, Write};
@@ -21,9 +22,10 @@ use std::{fs, io};
 /// How a run of the program ended.
 #[derive(Clone, Copy, Debug, PartialEq, Eq)]
 enum Status {
-    /// The answer was written: it names no race, and each instance that was run has finished.
+    /// The chart has no race that counts, or each instance that was run has finished, and the
+    /// answer was written, where one is wanted.
     Done,
-    /// The answer was written: the chart has races.
+    /// The chart has races that count, and the answer was written, where one is wanted.
     Races,
     /// The text was refused, or the words are no command.
     Refused,
@@ -46,149 +48,6 @@ impl Status {
             Status::Failed => 4,
         }
     }
-}
-
-/// What the words ask for.
-#[derive(Clone, Copy, Debug, PartialEq, Eq)]
-enum Task {
-    /// The canonical text.
-    Read,
-    /// The verdict under an architecture, and how many races are shown with a run.
-    Check(Queues, u32),
-    /// An execution under an architecture, and how many rounds in a row an instance looks in vain.
-    Run(Queues, u32),
-}
-
-/// The words for the architectures.
-fn architectures(alloc: Global) -> Result<Vec<&'static str>, AllocError> {
-    let mut words = Vec::new(alloc);
-    for queues in Queues::ALL {
-        words.push(queues.word())?;
-    }
-    Ok(words)
-}
-
-/// Words with a `|` between them.
-fn joined(alloc: Global, words: &[&str]) -> Result<String, AllocError> {
-    let mut text = String::new(alloc);
-    for word in words {
-        if !text.is_empty() {
-            text.push('|')?;
-        }
-        text.push_str(word)?;
-    }
-    Ok(text)
-}
-
-/// What `msc --version` prints behind the program's name.
-const VERSION: &str = "0.1.0";
-
-/// How many rounds in a row an instance looks for messages in vain, where the words do not say.
-const PATIENCE: u32 = 1_000_000_000;
-
-/// What stands below the help of `msc read`.
-const READ_NOTES: &str = "\
-Exit status:
-  0  the canonical text was written
-  2  the text was refused, or the words are no command
-  4  memory ran out, or a file or the output failed
-
-Example:
-  msc read relay.msc";
-
-/// What stands below the help of `msc check`.
-const CHECK_NOTES: &str = "\
-Exit status:
-  0  the chart has no races
-  1  the chart has races, which were written
-  2  the text was refused, or the words are no command
-  4  memory ran out, or a file or the output failed
-
-Example:
-  msc check --queues pair --show 1 relay.msc";
-
-/// What stands below the help of `msc run`.
-const RUN_NOTES: &str = "\
-Exit status:
-  0  all instances have finished
-  2  the text was refused, or the words are no command
-  3  some instance has not finished; how each ended was written, and the trace
-  4  memory ran out, a thread could not be started, or a file or the output failed
-
-Example:
-  msc run --queues mailbox relay.msc";
-
-/// The chart that a command reads.
-fn file<'a>(alloc: Global) -> Arg<'a> {
-    Arg::new(alloc, "FILE")
-        .help("The chart's text; - is standard input")
-        .required(true)
-}
-
-/// The architecture, one of `words`, shown as `shown`.
-fn queues<'a>(alloc: Global, words: &'a [&'a str], shown: &'a str) -> Arg<'a> {
-    Arg::new(alloc, "queues")
-        .long("queues")
-        .value_name(shown)
-        .help("A queue for each sender and receiver, for each receiver, or for each message")
-        .value_parser(words)
-        .required(true)
-}
-
-/// A number of 32 bits, with what it is for.
-fn number<'a>(alloc: Global, name: &'static str, help: &'static str) -> Arg<'a> {
-    Arg::new(alloc, name)
-        .long(name)
-        .value_name("N")
-        .help(help)
-        .value_parser(value_parser!(u32))
-}
-
-/// The words that the program takes. The architectures are those of `words`, shown as `shown`.
-fn grammar<'a>(
-    alloc: Global,
-    words: &'a [&'a str],
-    shown: &'a str,
-) -> Result<Command<'a>, AllocError> {
-    let read = Command::new(alloc, "read")
-        .about("Print the chart's canonical text")
-        .after_help(READ_NOTES)
-        .arg(file(alloc))?;
-    let show = "Print a run for each of the first N races; without it, for all";
-    let check = Command::new(alloc, "check")
-        .about("Print whether the chart has races, and for each a run that shows it")
-        .after_help(CHECK_NOTES)
-        .arg(queues(alloc, words, shown))?
-        .arg(number(alloc, "show", show))?
-        .arg(file(alloc))?;
-    let patience = "End an instance that looked in vain N times in a row; without it, 1000000000";
-    let run = Command::new(alloc, "run")
-        .about("Run the chart on threads, and print how each instance ended and the trace")
-        .after_help(RUN_NOTES)
-        .arg(queues(alloc, words, shown))?
-        .arg(number(alloc, "patience", patience))?
-        .arg(file(alloc))?;
-    Command::new(alloc, "msc")
-        .bin_name("msc")?
-        .version(VERSION)
-        .about("Check message sequence charts for races, and run them")
-        .subcommand_required(true)
-        .subcommand(read)?
-        .subcommand(check)?
-        .subcommand(run)
-}
-
-/// The task that a command's words name, if they name one.
-fn task_of(command: &str, words: &ArgMatches) -> Option<Task> {
-    if command == "read" {
-        return Some(Task::Read);
-    }
-    let queues = Queues::of(words.get_str("queues")?)?;
-    if command == "run" {
-        let patience = words.get_one("patience").unwrap_or(PATIENCE);
-        return Some(Task::Run(queues, patience));
-    }
-    Some(Task::Check(queues, words.get_one("show").unwrap_or(u32::MAX)))
 }
 
 /// Writes a fault's line, where that succeeds, and tells how the run ended.
@@ -223,6 +82,16 @@ fn answer<R: Threads + Wait + Sync, I: Read, O: Write>(
             true => Ok(Status::Done),
             false => Ok(Status::Races),
         },
+        Task::Study(queues, view) => match study_input(alloc, input, queues, view, output)? {
+            true => Ok(Status::Done),
+            false => Ok(Status::Races),
+        },
+        Task::Judge(queues, view) => {
+            match study_input(alloc, input, queues, view, &mut io::sink())? {
+                true => Ok(Status::Done),
+                false => Ok(Status::Races),
+            }
+        }
         Task::Run(queues, patience) => {
             match run_input(rt, alloc, input, queues, &AlwaysOpen, patience, output)? {
                 true => Ok(Status::Done),
@@ -326,8 +195,20 @@ fn run<R: Files + Threads + Wait + Sync, I: Read, O: Write, E: Write>(
         Prints status (O.contents output.old) (O.contents output.new)) }
 {
     let architectures = architectures(alloc)?;
-    let shown = joined(alloc, architectures.as_slice())?;
-    let command = grammar(alloc, architectures.as_slice(), shown.as_str())?;
+    let shown_architectures = joined(alloc, architectures.as_slice())?;
+    let kinds = kinds(alloc)?;
+    let shown_kinds = joined(alloc, kinds.as_slice())?;
+    let command = grammar(
+        alloc,
+        Choice {
+            words: architectures.as_slice(),
+            shown: shown_architectures.as_str(),
+        },
+        Choice {
+            words: kinds.as_slice(),
+            shown: shown_kinds.as_str(),
+        },
+    )?;
     match command.try_get_matches_from(words) {
         Ok(matches) => Ok(obey(rt, alloc, &matches, input, output, faults)),
         Err(error) => Ok(explain(output, faults, &error)),
@@ -353,11 +234,15 @@ pub fn refuse_words<E: Write>(faults: &mut E, error: &io::Error) -> u8
 /// [--show N] FILE`, where QUEUES is `pair`, `mailbox` or `single`, the verdict on its chart and
 /// each race, the first N with a run that shows it, and `msc run --queues QUEUES [--patience N]
 /// FILE` an execution of its chart, in which an instance gives up after N rounds in a row without a
-/// message. N is from 0 to 4294967295, by default 4294967295 races and 1000000000 rounds. FILE `-`
-/// is `input`, any other FILE is opened through `rt`. What goes wrong is found in the order: the
+/// message. N is from 0 to 4294967295, by default 4294967295 races and 1000000000 rounds. Of
+/// `check`, `--closest` lists the closest races alone, `--why` adds the kind of each and what it
+/// lacks, `--most N` lists the first N alone, `--allow KIND`, where KIND is `early`, `queues`,
+/// `unordered` or `overtaken`, leaves out the races of a kind, and `--quiet` writes nothing. FILE
+/// `-` is `input`, any other FILE is opened through `rt`. What goes wrong is found in the order: the
 /// words, opening FILE, reading it, its text, running it. A fault's line, and what `clap` says of
 /// wrong words, go to `faults`; where that writing fails the status stays. The status is 0 where
-/// the answer or the help asked for was written, 1 where the answer names races, 2 where the text
+/// the answer or the help asked for was written, 1 where there are races that are not left out, 2
+/// where the text
 /// was refused or the words are no command, 3 where some instance of the execution has not
 /// finished, and 4 where memory ran out, a thread could not be started, a file could not be opened
 /// or read, or the output could not be written.
@@ -370,7 +255,7 @@ pub fn command<R: Files + Threads + Wait + Sync, I: Read, O: Write, E: Write>(
     faults: &mut E,
 ) -> u8
     ensures status { (result ≡ 0) ⊎ (result ≡ 1) ⊎ (result ≡ 2) ⊎ (result ≡ 3) ⊎ (result ≡ 4) }
-    ensures races { result ≡ 1 → PrintsRaces (O.contents output.old) (O.contents output.new) }
+    ensures races { result ≡ 1 → TellsRaces (O.contents output.old) (O.contents output.new) }
     ensures unfinished { result ≡ 3
         → PrintsUnfinished (O.contents output.old) (O.contents output.new) }
 {

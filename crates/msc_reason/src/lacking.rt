@@ -48,7 +48,8 @@ pub fn kind_of(chart: &Chart, queues: Queues, order: &Order, e: Event, f: Event)
 fn needed_of(chart: &Chart, queues: Queues, kind: RaceKind, e: Event, f: Event) -> Event
     requires known { e < length chart.now.events }
     requires kind { IsKindOf (wired queues chart.now) e f kind }
-    ensures { result ≡ needed (wired queues chart.now) e f }
+    ensures value { result ≡ needed (wired queues chart.now) e f }
+    ensures known { result < length chart.now.events }
 {
     match kind {
         RaceKind::Early | RaceKind::Queues => e,
@@ -63,6 +64,8 @@ pub fn lack_of(chart: &Chart, queues: Queues, order: &Order, e: Event, f: Event)
     requires square { length order.now ≡ length chart.now.events }
     requires race { IsRace (wired queues chart.now) e f }
     ensures lack { IsLackOf (wired queues chart.now) e f result }
+    ensures needed { result.needed < length chart.now.events }
+    ensures output { result.output < length chart.now.events }
 
     // So what is needed is another event than the output, and not enforced before it.
     ensures apart { result.needed ≢ result.output }

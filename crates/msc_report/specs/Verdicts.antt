@@ -67,6 +67,10 @@ event_text d e =
     let address = instance_text d (charts.line d.events (charts.partner d.events e)) in
     statement_text (charts.kind d.events e) message address (label_of d e)
 
+-- event e behind the name of its instance
+abbrev pub event_at : Drawing → ℕ → List ℕ
+event_at d e = instance_text d (charts.line d.events e) ++ (codes " " ++ event_text d e)
+
 -- which events race, and on which line
 abbrev pub race_place : Drawing → ℕ → ℕ → List ℕ
 race_place d e f =

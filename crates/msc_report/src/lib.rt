@@ -15,7 +15,7 @@ mod writing;
 
 pub use event_texts::EventTexts;
 pub use fault::Fault;
-pub use race::{run_line, write_race};
+pub use race::{run_line, write_event_at, write_race};
 pub use trace::write_trace;
 pub use verdict::write_verdict;
 pub use writing::{write_draft, write_fault};

@@ -6,7 +6,7 @@ ghost use Rattle.std.specs.List.{flat_map};
 ghost use Rattle.std.specs.Option.{option_copied};
 ghost use Rattle.msc_chart.specs.Charts.{is_local, line, message, partner};
 ghost use Rattle.msc_chart.specs.Drawings.{message_at};
-ghost use Rattle.msc_report.specs.Verdicts.{action_text, event_text, instance_text, message_text, number_text, race_events, race_place, race_text, run_line, shown_byte, spaced};
+ghost use Rattle.msc_report.specs.Verdicts.{action_text, event_at, event_text, instance_text, message_text, number_text, race_events, race_place, race_text, run_line, shown_byte, spaced};
 
 use itoa::Buffer;
 use msc_chart::{Chart, Event};
@@ -138,6 +138,18 @@ pub(crate) fn write_event<W: Write>(writer: &mut W, chart: &Chart, e: Event) -> 
         Some(label) => write_action(writer, label),
         None => write_end(writer, chart, e),
     }
+}
+
+/// Writes event `e` with the name of its instance.
+pub fn write_event_at<W: Write>(writer: &mut W, chart: &Chart, e: Event) -> io::Result<()>
+    requires { e < length chart.now.events }
+    ensures { OnOk result (Appends (W.contents writer.old) (W.contents writer.new)
+        (event_at chart.now e)) }
+{
+    chart.accepted();
+    write_instance(writer, chart, chart.instance_of(e))?;
+    writer.write_all(b" ")?;
+    write_event(writer, chart, e)
 }
 
 /// Writes numbers with a space before each.

@@ -6,7 +6,7 @@ ghost use Rattle.std.specs.List.{All, flat_map};
 ghost use Rattle.std.specs.Option.{option_copied};
 ghost use Rattle.msc_report.specs.Traces.{end_line, end_lines, end_text, event_line, trace_lines, trace_text};
 
-use crate::race::{write_event, write_instance};
+use crate::race::{write_event_at, write_instance};
 use crate::verdict::{write_name_line, write_queues_line};
 use msc_chart::{Chart, Event, Queues};
 use msc_execution::End;
@@ -59,11 +59,8 @@ fn write_event_line<W: Write>(writer: &mut W, chart: &Chart, e: Event) -> io::Re
     ensures { OnOk result (Appends (W.contents writer.old) (W.contents writer.new)
         (event_line chart.now e)) }
 {
-    chart.accepted();
     write!(writer, "{e} ")?;
-    write_instance(writer, chart, chart.instance_of(e))?;
-    writer.write_all(b" ")?;
-    write_event(writer, chart, e)?;
+    write_event_at(writer, chart, e)?;
     writer.write_all(b"\n")
 }
 

@@ -59,11 +59,11 @@ chosen_run queues d accepted exists e = elim (cases_lt e (length d.events)) [
 ]
 
 -- each event has one
-chosen_runs : (queues : Queues) (d : Drawing) → IsAccepted d → AChosenRunExists → (runs : ℕ → List ℕ) × AreChosen (wired queues d) runs
+pub chosen_runs : (queues : Queues) (d : Drawing) → IsAccepted d → AChosenRunExists → (runs : ℕ → List ℕ) × AreChosen (wired queues d) runs
 chosen_runs queues d accepted exists = (λ e. (chosen_run queues d accepted exists e).0, λ e within. (chosen_run queues d accepted exists e).1 within)
 
 -- and it reverses the races of its event
-shows_races : (queues : Queues) (d : Drawing) (runs : ℕ → List ℕ) (v : Verdict) → AreChosen (wired queues d) runs → IsVerdict (wired queues d) v
+pub shows_races : (queues : Queues) (d : Drawing) (runs : ℕ → List ℕ) (v : Verdict) → AreChosen (wired queues d) runs → IsVerdict (wired queues d) v
     → ChosenRunsAreWhole → ChosenRunsReverseRaces → ShowsRaces (wired queues d) runs v
 shows_races queues d runs Pass chosen said whole reverses e f (k, there) = absurd cc
 shows_races queues d runs (Races pairs) chosen said whole reverses e f there =

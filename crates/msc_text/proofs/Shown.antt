@@ -5,7 +5,7 @@ use Rattle.msc_chart.specs.Drawings.{Drawing}
 use Rattle.msc_report.specs.Verdicts.{race_text, race_place, race_events, run_line}
 
 -- a race without its run, and behind it the line of the run, are the race with its run
-race_and_run : (d : Drawing) (e f : ℕ) (run : List ℕ) → race_text d e f None ++ run_line (Some run) ≡ race_text d e f (Some run)
+pub race_and_run : (d : Drawing) (e f : ℕ) (run : List ℕ) → race_text d e f None ++ run_line (Some run) ≡ race_text d e f (Some run)
 race_and_run d e f run =
     append_assoc (race_place d e f) _ (run_line (Some run))
     ∙ ap (λ (t : List ℕ). race_place d e f ++ (58 ∷ 32 ∷ t))

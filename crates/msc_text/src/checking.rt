@@ -32,7 +32,7 @@ fn passes(verdict: &Verdict) -> bool
 }
 
 /// The races of a verdict.
-fn races_of<'v>(verdict: &'v Verdict) -> &'v [(Event, Event)]
+pub fn races_of<'v>(verdict: &'v Verdict) -> &'v [(Event, Event)]
     ensures { result.now ≡ races_of verdict.entry.now }
 {
     match verdict {

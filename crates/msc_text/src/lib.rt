@@ -10,7 +10,8 @@ mod reading;
 mod showing;
 mod text;
 
-pub use checking::{check_input, check_text};
+pub use checking::{check_input, check_text, races_of};
 pub use page::Page;
 pub use reading::{CALL_LIMIT, read_all};
+pub use showing::{line_of, put_with_run};
 pub use text::{read_input, read_text};

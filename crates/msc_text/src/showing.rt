@@ -19,7 +19,7 @@ use std::alloc::{AllocError, Global};
 use std::io::Write;
 
 /// The line of the chosen run of event `e`.
-fn line_of(
+pub fn line_of(
     alloc: Global,
     chart: &Chart,
     queues: Queues,
@@ -52,8 +52,8 @@ fn turn<W: Write>(writer: &mut W, page: &mut Page) -> Result<(), Fault>
     Ok(())
 }
 
-/// Puts a race, and behind it the line of a run, behind a page.
-fn put_with_run<W: Write>(
+/// Puts a race, and behind it what stands below its line, behind a page.
+pub fn put_with_run<W: Write>(
     writer: &mut W,
     page: &mut Page,
     texts: &EventTexts,

@@ -5,11 +5,11 @@ use Rattle.msc_race.specs.Races.{AreAscending, IsBelow}
 use Rattle.msc_race.proofs.Listing.Pairs.{below_all, below_more, below_none, below_parts, in_either, last_of, pairs_below, pairs_next, pairs_none, to_parts}
 
 -- no pair stands in the empty list
-none_ascend : AreAscending []
+pub none_ascend : AreAscending []
 none_ascend i j p q less h k = cc
 
 -- a pair before an ascending list of pairs that it comes before
-first_ascends : (x : ℕ × ℕ) (xs : List (ℕ × ℕ)) → ((q : ℕ × ℕ) → Occurs xs q → IsBelow x q) → AreAscending xs
+pub first_ascends : (x : ℕ × ℕ) (xs : List (ℕ × ℕ)) → ((q : ℕ × ℕ) → Occurs xs q → IsBelow x q) → AreAscending xs
     → AreAscending (x ∷ xs)
 first_ascends x xs before rest zero zero p q less h k = absurd (omega arith)
 first_ascends x xs before rest zero (suc j) p q less h k =

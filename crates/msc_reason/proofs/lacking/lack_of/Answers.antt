@@ -23,7 +23,7 @@ returns-clause-lack c =
     let p = before_parts c.args.chart.now.events c.args.e c.args.f c.requires.race.0 in
     record {
       kind = c.kind_of-kind.ensures;
-      first = c.needed_of.ensures;
+      first = c.needed_of.ensures.value;
       second = c.other_end.ensures.value;
       always = (
         λ holds. c.requires.enforced.holds c.args.f c.args.e p.1 p.0 (sym c.holds.ensures ∙ holds),

@@ -1,8 +1,8 @@
 use Rattle.std.proofs.Common.{None, [], ◌++◌}
 use Rattle.std.proofs.lemmas.Result.{err_from_is_err_and}
 use Rattle.msc_report.specs.Verdicts.{race_text}
-use Rattle.msc_tool.proofs.PageLemmas.{pages_begin, puts_longer}
-use Rattle.msc_tool.proofs.showing.put_with_run.Goals as goal
+use Rattle.msc_text.proofs.PageLemmas.{pages_begin, puts_longer}
+use Rattle.msc_text.proofs.showing.put_with_run.Goals as goal
 
 pub returns-in_err-turn : goal.returns-in_err-turn
 returns-in_err-turn g c d texts =

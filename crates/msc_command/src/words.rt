@@ -1,0 +1,254 @@
+//! The words of the command line, and what they ask for.
+
+use clap::{Arg, ArgAction, ArgMatches, Command, value_parser};
+use msc_chart::Queues;
+use msc_reason::RaceKind;
+use msc_study::{KindSet, View};
+use std::alloc::{AllocError, Global};
+
+/// What the words ask for.
+#[derive(Clone, Copy, Debug, PartialEq, Eq)]
+pub enum Task {
+    /// The canonical text.
+    Read,
+    /// The verdict under an architecture, and how many races are shown with a run.
+    Check(Queues, u32),
+    /// A study of the races under an architecture.
+    Study(Queues, View),
+    /// Whether a study finds races that count, without its text.
+    Judge(Queues, View),
+    /// An execution under an architecture, and how many rounds in a row an instance looks in vain.
+    Run(Queues, u32),
+}
+
+/// The words of which an argument takes one, and what the help shows for it.
+#[derive(Clone, Copy)]
+pub struct Choice<'a> {
+    pub words: &'a [&'a str],
+    pub shown: &'a str,
+}
+
+/// The words for the architectures.
+pub fn architectures(alloc: Global) -> Result<Vec<&'static str>, AllocError> {
+    let mut words = Vec::new(alloc);
+    for queues in Queues::ALL {
+        words.push(queues.word())?;
+    }
+    Ok(words)
+}
+
+/// The words for the kinds of races.
+pub fn kinds(alloc: Global) -> Result<Vec<&'static str>, AllocError> {
+    let mut words = Vec::new(alloc);
+    for kind in RaceKind::ALL {
+        words.push(kind.word())?;
+    }
+    Ok(words)
+}
+
+/// Words with a `|` between them.
+pub fn joined(alloc: Global, words: &[&str]) -> Result<String, AllocError> {
+    let mut text = String::new(alloc);
+    for word in words {
+        if !text.is_empty() {
+            text.push('|')?;
+        }
+        text.push_str(word)?;
+    }
+    Ok(text)
+}
+
+/// What `msc --version` prints behind the program's name.
+const VERSION: &str = "0.1.0";
+
+/// How many rounds in a row an instance looks for messages in vain, where the words do not say.
+const PATIENCE: u32 = 1_000_000_000;
+
+/// What stands below the help of `msc read`.
+const READ_NOTES: &str = "\
+Exit status:
+  0  the canonical text was written
+  2  the text was refused, or the words are no command
+  4  memory ran out, or a file or the output failed
+
+Example:
+  msc read relay.msc";
+
+/// What stands below the help of `msc check`.
+const CHECK_NOTES: &str = "\
+A race is closest where nothing is drawn between its two events; every race spans a closest one.
+
+Kinds of races:
+  early      the input can come before the output or action that is drawn above it
+  queues     two inputs by two queues, and nothing orders their outputs
+  unordered  two inputs by one queue, and nothing orders their outputs
+  overtaken  two inputs by one queue, whose outputs come in the other order
+
+Exit status:
+  0  the chart has no races that count
+  1  the chart has races that count
+  2  the text was refused, or the words are no command
+  4  memory ran out, or a file or the output failed
+
+Examples:
+  msc check --queues pair --show 1 relay.msc
+  msc check --queues mailbox --closest --why --allow early relay.msc";
+
+/// What stands below the help of `msc run`.
+const RUN_NOTES: &str = "\
+Exit status:
+  0  all instances have finished
+  2  the text was refused, or the words are no command
+  3  some instance has not finished; how each ended was written, and the trace
+  4  memory ran out, a thread could not be started, or a file or the output failed
+
+Example:
+  msc run --queues mailbox relay.msc";
+
+/// The chart that a command reads.
+fn file<'a>(alloc: Global) -> Arg<'a> {
+    Arg::new(alloc, "FILE")
+        .help("The chart's text; - is standard input")
+        .required(true)
+}
+
+/// The architecture.
+fn queues<'a>(alloc: Global, choice: Choice<'a>) -> Arg<'a> {
+    Arg::new(alloc, "queues")
+        .long("queues")
+        .value_name(choice.shown)
+        .help("A queue for each sender and receiver, for each receiver, or for each message")
+        .value_parser(choice.words)
+        .required(true)
+}
+
+/// A kind of races that does not count.
+fn allow<'a>(alloc: Global, choice: Choice<'a>) -> Arg<'a> {
+    Arg::new(alloc, "allow")
+        .long("allow")
+        .value_name(choice.shown)
+        .help("Leave out the races of this kind, in the list and in the status; may be repeated")
+        .value_parser(choice.words)
+        .action(ArgAction::Append)
+}
+
+/// A word that stands alone, with what it is for.
+fn flag<'a>(alloc: Global, name: &'static str, help: &'static str) -> Arg<'a> {
+    Arg::new(alloc, name)
+        .long(name)
+        .help(help)
+        .action(ArgAction::SetTrue)
+}
+
+/// A number of 32 bits, with what it is for.
+fn number<'a>(alloc: Global, name: &'static str, help: &'static str) -> Arg<'a> {
+    Arg::new(alloc, name)
+        .long(name)
+        .value_name("N")
+        .help(help)
+        .value_parser(value_parser!(u32))
+}
+
+/// The words of `msc read`.
+fn read_words<'a>(alloc: Global) -> Result<Command<'a>, AllocError> {
+    Command::new(alloc, "read")
+        .about("Print the chart's canonical text")
+        .after_help(READ_NOTES)
+        .arg(file(alloc))
+}
+
+/// The words of `msc check`.
+fn check_words<'a>(
+    alloc: Global,
+    architectures: Choice<'a>,
+    kinds: Choice<'a>,
+) -> Result<Command<'a>, AllocError> {
+    let closest = "List the closest races alone, and print how many there are";
+    let why = "Print the kind of each race, and the pair of events that would have to be enforced";
+    let most = "List the first N races alone";
+    let show = "Print a run for each of the first N races; without it, for all";
+    Command::new(alloc, "check")
+        .about("Print whether the chart has races, and for each a run that shows it")
+        .after_help(CHECK_NOTES)
+        .arg(queues(alloc, architectures))?
+        .arg(flag(alloc, "closest", closest))?
+        .arg(flag(alloc, "why", why))?
+        .arg(number(alloc, "most", most))?
+        .arg(number(alloc, "show", show))?
+        .arg(allow(alloc, kinds))?
+        .arg(flag(alloc, "quiet", "Print nothing; the status tells").short('q'))?
+        .arg(file(alloc))
+}
+
+/// The words of `msc run`.
+fn run_words<'a>(alloc: Global, architectures: Choice<'a>) -> Result<Command<'a>, AllocError> {
+    let patience = "End an instance that looked in vain N times in a row; without it, 1000000000";
+    Command::new(alloc, "run")
+        .about("Run the chart on threads, and print how each instance ended and the trace")
+        .after_help(RUN_NOTES)
+        .arg(queues(alloc, architectures))?
+        .arg(number(alloc, "patience", patience))?
+        .arg(file(alloc))
+}
+
+/// The words that the program takes.
+pub fn grammar<'a>(
+    alloc: Global,
+    architectures: Choice<'a>,
+    kinds: Choice<'a>,
+) -> Result<Command<'a>, AllocError> {
+    Command::new(alloc, "msc")
+        .bin_name("msc")?
+        .version(VERSION)
+        .about("Check message sequence charts for races, and run them")
+        .subcommand_required(true)
+        .subcommand(read_words(alloc)?)?
+        .subcommand(check_words(alloc, architectures, kinds)?)?
+        .subcommand(run_words(alloc, architectures)?)
+}
+
+/// The kinds that are left out.
+fn allowed_of(words: &ArgMatches) -> KindSet {
+    let mut allowed = KindSet::EMPTY;
+    for word in words.get_strs("allow").unwrap_or(&[]) {
+        match RaceKind::of(word) {
+            Some(RaceKind::Early) => allowed.early = true,
+            Some(RaceKind::Queues) => allowed.queues = true,
+            Some(RaceKind::Unordered) => allowed.unordered = true,
+            Some(RaceKind::Overtaken) => allowed.overtaken = true,
+            None => {}
+        }
+    }
+    allowed
+}
+
+/// What the words of `msc check` name. Without an option besides `--show` it is the verdict.
+fn checking(queues: Queues, words: &ArgMatches) -> Task {
+    let view = View {
+        closest: words.get_flag("closest"),
+        why: words.get_flag("why"),
+        allowed: allowed_of(words),
+        most: words.get_one("most").unwrap_or(u32::MAX),
+        show: words.get_one("show").unwrap_or(u32::MAX),
+    };
+    if words.get_flag("quiet") {
+        return Task::Judge(queues, view);
+    }
+    if view.closest || view.why || !view.allowed.is_empty() || view.most < u32::MAX {
+        return Task::Study(queues, view);
+    }
+    Task::Check(queues, view.show)
+}
+
+/// The task that a command's words name, if they name one.
+pub fn task_of(command: &str, words: &ArgMatches) -> Option<Task> {
+    if command == "read" {
+        return Some(Task::Read);
+    }
+    let queues = Queues::of(words.get_str("queues")?)?;
+    if command == "run" {
+        let patience = words.get_one("patience").unwrap_or(PATIENCE);
+        return Some(Task::Run(queues, patience));
+    }
+    Some(checking(queues, words))
+}

@@ -1,0 +1,85 @@
+-- What a study of a verdict prints, and of a text.
+use Rattle.std.proofs.Common.{◌≡◌, ◌⊎◌, ℕ, Bool, List, ◌++◌, length, take, Option, Result, Ok, Err, ap, sym, subst, inr}
+use Rattle.std.specs.Prelude.{IfErr, IfOk}
+use Rattle.msc_chart.specs.declared.queue.Queues.{Queues}
+use Rattle.msc_chart.specs.Drawings.{Drawing, IsAccepted, chart_of}
+use Rattle.msc_chart.specs.Faults.{IsFaultless}
+use Rattle.msc_chart.specs.Orders.{wired, IsEnforcedOrder}
+use Rattle.msc_parser.specs.Grammar.{Tree}
+use Rattle.msc_parser.specs.Parsing.{HasDraft}
+use Rattle.msc_race.specs.declared.verdict.Verdict.{Verdict}
+use Rattle.msc_race.specs.Laws.{AChosenRunExists, ChosenRunsAreWhole, ChosenRunsReverseRaces}
+use Rattle.msc_race.specs.Races.{IsVerdict, TellsRuns}
+use Rattle.msc_reason.specs.Laws.{EachRaceHasOneKind}
+use Rattle.msc_reason.specs.declared.lack.Lack.{Lack}
+use Rattle.msc_report.specs.declared.fault.Fault.{Fault}
+use Rattle.msc_report.specs.declared.fault.Fault.TheVariants.{Parse, Chart, NotStarted, Memory, Device}
+use Rattle.msc_study.proofs.Lacking.{all_lacks}
+use Rattle.msc_study.specs.Counting.{IsListing}
+use Rattle.msc_study.specs.Lines.{head_text, races_text}
+use Rattle.msc_study.specs.Studying.{AreLacks, BeginsStudy, PrintsStudy, Studies, WritesStudy}
+use Rattle.msc_study.specs.declared.view.View.{View}
+use Rattle.msc_text.proofs.Answered.{chosen_runs, shows_races}
+use Rattle.msc_text.specs.Checking.{AreChosen}
+use Rattle.msc_text.specs.Pages.{Writes}
+
+module _ (queues : Queues) (d : Drawing) (view : View) (v : Verdict) (passed : Bool) where
+  -- what is written with chosen runs and with lacks is what is printed of a verdict
+  pub prints_study : (r : Result Bool Fault) (before after : Option (List ℕ)) (count : ℕ) (listed : List (ℕ × ℕ)) (order : ℕ → ℕ → Bool)
+      → IsAccepted d → IsEnforcedOrder (wired queues d) order → IsVerdict (wired queues d) v → IsListing (wired queues d) view count passed listed
+      → AChosenRunExists → ChosenRunsAreWhole → ChosenRunsReverseRaces → EachRaceHasOneKind
+      → ((lacks : ℕ → ℕ → Lack) (runs : ℕ → List ℕ) → AreLacks (wired queues d) lacks → AreChosen (wired queues d) runs
+      → Writes r before after (head_text d queues view v count (length listed) ++ races_text view d lacks runs (take view.most listed)))
+      → (printed : List ℕ) × PrintsStudy d queues view v passed printed × Writes r before after printed
+  prints_study r before after count listed order accepted enforced said made exists whole reverses one wrote =
+      let runs = chosen_runs queues d accepted exists in
+      let lacks = all_lacks queues d accepted one order enforced in (
+        head_text d queues view v count (length listed) ++ races_text view d lacks.0 runs.0 (take view.most listed),
+        record {
+          runs = runs.0;
+          chosen = runs.1;
+          reverse = shows_races queues d runs.0 v runs.1 said whole reverses;
+          lacks = lacks.0;
+          lacking = lacks.1;
+          allowed = made.left_out;
+          left_out = made.allowed;
+          listed = listed;
+          wanted = made.wanted;
+          answered = made.answered;
+          text = ap (λ (n : ℕ). head_text d queues view v n (length listed) ++ races_text view d lacks.0 runs.0 (take view.most listed)) (sym made.counted);
+        },
+        wrote lacks.0 runs.0 lacks.1 runs.1,
+      )
+
+  -- a study of the chart of a text's draft is printed of the text
+  pub studies : (text : List ℕ) (draft : Tree) (printed : List ℕ) → HasDraft text draft → IsFaultless draft → d ≡ chart_of draft
+      → IsVerdict (wired queues d) v → TellsRuns (wired queues d) v → PrintsStudy d queues view v passed printed
+      → Studies text queues view passed printed
+  studies text draft printed has faultless same races reversed shown = record {
+    draft = draft;
+    has = has;
+    faultless = faultless;
+    verdict = v;
+    races = subst (λ (d : Drawing). IsVerdict (wired queues d) v) same races;
+    reversed = subst (λ (d : Drawing). TellsRuns (wired queues d) v) same reversed;
+    shown = subst (λ (d : Drawing). PrintsStudy d queues view v passed printed) same shown;
+  }
+
+  -- what was written is what is printed of the text
+  pub writes_study : (r : Result Bool Fault) (text printed : List ℕ) (before after : Option (List ℕ))
+      → Writes r before after printed → IfOk r (λ told. told ≡ passed) → Studies text queues view passed printed
+      → IfOk r (λ told. WritesStudy text queues view told before after)
+  writes_study (Ok told) text printed before after wrote answered prints =
+      (printed, subst (λ (b : Bool). Studies text queues view b printed) (sym answered) prints, wrote)
+  writes_study (Err e) text printed before after wrote answered prints = tt
+
+  -- or, where memory ran out, a beginning of it
+  pub begins_study : (A : Type 0) (r : Result Bool Fault) (text printed : List ℕ) (before after : Option (List ℕ))
+      → Writes r before after printed → Studies text queues view passed printed
+      → IfErr r (λ e. e ≡ Memory → A ⊎ BeginsStudy text queues view before after)
+  begins_study A (Ok told) text printed before after wrote prints = tt
+  begins_study A (Err Memory) text printed before after wrote prints = λ _. inr (passed, printed, prints, wrote)
+  begins_study A (Err Device) text printed before after wrote prints = λ memory. absurd cc
+  begins_study A (Err (Parse f)) text printed before after wrote prints = absurd wrote
+  begins_study A (Err (Chart f)) text printed before after wrote prints = absurd wrote
+  begins_study A (Err (NotStarted i)) text printed before after wrote prints = absurd wrote
