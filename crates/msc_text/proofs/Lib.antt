@@ -5,3 +5,4 @@ pub mod PageLemmas
 pub mod Shown
 pub mod Answered
 pub mod Inputs
+pub mod RunEvents

@@ -1,9 +1,8 @@
 -- What running a chart answers.
-use Rattle.std.proofs.Common.{◌≡◌, ◌≢◌, ℕ, ◌<◌, Bool, List, [], ◌∷◌, ◌++◌, length, Option, Some, Result, Ok, Err, IsTrue, ◌↔◌, subst, ap, ◌∙◌, arith}
+use Rattle.std.proofs.Common.{◌≡◌, ◌≢◌, ℕ, ◌<◌, Bool, List, length, Option, Some, Result, Ok, Err, IsTrue, ◌↔◌, subst, ap, ◌∙◌}
 use Rattle.std.specs.Prelude.{IfOk, IfErr}
 use Rattle.std.specs.Io.KnownBytes.{Appends}
 use Rattle.std.specs.List.{All}
-use Rattle.std.proofs.lemmas.List.Elements.{All-cons}
 use Rattle.msc_parser.specs.declared.fault.ParseFault.{ParseFault}
 use Rattle.msc_parser.specs.Grammar.{Tree}
 use Rattle.msc_parser.specs.Parsing.{HasDraft}
@@ -11,9 +10,7 @@ use Rattle.msc_chart.specs.declared.fault.ChartFault.{ChartFault}
 use Rattle.msc_chart.specs.declared.queue.Queues.{Queues}
 use Rattle.msc_chart.specs.Drawings.{Drawing, IsAccepted, chart_of}
 use Rattle.msc_chart.specs.Faults.{IsFaultless}
-use Rattle.msc_chart.specs.Lists.{Steps}
-use Rattle.msc_chart.specs.Orders.{WiredChart, wired}
-use Rattle.msc_chart.specs.Runs.{Run, MayCome}
+use Rattle.msc_chart.specs.Orders.{wired}
 use Rattle.msc_execution.specs.declared.end.End.{End}
 use Rattle.msc_execution.specs.Executions.{Outcome, IsExecution, AreFinished, IsFinished}
 use Rattle.msc_gather.specs.Gathering.{IsGathered}
@@ -21,6 +18,7 @@ use Rattle.msc_gather.specs.Laws.{WholeLogsGiveWholeTraces}
 use Rattle.msc_report.specs.declared.fault.Fault.{Fault}
 use Rattle.msc_report.specs.declared.fault.Fault.TheVariants.{Parse, Chart, NotStarted, Memory, Device}
 use Rattle.msc_report.specs.Traces.{trace_text}
+use Rattle.msc_text.proofs.RunEvents.{run_events}
 use Rattle.msc_tool.specs.Ran.{IsRunFault}
 use Rattle.msc_tool.specs.Running.{NamesAnInstance, PrintsExecution, WritesTrace}
 
@@ -58,20 +56,10 @@ pub ran_names_of : {A : Type 0} (r : Result A Fault) (text : List ℕ) (draft : 
 ran_names_of {A} r text draft d has faultless same said i e =
     (draft, has, faultless, subst (λ (d : Drawing). i < length d.instances) same (ran_names r d said i e))
 
--- what may come is an event of the chart
-steps_events : (chart : WiredChart) (past events : List ℕ) → Steps (MayCome chart) past events → All (λ e. e < length chart.events) events
-steps_events chart past [] steps = λ k x within. absurd (omega (arith, within))
-steps_events chart past (e ∷ es) steps =
-    All-cons (λ e. e < length chart.events) e es steps.0.event (steps_events chart (past ++ e ∷ []) es steps.1)
-
--- so a run is of events of the chart
-pub run_events : (chart : WiredChart) (events : List ℕ) → Run chart events → All (λ e. e < length chart.events) events
-run_events chart events run = steps_events chart [] events run
-
--- and so is a trace
+-- a trace is of events of the chart
 pub trace_events : (queues : Queues) (d : Drawing) (logs : List (List ℕ)) (events : List ℕ)
     → IsGathered (wired queues d) (length d.instances) logs events → All (λ e. e < length d.events) events
-trace_events queues d logs events gathered = steps_events (wired queues d) [] events gathered.run
+trace_events queues d logs events gathered = run_events (wired queues d) events gathered.run
 
 -- an execution and its trace are what is printed
 pub prints_execution : (d : Drawing) (queues : Queues) (open' : Bool) (patience : ℕ) (o : Outcome) (ends : List End) (trace events : List ℕ) (finished : Bool)
