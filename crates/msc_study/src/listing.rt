@@ -96,7 +96,15 @@ pub fn list_races(
     let passed = some.is_empty();
     if view.closest {
         let near = near_races(alloc, chart, queues, order, view)?;
-        return Ok(Listing { allowed, passed, listed: near });
+        return Ok(Listing {
+            allowed,
+            passed,
+            listed: near,
+        });
     }
-    Ok(Listing { allowed, passed, listed: some })
+    Ok(Listing {
+        allowed,
+        passed,
+        listed: some,
+    })
 }

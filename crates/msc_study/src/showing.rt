@@ -83,7 +83,10 @@ fn line_for(
         IsLine (wired queues chart.now) shown next.of next.bytes.items) }
 {
     if !shown {
-        return Ok(Line { of: e, bytes: Vec::new(alloc) });
+        return Ok(Line {
+            of: e,
+            bytes: Vec::new(alloc),
+        });
     }
     if last.of == e {
         return Ok(last);
@@ -116,7 +119,10 @@ fn put_part<W: Write>(
         page.old.bytes.items page.new.bytes.items
         (part_text why shown chart.now lacks runs races.now) }
 {
-    let mut line = Line { of: chart.events(), bytes: Vec::new(alloc) };
+    let mut line = Line {
+        of: chart.events(),
+        bytes: Vec::new(alloc),
+    };
     for race in races {
         line = line_for(alloc, chart, queues, order, texts, shown, race.0, line)?;
         let bytes = line.bytes.as_slice();
@@ -150,6 +156,10 @@ pub fn put_races<W: Write>(
     let texts = EventTexts::new(alloc, chart)?;
     let (printed, _) = races.split_at((view.most as usize).min(races.len()));
     let (shown, others) = printed.split_at((view.show as usize).min(printed.len()));
-    put_part(alloc, writer, page, chart, queues, order, &texts, view.why, true, shown)?;
-    put_part(alloc, writer, page, chart, queues, order, &texts, view.why, false, others)
+    put_part(
+        alloc, writer, page, chart, queues, order, &texts, view.why, true, shown,
+    )?;
+    put_part(
+        alloc, writer, page, chart, queues, order, &texts, view.why, false, others,
+    )
 }

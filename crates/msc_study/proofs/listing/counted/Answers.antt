@@ -10,9 +10,11 @@ use Rattle.msc_study.proofs.listing.counted.Goals.{then-not-has+in_ok-push, else
 
 pub loop-race-init : goal.loop-race-init
 loop-race-init c =
-    let chart = wired c.args.queues c.args.chart.now in
-    ([], subst (λ (some : List (ℕ × ℕ)). Splits (Counts chart c.args.allowed) (Allowed chart c.args.allowed) [] some [])
-    (sym c.new-some.ensures.items) Splits.done)
+    let chart = wired c.args.queues c.args.chart.now in (
+      [],
+      subst (λ (some : List (ℕ × ℕ)). Splits (Counts chart c.args.allowed) (Allowed chart c.args.allowed) [] some [])
+          (sym c.new-some.ensures.items) Splits.done,
+    )
 
 pub kind_of-kind-requires-clause-race : goal.kind_of-kind-requires-clause-race
 kind_of-kind-requires-clause-race c =
