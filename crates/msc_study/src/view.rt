@@ -8,9 +8,13 @@ use msc_reason::RaceKind;
 /// A set of kinds of races.
 #[derive(Clone, Copy, Debug, PartialEq, Eq)]
 pub struct KindSet {
+    /// Whether it has [`RaceKind::Early`].
     pub early: bool,
+    /// Whether it has [`RaceKind::Queues`].
     pub queues: bool,
+    /// Whether it has [`RaceKind::Unordered`].
     pub unordered: bool,
+    /// Whether it has [`RaceKind::Overtaken`].
     pub overtaken: bool,
 }
 
