@@ -1,11 +1,11 @@
 -- What the status tells of an answer, and that a flush keeps it.
-use Rattle.std.proofs.Common.{ℕ, List, Option, Some, None, inl, inr, refl, ◌∙◌}
+use Rattle.std.proofs.Common.{◌≡◌, ℕ, List, Option, Some, None, inl, inr, refl, ◌∙◌}
 use Rattle.std.specs.Io.KnownBytes.{Appends, Keeps}
 use Rattle.msc_command.specs.declared.program.Status.{Status}
 use Rattle.msc_command.specs.declared.program.Status.TheVariants.{Done, Races, Refused, Unfinished, Failed}
 use Rattle.msc_command.specs.declared.words.Task.{Task}
 use Rattle.msc_command.specs.declared.words.Task.TheVariants.{Read, Check, Study, Judge, Run}
-use Rattle.msc_command.specs.Program.{Prints, WritesAnswer}
+use Rattle.msc_command.specs.Program.{status_code, Prints, TellsRaces, WritesAnswer}
 
 -- the answer of a task is what its status tells
 pub prints : (task : Task) (text : List ℕ) (status : Status) (before after : Option (List ℕ))
@@ -23,6 +23,14 @@ prints (Check queues show) text Unfinished before after told = absurd told
 prints (Study queues view) text Unfinished before after told = absurd told
 prints (Judge queues view) text Unfinished before after told = absurd told
 prints (Run queues patience) text Unfinished before after told = (text, queues, patience, told)
+
+-- where the exit status is 1, the answer tells of races
+pub told_races : (status : Status) (before after : Option (List ℕ)) → Prints status before after → status_code status ≡ 1 → TellsRaces before after
+told_races Done before after told one = absurd cc
+told_races Races before after told one = told
+told_races Refused before after told one = absurd cc
+told_races Unfinished before after told one = absurd cc
+told_races Failed before after told one = absurd cc
 
 -- bytes that are kept were written
 kept : (before mid after : Option (List ℕ)) (bytes : List ℕ) → Appends before mid bytes → Keeps mid after → Appends before after bytes
