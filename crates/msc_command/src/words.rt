@@ -222,18 +222,29 @@ fn allowed_of(words: &ArgMatches) -> KindSet {
     allowed
 }
 
-/// What the words of `msc check` name. Without an option besides `--show` it is the verdict.
+/// What the words of `msc check` name. Without an option besides `--show` it is the verdict; what
+/// is to be quiet lists no race.
 fn checking(queues: Queues, words: &ArgMatches) -> Task {
+    let allowed = allowed_of(words);
+    if words.get_flag("quiet") {
+        return Task::Judge(
+            queues,
+            View {
+                closest: false,
+                why: false,
+                allowed,
+                most: 0,
+                show: 0,
+            },
+        );
+    }
     let view = View {
         closest: words.get_flag("closest"),
         why: words.get_flag("why"),
-        allowed: allowed_of(words),
+        allowed,
         most: words.get_one("most").unwrap_or(u32::MAX),
         show: words.get_one("show").unwrap_or(u32::MAX),
     };
-    if words.get_flag("quiet") {
-        return Task::Judge(queues, view);
-    }
     if view.closest || view.why || !view.allowed.is_empty() || view.most < u32::MAX {
         return Task::Study(queues, view);
     }
