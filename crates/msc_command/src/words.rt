@@ -90,7 +90,7 @@ Exit status:
   2  the text was refused, or the words are no command
   4  memory ran out, or a file or the output failed
 
-Examples:
+Example:
   msc check --queues pair --show 1 relay.msc
   msc check --queues mailbox --closest --why --allow early relay.msc";
 
