@@ -1,11 +1,15 @@
 -- What the status tells of an answer, and that a flush keeps it.
-use Rattle.std.proofs.Common.{◌≡◌, ℕ, List, Option, Some, None, inl, inr, refl, ◌∙◌}
+use Rattle.std.proofs.Common.{◌≡◌, ℕ, List, Option, Some, None, codes, inl, inr, refl, ◌∙◌}
 use Rattle.std.specs.Io.KnownBytes.{Appends, Keeps}
+use Rattle.clap.specs.Matches.{first_value}
+use Rattle.clap.specs.declared.parser.matches.Found.{Found}
+use Rattle.msc_text.specs.Reading.{IsReadFrom}
 use Rattle.msc_command.specs.declared.program.Status.{Status}
 use Rattle.msc_command.specs.declared.program.Status.TheVariants.{Done, Races, Refused, Unfinished, Failed}
 use Rattle.msc_command.specs.declared.words.Task.{Task}
 use Rattle.msc_command.specs.declared.words.Task.TheVariants.{Read, Check, Study, Judge, Run}
-use Rattle.msc_command.specs.Program.{status_code, Prints, TellsRaces, WritesAnswer}
+use Rattle.msc_command.specs.Program.{status_code, Obeys, Prints, TellsRaces, WritesAnswer}
+use Rattle.msc_command.specs.Words.{AsksFor}
 
 -- the answer of a task is what its status tells
 pub prints : (task : Task) (text : List ℕ) (status : Status) (before after : Option (List ℕ))
@@ -23,6 +27,25 @@ prints (Check queues show) text Unfinished before after told = absurd told
 prints (Study queues view) text Unfinished before after told = absurd told
 prints (Judge queues view) text Unfinished before after told = absurd told
 prints (Run queues patience) text Unfinished before after told = (text, queues, patience, told)
+
+-- an answer to what the words of a command ask for
+pub obeys : (command : List ℕ) (found : Found) (task : Task) (text : List ℕ) (status : Status) (rest left before after : Option (List ℕ))
+    → AsksFor command found task → (first_value found (codes "FILE") ≡ Some (codes "-") → IsReadFrom rest left text)
+    → WritesAnswer task text status before after → Obeys command found status rest left before after
+obeys command found task text Done rest left before after asks reads told = (task, text, asks, reads, told)
+obeys command found task text Races rest left before after asks reads told = (task, text, asks, reads, told)
+obeys command found task text Refused rest left before after asks reads told = tt
+obeys command found task text Unfinished rest left before after asks reads told = (task, text, asks, reads, told)
+obeys command found task text Failed rest left before after asks reads told = tt
+
+-- its status tells of it
+pub obeyed : (command : List ℕ) (found : Found) (status : Status) (rest left before after : Option (List ℕ))
+    → Obeys command found status rest left before after → Prints status before after
+obeyed command found Done rest left before after done = tt
+obeyed command found Races rest left before after done = prints done.0 done.1 Races before after done.4
+obeyed command found Refused rest left before after done = tt
+obeyed command found Unfinished rest left before after done = prints done.0 done.1 Unfinished before after done.4
+obeyed command found Failed rest left before after done = tt
 
 -- where the exit status is 1, the answer tells of races
 pub told_races : (status : Status) (before after : Option (List ℕ)) → Prints status before after → status_code status ≡ 1 → TellsRaces before after

@@ -1,6 +1,8 @@
 -- What the program answers, and its exit statuses.
-use Rattle.std.specs.Prelude.{◌⊎◌, ℕ, Bool, List, Option, true, false}
+use Rattle.std.specs.Prelude.{◌≡◌, ◌⊎◌, ℕ, Bool, List, Option, Some, codes, true, false}
 use Rattle.std.specs.Io.KnownBytes.{Keeps}
+use Rattle.clap.specs.Matches.{first_value}
+use Rattle.clap.specs.declared.parser.matches.Found.{Found}
 use Rattle.msc_chart.specs.declared.queue.Queues.{Queues}
 use Rattle.msc_report.specs.declared.fault.Fault.{Fault}
 use Rattle.msc_report.specs.declared.fault.Fault.TheVariants.{Parse, Chart, NotStarted, Memory, Device}
@@ -12,7 +14,9 @@ use Rattle.msc_study.specs.declared.view.View.{View}
 use Rattle.msc_study.specs.Studying.{Studies, WritesStudy}
 use Rattle.msc_text.specs.Answers.{WritesDraft}
 use Rattle.msc_text.specs.Checking.{WritesVerdict}
+use Rattle.msc_text.specs.Reading.{IsReadFrom}
 use Rattle.msc_tool.specs.Running.{WritesTrace}
+use Rattle.msc_command.specs.Words.{AsksFor}
 
 -- the exit status for how a run ended
 abbrev pub status_code : Status → ℕ
@@ -50,6 +54,16 @@ WritesAnswer (Run queues patience) text Done before after =
 WritesAnswer (Run queues patience) text Unfinished before after =
     WritesTrace text queues true patience false before after
 WritesAnswer task text status before after = ⊥
+
+-- The words of a command were obeyed as a status tells: what went out is the answer of a task that
+-- they ask for, to all bytes of the input where FILE is `-`.
+abbrev pub Obeys : List ℕ → Found → Status → Option (List ℕ) → Option (List ℕ) → Option (List ℕ) → Option (List ℕ) → Type 0
+Obeys command found Refused rest left before after = Unit {0}
+Obeys command found Failed rest left before after = Unit {0}
+Obeys command found status rest left before after =
+    (task : Task) × (text : List ℕ) × AsksFor command found task
+    × (first_value found (codes "FILE") ≡ Some (codes "-") → IsReadFrom rest left text)
+    × WritesAnswer task text status before after
 
 -- a whole verdict with races went behind the known bytes of a writer
 abbrev pub PrintsRaces : Option (List ℕ) → Option (List ℕ) → Type 0

@@ -3,7 +3,8 @@
 ghost use Rattle.std.specs.Prelude.{◌≡◌, ◌≢◌, ◌⊎◌, codes, IfOk, List, Option, ℕ};
 ghost use Rattle.std.specs.IoError.{error_kind};
 ghost use Rattle.std.specs.declared.io.ErrorKind.TheVariants.{OutOfMemory};
-ghost use Rattle.msc_command.specs.Program.{status_code, status_of, Prints, PrintsUnfinished, TellsRaces, WritesAnswer};
+ghost use Rattle.clap.specs.Matches.{found_of};
+ghost use Rattle.msc_command.specs.Program.{status_code, status_of, Obeys, Prints, PrintsUnfinished, TellsRaces, WritesAnswer};
 ghost use Rattle.msc_text.specs.Reading.{IsReadFrom};
 
 use crate::words::{Choice, Task, architectures, grammar, joined, kinds, task_of};
@@ -161,16 +162,15 @@ fn explain<O: Write, E: Write>(output: &mut O, faults: &mut E, error: &Error) ->
 fn obey<R: Files + Threads + Wait + Sync, I: Read, O: Write, E: Write>(
     rt: &R,
     alloc: Global,
-    matches: &ArgMatches,
+    command: &str,
+    words: &ArgMatches,
     input: &mut I,
     output: &mut O,
     faults: &mut E,
 ) -> Status
-    ensures { Prints result (O.contents output.old) (O.contents output.new) }
+    ensures { Obeys command.now (found_of words.now) result (I.remaining input.old)
+        (I.remaining input.new) (O.contents output.old) (O.contents output.new) }
 {
-    let Some((command, words)) = matches.subcommand() else {
-        return Status::Refused;
-    };
     let Some(task) = task_of(command, words) else {
         return Status::Refused;
     };
@@ -178,6 +178,23 @@ fn obey<R: Files + Threads + Wait + Sync, I: Read, O: Write, E: Write>(
     match perform_on(rt, alloc, task, file, input, output) {
         Ok(status) => status,
         Err(fault) => end_with(faults, fault),
+    }
+}
+
+/// Does what the words ask for that `clap` took, and tells how the run ended.
+fn obey_matches<R: Files + Threads + Wait + Sync, I: Read, O: Write, E: Write>(
+    rt: &R,
+    alloc: Global,
+    matches: &ArgMatches,
+    input: &mut I,
+    output: &mut O,
+    faults: &mut E,
+) -> Status
+    ensures { Prints result (O.contents output.old) (O.contents output.new) }
+{
+    match matches.subcommand() {
+        Some((command, words)) => obey(rt, alloc, command, words, input, output, faults),
+        None => Status::Refused,
     }
 }
 
@@ -210,7 +227,7 @@ fn run<R: Files + Threads + Wait + Sync, I: Read, O: Write, E: Write>(
         },
     )?;
     match command.try_get_matches_from(words) {
-        Ok(matches) => Ok(obey(rt, alloc, &matches, input, output, faults)),
+        Ok(matches) => Ok(obey_matches(rt, alloc, &matches, input, output, faults)),
         Err(error) => Ok(explain(output, faults, &error)),
     }
 }

@@ -1,5 +1,9 @@
 //! The words of the command line, and what they ask for.
 
+ghost use Rattle.std.specs.Prelude.{◌≡◌, MatchOption, Some, map};
+ghost use Rattle.clap.specs.Matches.{found_of};
+ghost use Rattle.msc_command.specs.Words.{architecture, is_study, names_kind, AreAllowed, AsksFor, AsksToCheck, IsFlag, IsNumber, IsUnknown, IsView};
+
 use clap::{Arg, ArgAction, ArgMatches, Command, value_parser};
 use msc_chart::Queues;
 use msc_reason::RaceKind;
@@ -207,59 +211,106 @@ pub fn grammar<'a>(
         .subcommand(run_words(alloc, architectures)?)
 }
 
-/// The kinds that are left out.
-fn allowed_of(words: &ArgMatches) -> KindSet {
-    let mut allowed = KindSet::EMPTY;
-    for word in words.get_strs("allow").unwrap_or(&[]) {
-        match RaceKind::of(word) {
-            Some(RaceKind::Early) => allowed.early = true,
-            Some(RaceKind::Queues) => allowed.queues = true,
-            Some(RaceKind::Unordered) => allowed.unordered = true,
-            Some(RaceKind::Overtaken) => allowed.overtaken = true,
-            None => {}
-        }
-    }
-    allowed
+/// The number of an option, and `without` where it does not stand.
+fn number_of(words: &ArgMatches, name: &str, without: u32) -> u32
+    ensures { IsNumber (found_of words.now) name.now without result }
+{
+    words.get_one(name).unwrap_or(without)
 }
 
-/// What the words of `msc check` name. Without an option besides `--show` it is the verdict; what
+/// Whether a flag stands.
+fn is_given(words: &ArgMatches, name: &str) -> bool
+    ensures { IsFlag (found_of words.now) name.now result }
+{
+    words.get_flag(name)
+}
+
+/// Whether a kind is left out.
+fn is_allowed(words: &[&str], kind: RaceKind) -> bool
+    ensures { result ≡ names_kind (map (λ word. word.now) words.now) kind }
+{
+    words.contains(&kind.word())
+}
+
+/// The kinds that are left out.
+fn allowed_of(words: &ArgMatches) -> KindSet
+    ensures { AreAllowed (found_of words.now) result }
+{
+    let kinds = words.get_strs("allow").unwrap_or(&[]);
+    KindSet {
+        early: is_allowed(kinds, RaceKind::Early),
+        queues: is_allowed(kinds, RaceKind::Queues),
+        unordered: is_allowed(kinds, RaceKind::Unordered),
+        overtaken: is_allowed(kinds, RaceKind::Overtaken),
+    }
+}
+
+/// What is to be seen of the races.
+fn view_of(words: &ArgMatches) -> View
+    ensures { IsView (found_of words.now) result }
+{
+    View {
+        closest: is_given(words, "closest"),
+        why: is_given(words, "why"),
+        allowed: allowed_of(words),
+        most: number_of(words, "most", u32::MAX),
+        show: number_of(words, "show", u32::MAX),
+    }
+}
+
+/// Whether more or less is to be seen than a verdict and its races with runs.
+fn is_study(view: View) -> bool
+    ensures { result ≡ is_study view }
+{
+    let leaves_out = !view.allowed.is_empty();
+    view.closest || view.why || leaves_out || view.most < u32::MAX
+}
+
+/// What the words of `msc check` ask for. Without an option besides `--show` it is the verdict; what
 /// is to be quiet lists no race.
-fn checking(queues: Queues, words: &ArgMatches) -> Task {
-    let allowed = allowed_of(words);
-    if words.get_flag("quiet") {
+fn checking(queues: Queues, words: &ArgMatches) -> Task
+    ensures { architecture (found_of words.now) ≡ Some queues → AsksToCheck (found_of words.now) result }
+{
+    if is_given(words, "quiet") {
         return Task::Judge(
             queues,
             View {
                 closest: false,
                 why: false,
-                allowed,
+                allowed: allowed_of(words),
                 most: 0,
                 show: 0,
             },
         );
     }
-    let view = View {
-        closest: words.get_flag("closest"),
-        why: words.get_flag("why"),
-        allowed,
-        most: words.get_one("most").unwrap_or(u32::MAX),
-        show: words.get_one("show").unwrap_or(u32::MAX),
-    };
-    if view.closest || view.why || !view.allowed.is_empty() || view.most < u32::MAX {
+    let view = view_of(words);
+    if is_study(view) {
         return Task::Study(queues, view);
     }
     Task::Check(queues, view.show)
 }
 
-/// The task that a command's words name, if they name one.
-pub fn task_of(command: &str, words: &ArgMatches) -> Option<Task> {
+/// The architecture that the words name.
+fn queues_of(words: &ArgMatches) -> Option<Queues>
+    ensures { result ≡ architecture (found_of words.now) }
+{
+    Queues::of(words.get_str("queues")?)
+}
+
+/// What the words of a command ask for, if they name it.
+pub fn task_of(command: &str, words: &ArgMatches) -> Option<Task>
+    ensures { MatchOption result (IsUnknown command.now (found_of words.now))
+        (AsksFor command.now (found_of words.now)) }
+{
     if command == "read" {
         return Some(Task::Read);
     }
-    let queues = Queues::of(words.get_str("queues")?)?;
+    let queues = queues_of(words)?;
     if command == "run" {
-        let patience = words.get_one("patience").unwrap_or(PATIENCE);
-        return Some(Task::Run(queues, patience));
+        return Some(Task::Run(queues, number_of(words, "patience", PATIENCE)));
     }
-    Some(checking(queues, words))
+    if command == "check" {
+        return Some(checking(queues, words));
+    }
+    None
 }
