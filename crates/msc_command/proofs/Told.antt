@@ -7,7 +7,7 @@ use Rattle.msc_text.specs.Reading.{IsReadFrom}
 use Rattle.msc_command.specs.declared.program.Status.{Status}
 use Rattle.msc_command.specs.declared.program.Status.TheVariants.{Done, Races, Refused, Unfinished, Failed}
 use Rattle.msc_command.specs.declared.words.Task.{Task}
-use Rattle.msc_command.specs.declared.words.Task.TheVariants.{Read, Check, Study, Judge, Run}
+use Rattle.msc_command.specs.declared.words.Task.TheVariants.{Read, Check, Study, Judge, Explain, Run}
 use Rattle.msc_command.specs.Program.{status_code, Obeys, Prints, TellsRaces, WritesAnswer}
 use Rattle.msc_command.specs.Words.{AsksFor}
 
@@ -20,12 +20,14 @@ prints task text Failed before after told = tt
 prints Read text Races before after told = absurd told
 prints (Check queues show) text Races before after told = inl (text, queues, show, told)
 prints (Study queues view) text Races before after told = inr (inl (text, queues, view, told))
-prints (Judge queues view) text Races before after told = inr (inr (text, queues, view, told))
+prints (Judge queues view) text Races before after told = inr (inr (inl (text, queues, view, told)))
+prints (Explain queues e f) text Races before after told = inr (inr (inr (text, queues, e, f, told)))
 prints (Run queues patience) text Races before after told = absurd told
 prints Read text Unfinished before after told = absurd told
 prints (Check queues show) text Unfinished before after told = absurd told
 prints (Study queues view) text Unfinished before after told = absurd told
 prints (Judge queues view) text Unfinished before after told = absurd told
+prints (Explain queues e f) text Unfinished before after told = absurd told
 prints (Run queues patience) text Unfinished before after told = (text, queues, patience, told)
 
 -- an answer to what the words of a command ask for
@@ -98,6 +100,11 @@ answer_kept (Judge queues view) text Races before mid after told keeps = (told.0
 answer_kept (Judge queues view) text Refused before mid after told keeps = told
 answer_kept (Judge queues view) text Unfinished before mid after told keeps = told
 answer_kept (Judge queues view) text Failed before mid after told keeps = told
+answer_kept (Explain queues e f) text Done before mid after told keeps = (told.0, told.1, kept before mid after _ told.2 keeps)
+answer_kept (Explain queues e f) text Races before mid after told keeps = (told.0, told.1, kept before mid after _ told.2 keeps)
+answer_kept (Explain queues e f) text Refused before mid after told keeps = told
+answer_kept (Explain queues e f) text Unfinished before mid after told keeps = told
+answer_kept (Explain queues e f) text Failed before mid after told keeps = told
 answer_kept (Run queues patience) text Done before mid after told keeps = (told.0, told.1, kept before mid after _ told.2 keeps)
 answer_kept (Run queues patience) text Unfinished before mid after told keeps = (told.0, told.1, kept before mid after _ told.2 keeps)
 answer_kept (Run queues patience) text Races before mid after told keeps = told

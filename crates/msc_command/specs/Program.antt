@@ -8,9 +8,12 @@ use Rattle.msc_report.specs.declared.fault.Fault.{Fault}
 use Rattle.msc_report.specs.declared.fault.Fault.TheVariants.{Parse, Chart, NotStarted, Memory, Device}
 use Rattle.msc_command.specs.declared.program.Status.{Status}
 use Rattle.msc_command.specs.declared.program.Status.TheVariants.{Done, Races, Refused, Unfinished, Failed}
+use Rattle.msc_command.specs.declared.program.Refusal.{Refusal}
+use Rattle.msc_command.specs.declared.program.Refusal.TheVariants as refusals
 use Rattle.msc_command.specs.declared.words.Task.{Task}
-use Rattle.msc_command.specs.declared.words.Task.TheVariants.{Read, Check, Study, Judge, Run}
+use Rattle.msc_command.specs.declared.words.Task.TheVariants.{Read, Check, Study, Judge, Explain, Run}
 use Rattle.msc_study.specs.declared.view.View.{View}
+use Rattle.msc_study.specs.Explaining.{WritesReason}
 use Rattle.msc_study.specs.Studying.{Studies, WritesStudy}
 use Rattle.msc_text.specs.Answers.{WritesDraft}
 use Rattle.msc_text.specs.Checking.{WritesVerdict}
@@ -34,6 +37,11 @@ status_of (NotStarted i) = Failed
 status_of Memory = Failed
 status_of Device = Failed
 
+-- how a run ends that is refused
+abbrev pub ends_as : Refusal → Status
+ends_as (refusals.Fault f) = status_of f
+ends_as (refusals.Pair f) = Refused
+
 -- a study has been made of a text, whose answer is told, and the known bytes of a writer are kept
 abbrev pub JudgesText : List ℕ → Queues → View → Bool → Option (List ℕ) → Option (List ℕ) → Type 0
 JudgesText text queues view passed before after =
@@ -49,6 +57,8 @@ WritesAnswer (Study queues view) text Done before after = WritesStudy text queue
 WritesAnswer (Study queues view) text Races before after = WritesStudy text queues view false before after
 WritesAnswer (Judge queues view) text Done before after = JudgesText text queues view true before after
 WritesAnswer (Judge queues view) text Races before after = JudgesText text queues view false before after
+WritesAnswer (Explain queues e f) text Done before after = WritesReason text queues e f true before after
+WritesAnswer (Explain queues e f) text Races before after = WritesReason text queues e f false before after
 WritesAnswer (Run queues patience) text Done before after =
     WritesTrace text queues true patience true before after
 WritesAnswer (Run queues patience) text Unfinished before after =
@@ -80,10 +90,16 @@ abbrev pub FindsRaces : Option (List ℕ) → Option (List ℕ) → Type 0
 FindsRaces before after =
     (text : List ℕ) × (queues : Queues) × (view : View) × JudgesText text queues view false before after
 
--- what tells of races: a whole verdict that has them, a whole study of some that count, or nothing
--- where nothing is to be printed
+-- a whole explanation of a pair that is not enforced went behind the known bytes of a writer
+abbrev pub PrintsFree : Option (List ℕ) → Option (List ℕ) → Type 0
+PrintsFree before after =
+    (text : List ℕ) × (queues : Queues) × (e : ℕ) × (f : ℕ) × WritesReason text queues e f false before after
+
+-- what tells of races, or of a pair that is not enforced: a whole verdict that has races, a whole
+-- study of some that count, or nothing where nothing is to be printed; or a whole explanation
 abbrev pub TellsRaces : Option (List ℕ) → Option (List ℕ) → Type 0
-TellsRaces before after = PrintsRaces before after ⊎ (PrintsStudied before after ⊎ FindsRaces before after)
+TellsRaces before after =
+    PrintsRaces before after ⊎ (PrintsStudied before after ⊎ (FindsRaces before after ⊎ PrintsFree before after))
 
 -- a whole answer went behind the known bytes of a writer, of an execution that is not finished
 abbrev pub PrintsUnfinished : Option (List ℕ) → Option (List ℕ) → Type 0

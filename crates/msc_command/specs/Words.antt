@@ -15,7 +15,7 @@ use Rattle.msc_study.specs.Views.{has_kind, is_empty}
 use Rattle.msc_study.specs.declared.view.KindSet.{KindSet}
 use Rattle.msc_study.specs.declared.view.View.{View}
 use Rattle.msc_command.specs.declared.words.Task.{Task}
-use Rattle.msc_command.specs.declared.words.Task.TheVariants.{Read, Check, Study, Judge, Run}
+use Rattle.msc_command.specs.declared.words.Task.TheVariants.{Read, Check, Study, Judge, Explain, Run}
 
 -- the architecture that the words name
 abbrev pub architecture : Found → Option Queues
@@ -27,7 +27,7 @@ pub record IsFlag (found : Found) (id : List ℕ) (given : Bool) : Type 0 where
   pub yes : one_text found id ≡ Some (codes "true") → given ≡ true
   pub no : one_text found id ≡ Some (codes "false") → given ≡ false
 
--- the number of an option, and what it is without it
+-- the number of an option or an argument, and what it is without it
 pub record IsNumber (found : Found) (id : List ℕ) (without n : ℕ) : Type 0 where
   pub absent : one_text found id ≡ None → n ≡ without
   pub given : (text : List ℕ) → one_text found id ≡ Some text
@@ -73,6 +73,9 @@ AsksToCheck found task = ⊥
 -- what the words of a command ask for
 abbrev pub AsksFor : List ℕ → Found → Task → Type 0
 AsksFor command found Read = command ≡ codes "read"
+AsksFor command found (Explain queues e f) =
+    (command ≡ codes "explain") × IsNumber found (codes "E") 0 e × IsNumber found (codes "F") 0 f
+    × (architecture found ≡ Some queues)
 AsksFor command found (Run queues patience) =
     (command ≡ codes "run") × IsNumber found (codes "patience") 1000000000 patience
     × (architecture found ≡ Some queues)
@@ -81,4 +84,5 @@ AsksFor command found task = (command ≡ codes "check") × AsksToCheck found ta
 -- the words name no command, or no architecture where the command takes one
 abbrev pub IsUnknown : List ℕ → Found → Type 0
 IsUnknown command found =
-    (command ≢ codes "read") × (((command ≢ codes "check") × (command ≢ codes "run")) ⊎ (architecture found ≡ None))
+    (command ≢ codes "read")
+    × (((command ≢ codes "check") × (command ≢ codes "explain") × (command ≢ codes "run")) ⊎ (architecture found ≡ None))

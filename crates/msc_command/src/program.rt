@@ -4,14 +4,14 @@ ghost use Rattle.std.specs.Prelude.{◌≡◌, ◌≢◌, ◌⊎◌, codes, IfOk
 ghost use Rattle.std.specs.IoError.{error_kind};
 ghost use Rattle.std.specs.declared.io.ErrorKind.TheVariants.{OutOfMemory};
 ghost use Rattle.clap.specs.Matches.{found_of};
-ghost use Rattle.msc_command.specs.Program.{status_code, status_of, Obeys, Prints, PrintsUnfinished, TellsRaces, WritesAnswer};
+ghost use Rattle.msc_command.specs.Program.{ends_as, status_code, status_of, Obeys, Prints, PrintsUnfinished, TellsRaces, WritesAnswer};
 ghost use Rattle.msc_text.specs.Reading.{IsReadFrom};
 
 use crate::words::{Choice, Task, architectures, grammar, joined, kinds, task_of};
 use clap::{ArgMatches, Error};
 use msc_instance::AlwaysOpen;
-use msc_report::{Fault, write_fault};
-use msc_study::study_input;
+use msc_report::{Fault, PairFault, write_fault, write_pair_fault};
+use msc_study::{Explained, explain_input, study_input};
 use msc_tool::{check_input, read_input, run_input};
 use std::alloc::{AllocError, Global};
 use std::io::{ErrorKind, Read, Write};
@@ -23,12 +23,13 @@ use std::{fs, io};
 /// How a run of the program ended.
 #[derive(Clone, Copy, Debug, PartialEq, Eq)]
 enum Status {
-    /// The chart has no race that counts, or each instance that was run has finished, and the
-    /// answer was written, where one is wanted.
+    /// The chart has no race that counts, or the pair is enforced, or each instance that was run has
+    /// finished, and the answer was written, where one is wanted.
     Done,
-    /// The chart has races that count, and the answer was written, where one is wanted.
+    /// The chart has races that count, or the pair is not enforced, and the answer was written, where
+    /// one is wanted.
     Races,
-    /// The text was refused, or the words are no command.
+    /// The text or the pair was refused, or the words are no command.
     Refused,
     /// The answer was written: some instance has not finished.
     Unfinished,
@@ -51,6 +52,21 @@ impl Status {
     }
 }
 
+/// Why a task has no answer.
+#[derive(Clone, Copy)]
+enum Refusal {
+    /// A fault was met.
+    Fault(Fault),
+    /// The numbers are no two events of the chart.
+    Pair(PairFault),
+}
+
+impl From<Fault> for Refusal {
+    fn from(fault: Fault) -> Refusal {
+        Refusal::Fault(fault)
+    }
+}
+
 /// Writes a fault's line, where that succeeds, and tells how the run ended.
 fn end_with<E: Write>(faults: &mut E, fault: Fault) -> Status
     ensures { result ≡ status_of fault }
@@ -62,6 +78,19 @@ fn end_with<E: Write>(faults: &mut E, fault: Fault) -> Status
     }
 }
 
+/// Writes the line of a refusal, where that succeeds, and tells how the run ended.
+fn end_refused<E: Write>(faults: &mut E, refusal: Refusal) -> Status
+    ensures { result ≡ ends_as refusal }
+{
+    match refusal {
+        Refusal::Fault(fault) => end_with(faults, fault),
+        Refusal::Pair(fault) => {
+            let _ = write_pair_fault(faults, fault);
+            Status::Refused
+        }
+    }
+}
+
 /// Writes the answer of a task to an input.
 fn answer<R: Threads + Wait + Sync, I: Read, O: Write>(
     rt: &R,
@@ -69,7 +98,7 @@ fn answer<R: Threads + Wait + Sync, I: Read, O: Write>(
     task: Task,
     input: &mut I,
     output: &mut O,
-) -> Result<Status, Fault>
+) -> Result<Status, Refusal>
     ensures { IfOk result (λ status. (text : List ℕ)
         × IsReadFrom (I.remaining input.old) (I.remaining input.new) text
         × WritesAnswer task text status (O.contents output.old) (O.contents output.new)) }
@@ -93,6 +122,13 @@ fn answer<R: Threads + Wait + Sync, I: Read, O: Write>(
                 false => Ok(Status::Races),
             }
         }
+        Task::Explain(queues, e, f) => {
+            match explain_input(alloc, input, queues, e, f, output)? {
+                Explained::Enforced => Ok(Status::Done),
+                Explained::Free => Ok(Status::Races),
+                Explained::Refused(fault) => Err(Refusal::Pair(fault)),
+            }
+        }
         Task::Run(queues, patience) => {
             match run_input(rt, alloc, input, queues, &AlwaysOpen, patience, output)? {
                 true => Ok(Status::Done),
@@ -109,14 +145,16 @@ fn perform<R: Threads + Wait + Sync, I: Read, O: Write>(
     task: Task,
     input: &mut I,
     output: &mut O,
-) -> Result<Status, Fault>
+) -> Result<Status, Refusal>
     ensures { IfOk result (λ status. (text : List ℕ)
         × IsReadFrom (I.remaining input.old) (I.remaining input.new) text
         × WritesAnswer task text status (O.contents output.old) (O.contents output.new)) }
 {
     let status = answer(rt, alloc, task, input, output)?;
-    output.flush()?;
-    Ok(status)
+    match output.flush() {
+        Ok(()) => Ok(status),
+        Err(_) => Err(Refusal::Fault(Fault::Device)),
+    }
 }
 
 /// Does a task over a file, or over `input` where it is `-`.
@@ -127,7 +165,7 @@ fn perform_on<R: Files + Threads + Wait + Sync, I: Read, O: Write>(
     file: &str,
     input: &mut I,
     output: &mut O,
-) -> Result<Status, Fault>
+) -> Result<Status, Refusal>
     ensures { IfOk result (λ status. (text : List ℕ)
         × (file.now ≡ codes "-" → IsReadFrom (I.remaining input.old) (I.remaining input.new) text)
         × WritesAnswer task text status (O.contents output.old) (O.contents output.new)) }
@@ -137,12 +175,12 @@ fn perform_on<R: Files + Threads + Wait + Sync, I: Read, O: Write>(
     }
     match fs::open(rt, file) {
         Ok(mut opened) => perform(rt, alloc, task, &mut opened, output),
-        Err(_) => Err(Fault::Device),
+        Err(_) => Err(Refusal::Fault(Fault::Device)),
     }
 }
 
 /// Writes what `clap` says of words that are no command, or the help that they ask for.
-fn explain<O: Write, E: Write>(output: &mut O, faults: &mut E, error: &Error) -> Status
+fn tell_usage<O: Write, E: Write>(output: &mut O, faults: &mut E, error: &Error) -> Status
     ensures { (before after : Option (List ℕ)) → Prints result before after }
 {
     if error.kind() == clap::error::ErrorKind::OutOfMemory {
@@ -177,7 +215,7 @@ fn obey<R: Files + Threads + Wait + Sync, I: Read, O: Write, E: Write>(
     let file = words.get_str("FILE").unwrap_or("-");
     match perform_on(rt, alloc, task, file, input, output) {
         Ok(status) => status,
-        Err(fault) => end_with(faults, fault),
+        Err(refusal) => end_refused(faults, refusal),
     }
 }
 
@@ -228,7 +266,7 @@ fn run<R: Files + Threads + Wait + Sync, I: Read, O: Write, E: Write>(
     )?;
     match command.try_get_matches_from(words) {
         Ok(matches) => Ok(obey_matches(rt, alloc, &matches, input, output, faults)),
-        Err(error) => Ok(explain(output, faults, &error)),
+        Err(error) => Ok(tell_usage(output, faults, &error)),
     }
 }
 
@@ -249,20 +287,22 @@ pub fn refuse_words<E: Write>(faults: &mut E, error: &io::Error) -> u8
 ///
 /// `msc read FILE` writes the canonical text of FILE to `output`, `msc check --queues QUEUES
 /// [--show N] FILE`, where QUEUES is `pair`, `mailbox` or `single`, the verdict on its chart and
-/// each race, the first N with a run that shows it, and `msc run --queues QUEUES [--patience N]
-/// FILE` an execution of its chart, in which an instance gives up after N rounds in a row without a
-/// message. N is from 0 to 4294967295, by default 4294967295 races and 1000000000 rounds. Of
-/// `check`, `--closest` lists the closest races alone, `--why` adds the kind of each and what it
-/// lacks, `--most N` lists the first N alone, `--allow KIND`, where KIND is `early`, `queues`,
-/// `unordered` or `overtaken`, leaves out the races of a kind, and `--quiet` writes nothing. FILE
-/// `-` is `input`, any other FILE is opened through `rt`. What goes wrong is found in the order: the
-/// words, opening FILE, reading it, its text, running it. A fault's line, and what `clap` says of
-/// wrong words, go to `faults`; where that writing fails the status stays. The status is 0 where
-/// the answer or the help asked for was written, 1 where there are races that are not left out, 2
-/// where the text
-/// was refused or the words are no command, 3 where some instance of the execution has not
-/// finished, and 4 where memory ran out, a thread could not be started, a file could not be opened
-/// or read, or the output could not be written.
+/// each race, the first N with a run that shows it, `msc explain --queues QUEUES FILE E F` why event
+/// E of its chart is enforced before event F, or a run that has F before E, and `msc run --queues
+/// QUEUES [--patience N] FILE` an execution of its chart, in which an instance gives up after N
+/// rounds in a row without a message. N, E and F are from 0 to 4294967295, N by default 4294967295
+/// races and 1000000000 rounds. Of `check`, `--closest` lists the closest races alone, `--why` adds
+/// the kind of each and what it lacks, `--most N` lists the first N alone, `--allow KIND`, where
+/// KIND is `early`, `queues`, `unordered` or `overtaken`, leaves out the races of a kind, and
+/// `--quiet` writes nothing. FILE `-` is `input`, any other FILE is opened through `rt`.
+///
+/// What goes wrong is found in the order: the words, opening FILE, reading it, its text, the pair of
+/// events, running it. A fault's line, and what `clap` says of wrong words, go to `faults`; where
+/// that writing fails the status stays. The status is 0 where the answer or the help asked for was
+/// written, 1 where there are races that are not left out, or E is not enforced before F, 2 where
+/// the text or the pair was refused or the words are no command, 3 where some instance of the
+/// execution has not finished, and 4 where memory ran out, a thread could not be started, a file
+/// could not be opened or read, or the output could not be written.
 pub fn command<R: Files + Threads + Wait + Sync, I: Read, O: Write, E: Write>(
     rt: &R,
     alloc: Global,

@@ -5,7 +5,7 @@ ghost use Rattle.clap.specs.Matches.{found_of};
 ghost use Rattle.msc_command.specs.Words.{architecture, is_study, names_kind, AreAllowed, AsksFor, AsksToCheck, IsFlag, IsNumber, IsUnknown, IsView};
 
 use clap::{Arg, ArgAction, ArgMatches, Command, value_parser};
-use msc_chart::Queues;
+use msc_chart::{Event, Queues};
 use msc_reason::RaceKind;
 use msc_study::{KindSet, View};
 use std::alloc::{AllocError, Global};
@@ -21,6 +21,8 @@ pub enum Task {
     Study(Queues, View),
     /// Whether a study finds races that count, without its text.
     Judge(Queues, View),
+    /// Why the first of two events comes before the second under an architecture, or how it need not.
+    Explain(Queues, Event, Event),
     /// An execution under an architecture, and how many rounds in a row an instance looks in vain.
     Run(Queues, u32),
 }
@@ -97,6 +99,22 @@ Exit status:
 Example:
   msc check --queues pair --show 1 relay.msc
   msc check --queues mailbox --closest --why --allow early relay.msc";
+
+/// What stands below the help of `msc explain`.
+const EXPLAIN_NOTES: &str = "\
+Events are numbered from 0, over all lines. The lines of a chain:
+  drawn X Y  Y is an output or an action that is drawn below X
+  sent X Y   Y is the input of X
+  queue X Y  two inputs of one queue, whose outputs come in this order by the chain behind blanks
+
+Exit status:
+  0  E is enforced before F, and why was written
+  1  E is not enforced before F, and a run that has F before E was written
+  2  the text or the pair was refused, or the words are no command
+  4  memory ran out, or a file or the output failed
+
+Example:
+  msc explain --queues mailbox relay.msc 2 3";
 
 /// What stands below the help of `msc run`.
 const RUN_NOTES: &str = "\
@@ -184,6 +202,25 @@ fn check_words<'a>(
         .arg(file(alloc))
 }
 
+/// The number of an event.
+fn event<'a>(alloc: Global, name: &'static str, help: &'static str) -> Arg<'a> {
+    Arg::new(alloc, name)
+        .help(help)
+        .value_parser(value_parser!(u32))
+        .required(true)
+}
+
+/// The words of `msc explain`.
+fn explain_words<'a>(alloc: Global, architectures: Choice<'a>) -> Result<Command<'a>, AllocError> {
+    Command::new(alloc, "explain")
+        .about("Print why an event comes before another, or a run in which it does not")
+        .after_help(EXPLAIN_NOTES)
+        .arg(queues(alloc, architectures))?
+        .arg(file(alloc))?
+        .arg(event(alloc, "E", "The number of the first event"))?
+        .arg(event(alloc, "F", "The number of the second event"))
+}
+
 /// The words of `msc run`.
 fn run_words<'a>(alloc: Global, architectures: Choice<'a>) -> Result<Command<'a>, AllocError> {
     let patience = "End an instance that looked in vain N times in a row; without it, 1000000000";
@@ -208,10 +245,11 @@ pub fn grammar<'a>(
         .subcommand_required(true)
         .subcommand(read_words(alloc)?)?
         .subcommand(check_words(alloc, architectures, kinds)?)?
+        .subcommand(explain_words(alloc, architectures)?)?
         .subcommand(run_words(alloc, architectures)?)
 }
 
-/// The number of an option, and `without` where it does not stand.
+/// The number of an option or an argument, and `without` where it does not stand.
 fn number_of(words: &ArgMatches, name: &str, without: u32) -> u32
     ensures { IsNumber (found_of words.now) name.now without result }
 {
@@ -308,6 +346,10 @@ pub fn task_of(command: &str, words: &ArgMatches) -> Option<Task>
     let queues = queues_of(words)?;
     if command == "run" {
         return Some(Task::Run(queues, number_of(words, "patience", PATIENCE)));
+    }
+    if command == "explain" {
+        let e = number_of(words, "E", 0);
+        return Some(Task::Explain(queues, e, number_of(words, "F", 0)));
     }
     if command == "check" {
         return Some(checking(queues, words));

@@ -11,6 +11,8 @@ use Rattle.msc_chart.specs.declared.fault.ChartFault.{ChartFault}
 use Rattle.msc_chart.specs.declared.fault.ChartFault.TheVariants as charts
 use Rattle.msc_report.specs.declared.fault.Fault.{Fault}
 use Rattle.msc_report.specs.declared.fault.Fault.TheVariants.{Parse, Chart, NotStarted, Memory, Device}
+use Rattle.msc_report.specs.declared.fault.PairFault.{PairFault}
+use Rattle.msc_report.specs.declared.fault.PairFault.TheVariants.{NoEvent, OneEvent}
 
 -- one line of words
 abbrev pub line : List ℕ → List ℕ
@@ -64,3 +66,8 @@ fault_line (NotStarted i) =
     placed (codes "run fault 1: instance ") i (codes " could not be started")
 fault_line Memory = line (codes "memory fault")
 fault_line Device = line (codes "device fault")
+
+-- the line of why two numbers are no two events of a chart
+abbrev pub pair_fault_line : PairFault → List ℕ
+pair_fault_line (NoEvent e) = placed (codes "pair fault 1: no event ") e []
+pair_fault_line (OneEvent e) = codes "pair fault 2: " ++ (decimal e ++ placed (codes " and ") e (codes " are one event"))

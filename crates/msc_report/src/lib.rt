@@ -14,8 +14,8 @@ mod verdict;
 mod writing;
 
 pub use event_texts::EventTexts;
-pub use fault::Fault;
-pub use race::{run_line, write_event_at, write_race};
+pub use fault::{Fault, PairFault};
+pub use race::{run_line, write_event_at, write_race, write_run};
 pub use trace::write_trace;
-pub use verdict::write_verdict;
-pub use writing::{write_draft, write_fault};
+pub use verdict::{write_name_line, write_queues_line, write_verdict};
+pub use writing::{write_draft, write_fault, write_pair_fault};

@@ -166,7 +166,7 @@ pub(crate) fn write_numbers<W: Write>(writer: &mut W, numbers: &[u32]) -> io::Re
 }
 
 /// Writes the events of a run, where one is shown.
-fn write_run<W: Write>(writer: &mut W, run: Option<&[Event]>) -> io::Result<()>
+pub fn write_run<W: Write>(writer: &mut W, run: Option<&[Event]>) -> io::Result<()>
     ensures { OnOk result (Appends (W.contents writer.old) (W.contents writer.new)
         (run_line (option_copied run.entry))) }
 {

@@ -10,7 +10,7 @@ use std::io;
 use std::io::Write;
 
 /// Writes the line of a chart's name.
-pub(crate) fn write_name_line<W: Write>(writer: &mut W, chart: &Chart) -> io::Result<()>
+pub fn write_name_line<W: Write>(writer: &mut W, chart: &Chart) -> io::Result<()>
     ensures { OnOk result (Appends (W.contents writer.old) (W.contents writer.new)
         (name_line chart.now)) }
 {
@@ -20,7 +20,7 @@ pub(crate) fn write_name_line<W: Write>(writer: &mut W, chart: &Chart) -> io::Re
 }
 
 /// Writes the line of an architecture.
-pub(crate) fn write_queues_line<W: Write>(writer: &mut W, queues: Queues) -> io::Result<()>
+pub fn write_queues_line<W: Write>(writer: &mut W, queues: Queues) -> io::Result<()>
     ensures { OnOk result (Appends (W.contents writer.old) (W.contents writer.new)
         (queues_line queues)) }
 {

@@ -4,19 +4,19 @@ use Rattle.std.specs.Prelude.{◌↔◌, IsTrue}
 use Rattle.msc_chart.proofs.Drawn.{before_parts}
 use Rattle.msc_chart.proofs.ListLemmas.{by_test, clash}
 use Rattle.msc_chart.specs.declared.event.ChartEvent.{ChartEvent}
-use Rattle.msc_chart.specs.declared.queue.Queues.{Queues}
+use Rattle.msc_chart.specs.declared.queue.Queues.{Queues as Architecture}
 use Rattle.msc_chart.specs.Charts.{before, partner}
 use Rattle.msc_chart.specs.Drawings.{Drawing, IsAccepted}
-use Rattle.msc_chart.specs.Orders.{wired, Enforced, IsEnforcedOrder, IsRace}
+use Rattle.msc_chart.specs.Orders.{wired, Enforced, WiredChart, IsEnforcedOrder, IsRace}
 use Rattle.msc_reason.specs.Lacks.{needed, IsKindOf, IsLackOf}
 use Rattle.msc_reason.specs.Laws.{EachRaceHasOneKind}
 use Rattle.msc_reason.specs.declared.lack.Lack.{Lack}
 use Rattle.msc_reason.specs.declared.lack.RaceKind.{RaceKind}
-use Rattle.msc_reason.specs.declared.lack.RaceKind.TheVariants.{Early}
+use Rattle.msc_reason.specs.declared.lack.RaceKind.TheVariants.{Early, Queues, Unordered, Overtaken}
 use Rattle.msc_study.specs.declared.view.KindSet.{KindSet}
 use Rattle.msc_study.specs.Listing.{IsAllowed}
 use Rattle.msc_study.specs.Studying.{AreLacks}
-use Rattle.msc_study.specs.Views.{has_kind}
+use Rattle.msc_study.specs.Views.{has_kind, is_empty}
 
 -- two truth values that say the same are the same
 same_truth : {X : Type 0} (a b : Bool) → (IsTrue a ↔ X) → (IsTrue b ↔ X) → a ≡ b
@@ -29,7 +29,7 @@ same_truth false true h k = h.1 (k.0 refl)
 abbrev lacking : RaceKind → ℕ → ℕ → Bool → Lack
 lacking kind needed output always = record { kind = kind; needed = needed; output = output; always = always }
 
-module _ (queues : Queues) (d : Drawing) (accepted : IsAccepted d) (law : EachRaceHasOneKind) where
+module _ (queues : Architecture) (d : Drawing) (accepted : IsAccepted d) (law : EachRaceHasOneKind) where
   -- a race has no other lack
   pub one_lack : (e f : ℕ) → IsRace (wired queues d) e f → (a b : Lack) → IsLackOf (wired queues d) e f a → IsLackOf (wired queues d) e f b → a ≡ b
   one_lack e f race a b of_a of_b =
@@ -70,3 +70,14 @@ module _ (queues : Queues) (d : Drawing) (accepted : IsAccepted d) (law : EachRa
   counts allowed e f race kind is none its =
       let one = law queues d accepted e f race in
       clash (ap (has_kind allowed) (one.2 kind is ∙ sym (one.2 its.kind its.its)) ∙ its.named) none
+
+-- an empty set has no kind
+none_had : (allowed : KindSet) (kind : RaceKind) → is_empty allowed ≡ true → has_kind allowed kind ≡ true → ⊥
+none_had allowed Early empty has = grind (arith, empty, has)
+none_had allowed Queues empty has = grind (arith, empty, has)
+none_had allowed Unordered empty has = grind (arith, empty, has)
+none_had allowed Overtaken empty has = grind (arith, empty, has)
+
+-- so where no kind is left out, no race is
+pub all_count : (chart : WiredChart) (allowed : KindSet) (e f : ℕ) → is_empty allowed ≡ true → IsAllowed chart allowed e f → ⊥
+all_count chart allowed e f empty its = none_had allowed its.kind empty its.named

@@ -1,5 +1,5 @@
 -- Races are printed with what stands behind them.
-use Rattle.std.proofs.Common.{zero, suc, ◌≡◌, ℕ, ◌<◌, Bool, cond, List, [], ◌∷◌, ◌++◌, None, Some, length, get_or, take, drop, sym, ap, ◌∙◌, subst}
+use Rattle.std.proofs.Common.{zero, suc, ◌≡◌, ℕ, ◌<◌, Bool, cond, List, [], ◌∷◌, ◌++◌, None, Some, length, get_or, take, drop, true, false, refl, sym, ap, ◌∙◌, subst}
 use Rattle.std.proofs.lemmas.List.{append-nil, take-append-drop}
 use Rattle.std.proofs.lemmas.Option.{slice_get-get_or}
 use Rattle.msc_chart.proofs.Drawn.{before_parts}
@@ -9,7 +9,8 @@ use Rattle.msc_chart.specs.Orders.{WiredChart, IsRace}
 use Rattle.msc_reason.specs.declared.lack.Lack.{Lack}
 use Rattle.msc_report.specs.Verdicts.{race_text, run_line}
 use Rattle.msc_study.specs.Counting.{AreRacesOf}
-use Rattle.msc_study.specs.Lines.{tail_text, why_text}
+use Rattle.msc_study.specs.Lines.{part_text, races_text, tail_text, why_text}
+use Rattle.msc_study.specs.declared.view.View.{View}
 
 -- a pair of a list of races is one
 pub race_at : (chart : WiredChart) (pairs : List (ℕ × ℕ)) (i : ℕ) → AreRacesOf chart pairs → i < length pairs
@@ -51,3 +52,15 @@ pub race_and_tail : (d : Drawing) (e f : ℕ) (why shown : Bool) (lack : Lack) (
 race_and_tail d e f why shown lack run tail line same is =
     ap (λ (t : List ℕ). race_text d e f None ++ t) (same ∙ ap (λ (t : List ℕ). why_text why d lack ++ t) is)
     ∙ sym (append-nil (race_text d e f None ++ tail_text why shown d lack run))
+
+-- no races have no text, however many of them have runs
+no_text : (n : ℕ) (why : Bool) (d : Drawing) (lacks : ℕ → ℕ → Lack) (runs : ℕ → List ℕ)
+    → part_text why true d lacks runs (take n []) ++ part_text why false d lacks runs (drop n []) ≡ []
+no_text zero why d lacks runs = refl
+no_text (suc n) why d lacks runs = refl
+
+-- so nothing is put behind a page where there are none
+pub no_races : (view : View) (d : Drawing) (lacks : ℕ → ℕ → Lack) (runs : ℕ → List ℕ) (pairs : List (ℕ × ℕ)) (page : List ℕ) → pairs ≡ []
+    → page ≡ page ++ races_text view d lacks runs pairs
+no_races view d lacks runs pairs page none =
+    rw none (sym (ap (λ (t : List ℕ). page ++ t) (no_text view.show view.why d lacks runs) ∙ append-nil page))

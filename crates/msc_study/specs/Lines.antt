@@ -29,11 +29,15 @@ always_text always = cond always (codes " always") []
 abbrev pub kind_line : Lack → List ℕ
 kind_line lack = codes "kind " ++ (kind_word lack.kind ++ line (always_text lack.always))
 
+-- a line that names two events: a word, their numbers, and what both of them do
+abbrev pub pair_line : List ℕ → Drawing → ℕ → ℕ → List ℕ
+pair_line word d e f =
+    word ++ (codes " " ++ (decimal e ++ (codes " " ++ (decimal f
+    ++ (codes ": " ++ (event_at d e ++ (codes "; " ++ line (event_at d f))))))))
+
 -- the pair that a race lacks
 abbrev pub needs_line : Drawing → Lack → List ℕ
-needs_line d lack =
-    codes "needs " ++ (decimal lack.needed ++ (codes " " ++ (decimal lack.output
-    ++ (codes ": " ++ (event_at d lack.needed ++ (codes "; " ++ line (event_at d lack.output)))))))
+needs_line d lack = pair_line (codes "needs") d lack.needed lack.output
 
 -- why a pair is a race, where that is wanted
 abbrev pub why_text : Bool → Drawing → Lack → List ℕ

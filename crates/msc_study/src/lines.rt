@@ -3,7 +3,7 @@
 ghost use Rattle.std.specs.Prelude.{◌<◌, ◌++◌, OnOk, length, true};
 ghost use Rattle.std.specs.Io.KnownBytes.{Appends};
 ghost use Rattle.msc_report.specs.Verdicts.{race_text};
-ghost use Rattle.msc_study.specs.Lines.{allowed_line, always_text, closest_line, kind_line, needs_line, why_text};
+ghost use Rattle.msc_study.specs.Lines.{allowed_line, always_text, closest_line, kind_line, pair_line, why_text};
 
 use crate::view::KindSet;
 use msc_chart::{Chart, Event};
@@ -25,18 +25,23 @@ fn write_kind<W: Write>(writer: &mut W, lack: &Lack) -> io::Result<()>
     writer.write_all(b"\n")
 }
 
-/// Writes the line of the pair that a race lacks.
-fn write_needs<W: Write>(writer: &mut W, chart: &Chart, lack: &Lack) -> io::Result<()>
-    requires needed { lack.now.needed < length chart.now.events }
-    requires output { lack.now.output < length chart.now.events }
+/// Writes a line that names two events: a word, their numbers, and what both of them do.
+pub fn write_pair<W: Write>(
+    writer: &mut W,
+    chart: &Chart,
+    word: &str,
+    e: Event,
+    f: Event,
+) -> io::Result<()>
+    requires e_known { e < length chart.now.events }
+    requires f_known { f < length chart.now.events }
     ensures { OnOk result (Appends (W.contents writer.old) (W.contents writer.new)
-        (needs_line chart.now lack.now)) }
+        (pair_line word.now chart.now e f)) }
 {
-    let Lack { needed, output, .. } = *lack;
-    write!(writer, "needs {needed} {output}: ")?;
-    write_event_at(writer, chart, needed)?;
+    write!(writer, "{word} {e} {f}: ")?;
+    write_event_at(writer, chart, e)?;
     writer.write_all(b"; ")?;
-    write_event_at(writer, chart, output)?;
+    write_event_at(writer, chart, f)?;
     writer.write_all(b"\n")
 }
 
@@ -48,7 +53,7 @@ pub fn write_why<W: Write>(writer: &mut W, chart: &Chart, lack: &Lack) -> io::Re
         (why_text true chart.now lack.now)) }
 {
     write_kind(writer, lack)?;
-    write_needs(writer, chart, lack)
+    write_pair(writer, chart, "needs", lack.needed, lack.output)
 }
 
 /// Writes how many races are left out, where kinds are.

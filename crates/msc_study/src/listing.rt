@@ -1,7 +1,7 @@
 //! Which races a study lists.
 
-ghost use Rattle.std.specs.Prelude.{◌≡◌, List, ℕ, IfOk, length};
-ghost use Rattle.msc_chart.specs.Orders.{wired, IsEnforcedOrder};
+ghost use Rattle.std.specs.Prelude.{◌≡◌, List, ℕ, IfOk, IsTrue, false, length};
+ghost use Rattle.msc_chart.specs.Orders.{wired, IsEnforcedOrder, IsRace};
 ghost use Rattle.msc_order.specs.Tables.{orders};
 ghost use Rattle.msc_race.specs.Races.{IsVerdict};
 ghost use Rattle.msc_reason.specs.Closest.{IsClosestList};
@@ -28,6 +28,30 @@ pub struct Listing {
     pub listed: Vec<(Event, Event)>,
 }
 
+/// Whether a race is of none of the kinds that are left out. Where there are none of these, its
+/// kind is not looked for.
+fn counts(
+    chart: &Chart,
+    queues: Queues,
+    order: &Order,
+    allowed: KindSet,
+    race: (Event, Event),
+) -> bool
+    requires enforced { IsEnforcedOrder (wired queues chart.now) (orders order.now) }
+    requires square { length order.now ≡ length chart.now.events }
+    requires race { IsRace (wired queues chart.now) race.0 race.1 }
+    ensures kept { IsTrue result → Counts (wired queues chart.now) allowed race }
+    ensures left { result ≡ false → Allowed (wired queues chart.now) allowed race }
+{
+    if allowed.is_empty() {
+        return true;
+    }
+    each_race_has_one_kind();
+    chart.accepted();
+    let kind = kind_of(chart, queues, order, race.0, race.1);
+    !allowed.has(kind)
+}
+
 /// The races of these that are of none of the kinds that are left out, in their order.
 fn counted(
     alloc: Global,
@@ -44,12 +68,9 @@ fn counted(
         × Splits (Counts (wired queues chart.now) allowed)
         (Allowed (wired queues chart.now) allowed) races.now some.items others) }
 {
-    each_race_has_one_kind();
-    chart.accepted();
     let mut some = Vec::new(alloc);
     for race in races {
-        let kind = kind_of(chart, queues, order, race.0, race.1);
-        if !allowed.has(kind) {
+        if counts(chart, queues, order, allowed, *race) {
             some.push(*race)?;
         }
     }

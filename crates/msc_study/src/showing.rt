@@ -153,8 +153,11 @@ pub fn put_races<W: Write>(
         page.old.bytes.items page.new.bytes.items
         (races_text view chart.now lacks runs (take view.most races.now)) }
 {
-    let texts = EventTexts::new(alloc, chart)?;
     let (printed, _) = races.split_at((view.most as usize).min(races.len()));
+    if printed.is_empty() {
+        return Ok(());
+    }
+    let texts = EventTexts::new(alloc, chart)?;
     let (shown, others) = printed.split_at((view.show as usize).min(printed.len()));
     put_part(
         alloc, writer, page, chart, queues, order, &texts, view.why, true, shown,

@@ -27,6 +27,10 @@ long_fault xs ys long also (grammar.Lex lexical.Memory) h = h
 long_fault xs ys long also (grammar.Unsupported at w) h = absurd (omega (arith, long, h.have.short))
 long_fault xs ys long also (grammar.Expected at w) h = absurd (omega (arith, long, h.have.short))
 
+-- of an input whose bytes are told this was read
+abbrev pub HasRead : List ℕ → Option (List ℕ) → Type 0
+HasRead xs input = IfSome input (λ bytes. xs ≡ take BYTE_LIMIT bytes)
+
 -- what was read is the whole input, or both are too long
 read_whole : (xs bytes : List ℕ) → xs ≡ take BYTE_LIMIT bytes
     → (xs ≡ bytes) ⊎ ((1048576 < length xs) × (1048576 < length bytes))
@@ -55,7 +59,7 @@ fault_back xs bytes front f h = elim (read_whole xs bytes front) [
 
 -- what is said of the refusal of what was read holds of the input
 pub refuses_input : {A : Type 0} (xs : List ℕ) (input : Option (List ℕ)) (answer : Result A Fault)
-    → IfSome input (λ bytes. xs ≡ take BYTE_LIMIT bytes) → RefusesText xs answer → RefusesInput input answer
+    → HasRead xs input → RefusesText xs answer → RefusesInput input answer
 refuses_input {A} xs None answer read said = record { stands = λ f e. tt; comes = λ f. tt }
 refuses_input {A} xs (Some bytes) answer read said = record {
   stands = λ f e. fault_on xs bytes read f (said.stands f e);
@@ -73,7 +77,7 @@ draft_on xs bytes front d (tokens, has, chart) = elim (read_whole xs bytes front
 ]
 
 -- and a draft of the input is one of what was read
-draft_back : (xs bytes : List ℕ) → xs ≡ take BYTE_LIMIT bytes → (d : Tree) → HasDraft bytes d → HasDraft xs d
+pub draft_back : (xs bytes : List ℕ) → xs ≡ take BYTE_LIMIT bytes → (d : Tree) → HasDraft bytes d → HasDraft xs d
 draft_back xs bytes front d (tokens, has, chart) = elim (read_whole xs bytes front) [
   | inl same ↦ subst (λ (t : List ℕ). HasDraft t d) (sym same) (tokens, has, chart)
   | inr long ↦ let much = long.1 in absurd (omega (arith, much, has.short))
@@ -81,7 +85,7 @@ draft_back xs bytes front d (tokens, has, chart) = elim (read_whole xs bytes fro
 
 -- so what is said of the refusal of the draft of what was read holds of the input's
 pub refuses_input_draft : {A : Type 0} (xs : List ℕ) (input : Option (List ℕ)) (answer : Result A Fault)
-    → IfSome input (λ bytes. xs ≡ take BYTE_LIMIT bytes) → RefusesDraft xs answer → RefusesInputDraft input answer
+    → HasRead xs input → RefusesDraft xs answer → RefusesInputDraft input answer
 refuses_input_draft {A} xs None answer read said = record { stands = λ f e. tt; comes = λ d f. tt }
 refuses_input_draft {A} xs (Some bytes) answer read said = record {
   stands = λ f e. let found = said.stands f e in (found.0, draft_on xs bytes read found.0 found.1, found.2);

@@ -7,6 +7,8 @@ mod checks;
 #[cfg(test)]
 mod devices;
 #[cfg(test)]
+mod explaining;
+#[cfg(test)]
 mod faults;
 #[cfg(test)]
 mod inputs;

@@ -114,11 +114,12 @@ fn texts_that_are_read(rt: HostRuntime) -> Result<(), Fail> {
 }
 
 /// The words of one run of each command and architecture.
-const RUNS: [&[&str]; 5] = [
+const RUNS: [&[&str]; 6] = [
     &["read", "-"],
     &["check", "--queues", "pair", "-"],
     &["check", "--queues", "mailbox", "-"],
     &["check", "--queues", "single", "-"],
+    &["explain", "--queues", "pair", "-", "0", "1"],
     &["run", "--queues", "pair", "-"],
 ];
 
@@ -197,9 +198,10 @@ fn texts_at_the_limit(rt: HostRuntime) -> Result<(), Fail> {
 }
 
 /// Words that name a file that is not there.
-const NO_FILES: [&[&str]; 3] = [
+const NO_FILES: [&[&str]; 4] = [
     &["read", "no/such/file.msc"],
     &["check", "--queues", "pair", "no/such/file.msc"],
+    &["explain", "--queues", "pair", "no/such/file.msc", "0", "0"],
     &["run", "--queues", "pair", "no/such/file.msc"],
 ];
 
@@ -213,7 +215,7 @@ fn a_file_that_is_not_there(rt: HostRuntime) -> Result<(), Fail> {
 }
 
 /// Words that are no command.
-const WRONG: [&[&str]; 18] = [
+const WRONG: [&[&str]; 23] = [
     &[],
     &["read"],
     &["read", "-", "-"],
@@ -228,6 +230,11 @@ const WRONG: [&[&str]; 18] = [
     &["check", "--queues", "pair", "--show", "x", "-"],
     &["read", "--show", "0", "-"],
     &["read", "--queues", "pair", "-"],
+    &["explain", "-", "0", "1"],
+    &["explain", "--queues", "pair", "-", "0"],
+    &["explain", "--queues", "pair", "-", "0", "x"],
+    &["explain", "--queues", "pair", "-", "0", "4294967296"],
+    &["explain", "--queues", "pair", "--show", "1", "-", "0", "1"],
     &["run", "-"],
     &["run", "--queues", "pair", "--patience", "4294967296", "-"],
     &["run", "--queues", "pair", "--show", "1", "-"],
@@ -302,7 +309,7 @@ fn helps<R: Host>(rt: &R, words: &[&str], part: &str) -> Result<bool, AllocError
 }
 
 /// Words that ask for help, and a part of it.
-const HELP: [(&[&str], &str); 13] = [
+const HELP: [(&[&str], &str); 16] = [
     (&["--help"], "Usage: msc"),
     (&["help"], "Usage: msc"),
     (&["read", "--help"], "Usage: msc read <FILE>\n"),
@@ -318,6 +325,15 @@ const HELP: [(&[&str], &str); 13] = [
     (
         &["check", "--help"],
         "Example:\n  msc check --queues pair --show 1 relay.msc\n",
+    ),
+    (
+        &["explain", "--help"],
+        "Usage: msc explain --queues <pair|mailbox|single> <FILE> <E> <F>\n",
+    ),
+    (&["explain", "--help"], "  1  E is not enforced before F"),
+    (
+        &["explain", "--help"],
+        "Example:\n  msc explain --queues mailbox relay.msc 2 3\n",
     ),
     (
         &["run", "--help"],

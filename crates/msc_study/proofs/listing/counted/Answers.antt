@@ -2,11 +2,10 @@ use Rattle.std.specs.Global.{Global}
 use Rattle.std.proofs.Common.{ℕ, ◌+◌, List, [], ◌∷◌, ◌++◌, Vec, take, get_or, sym, ap, ◌∙◌, subst}
 use Rattle.std.proofs.lemmas.Option.{slice_get-get_or}
 use Rattle.msc_chart.specs.Orders.{wired}
-use Rattle.msc_study.proofs.Lacking.{counts}
 use Rattle.msc_study.proofs.Splitting.{kept_more, left_more}
 use Rattle.msc_study.specs.Counting.{Allowed, Counts, Splits}
 use Rattle.msc_study.proofs.listing.counted.Goals as goal
-use Rattle.msc_study.proofs.listing.counted.Goals.{then-not-has+in_ok-push, else-not-has}
+use Rattle.msc_study.proofs.listing.counted.Goals.{then-counts+in_ok-push, else-counts}
 
 pub loop-race-init : goal.loop-race-init
 loop-race-init c =
@@ -16,8 +15,8 @@ loop-race-init c =
           (sym c.new-some.ensures.items) Splits.done,
     )
 
-pub kind_of-kind-requires-clause-race : goal.kind_of-kind-requires-clause-race
-kind_of-kind-requires-clause-race c =
+pub counts-requires-clause-race : goal.counts-requires-clause-race
+counts-requires-clause-race c =
     let i = c.loop-race.race-index in
     let race = get_or c.args.races.now i (0, 0) in
     c.requires.races race.0 race.1 (i, slice_get-get_or c.args.races.now i (0, 0) c.loop-race-test.true)
@@ -27,24 +26,22 @@ loop-race-preserved c =
     let i = c.loop-race.race-index in
     let races = c.args.races.now in
     let race = get_or races i (0, 0) in
-    let is_race = c.requires.races race.0 race.1 (i, slice_get-get_or races i (0, 0) c.loop-race-test.true) in
     let so_far = c.loop-race.invariant in
     let chart = wired c.args.queues c.args.chart.now in
     let allowed = c.args.allowed in
-    elim c.if-not-has.branch [
-      | then-not-has+in_ok-push w ↦ (
+    elim c.if-counts.branch [
+      | then-counts+in_ok-push w ↦ (
         so_far.0,
         subst (λ (some : List (ℕ × ℕ)). Splits (Counts chart allowed) (Allowed chart allowed) (take (i + 1) races) some so_far.0)
             (sym (ap (λ (v : Vec (ℕ × ℕ) Global). v.items) w.some-is ∙ w.in_ok-push.ensures.items))
             (kept_more (Counts chart allowed) (Allowed chart allowed) races c.loop-race.some.items so_far.0 i c.loop-race-test.true so_far.1
-            (counts c.args.queues c.args.chart.now c.accepted.ensures c.each_race_has_one_kind.ensures.one allowed race.0 race.1 is_race
-            c.kind_of-kind.result c.kind_of-kind.ensures (sym c.has.ensures ∙ w.if-not-has.true))),
+            (c.counts.ensures.kept w.if-counts.true)),
       )
-      | else-not-has w ↦ (
+      | else-counts w ↦ (
         so_far.0 ++ race ∷ [],
         subst (λ (some : List (ℕ × ℕ)). Splits (Counts chart allowed) (Allowed chart allowed) (take (i + 1) races) some (so_far.0 ++ race ∷ []))
             (sym (ap (λ (v : Vec (ℕ × ℕ) Global). v.items) w.some-is))
             (left_more (Counts chart allowed) (Allowed chart allowed) races c.loop-race.some.items so_far.0 i c.loop-race-test.true so_far.1
-            (record { kind = c.kind_of-kind.result; its = c.kind_of-kind.ensures; named = sym c.has.ensures ∙ w.if-not-has.false })),
+            (c.counts.ensures.left w.if-counts.false)),
       )
     ]

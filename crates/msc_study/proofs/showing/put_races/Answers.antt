@@ -2,10 +2,11 @@ use Rattle.std.proofs.Common.{◌≡◌, Err, ℕ, true, false, List, ◌++◌, 
 use Rattle.std.proofs.lemmas.List.{take_min, drop_min}
 use Rattle.std.proofs.lemmas.Result.{err_from_is_err_and}
 use Rattle.msc_chart.specs.Orders.{wired}
-use Rattle.msc_study.proofs.Shown.{first_races, other_races}
+use Rattle.msc_study.proofs.Listings.{empty_told}
+use Rattle.msc_study.proofs.Shown.{first_races, no_races, other_races}
 use Rattle.msc_study.specs.Counting.{AreRacesOf}
 use Rattle.msc_study.specs.Lines.{part_text, races_text}
-use Rattle.msc_text.proofs.PageLemmas.{begins_none, puts_longer, puts_on}
+use Rattle.msc_text.proofs.PageLemmas.{begins_none, pages_in, puts_longer, puts_on}
 use Rattle.msc_text.specs.Pages.{Pages, Puts}
 use Rattle.msc_study.proofs.showing.put_races.Goals as goal
 
@@ -19,6 +20,15 @@ put_part-requires-2-clause-races g c =
     let chart = wired c.args.queues c.args.chart.now in
     rw (c.split_at-2.ensures.back, c.split_at.ensures.front)
     (other_races chart (take c.min.result c.args.races.now) c.min-2.result (first_races chart c.args.races.now c.min.result c.requires.races))
+
+pub returns-then-is_empty : goal.returns-then-is_empty
+returns-then-is_empty g c lacks runs are chosen =
+    let view = c.args.view in
+    let printed = c.split_at.ensures.front ∙ ap (λ (n : ℕ). take n c.args.races.now) c.min.ensures ∙ take_min view.most c.args.races.now in
+    let none = sym printed ∙ (empty_told c.split_at.result.0.now _ c.is_empty.ensures).0 c.if-is_empty.true in
+    let page : List ℕ = c.args.page.now.bytes.items in
+    let races = take view.most c.args.races.now in
+    pages_in _ page page (races_text view c.args.chart.now lacks runs races) (no_races view c.args.chart.now lacks runs races page none)
 
 pub returns-in_err-texts : goal.returns-in_err-texts
 returns-in_err-texts g c lacks runs are chosen =

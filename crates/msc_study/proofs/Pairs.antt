@@ -1,0 +1,150 @@
+-- What explaining a pair of events answers.
+use Rattle.std.proofs.Common.{◌≡◌, ◌≢◌, ◌⊎◌, ℕ, true, false, List, Option, Result, Ok, Err, None, Some, inl, inr, refl, sym, ap, ◌∙◌, subst, arith}
+use Rattle.std.specs.Prelude.{IfErr, IfOk, IfSome}
+use Rattle.std.specs.Io.KnownBytes.{Appends}
+use Rattle.msc_chart.specs.declared.fault.ChartFault.{ChartFault}
+use Rattle.msc_chart.specs.declared.fault.ChartFault.TheVariants as charts
+use Rattle.msc_chart.specs.declared.queue.Queues.{Queues}
+use Rattle.msc_chart.specs.Drawings.{Drawing, IsAccepted, chart_of}
+use Rattle.msc_chart.specs.Faults.{IsFaultless, IsFirstFault}
+use Rattle.msc_chart.specs.Orders.{wired}
+use Rattle.msc_parser.specs.declared.fault.ParseFault.{ParseFault}
+use Rattle.msc_parser.specs.declared.fault.ParseFault.TheVariants as grammar
+use Rattle.msc_parser.specs.Grammar.{Tree}
+use Rattle.msc_parser.specs.Parsing.{HasDraft}
+use Rattle.msc_reason.specs.Laws.{AWhyIsEnough}
+use Rattle.msc_reason.specs.Reasons.{IsReason}
+use Rattle.msc_reason.specs.declared.reason.Reason.{Reason}
+use Rattle.msc_reason.specs.declared.reason.Reason.TheVariants as reasons
+use Rattle.msc_report.specs.Refusals.{chart_refusal_of, refusal_of}
+use Rattle.msc_report.specs.declared.fault.Fault.{Fault}
+use Rattle.msc_report.specs.declared.fault.Fault.TheVariants.{Memory, Device}
+use Rattle.msc_report.specs.declared.fault.PairFault.{PairFault}
+use Rattle.msc_report.specs.declared.fault.PairFault.TheVariants.{NoEvent, OneEvent}
+use Rattle.msc_study.specs.declared.explained.Explained.{Explained}
+use Rattle.msc_study.specs.declared.explained.Explained.TheVariants as answers
+use Rattle.msc_study.specs.Explained.{told, PrintsPair}
+use Rattle.msc_study.specs.Explaining.{AnswersPair, AreTwoEvents, IsPairFault, PrintsReason, RefusesInputPair, RefusesPair}
+use Rattle.msc_study.specs.Reasons.{explained_text}
+use Rattle.msc_text.proofs.Answered.{of_input}
+use Rattle.msc_text.proofs.Inputs.{draft_back, HasRead}
+use Rattle.msc_text.proofs.Refusals.{IsDraft}
+
+-- a pair that has a fault is no pair of two events, and has no other fault
+pub no_fault : (d : Drawing) (e f : ℕ) (p : PairFault) → AreTwoEvents d e f → IsPairFault d e f p → ⊥
+no_fault d e f (NoEvent x) two (inl past) = let known = two.first in let much = past.0 in omega (arith, known, much)
+no_fault d e f (NoEvent x) two (inr past) = let known = two.second in let much = past.1 in omega (arith, known, much)
+no_fault d e f (OneEvent x) two same = two.other (sym same.1)
+
+pub one_fault : (d : Drawing) (e f : ℕ) (p q : PairFault) → IsPairFault d e f p → IsPairFault d e f q → p ≡ q
+one_fault d e f (NoEvent x) (NoEvent y) (inl a) (inl b) = ap NoEvent (a.1 ∙ sym b.1)
+one_fault d e f (NoEvent x) (NoEvent y) (inr a) (inr b) = ap NoEvent (a.2 ∙ sym b.2)
+one_fault d e f (NoEvent x) (NoEvent y) (inl a) (inr b) = let much = a.0 in let known = b.0 in absurd (omega (arith, much, known))
+one_fault d e f (NoEvent x) (NoEvent y) (inr a) (inl b) = let much = b.0 in let known = a.0 in absurd (omega (arith, much, known))
+one_fault d e f (NoEvent x) (OneEvent y) (inl a) b = let much = a.0 in let known = b.0 in absurd (omega (arith, much, known))
+one_fault d e f (NoEvent x) (OneEvent y) (inr a) b = let much = a.1 in let known = b.0 in let same = b.1 in absurd (omega (arith, much, known, same))
+one_fault d e f (OneEvent x) (NoEvent y) a (inl b) = let much = b.0 in let known = a.0 in absurd (omega (arith, much, known))
+one_fault d e f (OneEvent x) (NoEvent y) a (inr b) = let much = b.1 in let known = a.0 in let same = a.1 in absurd (omega (arith, much, known, same))
+one_fault d e f (OneEvent x) (OneEvent y) a b = ap OneEvent (a.2 ∙ sym b.2)
+
+-- a draft without faults is refused for want of memory alone
+only_memory : (draft : Tree) (x : ChartFault) → IsFaultless draft → (x ≢ charts.Memory → IsFirstFault draft x) → x ≡ charts.Memory
+only_memory draft charts.Memory faultless first = refl
+only_memory draft charts.TooManyInstances faultless first = absurd (faultless _ (first (λ e. cc)).stands)
+only_memory draft (charts.TwiceInstance i) faultless first = absurd (faultless _ (first (λ e. cc)).stands)
+only_memory draft (charts.HeaderWithoutBody k) faultless first = absurd (faultless _ (first (λ e. cc)).stands)
+only_memory draft (charts.UnknownAddress e) faultless first = absurd (faultless _ (first (λ e. cc)).stands)
+only_memory draft charts.TooManyMessages faultless first = absurd (faultless _ (first (λ e. cc)).stands)
+only_memory draft charts.TooManyActions faultless first = absurd (faultless _ (first (λ e. cc)).stands)
+only_memory draft (charts.TwiceEvent e) faultless first = absurd (faultless _ (first (λ e. cc)).stands)
+only_memory draft (charts.UnmatchedOut e) faultless first = absurd (faultless _ (first (λ e. cc)).stands)
+only_memory draft (charts.UnmatchedIn e) faultless first = absurd (faultless _ (first (λ e. cc)).stands)
+only_memory draft (charts.Cyclic e) faultless first = absurd (faultless _ (first (λ e. cc)).stands)
+
+-- a reason that is right, and its text, are what is printed of a pair
+pub prints_pair : (queues : Queues) (d : Drawing) (e f : ℕ) (reason : Reason) (printed : List ℕ)
+    → IsAccepted d → AWhyIsEnough → AreTwoEvents d e f → IsReason (wired queues d) e f reason → printed ≡ explained_text d queues e f reason
+    → PrintsPair d queues e f (told reason) printed
+prints_pair queues d e f (reasons.Enforced why) printed accepted enough two right text = record {
+  two = two;
+  reason = reasons.Enforced why;
+  right = right;
+  answered = (λ yes. enough queues d accepted e f why right, λ enforced. refl);
+  text = text;
+}
+prints_pair queues d e f (reasons.Free run lack late) printed accepted enough two right text = record {
+  two = two;
+  reason = reasons.Free run lack late;
+  right = right;
+  answered = (λ yes. absurd cc, λ enforced. absurd (right.free enforced));
+  text = text;
+}
+
+-- an answer that is no fault of a pair ends by want of memory or by the writer alone
+pub fails_otherwise : {A : Type 0} (r : Result A Fault) (x : Fault) → IfErr r (λ e. (e ≡ Memory) ⊎ (e ≡ Device)) → x ≢ Memory → x ≢ Device → r ≢ Err x
+fails_otherwise {A} (Ok a) x said no_memory no_device same = absurd cc
+fails_otherwise {A} (Err e) x said no_memory no_device same =
+    let is : e ≡ x = cc in
+    elim said [ inl memory ↦ no_memory (sym is ∙ memory) | inr device ↦ no_device (sym is ∙ device) ]
+
+module _ (text : List ℕ) (queues : Queues) (e f : ℕ) where
+  -- what is printed of the chart of a text's draft is printed of the text
+  pub answers_pair : (r : Result Explained Fault) (draft : Tree) (d : Drawing) (before after : Option (List ℕ)) → HasDraft text draft → IsFaultless draft → d ≡ chart_of draft
+      → IfOk r (λ told. (printed : List ℕ) × PrintsPair d queues e f told printed × Appends before after printed)
+      → IfOk r (λ told. AnswersPair text queues e f told before after)
+  answers_pair (Ok answers.Enforced) draft d before after has faultless same (printed, prints, wrote) = (
+    printed,
+    record { draft = draft; has = has; faultless = faultless; shown = subst (λ (d : Drawing). PrintsReason d queues e f true printed) same prints },
+    wrote,
+  )
+  answers_pair (Ok answers.Free) draft d before after has faultless same (printed, prints, wrote) = (
+    printed,
+    record { draft = draft; has = has; faultless = faultless; shown = subst (λ (d : Drawing). PrintsReason d queues e f false printed) same prints },
+    wrote,
+  )
+  answers_pair (Ok (answers.Refused p)) draft d before after has faultless same (printed, prints, wrote) = absurd prints
+  answers_pair (Err fault) draft d before after has faultless same said = tt
+
+  -- the draft of the text has two such events, so no fault of a pair stands
+  pub two_stand : (answer : Result Explained Fault) (draft : Tree) (d : Drawing) → IsDraft text draft → d ≡ chart_of draft → AreTwoEvents d e f → RefusesPair text e f answer
+  two_stand answer draft d is same two p has =
+      absurd (no_fault (chart_of draft) e f p (subst (λ (d : Drawing). AreTwoEvents d e f) same two)
+      (subst (λ (t : Tree). IsPairFault (chart_of t) e f p) (sym (is.1 has.draft has.has)) has.stands))
+
+  -- a fault of a pair is answered as it stands
+  pub pair_stands : (draft : Tree) (d : Drawing) (p : PairFault) → IsDraft text draft → d ≡ chart_of draft → IsPairFault d e f p
+      → RefusesPair text e f (Ok (answers.Refused p))
+  pair_stands draft d p is same stands q has =
+      let other = subst (λ (t : Tree). IsPairFault (chart_of t) e f q) (sym (is.1 has.draft has.has)) has.stands in
+      inl (ap (λ (x : PairFault). Ok (answers.Refused x)) (one_fault (chart_of draft) e f p q (subst (λ (d : Drawing). IsPairFault d e f p) same stands) other))
+
+  -- where the parser refuses a text, no pair has a fault, unless memory runs out
+  pub no_draft_no_pair : (x : ParseFault) → ((t : Tree) → HasDraft text t → x ≡ grammar.Memory) → RefusesPair text e f (Err (refusal_of x))
+  no_draft_no_pair x said q has = inr (rw (said has.draft has.has) refl)
+
+  -- and none has one where the draft is no chart
+  pub no_chart_no_pair : (draft : Tree) (x : ChartFault) → IsDraft text draft → (x ≢ charts.Memory → IsFirstFault draft x) → RefusesPair text e f (Err (chart_refusal_of x))
+  no_chart_no_pair draft x is first q has =
+      inr (rw (only_memory draft x (subst IsFaultless (sym (is.1 has.draft has.has)) has.faultless) first) refl)
+
+  -- what is said of the fault of a pair of what was read holds of the input
+  pub refuses_input_pair : (input : Option (List ℕ)) (answer : Result Explained Fault) → HasRead text input
+      → RefusesPair text e f answer → RefusesInputPair input e f answer
+  refuses_input_pair None answer read said p = tt
+  refuses_input_pair (Some bytes) answer read said p =
+      λ has. elim (said p (record { draft = has.draft; has = draft_back text bytes read has.draft has.has; faultless = has.faultless; stands = has.stands })) [
+        | inl same ↦ inl same
+        | inr memory ↦ inr (inl memory)
+      ]
+
+  -- and what is answered of what was read is answered of the input
+  pub answers_input : (r : Result Explained Fault) (input before after : Option (List ℕ)) → HasRead text input
+      → IfOk r (λ told. AnswersPair text queues e f told before after)
+      → IfOk r (λ told. IfSome input (λ bytes. AnswersPair bytes queues e f told before after))
+  answers_input (Ok answers.Enforced) input before after read wrote =
+      of_input text input (λ bytes. AnswersPair bytes queues e f answers.Enforced before after) read wrote.1.draft wrote.1.has wrote
+  answers_input (Ok answers.Free) input before after read wrote =
+      of_input text input (λ bytes. AnswersPair bytes queues e f answers.Free before after) read wrote.1.draft wrote.1.has wrote
+  answers_input (Ok (answers.Refused p)) input before after read has =
+      of_input text input (λ bytes. AnswersPair bytes queues e f (answers.Refused p) before after) read has.draft has.has has
+  answers_input (Err fault) input before after read said = tt

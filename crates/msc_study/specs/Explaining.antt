@@ -1,0 +1,90 @@
+-- What explaining a pair of a text's events answers.
+use Rattle.std.specs.Prelude.{◌≡◌, ◌≢◌, ◌≤◌, ◌<◌, ◌⊎◌, ◌↔◌, ℕ, Bool, true, false, List, length, Option, Result, Ok, Err, IfOk, IfSome, IsTrue}
+use Rattle.std.specs.Io.KnownBytes.{Appends}
+use Rattle.msc_chart.specs.declared.queue.Queues.{Queues}
+use Rattle.msc_chart.specs.Drawings.{Drawing, chart_of}
+use Rattle.msc_chart.specs.Faults.{IsFaultless}
+use Rattle.msc_chart.specs.Orders.{wired, Enforced}
+use Rattle.msc_parser.specs.Grammar.{Tree}
+use Rattle.msc_parser.specs.Parsing.{HasDraft}
+use Rattle.msc_reason.specs.Reasons.{IsReason}
+use Rattle.msc_reason.specs.declared.reason.Reason.{Reason}
+use Rattle.msc_report.specs.declared.fault.Fault.{Fault}
+use Rattle.msc_report.specs.declared.fault.Fault.TheVariants.{Memory, Device, NotStarted}
+use Rattle.msc_report.specs.declared.fault.PairFault.{PairFault}
+use Rattle.msc_report.specs.declared.fault.PairFault.TheVariants.{NoEvent, OneEvent}
+use Rattle.msc_text.specs.Answers.{RefusesText}
+use Rattle.msc_text.specs.Checking.{RefusesDraft}
+use Rattle.msc_study.specs.declared.explained.Explained.{Explained}
+use Rattle.msc_study.specs.declared.explained.Explained.TheVariants as answers
+use Rattle.msc_study.specs.Reasons.{explained_text}
+
+-- e and f are two events of a chart
+pub record AreTwoEvents (d : Drawing) (e f : ℕ) : Type 0 where
+  pub first : e < length d.events
+  pub second : f < length d.events
+  pub other : e ≢ f
+
+-- the first fault of a pair: e is no event; e is one, and f is none; e is one, and f is the same
+abbrev pub IsPairFault : Drawing → ℕ → ℕ → PairFault → Type 0
+IsPairFault d e f (NoEvent x) =
+    ((length d.events ≤ e) × (x ≡ e)) ⊎ ((e < length d.events) × (length d.events ≤ f) × (x ≡ f))
+IsPairFault d e f (OneEvent x) = (e < length d.events) × (f ≡ e) × (x ≡ e)
+
+-- What is printed of two events of a chart, and whether the first is enforced before the second: a
+-- reason that is right.
+pub record PrintsReason (d : Drawing) (queues : Queues) (e f : ℕ) (enforced : Bool) (printed : List ℕ) : Type 0 where
+  pub two : AreTwoEvents d e f
+  pub reason : Reason
+  pub right : IsReason (wired queues d) e f reason
+  pub answered : IsTrue enforced ↔ Enforced (wired queues d) e f
+  pub text : printed ≡ explained_text d queues e f reason
+
+-- the same of the chart of a text's draft, in which no fault stands
+pub record Explains (text : List ℕ) (queues : Queues) (e f : ℕ) (enforced : Bool) (printed : List ℕ) : Type 0 where
+  pub draft : Tree
+  pub has : HasDraft text draft
+  pub faultless : IsFaultless draft
+  pub shown : PrintsReason (chart_of draft) queues e f enforced printed
+
+-- what is printed of the text went behind the known bytes of a writer
+abbrev pub WritesReason : List ℕ → Queues → ℕ → ℕ → Bool → Option (List ℕ) → Option (List ℕ) → Type 0
+WritesReason text queues e f enforced before after =
+    (printed : List ℕ) × Explains text queues e f enforced printed × Appends before after printed
+
+-- the text has a draft in which no fault stands, and of its chart the pair has this fault first
+pub record HasPairFault (text : List ℕ) (e f : ℕ) (fault : PairFault) : Type 0 where
+  pub draft : Tree
+  pub has : HasDraft text draft
+  pub faultless : IsFaultless draft
+  pub stands : IsPairFault (chart_of draft) e f fault
+
+-- what is answered of a pair: the whole text went out, or the pair has the fault
+abbrev pub AnswersPair : List ℕ → Queues → ℕ → ℕ → Explained → Option (List ℕ) → Option (List ℕ) → Type 0
+AnswersPair text queues e f answers.Enforced before after = WritesReason text queues e f true before after
+AnswersPair text queues e f answers.Free before after = WritesReason text queues e f false before after
+AnswersPair text queues e f (answers.Refused fault) before after = HasPairFault text e f fault
+
+-- what has a fault is refused with it, unless memory runs out
+abbrev pub RefusesPair : List ℕ → ℕ → ℕ → Result Explained Fault → Type 0
+RefusesPair text e f answer =
+    (fault : PairFault) → HasPairFault text e f fault
+    → (answer ≡ Ok (answers.Refused fault)) ⊎ (answer ≡ Err Memory)
+
+-- no instance is answered that could not be started
+abbrev pub StartsNothing : {A : Type 0} → Result A Fault → Type 0
+StartsNothing answer = (i : ℕ) → answer ≢ Err (NotStarted i)
+
+-- what explaining a pair of a text's events answers and writes
+pub record ExplainsText (text : List ℕ) (queues : Queues) (e f : ℕ) (answer : Result Explained Fault) (before after : Option (List ℕ)) : Type 0 where
+  pub written : IfOk answer (λ told. AnswersPair text queues e f told before after)
+  pub refused : RefusesText text answer
+  pub no_chart : RefusesDraft text answer
+  pub no_pair : RefusesPair text e f answer
+
+-- what of an input whose bytes are told has a fault is refused with it, unless memory runs out or a
+-- device fails
+abbrev pub RefusesInputPair : Option (List ℕ) → ℕ → ℕ → Result Explained Fault → Type 0
+RefusesInputPair input e f answer =
+    (fault : PairFault) → IfSome input (λ bytes. HasPairFault bytes e f fault
+    → (answer ≡ Ok (answers.Refused fault)) ⊎ ((answer ≡ Err Memory) ⊎ (answer ≡ Err Device)))

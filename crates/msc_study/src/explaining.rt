@@ -1,0 +1,161 @@
+//! From a text and two numbers to why one event comes before another, bytes to bytes.
+
+ghost use Rattle.std.specs.Prelude.{◌≡◌, ◌≢◌, ◌<◌, ◌⊎◌, ℕ, List, length, IfErr, IfOk, IfSome, MatchOption, Ok, true, false};
+ghost use Rattle.std.specs.Io.KnownBytes.{Appends};
+ghost use Rattle.msc_chart.specs.Orders.{wired, Enforced};
+ghost use Rattle.msc_reason.specs.Reasons.{IsReason};
+ghost use Rattle.msc_study.specs.Explained.{told, NamesAll, PrintsPair};
+ghost use Rattle.msc_study.specs.Explaining.{AnswersPair, AreTwoEvents, ExplainsText, IsPairFault, RefusesInputPair, RefusesPair, StartsNothing};
+ghost use Rattle.msc_study.specs.Reasons.{explained_text};
+ghost use Rattle.msc_text.specs.Answers.{OnRead, RefusesInput, RefusesText};
+ghost use Rattle.msc_text.specs.Checking.{RefusesDraft, RefusesInputDraft};
+
+use crate::explained::Explained;
+use crate::reasons::write_explained;
+use msc_chart::{Chart, Event, Queues};
+use msc_order::Order;
+use msc_parser::parse;
+use msc_reason::laws::a_why_is_enough;
+use msc_reason::{Reason, explain};
+use msc_report::{Fault, PairFault};
+use msc_text::{Page, read_all};
+use std::alloc::{AllocError, Global};
+use std::io::{Read, Write};
+
+/// Why two numbers are no two events of a chart, where they are none.
+fn pair_fault(chart: &Chart, e: Event, f: Event) -> Option<PairFault>
+    ensures { MatchOption result (AreTwoEvents chart.now e f) (IsPairFault chart.now e f) }
+{
+    if e >= chart.events() {
+        return Some(PairFault::NoEvent(e));
+    }
+    if f >= chart.events() {
+        return Some(PairFault::NoEvent(f));
+    }
+    if e == f {
+        return Some(PairFault::OneEvent(e));
+    }
+    None
+}
+
+/// What is printed of two events of a chart.
+fn page_of(
+    alloc: Global,
+    chart: &Chart,
+    queues: Queues,
+    e: Event,
+    f: Event,
+    reason: &Reason,
+) -> Result<Page, AllocError>
+    requires e_known { e < length chart.now.events }
+    requires f_known { f < length chart.now.events }
+    requires named { NamesAll chart.now reason.now }
+    ensures { IfOk result
+        (λ page. page.bytes.items ≡ explained_text chart.now queues e f reason.now) }
+{
+    let mut page = Page::new(alloc);
+    match write_explained(&mut page, chart, queues, e, f, reason) {
+        Ok(()) => Ok(page),
+        Err(_) => Err(AllocError),
+    }
+}
+
+/// What is answered of a pair for which there is a reason.
+fn told(reason: &Reason) -> Explained
+    ensures { result ≡ told reason.now }
+{
+    match reason {
+        Reason::Enforced(_) => Explained::Enforced,
+        Reason::Free(_, _, _) => Explained::Free,
+    }
+}
+
+/// Writes why `e` is enforced before `f`, or how it need not be. Nothing is written before the
+/// whole text is known.
+fn write_pair_of<W: Write>(
+    alloc: Global,
+    chart: &Chart,
+    queues: Queues,
+    e: Event,
+    f: Event,
+    writer: &mut W,
+) -> Result<Explained, Fault>
+    requires two { AreTwoEvents chart.now e f }
+    ensures written { IfOk result (λ told. (printed : List ℕ)
+        × PrintsPair chart.now queues e f told printed
+        × Appends (W.contents writer.old) (W.contents writer.new) printed) }
+    ensures fault { IfErr result (λ e. (e ≡ Fault.Memory) ⊎ (e ≡ Fault.Device)) }
+    ensures untouched { IfErr result (λ e. e ≢ Fault.Device → writer.new ≡ writer.old) }
+{
+    a_why_is_enough();
+    chart.accepted();
+    let order = Order::enforced(alloc, chart, queues)?;
+    let reason = explain(alloc, chart, queues, &order, e, f)?;
+    let page = page_of(alloc, chart, queues, e, f, &reason)?;
+    writer.write_all(page.bytes.as_slice())?;
+    Ok(told(&reason))
+}
+
+/// Writes why event `e` of a text's chart comes before event `f` under an architecture, or how it
+/// need not: a chain of steps, each of which is a rule of the enforced order; or a run that has `f`
+/// before `e`, with what the pair lacks where it is a race. Answers which of both it is.
+///
+/// `e` and `f` are numbers of events, from 0 over all lines; where they are no two events of the
+/// chart, why not is answered as [`Explained::Refused`], and the writer has had no call.
+///
+/// A text without a draft is refused with its first fault, a draft that is no chart with its own,
+/// and want of memory is answered as `Memory`; the writer then has had no call. `Device` is
+/// answered where the writer fails.
+pub fn explain_text<W: Write>(
+    alloc: Global,
+    text: &[u8],
+    queues: Queues,
+    e: Event,
+    f: Event,
+    writer: &mut W,
+) -> Result<Explained, Fault>
+    ensures written { IfOk result (λ told. AnswersPair text.now queues e f told
+        (W.contents writer.old) (W.contents writer.new)) }
+    ensures refused { RefusesText text.now result }
+    ensures no_chart { RefusesDraft text.now result }
+    ensures no_pair { RefusesPair text.now e f result }
+    ensures started { StartsNothing result }
+    ensures untouched { IfErr result (λ e. e ≢ Fault.Device → writer.new ≡ writer.old) }
+    ensures unwritten { (fault : PairFault)
+        → result ≡ Ok (Explained.Refused fault) → writer.new ≡ writer.old }
+{
+    let draft = parse(alloc, text)?;
+    let chart = Chart::build(alloc, &draft)?;
+    if let Some(fault) = pair_fault(&chart, e, f) {
+        return Ok(Explained::Refused(fault));
+    }
+    write_pair_of(alloc, &chart, queues, e, f, writer)
+}
+
+/// Reads an input to its end, and writes why event `e` of its chart comes before event `f`, or how
+/// it need not, as [`explain_text`]; answers which of both it is.
+///
+/// The faults are those of [`read_all`] and then those of [`explain_text`].
+pub fn explain_input<R: Read, W: Write>(
+    alloc: Global,
+    reader: &mut R,
+    queues: Queues,
+    e: Event,
+    f: Event,
+    writer: &mut W,
+) -> Result<Explained, Fault>
+    ensures written { IfOk result (λ told. IfSome (R.remaining reader.old) (λ bytes.
+        AnswersPair bytes queues e f told (W.contents writer.old) (W.contents writer.new))) }
+    ensures refused { RefusesInput (R.remaining reader.old) result }
+    ensures no_chart { RefusesInputDraft (R.remaining reader.old) result }
+    ensures no_pair { RefusesInputPair (R.remaining reader.old) e f result }
+    ensures started { StartsNothing result }
+    ensures read { OnRead (R.remaining reader.old) (R.remaining reader.new) result (λ bytes.
+        ExplainsText bytes queues e f result (W.contents writer.old) (W.contents writer.new)) }
+    ensures untouched { IfErr result (λ e. e ≢ Fault.Device → writer.new ≡ writer.old) }
+    ensures unwritten { (fault : PairFault)
+        → result ≡ Ok (Explained.Refused fault) → writer.new ≡ writer.old }
+{
+    let text = read_all(alloc, reader)?;
+    explain_text(alloc, text.as_slice(), queues, e, f, writer)
+}

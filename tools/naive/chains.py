@@ -1,0 +1,199 @@
+#!/usr/bin/env python3
+"""Checks what `msc explain` prints for every pair of events of random charts, line by line.
+
+    chains.py [--charts N] [--messages M] [--seed S] PROGRAM
+
+The charts are those of compare.py. Each is tried under each architecture, with all pairs of numbers from 0
+up to that of its events: what is printed has to be a chain of rules of docs/MODEL.md from the first event to
+the second where the pair is enforced by the order of verdict.py, and otherwise a whole run that has the
+second first, with what studies.py says of a race. A chain is checked step by step against the drawing alone.
+Each text is checked again without one of its lines, and has to be wrong then. Prints how many texts were
+checked. The exit status is 1 at the first that is wrong, whose chart is printed.
+"""
+import argparse
+import functools
+import random
+import subprocess
+import sys
+
+sys.dont_write_bytecode = True
+from compare import chart
+from studies import is_enforced, why
+from verdict import Chart
+
+
+class Wrong(Exception):
+    """A line that is not as it has to be."""
+
+
+class Reader:
+    """The lines of a text, read one by one."""
+
+    def __init__(self, drawn, lines):
+        self.drawn, self.lines = drawn, list(lines)
+
+    def has(self, *words):
+        return bool(self.lines) and self.lines[0].startswith(words)
+
+    def take(self, wanted):
+        if self.lines[:1] != [wanted]:
+            raise Wrong(f"wanted {wanted!r}, got {self.lines[:1]}")
+        del self.lines[0]
+
+    def named(self, word, x, y):
+        """The line of a word and two events."""
+        events = (self.drawn.events[z] for z in (x, y))
+        first, second = (f"{self.drawn.names[event.line]} {event.text}" for event in events)
+        return f"{word} {x} {y}: {first}; {second}"
+
+    def step(self, blanks, x):
+        """A step from event x; gives the event that it leads to."""
+        y = int(self.lines[0].split()[2].rstrip(":"))
+        if self.has(f"{blanks}sent "):
+            rule, is_right = "sent", self.drawn.is_output(x) and self.drawn.partner[x] == y
+        else:
+            rule, is_right = "drawn", self.drawn.before(x, y) and self.drawn.is_controlled(y)
+        self.take(blanks + self.named(rule, x, y))
+        if not is_right:
+            raise Wrong(f"{rule} {x} {y} is no rule")
+        return y
+
+    def chain(self, blanks, x):
+        """Steps from event x; gives the event that they lead to."""
+        while self.has(f"{blanks}drawn ", f"{blanks}sent "):
+            x = self.step(blanks, x)
+        return x
+
+    def mate(self, e):
+        """The rule of queues from input e; gives the input that it leads to."""
+        drawn, u = self.drawn, int(self.lines[0].split()[2].rstrip(":"))
+        self.take(self.named("queue", e, u))
+        are_inputs = all(not drawn.is_controlled(x) for x in (e, u))
+        if not are_inputs or drawn.queue(e) != drawn.queue(u) or not self.has("  "):
+            raise Wrong(f"queue {e} {u} is no rule")
+        if self.chain("  ", drawn.partner[e]) != drawn.partner[u]:
+            raise Wrong(f"the outputs of {e} and {u} are not chained")
+        return u
+
+    def shown(self, e, f):
+        """What shows that e is enforced before f: one line or more."""
+        if not self.has("queue ", "drawn ", "sent "):
+            raise Wrong("no chain")
+        if self.chain("", self.mate(e) if self.has("queue ") else e) != f:
+            raise Wrong(f"the chain does not lead to {f}")
+
+
+def is_whole_run(drawn, run):
+    """Each event occurs once, an output or an action after what is drawn above it, an input while its
+    message is the first of its queue."""
+    past, queues = set(), {}
+    for x in run:
+        if drawn.is_controlled(x):
+            if any(drawn.before(y, x) and y not in past for y in drawn.all):
+                return False
+        elif queues.get(drawn.queue(x), [])[:1] != [x]:
+            return False
+        if drawn.is_output(x):
+            queues.setdefault(drawn.queue(x), []).append(drawn.partner[x])
+        elif not drawn.is_controlled(x):
+            del queues[drawn.queue(x)][0]
+        past.add(x)
+    return sorted(run) == list(drawn.all)
+
+
+def check_free(reader, e, f):
+    """What is printed of a pair that is not enforced, behind the head."""
+    drawn = reader.drawn
+    if drawn.before(e, f):
+        first, second = drawn.events[e], drawn.events[f]
+        reader.take(f"race {e} {f} on {drawn.names[first.line]}: {first.text}; {second.text}")
+        for line in why(drawn, e, f):
+            reader.take(line)
+    else:
+        reader.take(reader.named("free", e, f))
+    if is_enforced(drawn, f, e):
+        reader.take(f"always {f} {e}")
+        reader.shown(f, e)
+    if not reader.has("run "):
+        raise Wrong("no run")
+    run = list(map(int, reader.lines[0].split()[1:]))
+    if not is_whole_run(drawn, run) or run.index(f) > run.index(e):
+        raise Wrong("no whole run that reverses the pair")
+    reader.take(" ".join(map(str, ["run", *drawn.chosen_run(e)])))
+
+
+def check(drawn, e, f, lines):
+    """Raises Wrong where the lines are no right text of the pair."""
+    reader = Reader(drawn, lines)
+    reader.take(f"chart {drawn.name}")
+    reader.take(f"queues {drawn.queues}")
+    if is_enforced(drawn, e, f):
+        reader.take(reader.named("enforced", e, f))
+        reader.shown(e, f)
+    else:
+        check_free(reader, e, f)
+    if reader.lines:
+        raise Wrong(f"more lines than wanted: {reader.lines}")
+
+
+def is_refused_without(drawn, e, f, lines, place):
+    """Whether the text is wrong without this line."""
+    try:
+        check(drawn, e, f, lines[:place] + lines[place + 1:])
+    except (Wrong, IndexError, ValueError):
+        return True
+    return False
+
+
+def fault(count, e, f):
+    """The line of the fault of a pair, if it has one."""
+    for number in (e, f):
+        if number >= count:
+            return f"pair fault 1: no event {number}"
+    return f"pair fault 2: {e} and {e} are one event" if e == f else None
+
+
+def check_pair(pick, drawn, e, f, done):
+    """Raises Wrong where a run of the program did not end as it has to."""
+    output, errors = (stream.decode("latin-1").splitlines() for stream in (done.stdout, done.stderr))
+    line = fault(len(drawn.events), e, f)
+    if line:
+        if (output, errors, done.returncode) != ([], [line], 2):
+            raise Wrong(f"wanted {line!r} and status 2")
+        return
+    check(drawn, e, f, output)
+    if (errors, done.returncode) != ([], 1 - is_enforced(drawn, e, f)):
+        raise Wrong(f"status {done.returncode}, errors {errors}")
+    if not is_refused_without(drawn, e, f, output, pick.randrange(len(output))):
+        raise Wrong("right without one of its lines too")
+
+
+def main():
+    words = argparse.ArgumentParser(description=__doc__, formatter_class=argparse.RawDescriptionHelpFormatter)
+    words.add_argument("--charts", type=int, default=24, metavar="N")
+    words.add_argument("--messages", type=int, default=6, metavar="M")
+    words.add_argument("--seed", type=int, default=1, metavar="S")
+    words.add_argument("program", metavar="PROGRAM")
+    given = words.parse_args()
+    pick, checked = random.Random(given.seed), 0
+    for _ in range(given.charts):
+        text = chart(pick, given.messages, True)
+        for queues in ("pair", "mailbox", "single"):
+            drawn = Chart(text, queues)
+            drawn.chosen_run = functools.cache(drawn.chosen_run)
+            numbers = range(len(drawn.events) + 1)
+            for e, f in ((e, f) for e in numbers for f in numbers):
+                program = [given.program, "explain", "--queues", queues, "-", str(e), str(f)]
+                done = subprocess.run(program, input=text.encode("latin-1"), capture_output=True)
+                try:
+                    check_pair(pick, drawn, e, f, done)
+                except (Wrong, IndexError, ValueError) as wrong:
+                    print(f"{text!r}\n{program}: {wrong}\n{done.stdout.decode('latin-1')}")
+                    return 1
+                checked += 1
+    print(f"{checked} explanations are right")
+    return 0
+
+
+if __name__ == "__main__":
+    sys.exit(main())
