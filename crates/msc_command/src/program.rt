@@ -23,11 +23,11 @@ use std::{fs, io};
 /// How a run of the program ended.
 #[derive(Clone, Copy, Debug, PartialEq, Eq)]
 enum Status {
-    /// The chart has no race that counts, or the pair is enforced, or each instance that was run has
-    /// finished, and the answer was written, where one is wanted.
+    /// The chart has no race that counts, or the pair is enforced, or each instance that was run
+    /// has finished, and the answer was written, where one is wanted.
     Done,
-    /// The chart has races that count, or the pair is not enforced, and the answer was written, where
-    /// one is wanted.
+    /// The chart has races that count, or the pair is not enforced, and the answer was written,
+    /// where one is wanted.
     Races,
     /// The text or the pair was refused, or the words are no command.
     Refused,
@@ -287,20 +287,20 @@ pub fn refuse_words<E: Write>(faults: &mut E, error: &io::Error) -> u8
 ///
 /// `msc read FILE` writes the canonical text of FILE to `output`, `msc check --queues QUEUES
 /// [--show N] FILE`, where QUEUES is `pair`, `mailbox` or `single`, the verdict on its chart and
-/// each race, the first N with a run that shows it, `msc explain --queues QUEUES FILE E F` why event
-/// E of its chart is enforced before event F, or a run that has F before E, and `msc run --queues
-/// QUEUES [--patience N] FILE` an execution of its chart, in which an instance gives up after N
-/// rounds in a row without a message. N, E and F are from 0 to 4294967295, N by default 4294967295
-/// races and 1000000000 rounds. Of `check`, `--closest` lists the closest races alone, `--why` adds
-/// the kind of each and what it lacks, `--most N` lists the first N alone, `--allow KIND`, where
-/// KIND is `early`, `queues`, `unordered` or `overtaken`, leaves out the races of a kind, and
-/// `--quiet` writes nothing. FILE `-` is `input`, any other FILE is opened through `rt`.
+/// each race, the first N with a run that shows it, `msc explain --queues QUEUES FILE E F` why
+/// event E of its chart is enforced before event F, or a run that has F before E, and `msc run
+/// --queues QUEUES [--patience N] FILE` an execution of its chart, in which an instance gives up
+/// after N rounds in a row without a message. N, E and F are from 0 to 4294967295, N by default
+/// 4294967295 races and 1000000000 rounds. Of `check`, `--closest` lists the closest races alone,
+/// `--why` adds the kind of each and what it lacks, `--most N` lists the first N alone, `--allow
+/// KIND`, where KIND is `early`, `queues`, `unordered` or `overtaken`, leaves out the races of a
+/// kind, and `--quiet` writes nothing. FILE `-` is `input`, any other FILE is opened through `rt`.
 ///
-/// What goes wrong is found in the order: the words, opening FILE, reading it, its text, the pair of
-/// events, running it. A fault's line, and what `clap` says of wrong words, go to `faults`; where
-/// that writing fails the status stays. The status is 0 where the answer or the help asked for was
-/// written, 1 where there are races that are not left out, or E is not enforced before F, 2 where
-/// the text or the pair was refused or the words are no command, 3 where some instance of the
+/// What goes wrong is found in the order: the words, opening FILE, reading it, its text, the pair
+/// of events, running it. A fault's line, and what `clap` says of wrong words, go to `faults`;
+/// where that writing fails the status stays. The status is 0 where the answer or the help asked
+/// for was written, 1 where there are races that are not left out, or E is not enforced before F, 2
+/// where the text or the pair was refused or the words are no command, 3 where some instance of the
 /// execution has not finished, and 4 where memory ran out, a thread could not be started, a file
 /// could not be opened or read, or the output could not be written.
 pub fn command<R: Files + Threads + Wait + Sync, I: Read, O: Write, E: Write>(

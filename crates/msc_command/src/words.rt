@@ -21,7 +21,8 @@ pub enum Task {
     Study(Queues, View),
     /// Whether a study finds races that count, without its text.
     Judge(Queues, View),
-    /// Why the first of two events comes before the second under an architecture, or how it need not.
+    /// Why the first of two events comes before the second under an architecture, or how it need
+    /// not.
     Explain(Queues, Event, Event),
     /// An execution under an architecture, and how many rounds in a row an instance looks in vain.
     Run(Queues, u32),

@@ -1,13 +1,12 @@
 -- What races lack: each has one lack, so there is a table of them.
-use Rattle.std.proofs.Common.{◌≡◌, ℕ, ◌<◌, Bool, true, false, List, length, refl, sym, ap, ◌∙◌, subst, arith}
+use Rattle.std.proofs.Common.{◌≡◌, ℕ, Bool, true, false, refl, sym, ap, ◌∙◌, arith}
 use Rattle.std.specs.Prelude.{◌↔◌, IsTrue}
 use Rattle.msc_chart.proofs.Drawn.{before_parts}
 use Rattle.msc_chart.proofs.ListLemmas.{by_test, clash}
-use Rattle.msc_chart.specs.declared.event.ChartEvent.{ChartEvent}
 use Rattle.msc_chart.specs.declared.queue.Queues.{Queues as Architecture}
 use Rattle.msc_chart.specs.Charts.{before, partner}
 use Rattle.msc_chart.specs.Drawings.{Drawing, IsAccepted}
-use Rattle.msc_chart.specs.Orders.{wired, Enforced, WiredChart, IsEnforcedOrder, IsRace}
+use Rattle.msc_chart.specs.Orders.{wired, WiredChart, IsEnforcedOrder, IsRace}
 use Rattle.msc_reason.specs.Lacks.{needed, IsKindOf, IsLackOf}
 use Rattle.msc_reason.specs.Laws.{EachRaceHasOneKind}
 use Rattle.msc_reason.specs.declared.lack.Lack.{Lack}

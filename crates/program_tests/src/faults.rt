@@ -3,6 +3,7 @@
 use msc_chart::ChartFault;
 use msc_lexer::LexFault;
 use msc_parser::ParseFault;
+use msc_report::{PairFault, write_pair_fault};
 use msc_tool::{Fault, write_fault};
 use std::alloc::Global;
 use std::test::Fail;
@@ -186,6 +187,36 @@ fn a_run_fault_is_printed_as_its_number_and_its_message(rt: HostRuntime) -> Resu
             is_line(rt.alloc(), fault, wanted)? && message.as_str() == wanted,
             "{wanted}"
         );
+    }
+    Ok(())
+}
+
+/// A fault of pairs of each kind, its number, and its line.
+const PAIR_FAULTS: [(PairFault, u32, &str); 2] = [
+    (
+        PairFault::NoEvent(4294967295),
+        1,
+        "pair fault 1: no event 4294967295\n",
+    ),
+    (
+        PairFault::OneEvent(12),
+        2,
+        "pair fault 2: 12 and 12 are one event\n",
+    ),
+];
+
+/// Whether the line of a fault of pairs is this.
+fn is_pair_line(alloc: Global, fault: PairFault, wanted: &str) -> bool {
+    let mut line = Vec::new(alloc);
+    write_pair_fault(&mut line, fault).is_ok() && line.as_slice() == wanted.as_bytes()
+}
+
+#[test]
+fn a_pair_fault_is_printed_as_its_number_and_its_message(rt: HostRuntime) -> Result<(), Fail> {
+    for (fault, number, wanted) in PAIR_FAULTS {
+        let message = format!(in rt.alloc(); "pair fault {number}: {fault}\n")?;
+        let is = is_pair_line(rt.alloc(), fault, wanted) && message.as_str() == wanted;
+        assert!(rt; is, "{wanted}");
     }
     Ok(())
 }

@@ -21,6 +21,6 @@ loop-to-preserved g c =
       inv.0 ++ line,
       inv.1 ∙ ap (λ (rest : List ℕ). inv.0 ++ chain_text blanks d from rest) (drop_more steps at 0 within)
           ∙ sym (append_assoc inv.0 line (chain_text blanks d to (drop (at + 1) steps))),
-      Appends-append _ _ _ _ _ inv.2 c.in_ok-write_step.ensures,
+      Appends-append _ _ _ inv.0 line inv.2 c.in_ok-write_step.ensures,
       c.requires.steps_known at 0 within,
     )

@@ -1,10 +1,9 @@
-use Rattle.std.proofs.Common.{◌≡◌, Err, ℕ, true, false, List, ◌++◌, ap, ◌∙◌, sym, subst, take, drop}
+use Rattle.std.proofs.Common.{Err, ℕ, true, false, List, ◌++◌, ap, ◌∙◌, sym, subst, take, drop}
 use Rattle.std.proofs.lemmas.List.{take_min, drop_min}
 use Rattle.std.proofs.lemmas.Result.{err_from_is_err_and}
 use Rattle.msc_chart.specs.Orders.{wired}
 use Rattle.msc_study.proofs.Listings.{empty_told}
 use Rattle.msc_study.proofs.Shown.{first_races, no_races, other_races}
-use Rattle.msc_study.specs.Counting.{AreRacesOf}
 use Rattle.msc_study.specs.Lines.{part_text, races_text}
 use Rattle.msc_text.proofs.PageLemmas.{begins_none, pages_in, puts_longer, puts_on}
 use Rattle.msc_text.specs.Pages.{Pages, Puts}
