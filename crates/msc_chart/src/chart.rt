@@ -13,7 +13,7 @@ ghost use Rattle.msc_chart.specs.Orders.{queue_of};
 ghost use Rattle.msc_chart.specs.Faults.{IsFaultless, IsFirstFault};
 
 use crate::building::lawful_events;
-use crate::charting::{instance_names, messages, owned, texts};
+use crate::charting::{instance_names, messages, texts};
 use crate::event::{ChartEvent, Event, EventKind};
 use crate::fault::ChartFault;
 use crate::message::Message;
@@ -59,7 +59,7 @@ impl Chart {
     {
         let (events, order, places) = lawful_events(alloc, draft)?;
         Ok(Chart {
-            name: owned(alloc, draft.name())?,
+            name: Name::from_slice(alloc, draft.name())?,
             instances: instance_names(alloc, draft)?,
             events,
             messages: messages(alloc, places.as_slice())?,

@@ -156,20 +156,13 @@ pub(crate) fn chart_events<'d>(
     Ok(chart)
 }
 
-/// A name of its own.
-pub(crate) fn owned(alloc: Global, name: &[u8]) -> Result<Name, AllocError>
-    ensures { IfOk result (λ r. r ≡ name.now) }
-{
-    Ok(Name::from_vec(name.to_vec(alloc)?))
-}
-
 /// The names of the instances.
 pub(crate) fn instance_names(alloc: Global, draft: &Draft) -> Result<Listed<Name>, AllocError>
     ensures { IfOk result (λ names. names ≡ instances_of draft.now) }
 {
     let mut names = Vec::new(alloc);
     for section in draft.sections() {
-        names.push(owned(alloc, section.decl.name.as_slice())?)?;
+        names.push(Name::from_slice(alloc, section.decl.name.as_slice())?)?;
     }
     Ok(Listed::from_vec(names))
 }
@@ -179,7 +172,7 @@ fn owned_number(alloc: Global, number: Option<&[u8]>) -> Result<Option<Name>, Al
     ensures { IfOk result (λ r. r ≡ option_copied number.entry) }
 {
     match number {
-        Some(number) => Ok(Some(owned(alloc, number)?)),
+        Some(number) => Ok(Some(Name::from_slice(alloc, number)?)),
         None => Ok(None),
     }
 }
@@ -194,7 +187,7 @@ pub(crate) fn messages<'d>(alloc: Global, marks: &[Mark<'d>]) -> Result<Listed<M
         if let Mark::End(end) = mark {
             if end.sends {
                 messages.push(Message {
-                    name: owned(alloc, end.name)?,
+                    name: Name::from_slice(alloc, end.name)?,
                     number: owned_number(alloc, end.number)?,
                     output: e as u32,
                 })?;
@@ -211,7 +204,7 @@ pub(crate) fn texts<'d>(alloc: Global, marks: &[Mark<'d>]) -> Result<Listed<Labe
     let mut texts = Vec::new(alloc);
     for mark in marks {
         if let Mark::Action(_, text) = mark {
-            texts.push(owned(alloc, text.bytes)?)?;
+            texts.push(Label::from_vec(text.bytes.to_vec(alloc)?))?;
         }
     }
     Ok(Listed::from_vec(texts))

@@ -106,7 +106,10 @@ fn pieces(alloc: Global, text: &[u8]) -> Result<Vec<Token>, LexFault>
     if text.len() > TEXT_LIMIT {
         return Err(LexFault::TooLong);
     }
-    let mut tokens = Vec::new(alloc);
+    // Most texts have no more tokens than that; where there are more, the list grows.
+    let Ok(mut tokens) = Vec::with_capacity(alloc, text.len() / 4) else {
+        return Err(LexFault::Memory);
+    };
     let mut at = 0;
     while at < text.len() {
         let Front { kind, length } = first_piece(&text[at..], at)?;

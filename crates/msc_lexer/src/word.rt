@@ -2,8 +2,8 @@
 //!
 //! Which of them the grammar supports is the parser's matter.
 
-ghost use Rattle.std.specs.Prelude.{◌≡◌, Some};
-ghost use Rattle.msc_lexer.specs.Words.{spelling, word_of};
+ghost use Rattle.std.specs.Prelude.{◌≡◌, Some, find};
+ghost use Rattle.msc_lexer.specs.Words.{spelling, is_spelled, word_of};
 
 use std::fmt;
 
@@ -33,30 +33,6 @@ pub enum Word {
 }
 
 impl Word {
-    /// Each reserved word once.
-    const ALL: [Word; 20] = [
-        Word::Msc,
-        Word::EndMsc,
-        Word::Inst,
-        Word::Instance,
-        Word::EndInstance,
-        Word::Input,
-        Word::From,
-        Word::Output,
-        Word::To,
-        Word::Concurrent,
-        Word::EndConcurrent,
-        Word::Comment,
-        Word::Env,
-        Word::Action,
-        Word::Condition,
-        Word::Set,
-        Word::Reset,
-        Word::Timeout,
-        Word::Create,
-        Word::Stop,
-    ];
-
     /// The word in small letters, as text.
     fn text(self) -> &'static str
         ensures { result.now ≡ spelling self }
@@ -92,16 +68,36 @@ impl Word {
         self.text().as_bytes()
     }
 
+    /// The first of these words that the bytes spell, in capital or small letters.
+    fn among(bytes: &[u8], words: &[Word]) -> Option<Word>
+        ensures { result ≡ find (is_spelled bytes.now) words.now }
+    {
+        for word in words {
+            if bytes.eq_ignore_ascii_case(word.spelling()) {
+                return Some(*word);
+            }
+        }
+        None
+    }
+
     /// The word that these bytes spell, in capital or small letters.
     pub fn of(bytes: &[u8]) -> Option<Word>
         ensures { result ≡ word_of bytes.now }
     {
-        for word in Word::ALL {
-            if bytes.eq_ignore_ascii_case(word.spelling()) {
-                return Some(word);
-            }
+        match bytes.len() {
+            2 => Word::among(bytes, &[Word::Input, Word::To]),
+            3 => Word::among(bytes, &[Word::Msc, Word::Output, Word::Env, Word::Set]),
+            4 => Word::among(bytes, &[Word::Inst, Word::From, Word::Stop]),
+            5 => Word::among(bytes, &[Word::Reset]),
+            6 => Word::among(bytes, &[Word::EndMsc, Word::Action, Word::Create]),
+            7 => Word::among(bytes, &[Word::Comment, Word::Timeout]),
+            8 => Word::among(bytes, &[Word::Instance]),
+            9 => Word::among(bytes, &[Word::Condition]),
+            10 => Word::among(bytes, &[Word::Concurrent]),
+            11 => Word::among(bytes, &[Word::EndInstance]),
+            13 => Word::among(bytes, &[Word::EndConcurrent]),
+            _ => None,
         }
-        None
     }
 }
 

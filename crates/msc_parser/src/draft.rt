@@ -11,7 +11,8 @@ ghost use Rattle.msc_parser.specs.Canonical.{canonical};
 ghost use Rattle.msc_parser.specs.Drafts.{IsDraft, IsDeclNamed, IsSectionNamed, statements_of};
 ghost use Rattle.msc_parser.specs.Parsing.{HasDraft};
 
-use crate::tree::{Decl, Name, Section};
+use crate::name::Name;
+use crate::tree::{Decl, Section};
 use crate::writing::canonical_text;
 use listed::Listed;
 use msc_lexer::TEXT_LIMIT;

@@ -9,8 +9,9 @@ ghost use Rattle.msc_parser.specs.Places.{Sections};
 ghost use Rattle.msc_parser.specs.Reading.{Reads};
 
 use crate::fault::{ParseFault, What};
+use crate::name::Name;
 use crate::taking::{stands, take_end, take_name};
-use crate::tree::{Decl, Name};
+use crate::tree::Decl;
 use listed::Listed;
 use msc_lexer::{Kind, Token, Word};
 use std::alloc::Global;

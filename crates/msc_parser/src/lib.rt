@@ -11,6 +11,7 @@ mod draft;
 mod fault;
 mod heading;
 pub mod laws;
+mod name;
 mod opening;
 mod parsing;
 mod sectioning;
@@ -21,5 +22,6 @@ mod writing;
 
 pub use draft::Draft;
 pub use fault::{ParseFault, What};
+pub use name::Name;
 pub use parsing::parse;
-pub use tree::{Decl, Item, Label, Name, Section, Signal, Statement, Way};
+pub use tree::{Decl, Item, Label, Section, Signal, Statement, Way};

@@ -12,8 +12,9 @@ ghost use Rattle.msc_parser.specs.Places.{AfterParameter, AfterParameters, addre
 ghost use Rattle.msc_parser.specs.Reading.{first_kind, Reads, Leaves, IsSignalOf};
 
 use crate::fault::{ParseFault, What};
+use crate::name::Name;
 use crate::taking::{stands, take, take_end, take_name};
-use crate::tree::{Name, Signal, Way};
+use crate::tree::{Signal, Way};
 use listed::Listed;
 use msc_lexer::{Kind, Token, Word};
 use std::alloc::Global;

@@ -8,7 +8,8 @@ ghost use Rattle.msc_parser.specs.Parsing.{is_refused, fault_at};
 ghost use Rattle.msc_parser.specs.Reading.{first_kind, TakesToken, TakesName, TakesText, Ends};
 
 use crate::fault::{ParseFault, What};
-use crate::tree::{Label, Name};
+use crate::name::Name;
+use crate::tree::Label;
 use msc_lexer::{Kind, Token, Word, text_bytes};
 use std::alloc::Global;
 
@@ -82,8 +83,8 @@ pub fn take_name<'a>(
         return Err(unexpected(text, tokens, what));
     }
     let token = tokens[0];
-    let bytes = Vec::from_slice(alloc, &text[token.start..token.end])?;
-    Ok((Name::from_vec(bytes), &tokens[1..]))
+    let name = Name::from_slice(alloc, &text[token.start..token.end])?;
+    Ok((name, &tokens[1..]))
 }
 
 /// Takes a text, with what it holds.

@@ -4,11 +4,8 @@
 //! count. Contracts see each part as the record or the variant that it is, with lists for its
 //! lists.
 
+use crate::name::Name;
 use listed::Listed;
-
-/// The bytes of a name: ASCII letters, digits and underscores, from one to `msc_lexer::NAME_LIMIT`,
-/// that are no reserved word.
-pub type Name = Listed<u8>;
 
 /// The text of an action: any bytes, none included. Each doubled apostrophe of the chart's text is
 /// one here.

@@ -13,8 +13,9 @@ ghost use Rattle.msc_parser.specs.Canonical.{coregion_pieces, item_pieces, secti
 ghost use Rattle.msc_parser.specs.Canonical.{canonical};
 
 use crate::draft::Draft;
+use crate::name::Name;
 use crate::signalling::address_word;
-use crate::tree::{Decl, Item, Name, Section, Signal, Statement, Way};
+use crate::tree::{Decl, Item, Section, Signal, Statement, Way};
 use msc_lexer::Word;
 use std::alloc::{AllocError, Global};
 

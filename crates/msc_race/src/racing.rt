@@ -31,9 +31,13 @@ fn gaps_of(word: u64, k: u32, start: u32, end: u32) -> u64
     ensures { (f : ℕ) → f / 64 ≡ k
         → bit_of result (f % 64) ≡ (not (bit_of word (f % 64)) && nat_le start f && nat_lt f end) }
 {
+    let zeros = !word;
+    if zeros == 0 {
+        return 0;
+    }
     let from = start.saturating_sub(64 * k);
     let past = (64 * k + 64).saturating_sub(end);
-    !word & (u64::MAX << from) & (u64::MAX >> past)
+    zeros & (u64::MAX << from) & (u64::MAX >> past)
 }
 
 /// Appends the pairs of `e` with the numbers that `word` has as word `k` of a row.

@@ -20,21 +20,24 @@ range_kept xs ys i j rising within =
 text_kept : (old rest : List ℕ) (s : Span) → IsWithin old s → text_at (old ++ rest) s ≡ text_at old s
 text_kept old rest s within =
     let end = within.end in
-    let past = within.past_first in
+    let second = within.second in
     let first = within.first in
+    let number = within.number in
+    let opening = within.opening in
     rw (
-      range_kept old rest s.number s.first within.number (omega (arith, end, past, first)),
-      range_kept old rest s.first s.past_first first (omega (arith, end, past)),
-      range_kept old rest s.second s.end within.second end,
+      range_kept old rest s.opening s.first (omega (arith, opening, number)) (omega (arith, end, second, first)),
+      range_kept old rest s.number s.first number (omega (arith, end, second, first)),
+      range_kept old rest s.first s.second first (omega (arith, end, second)),
+      range_kept old rest s.second s.end second end,
     ) refl
 
 -- whose places are within the longer list
 within_kept : (old rest : List ℕ) (s : Span) → IsWithin old s → IsWithin (old ++ rest) s
 within_kept old rest s within = record {
+  opening = within.opening;
   number = within.number;
   first = within.first;
   second = within.second;
-  past_first = within.past_first;
   end = let size = length-append old rest in let end = within.end in omega (arith, size, end);
 }
 
@@ -87,6 +90,6 @@ made_all d bytes spans e all made = record {
 
 -- the parts of both texts, put behind a page, are the text of their race
 pub race_joined : (d : Drawing) (e f : ℕ) (page : List ℕ)
-    → (((((page ++ codes "race") ++ (text_of d e).number) ++ (text_of d f).number) ++ (text_of d e).first) ++ codes "; ") ++ (text_of d f).second
+    → (((page ++ (text_of d e).opening) ++ (text_of d f).number) ++ (text_of d e).first) ++ (text_of d f).second
     ≡ page ++ race_text d e f None
 race_joined d e f page = simp (append_assoc, append-nil) refl

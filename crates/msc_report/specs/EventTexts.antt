@@ -5,9 +5,11 @@ use Rattle.msc_chart.specs.Drawings.{Drawing}
 use Rattle.msc_report.specs.Texts.{line}
 use Rattle.msc_report.specs.Verdicts.{event_text, instance_text, spaced}
 
--- What is printed of an event: its number after a space; of the first of two that race, the name of
--- its instance and what it does; of the second, what it does, to the end of the line.
+-- What is printed of an event: of the first of two that race, how the line begins; its number after a
+-- space; of the first again, the name of its instance and what it does; of the second, what it does, to
+-- the end of the line.
 pub record EventText : Type 0 where
+  pub opening : List ℕ
   pub number : List ℕ
   pub first : List ℕ
   pub second : List ℕ
@@ -15,13 +17,14 @@ pub record EventText : Type 0 where
 -- what is printed of event e
 abbrev pub text_of : Drawing → ℕ → EventText
 text_of d e = record {
+  opening = codes "race" ++ spaced e;
   number = spaced e;
-  first = codes " on " ++ (instance_text d (charts.line d.events e) ++ (codes ": " ++ event_text d e));
+  first = codes " on " ++ (instance_text d (charts.line d.events e) ++ (codes ": " ++ (event_text d e ++ codes "; ")));
   second = line (event_text d e);
 }
 
 abbrev pub no_text : EventText
-no_text = record { number = []; first = []; second = [] }
+no_text = record { opening = []; number = []; first = []; second = [] }
 
 -- these are the texts of the events of a chart, in order
 pub record AreTextsOf (d : Drawing) (texts : List EventText) : Type 0 where

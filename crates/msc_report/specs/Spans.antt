@@ -8,17 +8,18 @@ use Rattle.msc_report.specs.EventTexts.{EventText, text_of}
 -- the parts that stand at these places
 abbrev pub text_at : List ℕ → Span → EventText
 text_at bytes s = record {
+  opening = slice_range bytes s.opening s.first;
   number = slice_range bytes s.number s.first;
-  first = slice_range bytes s.first s.past_first;
+  first = slice_range bytes s.first s.second;
   second = slice_range bytes s.second s.end;
 }
 
 -- the places are in order, and none is past the bytes
 pub record IsWithin (bytes : List ℕ) (s : Span) : Type 0 where
+  pub opening : s.opening ≤ s.number
   pub number : s.number ≤ s.first
-  pub first : s.first ≤ s.past_first
+  pub first : s.first ≤ s.second
   pub second : s.second ≤ s.end
-  pub past_first : s.past_first ≤ s.end
   pub end : s.end ≤ length bytes
 
 -- the text of event e was put behind the bytes, and stands at these places
@@ -28,7 +29,7 @@ pub record HasPut (d : Drawing) (e : ℕ) (old new : List ℕ) (s : Span) : Type
   pub text : text_at new s ≡ text_of d e
 
 abbrev pub no_span : Span
-no_span = record { number = 0; first = 0; second = 0; past_first = 0; end = 0 }
+no_span = record { opening = 0; number = 0; first = 0; second = 0; end = 0 }
 
 -- the texts of the events below e were put one after the other
 pub record AreMade (d : Drawing) (bytes : List ℕ) (spans : List Span) (e : ℕ) : Type 0 where

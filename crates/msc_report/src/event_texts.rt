@@ -1,9 +1,10 @@
 //! The texts of a chart's events, made once.
 
 ghost use Rattle.std.specs.Prelude.{◌≡◌, ℕ, ◌<◌, ◌++◌, IfOk, None, OnOk, Some, get_or, length};
+ghost use Rattle.std.specs.Io.KnownBytes.{Appends};
 ghost use Rattle.std.specs.List.{All};
 ghost use Rattle.msc_chart.specs.Drawings.{Drawing};
-ghost use Rattle.msc_report.specs.EventTexts.{no_text, AreTextsOf};
+ghost use Rattle.msc_report.specs.EventTexts.{no_text, text_of, AreTextsOf};
 ghost use Rattle.msc_report.specs.Spans.{HasPut};
 ghost use Rattle.msc_report.specs.Verdicts.{race_text, run_line};
 
@@ -14,15 +15,16 @@ use std::io;
 use std::io::Write;
 use std::marker::Model;
 
-/// Where the parts of an event's text stand: from `number` up to `first` its number after a space,
-/// up to `past_first` the name of its instance and what it does, and from `second` up to `end` what
-/// it does, to the end of the line.
+/// Where the parts of an event's text stand: from `opening` up to `first` how the line of a race
+/// begins of which it is the first event, of that from `number` on its number after a space; up to
+/// `second` the name of its instance and what it does, as the first of two events; and up to `end`
+/// what it does, to the end of the line.
 #[derive(Clone, Copy)]
 pub(crate) struct Span {
+    pub opening: usize,
     pub number: usize,
     pub first: usize,
     pub second: usize,
-    pub past_first: usize,
     pub end: usize,
 }
 
@@ -49,27 +51,48 @@ impl Model for EventTexts {
     ghost invariant = { λ t. All (IsWithin t.bytes.items) t.spans.items };
 }
 
+/// Writes the name of the instance of event `e`, and what it does, before a second event.
+fn write_first<W: Write>(writer: &mut W, chart: &Chart, e: Event) -> io::Result<()>
+    requires { e < length chart.now.events }
+    ensures { OnOk result (Appends (W.contents writer.old) (W.contents writer.new)
+        (text_of chart.now e).first) }
+{
+    chart.accepted();
+    writer.write_all(b" on ")?;
+    write_instance(writer, chart, chart.instance_of(e))?;
+    writer.write_all(b": ")?;
+    write_event(writer, chart, e)?;
+    writer.write_all(b"; ")
+}
+
+/// Writes what event `e` does, to the end of the line.
+fn write_second<W: Write>(writer: &mut W, chart: &Chart, e: Event) -> io::Result<()>
+    requires { e < length chart.now.events }
+    ensures { OnOk result (Appends (W.contents writer.old) (W.contents writer.new)
+        (text_of chart.now e).second) }
+{
+    write_event(writer, chart, e)?;
+    writer.write_all(b"\n")
+}
+
 /// Puts the text of event `e` behind the bytes, and answers where its parts stand.
 fn write_parts(bytes: &mut Vec<u8>, chart: &Chart, e: Event) -> io::Result<Span>
     requires { e < length chart.now.events }
     ensures { IfOk result (HasPut chart.now e bytes.old.items bytes.new.items) }
 {
-    chart.accepted();
+    let opening = bytes.len();
+    bytes.write_all(b"race")?;
     let number = bytes.len();
     write_numbers(bytes, &[e])?;
     let first = bytes.len();
-    bytes.write_all(b" on ")?;
-    write_instance(bytes, chart, chart.instance_of(e))?;
-    bytes.write_all(b": ")?;
+    write_first(bytes, chart, e)?;
     let second = bytes.len();
-    write_event(bytes, chart, e)?;
-    let past_first = bytes.len();
-    bytes.write_all(b"\n")?;
+    write_second(bytes, chart, e)?;
     Ok(Span {
+        opening,
         number,
         first,
         second,
-        past_first,
         end: bytes.len(),
     })
 }
@@ -99,6 +122,15 @@ impl EventTexts {
         Ok(EventTexts { bytes, spans })
     }
 
+    /// How the line of a race begins of which `e` is the first event.
+    fn opening(&self, e: Event) -> &[u8]
+        requires { e < length self.now }
+        ensures { result.now ≡ (get_or self.now e no_text).opening }
+    {
+        let span = self.spans[e as usize];
+        &self.bytes[span.opening..span.first]
+    }
+
     /// The number of event `e`, after a space.
     fn number(&self, e: Event) -> &[u8]
         requires { e < length self.now }
@@ -108,13 +140,13 @@ impl EventTexts {
         &self.bytes[span.number..span.first]
     }
 
-    /// The name of the instance of event `e`, and what it does.
+    /// The name of the instance of event `e`, and what it does, before the second event.
     fn first(&self, e: Event) -> &[u8]
         requires { e < length self.now }
         ensures { result.now ≡ (get_or self.now e no_text).first }
     {
         let span = self.spans[e as usize];
-        &self.bytes[span.first..span.past_first]
+        &self.bytes[span.first..span.second]
     }
 
     /// What event `e` does, to the end of the line.
@@ -134,11 +166,9 @@ impl EventTexts {
         ensures { (d : Drawing) → AreTextsOf d self.now
             → OnOk result (page.new.items ≡ page.old.items ++ race_text d e f None) }
     {
-        page.extend_from_slice(b"race")?;
-        page.extend_from_slice(self.number(e))?;
+        page.extend_from_slice(self.opening(e))?;
         page.extend_from_slice(self.number(f))?;
         page.extend_from_slice(self.first(e))?;
-        page.extend_from_slice(b"; ")?;
         page.extend_from_slice(self.second(f))?;
         Ok(())
     }

@@ -6,7 +6,7 @@ use Rattle.std.proofs.lemmas.Bool.{cases_lt, le-leb, lt-leb, lt-ltb, le-ltb}
 use Rattle.std.proofs.lemmas.Bool.Decides.{nat_tests}
 use Rattle.std.proofs.lemmas.Nat.Bits.{bit_at_ones, bit_at_ones_above, bit_at_mask_inside, bit_at_mask_below, ones_shl, ones_shr}
 use Rattle.bit_rows.specs.Rows.{bit_of, has}
-use Rattle.bit_rows.proofs.Bits.{bit_meet, bit_other}
+use Rattle.bit_rows.proofs.Bits.{bit_meet, bit_other, bit_zero}
 use Rattle.msc_chart.specs.Lists.{pairs_to}
 use Rattle.msc_race.specs.Gaps.{is_gap}
 use Rattle.msc_race.specs.Words.{is_in_word}
@@ -49,6 +49,14 @@ gap_bits word k start end from past f fits low high is_from is_past here =
       start_same,
       end_same,
     ) refl
+
+-- a word without zeros has none in a range
+pub no_bits : (word start end f : ℕ) → word < 2 ^ 64 → bit_not w64 word ≡ 0
+    → bit_of 0 (f % 64) ≡ (not (bit_of word (f % 64)) && leb start f && ltb f end)
+no_bits word start end f fits none =
+    let i : ℕ = f % 64 in
+    let one : not (bit_of word i) ≡ false = sym (bit_other word i fits (omega arith)) ∙ ap (λ w. bit_of w i) none ∙ bit_zero i in
+    bit_zero i ∙ rw one refl
 
 module _ (row : List ℕ) (start end e : ℕ) where
   -- below the start is no gap

@@ -1,5 +1,8 @@
-use Rattle.msc_race.proofs.Listing.Gaps.{gap_bits}
+use Rattle.msc_race.proofs.Listing.Gaps.{gap_bits, no_bits}
 use Rattle.msc_race.proofs.racing.gaps_of.Goals as goal
+
+pub returns-then-zeros-eq0 : goal.returns-then-zeros-eq0
+returns-then-zeros-eq0 c f here = no_bits c.args.word c.args.start c.args.end f c.ranges.word.fits c.if-zeros-eq0.true
 
 pub returns : goal.returns
 returns c f here =

@@ -23,6 +23,13 @@ returns-in_err-chart-clause-no_chart g c =
     rw (exit.1, exit.2)
     (no_chart c.args.text.now c.in_ok-draft.draft _ (said.accepted, said.only_accepted) c.in_err-chart.ensures.fault)
 
+pub returns-in_err-made-clause-no_chart : goal.returns-in_err-made-clause-no_chart
+returns-in_err-made-clause-no_chart g c =
+    let exit = err_from_is_err_and c.from_residual-in_err-made.result c.from_residual-in_err-made.ensures.1 in
+    let said = c.in_ok-draft.ensures in
+    rw (exit.1, exit.2)
+    (chart_stands c.args.text.now c.in_ok-draft.draft _ (said.accepted, said.only_accepted) c.in_ok-chart.ensures.faultless (λ f e. cc))
+
 pub returns-clause-refused : goal.returns-clause-refused
 returns-clause-refused g c =
     text_stands c.args.text.now _ c.in_ok-draft.ensures.only_fault (writes_no_parse c.write_study.result _ _ _ c.write_study.ensures.written.2)

@@ -7,7 +7,7 @@ use Rattle.msc_chart.proofs.chart.Chart.build.Goals as goal
 
 pub returns-clause-chart : goal.returns-clause-chart
 returns-clause-chart c =
-    same_drawing (c.in_ok-owned.ensures ∙ c.name.ensures.value) c.in_ok-instance_names.ensures c.in_ok-events.ensures.events
+    same_drawing (c.in_ok-from_slice.ensures ∙ c.name.ensures.value) c.in_ok-instance_names.ensures c.in_ok-events.ensures.events
     (c.in_ok-messages.ensures ∙ ap (messages_from 0) (ap (map mark_view) c.as_slice.ensures.keys ∙ c.in_ok-events.ensures.acts))
     (c.in_ok-texts.ensures ∙ ap texts_of (ap (map mark_view) c.as_slice-2.ensures.keys ∙ c.in_ok-events.ensures.acts))
 
@@ -15,7 +15,7 @@ pub invariant_of-result : goal.invariant_of-result
 invariant_of-result c = record {
   accepted =
       subst IsAccepted
-      (sym (same_drawing (c.in_ok-owned.ensures ∙ c.name.ensures.value) c.in_ok-instance_names.ensures c.in_ok-events.ensures.events
+      (sym (same_drawing (c.in_ok-from_slice.ensures ∙ c.name.ensures.value) c.in_ok-instance_names.ensures c.in_ok-events.ensures.events
       (c.in_ok-messages.ensures ∙ ap (messages_from 0) (ap (map mark_view) c.as_slice.ensures.keys ∙ c.in_ok-events.ensures.acts))
       (c.in_ok-texts.ensures ∙ ap texts_of (ap (map mark_view) c.as_slice-2.ensures.keys ∙ c.in_ok-events.ensures.acts))))
       (accepted c.args.draft.now c.in_ok-events.ensures.faultless);

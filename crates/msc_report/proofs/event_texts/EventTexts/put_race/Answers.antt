@@ -10,16 +10,14 @@ returns c d texts =
     let e_text = texts.each c.args.e (omega (arith, size, e_known)) in
     let f_text = texts.each c.args.f (omega (arith, size, f_known)) in
     rw (
-      c.in_ok-extend_from_slice-6.ensures.items,
-      c.in_ok-extend_from_slice-5.ensures.items,
       c.in_ok-extend_from_slice-4.ensures.items,
       c.in_ok-extend_from_slice-3.ensures.items,
       c.in_ok-extend_from_slice-2.ensures.items,
       c.in_ok-extend_from_slice.ensures.items,
       c.second.ensures,
       c.first.ensures,
-      c.number-2.ensures,
       c.number.ensures,
+      c.opening.ensures,
       e_text,
       f_text,
     )
