@@ -10,8 +10,9 @@ at once. Two charts are run for each number: in the one each instance waits for 
 and the first for the last, so each waits for the one that is missing; in the other the last
 instance sends to all others, which act when they have it. A third chart is
 run once: two instances wait for the third, and then for each other. With --limit, as root, no call is
-refused, but the program runs as a user that may have 1 to 9 processes and threads, so that the
-system itself says no. Prints what differs, and last `N passed, M failed`.
+refused, but the system itself says no: the program runs as a user that may have 1 to 9 processes and
+threads, and in a control group that may, where one can be made; else that is said, and left out.
+Prints what differs, and last `N passed, M failed`.
 """
 import os
 import pathlib
@@ -89,18 +90,59 @@ def limited(most):
     return lambda: resource.setrlimit(resource.RLIMIT_NPROC, (most, most))
 
 
-def limit_each(count, program, folder):
+def grouped(group, most):
+    """The same, by a control group."""
+    (group / "pids.max").write_text(str(most))
+    return lambda: (group / "cgroup.procs").write_text(str(os.getpid()))
+
+
+def made_group():
+    """A new control group that can have a limit of threads, of either version; none where none can
+    be made."""
+    for line in pathlib.Path("/proc/mounts").read_text().splitlines():
+        _, folder, kind, options = line.split(" ")[:4]
+        if kind == "cgroup2" or kind == "cgroup" and "pids" in options.split(","):
+            group = pathlib.Path(folder) / f"msc-threads-{os.getpid()}"
+            try:
+                group.mkdir()
+            except OSError:
+                continue
+            if (group / "pids.max").exists():
+                return group
+            group.rmdir()
+    return None
+
+
+def limit_each(count, words, told, options_of):
+    """Runs charts where few threads may be had; the options of a run are made of how many."""
+    for threads in range(9):
+        for queues in QUEUES:
+            # all wait for the last, so no thread ends whose place another could take
+            answer = run([*words, "--queues", queues, "-"], star(9), **options_of(threads + 1))
+            count.compare(answer, not_started(threads), f"{told}: {threads} threads", queues)
+
+
+def limit_user(count, program, folder):
     """Runs charts as a user that may have few threads."""
     reachable = pathlib.Path(folder) / "msc"
     shutil.copy(program, reachable)
     os.chmod(folder, 0o755)
     os.chmod(reachable, 0o755)
-    for threads in range(9):
-        for queues in QUEUES:
-            options = {"user": NOBODY, "preexec_fn": limited(threads + 1), "cwd": "/"}
-            # all wait for the last, so no thread ends whose place another could take
-            answer = run([reachable, "run", "--queues", queues, "-"], star(9), **options)
-            count.compare(answer, not_started(threads), f"{threads} threads", queues)
+    limit_each(count, [reachable, "run"], "user",
+               lambda most: {"user": NOBODY, "preexec_fn": limited(most), "cwd": "/"})
+
+
+def limit_group(count, program):
+    """Runs charts in a control group that may have few threads."""
+    group = made_group()
+    if not group:
+        print("no control group with a limit of threads can be made here: left out")
+        return
+    try:
+        limit_each(count, [program, "run"], "group",
+                   lambda most: {"preexec_fn": grouped(group, most)})
+    finally:
+        group.rmdir()
 
 
 def main():
@@ -111,7 +153,8 @@ def main():
     count = Count()
     with tempfile.TemporaryDirectory() as folder:
         if options.limit:
-            limit_each(count, options.program, folder)
+            limit_user(count, options.program, folder)
+            limit_group(count, options.program)
         else:
             refuse_each(count, options.program, Shim(folder), 3, [knot])
             for instances in options.instances:

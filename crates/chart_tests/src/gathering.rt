@@ -1,14 +1,14 @@
 //! Logs that are gathered into the least run that has them as its lines, and logs of no run.
 
 use crate::charts::chart_of;
-use example_charts::{CROSSING, TWO_SENDERS};
+use example_charts::{CROSSING, RELAY, TWO_SENDERS};
 use msc_chart::{Event, Queues};
 use msc_gather::{GatherFault, gather};
 use std::alloc::{AllocError, Global};
 use std::test::Fail;
 
 /// Texts, architectures, logs, and the run that they are gathered into.
-const GATHERED: [(&[u8], Queues, &[&[Event]], &[Event]); 8] = [
+const GATHERED: [(&[u8], Queues, &[&[Event]], &[Event]); 12] = [
     (
         TWO_SENDERS,
         Queues::Pair,
@@ -42,6 +42,20 @@ const GATHERED: [(&[u8], Queues, &[&[Event]], &[Event]); 8] = [
     (CROSSING, Queues::Pair, &[&[0, 1], &[2, 3]], &[0, 2, 1, 3]),
     (CROSSING, Queues::Pair, &[&[1, 0], &[2, 3]], &[2, 1, 0, 3]),
     (CROSSING, Queues::Pair, &[&[], &[]], &[]),
+    (RELAY, Queues::Mailbox, &[&[], &[], &[]], &[]),
+    (RELAY, Queues::Mailbox, &[&[0], &[2], &[]], &[0, 2]),
+    (
+        RELAY,
+        Queues::Mailbox,
+        &[&[0, 1], &[2], &[4, 5]],
+        &[0, 1, 2, 4, 5],
+    ),
+    (
+        RELAY,
+        Queues::Mailbox,
+        &[&[0, 1], &[2], &[4]],
+        &[0, 1, 2, 4],
+    ),
 ];
 
 /// Logs of `crossing` that no run has as its lines: each queue is in order by itself; a log too

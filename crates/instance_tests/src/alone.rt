@@ -1,11 +1,25 @@
 //! Instances run one by one in the thread of the test.
 
-use crate::together::{Never, chart_of};
+use crate::together::chart_of;
 use example_charts::{ONE_MESSAGE, RELAY};
 use msc_chart::{Chart, Event, Queues};
 use msc_instance::{AlwaysOpen, End, Gate, InstanceEnds, run_instance, wire};
 use std::alloc::{AllocError, Global};
 use std::test::Fail;
+
+/// The gate that says no to one event.
+#[derive(Clone, Copy)]
+struct Never(Event);
+
+impl Gate for Never {
+    ghost use Rattle.std.specs.Prelude.{false};
+
+    ghost is_open = { false };
+
+    fn at(&self, _instance: u32, event: Event) -> bool {
+        event != self.0
+    }
+}
 
 /// How an instance ends, and its log.
 type Left<'a> = (End, &'a [Event]);

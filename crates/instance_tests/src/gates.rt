@@ -1,10 +1,11 @@
 //! Gates that make instances wait for each other, so that an execution shows which of them ran at
-//! the same time.
+//! the same time, and gates that stop them.
 
 use crate::together::{PATIENCE, Wanted, chart_of, is_execution};
-use example_charts::TWO_SENDERS;
+use example_charts::{RELAY, TWO_SENDERS};
 use msc_chart::{Event, Queues};
-use msc_instance::{End, Gate, run_chart};
+use msc_fifo::Account;
+use msc_instance::{End, Execution, Gate, run_chart};
 use std::alloc::Global;
 use std::sync::Wait;
 use std::sync::atomic::{AtomicBool, AtomicU64, Ordering};
@@ -23,16 +24,21 @@ struct Meeting {
     asked: AtomicU64,
 }
 
-/// Says that one is there, and waits until the other is.
-fn meets(one: &AtomicBool, other: &AtomicBool) -> bool {
-    one.store(true, Ordering::SeqCst);
+/// Waits until one is there, and says whether it is.
+fn comes(one: &AtomicBool) -> bool {
     for _ in 0..TURNS {
-        if other.load(Ordering::SeqCst) {
+        if one.load(Ordering::SeqCst) {
             return true;
         }
         thread::yield_now();
     }
     false
+}
+
+/// Says that one is there, and waits until the other is.
+fn meets(one: &AtomicBool, other: &AtomicBool) -> bool {
+    one.store(true, Ordering::SeqCst);
+    comes(other)
 }
 
 impl Gate for Meeting {
@@ -82,5 +88,141 @@ fn outputs_that_wait_for_each_other(rt: HostRuntime) -> Result<(), Fail> {
     for queues in Queues::ALL {
         assert!(rt; meet(&rt, rt.alloc(), queues)?, "{queues:?}");
     }
+    Ok(())
+}
+
+/// The gate that says no to one event of `relay`, and lets the second message to b go only once the
+/// first has come, so that b takes them in one order under each architecture.
+#[derive(Drop)]
+struct InOrder {
+    never: Event,
+    first: AtomicBool,
+}
+
+impl Gate for InOrder {
+    ghost use Rattle.std.specs.Prelude.{false};
+
+    ghost is_open = { false };
+
+    fn at(&self, _instance: u32, event: Event) -> bool {
+        if event == 2 {
+            self.first.store(true, Ordering::SeqCst);
+        }
+        let may_go = event != 5 || comes(&self.first);
+        may_go && event != self.never
+    }
+}
+
+/// The execution of `relay` under an architecture and the gate that says no to this event.
+fn stopped_at<R: Threads + Wait + Sync>(
+    rt: &R,
+    alloc: Global,
+    queues: Queues,
+    event: Event,
+) -> Result<Execution, Fail> {
+    let chart = chart_of(alloc, RELAY)?;
+    let gate = InOrder {
+        never: event,
+        first: AtomicBool::new(false),
+    };
+    Ok(run_chart(rt, alloc, &chart, queues, &gate, PATIENCE)?)
+}
+
+/// An event of `relay` at which the gate says no, and how the three instances end.
+const STOPPED: [(Event, Wanted); 6] = [
+    (
+        0,
+        (
+            &[End::Stopped, End::Starved, End::Starved],
+            &[&[], &[], &[]],
+        ),
+    ),
+    (
+        1,
+        (
+            &[End::Stopped, End::Starved, End::Starved],
+            &[&[0], &[2], &[]],
+        ),
+    ),
+    (
+        2,
+        (
+            &[End::Finished, End::Stopped, End::Finished],
+            &[&[0, 1], &[2], &[4, 5]],
+        ),
+    ),
+    (
+        3,
+        (
+            &[End::Finished, End::Stopped, End::Finished],
+            &[&[0, 1], &[2, 3], &[4, 5]],
+        ),
+    ),
+    (
+        4,
+        (
+            &[End::Finished, End::Starved, End::Stopped],
+            &[&[0, 1], &[2], &[4]],
+        ),
+    ),
+    (
+        5,
+        (
+            &[End::Finished, End::Starved, End::Stopped],
+            &[&[0, 1], &[2], &[4]],
+        ),
+    ),
+];
+
+/// Whether the instances of `relay` end so.
+fn is_stopped_at<R: Threads + Wait + Sync>(
+    rt: &R,
+    alloc: Global,
+    queues: Queues,
+    event: Event,
+    wanted: Wanted,
+) -> Result<bool, Fail> {
+    Ok(is_execution(&stopped_at(rt, alloc, queues, event)?, wanted))
+}
+
+#[test]
+fn a_gate_that_says_no_to_an_event(rt: HostRuntime) -> Result<(), Fail> {
+    for (event, wanted) in STOPPED {
+        for queues in Queues::ALL {
+            let is = is_stopped_at(&rt, rt.alloc(), queues, event, wanted)?;
+            assert!(rt; is, "{event} {queues:?}");
+        }
+    }
+    Ok(())
+}
+
+/// Whether the account is closed and has this put, nothing taken, and all of it left.
+fn is_untaken(account: &Account, put: &[u32]) -> bool {
+    account.closed
+        && account.put.as_slice() == put
+        && account.taken.as_slice().is_empty()
+        && account.left.as_slice() == put
+}
+
+/// Whether an execution has first the mailbox of instance 1, whose last sender put this and nobody
+/// took it.
+fn is_left_in_mailbox(execution: &Execution, put: &[u32]) -> bool {
+    match execution.queues.first() {
+        Some((1, mailbox)) => match mailbox.senders.last() {
+            Some(account) => is_untaken(account, put),
+            None => false,
+        },
+        _ => false,
+    }
+}
+
+/// Whether it is so where the gate says no to the first input of `relay`.
+fn is_left<R: Threads + Wait + Sync>(rt: &R, alloc: Global, put: &[u32]) -> Result<bool, Fail> {
+    Ok(is_left_in_mailbox(&stopped_at(rt, alloc, Queues::Mailbox, 2)?, put))
+}
+
+#[test]
+fn what_nobody_takes_is_left_in_the_mailbox(rt: HostRuntime) -> Result<(), Fail> {
+    assert!(rt; is_left(&rt, rt.alloc(), &[2])?);
     Ok(())
 }

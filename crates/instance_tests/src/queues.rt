@@ -112,7 +112,8 @@ impl Ends {
         }
     }
 
-    /// Settles the queue, the outlets handed over in the other order.
+    /// Settles the queue, the outlets handed over in the other order; and where that was refused
+    /// memory, once more with what was handed back.
     fn settled(self, alloc: Global) -> Result<Settled, QueueFault> {
         let Ends { zero, one, inlet } = self;
         let Ok(mut outlets) = Vec::with_capacity(alloc, 2) else {
@@ -122,7 +123,10 @@ impl Ends {
         outlets.push_reserved(zero);
         match settle(alloc, inlet, outlets) {
             Ok(settled) => Ok(settled),
-            Err(_) => Err(QueueFault::Memory),
+            Err((_, inlet, outlets)) => match settle(alloc, inlet, outlets) {
+                Ok(settled) => Ok(settled),
+                Err(_) => Err(QueueFault::Memory),
+            },
         }
     }
 }

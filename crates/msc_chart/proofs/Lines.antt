@@ -1,7 +1,7 @@
 -- A line is a contiguous range of event numbers.
-use Rattle.std.proofs.Common.{◌≡◌, ℕ, zero, suc, ◌+◌, ◌<◌, ◌≤◌, Bool, cond, List, [], ◌∷◌, length, inl, inr, sym, ap, subst, ◌∙◌, arith}
+use Rattle.std.proofs.Common.{◌≡◌, ℕ, zero, suc, ◌+◌, ◌<◌, ◌≤◌, Bool, true, cond, List, [], ◌∷◌, length, inl, inr, sym, ap, subst, ◌∙◌, arith}
 use Rattle.std.specs.Prelude.{nat_lt}
-use Rattle.std.proofs.lemmas.Bool.{cases_lt, ltb-true, ltb-false}
+use Rattle.std.proofs.lemmas.Bool.{cases_lt, ltb-true, ltb-false, lt-ltb}
 use Rattle.std.proofs.lemmas.List.Sums.{sum_by-cons, count_by-le-length}
 use Rattle.msc_chart.specs.declared.event.ChartEvent.{ChartEvent}
 use Rattle.msc_chart.specs.Charts.{at, line, line_start, IsInTextOrder}
@@ -15,6 +15,25 @@ LinesRise events = (x y : ℕ) → x ≤ y → y < length events → (at events 
 -- one event more in front is counted where its line is lower
 counted : (i : ℕ) (x : ChartEvent) (xs : List ChartEvent) → line_start (x ∷ xs) i ≡ cond (nat_lt x.line i) 1 0 + line_start xs i
 counted i x xs = sum_by-cons (λ (y : ChartEvent). cond (nat_lt y.line i) 1 0) x xs
+
+-- a line starts before it ends
+start_le : (i : ℕ) (events : List ChartEvent) → line_start events i ≤ line_start events (i + 1)
+start_le i [] = omega arith
+start_le i (x ∷ xs) =
+    let a = counted i x xs in
+    let b = counted (i + 1) x xs in
+    let r = start_le i xs in
+    by_test (nat_lt x.line i)
+    (λ low.
+    let more : nat_lt x.line (i + 1) ≡ true = lt-ltb _ _ (let l = ltb-true x.line i low in omega arith) in
+    let p = ap (λ (t : Bool). cond {A = ℕ} t 1 0) low in
+    let q = ap (λ (t : Bool). cond {A = ℕ} t 1 0) more in
+    omega (arith, a, b, r, p, q))
+    (λ high. let p = ap (λ (t : Bool). cond {A = ℕ} t 1 0) high in omega (arith, a, b, r, p))
+
+-- and among the events
+pub line_within : (i : ℕ) (events : List ChartEvent) → (line_start events i ≤ line_start events (i + 1)) × (line_start events (i + 1) ≤ length events)
+line_within i events = (start_le i events, count_by-le-length (λ (x : ChartEvent). nat_lt x.line (i + 1)) events)
 
 -- behind the first event lines do not fall either
 rest_rises : (x : ChartEvent) (xs : List ChartEvent) → LinesRise (x ∷ xs) → LinesRise xs

@@ -69,6 +69,11 @@ InputsShareLines =
 abbrev pub LinesAreRanges : Type 0
 LinesAreRanges = (d : Drawing) (i : ℕ) → IsAccepted d → IsLine d i (line_start d.events i) (line_start d.events (i + 1))
 
+-- it starts before it ends, among the events
+abbrev pub LinesAreWithin : Type 0
+LinesAreWithin =
+    (d : Drawing) (i : ℕ) → (line_start d.events i ≤ line_start d.events (i + 1)) × (line_start d.events (i + 1) ≤ length d.events)
+
 -- segments do not fall along the numbers of a line
 abbrev pub SegmentsRise : Type 0
 SegmentsRise =

@@ -7,7 +7,7 @@ ghost use Rattle.msc_chart.specs.declared.event.EventKind.TheVariants.{Output, I
 ghost use Rattle.msc_chart.specs.Drawings.{chart_events, chart_of};
 ghost use Rattle.msc_chart.specs.Items.{EachHasAnEvent, ItemsAreDrawnInOrder};
 ghost use Rattle.msc_chart.specs.Orders.{wired};
-ghost use Rattle.msc_chart.specs.Laws.{EndsShareQueues, EventsHaveQueues, InputsShareLines, LinesAreRanges, PairsHaveQueuesOfTheirOwn, QueueBoundsAreSmall, QueueNumbersAreBounded, QueuesAreBounded, SegmentsRise};
+ghost use Rattle.msc_chart.specs.Laws.{EndsShareQueues, EventsHaveQueues, InputsShareLines, LinesAreRanges, LinesAreWithin, PairsHaveQueuesOfTheirOwn, QueueBoundsAreSmall, QueueNumbersAreBounded, QueuesAreBounded, SegmentsRise};
 ghost use Rattle.msc_chart.specs.Samples.{AreEnforcedPairs, actions, actions_pairs, below_coregion, coregion, done, drawn_pairs, empty_coregion, event, go, queue_numbers, relay, two_mailboxes, two_mailboxes_pairs, two_senders};
 
 /// Under each architecture a queue with a message has from 1 to 32 senders, one receiver, and at
@@ -46,6 +46,7 @@ pub fn inputs_share_lines()
 /// A line is a contiguous range of event numbers, along which segments do not fall.
 pub fn lines_are_ranges()
     ensures ranges { LinesAreRanges }
+    ensures within { LinesAreWithin }
     ensures rise { SegmentsRise }
 {}
 

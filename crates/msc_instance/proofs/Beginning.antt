@@ -1,14 +1,9 @@
 -- How the run of an instance begins.
-use Rattle.std.proofs.Common.{◌≡◌, ℕ, ◌+◌, ◌<◌, ◌≤◌, Bool, true, false, cond, List, [], ◌∷◌, length, refl, sym, ap, arith, All, vec_capacity}
-use Rattle.std.specs.Prelude.{nat_lt}
+use Rattle.std.proofs.Common.{◌≡◌, ℕ, ◌<◌, ◌≤◌, false, List, [], ◌∷◌, length, refl, sym, arith, All, vec_capacity}
 use Rattle.std.specs.List.{AllZip}
-use Rattle.std.proofs.lemmas.Bool.{ltb-true, lt-ltb}
-use Rattle.std.proofs.lemmas.List.Sums.{sum_by-cons, count_by-le-length}
 use Rattle.std.proofs.lemmas.List.Elements.{All-head, All-tail}
-use Rattle.msc_chart.specs.declared.event.ChartEvent.{ChartEvent}
-use Rattle.msc_chart.specs.Charts.{line_start}
 use Rattle.msc_chart.specs.Drawings.{Drawing}
-use Rattle.msc_chart.proofs.ListLemmas.{by_test, clash}
+use Rattle.msc_chart.proofs.ListLemmas.{clash}
 use Rattle.msc_execution.specs.Roles.{Role, EndLists, NumberedOutlet, IsFit}
 use Rattle.msc_execution.specs.Logs.{Reading, IsLogOf, line_events, controlled}
 use Rattle.msc_instance.specs.declared.active.Active.{Active}
@@ -21,28 +16,6 @@ use Rattle.msc_instance.proofs.Stepped as stepped
 use Rattle.msc_instance.proofs.Zipped.{zip_self}
 use Rattle.msc_instance.proofs.Logs.{none_below}
 use Rattle.msc_instance.proofs.Begun.{state}
-
-start_le : (i : ℕ) (events : List ChartEvent) → line_start events i ≤ line_start events (i + 1)
-start_le i [] = omega arith
-start_le i (x ∷ xs) =
-    let a = sum_by-cons (λ (y : ChartEvent). cond (nat_lt y.line i) 1 0) x xs in
-    let b = sum_by-cons (λ (y : ChartEvent). cond (nat_lt y.line (i + 1)) 1 0) x xs in
-    let r = start_le i xs in
-    by_test (nat_lt x.line i)
-    (λ low.
-    let more : nat_lt x.line (i + 1) ≡ true = lt-ltb _ _ (let l = ltb-true x.line i low in omega arith) in
-    let p = ap (λ (t : Bool). cond {A = ℕ} t 1 0) low in let q =
-    ap (λ (t : Bool). cond {A = ℕ} t 1 0) more in omega (arith, a, b, r, p, q))
-    (λ high. let p = ap (λ (t : Bool). cond {A = ℕ} t 1 0) high in omega (arith, a, b, r, p))
-
--- a line starts before it ends, within the chart
-pub line_within : (d : Drawing) (i start end : ℕ) → start ≡ line_start d.events i
-    → end ≡ line_start d.events (i + 1)
-    → (start ≤ end) × (end ≤ length d.events)
-line_within d i start end first last =
-    let le = start_le i d.events in
-    let all = count_by-le-length (λ (x : ChartEvent). nat_lt x.line (i + 1)) d.events in
-    (omega (arith, first, last, le), omega (arith, last, all))
 
 -- the outlets are open, and nothing is put
 all_begun : (r : Role) (reading : Reading) (outs : List NumberedOutlet)

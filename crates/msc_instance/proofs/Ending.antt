@@ -50,15 +50,13 @@ module _ (d : Drawing) (p : Post) (a : Active) (s : IsSound d p a) (open' : Bool
   -- the gate or the clock has stopped it
   pub ends_stopped : (open' ≡ true → a.clock ≡ 18446744073709551615) → EndsSo d p open' patience a end.Stopped
   ends_stopped spent =
-      comes (post_role d p) open' patience (first_ends p) a.shut a.outlets.items a.inlets.items
-      (log_of a) a.clock end.Stopped s.begun
+      comes s.begun open' patience end.Stopped
       (λ reading is. (λ q. refl, λ known. sym is ∙ spent known))
 
   -- all is logged
   pub ends_finished : a.first ≡ p.end → EndsSo d p open' patience a end.Finished
   ends_finished at =
-      comes (post_role d p) open' patience (first_ends p) a.shut a.outlets.items a.inlets.items
-      (log_of a) a.clock end.Finished s.begun
+      comes s.begun open' patience end.Finished
       (λ reading is. (λ q. refl, whole d p (log_of a) s.post (subst (HasUpTo p (log_of a)) at s.first)))
 
   -- something is missing, and what comes next waits
@@ -71,14 +69,12 @@ module _ (d : Drawing) (p : Post) (a : Active) (s : IsSound d p a) (open' : Bool
 
     pub ends_starved : AllHaveEnded a.inlets.items → EndsSo d p open' patience a end.Starved
     ends_starved ended =
-        comes (post_role d p) open' patience (first_ends p) a.shut a.outlets.items a.inlets.items
-        (log_of a) a.clock end.Starved s.begun
+        comes s.begun open' patience end.Starved
         (λ reading is. (λ q. refl, hungry, ended))
 
     pub ends_impatient : (AllHaveEnded a.inlets.items → ⊥)
         → All (λ (n : NumberedInlet). patience ≤ n.1.idle) a.inlets.items
         → EndsSo d p open' patience a end.Impatient
     ends_impatient going idle =
-        comes (post_role d p) open' patience (first_ends p) a.shut a.outlets.items a.inlets.items
-        (log_of a) a.clock end.Impatient s.begun
+        comes s.begun open' patience end.Impatient
         (λ reading is. (λ q. refl, hungry, going, idle))

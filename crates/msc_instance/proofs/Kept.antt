@@ -51,11 +51,10 @@ closes r log reading true first outs news closed h =
     subst (λ (o : NumberedOutlet). IsLeftBy r log reading x o) same own) h closed
 
 -- all outlets are closed
-pub begun_closed : (r : Role) (first : EndLists) (outs news : List NumberedOutlet)
-    (ins : List NumberedInlet) (log : List ℕ) (clock : ℕ)
-    → AllZip IsClosedFrom outs news → HasBegun r first (state false outs ins log clock)
-    → HasBegun r first (state true news ins log clock)
-begun_closed r first outs news ins log clock closed begun = record {
+pub begun_closed : {r : Role} {first : EndLists} {outs : List NumberedOutlet} {ins : List NumberedInlet} {log : List ℕ} {clock : ℕ}
+    (begun : HasBegun r first (state false outs ins log clock)) (news : List NumberedOutlet)
+    → AllZip IsClosedFrom outs news → HasBegun r first (state true news ins log clock)
+begun_closed {r} {first} {outs} {ins} {log} {clock} begun news closed = record {
   reading = begun.reading;
   kept = record {
     log = begun.kept.log;
@@ -65,71 +64,68 @@ begun_closed r first outs news ins log clock closed begun = record {
   };
 }
 
--- an instance that ends with nothing strange
-pub comes : (r : Role) (open' : Bool) (patience : ℕ) (first : EndLists) (shut : Bool)
-    (outs : List NumberedOutlet) (ins : List NumberedInlet) (log : List ℕ) (clock : ℕ) (end : End)
-    → HasBegun r first (state shut outs ins log clock)
-    → ((reading : Reading) → clock ≡ clock_along r.chart reading.read_at log
-    → EndsAs r open' patience reading
-    (record { log = log; ends = record { outlets = outs; inlets = ins }; end = end }) (λ q. []) end)
-    → HasCome r open' patience first shut
-    (record { log = log; ends = record { outlets = outs; inlets = ins }; end = end })
-comes r open' patience first shut outs ins log clock end begun ends = record {
-  reading = begun.reading;
-  log = begun.kept.log;
-  put = begun.kept.put;
-  strange = λ q. [];
-  got = zip_map (IsGotBy r log begun.reading) (HasTaken r log begun.reading (λ q. [])) first.inlets ins
-      (λ x y own. stepped.done r log begun.reading x y own (λ q. []) refl) begun.kept.got;
-  ended = ends begun.reading begun.kept.clock;
-}
+module _ {r : Role} {first : EndLists} {shut : Bool} {outs : List NumberedOutlet} {ins : List NumberedInlet} {log : List ℕ}
+    {clock : ℕ} (begun : HasBegun r first (state shut outs ins log clock)) where
+  -- an instance that ends with nothing strange
+  pub comes : (open' : Bool) (patience : ℕ) (end : End)
+      → ((reading : Reading) → clock ≡ clock_along r.chart reading.read_at log
+      → EndsAs r open' patience reading
+      (record { log = log; ends = record { outlets = outs; inlets = ins }; end = end }) (λ q. []) end)
+      → HasCome r open' patience first shut
+      (record { log = log; ends = record { outlets = outs; inlets = ins }; end = end })
+  comes open' patience end ends = record {
+    reading = begun.reading;
+    log = begun.kept.log;
+    put = begun.kept.put;
+    strange = λ q. [];
+    got = zip_map (IsGotBy r log begun.reading) (HasTaken r log begun.reading (λ q. [])) first.inlets ins
+        (λ x y own. stepped.done r log begun.reading x y own (λ q. []) refl) begun.kept.got;
+    ended = ends begun.reading begun.kept.clock;
+  }
 
--- an instance that ends with a strange message
-pub comes_strange : (r : Role) (open' : Bool) (patience : ℕ) (first : EndLists) (shut : Bool)
-    (outs : List NumberedOutlet) (ins : List NumberedInlet) (log : List ℕ) (clock k i m place now : ℕ)
-    (n new : NumberedInlet)
-    → IsFit r first → k < length ins → HasGot clock (took.Message i m place now) (get_or ins k n) new
-    → IsStrange r (get_or ins k n).0 log m
-    → HasBegun r first (state shut outs ins log clock)
-    → HasCome r open' patience first shut
-    (record {
-      log = log;
-      ends = record { outlets = outs; inlets = set ins k new };
-      end =
-          end.Foreign m;
-    })
-comes_strange r open' patience first shut outs ins log clock k i m place now n new fit lt got odd begun =
-    let reading = begun.reading in
-    let q : ℕ = (get_or ins k n).0 in
-    let strange : ℕ → List ℕ = λ p. cond (eqb p q) (m ∷ []) [] in
-    let one : strange q ≡ m ∷ [] = ap (λ b. cond b (m ∷ []) []) (eq-eqb q q refl) in
-    let other : (p : ℕ) → p ≢ q → strange p ≡ [] = λ p apart.
-    ap (λ b. cond b (m ∷ []) []) (ne_eqb p q apart) in
-    let numbers : map inlet_number (set ins k new) ≡ map inlet_number ins =
-    map-set_same inlet_number ins k new n got.number in
-    record {
-      reading = reading;
-      log = begun.kept.log;
-      put = begun.kept.put;
-      strange = strange;
-      got = zip_one (IsGotBy r log reading) (HasTaken r log reading strange) inlet_number q
-          first.inlets ins k n new lt
-          (subst Apart (sym fit.inlets) (taken_once r))
-          (λ x own. sym own.number)
-          (λ x own. subst (λ (p : ℕ). HasTaken r log reading strange x (p, new.1)) (sym got.number)
-          (stepped.done_strange r log reading x (get_or ins k n) own got.even strange i m
-          got.clocks.1.0 new.1 got.same got.got got.clocks.1.1
-          (ap strange (sym own.number) ∙ one)))
-          (λ x z own apart. stepped.done r log reading x z own strange (other x.0 apart))
-          begun.kept.got;
-      ended = record {
-        queue = q;
-        own = ap (λ l. occurs l q) numbers ∙ number_there ins k n lt;
-        last = one;
-        others = other;
-        is_strange = odd;
-      };
-    }
+  -- an instance that ends with a strange message
+  pub comes_strange : (open' : Bool) (patience k i m place now : ℕ) (n new : NumberedInlet)
+      → IsFit r first → k < length ins → HasGot clock (took.Message i m place now) (get_or ins k n) new
+      → IsStrange r (get_or ins k n).0 log m
+      → HasCome r open' patience first shut
+      (record {
+        log = log;
+        ends = record { outlets = outs; inlets = set ins k new };
+        end =
+            end.Foreign m;
+      })
+  comes_strange open' patience k i m place now n new fit lt got odd =
+      let reading = begun.reading in
+      let q : ℕ = (get_or ins k n).0 in
+      let strange : ℕ → List ℕ = λ p. cond (eqb p q) (m ∷ []) [] in
+      let one : strange q ≡ m ∷ [] = ap (λ b. cond b (m ∷ []) []) (eq-eqb q q refl) in
+      let other : (p : ℕ) → p ≢ q → strange p ≡ [] = λ p apart.
+      ap (λ b. cond b (m ∷ []) []) (ne_eqb p q apart) in
+      let numbers : map inlet_number (set ins k new) ≡ map inlet_number ins =
+      map-set_same inlet_number ins k new n got.number in
+      record {
+        reading = reading;
+        log = begun.kept.log;
+        put = begun.kept.put;
+        strange = strange;
+        got = zip_one (IsGotBy r log reading) (HasTaken r log reading strange) inlet_number q
+            first.inlets ins k n new lt
+            (subst Apart (sym fit.inlets) (taken_once r))
+            (λ x own. sym own.number)
+            (λ x own. subst (λ (p : ℕ). HasTaken r log reading strange x (p, new.1)) (sym got.number)
+            (stepped.done_strange r log reading x (get_or ins k n) own got.even strange i m
+            got.clocks.1.0 new.1 got.same got.got got.clocks.1.1
+            (ap strange (sym own.number) ∙ one)))
+            (λ x z own apart. stepped.done r log reading x z own strange (other x.0 apart))
+            begun.kept.got;
+        ended = record {
+          queue = q;
+          own = ap (λ l. occurs l q) numbers ∙ number_there ins k n lt;
+          last = one;
+          others = other;
+          is_strange = odd;
+        };
+      }
 
 -- what an instance leaves once all outlets are closed
 pub leaves : (r : Role) (open' : Bool) (patience : ℕ) (first : EndLists) (shut : Bool)

@@ -1,7 +1,7 @@
 -- What instances start from, gathered one after the other.
 use Rattle.std.proofs.Common.{◌≡◌, ℕ, zero, suc, ◌<◌, List, [], ◌∷◌, ◌++◌, length, get_or, map, ◌⊎◌, inl, inr, Some, slice_get, refl, sym, ap, ◌∙◌, arith, subst}
 use Rattle.std.specs.Prelude.{All}
-use Rattle.std.proofs.lemmas.List.{length-map, get_or-map, map-append}
+use Rattle.std.proofs.lemmas.List.{append-nil, append_assoc, nil_from_length, length-map, get_or-map, map-append}
 use Rattle.std.proofs.lemmas.List.Elements.{All-push, All-nil}
 use Rattle.std.proofs.lemmas.Option.{get_or_from_slice_get, slice_get_within}
 use Rattle.msc_chart.specs.declared.queue.Queues.{Queues}
@@ -72,9 +72,20 @@ module _ (d : Drawing) (ends : List InstanceEnds) (jobs : List Job) (are : ArePr
     ready = are.ready;
   }
 
+-- what is next of a list stands behind what was yielded of it
 pub next_is : {A : Type 0} (all first before later rest : List A) (e : A) → first ≡ all → first ≡ before ++ later → later ≡ e ∷ rest
     → all ≡ before ++ e ∷ rest
 next_is all first before later rest e a b c = sym a ∙ b ∙ ap (λ l. before ++ l) c
+
+-- then one more was yielded of the list
+pub yielded_more : {A : Type 0} (all before later rest : List A) (e : A) → all ≡ before ++ later → later ≡ e ∷ rest
+    → all ≡ (before ++ e ∷ []) ++ rest
+yielded_more all before later rest e whole next = whole ∙ ap (λ l. before ++ l) next ∙ sym (append_assoc before (e ∷ []) rest)
+
+-- and where nothing is next, all of it was
+pub yielded_all : {A : Type 0} (all first before later : List A) → first ≡ all → first ≡ before ++ later → length later ≡ 0 → before ≡ all
+yielded_all all first before later same whole none =
+    sym (sym same ∙ whole ∙ ap (λ l. before ++ l) (nil_from_length later none) ∙ append-nil before)
 
 -- the next ends fit their instance
 module _ (queues : Queues) (d : Drawing) (all before after : List InstanceEnds) (e : InstanceEnds) (is : all ≡ before ++ e ∷ after) where

@@ -67,8 +67,7 @@ module _ (d : Drawing) (p : Post) (a : Active) (s : IsSound d p a) where
         → IsSound d p (record a { journal = journal; next = a.next + 1 })
     acted local journal noted room = record {
       post = s.post;
-      begun = rw noted (begun_acted (post_role d p) (first_ends p) a.shut a.outlets.items
-          a.inlets.items (log_of a) a.clock a.next local due_new due_log.0 s.begun);
+      begun = rw noted (begun_acted s.begun a.next local due_new due_log.0);
       next = rw noted due_log.1;
       first = rw noted (upto_push p (log_of a) a.first a.next s.first);
       closed = λ shut. clash shut not_shut;
@@ -137,11 +136,9 @@ module _ (d : Drawing) (p : Post) (a : Active) (s : IsSound d p a) where
                 subst (λ b. HasBegun (post_role d p) (first_ends p)
                 (state b (set a.outlets.items k new) a.inlets.items (log_of a ++ a.next ∷ []) now))
                 (sym not_shut)
-                (begun_sent (post_role d p) (first_ends p) a.outlets.items a.inlets.items
-                (log_of a) a.clock k now a.next o new s.post.fit output due_new due_log.0 lt
-                (sym here) put
-                (subst (λ b. HasBegun (post_role d p) (first_ends p)
-                (state b a.outlets.items a.inlets.items (log_of a) a.clock)) not_shut s.begun))
+                (begun_sent (subst (λ b. HasBegun (post_role d p) (first_ends p)
+                (state b a.outlets.items a.inlets.items (log_of a) a.clock)) not_shut s.begun)
+                k now a.next o new s.post.fit output due_new due_log.0 lt (sym here) put)
 
 -- a local event is controlled
 pub local_due : (d : Drawing) (e : ℕ) → is_local d.events e ≡ true → is_controlled d.events e ≡ true
@@ -169,10 +166,8 @@ pub has_closed : (d : Drawing) (p : Post) (a : Active) (outs : Vec NumberedOutle
     → AllZip IsClosedFrom a.outlets.items outs.items → IsSound d p (record a { outlets = outs; shut = true })
 has_closed d p a outs s opened done closed = record {
   post = s.post;
-  begun = begun_closed (post_role d p) (first_ends p) a.outlets.items outs.items a.inlets.items
-      (log_of a) a.clock closed
-      (subst (λ b. HasBegun (post_role d p) (first_ends p)
-      (state b a.outlets.items a.inlets.items (log_of a) a.clock)) opened s.begun);
+  begun = begun_closed (subst (λ b. HasBegun (post_role d p) (first_ends p)
+      (state b a.outlets.items a.inlets.items (log_of a) a.clock)) opened s.begun) outs.items closed;
   next = s.next;
   first = s.first;
   closed = λ _. done;

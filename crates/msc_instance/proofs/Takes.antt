@@ -50,8 +50,7 @@ module _ (d : Drawing) (p : Post) (a : Active) (s : IsSound d p a) (k : ℕ) (n 
   took_nothing got = (
     record {
       post = s.post;
-      begun = begun_nothing (post_role d p) (first_ends p) a.shut a.outlets.items a.inlets.items
-          (log_of a) a.clock k n new lt got s.begun;
+      begun = begun_nothing s.begun k n new lt got;
       next = s.next;
       first = s.first;
       closed = s.closed;
@@ -74,8 +73,7 @@ module _ (d : Drawing) (p : Post) (a : Active) (s : IsSound d p a) (k : ℕ) (n 
   took_ended i got = (
     record {
       post = s.post;
-      begun = begun_ended (post_role d p) (first_ends p) a.shut a.outlets.items a.inlets.items
-          (log_of a) a.clock k i n new lt got s.begun;
+      begun = begun_ended s.begun k i n new lt got;
       next = s.next;
       first = s.first;
       closed = s.closed;
@@ -91,9 +89,7 @@ module _ (d : Drawing) (p : Post) (a : Active) (s : IsSound d p a) (k : ℕ) (n 
       → (open' : Bool) (patience : ℕ)
       → EndsSo d p open' patience (record a { inlets = with_item a.inlets k new }) (end.Foreign m)
   took_strange i m place now got odd open' patience =
-      comes_strange (post_role d p) open' patience (first_ends p) a.shut a.outlets.items a.inlets.items
-      (log_of a) a.clock k i m place now n new
-      s.post.fit lt got odd s.begun
+      comes_strange s.begun open' patience k i m place now n new s.post.fit lt got odd
 
   -- a message of the chart in the queue whose input is not logged
   module _ (m : ℕ) (known : m < length d.messages)
@@ -138,9 +134,8 @@ module _ (d : Drawing) (p : Post) (a : Active) (s : IsSound d p a) (k : ℕ) (n 
         (sym is.1) got in (
           record {
             post = s.post;
-            begun = rw noted (begun_took (post_role d p) (first_ends p) a.shut a.outlets.items
-                a.inlets.items (log_of a) a.clock k (input_of d m) i place now n new
-                s.post.fit is.0 fresh input_log.0 lt at got2 s.begun);
+            begun = rw noted (begun_took s.begun k (input_of d m) i place now n new
+                s.post.fit is.0 fresh input_log.0 lt at got2);
             next = rw noted input_log.1;
             first = rw noted (upto_push p (log_of a) a.first (input_of d m) s.first);
             closed = s.closed;

@@ -7,8 +7,7 @@ pub mod FrontLemmas
 pub mod LinkLemmas
 pub mod ArrivedLemmas
 pub mod ComingLemmas
-pub mod SendLemmas
-pub mod TakeLemmas
+pub mod ChangeLemmas
 pub mod StartLemmas
 pub mod BeginningLemmas
 pub mod NextLemmas

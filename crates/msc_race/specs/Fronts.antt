@@ -1,8 +1,8 @@
 -- How far the lines of a chart have come in a run.
-use Rattle.std.specs.Prelude.{◌≡◌, ℕ, ◌<◌, ◌≤◌, false, ◌↔◌, List, length, get_or, IsTrue}
+use Rattle.std.specs.Prelude.{◌≡◌, ℕ, ◌<◌, ◌≤◌, false, ◌↔◌, ◌⊎◌, List, length, get_or, IsTrue}
 use Rattle.msc_chart.specs.declared.event.ChartEvent.{ChartEvent}
 use Rattle.msc_chart.specs.Drawings.{Drawing}
-use Rattle.msc_chart.specs.Charts.{line, is_controlled, before}
+use Rattle.msc_chart.specs.Charts.{line, is_controlled, before, IsSegmentEnd}
 use Rattle.msc_race.specs.declared.lines.Lines.{Lines}
 use Rattle.bit_rows.specs.Rows.{has}
 use Rattle.msc_race.specs.Rows.{IsRow}
@@ -59,6 +59,13 @@ pub record IsOpened (events : List ChartEvent) (left : List ℕ) (f end s : ℕ)
   pub within : s < end
   pub controlled : IsTrue (is_controlled events s)
   pub remains : IsTrue (has left s)
+
+-- where the events end that are opened on line i, whose front goes from start to f: with the segment
+-- of f, which is on the line, or before any, where f is past the line or not drawn after start
+abbrev pub IsOpenedEnd : List ChartEvent → ℕ → ℕ → ℕ → ℕ → Type 0
+IsOpenedEnd events i start f end =
+    ((line events f ≡ i) × IsSegmentEnd events f end)
+    ⊎ ((end ≡ f) × (f < length events → line events f ≡ i → before events start f ≡ false))
 
 -- f is the first number from start on that is left or not on line i
 pub record IsNextLeft (events : List ChartEvent) (left : List ℕ) (i start f : ℕ) : Type 0 where

@@ -2,8 +2,8 @@
 use Rattle.std.specs.Prelude.{◌≡◌, ℕ, ◌<◌, false, ◌↔◌, List, [], ◌∷◌, length, get_or, IsTrue}
 use Rattle.msc_chart.specs.Lists.{IsFirst}
 use Rattle.msc_chart.specs.Charts.{partner, is_input, is_local}
-use Rattle.msc_chart.specs.Orders.{WiredChart, queue}
-use Rattle.msc_chart.specs.Runs.{state}
+use Rattle.msc_chart.specs.Orders.{WiredChart, IsWired, queue}
+use Rattle.msc_chart.specs.Runs.{Run, MayCome, state}
 use Rattle.msc_race.specs.declared.queued_run.QueuedRun.{QueuedRun}
 use Rattle.bit_rows.specs.Rows.{has}
 use Rattle.msc_race.specs.Rows.{IsRow}
@@ -37,3 +37,11 @@ pub record AreQueues (chart : WiredChart) (queues : ℕ → List ℕ) (firsts en
 abbrev pub HoldsQueues : WiredChart → List ℕ → QueuedRun → Type 0
 HoldsQueues chart run c =
     AreQueues chart (λ q. state chart q run) c.heads.items c.lasts.items c.next.items c.inputs.items
+
+-- x, an output or an input, may come next after the run, whose queues are held
+pub record IsComing (chart : WiredChart) (c : QueuedRun) (x : ℕ) : Type 0 where
+  pub is_wired : IsWired chart
+  pub run : Run chart c.run.items
+  pub may : MayCome chart c.run.items x
+  pub were : HoldsQueues chart c.run.items c
+  pub message : is_local chart.events x ≡ false

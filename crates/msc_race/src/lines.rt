@@ -6,7 +6,7 @@ ghost use Rattle.bit_rows.specs.Rows.{has, IsWithout};
 ghost use Rattle.msc_race.specs.Rows.{IsRow};
 ghost use Rattle.msc_race.specs.Choices.{size, IsSettled};
 ghost use Rattle.msc_race.specs.Fronts.{HoldsLines, HoldsLinesFrom, HoldsLinesTo, IsNextLeft};
-ghost use Rattle.msc_race.specs.Fronts.{IsOpened};
+ghost use Rattle.msc_race.specs.Fronts.{IsOpened, IsOpenedEnd};
 
 use crate::choosing::Choice;
 use crate::rows::blank;
@@ -64,6 +64,24 @@ fn open_controlled(row: &mut [u64], choice: &Choice, left: &[u64], f: Event, end
     for y in f..end {
         put_where(row, y, choice.wiring.chart.is_controlled(y) && has(left, y));
     }
+}
+
+/// Where the events end that are opened on line `i`, whose front goes from `start` to `front`: with
+/// the segment of `front`, where that is drawn after `start`, and else before any.
+fn opened_end(choice: &Choice, i: u32, start: Event, front: Event) -> Event
+    requires later { start ≤ front }
+    requires within { front ≤ size choice.now }
+    ensures end { IsOpenedEnd choice.now.wiring.chart.now.events i start front result }
+    ensures later { front ≤ result }
+    ensures within { result ≤ size choice.now }
+{
+    if !is_on(choice, front, i) {
+        return front;
+    }
+    if !choice.wiring.chart.before(start, front) {
+        return front;
+    }
+    choice.wiring.chart.segment_end(front)
 }
 
 /// Whether `x` is controlled, and `front` is not drawn before it.
@@ -149,12 +167,7 @@ impl Lines {
         clear(&mut self.controlled, x);
         let front = next_left(choice, &self.left, i, start);
         self.fronts[i as usize] = front;
-        if !is_on(choice, front, i) {
-            return;
-        }
-        if choice.wiring.chart.before(start, front) {
-            let end = choice.wiring.chart.segment_end(front);
-            open_controlled(&mut self.controlled, choice, &self.left, front, end);
-        }
+        let end = opened_end(choice, i, start, front);
+        open_controlled(&mut self.controlled, choice, &self.left, front, end);
     }
 }

@@ -5,7 +5,7 @@ ghost use Rattle.std.specs.Prelude.{IsTrue};
 ghost use Rattle.msc_chart.specs.Charts.{is_input, is_output};
 ghost use Rattle.msc_chart.specs.Orders.{queue};
 ghost use Rattle.msc_chart.specs.Runs.{MayCome, Run};
-ghost use Rattle.msc_race.specs.QueuedRuns.{HoldsQueues};
+ghost use Rattle.msc_race.specs.QueuedRuns.{HoldsQueues, IsComing};
 ghost use Rattle.msc_race.specs.Choices.{wired_chart, size, IsSettled};
 
 use crate::choosing::Choice;
@@ -55,15 +55,12 @@ impl QueuedRun {
     /// Puts output `x` at the end of its queue.
     fn send(&mut self, choice: &Choice, x: Event)
         requires settled { IsSettled choice.now }
-        requires queues { HoldsQueues (wired_chart choice.now) self.old.run.items self.old }
-        requires run { Run (wired_chart choice.now) self.old.run.items }
-        requires may { MayCome (wired_chart choice.now) self.old.run.items x }
+        requires coming { IsComing (wired_chart choice.now) self.old x }
         requires output { IsTrue (is_output choice.now.wiring.chart.now.events x) }
         ensures queues { HoldsQueues (wired_chart choice.now)
             (self.old.run.items ++ x ∷ []) self.new }
         ensures run { self.new.run ≡ self.old.run }
     {
-        ends_share_queues();
         let q = choice.wiring.queue(x) as usize;
         let last = self.lasts[q];
         self.lasts[q] = x;
@@ -78,15 +75,12 @@ impl QueuedRun {
     /// Takes the message of input `x` out of its queue.
     fn take(&mut self, choice: &Choice, x: Event)
         requires settled { IsSettled choice.now }
-        requires queues { HoldsQueues (wired_chart choice.now) self.old.run.items self.old }
-        requires run { Run (wired_chart choice.now) self.old.run.items }
-        requires may { MayCome (wired_chart choice.now) self.old.run.items x }
+        requires coming { IsComing (wired_chart choice.now) self.old x }
         requires input { IsTrue (is_input choice.now.wiring.chart.now.events x) }
         ensures queues { HoldsQueues (wired_chart choice.now)
             (self.old.run.items ++ x ∷ []) self.new }
         ensures run { self.new.run ≡ self.old.run }
     {
-        ends_share_queues();
         let events = choice.wiring.chart.events();
         let q = choice.wiring.queue(x) as usize;
         let output = choice.wiring.chart.other_end(x);

@@ -2,8 +2,8 @@
 //!
 //! Each call writes exactly its text or answers an `io::Error`; how much went out before an error
 //! is not said. The texts are definitions of their own, beside which each call's contract stands.
-//! No call but `run_line` and those of `EventTexts` takes memory, beyond what the writer does.
-//! Events are numbered from 0, over all lines.
+//! No call but those of `EventTexts` takes memory, beyond what the writer does. Events are numbered
+//! from 0, over all lines.
 #![tactic(auto)]
 
 mod event_texts;
@@ -15,7 +15,7 @@ mod writing;
 
 pub use event_texts::EventTexts;
 pub use fault::{Fault, PairFault};
-pub use race::{run_line, write_event_at, write_race, write_run};
+pub use race::{write_event_at, write_race, write_run};
 pub use trace::write_trace;
 pub use verdict::{write_name_line, write_queues_line, write_verdict};
 pub use writing::{write_draft, write_fault, write_pair_fault};

@@ -1,6 +1,6 @@
 //! The text of one race.
 
-ghost use Rattle.std.specs.Prelude.{◌≡◌, ◌<◌, ◌++◌, false, IfOk, OnOk, Some, length};
+ghost use Rattle.std.specs.Prelude.{◌≡◌, ◌<◌, ◌++◌, false, OnOk, length};
 ghost use Rattle.std.specs.Io.KnownBytes.{Appends};
 ghost use Rattle.std.specs.List.{flat_map};
 ghost use Rattle.std.specs.Option.{option_copied};
@@ -10,7 +10,6 @@ ghost use Rattle.msc_report.specs.Verdicts.{action_text, event_at, event_text, i
 
 use itoa::Buffer;
 use msc_chart::{Chart, Event};
-use std::alloc::{AllocError, Global};
 use std::io;
 use std::io::Write;
 
@@ -177,18 +176,6 @@ pub fn write_run<W: Write>(writer: &mut W, run: Option<&[Event]>) -> io::Result<
             writer.write_all(b"\n")
         }
         None => Ok(()),
-    }
-}
-
-/// The line of a run, for a caller that writes it behind more than one race. An error is a growth
-/// of memory that was refused.
-pub fn run_line(alloc: Global, run: &[Event]) -> Result<Vec<u8>, AllocError>
-    ensures { IfOk result (λ line. line.items ≡ run_line (Some run.now)) }
-{
-    let mut line = Vec::new(alloc);
-    match write_run(&mut line, Some(run)) {
-        Ok(()) => Ok(line),
-        Err(_) => Err(AllocError),
     }
 }
 

@@ -6,6 +6,7 @@ use Rattle.msc_chart.proofs.Drawn.{before_parts}
 use Rattle.msc_chart.specs.Drawings.{Drawing}
 use Rattle.msc_chart.specs.Lists.{Occurs}
 use Rattle.msc_chart.specs.Orders.{WiredChart, IsRace}
+use Rattle.msc_race.proofs.Listing.Pairs.{in_left, in_right}
 use Rattle.msc_reason.specs.declared.lack.Lack.{Lack}
 use Rattle.msc_report.specs.Verdicts.{race_text, run_line}
 use Rattle.msc_study.specs.Counting.{AreRacesOf}
@@ -24,26 +25,15 @@ pub known_at : (chart : WiredChart) (pairs : List (ℕ × ℕ)) (i : ℕ) → Ar
 known_at chart pairs i races within =
     let both = before_parts chart.events _ _ (race_at chart pairs i races within).0 in (both.0, both.1)
 
--- what stands in a list stands in it before another list
-in_front : (xs ys : List (ℕ × ℕ)) (p : ℕ × ℕ) → Occurs xs p → Occurs (xs ++ ys) p
-in_front [] ys p (j, h) = absurd cc
-in_front (x ∷ xs) ys p (zero, h) = (zero, h)
-in_front (x ∷ xs) ys p (suc j, h) = let found = in_front xs ys p (j, h) in (suc found.0, found.1)
-
--- and behind another list
-in_back : (xs ys : List (ℕ × ℕ)) (p : ℕ × ℕ) → Occurs ys p → Occurs (xs ++ ys) p
-in_back [] ys p there = there
-in_back (x ∷ xs) ys p there = let found = in_back xs ys p there in (suc found.0, found.1)
-
 -- the first of a list of races are races
 pub first_races : (chart : WiredChart) (pairs : List (ℕ × ℕ)) (n : ℕ) → AreRacesOf chart pairs → AreRacesOf chart (take n pairs)
 first_races chart pairs n races e f there =
-    races e f (subst (λ (xs : List (ℕ × ℕ)). Occurs xs (e, f)) (take-append-drop n pairs) (in_front (take n pairs) (drop n pairs) (e, f) there))
+    races e f (subst (λ (xs : List (ℕ × ℕ)). Occurs xs (e, f)) (take-append-drop n pairs) (in_left (take n pairs) (drop n pairs) (e, f) there))
 
 -- and so are the others
 pub other_races : (chart : WiredChart) (pairs : List (ℕ × ℕ)) (n : ℕ) → AreRacesOf chart pairs → AreRacesOf chart (drop n pairs)
 other_races chart pairs n races e f there =
-    races e f (subst (λ (xs : List (ℕ × ℕ)). Occurs xs (e, f)) (take-append-drop n pairs) (in_back (take n pairs) (drop n pairs) (e, f) there))
+    races e f (subst (λ (xs : List (ℕ × ℕ)). Occurs xs (e, f)) (take-append-drop n pairs) (in_right (take n pairs) (drop n pairs) (e, f) there))
 
 -- a race with what stands behind it, made of why it is one and of a line
 pub race_and_tail : (d : Drawing) (e f : ℕ) (why shown : Bool) (lack : Lack) (run tail line : List ℕ)

@@ -102,13 +102,13 @@ module _ {T : Type 0} where
   in_either (x ∷ xs) ys p (suc j, h) = elim (in_either xs ys p (j, h)) [ inl r ↦ inl (suc r.0, r.1) | inr r ↦ inr r ]
 
   -- what occurs in the first of two lists occurs in both together
-  in_left : (xs ys : List T) (p : T) → Occurs xs p → Occurs (xs ++ ys) p
+  pub in_left : (xs ys : List T) (p : T) → Occurs xs p → Occurs (xs ++ ys) p
   in_left [] ys p (j, h) = cc
   in_left (x ∷ xs) ys p (zero, h) = (zero, h)
   in_left (x ∷ xs) ys p (suc j, h) = let r = in_left xs ys p (j, h) in (suc r.0, r.1)
 
   -- and what occurs in the second
-  in_right : (xs ys : List T) (p : T) → Occurs ys p → Occurs (xs ++ ys) p
+  pub in_right : (xs ys : List T) (p : T) → Occurs ys p → Occurs (xs ++ ys) p
   in_right [] ys p h = h
   in_right (x ∷ xs) ys p h = let r = in_right xs ys p h in (suc r.0, r.1)
 

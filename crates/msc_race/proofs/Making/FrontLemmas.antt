@@ -7,7 +7,7 @@ use Rattle.msc_chart.specs.declared.event.ChartEvent.{ChartEvent}
 use Rattle.msc_chart.specs.Charts.{line, segment, before, IsInTextOrder, IsSegmentEnd}
 use Rattle.msc_chart.proofs.Drawn.{before_from, before_parts}
 use Rattle.bit_rows.specs.Rows.{has, IsWithout}
-use Rattle.msc_race.specs.Fronts.{AreLines, IsFront, IsOpenControlled, IsOpened, IsNextLeft}
+use Rattle.msc_race.specs.Fronts.{AreLines, IsFront, IsOpenControlled, IsOpened, IsOpenedEnd, IsNextLeft}
 use Rattle.msc_race.proofs.Shared.{by_test, clash}
 use Rattle.msc_race.proofs.Runs.EventLemmas.{controlled_parts}
 
@@ -101,7 +101,7 @@ module _ (events : List ChartEvent) (text : IsInTextOrder events) (old new : Lis
     }
 
     -- so it is with the line of x, where the front has not come to another segment
-    pub was_open : ((y : ℕ) → y < length events → front ≤ y → line events front ≡ line events x → before events start front ≡ false)
+    was_open : (front < length events → line events front ≡ line events x → before events start front ≡ false)
         → (y : ℕ) → IsOpenControlled events new y → IsOpenControlled events old y
     was_open level y opens =
         elim (cases_eq (line events y) (line events x)) [
@@ -111,7 +111,7 @@ module _ (events : List ChartEvent) (text : IsInTextOrder events) (old new : Lis
               let from = next.later in
               let first = was.reach y (omega (arith, from, met.0)) met.1 on in
               let front_in : front < length events = omega (arith, met.0, met.1) in
-              let low = no_lower start front (omega (arith, from, front_in)) front_in (first ∙ sym met.2) (level y met.1 met.0 met.2) in
+              let low = no_lower start front (omega (arith, from, front_in)) front_in (first ∙ sym met.2) (level front_in met.2) in
               let high = no_lower front y front_in met.1 (met.2 ∙ sym on) met.3 in
               record {
                 controlled = opens.controlled;
@@ -132,7 +132,7 @@ module _ (events : List ChartEvent) (text : IsInTextOrder events) (old new : Lis
 
     module _ (end : ℕ) (segment_end : IsSegmentEnd events front end) (here : line events front ≡ line events x) where
       -- what is left in the segment of the front is open
-      pub opened_open : (y : ℕ) → IsOpened events new front end y → IsOpenControlled events new y
+      opened_open : (y : ℕ) → IsOpened events new front end y → IsOpenControlled events new y
       opened_open y opened =
           let share = segment_end.together y opened.later opened.within in
           record {
@@ -149,7 +149,7 @@ module _ (events : List ChartEvent) (text : IsInTextOrder events) (old new : Lis
           }
 
       -- and what is open was open, or is left there
-      pub open_opened : (y : ℕ) → IsOpenControlled events new y → IsOpenControlled events old y ⊎ IsOpened events new front end y
+      open_opened : (y : ℕ) → IsOpenControlled events new y → IsOpenControlled events old y ⊎ IsOpened events new front end y
       open_opened y opens =
           elim (cases_eq (line events y) (line events x)) [
             | inr off ↦ inl (elsewhere y opens off)
@@ -166,68 +166,61 @@ module _ (events : List ChartEvent) (text : IsInTextOrder events) (old new : Lis
                 })
           ]
 
--- the fronts, with that of one line moved
-pub moved_fronts : (events : List ChartEvent) (old new : List ℕ) (x : ℕ) → IsInTextOrder events → IsWithout old new x
-    → (fronts : List ℕ) (front : ℕ) → line events x < length fronts → IsFront events new (line events x) front
-    → ((i : ℕ) → i < length fronts → IsFront events old i (get_or fronts i 0))
-    → (i : ℕ) → i < length fronts → IsFront events new i (get_or (set fronts (line events x) front) i 0)
-moved_fronts events old new x text without fronts front known own were i below =
-    elim (cases_eq i (line events x)) [
-      | inl same ↦ rw (same, get_or-set_same fronts (line events x) front 0 known) own
-      | inr other ↦ rw (get_or-set_other fronts (line events x) i front 0 other) (other_front events text old new x without i (get_or fronts i 0) (λ h. other (sym h)) (were i below))
-    ]
+    module _ (end : ℕ) (ends : IsOpenedEnd events (line events x) start front end) where
+      -- what is open was open, or is opened
+      was_or_opened : (y : ℕ) → IsOpenControlled events new y → IsOpenControlled events old y ⊎ IsOpened events new front end y
+      was_or_opened y open_now = elim ends [
+        | inl segment ↦ open_opened end segment.1 segment.0 y open_now
+        | inr none ↦ inl (was_open none.1 y open_now)
+      ]
 
--- The lines after x: its line has a new front, and the open controlled are told.
-pub lines_after : (instances : ℕ) (events : List ChartEvent) (text : IsInTextOrder events) (left fronts controlled new_left new_controlled : List ℕ)
-    (x front : ℕ) → AreLines instances events left fronts controlled → line events x < instances
-    → IsWithout left new_left x → IsNextLeft events new_left (line events x) (get_or fronts (line events x) 0) front
-    → length new_left ≡ length left → length new_controlled ≡ length controlled
-    → ((y : ℕ) → (has new_controlled y ≡ true) ↔ IsOpenControlled events new_left y)
-    → AreLines instances events new_left (set fronts (line events x) front) new_controlled
-lines_after instances events text left fronts controlled new_left new_controlled x front kept on without next same_left same_controlled told = record {
-  left_row = row_same (length events) left new_left same_left kept.left_row;
-  controlled_row = row_same (length events) controlled new_controlled same_controlled kept.controlled_row;
-  known = λ y there. kept.known y (was_in left new_left x without y there).0;
-  lines = length-set fronts (line events x) front ∙ kept.lines;
-  fronts = λ i below.
+      -- the open controlled are those that were, without x, and those that are opened
+      pub controlled_after : (opens cleared new_opens : List ℕ) → IsWithout opens cleared x
+          → ((y : ℕ) → (has opens y ≡ true) ↔ IsOpenControlled events old y)
+          → ((y : ℕ) → (has new_opens y ≡ true) ↔ ((has cleared y ≡ true) ⊎ IsOpened events new front end y))
+          → (y : ℕ) → (has new_opens y ≡ true) ↔ IsOpenControlled events new y
+      controlled_after opens cleared new_opens clears told added y = (
+        λ h. elim ((added y).0 h) [
+          | inl kept ↦ let there = was_in opens cleared x clears y kept in stays_open y ((told y).0 there.0) there.1
+          | inr opened ↦ elim ends [
+            | inl segment ↦ opened_open end segment.1 segment.0 y opened
+            | inr none ↦ let same = none.0 in let later = opened.later in let within = opened.within in absurd (omega (arith, same, later, within))
+          ]
+        ],
+        λ open_now. (added y).1 (elim (was_or_opened y open_now) [
+          | inl was_there ↦ inl (still_in opens cleared x clears y ((told y).1 was_there) (was_in old new x without y open_now.remains).1)
+          | inr opened ↦ inr opened
+        ]),
+      )
+
+  -- the fronts, with that of the line of x moved
+  moved_fronts : (fronts : List ℕ) (front : ℕ) → line events x < length fronts → IsFront events new (line events x) front
+      → ((i : ℕ) → i < length fronts → IsFront events old i (get_or fronts i 0))
+      → (i : ℕ) → i < length fronts → IsFront events new i (get_or (set fronts (line events x) front) i 0)
+  moved_fronts fronts front known own were i below =
+      elim (cases_eq i (line events x)) [
+        | inl same ↦ rw (same, get_or-set_same fronts (line events x) front 0 known) own
+        | inr other ↦ rw (get_or-set_other fronts (line events x) i front 0 other) (other_front i (get_or fronts i 0) (λ h. other (sym h)) (were i below))
+      ]
+
+  -- The lines after x: its line has a new front, and what is opened ends at `end`.
+  pub lines_after : (instances : ℕ) (fronts opens cleared new_opens : List ℕ) (front end : ℕ)
+      → AreLines instances events old fronts opens → line events x < instances
+      → IsNextLeft events new (line events x) (get_or fronts (line events x) 0) front
+      → IsOpenedEnd events (line events x) (get_or fronts (line events x) 0) front end
+      → length new ≡ length old → length new_opens ≡ length opens → IsWithout opens cleared x
+      → ((y : ℕ) → (has new_opens y ≡ true) ↔ ((has cleared y ≡ true) ⊎ IsOpened events new front end y))
+      → AreLines instances events new (set fronts (line events x) front) new_opens
+  lines_after instances fronts opens cleared new_opens front end kept on next ends same_left same_opens clears added =
+      let start = get_or fronts (line events x) 0 in
+      let was = kept.fronts (line events x) on in
       let number = kept.lines in
-      let own = own_front events text left new_left x without (get_or fronts (line events x) 0) front (kept.fronts (line events x) on) next in
-      moved_fronts events left new_left x text without fronts front (omega (arith, number, on)) own
-      (λ j less. kept.fronts j (omega (arith, number, less))) i (omega (arith, number, below));
-  controlled = told;
-}
-
--- Where the front has not come to another segment, the open controlled are those that were, without x.
-pub controlled_kept : (events : List ChartEvent) (text : IsInTextOrder events) (old new controlled new_controlled : List ℕ) (x start front : ℕ)
-    → IsWithout old new x → IsWithout controlled new_controlled x
-    → IsFront events old (line events x) start → IsNextLeft events new (line events x) start front
-    → ((y : ℕ) → (has controlled y ≡ true) ↔ IsOpenControlled events old y)
-    → ((y : ℕ) → y < length events → front ≤ y → line events front ≡ line events x → before events start front ≡ false)
-    → (y : ℕ) → (has new_controlled y ≡ true) ↔ IsOpenControlled events new y
-controlled_kept events text old new controlled new_controlled x start front without cleared was next told level y = (
-  λ h. let there = was_in controlled new_controlled x cleared y h in
-      stays_open events text old new x without start front was next y ((told y).0 there.0) there.1,
-  λ opens. still_in controlled new_controlled x cleared y ((told y).1 (was_open events text old new x without start front was next level y opens))
-      (was_in old new x without y opens.remains).1,
-)
-
--- Otherwise what is left in the segment of the front is opened.
-pub controlled_opened : (events : List ChartEvent) (text : IsInTextOrder events) (old new controlled cleared new_controlled : List ℕ) (x start front end : ℕ)
-    → IsWithout old new x → IsWithout controlled cleared x
-    → IsFront events old (line events x) start → IsNextLeft events new (line events x) start front
-    → ((y : ℕ) → (has controlled y ≡ true) ↔ IsOpenControlled events old y)
-    → IsSegmentEnd events front end → line events front ≡ line events x
-    → ((y : ℕ) → (has new_controlled y ≡ true) ↔ ((has cleared y ≡ true) ⊎ IsOpened events new front end y))
-    → (y : ℕ) → (has new_controlled y ≡ true) ↔ IsOpenControlled events new y
-controlled_opened events text old new controlled cleared new_controlled x start front end without clears was next told segment_end here added y = (
-  λ h. elim ((added y).0 h) [
-    | inl kept ↦
-        let there = was_in controlled cleared x clears y kept in
-        stays_open events text old new x without start front was next y ((told y).0 there.0) there.1
-    | inr opened ↦ opened_open events text old new x without start front was next end segment_end here y opened
-  ],
-  λ opens. (added y).1 (elim (open_opened events text old new x without start front was next end segment_end here y opens) [
-    | inl was_there ↦ inl (still_in controlled cleared x clears y ((told y).1 was_there) (was_in old new x without y opens.remains).1)
-    | inr opened ↦ inr opened
-  ]),
-)
+      record {
+        left_row = row_same (length events) old new same_left kept.left_row;
+        controlled_row = row_same (length events) opens new_opens same_opens kept.controlled_row;
+        known = λ y there. kept.known y (was_in old new x without y there).0;
+        lines = length-set fronts (line events x) front ∙ kept.lines;
+        fronts = λ i below. moved_fronts fronts front (omega (arith, number, on)) (own_front start front was next)
+            (λ j less. kept.fronts j (omega (arith, number, less))) i (omega (arith, number, below));
+        controlled = controlled_after start front was next end ends opens cleared new_opens clears kept.controlled added;
+      }

@@ -1,5 +1,5 @@
 -- Linked lists: putting a number at the end, and taking the first.
-use Rattle.std.proofs.Common.{◌≡◌, ◌≢◌, ℕ, zero, suc, ◌<◌, true, false, List, [], ◌∷◌, ◌++◌, length, get_or, set, eqb, refl, sym, ap, ◌∙◌, subst, arith, get_or-set_same, get_or-set_other}
+use Rattle.std.proofs.Common.{◌≡◌, ◌≢◌, ℕ, zero, suc, ◌<◌, ◌↔◌, true, false, List, [], ◌∷◌, ◌++◌, length, get_or, set, eqb, refl, sym, ap, ◌∙◌, subst, arith, get_or-set_same, get_or-set_other}
 use Rattle.std.proofs.lemmas.Bool.{eq-eqb, or_left, or_right}
 use Rattle.msc_chart.specs.Lists.{occurs, IsFirst}
 use Rattle.msc_race.specs.QueuedRuns.{IsLinked, IsQueue}
@@ -74,6 +74,23 @@ module _ (none : ℕ) (next : List ℕ) (head last : ℕ) where
 pub first_parts : (xs : List ℕ) (s : ℕ) → IsFirst xs s → (rest : List ℕ) × (xs ≡ s ∷ rest)
 first_parts [] s h = absurd h
 first_parts (x ∷ xs) s h = (xs, ap (λ y. y ∷ xs) h)
+
+-- the first of a list that is not empty is the first with one more at its end
+pub first_append : (xs : List ℕ) (x y s : ℕ) → occurs xs y ≡ true → IsFirst (xs ++ x ∷ []) s ↔ IsFirst xs s
+unfolding occurs
+first_append [] x y s h = cc
+first_append (a ∷ xs) x y s h = (λ f. f, λ f. f)
+
+-- a list has one first
+pub first_unique : (xs : List ℕ) (s t : ℕ) → IsFirst xs s → IsFirst xs t → s ≡ t
+first_unique [] s t h k = absurd h
+first_unique (x ∷ xs) s t h k = sym h ∙ k
+
+-- the first of the rest occurs in the list
+pub first_later : (s : ℕ) (rest : List ℕ) (t : ℕ) → IsFirst rest t → occurs (s ∷ rest) t ≡ true
+unfolding occurs
+first_later s [] t h = absurd h
+first_later s (b ∷ rest) t h = or_right (eqb s t) _ (or_left (eqb b t) _ (eq-eqb b t h))
 
 -- what stands at a place of a list does not depend on what is read past its end
 pub any_default : (xs : List ℕ) (i d e : ℕ) → i < length xs → get_or xs i d ≡ get_or xs i e

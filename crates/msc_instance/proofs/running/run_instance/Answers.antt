@@ -1,18 +1,19 @@
-use Rattle.std.proofs.Common.{refl, ap, sym, ◌∙◌, subst}
+use Rattle.std.proofs.Common.{refl, ap, sym, ◌∙◌, subst, arith}
 use Rattle.std.specs.Vec.{with_items}
 use Rattle.std.proofs.lemmas.List.{with_items_is}
 use Rattle.msc_execution.specs.Roles.{EndLists, role}
 use Rattle.msc_execution.specs.Running.{HasRun}
 use Rattle.msc_instance.specs.Active.{IsPost}
 use Rattle.msc_instance.specs.Views.{ends_of}
-use Rattle.msc_instance.proofs.Beginning.{begins, line_within}
+use Rattle.msc_instance.proofs.Beginning.{begins}
 use Rattle.msc_instance.proofs.Kept.{leaves}
 use Rattle.msc_instance.proofs.running.run_instance.Goals as goal
 
 pub run-last-requires : goal.run-last-requires
 run-last-requires g c =
-    let within = line_within c.args.chart.now c.args.i c.line-start.result.0 c.line-start.result.1
-    c.line-start.ensures.first c.line-start.ensures.past_last in
+    let within = c.lines_are_ranges.ensures.within c.args.chart.now c.args.i in
+    let first = c.line-start.ensures.first in
+    let past = c.line-start.ensures.past_last in
     let post : IsPost c.args.chart.now
     (record {
       queues = c.args.ends.queues;
@@ -29,8 +30,8 @@ run-last-requires g c =
       };
       accepted = c.accepted.ensures;
       line = c.line-start.ensures.range;
-      ordered = within.0;
-      within = within.1;
+      ordered = omega (arith, within.0, first, past);
+      within = omega (arith, within.1, past);
       fit = rw c.of-began.ensures c.requires.fit;
     } in
     begins _ _ _ post (ap ends_of (sym c.of-began.ensures)) (ap (λ l. l.items) c.new.ensures

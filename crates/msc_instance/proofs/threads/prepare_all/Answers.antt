@@ -1,10 +1,10 @@
 use Rattle.std.proofs.Common.{◌≡◌, List, ◌++◌, ◌∷◌, [], length, arith, ◌∙◌, sym, ap, subst, refl, map}
-use Rattle.std.proofs.lemmas.List.{append-nil, length-append, nil_from_length, append_assoc}
+use Rattle.std.proofs.lemmas.List.{length-append}
 use Rattle.std.specs.Prelude.{All}
 use Rattle.msc_execution.specs.Roles.{IsWiring}
 use Rattle.msc_instance.specs.Views.{ends_of}
 use Rattle.msc_instance.specs.declared.ends.InstanceEnds.{InstanceEnds}
-use Rattle.msc_instance.proofs.Prepared.{none_prepared, prepared_more, all_prepared, next_is, next_known, next_fits, prepared_many}
+use Rattle.msc_instance.proofs.Prepared.{none_prepared, prepared_more, all_prepared, next_is, next_known, next_fits, prepared_many, yielded_more, yielded_all}
 use Rattle.msc_instance.proofs.threads.prepare_all.Goals as goal
 
 pub loop-ends-init : goal.loop-ends-init
@@ -47,8 +47,7 @@ loop-ends-preserved c =
     let i = c.loop-ends.invariant in
     record {
       number = omega (arith, i.number, length-append c.loop-ends.yielded (c.in-Some.ends ∷ []));
-      whole = i.whole ∙ ap (λ l. c.loop-ends.yielded ++ l) c.in-Some.ensures.steps.0
-          ∙ sym (append_assoc c.loop-ends.yielded (c.in-Some.ends ∷ []) c.next.new.self.rest.items);
+      whole = yielded_more _ _ _ _ _ i.whole c.in-Some.ensures.steps.0;
       prepared = prepared_more _ _ _ i.prepared c.in_ok-prepare.field-0 c.in-Some.ends _ c.push_reserved.ensures.items
           c.in_ok-prepare.ensures.ends (c.in_ok-prepare.ensures.number ∙ i.number) c.in_ok-prepare.ensures.ready;
       room = omega (arith, i.room, c.push_reserved.ensures.capacity);
@@ -57,9 +56,7 @@ loop-ends-preserved c =
 pub returns : goal.returns
 returns c =
     let i = c.loop-ends.invariant in
-    let done = nil_from_length c.loop-ends.ends-iterator.rest.items (omega (arith, c.in-None.ensures.steps.0)) in
-    let is : c.in_ok-all.all.items ≡ c.loop-ends.yielded =
-    sym c.into_iter-ends-iterator.ensures.into_iter_gives.0 ∙ i.whole ∙ ap (λ l. c.loop-ends.yielded ++ l) done ∙ append-nil c.loop-ends.yielded in
+    let is = sym (yielded_all _ _ _ _ c.into_iter-ends-iterator.ensures.into_iter_gives.0 i.whole (omega (arith, c.in-None.ensures.steps.0))) in
     all_prepared c.args.chart.now c.loop-ends.yielded c.loop-ends.jobs.items i.prepared c.args.queues
     (subst (λ (l : List InstanceEnds). IsWiring c.args.queues c.args.chart.now (map ends_of l)) is c.in_ok-all.ensures.wiring)
     (subst (λ (l : List InstanceEnds). All (λ e. e.queues ≡ c.args.queues) l) is c.in_ok-all.ensures.architecture)

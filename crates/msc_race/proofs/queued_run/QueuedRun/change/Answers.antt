@@ -2,9 +2,27 @@ use Rattle.std.proofs.Common.{◌≡◌, ℕ, List, [], ◌∷◌, ◌++◌, sym
 use Rattle.msc_chart.specs.Runs.{state}
 use Rattle.msc_race.specs.Choices.{wired_chart}
 use Rattle.msc_race.specs.QueuedRuns.{AreQueues}
-use Rattle.msc_race.proofs.Runs.EventLemmas.{input_from_not}
+use Rattle.msc_race.proofs.Runs.EventLemmas.{input_from_not, output_not_local}
 use Rattle.msc_race.proofs.Making.StateLemmas.{state_passed}
 use Rattle.msc_race.proofs.queued_run.QueuedRun.change.Goals as goal
+
+pub send-requires-clause-coming : goal.send-requires-clause-coming
+send-requires-clause-coming c = record {
+  is_wired = c.ends_share_queues.ensures c.args.choice.now.wiring.queues c.args.choice.now.wiring.chart.now c.requires.settled.accepted;
+  run = c.requires.run;
+  may = c.requires.may;
+  were = c.requires.queues;
+  message = output_not_local c.args.choice.now.wiring.chart.now.events c.args.x (sym c.is_output.ensures ∙ c.if-is_output.true);
+}
+
+pub take-requires-clause-coming : goal.take-requires-clause-coming
+take-requires-clause-coming c = record {
+  is_wired = c.ends_share_queues.ensures c.args.choice.now.wiring.queues c.args.choice.now.wiring.chart.now c.requires.settled.accepted;
+  run = c.requires.run;
+  may = c.requires.may;
+  were = c.requires.queues;
+  message = sym c.is_local.ensures ∙ c.if-not-is_local.true;
+}
 
 pub take-requires-clause-input : goal.take-requires-clause-input
 take-requires-clause-input c =

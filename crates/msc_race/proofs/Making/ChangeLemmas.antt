@@ -1,5 +1,5 @@
--- How the queues and the inputs whose messages are first change when an input occurs.
-use Rattle.std.proofs.Common.{◌≡◌, ◌≢◌, ℕ, ◌<◌, true, ◌&&◌, inl, inr, List, [], ◌∷◌, ◌++◌, length, get_or, set, eqb, refl, sym, ap, ◌∙◌, subst, get_or-set_same, get_or-set_other}
+-- How the queues and the inputs whose messages are first change when an output or an input occurs.
+use Rattle.std.proofs.Common.{◌≡◌, ◌≢◌, ℕ, ◌<◌, true, ◌&&◌, inl, inr, List, [], ◌∷◌, ◌++◌, length, get_or, set, eqb, refl, sym, ap, ◌∙◌, subst, arith, get_or-set_same, get_or-set_other}
 use Rattle.std.proofs.lemmas.Bool.{eqb-true, eq-eqb, cases_eq, or_cases, or_left, or_right}
 use Rattle.std.proofs.lemmas.List.{length-set}
 use Rattle.msc_chart.specs.Lists.{occurs, IsFirst}
@@ -8,25 +8,14 @@ use Rattle.msc_chart.specs.Orders.{WiredChart, queue}
 use Rattle.msc_chart.specs.Runs.{state}
 use Rattle.bit_rows.specs.Rows.{has, IsWith, IsWithout}
 use Rattle.msc_race.specs.declared.queued_run.QueuedRun.{QueuedRun}
-use Rattle.msc_race.specs.QueuedRuns.{IsQueue, IsArrived, AreQueues}
+use Rattle.msc_race.specs.QueuedRuns.{IsArrived, AreQueues, IsQueue, IsComing}
 use Rattle.msc_race.proofs.Making.RowLemmas.{row_same}
-use Rattle.msc_race.proofs.Making.FrontLemmas.{still_in, was_in}
 use Rattle.msc_race.proofs.Runs.EventLemmas.{input_below, partner_of_output}
-use Rattle.msc_race.proofs.Making.StateLemmas.{IsDistinct, state_taken, state_taken_elsewhere}
-use Rattle.msc_race.proofs.Making.LinkLemmas.{queue_ends, queue_goes_on, first_parts}
-use Rattle.msc_race.proofs.Making.ComingLemmas.{IsComing}
+use Rattle.msc_race.proofs.Making.StateLemmas.{state_sent, state_sent_elsewhere, IsDistinct, state_taken, state_taken_elsewhere}
+use Rattle.msc_race.proofs.Making.LinkLemmas.{empty_queue, last_in, queue_same, queue_push, queue_ends, queue_goes_on, first_parts, first_append, first_unique, first_later}
+use Rattle.msc_race.proofs.Making.ComingLemmas.{has_head, has_last}
 use Rattle.msc_race.proofs.Making.ArrivedLemmas.{member, once, still_arrived, had_arrived, linked_elsewhere}
-
--- a list has one first
-first_unique : (xs : List ℕ) (s t : ℕ) → IsFirst xs s → IsFirst xs t → s ≡ t
-first_unique [] s t h k = absurd h
-first_unique (x ∷ xs) s t h k = sym h ∙ k
-
--- the first of the rest occurs in the list
-first_later : (s : ℕ) (rest : List ℕ) (t : ℕ) → IsFirst rest t → occurs (s ∷ rest) t ≡ true
-unfolding occurs
-first_later s [] t h = absurd h
-first_later s (b ∷ rest) t h = or_right (eqb s t) _ (or_left (eqb b t) _ (eq-eqb b t h))
+use Rattle.msc_race.proofs.Making.FrontLemmas.{still_in, was_in}
 
 module _ {chart : WiredChart} {c : QueuedRun} {x : ℕ} (here : IsComing chart c x) where
   open here use {is_wired, run, may, were}
@@ -61,9 +50,96 @@ module _ {chart : WiredChart} {c : QueuedRun} {x : ℕ} (here : IsComing chart c
   abbrev last : ℕ
   last = get_or lasts q 0
 
-  -- the queue of x is there
-  q_in : q < length heads
-  q_in = were.heads x may.event here.message
+  -- the last of the queue of x, where that has a head, is an event
+  pub last_known : head ≢ n → last < n
+  last_known some = (member chart past q last (last_in n next head last (state chart q past) (were.linked q (has_head here)) some)).1
+
+  module _ (o : is_output chart.events x ≡ true) where
+    away : (p : ℕ) → q ≢ p → after p ≡ state chart p past
+    away p other = state_sent_elsewhere chart past x is_wired run may o p other
+
+    -- an output becomes the head of an empty queue
+    pub sent_first : head ≡ n → (new_inputs : List ℕ) → length new_inputs ≡ length inputs
+        → IsWith inputs new_inputs true (partner chart.events x)
+        → AreQueues chart after (set heads q x) (set lasts q x) next new_inputs
+    sent_first none new_inputs same wider =
+        let empty = empty_queue n next head last (state chart q past) (were.linked q (has_head here)) none (λ y there. (member chart past q y there).1) in
+        let full : after q ≡ x ∷ [] = state_sent chart past x is_wired run may o ∙ ap (λ l. l ++ x ∷ []) empty in
+        record {
+          inputs_row = row_same n inputs new_inputs same were.inputs_row;
+          heads = λ e below message. rw (length-set heads q x) (were.heads e below message);
+          lasts = length-set lasts q x ∙ were.lasts ∙ sym (length-set heads q x);
+          next = were.next;
+          linked = λ p p_below. elim (cases_eq p q) [
+            | inl own ↦ rw (own, get_or-set_same heads q x 0 (has_head here), get_or-set_same lasts q x 0 (has_last here), full) (refl, refl)
+            | inr other ↦
+                linked_elsewhere chart past x away heads lasts next (set heads q x) (set lasts q x) p other (were.linked p (rw (length-set heads q x) at p_below))
+                (get_or-set_other heads q p x 0 other) (get_or-set_other lasts q p x 0 other)
+          ];
+          inputs = λ y. (
+            λ h. elim (or_cases (has inputs y) (true && eqb y (partner chart.events x)) (sym (wider y) ∙ h)) [
+              | inl there ↦ let a = (were.inputs y).0 there in elim (cases_eq (queue chart y) q) [
+                | inl here ↦ absurd (subst (λ (l : List ℕ). IsFirst l (partner chart.events y)) (ap (λ p. state chart p past) here ∙ empty) a.first)
+                | inr other ↦ still_arrived chart past x away y other a
+              ]
+              | inr added ↦ subst (λ (z : ℕ). IsArrived chart after z) (sym (eqb-true y (partner chart.events x) added)) (record {
+                input = partner_of_output chart.events is_wired.matched x o;
+                first = rw (is_wired.one_queue x may.event, full, is_wired.matched.to_and_fro x may.event) refl;
+              })
+            ],
+            λ a. wider y ∙ elim (cases_eq (queue chart y) q) [
+              | inl here ↦
+                  let first : x ≡ partner chart.events y = subst (λ (l : List ℕ). IsFirst l (partner chart.events y)) (ap after here ∙ full) a.first in
+                  let y_in = input_below chart.events y a.input in
+                  or_right (has inputs y) (true && eqb y (partner chart.events x))
+                  (eq-eqb y (partner chart.events x) (sym (ap (λ e. partner chart.events e) first ∙ is_wired.matched.to_and_fro y y_in)))
+              | inr other ↦ or_left (has inputs y) (true && eqb y (partner chart.events x)) ((were.inputs y).1 (had_arrived chart past x away y other a))
+            ],
+          );
+        }
+
+    -- an output is put at the end of a queue with a head
+    pub sent_later : head ≢ n → AreQueues chart after heads (set lasts q x) (set next last x) inputs
+    sent_later some =
+        let there = last_in n next head last (state chart q past) (were.linked q (has_head here)) some in
+        let size = were.next in
+        let known = last_known some in
+        let full : after q ≡ state chart q past ++ x ∷ [] = state_sent chart past x is_wired run may o in
+        record {
+          inputs_row = were.inputs_row;
+          heads = were.heads;
+          lasts = length-set lasts q x ∙ were.lasts;
+          next = length-set next last x ∙ were.next;
+          linked = λ p p_below. elim (cases_eq p q) [
+            | inl own ↦ rw (own, get_or-set_same lasts q x 0 (has_last here), full)
+                (queue_push n next head last x (state chart q past) (were.linked q (has_head here)) some (once chart past run q) (omega (arith, known, size)))
+            | inr other ↦ rw (get_or-set_other lasts q p x 0 other, away p (λ h. other (sym h)))
+                (queue_same n next (get_or heads p 0) (get_or lasts p 0) (set next last x) (state chart p past)
+                (λ y in_p. get_or-set_other next last y x 0
+                (λ same. other (sym (member chart past p y in_p).2 ∙ ap (λ z. queue chart z) same ∙ (member chart past q last there).2)))
+                (were.linked p p_below))
+          ];
+          inputs = λ y. (
+            λ h. let a = (were.inputs y).0 h in elim (cases_eq (queue chart y) q) [
+              | inl here ↦ record {
+                input = a.input;
+                first = subst (λ (l : List ℕ). IsFirst l (partner chart.events y)) (sym (ap after here ∙ full))
+                    ((first_append (state chart q past) x last (partner chart.events y) there).1
+                    (subst (λ (p : ℕ). IsFirst (state chart p past) (partner chart.events y)) here a.first));
+              }
+              | inr other ↦ still_arrived chart past x away y other a
+            ],
+            λ a. (were.inputs y).1 (elim (cases_eq (queue chart y) q) [
+              | inl here ↦ record {
+                input = a.input;
+                first = subst (λ (p : ℕ). IsFirst (state chart p past) (partner chart.events y)) (sym here)
+                    ((first_append (state chart q past) x last (partner chart.events y) there).0
+                    (subst (λ (l : List ℕ). IsFirst l (partner chart.events y)) (ap after here ∙ full) a.first));
+              }
+              | inr other ↦ had_arrived chart past x away y other a
+            ]),
+          );
+        }
 
   -- an input whose output is that of another input is that input
   same_partner : (y z : ℕ) → y < n → z < n → partner chart.events y ≡ partner chart.events z → y ≡ z
@@ -91,7 +167,7 @@ module _ {chart : WiredChart} {c : QueuedRun} {x : ℕ} (here : IsComing chart c
     left = state_taken chart past x is_wired run may i rest full
 
     linked_full : IsQueue n next head last (s ∷ rest)
-    linked_full = subst (λ (l : List ℕ). IsQueue n next head last l) full (were.linked q q_in)
+    linked_full = subst (λ (l : List ℕ). IsQueue n next head last l) full (were.linked q (has_head here))
 
     -- no other input of the queue had arrived
     not_arrived : (y : ℕ) → queue chart y ≡ q → IsArrived chart (λ p. state chart p past) y → y ≡ x
@@ -111,7 +187,7 @@ module _ {chart : WiredChart} {c : QueuedRun} {x : ℕ} (here : IsComing chart c
           lasts = were.lasts ∙ sym (length-set heads q n);
           next = were.next;
           linked = λ p p_below. elim (cases_eq p q) [
-            | inl here ↦ rw (here, get_or-set_same heads q n 0 q_in, empty) refl
+            | inl own ↦ rw (own, get_or-set_same heads q n 0 (has_head here), empty) refl
             | inr other ↦
                 linked_elsewhere chart past x gone heads lasts next (set heads q n) lasts p other (were.linked p (rw (length-set heads q n) at p_below)) (get_or-set_other heads q p n 0 other) refl
           ];
@@ -157,7 +233,7 @@ module _ {chart : WiredChart} {c : QueuedRun} {x : ℕ} (here : IsComing chart c
           lasts = were.lasts ∙ sym (length-set heads q t);
           next = were.next;
           linked = λ p p_below. elim (cases_eq p q) [
-            | inl here ↦ rw (here, get_or-set_same heads q t 0 q_in, left) next_first.1
+            | inl own ↦ rw (own, get_or-set_same heads q t 0 (has_head here), left) next_first.1
             | inr other ↦
                 linked_elsewhere chart past x gone heads lasts next (set heads q t) lasts p other (were.linked p (rw (length-set heads q t) at p_below)) (get_or-set_other heads q p t 0 other) refl
           ];
