@@ -10,7 +10,7 @@ use Rattle.msc_execution.specs.Roles.{NumberedInlet}
 use Rattle.msc_execution.specs.Running.{IsHungry, AllHaveEnded}
 use Rattle.msc_instance.specs.declared.active.Active.{Active}
 use Rattle.msc_instance.specs.declared.active.Post.{Post}
-use Rattle.msc_instance.specs.Active.{IsSound, HasSent, HasUpTo, IsBlocked, EndsSo, log_of, post_role, first_ends, weight}
+use Rattle.msc_instance.specs.Active.{IsSound, HasSent, HasUpTo, IsBlocked, EndsSo, log_of, post_role, weight}
 use Rattle.msc_instance.proofs.Logs.{on_post, whole}
 use Rattle.msc_instance.proofs.Kept.{comes}
 
