@@ -1,8 +1,8 @@
 -- What a study lists of a verdict's races.
-use Rattle.std.proofs.Common.{zero, ◌≡◌, ◌⊎◌, ℕ, ◌+◌, Bool, true, false, List, [], ◌∷◌, length, inl, inr, refl, sym, ap, ◌∙◌, subst, arith}
+use Rattle.std.proofs.Common.{zero, ◌≡◌, ℕ, ◌+◌, Bool, true, false, List, [], ◌∷◌, length, inl, inr, refl, ap, subst, arith}
 use Rattle.std.specs.Prelude.{◌↔◌, ◌==◌, IsTrue, slice_get}
 use Rattle.msc_chart.specs.Lists.{Occurs}
-use Rattle.msc_chart.specs.Orders.{WiredChart, IsRace}
+use Rattle.msc_chart.specs.Orders.{WiredChart}
 use Rattle.msc_race.proofs.Listing.Ascending.{none_ascend}
 use Rattle.msc_race.specs.Races.{AreAscending, AreRaces, IsVerdict}
 use Rattle.msc_race.specs.declared.verdict.Verdict.{Verdict}

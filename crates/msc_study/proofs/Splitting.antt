@@ -1,5 +1,5 @@
 -- Lists of pairs that are split in two.
-use Rattle.std.proofs.Common.{zero, suc, ◌≡◌, ◌⊎◌, ℕ, ◌+◌, ◌<◌, List, [], ◌∷◌, ◌++◌, Some, length, take, get_or, inl, inr, refl, ap, ◌∙◌, sym, subst, arith}
+use Rattle.std.proofs.Common.{zero, suc, ◌≡◌, ◌⊎◌, ℕ, ◌+◌, ◌<◌, List, [], ◌∷◌, ◌++◌, Some, length, take, get_or, inl, inr, refl, ap, sym, subst, arith}
 use Rattle.std.proofs.lemmas.List.{take_more, append-nil}
 use Rattle.msc_chart.specs.Lists.{Occurs}
 use Rattle.msc_race.proofs.Listing.Ascending.{first_ascends, none_ascend}

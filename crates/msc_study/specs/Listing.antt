@@ -1,5 +1,5 @@
 -- Which races a study lists.
-use Rattle.std.specs.Prelude.{ℕ, ◌↔◌, Bool, List, IsTrue}
+use Rattle.std.specs.Prelude.{ℕ, ◌↔◌, List, IsTrue}
 use Rattle.msc_chart.specs.Lists.{Occurs}
 use Rattle.msc_chart.specs.Orders.{WiredChart, IsRace}
 use Rattle.msc_race.specs.Races.{AreAscending}
