@@ -74,11 +74,12 @@ def of_instances(count):
     return HEAD + b"".join(sections) + END
 
 
-def of_events(messages, actions=0, inputs=None):
-    """A chart with so many messages from a to b, and actions of b."""
+def of_events(messages, actions=0, inputs=None, step=1):
+    """A chart with so many messages from a to b, taken in the other order where the step is -1, and
+    actions of b."""
     out = "".join(f"out m{number} to b;" for number in range(messages))
     inputs = messages if inputs is None else inputs
-    taken = "".join(f"in m{number} from a;" for number in range(inputs))
+    taken = "".join(f"in m{number} from a;" for number in range(inputs)[::step])
     own = "action '';" * actions
     text = f"msc t;instance a;{out}endinstance;instance b;{taken}{own}endinstance;endmsc;"
     return text.encode()
@@ -115,12 +116,19 @@ def charts():
 
 
 def numbers_of_races():
-    """Charts at the limits, architectures, and how many races there are."""
-    # 1,024 messages of one sender under `single`: each two of them race
-    yield of_events(1024), "single", 1024 * 1023 // 2
-    # an action of another instance is drawn before each of 1,024 inputs
+    """Charts at the limits, architectures, and how many races and closest races there are."""
+    # 1,024 messages of one sender under `single`, or overtaken all: each two of them race
+    yield of_events(1024), "single", 1024 * 1023 // 2, 1023
+    yield of_events(1024, step=-1), "pair", 1024 * 1023 // 2, 1023
+    # 1,024 actions are drawn before each of 1,024 inputs
     many = of_events(1024).replace(b"in m0 ", b"action '';" * 1024 + b"in m0 ")
-    yield many, "pair", 1024 * 1024
+    yield many, "pair", 1024 * 1024, 1
+
+
+def are_listed(count, answer, head, races):
+    """Counts whether an answer has this head and so many races."""
+    is_told = answer.output.startswith(head.encode()) and answer.status == 1
+    count.add(is_told and answer.output.count(b"\nrace ") == races, head, answer.output[:100])
 
 
 def small_stack():
@@ -162,11 +170,12 @@ def main():
     count.compare(answer, fault(TOO_LONG), "their canonical text")
     for text, queues, show, wanted in charts():
         count.compare(run(check_words(program, queues, show), text), wanted, queues, text[:100])
-    for text, queues, races in numbers_of_races():
-        answer = run(check_words(program, queues, 0), text)
-        lines = answer.output.split(b"\n")
-        is_told = lines[2] == f"races {races}".encode() and answer.status == 1
-        count.add(is_told and len(lines) == races + 4, queues, races, lines[:4])
+    for text, queues, races, closest in numbers_of_races():
+        head = f"chart t\nqueues {queues}\nraces {races}\n"
+        words = check_words(program, queues, 0)
+        are_listed(count, run(words, text), head, races)
+        answer = run([*words[:-1], "--closest", "-"], text)
+        are_listed(count, answer, f"{head}closest {closest}\n", closest)
     stacks(count, program, options.commands)
     return count.end()
 
