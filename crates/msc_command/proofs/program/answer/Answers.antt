@@ -26,3 +26,24 @@ returns-in-false-4 g c =
       | inl told ↦ (told.0, told.1, rw c.in-Run.is (rw c.in-false-4.is at told.2.written))
       | inr failed ↦ absurd (elim failed [ inl memory ↦ cc | inr device ↦ cc ])
     ]
+
+pub returns-in-Free : goal.returns-in-Free
+returns-in-Free g c =
+    elim c.in_ok-explain_input-in-Explain.ensures.read [
+      | inl told ↦ (told.0, told.1, rw c.in-Explain.is (rw c.in-Free.is at told.2.written))
+      | inr failed ↦ absurd (elim failed [ inl memory ↦ cc | inr device ↦ cc ])
+    ]
+
+pub returns-in-true : goal.returns-in-true
+returns-in-true g c =
+    elim c.in_ok-check_input-in-Check.ensures.read [
+      | inl told ↦ (told.0, told.1, rw c.in-Check.is (rw c.in-true.is at told.2.written))
+      | inr failed ↦ absurd (elim failed [ inl memory ↦ cc | inr device ↦ cc ])
+    ]
+
+pub returns-in-false : goal.returns-in-false
+returns-in-false g c =
+    elim c.in_ok-check_input-in-Check.ensures.read [
+      | inl told ↦ (told.0, told.1, rw c.in-Check.is (rw c.in-false.is at told.2.written))
+      | inr failed ↦ absurd (elim failed [ inl memory ↦ cc | inr device ↦ cc ])
+    ]
