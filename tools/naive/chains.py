@@ -6,7 +6,8 @@
 The charts are those of compare.py. Each is tried under each architecture, with all pairs of numbers from 0
 up to that of its events: what is printed has to be a chain of rules of docs/MODEL.md from the first event to
 the second where the pair is enforced by the order of verdict.py, and otherwise a whole run that has the
-second first, with what studies.py says of a race. A chain is checked step by step against the drawing alone.
+second first, with what studies.py says of a race. A chain is checked step by step against the drawing alone,
+and then whether it is the one of the rule there.
 Each text is checked again without one of its lines, and has to be wrong then. Prints how many texts were
 checked. The exit status is 1 at the first that is wrong, whose chart is printed.
 """
@@ -24,6 +25,32 @@ from verdict import Chart
 
 class Wrong(Exception):
     """A line that is not as it has to be."""
+
+
+def last_link(drawn, x, y):
+    """The last controlled event below x that is y or enforced before it; none where there is none."""
+    links = (z for z in drawn.all if drawn.before(x, z) and drawn.is_controlled(z))
+    return max((z for z in links if z == y or is_enforced(drawn, z, y)), default=None)
+
+
+def ruled(drawn, x, y):
+    """The chain from x to y by the rule of docs/MODEL.md."""
+    while x != y:
+        link = last_link(drawn, x, y)
+        x = drawn.partner[x] if link is None else link
+        yield x
+
+
+def is_caused(drawn, x, y):
+    """Whether a chain leads from x to y."""
+    return is_enforced(drawn, x, y) if drawn.is_controlled(x) else last_link(drawn, x, y) is not None
+
+
+def first_mate(drawn, e, f):
+    """The first input to which the rule of queues leads from input e, and that is f or leads to it."""
+    inputs = (u for u in drawn.all if not drawn.is_controlled(u) and drawn.queue(u) == drawn.queue(e))
+    return next(u for u in inputs if is_enforced(drawn, drawn.partner[e], drawn.partner[u])
+                and (u == f or is_caused(drawn, u, f)))
 
 
 class Reader:
@@ -60,9 +87,12 @@ class Reader:
 
     def chain(self, blanks, x):
         """Steps from event x; gives the event that they lead to."""
+        events = [x]
         while self.has(f"{blanks}drawn ", f"{blanks}sent "):
-            x = self.step(blanks, x)
-        return x
+            events.append(self.step(blanks, events[-1]))
+        if events[1:] != list(ruled(self.drawn, x, events[-1])):
+            raise Wrong(f"{events} is another chain than that of the rule")
+        return events[-1]
 
     def mate(self, e):
         """The rule of queues from input e; gives the input that it leads to."""
@@ -79,7 +109,12 @@ class Reader:
         """What shows that e is enforced before f: one line or more."""
         if not self.has("queue ", "drawn ", "sent "):
             raise Wrong("no chain")
-        if self.chain("", self.mate(e) if self.has("queue ") else e) != f:
+        at = e
+        if self.has("queue "):
+            at = self.mate(e)
+            if is_caused(self.drawn, e, f) or at != first_mate(self.drawn, e, f):
+                raise Wrong("another pair of inputs than that of the rule")
+        if self.chain("", at) != f:
             raise Wrong(f"the chain does not lead to {f}")
 
 
