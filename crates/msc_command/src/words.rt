@@ -71,6 +71,21 @@ const VERSION: &str = "0.1.0";
 /// How many rounds in a row an instance looks for messages in vain, where the words do not say.
 const PATIENCE: u32 = 1_000_000_000;
 
+/// What stands below the help of all commands.
+const NOTES: &str = "\
+Exit status:
+  0  the answer was written; `check` found no races that count, `explain` that E is enforced
+     before F, `run` that all instances finish
+  1  `check` found races that count, or `explain` that E is not enforced before F
+  2  the text or the pair was refused, or the words are no command
+  3  some instance of `run` has not finished
+  4  memory ran out, a thread could not be started, or a file or the output failed
+
+Examples:
+  msc check --queues pair relay.msc
+  msc explain --queues mailbox relay.msc 2 3
+  msc run --queues mailbox relay.msc";
+
 /// What stands below the help of `msc read`.
 const READ_NOTES: &str = "\
 Exit status:
@@ -243,6 +258,7 @@ pub fn grammar<'a>(
         .bin_name("msc")?
         .version(VERSION)
         .about("Check message sequence charts for races, and run them")
+        .after_help(NOTES)
         .subcommand_required(true)
         .subcommand(read_words(alloc)?)?
         .subcommand(check_words(alloc, architectures, kinds)?)?

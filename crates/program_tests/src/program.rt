@@ -309,8 +309,14 @@ fn helps<R: Host>(rt: &R, words: &[&str], part: &str) -> Result<bool, AllocError
 }
 
 /// Words that ask for help, and a part of it.
-const HELP: [(&[&str], &str); 16] = [
+const HELP: [(&[&str], &str); 19] = [
     (&["--help"], "Usage: msc"),
+    (&["--help"], "  1  `check` found races that count"),
+    (&["--help"], "  3  some instance of `run` has not finished"),
+    (
+        &["--help"],
+        "Examples:\n  msc check --queues pair relay.msc\n  msc explain --queues mailbox relay.msc 2 3\n",
+    ),
     (&["help"], "Usage: msc"),
     (&["read", "--help"], "Usage: msc read <FILE>\n"),
     (&["read", "--help"], "  0  the canonical text was written\n"),
