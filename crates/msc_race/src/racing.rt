@@ -11,7 +11,7 @@ ghost use Rattle.msc_chart.specs.Charts.{IsLineEnd, IsSegmentEnd};
 ghost use Rattle.msc_chart.specs.Orders.{wired, IsEnforcedOrder};
 ghost use Rattle.bit_rows.specs.Rows.{bit_of};
 ghost use Rattle.msc_order.specs.Tables.{orders};
-ghost use Rattle.msc_race.specs.Gaps.{is_gap};
+ghost use Rattle.msc_race.specs.Gaps.{is_gap, is_open};
 ghost use Rattle.msc_race.specs.Races.{all_races, IsVerdict, TellsRuns};
 ghost use Rattle.msc_race.specs.Words.{is_in_word};
 
@@ -55,8 +55,8 @@ fn push_word(list: &mut Vec<(Event, Event)>, word: u64, e: Event, k: u32) -> Res
 }
 
 /// Appends the pairs of `e` with the numbers from `start` up to `end` whose bit in a row is 0
-/// ([`bit_rows`]). An error is a growth of memory that was refused.
-pub fn push_gaps(
+/// ([`bit_rows`]).
+fn push_gaps(
     list: &mut Vec<(Event, Event)>,
     row: &[u64],
     e: Event,
@@ -75,6 +75,26 @@ pub fn push_gaps(
         push_word(list, gaps_of(row[k as usize], k, start, end), e, k)?;
     }
     Ok(())
+}
+
+/// Appends the pairs of `e` with those events from `start` up to `end` before which `order` does
+/// not have it, where `order` is one of the chart. An error is a growth of memory that was refused.
+pub fn push_open(
+    list: &mut Vec<(Event, Event)>,
+    chart: &Chart,
+    order: &Order,
+    e: Event,
+    start: Event,
+    end: Event,
+) -> Result<(), AllocError>
+    requires events { length order.now ≡ length chart.now.events }
+    requires known { e < length chart.now.events }
+    requires within { end ≤ length chart.now.events }
+    ensures { OnOk result
+        (list.new.items ≡ list.old.items ++ pairs_to (is_open order.now start) e end) }
+{
+    chart.accepted();
+    push_gaps(list, order.row(e), e, start, end)
 }
 
 /// The number past the segment of `e`, which `known` is if it is past `e`.
@@ -112,7 +132,7 @@ pub fn races(alloc: Global, chart: &Chart, order: &Order) -> Result<Vec<(Event, 
     for e in 0..chart.events() {
         start = segment_end(chart, e, start);
         end = line_end(chart, e, end);
-        push_gaps(&mut list, order.row(e), e, start, end)?;
+        push_open(&mut list, chart, order, e, start, end)?;
     }
     Ok(list)
 }

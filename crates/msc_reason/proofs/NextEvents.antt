@@ -9,10 +9,9 @@ use Rattle.msc_chart.specs.Orders.{WiredChart, IsEnforcedOrder}
 use Rattle.msc_chart.proofs.Drawn.{before_from, before_parts}
 use Rattle.msc_chart.proofs.Numbers.{any_below, none_of_any, some_of_any}
 use Rattle.msc_chart.proofs.ListLemmas.{clash}
-use Rattle.bit_rows.specs.Rows.{has}
 use Rattle.msc_order.specs.Tables.{Table, orders}
 use Rattle.msc_order.specs.Causes.{IsNextSegment}
-use Rattle.msc_race.specs.Gaps.{is_gap}
+use Rattle.msc_race.specs.Gaps.{is_open}
 use Rattle.msc_race.specs.Races.{AreAscending}
 use Rattle.msc_race.proofs.Listing.Ascending.{of_ascends}
 use Rattle.msc_race.proofs.Listing.DrawnPairs.{segment_goes_on}
@@ -112,13 +111,10 @@ module _ (events : List ChartEvent) where
           | inr past ↦ le-leb start f past ∙ sym (next_from e f ((range.exact f).1 (past, inside)))
         ]
 
-    -- so the gaps of the row are the closest races of e
-    pub gaps_are_close : (order : Table) (row : List ℕ) → ((f : ℕ) → has row f ≡ orders order e f)
-        → (f : ℕ) → f < end → is_gap row start e f ≡ is_close order e f
-    unfolding is_gap is_close
-    gaps_are_close order row bits f inside =
-        ap (λ (b : Bool). b && not (has row f)) (next_in f inside)
-        ∙ ap (λ (b : Bool). is_next e f && not b) (bits f)
+    -- so what an order leaves open is close
+    pub open_is_close : (order : Table) (f : ℕ) → f < end → is_open order start e f ≡ is_close order e f
+    unfolding is_open is_close
+    open_is_close order f inside = ap (λ (b : Bool). b && not (orders order e f)) (next_in f inside)
 
     -- past the range is none
     pub none_close : (order : Table) (f : ℕ) → end ≤ f → is_close order e f ≡ false

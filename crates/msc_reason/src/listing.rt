@@ -11,7 +11,7 @@ ghost use Rattle.msc_reason.specs.Ranges.{IsNextRange};
 
 use msc_chart::{Chart, Event, Queues};
 use msc_order::Order;
-use msc_race::push_gaps;
+use msc_race::push_open;
 use std::alloc::{AllocError, Global};
 
 /// The events that are next to `e`: from the first number, which is past the segment of `e`, up to
@@ -47,7 +47,7 @@ pub fn closest(
     let mut next = (0, 0);
     for e in 0..chart.events() {
         next = next_events(chart, e, next);
-        push_gaps(&mut list, order.row(e), e, next.0, next.1)?;
+        push_open(&mut list, chart, order, e, next.0, next.1)?;
     }
     Ok(list)
 }

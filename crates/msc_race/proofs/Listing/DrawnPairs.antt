@@ -7,11 +7,10 @@ use Rattle.msc_chart.specs.Charts.{before, IsInTextOrder, IsLineEnd, IsSegmentEn
 use Rattle.msc_chart.specs.Lists.{Occurs}
 use Rattle.msc_chart.specs.Orders.{WiredChart, IsEnforcedOrder}
 use Rattle.msc_chart.proofs.Drawn.{before_from, before_parts}
-use Rattle.bit_rows.specs.Rows.{has}
 use Rattle.msc_order.specs.Tables.{Table, orders}
 use Rattle.msc_order.proofs.Drawing.{before_later}
 use Rattle.msc_race.specs.Races.{all_races, is_raced, AreAscending, IsRaceList}
-use Rattle.msc_race.specs.Gaps.{is_gap}
+use Rattle.msc_race.specs.Gaps.{is_open}
 use Rattle.msc_race.specs.Laws.{HasNoRace}
 use Rattle.msc_race.proofs.Listing.Ascending.{of_ascends}
 use Rattle.msc_race.proofs.Listing.Pairs.{of_from, of_parts}
@@ -61,13 +60,10 @@ module _ (events : List ChartEvent) where
     drawn_past : (f : ℕ) → end ≤ f → before events e f ≡ false
     drawn_past f past = by_test (before events e f) (λ b. let p = before_parts events e f b in absurd (l.past f past p.1 p.2)) (λ none. none)
 
-    -- so the gaps of the row are the races of e
-    pub gaps_are_races : (order : Table) (row : List ℕ) → ((f : ℕ) → has row f ≡ orders order e f)
-        → (f : ℕ) → f < end → is_gap row start e f ≡ is_raced events order e f
-    unfolding is_gap is_raced
-    gaps_are_races order row bits f inside =
-        ap (λ (b : Bool). b && not (has row f)) (drawn_from f inside)
-        ∙ ap (λ (b : Bool). before events e f && not b) (bits f)
+    -- so what an order leaves open is raced
+    pub open_is_raced : (order : Table) (f : ℕ) → f < end → is_open order start e f ≡ is_raced events order e f
+    unfolding is_open is_raced
+    open_is_raced order f inside = ap (λ (b : Bool). b && not (orders order e f)) (drawn_from f inside)
 
     -- no event past the line is raced
     pub none_past : (order : Table) (f : ℕ) → end ≤ f → is_raced events order e f ≡ false

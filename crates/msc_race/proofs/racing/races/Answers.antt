@@ -1,9 +1,8 @@
 use Rattle.std.proofs.Common.{ℕ, ◌++◌, List, length, sym, ap, ◌∙◌, arith}
-use Rattle.bit_rows.proofs.Bits.{words_enough, words_few}
 use Rattle.msc_chart.specs.Lists.{pairs_to}
 use Rattle.msc_race.specs.Races.{is_raced}
-use Rattle.msc_race.specs.Gaps.{is_gap}
-use Rattle.msc_race.proofs.Listing.DrawnPairs.{gaps_are_races, line_goes_on, none_past, segment_goes_on}
+use Rattle.msc_race.specs.Gaps.{is_open}
+use Rattle.msc_race.proofs.Listing.DrawnPairs.{open_is_raced, line_goes_on, none_past, segment_goes_on}
 use Rattle.msc_race.proofs.Listing.Pairs.{below_all, below_more, below_none, pairs_between, pairs_below, pairs_same}
 use Rattle.msc_race.proofs.racing.races.Goals as goal
 
@@ -13,22 +12,6 @@ loop-e-init c = record {
   segment = λ below. absurd (omega arith);
   line = λ below. absurd (omega arith);
 }
-
-pub push_gaps-requires-clause-reach : goal.push_gaps-requires-clause-reach
-push_gaps-requires-clause-reach c =
-    let enough = words_enough (length c.args.order.now) in
-    let words = c.row.ensures.words in
-    let same = c.requires in
-    let within = c.line_end-end.ensures.within in
-    omega (arith, enough, words, same.events, within)
-
-pub push_gaps-requires-clause-few : goal.push_gaps-requires-clause-few
-push_gaps-requires-clause-few c =
-    let few = words_few (length c.args.order.now) in
-    let words = c.row.ensures.words in
-    let same = c.requires in
-    let events = c.events-e-end.ensures.accepted.few_events in
-    omega (arith, few, words, same.events, events)
 
 pub loop-e-preserved : goal.loop-e-preserved
 loop-e-preserved c =
@@ -40,10 +23,10 @@ loop-e-preserved c =
     let order = c.args.order.now in
     let text = c.events-e-end.ensures.accepted.in_text_order in
     let raced = is_raced events order in
-    let short = pairs_same (is_gap c.row.result.now start) raced e end (gaps_are_races events text e start end c.segment_end-start.ensures c.line_end-end.ensures order c.row.result.now c.row.ensures.numbers) in
+    let short = pairs_same (is_open order start) raced e end (open_is_raced events text e start end c.segment_end-start.ensures c.line_end-end.ensures order) in
     let whole = pairs_between raced e end n c.line_end-end.ensures.within (λ y low high. none_past events text e start end c.segment_end-start.ensures c.line_end-end.ensures order y low) in
     record {
-      list = c.in_ok-push_gaps.ensures ∙ ap (λ (l : List (ℕ × ℕ)). l ++ pairs_to (is_gap c.row.result.now start) e end) c.loop-e.invariant.list
+      list = c.in_ok-push_open.ensures ∙ ap (λ (l : List (ℕ × ℕ)). l ++ pairs_to (is_open order start) e end) c.loop-e.invariant.list
           ∙ ap (λ (l : List (ℕ × ℕ)). pairs_below raced n e ++ l) (short ∙ sym whole) ∙ sym (below_more raced n e);
       segment = segment_goes_on events e start c.segment_end-start.ensures;
       line = line_goes_on events e end c.line_end-end.ensures;

@@ -1,10 +1,9 @@
 use Rattle.std.proofs.Common.{ℕ, ◌++◌, List, length, sym, ap, ◌∙◌, arith}
-use Rattle.bit_rows.proofs.Bits.{words_enough, words_few}
 use Rattle.msc_chart.specs.Lists.{pairs_to}
 use Rattle.msc_chart.specs.Orders.{wired}
-use Rattle.msc_race.specs.Gaps.{is_gap}
+use Rattle.msc_race.specs.Gaps.{is_open}
 use Rattle.msc_race.proofs.Listing.Pairs.{below_all, below_more, below_none, pairs_between, pairs_below, pairs_same}
-use Rattle.msc_reason.proofs.NextEvents.{gaps_are_close, is_close, list_of_closest, none_close, range_goes_on}
+use Rattle.msc_reason.proofs.NextEvents.{is_close, list_of_closest, none_close, open_is_close, range_goes_on}
 use Rattle.msc_reason.proofs.listing.closest.Goals as goal
 
 pub loop-e-init : goal.loop-e-init
@@ -12,22 +11,6 @@ loop-e-init c = record {
   list = c.new-list.ensures.items ∙ sym (below_none (is_close c.args.chart.now.events c.args.order.now) (length c.args.chart.now.events));
   range = λ below. absurd (omega arith);
 }
-
-pub push_gaps-requires-clause-reach : goal.push_gaps-requires-clause-reach
-push_gaps-requires-clause-reach c =
-    let enough = words_enough (length c.args.order.now) in
-    let words = c.row.ensures.words in
-    let same = c.requires in
-    let within = c.next_events-next.ensures.within in
-    omega (arith, enough, words, same.square, within)
-
-pub push_gaps-requires-clause-few : goal.push_gaps-requires-clause-few
-push_gaps-requires-clause-few c =
-    let few = words_few (length c.args.order.now) in
-    let words = c.row.ensures.words in
-    let same = c.requires in
-    let events = c.events-e-end.ensures.accepted.few_events in
-    omega (arith, few, words, same.square, events)
 
 pub loop-e-preserved : goal.loop-e-preserved
 loop-e-preserved c =
@@ -39,10 +22,10 @@ loop-e-preserved c =
     let order = c.args.order.now in
     let range = c.next_events-next.ensures in
     let close = is_close events order in
-    let short = pairs_same (is_gap c.row.result.now start) close e end (gaps_are_close events e start end range order c.row.result.now c.row.ensures.numbers) in
+    let short = pairs_same (is_open order start) close e end (open_is_close events e start end range order) in
     let whole = pairs_between close e end n range.within (λ y low high. none_close events e start end range order y low) in
     record {
-      list = c.in_ok-push_gaps.ensures ∙ ap (λ (l : List (ℕ × ℕ)). l ++ pairs_to (is_gap c.row.result.now start) e end) c.loop-e.invariant.list
+      list = c.in_ok-push_open.ensures ∙ ap (λ (l : List (ℕ × ℕ)). l ++ pairs_to (is_open order start) e end) c.loop-e.invariant.list
           ∙ ap (λ (l : List (ℕ × ℕ)). pairs_below close n e ++ l) (short ∙ sym whole) ∙ sym (below_more close n e);
       range = range_goes_on events e start end range;
     }
