@@ -2,21 +2,16 @@
 use Rattle.std.proofs.Common.{◌≡◌, ◌≢◌, ◌⊎◌, ℕ, true, false, List, Option, Result, Ok, Err, None, Some, inl, inr, refl, sym, ap, ◌∙◌, subst, arith}
 use Rattle.std.specs.Prelude.{IfErr, IfOk, IfSome}
 use Rattle.std.specs.Io.KnownBytes.{Appends}
-use Rattle.msc_chart.specs.declared.fault.ChartFault.{ChartFault}
-use Rattle.msc_chart.specs.declared.fault.ChartFault.TheVariants as charts
 use Rattle.msc_chart.specs.declared.queue.Queues.{Queues}
 use Rattle.msc_chart.specs.Drawings.{Drawing, IsAccepted, chart_of}
-use Rattle.msc_chart.specs.Faults.{IsFaultless, IsFirstFault}
+use Rattle.msc_chart.specs.Faults.{IsFaultless}
 use Rattle.msc_chart.specs.Orders.{wired}
-use Rattle.msc_parser.specs.declared.fault.ParseFault.{ParseFault}
-use Rattle.msc_parser.specs.declared.fault.ParseFault.TheVariants as grammar
 use Rattle.msc_parser.specs.Grammar.{Tree}
 use Rattle.msc_parser.specs.Parsing.{HasDraft}
 use Rattle.msc_reason.specs.Laws.{AWhyIsEnough}
 use Rattle.msc_reason.specs.Reasons.{IsReason}
 use Rattle.msc_reason.specs.declared.reason.Reason.{Reason}
 use Rattle.msc_reason.specs.declared.reason.Reason.TheVariants as reasons
-use Rattle.msc_report.specs.Refusals.{chart_refusal_of, refusal_of}
 use Rattle.msc_report.specs.declared.fault.Fault.{Fault}
 use Rattle.msc_report.specs.declared.fault.Fault.TheVariants.{Memory, Device}
 use Rattle.msc_report.specs.declared.fault.PairFault.{PairFault}
@@ -24,11 +19,11 @@ use Rattle.msc_report.specs.declared.fault.PairFault.TheVariants.{NoEvent, OneEv
 use Rattle.msc_study.specs.declared.explained.Explained.{Explained}
 use Rattle.msc_study.specs.declared.explained.Explained.TheVariants as answers
 use Rattle.msc_study.specs.Explained.{told, PrintsPair}
-use Rattle.msc_study.specs.Explaining.{AnswersPair, AreTwoEvents, IsPairFault, PrintsReason, RefusesInputPair, RefusesPair}
+use Rattle.msc_study.specs.Explaining.{AnswersPair, AreTwoEvents, HasPairFault, IsPairFault, PrintsReason, RefusesInputPair, RefusesPair}
 use Rattle.msc_study.specs.Reasons.{explained_text}
 use Rattle.msc_text.proofs.Answered.{of_input}
 use Rattle.msc_text.proofs.Inputs.{draft_back, HasRead}
-use Rattle.msc_text.proofs.Refusals.{IsDraft}
+use Rattle.msc_text.specs.Charting.{IsChartOf, IsChartOrMemory}
 
 -- a pair that has a fault is no pair of two events, and has no other fault
 pub no_fault : (d : Drawing) (e f : ℕ) (p : PairFault) → AreTwoEvents d e f → IsPairFault d e f p → ⊥
@@ -46,20 +41,6 @@ one_fault d e f (NoEvent x) (OneEvent y) (inr a) b = let much = a.1 in let known
 one_fault d e f (OneEvent x) (NoEvent y) a (inl b) = let much = b.0 in let known = a.0 in absurd (omega (arith, much, known))
 one_fault d e f (OneEvent x) (NoEvent y) a (inr b) = let much = b.1 in let known = a.0 in let same = a.1 in absurd (omega (arith, much, known, same))
 one_fault d e f (OneEvent x) (OneEvent y) a b = ap OneEvent (a.2 ∙ sym b.2)
-
--- a draft without faults is refused for want of memory alone
-only_memory : (draft : Tree) (x : ChartFault) → IsFaultless draft → (x ≢ charts.Memory → IsFirstFault draft x) → x ≡ charts.Memory
-only_memory draft charts.Memory faultless first = refl
-only_memory draft charts.TooManyInstances faultless first = absurd (faultless _ (first (λ e. cc)).stands)
-only_memory draft (charts.TwiceInstance i) faultless first = absurd (faultless _ (first (λ e. cc)).stands)
-only_memory draft (charts.HeaderWithoutBody k) faultless first = absurd (faultless _ (first (λ e. cc)).stands)
-only_memory draft (charts.UnknownAddress e) faultless first = absurd (faultless _ (first (λ e. cc)).stands)
-only_memory draft charts.TooManyMessages faultless first = absurd (faultless _ (first (λ e. cc)).stands)
-only_memory draft charts.TooManyActions faultless first = absurd (faultless _ (first (λ e. cc)).stands)
-only_memory draft (charts.TwiceEvent e) faultless first = absurd (faultless _ (first (λ e. cc)).stands)
-only_memory draft (charts.UnmatchedOut e) faultless first = absurd (faultless _ (first (λ e. cc)).stands)
-only_memory draft (charts.UnmatchedIn e) faultless first = absurd (faultless _ (first (λ e. cc)).stands)
-only_memory draft (charts.Cyclic e) faultless first = absurd (faultless _ (first (λ e. cc)).stands)
 
 -- a reason that is right, and its text, are what is printed of a pair
 pub prints_pair : (queues : Queues) (d : Drawing) (e f : ℕ) (reason : Reason) (printed : List ℕ)
@@ -105,27 +86,27 @@ module _ (text : List ℕ) (queues : Queues) (e f : ℕ) where
   answers_pair (Ok (answers.Refused p)) draft d before after has faultless same (printed, prints, wrote) = absurd prints
   answers_pair (Err fault) draft d before after has faultless same said = tt
 
-  -- the draft of the text has two such events, so no fault of a pair stands
-  pub two_stand : (answer : Result Explained Fault) (draft : Tree) (d : Drawing) → IsDraft text draft → d ≡ chart_of draft → AreTwoEvents d e f → RefusesPair text e f answer
-  two_stand answer draft d is same two p has =
-      absurd (no_fault (chart_of draft) e f p (subst (λ (d : Drawing). AreTwoEvents d e f) same two)
-      (subst (λ (t : Tree). IsPairFault (chart_of t) e f p) (sym (is.1 has.draft has.has)) has.stands))
+  -- the chart in which a pair has a fault is answered, unless memory runs out
+  faulty : (r : Result Drawing Fault) (p : PairFault) → ((d : Drawing) → IsChartOf text d → IsChartOrMemory d r) → (has : HasPairFault text e f p)
+      → IsChartOrMemory (chart_of has.draft) r
+  faulty r p only has = only (chart_of has.draft) (record { draft = has.draft; has = has.has; faultless = has.faultless; chart = refl })
+
+  -- so where a chart has two such events, no fault of a pair stands
+  pub two_stand : (answer : Result Explained Fault) (d : Drawing) → ((c : Drawing) → IsChartOf text c → IsChartOrMemory c (Ok d)) → AreTwoEvents d e f
+      → RefusesPair text e f answer
+  two_stand answer d only two p has =
+      absurd (no_fault (chart_of has.draft) e f p (subst (λ (c : Drawing). AreTwoEvents c e f) (faulty (Ok d) p only has) two) has.stands)
 
   -- a fault of a pair is answered as it stands
-  pub pair_stands : (draft : Tree) (d : Drawing) (p : PairFault) → IsDraft text draft → d ≡ chart_of draft → IsPairFault d e f p
+  pub pair_stands : (d : Drawing) (p : PairFault) → ((c : Drawing) → IsChartOf text c → IsChartOrMemory c (Ok d)) → IsPairFault d e f p
       → RefusesPair text e f (Ok (answers.Refused p))
-  pair_stands draft d p is same stands q has =
-      let other = subst (λ (t : Tree). IsPairFault (chart_of t) e f q) (sym (is.1 has.draft has.has)) has.stands in
-      inl (ap (λ (x : PairFault). Ok (answers.Refused x)) (one_fault (chart_of draft) e f p q (subst (λ (d : Drawing). IsPairFault d e f p) same stands) other))
+  pair_stands d p only stands q has =
+      inl (ap (λ (x : PairFault). Ok (answers.Refused x))
+      (one_fault (chart_of has.draft) e f p q (subst (λ (c : Drawing). IsPairFault c e f p) (faulty (Ok d) q only has) stands) has.stands))
 
-  -- where the parser refuses a text, no pair has a fault, unless memory runs out
-  pub no_draft_no_pair : (x : ParseFault) → ((t : Tree) → HasDraft text t → x ≡ grammar.Memory) → RefusesPair text e f (Err (refusal_of x))
-  no_draft_no_pair x said q has = inr (rw (said has.draft has.has) refl)
-
-  -- and none has one where the draft is no chart
-  pub no_chart_no_pair : (draft : Tree) (x : ChartFault) → IsDraft text draft → (x ≢ charts.Memory → IsFirstFault draft x) → RefusesPair text e f (Err (chart_refusal_of x))
-  no_chart_no_pair draft x is first q has =
-      inr (rw (only_memory draft x (subst IsFaultless (sym (is.1 has.draft has.has)) has.faultless) first) refl)
+  -- and a text without a chart has none, unless memory runs out
+  pub no_pair : (x : Fault) → ((c : Drawing) → IsChartOf text c → IsChartOrMemory c (Err x)) → RefusesPair text e f (Err x)
+  no_pair x only q has = inr (ap Err (faulty (Err x) q only has))
 
   -- what is said of the fault of a pair of what was read holds of the input
   pub refuses_input_pair : (input : Option (List ℕ)) (answer : Result Explained Fault) → HasRead text input

@@ -14,11 +14,10 @@ use crate::explained::Explained;
 use crate::reasons::write_explained;
 use msc_chart::{Chart, Event, Queues};
 use msc_order::Order;
-use msc_parser::parse;
 use msc_reason::laws::a_why_is_enough;
 use msc_reason::{Reason, explain};
 use msc_report::{Fault, PairFault};
-use msc_text::{Page, read_all};
+use msc_text::{Page, chart_of_text, read_all};
 use std::alloc::{AllocError, Global};
 use std::io::{Read, Write};
 
@@ -124,8 +123,7 @@ pub fn explain_text<W: Write>(
     ensures unwritten { (fault : PairFault)
         → result ≡ Ok (Explained.Refused fault) → writer.new ≡ writer.old }
 {
-    let draft = parse(alloc, text)?;
-    let chart = Chart::build(alloc, &draft)?;
+    let chart = chart_of_text(alloc, text)?;
     if let Some(fault) = pair_fault(&chart, e, f) {
         return Ok(Explained::Refused(fault));
     }

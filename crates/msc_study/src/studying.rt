@@ -18,12 +18,11 @@ use crate::showing::put_races;
 use crate::view::View;
 use msc_chart::{Chart, Queues};
 use msc_order::Order;
-use msc_parser::parse;
 use msc_race::laws::the_chosen_run_reverses;
 use msc_race::{Verdict, check_order};
 use msc_reason::laws::each_race_has_one_kind;
 use msc_report::{Fault, write_verdict};
-use msc_text::{Page, read_all};
+use msc_text::{Page, chart_of_text, read_all};
 use std::alloc::{AllocError, Global};
 use std::io;
 use std::io::{Read, Write};
@@ -118,8 +117,7 @@ pub fn study_text<W: Write>(
     ensures untouched { IfErr result
         (λ e. e ≢ Fault.Memory → e ≢ Fault.Device → writer.new ≡ writer.old) }
 {
-    let draft = parse(alloc, text)?;
-    let chart = Chart::build(alloc, &draft)?;
+    let chart = chart_of_text(alloc, text)?;
     let order = Order::enforced(alloc, &chart, queues)?;
     let verdict = check_order(alloc, &chart, queues, &order)?;
     let made = list_races(alloc, &chart, queues, &order, &verdict, view)?;

@@ -1,17 +1,19 @@
 -- How the faults of texts and drafts are answered.
-use Rattle.std.proofs.Common.{◌≡◌, ◌≢◌, ◌⊎◌, ℕ, List, Result, Err, refl, sym, subst, inl, inr}
+use Rattle.std.proofs.Common.{◌≡◌, ◌≢◌, ◌⊎◌, ℕ, List, Result, Ok, Err, refl, ap, sym, ◌∙◌, subst, inl, inr}
 use Rattle.msc_parser.specs.declared.fault.ParseFault.{ParseFault}
 use Rattle.msc_parser.specs.declared.fault.ParseFault.TheVariants as grammar
 use Rattle.msc_parser.specs.Grammar.{Tree}
 use Rattle.msc_parser.specs.Parsing.{HasDraft, HasParseFault}
 use Rattle.msc_chart.specs.declared.fault.ChartFault.{ChartFault}
 use Rattle.msc_chart.specs.declared.fault.ChartFault.TheVariants as charts
+use Rattle.msc_chart.specs.Drawings.{Drawing, chart_of}
 use Rattle.msc_chart.specs.Faults.{Stands, IsFirstFault, IsFaultless}
 use Rattle.msc_report.specs.declared.fault.Fault.{Fault}
 use Rattle.msc_report.specs.declared.fault.Fault.TheVariants.{Parse, Chart, Memory}
 use Rattle.msc_report.specs.Refusals.{refusal_of, chart_refusal_of}
 use Rattle.msc_text.specs.Answers.{RefusesText}
 use Rattle.msc_text.specs.Checking.{RefusesDraft}
+use Rattle.msc_text.specs.Charting.{IsChartOf}
 
 -- what the parser says of a text where it answers a fault
 abbrev pub ParserRefuses : List ℕ → ParseFault → Type 0
@@ -104,4 +106,63 @@ pub chart_stands : {A : Type 0} (text : List ℕ) (d : Tree) (answer : Result A 
 chart_stands {A} text d answer is faultless other = record {
   stands = λ f e. absurd (other f e);
   comes = λ t has f stands. absurd (faultless f (subst (λ t. Stands t f) (sym (is.1 t has)) stands));
+}
+
+-- a draft without faults is refused for want of memory alone
+only_memory : (draft : Tree) (f : ChartFault) → IsFaultless draft → (f ≢ charts.Memory → IsFirstFault draft f) → chart_refusal_of f ≡ Memory
+only_memory draft charts.Memory faultless first = refl
+only_memory draft charts.TooManyInstances faultless first = absurd (faultless _ (first (λ e. cc)).stands)
+only_memory draft (charts.TwiceInstance i) faultless first = absurd (faultless _ (first (λ e. cc)).stands)
+only_memory draft (charts.HeaderWithoutBody k) faultless first = absurd (faultless _ (first (λ e. cc)).stands)
+only_memory draft (charts.UnknownAddress e) faultless first = absurd (faultless _ (first (λ e. cc)).stands)
+only_memory draft charts.TooManyMessages faultless first = absurd (faultless _ (first (λ e. cc)).stands)
+only_memory draft charts.TooManyActions faultless first = absurd (faultless _ (first (λ e. cc)).stands)
+only_memory draft (charts.TwiceEvent e) faultless first = absurd (faultless _ (first (λ e. cc)).stands)
+only_memory draft (charts.UnmatchedOut e) faultless first = absurd (faultless _ (first (λ e. cc)).stands)
+only_memory draft (charts.UnmatchedIn e) faultless first = absurd (faultless _ (first (λ e. cc)).stands)
+only_memory draft (charts.Cyclic e) faultless first = absurd (faultless _ (first (λ e. cc)).stands)
+
+-- so where the parser refuses a text, it has no chart, unless memory runs out
+pub no_draft_no_chart : (text : List ℕ) (f : ParseFault) → ParserRefuses text f → (d : Drawing) → IsChartOf text d → refusal_of f ≡ Memory
+no_draft_no_chart text f said d is = rw (said.1 is.draft is.has) refl
+
+-- and where the draft is refused
+pub no_chart_of : (text : List ℕ) (t : Tree) (f : ChartFault) → IsDraft text t → (f ≢ charts.Memory → IsFirstFault t f)
+    → (d : Drawing) → IsChartOf text d → chart_refusal_of f ≡ Memory
+no_chart_of text t f own first d is = only_memory t f (subst IsFaultless (sym (own.1 is.draft is.has)) is.faultless) first
+
+-- a chart of the text's draft is the text's chart
+pub one_chart : (text : List ℕ) (t : Tree) (c : Drawing) → IsDraft text t → c ≡ chart_of t → (d : Drawing) → IsChartOf text d → c ≡ d
+one_chart text t c own same d is = same ∙ ap chart_of (own.1 is.draft is.has) ∙ sym is.chart
+
+-- where a text's chart is refused, what is made of it is refused alike: the text
+pub text_so : {A B : Type 0} (text : List ℕ) (e : Fault) → RefusesText {A = A} text (Err e) → RefusesText {A = B} text (Err e)
+text_so {A} {B} text e said = record {
+  stands = λ f same. let is : e ≡ Parse f = cc in said.stands f (ap Err is);
+  comes = λ f has. elim (said.comes f has) [
+    | inl same ↦ inl (let is : e ≡ Parse f = cc in ap Err is)
+    | inr same ↦ inr (let is : e ≡ Memory = cc in ap Err is)
+  ];
+  accepted = λ t has f same. let is : e ≡ Parse f = cc in said.accepted t has f (ap Err is);
+}
+
+-- and its draft
+pub draft_so : {A B : Type 0} (text : List ℕ) (e : Fault) → RefusesDraft {A = A} text (Err e) → RefusesDraft {A = B} text (Err e)
+draft_so {A} {B} text e said = record {
+  stands = λ f same. let is : e ≡ Chart f = cc in said.stands f (ap Err is);
+  comes = λ d has f stands. let (fault, same, refusal) = said.comes d has f stands in (fault, (let is : e ≡ fault = cc in ap Err is), refusal);
+}
+
+-- where a chart is answered, what is made of it may refuse the text only by a fault of its own
+pub text_passes : {A B : Type 0} (text : List ℕ) (a : A) (answer : Result B Fault) → RefusesText text (Ok a)
+    → ((f : ParseFault) → answer ≢ Err (Parse f)) → RefusesText text answer
+text_passes {A} {B} text a answer said other =
+    text_stands text answer (λ f has. elim (said.comes f has) [ inl same ↦ absurd cc | inr memory ↦ absurd cc ]) other
+
+-- and so the draft
+pub draft_passes : {A B : Type 0} (text : List ℕ) (a : A) (answer : Result B Fault) → RefusesDraft text (Ok a)
+    → ((f : ChartFault) → answer ≢ Err (Chart f)) → RefusesDraft text answer
+draft_passes {A} {B} text a answer said other = record {
+  stands = λ f e. absurd (other f e);
+  comes = λ d has f stands. let no = (said.comes d has f stands).1 in absurd cc;
 }

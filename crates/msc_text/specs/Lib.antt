@@ -2,6 +2,7 @@
 pub mod Reading
 pub mod Answers
 pub mod Checking
+pub mod Charting
 -- what the code keeps
 pub mod Calls
 pub mod Pages

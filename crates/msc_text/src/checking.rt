@@ -9,12 +9,12 @@ ghost use Rattle.msc_text.specs.Answers.{OnRead, RefusesInput, RefusesText};
 ghost use Rattle.msc_text.specs.Checking.{passes, races_of, BeginsVerdict, ChecksText, PrintsVerdict, RefusesDraft, RefusesInputDraft, WritesVerdict};
 ghost use Rattle.msc_text.specs.Pages.{Writes};
 
+use crate::charting::chart_of_text;
 use crate::page::Page;
 use crate::reading::read_all;
 use crate::showing::put_races;
 use msc_chart::{Chart, Event, Queues};
 use msc_order::Order;
-use msc_parser::parse;
 use msc_race::laws::the_chosen_run_reverses;
 use msc_race::{Verdict, check_order};
 use msc_report::{Fault, write_verdict};
@@ -117,8 +117,7 @@ pub fn check_text<W: Write>(
     ensures untouched { IfErr result
         (λ e. e ≢ Fault.Memory → e ≢ Fault.Device → writer.new ≡ writer.old) }
 {
-    let draft = parse(alloc, text)?;
-    let chart = Chart::build(alloc, &draft)?;
+    let chart = chart_of_text(alloc, text)?;
     let order = Order::enforced(alloc, &chart, queues)?;
     let verdict = check_order(alloc, &chart, queues, &order)?;
     write_checked(alloc, writer, &chart, queues, &order, &verdict, show)

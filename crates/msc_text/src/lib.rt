@@ -4,12 +4,14 @@
 //! program prints is a stated function of what it reads.
 #![tactic(auto)]
 
+mod charting;
 mod checking;
 mod page;
 mod reading;
 mod showing;
 mod text;
 
+pub use charting::chart_of_text;
 pub use checking::{check_input, check_text, races_of};
 pub use page::Page;
 pub use reading::{CALL_LIMIT, read_all};

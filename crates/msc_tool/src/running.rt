@@ -20,9 +20,8 @@ use msc_execution::laws::executions_are_runs;
 use msc_gather::laws::whole_logs_give_whole_traces;
 use msc_gather::{GatherFault, gather};
 use msc_instance::{Execution, Gate, RunFault, run_chart};
-use msc_parser::parse;
 use msc_report::{Fault, write_trace};
-use msc_text::{Page, read_all};
+use msc_text::{Page, chart_of_text, read_all};
 use std::alloc::{AllocError, Global};
 use std::io::{Read, Write};
 use std::sync::Wait;
@@ -157,8 +156,7 @@ pub fn run_text<R: Threads + Wait + Sync, G: Gate + Sync, W: Write>(
     ensures started { NamesAnInstance text.now result }
     ensures untouched { IfErr result (λ e. e ≢ Fault.Device → writer.new ≡ writer.old) }
 {
-    let draft = parse(alloc, text)?;
-    let chart = Chart::build(alloc, &draft)?;
+    let chart = chart_of_text(alloc, text)?;
     write_run(rt, alloc, &chart, queues, gate, patience, writer)
 }
 
