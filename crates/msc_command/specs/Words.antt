@@ -27,7 +27,19 @@ pub record IsFlag (found : Found) (id : List ℕ) (given : Bool) : Type 0 where
   pub yes : one_text found id ≡ Some (codes "true") → given ≡ true
   pub no : one_text found id ≡ Some (codes "false") → given ≡ false
 
--- the number of an option or an argument, and what it is without it
+-- the word of an argument is the numeral of a number of 32 bits
+pub record IsEvent (found : Found) (id : List ℕ) (n : ℕ) : Type 0 where
+  pub text : List ℕ
+  pub word : one_text found id ≡ Some text
+  pub numeral : IsNumeral 10 (without_leading_plus text)
+  pub value : n ≡ digits_value 10 (without_leading_plus text)
+  pub fits : n < 2 ^ 32
+
+-- an argument has no such word
+abbrev pub LacksEvent : Found → List ℕ → Type 0
+LacksEvent found id = (n : ℕ) → IsEvent found id n → ⊥
+
+-- the number of an option, and what it is without it
 pub record IsNumber (found : Found) (id : List ℕ) (without n : ℕ) : Type 0 where
   pub absent : one_text found id ≡ None → n ≡ without
   pub given : (text : List ℕ) → one_text found id ≡ Some text
@@ -74,15 +86,18 @@ AsksToCheck found task = ⊥
 abbrev pub AsksFor : List ℕ → Found → Task → Type 0
 AsksFor command found Read = command ≡ codes "read"
 AsksFor command found (Explain queues e f) =
-    (command ≡ codes "explain") × IsNumber found (codes "E") 0 e × IsNumber found (codes "F") 0 f
+    (command ≡ codes "explain") × IsEvent found (codes "E") e × IsEvent found (codes "F") f
     × (architecture found ≡ Some queues)
 AsksFor command found (Run queues patience) =
     (command ≡ codes "run") × IsNumber found (codes "patience") 1000000000 patience
     × (architecture found ≡ Some queues)
 AsksFor command found task = (command ≡ codes "check") × AsksToCheck found task
 
--- the words name no command, or no architecture where the command takes one
+-- the words name no command, or no architecture where the command takes one, or not both events
+-- where it takes two
 abbrev pub IsUnknown : List ℕ → Found → Type 0
 IsUnknown command found =
     (command ≢ codes "read")
-    × (((command ≢ codes "check") × (command ≢ codes "explain") × (command ≢ codes "run")) ⊎ (architecture found ≡ None))
+    × (((command ≢ codes "check") × (command ≢ codes "explain") × (command ≢ codes "run"))
+    ⊎ ((architecture found ≡ None)
+    ⊎ ((command ≡ codes "explain") × (LacksEvent found (codes "E") ⊎ LacksEvent found (codes "F")))))

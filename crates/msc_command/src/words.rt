@@ -2,7 +2,7 @@
 
 ghost use Rattle.std.specs.Prelude.{◌≡◌, MatchOption, Some, map};
 ghost use Rattle.clap.specs.Matches.{found_of};
-ghost use Rattle.msc_command.specs.Words.{architecture, is_study, names_kind, AreAllowed, AsksFor, AsksToCheck, IsFlag, IsNumber, IsUnknown, IsView};
+ghost use Rattle.msc_command.specs.Words.{architecture, is_study, names_kind, AreAllowed, AsksFor, AsksToCheck, IsEvent, IsFlag, IsNumber, LacksEvent, IsUnknown, IsView};
 
 use clap::{Arg, ArgAction, ArgMatches, Command, value_parser};
 use msc_chart::{Event, Queues};
@@ -266,7 +266,15 @@ pub fn grammar<'a>(
         .subcommand(run_words(alloc, architectures)?)
 }
 
-/// The number of an option or an argument, and `without` where it does not stand.
+/// The event that an argument names, if it does.
+fn event_of(words: &ArgMatches, name: &str) -> Option<Event>
+    ensures { MatchOption result (LacksEvent (found_of words.now) name.now)
+        (IsEvent (found_of words.now) name.now) }
+{
+    words.get_one(name)
+}
+
+/// The number of an option, and `without` where it does not stand.
 fn number_of(words: &ArgMatches, name: &str, without: u32) -> u32
     ensures { IsNumber (found_of words.now) name.now without result }
 {
@@ -365,8 +373,8 @@ pub fn task_of(command: &str, words: &ArgMatches) -> Option<Task>
         return Some(Task::Run(queues, number_of(words, "patience", PATIENCE)));
     }
     if command == "explain" {
-        let e = number_of(words, "E", 0);
-        return Some(Task::Explain(queues, e, number_of(words, "F", 0)));
+        let e = event_of(words, "E")?;
+        return Some(Task::Explain(queues, e, event_of(words, "F")?));
     }
     if command == "check" {
         return Some(checking(queues, words));
