@@ -1,5 +1,5 @@
-//! From a chart's text to its draft, the tree of its statements: the whole text into tokens, the
-//! tokens into a tree that owns its names.
+//! From a chart's text to its draft, the tree of its statements, in one pass. The tree has its names in
+//! the text.
 
 use std::fmt;
 use std::io;
@@ -72,39 +72,89 @@ enum Kind {
     RightParen,
 }
 
+#[derive(Clone, Copy)]
 struct Token {
     kind: Kind,
     start: usize,
     end: usize,
 }
 
-fn is_run_byte(byte: u8) -> bool {
-    byte.is_ascii_alphanumeric() || byte == b'_'
+/// What a byte begins.
+#[derive(Clone, Copy, PartialEq, Eq)]
+enum Class {
+    Blank,
+    /// A letter, a digit or an underscore.
+    Run,
+    Slash,
+    Quote,
+    Mark(Kind),
+    None,
+}
+
+/// The class of each byte.
+const CLASSES: [Class; 256] = {
+    let mut classes = [Class::None; 256];
+    let mut byte = 0;
+    while byte < 256 {
+        classes[byte] = match byte as u8 {
+            b' ' | b'\t' | b'\r' | b'\n' => Class::Blank,
+            b'a'..=b'z' | b'A'..=b'Z' | b'0'..=b'9' | b'_' => Class::Run,
+            b'/' => Class::Slash,
+            b'\'' => Class::Quote,
+            b';' => Class::Mark(Kind::Semicolon),
+            b',' => Class::Mark(Kind::Comma),
+            b':' => Class::Mark(Kind::Colon),
+            b'(' => Class::Mark(Kind::LeftParen),
+            b')' => Class::Mark(Kind::RightParen),
+            _ => Class::None,
+        };
+        byte += 1;
+    }
+    classes
+};
+
+fn class(byte: u8) -> Class {
+    CLASSES[byte as usize]
+}
+
+/// The reserved words of each length, with their kinds.
+fn words(length: usize) -> &'static [(&'static [u8], Kind)] {
+    match length {
+        2 => &[(b"in", Kind::In), (b"to", Kind::To)],
+        3 => &[
+            (b"out", Kind::Out),
+            (b"msc", Kind::Msc),
+            (b"env", Kind::Refused),
+            (b"set", Kind::Refused),
+        ],
+        4 => &[
+            (b"from", Kind::From),
+            (b"inst", Kind::Inst),
+            (b"stop", Kind::Refused),
+        ],
+        5 => &[(b"reset", Kind::Refused)],
+        6 => &[
+            (b"endmsc", Kind::EndMsc),
+            (b"action", Kind::Refused),
+            (b"create", Kind::Refused),
+        ],
+        7 => &[(b"comment", Kind::Comment), (b"timeout", Kind::Refused)],
+        8 => &[(b"instance", Kind::Instance)],
+        9 => &[(b"condition", Kind::Refused)],
+        10 => &[(b"concurrent", Kind::Concurrent)],
+        11 => &[(b"endinstance", Kind::EndInstance)],
+        13 => &[(b"endconcurrent", Kind::EndConcurrent)],
+        _ => &[],
+    }
 }
 
 /// The reserved word that a run of letters, digits and underscores spells, in capital or small letters.
 fn word(run: &[u8]) -> Option<Kind> {
-    let mut letters = [0; 13]; // as many as `endconcurrent` has
-    let letters = letters.get_mut(..run.len())?;
-    letters.copy_from_slice(run);
-    letters.make_ascii_lowercase();
-    match &*letters {
-        b"msc" => Some(Kind::Msc),
-        b"endmsc" => Some(Kind::EndMsc),
-        b"inst" => Some(Kind::Inst),
-        b"instance" => Some(Kind::Instance),
-        b"endinstance" => Some(Kind::EndInstance),
-        b"in" => Some(Kind::In),
-        b"from" => Some(Kind::From),
-        b"out" => Some(Kind::Out),
-        b"to" => Some(Kind::To),
-        b"concurrent" => Some(Kind::Concurrent),
-        b"endconcurrent" => Some(Kind::EndConcurrent),
-        b"comment" => Some(Kind::Comment),
-        b"env" | b"action" | b"condition" | b"set" | b"reset" | b"timeout" | b"create"
-        | b"stop" => Some(Kind::Refused),
-        _ => None,
-    }
+    let first = run[0] | 0x20;
+    let found = words(run.len())
+        .iter()
+        .find(|(spelling, _)| spelling[0] == first && run.eq_ignore_ascii_case(spelling));
+    found.map(|(_, kind)| *kind)
 }
 
 /// The length of the note at the front of a text that begins with `/*`.
@@ -128,7 +178,10 @@ fn quoted_length(text: &[u8]) -> Option<usize> {
 
 /// The kind and the length of the word or name at the front of a text.
 fn run(text: &[u8], place: usize) -> Result<(Kind, usize), Fault> {
-    let length = text.iter().take_while(|byte| is_run_byte(**byte)).count();
+    let length = text
+        .iter()
+        .position(|byte| class(*byte) != Class::Run)
+        .unwrap_or(text.len());
     match word(&text[..length]) {
         Some(kind) => Ok((kind, length)),
         None if length <= NAME_LIMIT => Ok((Kind::Name, length)),
@@ -136,74 +189,66 @@ fn run(text: &[u8], place: usize) -> Result<(Kind, usize), Fault> {
     }
 }
 
-fn lex(text: &[u8]) -> Result<Vec<Token>, Fault> {
-    if text.len() > TEXT_LIMIT {
-        return Err(Fault::TooLong);
-    }
-    let mut tokens = Vec::new();
-    let mut start = 0;
-    while start < text.len() {
+/// The next token at or behind a place, if there is one.
+fn token(text: &[u8], place: usize) -> Result<Option<Token>, Fault> {
+    let mut start = place;
+    while let Some(&byte) = text.get(start) {
         let rest = &text[start..];
-        let (kind, length) = match rest[0] {
-            b' ' | b'\t' | b'\r' | b'\n' => {
+        let (kind, length) = match class(byte) {
+            Class::Blank => {
                 start += 1;
                 continue;
             }
-            b'/' if rest.starts_with(b"/*") => {
+            Class::Slash if rest.starts_with(b"/*") => {
                 start += note_length(rest).ok_or(Fault::OpenNote(start))?;
                 continue;
             }
-            b'\'' => (
+            Class::Run => run(rest, start)?,
+            Class::Mark(kind) => (kind, 1),
+            Class::Quote => (
                 Kind::Text,
                 quoted_length(rest).ok_or(Fault::OpenText(start))?,
             ),
-            b';' => (Kind::Semicolon, 1),
-            b',' => (Kind::Comma, 1),
-            b':' => (Kind::Colon, 1),
-            b'(' => (Kind::LeftParen, 1),
-            b')' => (Kind::RightParen, 1),
-            byte if is_run_byte(byte) => run(rest, start)?,
-            _ => return Err(Fault::BadByte(start)),
+            Class::Slash | Class::None => return Err(Fault::BadByte(start)),
         };
         let end = start + length;
-        tokens.push(Token { kind, start, end });
-        start = end;
+        return Ok(Some(Token { kind, start, end }));
     }
-    Ok(tokens)
+    Ok(None)
 }
 
 // ---- The tree
 
-pub type Name = Vec<u8>;
+pub type Name<'a> = &'a [u8];
 
-pub struct Draft {
-    pub name: Name,
-    pub header: Vec<Decl>,
-    pub sections: Vec<Section>,
+pub struct Draft<'a> {
+    pub name: Name<'a>,
+    pub header: Vec<Decl<'a>>,
+    pub sections: Vec<Section<'a>>,
 }
 
-pub struct Decl {
-    pub name: Name,
+pub struct Decl<'a> {
+    pub name: Name<'a>,
     /// None, one or two names.
-    pub kind: Vec<Name>,
+    pub kind: Vec<Name<'a>>,
 }
 
-pub struct Section {
-    pub decl: Decl,
-    pub items: Vec<Item>,
+pub struct Section<'a> {
+    pub decl: Decl<'a>,
+    pub items: Vec<Item<'a>>,
 }
 
-pub enum Item {
-    Single(Signal),
-    Coregion(Vec<Signal>),
+pub enum Item<'a> {
+    Single(Signal<'a>),
+    Coregion(Vec<Signal<'a>>),
 }
 
-pub struct Signal {
+pub struct Signal<'a> {
     pub way: Way,
-    pub name: Name,
-    pub number: Option<Name>,
-    pub parameters: Vec<Name>,
-    pub address: Name,
+    pub name: Name<'a>,
+    pub number: Option<Name<'a>>,
+    pub parameters: Vec<Name<'a>>,
+    pub address: Name<'a>,
 }
 
 #[derive(Clone, Copy, PartialEq, Eq, Hash)]
@@ -223,41 +268,53 @@ impl Way {
 
 // ---- Parsing
 
-/// The tokens of a text, and the number of those that are read.
+/// A text, and its next token that is not read.
 struct Parser<'a> {
     text: &'a [u8],
-    tokens: &'a [Token],
-    next: usize,
+    next: Option<Token>,
 }
 
-impl Parser<'_> {
-    /// The fault of the next token, or of the end of the text, where `what` was expected.
+impl<'a> Parser<'a> {
+    /// The first lexical fault behind the next token, or else the fault of that token, or of the end of
+    /// the text, where `what` was expected.
     fn unexpected(&self, what: &'static str) -> Fault {
-        match self.tokens.get(self.next) {
-            None => Fault::Expected(self.text.len(), what),
-            Some(token) if token.kind == Kind::Refused => {
-                let word = &self.text[token.start..token.end];
-                let word = String::from_utf8_lossy(word).to_ascii_lowercase();
-                Fault::Unsupported(token.start, word)
+        let Some(next) = self.next else {
+            return Fault::Expected(self.text.len(), what);
+        };
+        let mut at = next.end;
+        loop {
+            match token(self.text, at) {
+                Ok(Some(token)) => at = token.end,
+                Ok(None) => break,
+                Err(fault) => return fault,
             }
-            Some(token) => Fault::Expected(token.start, what),
+        }
+        if next.kind == Kind::Refused {
+            let word = &self.text[next.start..next.end];
+            let word = String::from_utf8_lossy(word).to_ascii_lowercase();
+            return Fault::Unsupported(next.start, word);
+        }
+        Fault::Expected(next.start, what)
+    }
+
+    /// Reads a token of this kind, if one stands here, and answers it.
+    fn take_token(&mut self, kind: Kind) -> Result<Option<Token>, Fault> {
+        match self.next {
+            Some(next) if next.kind == kind => {
+                self.next = token(self.text, next.end)?;
+                Ok(Some(next))
+            }
+            _ => Ok(None),
         }
     }
 
     /// Reads a token of this kind, if one stands here.
-    fn take(&mut self, kind: Kind) -> bool {
-        let stands = self
-            .tokens
-            .get(self.next)
-            .is_some_and(|token| token.kind == kind);
-        if stands {
-            self.next += 1;
-        }
-        stands
+    fn take(&mut self, kind: Kind) -> Result<bool, Fault> {
+        Ok(self.take_token(kind)?.is_some())
     }
 
     fn expect(&mut self, kind: Kind, what: &'static str) -> Result<(), Fault> {
-        if self.take(kind) {
+        if self.take(kind)? {
             Ok(())
         } else {
             Err(self.unexpected(what))
@@ -265,42 +322,39 @@ impl Parser<'_> {
     }
 
     /// Reads a name, if one stands here.
-    fn take_name(&mut self) -> Option<Name> {
-        if !self.take(Kind::Name) {
-            return None;
-        }
-        let token = &self.tokens[self.next - 1];
-        Some(self.text[token.start..token.end].to_vec())
+    fn take_name(&mut self) -> Result<Option<Name<'a>>, Fault> {
+        let name = self.take_token(Kind::Name)?;
+        Ok(name.map(|token| &self.text[token.start..token.end]))
     }
 
-    fn name(&mut self) -> Result<Name, Fault> {
-        self.take_name().ok_or_else(|| self.unexpected("a name"))
+    fn name(&mut self) -> Result<Name<'a>, Fault> {
+        self.take_name()?.ok_or_else(|| self.unexpected("a name"))
     }
 
     /// The end of a statement.
     fn end(&mut self) -> Result<(), Fault> {
-        if self.take(Kind::Comment) {
+        if self.take(Kind::Comment)? {
             self.expect(Kind::Text, "a text")?;
         }
         self.expect(Kind::Semicolon, "the end of the statement")
     }
 
-    fn decl(&mut self) -> Result<Decl, Fault> {
+    fn decl(&mut self) -> Result<Decl<'a>, Fault> {
         let name = self.name()?;
         let mut kind = Vec::new();
-        if self.take(Kind::Colon) {
+        if self.take(Kind::Colon)? {
             kind.push(self.name()?);
-            kind.extend(self.take_name());
+            kind.extend(self.take_name()?);
         }
         Ok(Decl { name, kind })
     }
 
     /// The parameters behind an opening parenthesis, and the closing one.
-    fn parameters(&mut self) -> Result<Vec<Name>, Fault> {
+    fn parameters(&mut self) -> Result<Vec<Name<'a>>, Fault> {
         let mut parameters = Vec::new();
-        if let Some(name) = self.take_name() {
+        if let Some(name) = self.take_name()? {
             parameters.push(name);
-            while self.take(Kind::Comma) {
+            while self.take(Kind::Comma)? {
                 parameters.push(self.name()?);
             }
         }
@@ -309,21 +363,21 @@ impl Parser<'_> {
     }
 
     /// An event, if one stands here.
-    fn signal(&mut self) -> Result<Option<Signal>, Fault> {
-        let way = if self.take(Kind::Out) {
+    fn signal(&mut self) -> Result<Option<Signal<'a>>, Fault> {
+        let way = if self.take(Kind::Out)? {
             Way::Output
-        } else if self.take(Kind::In) {
+        } else if self.take(Kind::In)? {
             Way::Input
         } else {
             return Ok(None);
         };
         let name = self.name()?;
-        let number = if self.take(Kind::Comma) {
+        let number = if self.take(Kind::Comma)? {
             Some(self.name()?)
         } else {
             None
         };
-        let parameters = if self.take(Kind::LeftParen) {
+        let parameters = if self.take(Kind::LeftParen)? {
             self.parameters()?
         } else {
             Vec::new()
@@ -344,7 +398,7 @@ impl Parser<'_> {
     }
 
     /// What follows `concurrent`, to the end of the coregion.
-    fn coregion(&mut self) -> Result<Vec<Signal>, Fault> {
+    fn coregion(&mut self) -> Result<Vec<Signal<'a>>, Fault> {
         self.end()?;
         let mut signals = Vec::new();
         while let Some(signal) = self.signal()? {
@@ -356,14 +410,14 @@ impl Parser<'_> {
     }
 
     /// What follows `instance`, to the end of the section.
-    fn section(&mut self) -> Result<Section, Fault> {
+    fn section(&mut self) -> Result<Section<'a>, Fault> {
         let decl = self.decl()?;
         self.end()?;
         let mut items = Vec::new();
         loop {
             if let Some(signal) = self.signal()? {
                 items.push(Item::Single(signal));
-            } else if self.take(Kind::Concurrent) {
+            } else if self.take(Kind::Concurrent)? {
                 items.push(Item::Coregion(self.coregion()?));
             } else {
                 break;
@@ -375,11 +429,11 @@ impl Parser<'_> {
     }
 
     /// The names of all `inst` statements.
-    fn header(&mut self) -> Result<Vec<Decl>, Fault> {
+    fn header(&mut self) -> Result<Vec<Decl<'a>>, Fault> {
         let mut header = Vec::new();
-        while self.take(Kind::Inst) {
+        while self.take(Kind::Inst)? {
             header.push(self.decl()?);
-            while self.take(Kind::Comma) {
+            while self.take(Kind::Comma)? {
                 header.push(self.decl()?);
             }
             self.end()?;
@@ -387,18 +441,18 @@ impl Parser<'_> {
         Ok(header)
     }
 
-    fn draft(&mut self) -> Result<Draft, Fault> {
+    fn draft(&mut self) -> Result<Draft<'a>, Fault> {
         self.expect(Kind::Msc, "msc")?;
         let name = self.name()?;
         self.end()?;
         let header = self.header()?;
         let mut sections = Vec::new();
-        while self.take(Kind::Instance) {
+        while self.take(Kind::Instance)? {
             sections.push(self.section()?);
         }
         self.expect(Kind::EndMsc, "a section")?;
         self.end()?;
-        if self.next < self.tokens.len() {
+        if self.next.is_some() {
             return Err(self.unexpected("the end of the text"));
         }
         Ok(Draft {
@@ -409,12 +463,10 @@ impl Parser<'_> {
     }
 }
 
-pub fn parse(text: &[u8]) -> Result<Draft, Fault> {
-    let tokens = lex(text)?;
-    let mut parser = Parser {
-        text,
-        tokens: &tokens,
-        next: 0,
-    };
-    parser.draft()
+pub fn parse(text: &[u8]) -> Result<Draft<'_>, Fault> {
+    if text.len() > TEXT_LIMIT {
+        return Err(Fault::TooLong);
+    }
+    let next = token(text, 0)?;
+    Parser { text, next }.draft()
 }

@@ -75,9 +75,11 @@ impl Order {
         }
     }
 
-    /// Puts the input of an output before those of the outputs in `later`, all of its queue. What
-    /// comes after one of these needs no look, for its input's row is taken in.
-    fn put_before(&mut self, chart: &Chart, input: usize, later: &mut [u64]) {
+    /// Puts what comes after an input into `taken`, if that is to come before those of the outputs in
+    /// `later`, all of its queue. What comes after one of these needs no look, for its input's row is
+    /// taken in.
+    fn gather(&self, chart: &Chart, later: &mut [u64], taken: &mut [u64]) {
+        taken.fill(0);
         for k in 0..later.len() {
             while later[k] != 0 {
                 let c = 64 * k + later[k].trailing_zeros() as usize;
@@ -86,8 +88,11 @@ impl Order {
                     *word &= !less;
                 }
                 later[k] &= !bit(c);
-                self.take_in(input, chart.events[c].partner);
-                self.put(input, chart.events[c].partner);
+                let input = chart.events[c].partner;
+                for (word, more) in taken.iter_mut().zip(self.row(input)) {
+                    *word |= more;
+                }
+                taken[input / 64] |= bit(input);
             }
         }
     }
@@ -95,7 +100,9 @@ impl Order {
     /// Adds the rule of queues to the order of lines and messages.
     fn add_queues(&mut self, chart: &Chart, queues: Queues) {
         let mut seen = Order::blank(chart.queue_count(queues), chart.events.len());
-        let mut later = vec![0; self.stride];
+        let (mut later, mut same) = (vec![0; self.stride], vec![0; self.stride]);
+        // what the outputs in `same` lead to by the rule
+        let mut taken = vec![0; self.stride];
         for &s in chart.order.iter().rev() {
             if !chart.is_output(s) {
                 continue;
@@ -104,7 +111,14 @@ impl Order {
             for ((word, after), of_queue) in later.iter_mut().zip(self.row(s)).zip(seen.row(q)) {
                 *word = after & of_queue;
             }
-            self.put_before(chart, chart.events[s].partner, &mut later);
+            if later != same {
+                same.copy_from_slice(&later);
+                self.gather(chart, &mut later, &mut taken);
+            }
+            let input = chart.events[s].partner * self.stride;
+            for (word, more) in self.words[input..][..self.stride].iter_mut().zip(&taken) {
+                *word |= more;
+            }
             seen.put(q, s);
         }
     }

@@ -15,9 +15,9 @@ fn write_list(out: &mut impl Write, names: &[Name]) -> io::Result<()> {
     Ok(())
 }
 
-impl Decl {
+impl Decl<'_> {
     fn write(&self, out: &mut impl Write) -> io::Result<()> {
-        out.write_all(&self.name)?;
+        out.write_all(self.name)?;
         if !self.kind.is_empty() {
             out.write_all(b" :")?;
         }
@@ -29,14 +29,14 @@ impl Decl {
     }
 }
 
-impl Signal {
+impl Signal<'_> {
     fn write(&self, out: &mut impl Write) -> io::Result<()> {
         let (way, address): (&[u8], &[u8]) = match self.way {
             Way::Output => (b"out ", b" to "),
             Way::Input => (b"in ", b" from "),
         };
         out.write_all(way)?;
-        out.write_all(&self.name)?;
+        out.write_all(self.name)?;
         if let Some(number) = &self.number {
             out.write_all(b", ")?;
             out.write_all(number)?;
@@ -47,12 +47,12 @@ impl Signal {
             out.write_all(b")")?;
         }
         out.write_all(address)?;
-        out.write_all(&self.address)?;
+        out.write_all(self.address)?;
         out.write_all(b";\n")
     }
 }
 
-impl Item {
+impl Item<'_> {
     fn write(&self, out: &mut impl Write) -> io::Result<()> {
         match self {
             Item::Single(signal) => {
@@ -71,7 +71,7 @@ impl Item {
     }
 }
 
-impl Section {
+impl Section<'_> {
     fn write(&self, out: &mut impl Write) -> io::Result<()> {
         out.write_all(b"instance ")?;
         self.decl.write(out)?;
@@ -83,11 +83,11 @@ impl Section {
     }
 }
 
-impl Draft {
+impl Draft<'_> {
     /// Writes the canonical text.
     pub fn write(&self, out: &mut impl Write) -> io::Result<()> {
         out.write_all(b"msc ")?;
-        out.write_all(&self.name)?;
+        out.write_all(self.name)?;
         out.write_all(b";\n")?;
         for (place, decl) in self.header.iter().enumerate() {
             out.write_all(if place == 0 { b"inst " } else { b", " })?;
@@ -104,7 +104,7 @@ impl Draft {
 }
 
 /// The outputs and inputs of a draft in the order of the text, each with the name of its instance.
-pub fn signals(draft: &Draft) -> Vec<(&[u8], &Signal)> {
+pub fn signals<'a>(draft: &'a Draft) -> Vec<(Name<'a>, &'a Signal<'a>)> {
     let mut signals = Vec::new();
     for section in &draft.sections {
         for item in &section.items {
@@ -112,7 +112,7 @@ pub fn signals(draft: &Draft) -> Vec<(&[u8], &Signal)> {
                 Item::Single(signal) => slice::from_ref(signal),
                 Item::Coregion(signals) => signals,
             };
-            signals.extend(group.iter().map(|signal| (&*section.decl.name, signal)));
+            signals.extend(group.iter().map(|signal| (section.decl.name, signal)));
         }
     }
     signals
@@ -125,11 +125,11 @@ pub fn write_event(out: &mut impl Write, signal: &Signal) -> io::Result<()> {
         Way::Input => (b"in ", b" from "),
     };
     out.write_all(way)?;
-    out.write_all(&signal.name)?;
+    out.write_all(signal.name)?;
     if let Some(number) = &signal.number {
         out.write_all(b", ")?;
         out.write_all(number)?;
     }
     out.write_all(link)?;
-    out.write_all(&signal.address)
+    out.write_all(signal.address)
 }

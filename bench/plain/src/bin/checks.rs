@@ -6,13 +6,13 @@
 //! for `pass`, 1 for races, and 2 for a text that is no chart.
 
 use plain::chart::{Chart, Queues};
-use plain::draft::{parse, Draft, TEXT_LIMIT};
+use plain::draft::{parse, Draft, Signal, TEXT_LIMIT};
 use plain::order::{races, Order};
 use plain::run::Runs;
 use plain::writing::{signals, write_event};
+use std::env;
 use std::io::{self, BufWriter, Read, Write};
 use std::process::ExitCode;
-use std::env;
 
 /// The lines `run` of races, each made once for all races of one event.
 struct RunLines<'a> {
@@ -50,6 +50,71 @@ impl<'a> RunLines<'a> {
     }
 }
 
+/// What is printed of each event in the line of a race, in one list of bytes.
+struct Texts {
+    bytes: Vec<u8>,
+    /// Of each event where its number begins, what stands behind the number of the race's second event,
+    /// what the event does with the end of the line, and where that ends.
+    starts: Vec<[u32; 4]>,
+}
+
+impl Texts {
+    fn new(draft: &Draft) -> Texts {
+        let signals = signals(draft);
+        let mut texts = Texts {
+            bytes: Vec::new(),
+            starts: Vec::with_capacity(signals.len()),
+        };
+        for (e, (line, signal)) in signals.into_iter().enumerate() {
+            texts.put(e, line, signal).expect("a list takes all bytes");
+        }
+        texts
+    }
+
+    fn put(&mut self, e: usize, line: &[u8], signal: &Signal) -> io::Result<()> {
+        let bytes = &mut self.bytes;
+        let number = bytes.len();
+        write!(bytes, "{e}")?;
+        let lead = bytes.len();
+        bytes.extend_from_slice(b" on ");
+        bytes.extend_from_slice(line);
+        bytes.extend_from_slice(b": ");
+        let does = bytes.len();
+        write_event(bytes, signal)?;
+        let text = does..bytes.len();
+        bytes.extend_from_slice(b"; ");
+        let second = bytes.len();
+        bytes.extend_from_within(text);
+        bytes.push(b'\n');
+        self.starts.push([
+            number as u32,
+            lead as u32,
+            second as u32,
+            bytes.len() as u32,
+        ]);
+        Ok(())
+    }
+
+    fn number(&self, e: u32) -> &[u8] {
+        let [start, end, ..] = self.starts[e as usize];
+        &self.bytes[start as usize..end as usize]
+    }
+
+    /// What stands between the numbers of a race and what its second event does.
+    fn lead(&self, e: u32) -> &[u8] {
+        let [_, start, end, _] = self.starts[e as usize];
+        &self.bytes[start as usize..end as usize]
+    }
+
+    fn second(&self, f: u32) -> &[u8] {
+        let [_, _, start, end] = self.starts[f as usize];
+        &self.bytes[start as usize..end as usize]
+    }
+}
+
+/// How many bytes go out at once.
+const PAGE: usize = 65_536;
+
 /// Prints the verdict and each race, so many of them with a run; answers whether there is none.
 fn check(
     draft: &Draft,
@@ -61,28 +126,32 @@ fn check(
     let order = Order::enforced(chart, queues);
     let races = races(chart, &order);
     out.write_all(b"chart ")?;
-    out.write_all(&draft.name)?;
+    out.write_all(draft.name)?;
     writeln!(out, "\nqueues {}", queues.word())?;
     if races.is_empty() {
         writeln!(out, "pass")?;
         return Ok(true);
     }
     writeln!(out, "races {}", races.len())?;
-    let signals = signals(draft);
+    let texts = Texts::new(draft);
+    let mut page = Vec::with_capacity(2 * PAGE);
     let mut lines = RunLines::new(Runs::new(chart, &order, queues), chart.events.len());
     for (place, (e, f)) in races.into_iter().enumerate() {
-        let (line, first) = signals[e as usize];
-        write!(out, "race {e} {f} on ")?;
-        out.write_all(line)?;
-        out.write_all(b": ")?;
-        write_event(out, first)?;
-        out.write_all(b"; ")?;
-        write_event(out, signals[f as usize].1)?;
-        out.write_all(b"\n")?;
+        page.extend_from_slice(b"race ");
+        page.extend_from_slice(texts.number(e));
+        page.push(b' ');
+        page.extend_from_slice(texts.number(f));
+        page.extend_from_slice(texts.lead(e));
+        page.extend_from_slice(texts.second(f));
         if place < show as usize {
-            out.write_all(lines.line(e))?;
+            page.extend_from_slice(lines.line(e));
+        }
+        if page.len() >= PAGE {
+            out.write_all(&page)?;
+            page.clear();
         }
     }
+    out.write_all(&page)?;
     Ok(false)
 }
 
@@ -96,7 +165,7 @@ fn read_and_check(queues: Queues, show: u32) -> io::Result<Option<bool>> {
     let Some(chart) = Chart::build(&draft) else {
         return Ok(None);
     };
-    let mut out = BufWriter::with_capacity(65_536, io::stdout().lock());
+    let mut out = BufWriter::new(io::stdout().lock());
     let passed = check(&draft, &chart, queues, show, &mut out)?;
     out.flush()?;
     Ok(Some(passed))

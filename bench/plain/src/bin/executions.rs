@@ -168,11 +168,11 @@ fn execution(wired: &Wired) -> (Vec<Vec<usize>>, Vec<End>) {
 fn print(draft: &Draft, queues: Queues, ends: &[End], trace: &[usize]) -> io::Result<()> {
     let mut out = BufWriter::with_capacity(65_536, io::stdout().lock());
     out.write_all(b"chart ")?;
-    out.write_all(&draft.name)?;
+    out.write_all(draft.name)?;
     writeln!(out, "\nqueues {}", queues.word())?;
     for (section, end) in draft.sections.iter().zip(ends) {
         out.write_all(b"instance ")?;
-        out.write_all(&section.decl.name)?;
+        out.write_all(section.decl.name)?;
         writeln!(out, " {end}")?;
     }
     writeln!(out, "trace {}", trace.len())?;
