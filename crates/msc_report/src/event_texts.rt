@@ -9,6 +9,7 @@ ghost use Rattle.msc_report.specs.Spans.{HasPut};
 ghost use Rattle.msc_report.specs.Verdicts.{race_text, run_line};
 
 use crate::race::{write_event, write_instance, write_numbers};
+use crate::race_line::{are_short, put_blocks, put_slices};
 use msc_chart::{Chart, Event};
 use std::alloc::{AllocError, Global};
 use std::io;
@@ -122,15 +123,6 @@ impl EventTexts {
         Ok(EventTexts { bytes, spans })
     }
 
-    /// How the line of a race begins of which `e` is the first event.
-    fn opening(&self, e: Event) -> &[u8]
-        requires { e < length self.now }
-        ensures { result.now ≡ (get_or self.now e no_text).opening }
-    {
-        let span = self.spans[e as usize];
-        &self.bytes[span.opening..span.first]
-    }
-
     /// The number of event `e`, after a space.
     fn number(&self, e: Event) -> &[u8]
         requires { e < length self.now }
@@ -138,24 +130,6 @@ impl EventTexts {
     {
         let span = self.spans[e as usize];
         &self.bytes[span.number..span.first]
-    }
-
-    /// The name of the instance of event `e`, and what it does, before the second event.
-    fn first(&self, e: Event) -> &[u8]
-        requires { e < length self.now }
-        ensures { result.now ≡ (get_or self.now e no_text).first }
-    {
-        let span = self.spans[e as usize];
-        &self.bytes[span.first..span.second]
-    }
-
-    /// What event `e` does, to the end of the line.
-    fn second(&self, e: Event) -> &[u8]
-        requires { e < length self.now }
-        ensures { result.now ≡ (get_or self.now e no_text).second }
-    {
-        let span = self.spans[e as usize];
-        &self.bytes[span.second..span.end]
     }
 
     /// Puts the text of the race of `e` and `f`, two events of one line, behind a page. An error is
@@ -166,11 +140,13 @@ impl EventTexts {
         ensures { (d : Drawing) → AreTextsOf d self.now
             → OnOk result (page.new.items ≡ page.old.items ++ race_text d e f None) }
     {
-        page.extend_from_slice(self.opening(e))?;
-        page.extend_from_slice(self.number(f))?;
-        page.extend_from_slice(self.first(e))?;
-        page.extend_from_slice(self.second(f))?;
-        Ok(())
+        let one = self.spans[e as usize];
+        let two = self.spans[f as usize];
+        if are_short(self.bytes.as_slice(), &one, &two) {
+            put_blocks(page, self.bytes.as_slice(), &one, &two)
+        } else {
+            put_slices(page, self.bytes.as_slice(), &one, &two)
+        }
     }
 
     /// The line of a run, for a caller that puts it behind more than one race. An error is a growth
