@@ -1,9 +1,15 @@
 -- What the code keeps of the texts of events: where their parts stand in one list of bytes.
-use Rattle.std.specs.Prelude.{◌≡◌, ℕ, ◌+◌, ◌<◌, ◌≤◌, List, ◌++◌, get_or, length, slice_range}
+use Rattle.std.specs.Prelude.{◌≡◌, ℕ, ◌+◌, ◌<◌, ◌≤◌, List, ◌++◌, codes, get_or, length, slice_range}
 use Rattle.std.specs.List.{All}
+use Rattle.msc_chart.specs.Charts as charts
 use Rattle.msc_chart.specs.Drawings.{Drawing}
 use Rattle.msc_report.specs.declared.event_texts.Span.{Span}
 use Rattle.msc_report.specs.EventTexts.{EventText, text_of}
+use Rattle.msc_report.specs.Verdicts.{instance_text}
+
+-- the name of the instance of event e, before what it does
+abbrev pub place_text : Drawing → ℕ → List ℕ
+place_text d e = codes " on " ++ (instance_text d (charts.line d.events e) ++ codes ": ")
 
 -- the parts that stand at these places
 abbrev pub text_at : List ℕ → Span → EventText

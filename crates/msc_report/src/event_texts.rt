@@ -5,7 +5,7 @@ ghost use Rattle.std.specs.Io.KnownBytes.{Appends};
 ghost use Rattle.std.specs.List.{All};
 ghost use Rattle.msc_chart.specs.Drawings.{Drawing};
 ghost use Rattle.msc_report.specs.EventTexts.{no_text, text_of, AreTextsOf};
-ghost use Rattle.msc_report.specs.Spans.{HasPut};
+ghost use Rattle.msc_report.specs.Spans.{HasPut, place_text};
 ghost use Rattle.msc_report.specs.Verdicts.{race_text, run_line};
 
 use crate::race::{write_event, write_instance, write_numbers};
@@ -52,28 +52,36 @@ impl Model for EventTexts {
     ghost invariant = { λ t. All (IsWithin t.bytes.items) t.spans.items };
 }
 
-/// Writes the name of the instance of event `e`, and what it does, before a second event.
-fn write_first<W: Write>(writer: &mut W, chart: &Chart, e: Event) -> io::Result<()>
+/// Writes the name of the instance of event `e`, before what it does.
+fn write_place<W: Write>(writer: &mut W, chart: &Chart, e: Event) -> io::Result<()>
     requires { e < length chart.now.events }
     ensures { OnOk result (Appends (W.contents writer.old) (W.contents writer.new)
-        (text_of chart.now e).first) }
+        (place_text chart.now e)) }
 {
     chart.accepted();
     writer.write_all(b" on ")?;
     write_instance(writer, chart, chart.instance_of(e))?;
-    writer.write_all(b": ")?;
-    write_event(writer, chart, e)?;
-    writer.write_all(b"; ")
+    writer.write_all(b": ")
 }
 
-/// Writes what event `e` does, to the end of the line.
-fn write_second<W: Write>(writer: &mut W, chart: &Chart, e: Event) -> io::Result<()>
+/// Puts what is printed of event `e` as the first, and then as the second of two events behind the
+/// bytes. It answers where the second begins; what the event does is copied there.
+fn write_both(bytes: &mut Vec<u8>, chart: &Chart, e: Event) -> io::Result<usize>
     requires { e < length chart.now.events }
-    ensures { OnOk result (Appends (W.contents writer.old) (W.contents writer.new)
-        (text_of chart.now e).second) }
+    ensures items { OnOk result (bytes.new.items
+        ≡ (bytes.old.items ++ (text_of chart.now e).first) ++ (text_of chart.now e).second) }
+    ensures second { IfOk result (λ second.
+        second ≡ length (bytes.old.items ++ (text_of chart.now e).first)) }
 {
-    write_event(writer, chart, e)?;
-    writer.write_all(b"\n")
+    write_place(bytes, chart, e)?;
+    let from = bytes.len();
+    write_event(bytes, chart, e)?;
+    let to = bytes.len();
+    bytes.write_all(b"; ")?;
+    let second = bytes.len();
+    bytes.extend_from_within(from..to)?;
+    bytes.write_all(b"\n")?;
+    Ok(second)
 }
 
 /// Puts the text of event `e` behind the bytes, and answers where its parts stand.
@@ -86,9 +94,7 @@ fn write_parts(bytes: &mut Vec<u8>, chart: &Chart, e: Event) -> io::Result<Span>
     let number = bytes.len();
     write_numbers(bytes, &[e])?;
     let first = bytes.len();
-    write_first(bytes, chart, e)?;
-    let second = bytes.len();
-    write_second(bytes, chart, e)?;
+    let second = write_both(bytes, chart, e)?;
     Ok(Span {
         opening,
         number,
