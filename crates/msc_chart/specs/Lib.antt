@@ -15,6 +15,7 @@ pub mod Laws
 pub mod Samples
 -- what the code keeps
 pub mod Views
+pub mod Hashing
 pub mod Numbering
 pub mod Tables
 pub mod Sortings

@@ -4,6 +4,7 @@ ghost use Rattle.std.specs.Prelude.{◌≡◌, ◌+◌, ◌<◌, ◌≤◌, ◌+
 ghost use mathlib.Core.Path.{refl};
 ghost use Rattle.msc_chart.specs.Events.{events_of, events_of_item, events_of_items, next_segment, act_of, drawn, end_of, other_end, address_of};
 ghost use Rattle.msc_chart.specs.Charting.{is_of};
+ghost use Rattle.msc_chart.specs.Hashing.{fed_end, ends_alike};
 ghost use Rattle.msc_chart.specs.Views.{act_view, end_view, event_view, mark_of, mark_view};
 
 use crate::INSTANCE_LIMIT;
@@ -14,7 +15,7 @@ use std::alloc::{AllocError, Global};
 use std::hash::{Hash, Hasher};
 
 /// An end of a message, with its names in the draft.
-#[derive(Clone, Copy, PartialEq, Eq, Hash)]
+#[derive(Clone, Copy, PartialEq, Eq)]
 pub(crate) struct MessageEnd<'d> {
     pub sends: bool,
     pub sender: &'d [u8],
@@ -42,6 +43,23 @@ impl<'d> MessageEnd<'d> {
             self.receiver
         } else {
             self.sender
+        }
+    }
+}
+
+/// Each name goes to the hasher as a whole; a slice by itself goes there byte by byte.
+impl Hash for MessageEnd<'_> {
+    ghost hash_input = { fed_end };
+
+    ghost respects_eq = { ends_alike.fed };
+
+    fn hash<H: Hasher>(&self, state: &mut H) {
+        self.sends.hash(state);
+        state.write(self.sender);
+        state.write(self.receiver);
+        state.write(self.name);
+        if let Some(number) = self.number {
+            state.write(number);
         }
     }
 }

@@ -2,6 +2,7 @@
 pub mod Quotes
 -- what the functions read
 pub mod Spellings
+pub mod LaneLemmas
 pub mod EndsLemmas
 pub mod Fronts
 pub mod Cuts

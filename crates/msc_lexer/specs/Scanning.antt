@@ -1,5 +1,6 @@
 -- What the functions that look for the end of a piece answer.
-use Rattle.std.specs.Prelude.{◌≡◌, ℕ, ◌+◌, ◌≤◌, ◌<◌, false, nat_eq, List, ◌++◌, length, Option, slice_index, take, drop}
+use Rattle.std.specs.Prelude.{◌≡◌, ℕ, ◌+◌, ◌≤◌, ◌<◌, false, ◌==◌, nat_eq, List, ◌++◌, length, Option, if◌then◌else◌, slice_index, take, drop}
+use Rattle.std.specs.Int.{w64, trailing_zeros}
 use Rattle.msc_lexer.specs.declared.token.Kind.{Kind}
 use Rattle.msc_lexer.specs.Bytes.{begins}
 use Rattle.msc_lexer.specs.Pieces.{Piece, NeverCloses, Fits, doubled, kind_of, spelled}
@@ -30,3 +31,7 @@ pub record StartsWith (text : List ℕ) (kind : Option Kind) (len : ℕ) : Type 
   pub fits : Fits piece rest
   pub kind_is : kind ≡ kind_of piece
   pub len_is : len ≡ length (spelled piece)
+
+-- the place of the lowest bit that is set, or n where none is
+abbrev pub first_set : ℕ → ℕ → ℕ
+first_set mask n = if mask == 0 then n else trailing_zeros w64 mask

@@ -6,6 +6,7 @@
 
 mod byte;
 mod fault;
+mod lanes;
 pub mod laws;
 mod lexing;
 mod quoting;

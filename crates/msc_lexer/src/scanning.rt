@@ -8,12 +8,29 @@ ghost use Rattle.msc_lexer.specs.Pieces.{NeverCloses};
 ghost use Rattle.msc_lexer.specs.Scanning.{ClosesAt, IsDoubled, QuoteEndsAt};
 
 use crate::byte::is_run_byte;
+use crate::lanes::{LANES, run_in_load};
+
+/// The number of bytes of the run at the front of a text, one after the other.
+fn run_by_one(text: &[u8]) -> usize
+    ensures length { result ≡ prefix_len is_run_byte text.now }
+    ensures within { result ≤ length text.now }
+{
+    text.iter().take_while(|byte| is_run_byte(**byte)).count()
+}
 
 /// The number of bytes of the run at the front of a text.
 pub fn run_length(text: &[u8]) -> usize
     ensures { result ≡ prefix_len is_run_byte text.now }
 {
-    text.iter().take_while(|byte| is_run_byte(**byte)).count()
+    let mut at = 0;
+    while text.len() - at >= LANES {
+        let run = run_in_load(text, at);
+        if run < LANES {
+            return at + run;
+        }
+        at += LANES;
+    }
+    at + run_by_one(&text[at..])
 }
 
 /// The place of the first `*/` in what follows the `/*` of a note.

@@ -1,12 +1,13 @@
 -- The texts of events while they are made, and the lines that are put together of them.
-use Rattle.std.proofs.Common.{◌≡◌, ℕ, ◌+◌, ◌-◌, ◌<◌, ◌≤◌, List, [], ◌∷◌, ◌++◌, length, take, drop, map, get_or, None, refl, sym, ap, ◌∙◌, subst, inl, inr, arith, append_assoc, slice_range, length-append, length-drop}
+use Rattle.std.proofs.Common.{◌≡◌, ℕ, ◌+◌, ◌-◌, ◌<◌, ◌≤◌, List, [], ◌∷◌, ◌++◌, length, take, drop, map, get_or, None, refl, sym, ap, ap₂, ◌∙◌, subst, inl, inr, arith, append_assoc, slice_range, length-append, length-drop, length-take}
+use Rattle.std.proofs.Math.Seq.{take-append-add}
 use Rattle.std.proofs.lemmas.Bool.{cases_lt}
-use Rattle.std.proofs.lemmas.List.{append-nil, drop-append-le, take-append-le, get_or_append_left, get_or-append-add, get_or-map, length-map}
+use Rattle.std.proofs.lemmas.List.{append-nil, drop-append-le, take-append-le, take-take, get_or_append_left, get_or-append-add, get_or-map, length-map}
 use Rattle.std.proofs.lemmas.List.Elements.{All-get_or, All-push, All-weaker}
 use Rattle.msc_chart.specs.Drawings.{Drawing}
 use Rattle.msc_report.specs.declared.event_texts.Span.{Span}
-use Rattle.msc_report.specs.EventTexts.{text_of, no_text, AreTextsOf}
-use Rattle.msc_report.specs.Spans.{text_at, no_span, IsWithin, HasPut, AreMade}
+use Rattle.msc_report.specs.EventTexts.{EventText, text_of, no_text, AreTextsOf}
+use Rattle.msc_report.specs.Spans.{text_at, no_span, with_parts, IsWithin, HasPut, AreMade}
 use Rattle.msc_report.specs.Verdicts.{race_text}
 
 -- what stands within a list stands there when more is put behind it
@@ -88,8 +89,36 @@ made_all d bytes spans e all made = record {
       get_or-map (text_at bytes) spans k no_span no_text there ∙ made.each k (omega (arith, below, all));
 }
 
+-- a block whose front is a part of the bytes, put into a room, puts that part there
+pub block_put : (room bytes rest : List ℕ) (at from to n : ℕ) → from ≤ to → to ≤ from + n
+    → from + n ≤ length bytes → at ≤ length room
+    → take (at + (to - from)) (take at room ++ (slice_range bytes from (from + n) ++ rest))
+    ≡ take at room ++ slice_range bytes from to
+block_put room bytes rest at from to n rising short inside within =
+    let block = slice_range bytes from (from + n) in
+    let front : length (take at room) ≡ at = omega (arith, length-take at room) in
+    let size : to - from ≤ length block = omega (arith, length-take (from + n - from) (drop from bytes), length-drop from bytes) in
+    let more : to - from ≤ from + n - from = omega arith in
+    ap (λ k. take (k + (to - from)) (take at room ++ (block ++ rest))) (sym front)
+    ∙ take-append-add (take at room) (block ++ rest) (to - from)
+    ∙ ap (λ (l : List ℕ). take at room ++ l) (take-append-le (to - from) block rest size ∙ take-take (to - from) (from + n - from) (drop from bytes) more)
+
 -- the parts of both texts, put behind a page, are the text of their race
 pub race_joined : (d : Drawing) (e f : ℕ) (page : List ℕ)
-    → (((page ++ (text_of d e).opening) ++ (text_of d f).number) ++ (text_of d e).first) ++ (text_of d f).second
-    ≡ page ++ race_text d e f None
+    → with_parts page (text_of d e) (text_of d f) ≡ page ++ race_text d e f None
 race_joined d e f page = simp (append_assoc, append-nil) refl
+
+-- and so are the parts that stand where the texts were made
+pub race_put : (d : Drawing) (bytes seen : List ℕ) (spans : List Span) (texts : List EventText)
+    (e f : ℕ) (one two : Span) (page : List ℕ) → map (text_at bytes) spans ≡ texts
+    → AreTextsOf d texts → e < length texts → f < length texts
+    → seen ≡ bytes → one ≡ get_or spans e one → two ≡ get_or spans f two
+    → with_parts page (text_at seen one) (text_at seen two) ≡ page ++ race_text d e f None
+race_put d bytes seen spans texts e f one two page view made e_known f_known is e_is f_is =
+    let size = made.size in
+    let mapped : length texts ≡ length spans = ap (λ (l : List EventText). length l) (sym view) ∙ length-map spans (text_at bytes) in
+    let found : (k : ℕ) (s : Span) → k < length texts → s ≡ get_or spans k s → text_at seen s ≡ text_of d k =
+    λ k s known s_is. ap (λ b. text_at b s) is ∙ ap (text_at bytes) s_is
+    ∙ sym (get_or-map (text_at bytes) spans k s no_text (omega (arith, known, mapped)))
+    ∙ ap (λ l. get_or l k no_text) view ∙ made.each k (omega (arith, known, size)) in
+    ap₂ (with_parts page) (found e one e_known e_is) (found f two f_known f_is) ∙ race_joined d e f page

@@ -1,9 +1,15 @@
 -- What the code keeps of the texts of events: where their parts stand in one list of bytes.
-use Rattle.std.specs.Prelude.{◌≡◌, ℕ, ◌<◌, ◌≤◌, List, ◌++◌, get_or, length, slice_range}
+use Rattle.std.specs.Prelude.{◌≡◌, ℕ, ◌+◌, ◌<◌, ◌≤◌, List, ◌++◌, codes, get_or, length, slice_range}
 use Rattle.std.specs.List.{All}
+use Rattle.msc_chart.specs.Charts as charts
 use Rattle.msc_chart.specs.Drawings.{Drawing}
 use Rattle.msc_report.specs.declared.event_texts.Span.{Span}
 use Rattle.msc_report.specs.EventTexts.{EventText, text_of}
+use Rattle.msc_report.specs.Verdicts.{instance_text}
+
+-- the name of the instance of event e, before what it does
+abbrev pub place_text : Drawing → ℕ → List ℕ
+place_text d e = codes " on " ++ (instance_text d (charts.line d.events e) ++ codes ": ")
 
 -- the parts that stand at these places
 abbrev pub text_at : List ℕ → Span → EventText
@@ -27,6 +33,20 @@ pub record HasPut (d : Drawing) (e : ℕ) (old new : List ℕ) (s : Span) : Type
   pub kept : (rest : List ℕ) × (new ≡ old ++ rest)
   pub within : IsWithin new s
   pub text : text_at new s ≡ text_of d e
+
+-- the parts of both events of a race, put behind a page as its line has them
+abbrev pub with_parts : List ℕ → EventText → EventText → List ℕ
+with_parts page x y = (((page ++ x.opening) ++ y.number) ++ x.first) ++ y.second
+
+-- each part of the line of a race fits into its block, of 16 bytes for a number and of 64 for words,
+-- and no block goes past so many bytes
+pub record AreShort (size : ℕ) (one two : Span) : Type 0 where
+  pub opening : one.first ≤ one.opening + 16
+  pub number : two.first ≤ two.number + 16
+  pub first : one.second ≤ one.first + 64
+  pub second : two.end ≤ two.second + 64
+  pub first_block : one.first + 64 ≤ size
+  pub second_block : two.second + 64 ≤ size
 
 abbrev pub no_span : Span
 no_span = record { opening = 0; number = 0; first = 0; second = 0; end = 0 }

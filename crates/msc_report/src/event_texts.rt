@@ -5,10 +5,11 @@ ghost use Rattle.std.specs.Io.KnownBytes.{Appends};
 ghost use Rattle.std.specs.List.{All};
 ghost use Rattle.msc_chart.specs.Drawings.{Drawing};
 ghost use Rattle.msc_report.specs.EventTexts.{no_text, text_of, AreTextsOf};
-ghost use Rattle.msc_report.specs.Spans.{HasPut};
+ghost use Rattle.msc_report.specs.Spans.{HasPut, place_text};
 ghost use Rattle.msc_report.specs.Verdicts.{race_text, run_line};
 
 use crate::race::{write_event, write_instance, write_numbers};
+use crate::race_line::{are_short, put_blocks, put_slices};
 use msc_chart::{Chart, Event};
 use std::alloc::{AllocError, Global};
 use std::io;
@@ -51,28 +52,36 @@ impl Model for EventTexts {
     ghost invariant = { λ t. All (IsWithin t.bytes.items) t.spans.items };
 }
 
-/// Writes the name of the instance of event `e`, and what it does, before a second event.
-fn write_first<W: Write>(writer: &mut W, chart: &Chart, e: Event) -> io::Result<()>
+/// Writes the name of the instance of event `e`, before what it does.
+fn write_place<W: Write>(writer: &mut W, chart: &Chart, e: Event) -> io::Result<()>
     requires { e < length chart.now.events }
     ensures { OnOk result (Appends (W.contents writer.old) (W.contents writer.new)
-        (text_of chart.now e).first) }
+        (place_text chart.now e)) }
 {
     chart.accepted();
     writer.write_all(b" on ")?;
     write_instance(writer, chart, chart.instance_of(e))?;
-    writer.write_all(b": ")?;
-    write_event(writer, chart, e)?;
-    writer.write_all(b"; ")
+    writer.write_all(b": ")
 }
 
-/// Writes what event `e` does, to the end of the line.
-fn write_second<W: Write>(writer: &mut W, chart: &Chart, e: Event) -> io::Result<()>
+/// Puts what is printed of event `e` as the first, and then as the second of two events behind the
+/// bytes. It answers where the second begins; what the event does is copied there.
+fn write_both(bytes: &mut Vec<u8>, chart: &Chart, e: Event) -> io::Result<usize>
     requires { e < length chart.now.events }
-    ensures { OnOk result (Appends (W.contents writer.old) (W.contents writer.new)
-        (text_of chart.now e).second) }
+    ensures items { OnOk result (bytes.new.items
+        ≡ (bytes.old.items ++ (text_of chart.now e).first) ++ (text_of chart.now e).second) }
+    ensures second { IfOk result (λ second.
+        second ≡ length (bytes.old.items ++ (text_of chart.now e).first)) }
 {
-    write_event(writer, chart, e)?;
-    writer.write_all(b"\n")
+    write_place(bytes, chart, e)?;
+    let from = bytes.len();
+    write_event(bytes, chart, e)?;
+    let to = bytes.len();
+    bytes.write_all(b"; ")?;
+    let second = bytes.len();
+    bytes.extend_from_within(from..to)?;
+    bytes.write_all(b"\n")?;
+    Ok(second)
 }
 
 /// Puts the text of event `e` behind the bytes, and answers where its parts stand.
@@ -85,9 +94,7 @@ fn write_parts(bytes: &mut Vec<u8>, chart: &Chart, e: Event) -> io::Result<Span>
     let number = bytes.len();
     write_numbers(bytes, &[e])?;
     let first = bytes.len();
-    write_first(bytes, chart, e)?;
-    let second = bytes.len();
-    write_second(bytes, chart, e)?;
+    let second = write_both(bytes, chart, e)?;
     Ok(Span {
         opening,
         number,
@@ -122,15 +129,6 @@ impl EventTexts {
         Ok(EventTexts { bytes, spans })
     }
 
-    /// How the line of a race begins of which `e` is the first event.
-    fn opening(&self, e: Event) -> &[u8]
-        requires { e < length self.now }
-        ensures { result.now ≡ (get_or self.now e no_text).opening }
-    {
-        let span = self.spans[e as usize];
-        &self.bytes[span.opening..span.first]
-    }
-
     /// The number of event `e`, after a space.
     fn number(&self, e: Event) -> &[u8]
         requires { e < length self.now }
@@ -138,24 +136,6 @@ impl EventTexts {
     {
         let span = self.spans[e as usize];
         &self.bytes[span.number..span.first]
-    }
-
-    /// The name of the instance of event `e`, and what it does, before the second event.
-    fn first(&self, e: Event) -> &[u8]
-        requires { e < length self.now }
-        ensures { result.now ≡ (get_or self.now e no_text).first }
-    {
-        let span = self.spans[e as usize];
-        &self.bytes[span.first..span.second]
-    }
-
-    /// What event `e` does, to the end of the line.
-    fn second(&self, e: Event) -> &[u8]
-        requires { e < length self.now }
-        ensures { result.now ≡ (get_or self.now e no_text).second }
-    {
-        let span = self.spans[e as usize];
-        &self.bytes[span.second..span.end]
     }
 
     /// Puts the text of the race of `e` and `f`, two events of one line, behind a page. An error is
@@ -166,11 +146,13 @@ impl EventTexts {
         ensures { (d : Drawing) → AreTextsOf d self.now
             → OnOk result (page.new.items ≡ page.old.items ++ race_text d e f None) }
     {
-        page.extend_from_slice(self.opening(e))?;
-        page.extend_from_slice(self.number(f))?;
-        page.extend_from_slice(self.first(e))?;
-        page.extend_from_slice(self.second(f))?;
-        Ok(())
+        let one = self.spans[e as usize];
+        let two = self.spans[f as usize];
+        if are_short(self.bytes.as_slice(), &one, &two) {
+            put_blocks(page, self.bytes.as_slice(), &one, &two)
+        } else {
+            put_slices(page, self.bytes.as_slice(), &one, &two)
+        }
     }
 
     /// The line of a run, for a caller that puts it behind more than one race. An error is a growth

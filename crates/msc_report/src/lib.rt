@@ -9,6 +9,7 @@
 mod event_texts;
 mod fault;
 mod race;
+mod race_line;
 mod trace;
 mod verdict;
 mod writing;

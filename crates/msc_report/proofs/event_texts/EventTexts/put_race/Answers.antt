@@ -1,24 +1,16 @@
-use Rattle.std.proofs.Common.{arith}
-use Rattle.msc_report.proofs.MadeTexts.{race_joined}
+use Rattle.std.proofs.Common.{◌∙◌}
+use Rattle.std.proofs.lemmas.Result.{on_ok_weaker}
+use Rattle.msc_report.proofs.MadeTexts.{race_put}
 use Rattle.msc_report.proofs.event_texts.EventTexts.put_race.Goals as goal
 
-pub returns : goal.returns
-returns c d texts =
-    let size = texts.size in
-    let e_known = c.requires.e_known in
-    let f_known = c.requires.f_known in
-    let e_text = texts.each c.args.e (omega (arith, size, e_known)) in
-    let f_text = texts.each c.args.f (omega (arith, size, f_known)) in
-    rw (
-      c.in_ok-extend_from_slice-4.ensures.items,
-      c.in_ok-extend_from_slice-3.ensures.items,
-      c.in_ok-extend_from_slice-2.ensures.items,
-      c.in_ok-extend_from_slice.ensures.items,
-      c.second.ensures,
-      c.first.ensures,
-      c.number.ensures,
-      c.opening.ensures,
-      e_text,
-      f_text,
-    )
-    (race_joined d c.args.e c.args.f c.args.page.now.items)
+pub returns-then-are_short : goal.returns-then-are_short
+returns-then-are_short c d texts =
+    on_ok_weaker c.put_blocks.result
+    (λ put. put ∙ race_put d c.self.inside.bytes.items _ c.self.inside.spans.items c.args.self.now c.args.e c.args.f _ _ c.args.page.now.items c.self.view_is texts c.requires.e_known c.requires.f_known c.as_slice-then-are_short.ensures.value c.index.ensures c.index-2.ensures)
+    c.put_blocks.ensures
+
+pub returns-else-are_short : goal.returns-else-are_short
+returns-else-are_short c d texts =
+    on_ok_weaker c.put_slices.result
+    (λ put. put ∙ race_put d c.self.inside.bytes.items _ c.self.inside.spans.items c.args.self.now c.args.e c.args.f _ _ c.args.page.now.items c.self.view_is texts c.requires.e_known c.requires.f_known c.as_slice-else-are_short.ensures.value c.index.ensures c.index-2.ensures)
+    c.put_slices.ensures

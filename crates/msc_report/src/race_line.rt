@@ -1,0 +1,102 @@
+//! The line of a race, put together of the parts of its two events.
+//!
+//! Most parts are short. They are copied as blocks of a size that the compiler knows, which takes a
+//! few instructions for each, into room that was asked for once; what a block has too much is written
+//! over by the next one, and dropped behind the last.
+
+ghost use Rattle.std.specs.Prelude.{◌≡◌, ◌+◌, ◌≤◌, ◌++◌, IsTrue, OnOk, length, slice_range, take};
+ghost use Rattle.msc_report.specs.Spans.{text_at, with_parts, AreShort, IsWithin};
+
+use crate::event_texts::Span;
+use std::alloc::AllocError;
+
+/// The bytes of a block for a number, or the beginning of a line with a number.
+const NUMBER: usize = 16;
+
+/// The bytes of a block for the words of an event.
+const WORDS: usize = 64;
+
+/// The bytes of the four blocks of a race.
+const ROOM: usize = 160;
+
+/// Whether each part of a race of these two events fits into its block, and no block goes past the
+/// bytes.
+pub(crate) fn are_short(bytes: &[u8], one: &Span, two: &Span) -> bool
+    requires one { IsWithin bytes.now one.now }
+    requires two { IsWithin bytes.now two.now }
+    ensures { IsTrue result → AreShort (length bytes.now) one.now two.now }
+{
+    one.first - one.opening <= NUMBER
+        && two.first - two.number <= NUMBER
+        && one.second - one.first <= WORDS
+        && two.end - two.second <= WORDS
+        && bytes.len() - one.first >= WORDS
+        && bytes.len() - two.second >= WORDS
+}
+
+/// Puts the bytes from one place to another into a room, as a block of N bytes. It answers the place
+/// behind them in the room.
+#[inline(always)]
+fn put_block<const N: usize>(
+    room: &mut [u8],
+    at: usize,
+    bytes: &[u8],
+    from: usize,
+    to: usize,
+) -> usize
+    requires rising { from ≤ to }
+    requires short { to ≤ from + N }
+    requires block { from + N ≤ length bytes.now }
+    requires room { at + N ≤ length room.old }
+    ensures end { result + from ≡ at + to }
+    ensures size { length room.new ≡ length room.old }
+    ensures put { take result room.new ≡ take at room.old ++ slice_range bytes.now from to }
+{
+    room[at..at + N].copy_from_slice(&bytes[from..from + N]);
+    at + (to - from)
+}
+
+/// Puts the parts of a race behind a page, as blocks. An error is a growth of memory that was
+/// refused; the page is then as it was.
+pub(crate) fn put_blocks(
+    page: &mut Vec<u8>,
+    bytes: &[u8],
+    one: &Span,
+    two: &Span,
+) -> Result<(), AllocError>
+    requires short { AreShort (length bytes.now) one.now two.now }
+    requires one { IsWithin bytes.now one.now }
+    requires two { IsWithin bytes.now two.now }
+    ensures { OnOk result (page.new.items
+        ≡ with_parts page.old.items (text_at bytes.now one.now) (text_at bytes.now two.now)) }
+{
+    let at = page.len();
+    page.extend_from_slice(&[0; ROOM])?;
+    let room = page.as_mut_slice();
+    let at = put_block::<NUMBER>(room, at, bytes, one.opening, one.first);
+    let at = put_block::<NUMBER>(room, at, bytes, two.number, two.first);
+    let at = put_block::<WORDS>(room, at, bytes, one.first, one.second);
+    let at = put_block::<WORDS>(room, at, bytes, two.second, two.end);
+    page.truncate(at);
+    Ok(())
+}
+
+/// Puts the parts of a race behind a page, however long they are. An error is a growth of memory
+/// that was refused; the page then has a beginning of the text.
+pub(crate) fn put_slices(
+    page: &mut Vec<u8>,
+    bytes: &[u8],
+    one: &Span,
+    two: &Span,
+) -> Result<(), AllocError>
+    requires one { IsWithin bytes.now one.now }
+    requires two { IsWithin bytes.now two.now }
+    ensures { OnOk result (page.new.items
+        ≡ with_parts page.old.items (text_at bytes.now one.now) (text_at bytes.now two.now)) }
+{
+    page.extend_from_slice(&bytes[one.opening..one.first])?;
+    page.extend_from_slice(&bytes[two.number..two.first])?;
+    page.extend_from_slice(&bytes[one.first..one.second])?;
+    page.extend_from_slice(&bytes[two.second..two.end])?;
+    Ok(())
+}
