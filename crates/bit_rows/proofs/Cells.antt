@@ -69,31 +69,35 @@ cell_put n words e f x y row f_below =
           ])
     ]
 
--- word w of row x, while row e takes in the words of row f below k
-pub merged_to : List ℕ → ℕ → ℕ → ℕ → ℕ → ℕ → ℕ → ℕ
-merged_to words m e f k x w = cond (eqb x e && ltb w k) (bit_or (get_or words (x * m + w) 0) (get_or words (f * m + w) 0)) (get_or words (x * m + w) 0)
+-- word w of row x, while row e takes in the words of another below k
+pub merged_to : List ℕ → ℕ → ℕ → (ℕ → ℕ) → ℕ → ℕ → ℕ → ℕ
+merged_to words m e value k x w = cond (eqb x e && ltb w k) (bit_or (get_or words (x * m + w) 0) (value w)) (get_or words (x * m + w) 0)
 
 -- no word is merged yet
-pub merge_start : (words : List ℕ) (m e f x w : ℕ) → get_or words (x * m + w) 0 ≡ merged_to words m e f 0 x w
+pub merge_start : (words : List ℕ) (m e : ℕ) (value : ℕ → ℕ) (x w : ℕ) → get_or words (x * m + w) 0 ≡ merged_to words m e value 0 x w
 unfolding merged_to
-merge_start words m e f x w = rw (le-ltb w 0 (omega arith), and-false (eqb x e)) refl
+merge_start words m e value x w = rw (le-ltb w 0 (omega arith), and-false (eqb x e)) refl
+
+-- a word that is not merged yet is as it was
+pub unmerged : (words : List ℕ) (m e : ℕ) (value : ℕ → ℕ) (k x : ℕ) → merged_to words m e value k x k ≡ get_or words (x * m + k) 0
+unfolding merged_to
+unmerged words m e value k x = rw (le-ltb k k (omega arith), and-false (eqb x e)) refl
 
 -- one word more is merged
-pub merge_step : (words now : List ℕ) (m e f k : ℕ) → e * m + k < length now → k < m
-    → ((x w : ℕ) → w < m → get_or now (x * m + w) 0 ≡ merged_to words m e f k x w)
-    → (x w : ℕ) → w < m → get_or (set now (e * m + k) (bit_or (get_or now (e * m + k) 0) (get_or now (f * m + k) 0))) (x * m + w) 0 ≡ merged_to words m e f (k + 1) x w
+pub merge_step : (words now : List ℕ) (m e : ℕ) (value : ℕ → ℕ) (k word : ℕ) → e * m + k < length now → k < m → word ≡ value k
+    → ((x w : ℕ) → w < m → get_or now (x * m + w) 0 ≡ merged_to words m e value k x w)
+    → (x w : ℕ) → w < m → get_or (set now (e * m + k) (bit_or (get_or now (e * m + k) 0) word)) (x * m + w) 0 ≡ merged_to words m e value (k + 1) x w
 unfolding merged_to
-merge_step words now m e f k inside k_below h x w w_below =
-    let word : ℕ = bit_or (get_or now (e * m + k) 0) (get_or now (f * m + k) 0) in
+merge_step words now m e value k word inside k_below is h x w w_below =
+    let more : ℕ = bit_or (get_or now (e * m + k) 0) word in
     let e_same : get_or now (e * m + k) 0 ≡ get_or words (e * m + k) 0 = h e k k_below ∙ rw (le-ltb k k (omega arith), and-false (eqb e e)) refl in
-    let f_same : get_or now (f * m + k) 0 ≡ get_or words (f * m + k) 0 = h f k k_below ∙ rw (le-ltb k k (omega arith), and-false (eqb f e)) refl in
     elim (cases_eq (x * m + w) (e * m + k)) [
       | inl same ↦
           let both = same_from_place x w e k m w_below k_below same in
-          rw (same, get_or-set_same now (e * m + k) word 0 inside, eq-eqb x e both.0, lt-ltb w (k + 1) (omega (arith, both.1)), e_same, f_same)
+          rw (same, get_or-set_same now (e * m + k) more 0 inside, eq-eqb x e both.0, lt-ltb w (k + 1) (omega (arith, both.1)), e_same, is)
           (rw both.1 refl)
       | inr other ↦
-          get_or-set_other now (e * m + k) (x * m + w) word 0 other ∙ h x w w_below
+          get_or-set_other now (e * m + k) (x * m + w) more 0 other ∙ h x w w_below
           ∙ by_test (eqb x e)
           (λ same_row.
           let apart : w ≡ k → ⊥ = λ e'. other (rw (eqb-true x e same_row, e') refl) in
@@ -101,19 +105,21 @@ merge_step words now m e f k inside k_below h x w w_below =
           (λ differs. rw differs refl)
     ]
 
--- the bits of the rows when all words are merged
-pub merge_end : (n : ℕ) (words now : List ℕ) (e f : ℕ)
-    → ((x w : ℕ) → w < word_count n → get_or now (x * word_count n + w) 0 ≡ merged_to words (word_count n) e f (word_count n) x w)
-    → (x y : ℕ) → cell n now x y ≡ (cell n words x y || (eqb x e && cell n words f y))
+-- the bits of the rows when all words are merged, where the words of the other row have its numbers
+pub merge_end : (n : ℕ) (words now : List ℕ) (e : ℕ) (value : ℕ → ℕ) (test : ℕ → Bool)
+    → ((y : ℕ) → y < 64 * word_count n → bit_of (value (y / 64)) (y % 64) ≡ test y)
+    → ((y : ℕ) → 64 * word_count n ≤ y → test y ≡ false)
+    → ((x w : ℕ) → w < word_count n → get_or now (x * word_count n + w) 0 ≡ merged_to words (word_count n) e value (word_count n) x w)
+    → (x y : ℕ) → cell n now x y ≡ (cell n words x y || (eqb x e && test y))
 unfolding merged_to
-merge_end n words now e f h x y =
+merge_end n words now e value test inside past h x y =
     let m : ℕ = word_count n in
     elim (cases_lt y (64 * m)) [
-      | inr out ↦ rw (cell_out n now x y out, cell_out n words x y out, cell_out n words f y out) (sym (and-false (eqb x e)))
+      | inr out ↦ rw (cell_out n now x y out, cell_out n words x y out, past y out) (sym (and-false (eqb x e)))
       | inl column ↦
-          rw (cell_in n now x y column, cell_in n words x y column, cell_in n words f y column, h x (y / 64) (word_below n y column), lt-ltb (y / 64) m (word_below n y column))
+          rw (cell_in n now x y column, cell_in n words x y column, sym (inside y column), h x (y / 64) (word_below n y column), lt-ltb (y / 64) m (word_below n y column))
           (by_test (eqb x e)
-          (λ same. rw same (bit_join (get_or words (x * m + y / 64) 0) (get_or words (f * m + y / 64) 0) (y % 64)))
+          (λ same. rw same (bit_join (get_or words (x * m + y / 64) 0) (value (y / 64)) (y % 64)))
           (λ differs. rw differs (sym (or-false (bit_of (get_or words (x * m + y / 64) 0) (y % 64))))))
     ]
 

@@ -1,12 +1,12 @@
 -- What writing one word after the other does to a row of bits.
-use Rattle.std.proofs.Common.{◌≡◌, ℕ, ◌+◌, ◌/◌, ◌%◌, ◌^◌, ◌<◌, ◌≤◌, Bool, true, false, not, ◌&&◌, ◌||◌, cond, inl, inr, ltb, List, length, get_or, set, refl, ap, ◌∙◌, arith, get_or-set_same, get_or-set_other, bit_and, w64, sym}
+use Rattle.std.proofs.Common.{◌≡◌, ℕ, ◌+◌, ◌/◌, ◌%◌, ◌^◌, ◌<◌, ◌≤◌, Bool, true, false, not, ◌&&◌, ◌||◌, cond, inl, inr, ltb, List, length, get_or, set, refl, ap, ◌∙◌, arith, get_or-set_same, get_or-set_other, bit_and, bit_or, w64, sym}
 use Rattle.std.proofs.lemmas.Bool.{lt-ltb, le-ltb, ne_eqb, cases_lt, cases_eq}
 use Rattle.std.specs.Int.{bit_not}
 use Rattle.std.specs.Int.Bits.{and_zero_l}
 use Rattle.std.proofs.lemmas.List.{get_or_past}
 use Rattle.bit_rows.specs.Rows.{bit_of, has}
-use Rattle.std.proofs.Math.Bool.{or-false}
-use Rattle.bit_rows.proofs.Bits.{below-suc, bit_meet, bit_other}
+use Rattle.std.proofs.Math.Bool.{or-false, or-true}
+use Rattle.bit_rows.proofs.Bits.{below-suc, bit_join, bit_meet, bit_other}
 
 -- the words of a row below k are written
 pub written : (ℕ → ℕ) → List ℕ → ℕ → ℕ → ℕ
@@ -70,3 +70,19 @@ drop_both true true false = refl
 drop_both true false true = refl
 drop_both true false false = refl
 drop_both false c e = refl
+
+-- past two rows of one length there is no bit in either word
+pub join_past : (row other : List ℕ) (w : ℕ) → length other ≡ length row → length row ≤ w → bit_or (get_or row w 0) (get_or other w 0) ≡ 0
+join_past row other w same past = rw (get_or_past row w 0 past, get_or_past other w 0 (omega (arith, same, past))) refl
+
+-- the numbers that one of two rows has
+pub has_join : (row other now : List ℕ) → ((w : ℕ) → get_or now w 0 ≡ bit_or (get_or row w 0) (get_or other w 0))
+    → (y : ℕ) → has now y ≡ (has row y || has other y)
+unfolding has
+has_join row other now h y = rw (h (y / 64)) (bit_join (get_or row (y / 64) 0) (get_or other (y / 64) 0) (y % 64))
+
+-- with a row, and then with its number
+pub put_both : (a c e : Bool) → ((a || c) || e) ≡ (a || (e || c))
+put_both true c e = refl
+put_both false true e = sym (or-true e)
+put_both false false e = sym (or-false e)

@@ -87,6 +87,16 @@ pub(crate) fn part(row: &mut [u64], other: &[u64])
     }
 }
 
+/// Takes the numbers of another row of its length into the row.
+pub(crate) fn join(row: &mut [u64], other: &[u64])
+    requires { length other.now ≡ length row.old }
+    ensures { (y : ℕ) → has row.new y ≡ (has row.old y || has other.now y) }
+{
+    for (k, word) in row.iter_mut().enumerate() {
+        *word |= other[k];
+    }
+}
+
 /// The lowest number that `word` has as word `k` of a row.
 pub fn lowest_in(word: u64, k: u32) -> u32
     requires few { 64 * k < 4294967232 }

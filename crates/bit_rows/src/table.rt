@@ -6,7 +6,7 @@ ghost use Rattle.bit_rows.specs.Rows.{has, word_count};
 ghost use Rattle.bit_rows.specs.Tables.{cell, with_row, HasRow};
 
 use crate::row;
-use crate::row::{clear, meet, part, word_count, zeros};
+use crate::row::{clear, join, meet, part, word_count, zeros};
 use std::alloc::{AllocError, Global};
 
 /// So many rows without a number. An error is a growth of memory that was refused.
@@ -75,6 +75,19 @@ pub fn take_in(words: &mut [u64], n: u32, e: u32, f: u32, wanted: bool)
     }
 }
 
+/// Row `e` takes in a row of numbers.
+pub fn take_row(words: &mut [u64], n: u32, e: u32, row: &[u64])
+    requires row { HasRow n words.old e }
+    requires numbers { length row.now ≡ word_count n }
+    ensures { (x y : ℕ) → cell n words.new x y
+        ≡ (cell n words.old x y || (nat_eq x e && has row.now y)) }
+{
+    let count = word_count(n);
+    for k in 0..count {
+        words[e as usize * count + k] |= row[k];
+    }
+}
+
 /// Makes `left` the numbers that row `e` of one table and row `q` of another have in common.
 pub fn common(left: &mut [u64], words: &[u64], masks: &[u64], n: u32, e: u32, q: u32)
     requires left { length left.old ≡ word_count n }
@@ -95,4 +108,16 @@ pub fn drop_row(left: &mut [u64], words: &[u64], n: u32, c: u32)
 {
     part(left, row_of(words, n, c));
     clear(left, c);
+}
+
+/// Puts the numbers of row `c`, and `c` itself, into `row`.
+pub fn put_row(row: &mut [u64], words: &[u64], n: u32, c: u32)
+    requires length { length row.old ≡ word_count n }
+    requires row { HasRow n words.now c }
+    requires column { c < n }
+    ensures { (y : ℕ) → has row.new y
+        ≡ (has row.old y || (nat_eq y c || cell n words.now c y)) }
+{
+    join(row, row_of(words, n, c));
+    row::put(row, c);
 }

@@ -102,12 +102,35 @@ HasQueueOf chart test s =
 abbrev pub HasSeen : WiredChart → (ℕ → ℕ → Bool) → (ℕ → ℕ → Bool) → Type 0
 HasSeen chart test masks = (q c : ℕ) → IsTrue (masks q c) → IsOutputOf chart q c × HasQueueOf chart test c
 
--- What is left of the outputs of the queue of s that are caused after s: of the others the test has
--- the input after that of s already.
-pub record IsLeft (chart : WiredChart) (test : ℕ → ℕ → Bool) (s : ℕ) (left : ℕ → Bool) : Type 0 where
-  pub sound : (c : ℕ) → IsTrue (left c) → IsOutputOf chart (queue chart s) c × Caused chart.events s c × HasQueueOf chart test c
-  pub complete : (c : ℕ) → IsOutputOf chart (queue chart s) c → Caused chart.events s c
-      → IsTrue (left c) ⊎ IsTrue (test (partner chart.events s) (partner chart.events c))
+-- The outputs of a row are of one queue, and the test has the inputs after that of each.
+pub record AreSeen (chart : WiredChart) (test : ℕ → ℕ → Bool) (left : ℕ → Bool) : Type 0 where
+  pub seen : (c : ℕ) → IsTrue (left c) → IsTrue (is_output chart.events c) × HasQueueOf chart test c
+  pub one_queue : (c d : ℕ) → IsTrue (left c) → IsTrue (left d) → queue chart d ≡ queue chart c
+
+-- the input of an output of a row is y, or is enforced before y
+abbrev pub IsAfterOne : WiredChart → (ℕ → Bool) → ℕ → Type 0
+IsAfterOne chart row y =
+    (c : ℕ) × IsTrue (row c) × ((partner chart.events c ≡ y) ⊎ Enforced chart (partner chart.events c) y)
+
+-- a row has what is caused after what it has
+abbrev pub IsOnward : WiredChart → (ℕ → Bool) → Type 0
+IsOnward chart row = (y z : ℕ) → IsTrue (row y) → Caused chart.events y z → IsTrue (row z)
+
+-- What an input takes in, where the outputs of the row `kept` are those of its queue that are caused
+-- after its own: their inputs, what is caused after these, and nothing that isn't enforced.
+pub record IsTaken (chart : WiredChart) (kept taken : ℕ → Bool) : Type 0 where
+  pub inputs : (c : ℕ) → IsTrue (kept c) → IsTrue (taken (partner chart.events c))
+  pub after : (y : ℕ) → IsTrue (taken y) → IsAfterOne chart kept y
+  pub onward : IsOnward chart taken
+
+-- Outputs were moved out of a row, so that it has less, and their inputs into another, so that it
+-- has more, with what comes after them.
+pub record AreMoved (chart : WiredChart) (left less taken more : ℕ → Bool) : Type 0 where
+  pub fewer : (c : ℕ) → IsTrue (less c) → IsTrue (left c)
+  pub inputs : (c : ℕ) → IsTrue (left c) → IsTrue (less c) ⊎ IsTrue (more (partner chart.events c))
+  pub grown : (y : ℕ) → IsTrue (taken y) → IsTrue (more y)
+  pub after : (y : ℕ) → IsTrue (more y) → IsTrue (taken y) ⊎ IsAfterOne chart left y
+  pub onward : IsOnward chart taken → IsOnward chart more
 
 -- a test of numbers holds none below k
 abbrev pub IsAbove : ℕ → (ℕ → Bool) → Type 0

@@ -4,11 +4,13 @@ use Rattle.msc_chart.specs.Charts.{is_output}
 use Rattle.msc_chart.specs.Orders.{queue}
 use Rattle.msc_chart.proofs.Drawn.{output_parts}
 use Rattle.msc_chart.specs.Wirings.{size, wired_by}
+use Rattle.bit_rows.specs.Rows.{has}
 use Rattle.bit_rows.specs.Tables.{cell}
 use Rattle.msc_order.specs.Causes.{IsBehind}
 use Rattle.bit_rows.proofs.Bits.{clash}
 use Rattle.msc_order.proofs.Leading.{all_stand, at_place, behind, behind_cases, nothing_behind}
 use Rattle.msc_order.proofs.Between.{between_start, enforced_all, enforced_below, led_visual}
+use Rattle.msc_order.proofs.Taking.{taken_none}
 use Rattle.msc_order.proofs.queueing.add_queues.Goals as goal
 use Rattle.msc_order.proofs.queueing.add_queues.Goals.{then-is_output, else-is_output}
 
@@ -17,6 +19,7 @@ loop-done-init c =
     let w = c.args.wiring.now in
     record {
       between = between_start (wired_by w) _ c.requires.caused;
+      last = taken_none (wired_by w) (has c.args.kept.now) (has c.args.taken.now) c.requires.none c.requires.nothing;
       shown = λ q d h. clash h (c.requires.blank q d);
       behind = λ d o none. clash (c.linear_order-order.ensures.whole d (output_parts w.chart.now.events d o).0) (all_stand c.linear_order-order.result.now d none);
     }
@@ -33,6 +36,9 @@ add_queue_of-requires-clause-masks c =
     let row = c.requires.masks s (sym c.is_output.ensures ∙ c.if-is_output.true) in
     let same = c.loop-done.auto.masks in
     omega (arith, row, same)
+
+pub add_queue_of-requires-clause-last : goal.add_queue_of-requires-clause-last
+add_queue_of-requires-clause-last c = c.loop-done.invariant.last
 
 pub add_queue_of-requires-clause-later : goal.add_queue_of-requires-clause-later
 add_queue_of-requires-clause-later c d own after =
@@ -56,7 +62,8 @@ loop-done-preserved c =
     let stood : (d : ℕ) → IsBehind order (length order - (c.loop-done.done + 1)) d → (d ≡ get_or order i 0 → ⊥) → IsBehind order (length order - c.loop-done.done) d = λ d after other.
     subst (λ (k : ℕ). IsBehind order k d) same (behind_cases events order c.linear_order-order.ensures i (omega arith) d (subst (λ (k : ℕ). IsBehind order k d) next after) other) in
     elim c.if-is_output.branch [
-      | then-is_output t ↦ rw (t.words-is, t.masks-is) (record {
+      | then-is_output t ↦ rw (t.words-is, t.masks-is, t.kept-is, t.taken-is) (record {
+        last = t.add_queue_of.ensures.last;
         between = t.add_queue_of.ensures.between;
         shown = t.add_queue_of.ensures.seen;
         behind = λ d o after. elim (cases_eq d (get_or order i 0)) [
@@ -64,7 +71,8 @@ loop-done-preserved c =
           | inr other ↦ t.add_queue_of.ensures.kept _ _ (c.loop-done.invariant.behind d o (stood d after other))
         ];
       })
-      | else-is_output t ↦ rw (t.words-is, t.masks-is) (record {
+      | else-is_output t ↦ rw (t.words-is, t.masks-is, t.kept-is, t.taken-is) (record {
+        last = c.loop-done.invariant.last;
         between = c.loop-done.invariant.between;
         shown = c.loop-done.invariant.shown;
         behind = λ d o after. elim (cases_eq d (get_or order i 0)) [

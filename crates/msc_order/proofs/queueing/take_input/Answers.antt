@@ -3,12 +3,7 @@ use Rattle.msc_chart.specs.Wirings.{size}
 use Rattle.bit_rows.proofs.Cells.{row_fits}
 use Rattle.msc_order.proofs.queueing.take_input.Goals as goal
 
-pub take_in-requires-clause-row : goal.take_in-requires-clause-row
-take_in-requires-clause-row c =
+pub put_row-requires-clause-row : goal.put_row-requires-clause-row
+put_row-requires-clause-row c =
     let n : ℕ = size c.args.wiring.now in
     rw c.events-events.ensures.number (row_fits n c.args.words.now n c.other_end-input.result c.requires.square c.other_end-input.ensures.known)
-
-pub take_in-requires-clause-other : goal.take_in-requires-clause-other
-take_in-requires-clause-other c =
-    let n : ℕ = size c.args.wiring.now in
-    rw c.events-events.ensures.number (row_fits n c.args.words.now n c.other_end-later.result c.requires.square c.other_end-later.ensures.known)

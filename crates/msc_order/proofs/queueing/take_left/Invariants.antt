@@ -1,14 +1,11 @@
 use Rattle.std.proofs.Common.{◌*◌}
-use Rattle.msc_chart.specs.Wirings.{size, wired_by}
-use Rattle.bit_rows.specs.Tables.{cell}
+use Rattle.msc_chart.specs.Wirings.{wired_by}
 use Rattle.bit_rows.specs.Rows.{has}
-use Rattle.msc_order.specs.Causes.{IsBetween, Keeps, IsAbove, IsLeft}
+use Rattle.msc_order.specs.Causes.{AreMoved, IsAbove}
 use Rattle.msc_order.proofs.queueing.take_left.Given as goal
 
 abbrev pub invariant-loop-k : goal.invariant-loop-k
 invariant-loop-k l = record {
-  between : IsBetween (wired_by l.wiring) (cell (size l.wiring) l.words);
-  kept : Keeps (cell (size l.wiring) l.initial.words) (cell (size l.wiring) l.words);
-  left : IsLeft (wired_by l.wiring) (cell (size l.wiring) l.words) l.s (has l.left);
+  moved : AreMoved (wired_by l.wiring) (has l.initial.left) (has l.left) (has l.initial.taken) (has l.taken);
   above : IsAbove (64 * l.k) (has l.left);
 }
