@@ -76,7 +76,7 @@ fn drafts_and_their_faults(rt: HostRuntime) {
 
 /// A part of a text: what stands there once, and behind it so many statements, each of which has
 /// its number, from 0, between these two.
-type Part = (&'static str, u32, &'static str, &'static str);
+pub(crate) type Part = (&'static str, u32, &'static str, &'static str);
 
 /// Adds a part to a text.
 fn add_part(text: &mut String, part: Part) -> Result<(), AllocError> {
@@ -89,7 +89,7 @@ fn add_part(text: &mut String, part: Part) -> Result<(), AllocError> {
 }
 
 /// The text of these parts.
-fn text_of(alloc: Global, parts: &[Part]) -> Result<String, AllocError> {
+pub(crate) fn text_of(alloc: Global, parts: &[Part]) -> Result<String, AllocError> {
     let mut text = String::new(alloc);
     for part in parts {
         add_part(&mut text, *part)?;

@@ -6,7 +6,7 @@ use crate::charts::chart_of;
 use example_charts::{LOCAL_EVENTS, OVERTAKING, RELAY, TWO_MAILBOXES, TWO_SENDERS, WAITS};
 use msc_chart::{Event, Queues};
 use msc_order::Order;
-use std::alloc::{AllocError, Global};
+use std::alloc::Global;
 use std::test::Fail;
 
 /// How many events an order is of, and whether it holds two of them in this order, and in the
@@ -79,33 +79,41 @@ fn what_an_architecture_enforces(rt: HostRuntime) -> Result<(), Fail> {
     Ok(())
 }
 
-/// Adds the pairs that an order holds of one first event, ascending.
-fn add_pairs(
-    pairs: &mut Vec<(Event, Event)>,
+/// What of a list of pairs, ascending, follows the pairs that an order holds of one first event, if
+/// it begins with them.
+fn after_row<'a>(
     order: &Order,
     events: u32,
     e: Event,
-) -> Result<(), AllocError>
+    pairs: &'a [(Event, Event)],
+) -> Option<&'a [(Event, Event)]>
     requires events { events ≡ length order.now }
     requires known { e < events }
 {
+    let mut rest = pairs;
     for f in 0..events {
         if order.holds(e, f) {
-            pairs.push((e, f))?;
+            match rest.split_first() {
+                Some((pair, more)) if *pair == (e, f) => rest = more,
+                _ => return None,
+            }
         }
     }
-    Ok(())
+    Some(rest)
 }
 
-/// The pairs that an order holds, ascending.
-fn pairs(alloc: Global, order: &Order, events: u32) -> Result<Vec<(Event, Event)>, AllocError>
+/// Whether these are the pairs that an order holds, ascending.
+fn are_pairs(order: &Order, events: u32, pairs: &[(Event, Event)]) -> bool
     requires { events ≡ length order.now }
 {
-    let mut pairs = Vec::new(alloc);
+    let mut rest = pairs;
     for e in 0..events {
-        add_pairs(&mut pairs, order, events, e)?;
+        match after_row(order, events, e, rest) {
+            Some(more) => rest = more,
+            None => return false,
+        }
     }
-    Ok(pairs)
+    rest.is_empty()
 }
 
 /// Whether these are the pairs of the enforced order of a text's chart.
@@ -117,7 +125,7 @@ fn are_enforced(
 ) -> Result<bool, Fail> {
     let chart = chart_of(alloc, text)?;
     let order = Order::enforced(alloc, &chart, queues)?;
-    Ok(pairs(alloc, &order, chart.events())?.as_slice() == wanted)
+    Ok(are_pairs(&order, chart.events(), wanted))
 }
 
 /// The pairs of `two_mailboxes` that mailboxes enforce.

@@ -1,16 +1,15 @@
 //! Closest races, why races are races, and why pairs are enforced. The expected values are read off
 //! the charts by hand, from the definitions in `docs/MODEL.md`.
 
-use crate::charts::chart_of;
+use crate::charts::{Part, chart_of, text_of};
 use example_charts::{
     BELOW_COREGION, CROSSING, LOCAL_EVENTS, OVERTAKING, RELAY, TWO_MAILBOXES, TWO_SENDERS, WAITS,
 };
-use msc_chart::{Event, Queues};
+use msc_chart::{Chart, Event, Queues};
 use msc_order::Order;
 use msc_race::races;
-use msc_reason::{RaceKind, Reason, Why, closest, explain, is_race, lack_of};
-use std::alloc::{AllocError, Global};
-use std::fmt::Write;
+use msc_reason::{Lack, RaceKind, Reason, Why, closest, explain, is_race, lack_of};
+use std::alloc::Global;
 use std::test::Fail;
 
 /// An output between two inputs of one queue, which are taken in the order in which they were not
@@ -38,17 +37,25 @@ const CLOSEST: [(&[u8], Queues, &[(Event, Event)]); 9] = [
     (OUTPUT_BETWEEN, Queues::Single, &[(3, 4)]),
 ];
 
-/// Whether these are the closest races of a text's chart under an architecture.
+/// Whether these are the closest races of a chart under an architecture.
+fn are_near(
+    alloc: Global,
+    chart: &Chart,
+    queues: Queues,
+    wanted: &[(Event, Event)],
+) -> Result<bool, Fail> {
+    let order = Order::enforced(alloc, chart, queues)?;
+    Ok(closest(alloc, chart, queues, &order)?.as_slice() == wanted)
+}
+
+/// The same of a text's chart.
 fn are_closest(
     alloc: Global,
     text: &[u8],
     queues: Queues,
     wanted: &[(Event, Event)],
 ) -> Result<bool, Fail> {
-    let chart = chart_of(alloc, text)?;
-    let order = Order::enforced(alloc, &chart, queues)?;
-    let list = closest(alloc, &chart, queues, &order)?;
-    Ok(list.as_slice() == wanted)
+    are_near(alloc, &chart_of(alloc, text)?, queues, wanted)
 }
 
 #[test]
@@ -60,43 +67,55 @@ fn closest_races(rt: HostRuntime) -> Result<(), Fail> {
     Ok(())
 }
 
-/// So many messages from each of two senders, drawn one stream below the other.
-fn two_streams(alloc: Global, count: u32) -> Result<String, AllocError> {
-    let mut text = String::from_str(alloc, "msc t;instance a;")?;
-    for m in 0..count {
-        write!(text, "out m{m} to b;")?;
-    }
-    text.push_str("endinstance;instance b;")?;
-    for m in 0..count {
-        write!(text, "in m{m} from a;")?;
-    }
-    for m in 0..count {
-        write!(text, "in n{m} from c;")?;
-    }
-    text.push_str("endinstance;instance c;")?;
-    for m in 0..count {
-        write!(text, "out n{m} to b;")?;
-    }
-    text.push_str("endinstance;endmsc;")?;
-    Ok(text)
+/// Texts with as many messages from each of two senders, drawn one stream below the other; how many
+/// races their charts have, and the one closest race.
+const STREAMS: [(&[Part], usize, (Event, Event)); 2] = [
+    (
+        &[
+            ("msc t;instance a;", 20, "out m", " to b;"),
+            ("endinstance;instance b;", 20, "in m", " from a;"),
+            ("", 20, "in n", " from c;"),
+            ("endinstance;instance c;", 20, "out n", " to b;"),
+            ("endinstance;endmsc;", 0, "", ""),
+        ],
+        400,
+        (39, 40),
+    ),
+    (
+        &[
+            ("msc t;instance a;", 512, "out m", " to b;"),
+            ("endinstance;instance b;", 512, "in m", " from a;"),
+            ("", 512, "in n", " from c;"),
+            ("endinstance;instance c;", 512, "out n", " to b;"),
+            ("endinstance;endmsc;", 0, "", ""),
+        ],
+        262_144,
+        (1_023, 1_024),
+    ),
+];
+
+/// How many races and how many closest races there are, and the first of these.
+type Counted = (usize, usize, Option<(Event, Event)>);
+
+/// How many races and how many closest races a chart has, and the first of these.
+fn counted(alloc: Global, chart: &Chart) -> Result<Counted, Fail> {
+    let order = Order::enforced(alloc, chart, Queues::Pair)?;
+    let near = closest(alloc, chart, Queues::Pair, &order)?;
+    let all = races(alloc, chart, &order)?.len();
+    Ok((all, near.len(), near.first().copied()))
 }
 
-/// How many races and how many closest races two streams of so many messages have, and the first
-/// of these.
-fn of_streams(alloc: Global, count: u32) -> Result<(usize, usize, Option<(Event, Event)>), Fail> {
-    let text = two_streams(alloc, count)?;
-    let chart = chart_of(alloc, text.as_bytes())?;
-    let order = Order::enforced(alloc, &chart, Queues::Pair)?;
-    let all = races(alloc, &chart, &order)?;
-    let near = closest(alloc, &chart, Queues::Pair, &order)?;
-    Ok((all.len(), near.len(), near.first().copied()))
+/// The same of the chart of a text of these parts.
+fn of_streams(alloc: Global, parts: &[Part]) -> Result<Counted, Fail> {
+    let text = text_of(alloc, parts)?;
+    counted(alloc, &chart_of(alloc, text.as_bytes())?)
 }
 
 #[test]
 fn two_streams_have_one_closest_race(rt: HostRuntime) -> Result<(), Fail> {
-    for (count, all, pair) in [(20, 400, (39, 40)), (512, 262_144, (1_023, 1_024))] {
-        let is = of_streams(rt.alloc(), count)? == (all, 1, Some(pair));
-        assert!(rt; is, "{count} messages");
+    for (parts, all, pair) in STREAMS {
+        let is = of_streams(rt.alloc(), parts)? == (all, 1, Some(pair));
+        assert!(rt; is, "{all} races");
     }
     Ok(())
 }
@@ -201,21 +220,33 @@ const REASONS: [(&[u8], Queues, (Event, Event), Option<Cause>); 18] = [
     ),
 ];
 
-/// Why a pair of events of a text's chart is a race under an architecture, where it is one.
+/// Why a pair of events of a chart is a race under an architecture, where it is one.
+fn reason_in(
+    alloc: Global,
+    chart: &Chart,
+    queues: Queues,
+    pair: (Event, Event),
+) -> Result<Option<Cause>, Fail> {
+    let (e, f) = pair;
+    if e >= chart.events() || f >= chart.events() {
+        return Ok(None);
+    }
+    let order = Order::enforced(alloc, chart, queues)?;
+    if !is_race(chart, queues, &order, e, f) {
+        return Ok(None);
+    }
+    let lack = lack_of(chart, queues, &order, e, f);
+    Ok(Some((lack.kind, lack.needed, lack.output, lack.always)))
+}
+
+/// The same of a text's chart.
 fn reason_of(
     alloc: Global,
     text: &[u8],
     queues: Queues,
     pair: (Event, Event),
 ) -> Result<Option<Cause>, Fail> {
-    let chart = chart_of(alloc, text)?;
-    let order = Order::enforced(alloc, &chart, queues)?;
-    let (e, f) = pair;
-    if e >= chart.events() || f >= chart.events() || !is_race(&chart, queues, &order, e, f) {
-        return Ok(None);
-    }
-    let lack = lack_of(&chart, queues, &order, e, f);
-    Ok(Some((lack.kind, lack.needed, lack.output, lack.always)))
+    reason_in(alloc, &chart_of(alloc, text)?, queues, pair)
 }
 
 #[test]
@@ -282,50 +313,65 @@ const WHYS: [(&[u8], Queues, (Event, Event), Option<Shown>); 11] = [
     (THREE, Queues::Single, (3, 5), None),
 ];
 
-/// Whether this is what shows that an event is enforced before another.
-fn shows(why: &Why, wanted: Shown) -> bool {
-    let (mate, chain, onward) = wanted;
+/// What shows that an event is enforced before another.
+fn shown(why: &Why) -> Shown<'_> {
     match why {
-        Why::Straight(steps) => mate.is_none() && steps.as_slice() == chain && onward.is_empty(),
-        Why::ByQueue(u, outputs, rest) => {
-            mate == Some(*u) && outputs.as_slice() == chain && rest.as_slice() == onward
-        }
+        Why::Straight(steps) => (None, steps.as_slice(), &[]),
+        Why::ByQueue(u, outputs, rest) => (Some(*u), outputs.as_slice(), rest.as_slice()),
     }
 }
 
-/// Whether this is what shows that an event is enforced before another, where something is wanted.
-fn shows_this(why: &Why, wanted: Option<Shown>) -> bool {
-    match wanted {
-        Some(wanted) => shows(why, wanted),
+/// What is said of a pair of events of a chart under an architecture, if the chart has both and they
+/// are two.
+fn said_of(
+    alloc: Global,
+    chart: &Chart,
+    queues: Queues,
+    pair: (Event, Event),
+) -> Result<Option<Reason>, Fail> {
+    let (e, f) = pair;
+    if e >= chart.events() || f >= chart.events() || e == f {
+        return Ok(None);
+    }
+    let order = Order::enforced(alloc, chart, queues)?;
+    Ok(Some(explain(alloc, chart, queues, &order, e, f)?))
+}
+
+/// The same of a text's chart.
+fn said(
+    alloc: Global,
+    text: &[u8],
+    queues: Queues,
+    pair: (Event, Event),
+) -> Result<Option<Reason>, Fail> {
+    said_of(alloc, &chart_of(alloc, text)?, queues, pair)
+}
+
+/// Whether it is said that the pair is enforced for this reason, or not enforced where none is
+/// wanted.
+fn is_explained(said: &Option<Reason>, wanted: Option<Shown>) -> bool {
+    match said {
+        Some(Reason::Enforced(why)) => Some(shown(why)) == wanted,
+        Some(Reason::Free(_, _, _)) => wanted.is_none(),
         None => false,
     }
 }
 
-/// Whether a pair of events of a text's chart is enforced under an architecture for this reason, or
-/// not enforced where none is wanted.
-fn is_explained(
+/// Whether that is said of a pair of events of a text's chart under an architecture.
+fn explains(
     alloc: Global,
     text: &[u8],
     queues: Queues,
     pair: (Event, Event),
     wanted: Option<Shown>,
 ) -> Result<bool, Fail> {
-    let chart = chart_of(alloc, text)?;
-    let order = Order::enforced(alloc, &chart, queues)?;
-    let (e, f) = pair;
-    if e >= chart.events() || f >= chart.events() || e == f {
-        return Ok(false);
-    }
-    match explain(alloc, &chart, queues, &order, e, f)? {
-        Reason::Enforced(why) => Ok(shows_this(&why, wanted)),
-        Reason::Free(_, _, _) => Ok(wanted.is_none()),
-    }
+    Ok(is_explained(&said(alloc, text, queues, pair)?, wanted))
 }
 
 #[test]
 fn reasons_of_enforced_pairs(rt: HostRuntime) -> Result<(), Fail> {
     for (text, queues, pair, wanted) in WHYS {
-        let is = is_explained(rt.alloc(), text, queues, pair, wanted)?;
+        let is = explains(rt.alloc(), text, queues, pair, wanted)?;
         assert!(rt; is, "{pair:?}, {queues:?}");
     }
     Ok(())
@@ -361,38 +407,47 @@ const FREE: [(&[u8], Queues, (Event, Event), Reversed); 3] = [
     ),
 ];
 
+/// The kind of what a race lacks, where there is one.
+fn kind_of(lack: &Option<Lack>) -> Option<RaceKind> {
+    match lack {
+        Some(lack) => Some(lack.kind),
+        None => None,
+    }
+}
+
+/// What is shown, where something is.
+fn shown_if(why: &Option<Why>) -> Option<Shown<'_>> {
+    match why {
+        Some(why) => Some(shown(why)),
+        None => None,
+    }
+}
+
+/// Whether this is said of a pair that is not enforced.
+fn is_free(said: &Option<Reason>, wanted: Reversed) -> bool {
+    match said {
+        Some(Reason::Free(run, lack, late)) => {
+            (run.as_slice(), kind_of(lack), shown_if(late)) == wanted
+        }
+        _ => false,
+    }
+}
+
 /// Whether this is said of a pair of events of a text's chart that is not enforced.
-fn is_free(
+fn frees(
     alloc: Global,
     text: &[u8],
     queues: Queues,
     pair: (Event, Event),
     wanted: Reversed,
 ) -> Result<bool, Fail> {
-    let chart = chart_of(alloc, text)?;
-    let order = Order::enforced(alloc, &chart, queues)?;
-    let (e, f) = pair;
-    if e >= chart.events() || f >= chart.events() || e == f {
-        return Ok(false);
-    }
-    let (events, kind, turned) = wanted;
-    match explain(alloc, &chart, queues, &order, e, f)? {
-        Reason::Enforced(_) => Ok(false),
-        Reason::Free(run, lack, late) => {
-            let one_kind = lack.map(|lack| lack.kind) == kind;
-            let one_chain = match late {
-                Some(why) => shows_this(&why, turned),
-                None => turned.is_none(),
-            };
-            Ok(run.as_slice() == events && one_kind && one_chain)
-        }
-    }
+    Ok(is_free(&said(alloc, text, queues, pair)?, wanted))
 }
 
 #[test]
 fn reasons_of_free_pairs(rt: HostRuntime) -> Result<(), Fail> {
     for (text, queues, pair, wanted) in FREE {
-        let is = is_free(rt.alloc(), text, queues, pair, wanted)?;
+        let is = frees(rt.alloc(), text, queues, pair, wanted)?;
         assert!(rt; is, "{pair:?}, {queues:?}");
     }
     Ok(())
