@@ -28,9 +28,13 @@ fed_end e = fed.bool e.sends ++ (fed_name e.sender.now ++ (fed_name e.receiver.n
 names_alike : Alike (pointwise nat_eq) fed_name
 names_alike = same_Alike fed_name bytes_decides
 
+-- bytes are equal
+abbrev same_name : Bor (List ℕ) → Bor (List ℕ) → Bool
+same_name p q = pointwise nat_eq p.now q.now
+
 -- numbers are equal where both or neither stand, with equal bytes
 abbrev same_number : Option (Bor (List ℕ)) → Option (Bor (List ℕ)) → Bool
-same_number = option_eq (λ x y. pointwise nat_eq x.now y.now)
+same_number = option_eq same_name
 
 -- equal numbers are fed alike
 number_fed : (x y : Option (Bor (List ℕ))) → same_number x y ≡ true → fed_number x ≡ fed_number y
@@ -39,11 +43,18 @@ number_fed None (Some q) h = absurd (true≢false (sym h))
 number_fed (Some p) None h = absurd (true≢false (sym h))
 number_fed (Some p) (Some q) h = names_alike.fed p.now q.now h
 
+-- the same, as a record
 numbers_alike : Alike same_number fed_number
 numbers_alike = record { fed = number_fed }
 
--- and equal ends
-pub ends_alike : Alike (λ (x y : code.MessageEnd). beq x.sends y.sends && (pointwise nat_eq x.sender.now y.sender.now && (pointwise nat_eq x.receiver.now y.receiver.now && (pointwise nat_eq x.name.now y.name.now && same_number x.number y.number)))) fed_end
+-- ends are equal where they are of one kind, with equal names
+abbrev same_end : code.MessageEnd → code.MessageEnd → Bool
+same_end x y =
+    beq x.sends y.sends && (same_name x.sender y.sender && (same_name x.receiver y.receiver
+    && (same_name x.name y.name && same_number x.number y.number)))
+
+-- equal ends are fed alike
+pub ends_alike : Alike same_end fed_end
 ends_alike =
     and-Alike (on_Alike (λ (e : code.MessageEnd). e.sends) (same_Alike fed.bool booleans_Decides))
     (and-Alike (on_Alike (λ (e : code.MessageEnd). e.sender.now) names_alike)
