@@ -1,14 +1,14 @@
 -- The pairs of a table, and what writes do to them.
-use Rattle.std.proofs.Common.{◌≡◌, ℕ, ◌+◌, ◌-◌, ◌*◌, ◌/◌, ◌%◌, ◌^◌, ◌<◌, ◌≤◌, Bool, true, false, ◌&&◌, ◌||◌, cond, inl, inr, eqb, ltb, List, take, drop, length, get_or, set, replicate, refl, sym, ap, ◌∙◌, arith, get_or-set_same, get_or-set_other, bit_or}
+use Rattle.std.proofs.Common.{◌≡◌, ℕ, ◌+◌, ◌-◌, ◌*◌, ◌/◌, ◌%◌, ◌^◌, ◌<◌, ◌≤◌, Bool, true, false, ◌&&◌, ◌||◌, cond, inl, inr, eqb, ltb, List, take, drop, length, get_or, set, replicate, refl, sym, ap, ◌∙◌, arith, get_or-set_same, get_or-set_other, bit_or, ◌++◌, rules}
 use Rattle.std.proofs.lemmas.Bool.{lt-ltb, le-ltb, eq-eqb, ne_eqb, eqb-true, cases_lt, cases_eq}
-use Rattle.std.proofs.lemmas.List.{get_or-take, get_or-drop, length-take}
+use Rattle.std.proofs.lemmas.List.{get_or-take, get_or-drop, length-take, length-take-le, length-drop, places}
 use Rattle.std.proofs.Math.Nat.{mul-le-mul_right}
 use Rattle.std.proofs.lemmas.Nat.{same_from_place}
 use Rattle.bit_rows.specs.Rows.{bit_of, has, word_count}
 use Rattle.bit_rows.specs.Tables.{cell, with_row, HasRow}
 use Rattle.std.proofs.Math.Bool.{or-false, or-true, and-false}
 use Rattle.bit_rows.proofs.Bits.{by_test, words_enough, word_below, below-suc, bit_put, bit_join}
-use Rattle.bit_rows.proofs.Rows.{has_past, has_blank, same_bit}
+use Rattle.bit_rows.proofs.Rows.{has_at, has_past, has_blank, same_bit}
 
 -- a cell of a column of the table
 pub cell_in : (n : ℕ) (words : List ℕ) (x y : ℕ) → y < 64 * word_count n → cell n words x y ≡ bit_of (get_or words (x * word_count n + y / 64) 0) (y % 64)
@@ -69,35 +69,31 @@ cell_put n words e f x y row f_below =
           ])
     ]
 
--- word w of row x, while row e takes in the words of another below k
-pub merged_to : List ℕ → ℕ → ℕ → (ℕ → ℕ) → ℕ → ℕ → ℕ → ℕ
-merged_to words m e value k x w = cond (eqb x e && ltb w k) (bit_or (get_or words (x * m + w) 0) (value w)) (get_or words (x * m + w) 0)
+-- word w of row x, while row e takes in the words of row f below k
+pub merged_to : List ℕ → ℕ → ℕ → ℕ → ℕ → ℕ → ℕ → ℕ
+merged_to words m e f k x w = cond (eqb x e && ltb w k) (bit_or (get_or words (x * m + w) 0) (get_or words (f * m + w) 0)) (get_or words (x * m + w) 0)
 
 -- no word is merged yet
-pub merge_start : (words : List ℕ) (m e : ℕ) (value : ℕ → ℕ) (x w : ℕ) → get_or words (x * m + w) 0 ≡ merged_to words m e value 0 x w
+pub merge_start : (words : List ℕ) (m e f x w : ℕ) → get_or words (x * m + w) 0 ≡ merged_to words m e f 0 x w
 unfolding merged_to
-merge_start words m e value x w = rw (le-ltb w 0 (omega arith), and-false (eqb x e)) refl
-
--- a word that is not merged yet is as it was
-pub unmerged : (words : List ℕ) (m e : ℕ) (value : ℕ → ℕ) (k x : ℕ) → merged_to words m e value k x k ≡ get_or words (x * m + k) 0
-unfolding merged_to
-unmerged words m e value k x = rw (le-ltb k k (omega arith), and-false (eqb x e)) refl
+merge_start words m e f x w = rw (le-ltb w 0 (omega arith), and-false (eqb x e)) refl
 
 -- one word more is merged
-pub merge_step : (words now : List ℕ) (m e : ℕ) (value : ℕ → ℕ) (k word : ℕ) → e * m + k < length now → k < m → word ≡ value k
-    → ((x w : ℕ) → w < m → get_or now (x * m + w) 0 ≡ merged_to words m e value k x w)
-    → (x w : ℕ) → w < m → get_or (set now (e * m + k) (bit_or (get_or now (e * m + k) 0) word)) (x * m + w) 0 ≡ merged_to words m e value (k + 1) x w
+pub merge_step : (words now : List ℕ) (m e f k : ℕ) → e * m + k < length now → k < m
+    → ((x w : ℕ) → w < m → get_or now (x * m + w) 0 ≡ merged_to words m e f k x w)
+    → (x w : ℕ) → w < m → get_or (set now (e * m + k) (bit_or (get_or now (e * m + k) 0) (get_or now (f * m + k) 0))) (x * m + w) 0 ≡ merged_to words m e f (k + 1) x w
 unfolding merged_to
-merge_step words now m e value k word inside k_below is h x w w_below =
-    let more : ℕ = bit_or (get_or now (e * m + k) 0) word in
+merge_step words now m e f k inside k_below h x w w_below =
+    let word : ℕ = bit_or (get_or now (e * m + k) 0) (get_or now (f * m + k) 0) in
     let e_same : get_or now (e * m + k) 0 ≡ get_or words (e * m + k) 0 = h e k k_below ∙ rw (le-ltb k k (omega arith), and-false (eqb e e)) refl in
+    let f_same : get_or now (f * m + k) 0 ≡ get_or words (f * m + k) 0 = h f k k_below ∙ rw (le-ltb k k (omega arith), and-false (eqb f e)) refl in
     elim (cases_eq (x * m + w) (e * m + k)) [
       | inl same ↦
           let both = same_from_place x w e k m w_below k_below same in
-          rw (same, get_or-set_same now (e * m + k) more 0 inside, eq-eqb x e both.0, lt-ltb w (k + 1) (omega (arith, both.1)), e_same, is)
+          rw (same, get_or-set_same now (e * m + k) word 0 inside, eq-eqb x e both.0, lt-ltb w (k + 1) (omega (arith, both.1)), e_same, f_same)
           (rw both.1 refl)
       | inr other ↦
-          get_or-set_other now (e * m + k) (x * m + w) more 0 other ∙ h x w w_below
+          get_or-set_other now (e * m + k) (x * m + w) word 0 other ∙ h x w w_below
           ∙ by_test (eqb x e)
           (λ same_row.
           let apart : w ≡ k → ⊥ = λ e'. other (rw (eqb-true x e same_row, e') refl) in
@@ -105,21 +101,19 @@ merge_step words now m e value k word inside k_below is h x w w_below =
           (λ differs. rw differs refl)
     ]
 
--- the bits of the rows when all words are merged, where the words of the other row have its numbers
-pub merge_end : (n : ℕ) (words now : List ℕ) (e : ℕ) (value : ℕ → ℕ) (test : ℕ → Bool)
-    → ((y : ℕ) → y < 64 * word_count n → bit_of (value (y / 64)) (y % 64) ≡ test y)
-    → ((y : ℕ) → 64 * word_count n ≤ y → test y ≡ false)
-    → ((x w : ℕ) → w < word_count n → get_or now (x * word_count n + w) 0 ≡ merged_to words (word_count n) e value (word_count n) x w)
-    → (x y : ℕ) → cell n now x y ≡ (cell n words x y || (eqb x e && test y))
+-- the bits of the rows when all words are merged
+pub merge_end : (n : ℕ) (words now : List ℕ) (e f : ℕ)
+    → ((x w : ℕ) → w < word_count n → get_or now (x * word_count n + w) 0 ≡ merged_to words (word_count n) e f (word_count n) x w)
+    → (x y : ℕ) → cell n now x y ≡ (cell n words x y || (eqb x e && cell n words f y))
 unfolding merged_to
-merge_end n words now e value test inside past h x y =
+merge_end n words now e f h x y =
     let m : ℕ = word_count n in
     elim (cases_lt y (64 * m)) [
-      | inr out ↦ rw (cell_out n now x y out, cell_out n words x y out, past y out) (sym (and-false (eqb x e)))
+      | inr out ↦ rw (cell_out n now x y out, cell_out n words x y out, cell_out n words f y out) (sym (and-false (eqb x e)))
       | inl column ↦
-          rw (cell_in n now x y column, cell_in n words x y column, sym (inside y column), h x (y / 64) (word_below n y column), lt-ltb (y / 64) m (word_below n y column))
+          rw (cell_in n now x y column, cell_in n words x y column, cell_in n words f y column, h x (y / 64) (word_below n y column), lt-ltb (y / 64) m (word_below n y column))
           (by_test (eqb x e)
-          (λ same. rw same (bit_join (get_or words (x * m + y / 64) 0) (value (y / 64)) (y % 64)))
+          (λ same. rw same (bit_join (get_or words (x * m + y / 64) 0) (get_or words (f * m + y / 64) 0) (y % 64)))
           (λ differs. rw differs (sym (or-false (bit_of (get_or words (x * m + y / 64) 0) (y % 64))))))
     ]
 
@@ -157,6 +151,56 @@ row_numbers n words e row y =
           get_or-take m (take (length words - e * m) (drop (e * m) words)) (y / 64) 0 word ∙ get_or-take (length words - e * m) (drop (e * m) words) (y / 64) 0 short
           ∙ get_or-drop (e * m) words (y / 64) 0 in
           ap (λ w. bit_of w (y % 64)) same ∙ sym (cell_in n words e y column)
+    ]
+
+-- word w of row x, where the words of row e are written anew
+row_written : (m e x w k : ℕ) (words new : List ℕ) → e * m + m ≤ length words → length new ≡ m → k ≡ m → w < m
+    → get_or (take (e * m) words ++ (new ++ drop k (drop (e * m) words))) (x * m + w) 0 ≡ cond (eqb x e) (get_or new w 0) (get_or words (x * m + w) 0)
+row_written m e x w k words new fits size all below =
+    elim (cases_eq x e) [
+      | inl same ↦ rw (same, eq-eqb e e refl) (search (rules, places))
+      | inr other ↦ elim (cases_lt x e) [
+        | inl before ↦
+            let p : (x + 1) * m ≤ e * m = mul-le-mul_right m (omega (arith, before)) in
+            let q : x * m + w < e * m = omega (arith, p, below) in
+            rw (ne_eqb x e other) (search (rules, places))
+        | inr past ↦
+            let p : (e + 1) * m ≤ x * m = mul-le-mul_right m (omega (arith, past, other)) in
+            let q : e * m + m ≤ x * m + w = omega (arith, p) in
+            rw (ne_eqb x e other) (search (rules, places))
+      ]
+    ]
+
+-- the part of a table that is row e is as long as a row
+pub part_length : (n e k : ℕ) (words : List ℕ) → HasRow n words e → k ≡ word_count n → length (take k (drop (e * word_count n) words)) ≡ word_count n
+part_length n e k words fits all =
+    let rest = length-drop (e * word_count n) words in
+    length-take-le k (drop (e * word_count n) words) (omega (arith, rest, fits, all)) ∙ all
+
+-- a number of the part of a table that is row e
+part_number : (n e k : ℕ) (words : List ℕ) (y : ℕ) → y / 64 < k
+    → has (take k (drop (e * word_count n) words)) y ≡ bit_of (get_or words (e * word_count n + y / 64) 0) (y % 64)
+part_number n e k words y below =
+    let from : ℕ = e * word_count n in
+    has_at (take k (drop from words)) y (y / 64) refl
+    ∙ ap (λ w. bit_of w (y % 64)) (get_or-take k (drop from words) (y / 64) 0 below ∙ get_or-drop from words (y / 64) 0)
+
+-- the pairs of a table whose row e takes in a row
+pub row_joined : (n e k : ℕ) (words new row : List ℕ) → HasRow n words e → length new ≡ word_count n → k ≡ word_count n
+    → length row ≡ word_count n → ((y : ℕ) → has new y ≡ (has (take k (drop (e * word_count n) words)) y || has row y))
+    → (x y : ℕ) → cell n (take (e * word_count n) words ++ (new ++ drop k (drop (e * word_count n) words))) x y ≡ (cell n words x y || (eqb x e && has row y))
+row_joined n e k words new row fits size all short h x y =
+    let m : ℕ = word_count n in
+    let now : List ℕ = take (e * m) words ++ (new ++ drop k (drop (e * m) words)) in
+    elim (cases_lt y (64 * m)) [
+      | inr out ↦ rw (cell_out n now x y out, cell_out n words x y out, has_past row y (omega (arith, out, short))) (sym (and-false (eqb x e)))
+      | inl column ↦
+          let below = word_below n y column in
+          let inside : y / 64 < k = omega (arith, below, all) in
+          rw (cell_in n now x y column, cell_in n words x y column, row_written m e x (y / 64) k words new fits size all below)
+          (by_test (eqb x e)
+          (λ same. rw (same, eqb-true x e same) (sym (has_at new y (y / 64) refl) ∙ h y ∙ ap (λ t. t || has row y) (part_number n e k words y inside)))
+          (λ differs. rw differs (sym (or-false _))))
     ]
 
 -- a blank table has no pair

@@ -83,9 +83,8 @@ pub fn take_row(words: &mut [u64], n: u32, e: u32, row: &[u64])
         ≡ (cell n words.old x y || (nat_eq x e && has row.now y)) }
 {
     let count = word_count(n);
-    for k in 0..count {
-        words[e as usize * count + k] |= row[k];
-    }
+    let start = e as usize * count;
+    join(&mut words[start..start + count], row);
 }
 
 /// Makes `left` the numbers that row `e` of one table and row `q` of another have in common.
