@@ -21,7 +21,7 @@ use msc_chart::{Event, Wiring};
 use std::alloc::{AllocError, Global};
 
 /// Puts the input of output `c`, and all that comes after it, into `taken`.
-#[tactic(auto, using(bit_rows::proofs::Cells::row_fits))]
+#[tactic(auto, using(bit_rows::proofs::Cells::row_fits, bit_rows::proofs::Bits::words_enough))]
 fn take_input(taken: &mut [u64], words: &[u64], wiring: &Wiring, c: Event)
     requires row { length taken.old ≡ word_count (size wiring.now) }
     requires square { length words.now ≡ size wiring.now * word_count (size wiring.now) }
