@@ -84,13 +84,22 @@ fn does(
     }
 }
 
+/// Whether the receiver of a chart of one message ends so after that.
+fn is_received_in(
+    alloc: Global,
+    chart: &Chart,
+    before: Before,
+    wanted: Left,
+) -> Result<bool, Fail> {
+    let mut ends = wire(alloc, chart, Queues::Pair)?;
+    let takes = ends.pop();
+    let is_done = does(alloc, chart, ends.pop(), before)?;
+    Ok(is_done && is_left(alloc, chart, 1, takes, &AlwaysOpen, wanted)?)
+}
+
 /// Whether the receiver of `one_message` ends so after that.
 fn is_received(alloc: Global, before: Before, wanted: Left) -> Result<bool, Fail> {
-    let chart = chart_of(alloc, ONE_MESSAGE)?;
-    let mut ends = wire(alloc, &chart, Queues::Pair)?;
-    let takes = ends.pop();
-    let is_done = does(alloc, &chart, ends.pop(), before)?;
-    Ok(is_done && is_left(alloc, &chart, 1, takes, &AlwaysOpen, wanted)?)
+    is_received_in(alloc, &chart_of(alloc, ONE_MESSAGE)?, before, wanted)
 }
 
 /// What the sender of `one_message` does, and how its receiver ends then.

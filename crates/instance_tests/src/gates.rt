@@ -3,7 +3,7 @@
 
 use crate::together::{PATIENCE, Wanted, chart_of, is_execution};
 use example_charts::{RELAY, TWO_SENDERS};
-use msc_chart::{Event, Queues};
+use msc_chart::{Chart, Event, Queues};
 use msc_fifo::Account;
 use msc_instance::{End, Execution, Gate, run_chart};
 use std::alloc::Global;
@@ -69,18 +69,26 @@ const MET: [Wanted; 2] = [
     ),
 ];
 
-/// Whether the instances of `two_senders` end in one of these ways, and the gate is asked four
-/// times.
-fn meet<R: Threads + Wait + Sync>(rt: &R, alloc: Global, queues: Queues) -> Result<bool, Fail> {
+/// Whether the instances of a chart end in one of these ways, and the gate is asked four times.
+fn meet_in<R: Threads + Wait + Sync>(
+    rt: &R,
+    alloc: Global,
+    chart: &Chart,
+    queues: Queues,
+) -> Result<bool, Fail> {
     let gate = Meeting {
         first: AtomicBool::new(false),
         last: AtomicBool::new(false),
         asked: AtomicU64::new(0),
     };
-    let chart = chart_of(alloc, TWO_SENDERS)?;
-    let execution = run_chart(rt, alloc, &chart, queues, &gate, PATIENCE)?;
+    let execution = run_chart(rt, alloc, chart, queues, &gate, PATIENCE)?;
     let is_met = is_execution(&execution, MET[0]) || is_execution(&execution, MET[1]);
     Ok(is_met && gate.asked.load(Ordering::SeqCst) == 4)
+}
+
+/// Whether the instances of `two_senders` do.
+fn meet<R: Threads + Wait + Sync>(rt: &R, alloc: Global, queues: Queues) -> Result<bool, Fail> {
+    meet_in(rt, alloc, &chart_of(alloc, TWO_SENDERS)?, queues)
 }
 
 #[test]
@@ -113,19 +121,29 @@ impl Gate for InOrder {
     }
 }
 
-/// The execution of `relay` under an architecture and the gate that says no to this event.
+/// The execution of a chart under an architecture and the gate that says no to this event.
+fn stopped_in<R: Threads + Wait + Sync>(
+    rt: &R,
+    alloc: Global,
+    chart: &Chart,
+    queues: Queues,
+    event: Event,
+) -> Result<Execution, Fail> {
+    let gate = InOrder {
+        never: event,
+        first: AtomicBool::new(false),
+    };
+    Ok(run_chart(rt, alloc, chart, queues, &gate, PATIENCE)?)
+}
+
+/// The execution of `relay`.
 fn stopped_at<R: Threads + Wait + Sync>(
     rt: &R,
     alloc: Global,
     queues: Queues,
     event: Event,
 ) -> Result<Execution, Fail> {
-    let chart = chart_of(alloc, RELAY)?;
-    let gate = InOrder {
-        never: event,
-        first: AtomicBool::new(false),
-    };
-    Ok(run_chart(rt, alloc, &chart, queues, &gate, PATIENCE)?)
+    stopped_in(rt, alloc, &chart_of(alloc, RELAY)?, queues, event)
 }
 
 /// An event of `relay` at which the gate says no, and how the three instances end.

@@ -34,8 +34,21 @@ pub fn is_execution(execution: &Execution, wanted: Wanted) -> bool {
     true
 }
 
-/// Whether the instances of a text's chart end so with a gate that is always open, and so many
-/// queues are settled.
+/// Whether the instances of a chart end so with a gate that is always open, and so many queues are
+/// settled.
+fn is_run_of<R: Threads + Wait + Sync>(
+    rt: &R,
+    alloc: Global,
+    chart: &Chart,
+    queues: Queues,
+    wanted: Wanted,
+    count: usize,
+) -> Result<bool, Fail> {
+    let execution = run_chart(rt, alloc, chart, queues, &AlwaysOpen, PATIENCE)?;
+    Ok(is_execution(&execution, wanted) && execution.queues.len() == count)
+}
+
+/// The same of a text's chart.
 fn is_run<R: Threads + Wait + Sync>(
     rt: &R,
     alloc: Global,
@@ -44,9 +57,7 @@ fn is_run<R: Threads + Wait + Sync>(
     wanted: Wanted,
     count: usize,
 ) -> Result<bool, Fail> {
-    let chart = chart_of(alloc, text)?;
-    let execution = run_chart(rt, alloc, &chart, queues, &AlwaysOpen, PATIENCE)?;
-    Ok(is_execution(&execution, wanted) && execution.queues.len() == count)
+    is_run_of(rt, alloc, &chart_of(alloc, text)?, queues, wanted, count)
 }
 
 #[test]
