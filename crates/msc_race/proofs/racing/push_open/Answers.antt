@@ -26,5 +26,5 @@ returns c =
     let row = c.row.result.now in
     let start = c.args.start in
     let same = pairs_same (is_gap row start) (is_open c.args.order.now start) c.args.e c.args.end
-        (λ f below. ap (λ (b : Bool). nat_le start f && not b) (c.row.ensures.numbers f)) in
+    (λ f below. ap (λ (b : Bool). nat_le start f && not b) (c.row.ensures.numbers f)) in
     subst (λ (l : List (ℕ × ℕ)). OnOk c.push_gaps.result (c.push_gaps.new.list.items ≡ c.args.list.now.items ++ l)) same c.push_gaps.ensures
