@@ -60,10 +60,16 @@ pub struct Runs<'a> {
     left: Vec<usize>,
     /// The first event of each event's segment.
     segment: Vec<usize>,
+    /// The lengths of segments, at their first events, from which `left` begins.
+    lengths: Vec<usize>,
     /// For each line the first event of the first segment that has not occurred whole.
     reached: Vec<usize>,
-    /// Whether each event is free.
-    free: Vec<bool>,
+    /// The first event of each line.
+    firsts: Vec<usize>,
+    /// Each output, its input and its queue.
+    messages: Vec<(usize, usize, usize)>,
+    /// The free events, as a row of bits.
+    free: [u64; 32],
     /// What may come next: of the free events those that do not wait, and of the others.
     ready: Ready,
     later: Ready,
@@ -80,10 +86,21 @@ impl<'a> Runs<'a> {
             }
         };
         let mut segment = Vec::with_capacity(count);
+        let mut lengths = vec![0; count];
+        let mut firsts = Vec::new();
         while segment.len() < count {
             let start = segment.len();
-            segment.resize(chart.events[start].segment_end, start);
+            let event = &chart.events[start];
+            if start == 0 || chart.events[start - 1].line != event.line {
+                firsts.push(start);
+            }
+            lengths[start] = event.segment_end - start;
+            segment.resize(event.segment_end, start);
         }
+        let messages = (0..count)
+            .filter(|&s| chart.is_output(s))
+            .map(|s| (s, chart.events[s].partner, chart.queue(s, queues)))
+            .collect();
         Runs {
             chart,
             order,
@@ -91,22 +108,29 @@ impl<'a> Runs<'a> {
             queues: (0..chart.queue_count(queues))
                 .map(|_| Fifo::default())
                 .collect(),
-            left: vec![0; count],
+            left: lengths.clone(),
+            lengths,
             segment,
             reached: vec![0; chart.queue_count(Queues::Mailbox)],
-            free: vec![false; count],
+            firsts,
+            messages,
+            free: [0; 32],
             ready: Ready::new(),
             later: Ready::new(),
         }
     }
 
+    fn is_free(&self, e: usize) -> bool {
+        self.free[e / 64] >> (e % 64) & 1 == 1
+    }
+
     /// The event may come next now.
     fn allow(&mut self, e: usize) {
-        if !self.free[e] {
+        if !self.is_free(e) {
             self.later.put(e);
             return;
         }
-        let is_held = self.chart.is_output(e) && !self.free[self.chart.events[e].partner];
+        let is_held = self.chart.is_output(e) && !self.is_free(self.chart.events[e].partner);
         let queue = &mut self.queues[self.queue_of[e]];
         if is_held && queue.expected > 0 {
             queue.waiting.push(e);
@@ -149,10 +173,11 @@ impl<'a> Runs<'a> {
     /// An output occurs: its message goes into its queue.
     fn send(&mut self, s: usize) {
         let input = self.chart.events[s].partner;
+        let is_expected = self.is_free(s) && self.is_free(input);
         let queue = &mut self.queues[self.queue_of[s]];
         queue.sent.push(s);
         let is_first = queue.sent.len() == queue.taken + 1;
-        if self.free[s] && self.free[input] {
+        if is_expected {
             queue.expected -= 1;
             if queue.expected == 0 {
                 for held in queue.waiting.drain(..) {
@@ -181,22 +206,17 @@ impl<'a> Runs<'a> {
             queue.taken = 0;
             queue.expected = 0;
         }
-        let row = self.order.row(e);
-        for (x, free) in self.free.iter_mut().enumerate() {
-            *free = x != e && row[x / 64] >> (x % 64) & 1 == 0;
+        for (free, row) in self.free.iter_mut().zip(self.order.row(e)) {
+            *free = !row;
         }
-        for (s, event) in self.chart.events.iter().enumerate() {
-            if self.chart.is_output(s) && self.free[s] && self.free[event.partner] {
-                self.queues[self.queue_of[s]].expected += 1;
-            }
+        self.free[e / 64] &= !(1 << (e % 64));
+        for k in 0..self.messages.len() {
+            let (s, input, queue) = self.messages[k];
+            self.queues[queue].expected += usize::from(self.is_free(s) && self.is_free(input));
         }
-        let mut start = 0;
-        while let Some(event) = self.chart.events.get(start) {
-            self.left[start] = event.segment_end - start;
-            if start == 0 || self.chart.events[start - 1].line != event.line {
-                self.reach(start);
-            }
-            start = event.segment_end;
+        self.left.copy_from_slice(&self.lengths);
+        for k in 0..self.firsts.len() {
+            self.reach(self.firsts[k]);
         }
     }
 

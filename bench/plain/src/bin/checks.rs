@@ -17,18 +17,26 @@ use std::process::ExitCode;
 /// The lines `run` of races, each made once for all races of one event.
 struct RunLines<'a> {
     runs: Runs<'a>,
-    /// Each event's number behind a space.
-    numbers: Vec<String>,
+    /// Each event's number behind a space, in eight bytes, and how many of these it has.
+    numbers: Vec<([u8; 8], usize)>,
     /// The event whose line was made last.
     of: Option<u32>,
     line: Vec<u8>,
+}
+
+/// The number of an event behind a space, and its length.
+fn number(e: usize) -> ([u8; 8], usize) {
+    let text = format!(" {e}");
+    let mut bytes = [0; 8];
+    bytes[..text.len()].copy_from_slice(text.as_bytes());
+    (bytes, text.len())
 }
 
 impl<'a> RunLines<'a> {
     fn new(runs: Runs<'a>, count: usize) -> RunLines<'a> {
         RunLines {
             runs,
-            numbers: (0..count).map(|e| format!(" {e}")).collect(),
+            numbers: (0..count).map(number).collect(),
             of: None,
             line: Vec::new(),
         }
@@ -40,10 +48,16 @@ impl<'a> RunLines<'a> {
             self.of = Some(e);
             self.line.clear();
             self.line.extend_from_slice(b"run");
+            // what a number has too much is written over by the next
+            self.line.resize(3 + 8 * self.numbers.len(), 0);
             let (line, numbers) = (&mut self.line, &self.numbers);
+            let mut at = 3;
             self.runs.chosen(e as usize, |x| {
-                line.extend_from_slice(numbers[x].as_bytes())
+                let (bytes, length) = &numbers[x];
+                line[at..at + 8].copy_from_slice(bytes);
+                at += length;
             });
+            self.line.truncate(at);
             self.line.push(b'\n');
         }
         &self.line
