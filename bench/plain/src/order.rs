@@ -75,9 +75,8 @@ impl Order {
         }
     }
 
-    /// Puts what comes after an input into `taken`, if that is to come before those of the outputs in
-    /// `later`, all of its queue. What comes after one of these needs no look, for its input's row is
-    /// taken in.
+    /// Makes `taken` the inputs of the outputs in `later`, all of one queue, and what comes after them.
+    /// An output that comes after another of these needs no look, for that one's input has its row.
     fn gather(&self, chart: &Chart, later: &mut [u64], taken: &mut [u64]) {
         taken.fill(0);
         for k in 0..later.len() {
@@ -101,7 +100,7 @@ impl Order {
     fn add_queues(&mut self, chart: &Chart, queues: Queues) {
         let mut seen = Order::blank(chart.queue_count(queues), chart.events.len());
         let (mut later, mut same) = (vec![0; self.stride], vec![0; self.stride]);
-        // what the outputs in `same` lead to by the rule
+        // the inputs of the outputs in `same`, which were those of the output before
         let mut taken = vec![0; self.stride];
         for &s in chart.order.iter().rev() {
             if !chart.is_output(s) {

@@ -67,8 +67,8 @@ impl<'a> RunLines<'a> {
 /// What is printed of each event in the line of a race, in one list of bytes.
 struct Texts {
     bytes: Vec<u8>,
-    /// Of each event where its number begins, what stands behind the number of the race's second event,
-    /// what the event does with the end of the line, and where that ends.
+    /// Where three texts of each event begin, and where the last of them ends: its number; what stands
+    /// behind both numbers of a race of which it is the first event; what it does as the second.
     starts: Vec<[u32; 4]>,
 }
 
