@@ -3,7 +3,7 @@ use Rattle.std.proofs.Common.{◌≡◌, ℕ, ◌+◌, ◌-◌, ◌*◌, ◌/◌
 use Rattle.std.specs.Int.{bit_at, bit_not}
 use Rattle.std.proofs.Math.Bool.{or-false, or-true}
 use Rattle.std.proofs.lemmas.Bool.{lt-ltb, le-ltb, eq-eqb, ne_eqb, cases_lt, cases_eq}
-use Rattle.std.proofs.lemmas.Nat.Bits.{bit_at-lt, bit_at-zero, bit_at_or, bit_at_and, bit_at_not, shr_and_one, bit_at_set_same, bit_at_set_other}
+use Rattle.std.proofs.lemmas.Nat.Bits.{bit_at-lt, bit_at-zero, bit_at_or, bit_at_and, bit_at_not, shr_and_one, bit_at_set_same, bit_at_set_other, bit_at_ones, bit_at_ones_above, ones_shr}
 use Rattle.std.proofs.lemmas.Grind.{div_ceil_times}
 use Rattle.bit_rows.specs.Rows.{bit_of, word_count}
 
@@ -105,3 +105,12 @@ bit_alone k i below = sym (orz (1 * 2 ^ k % 2 ^ 64)) ∙ bit_put 0 k i below ∙
 pub words_few : (n : ℕ) → 64 * word_count n ≤ n + 63
 unfolding word_count
 words_few n = let h = div_ceil_times n 64 (omega arith) in omega (arith, h.1)
+
+-- the ones of a word below bit 64 - s
+pub low_ones : (s i : ℕ) → s ≤ 64 → bit_of (18446744073709551615 / 2 ^ s) i ≡ ltb i (64 - s)
+unfolding bit_of
+low_ones s i fits =
+    rw (ones_shr 64 s fits) (elim (cases_lt i (64 - s)) [
+      | inl below ↦ rw (bit_at_ones (64 - s) i below, lt-ltb i (64 - s) below) refl
+      | inr past ↦ rw (bit_at_ones_above (64 - s) i past, le-ltb i (64 - s) past) refl
+    ])

@@ -1,4 +1,5 @@
 pub mod Bits
 pub mod Rows
+pub mod Sets
 pub mod Cells
 pub mod Writes

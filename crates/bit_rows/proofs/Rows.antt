@@ -1,12 +1,13 @@
 -- What the reads and writes of one row of bits do to its numbers.
-use Rattle.std.proofs.Common.{◌≡◌, ◌≢◌, ℕ, ◌+◌, ◌*◌, ◌/◌, ◌%◌, ◌^◌, ◌<◌, ◌≤◌, true, false, not, ◌&&◌, ◌||◌, inl, inr, eqb, List, length, get_or, set, replicate, refl, sym, ap, ◌∙◌, arith, get_or-set_same, get_or-set_other, bit_or, bit_and, w64}
+use Rattle.std.proofs.Common.{◌≡◌, ◌≢◌, ℕ, ◌+◌, ◌-◌, ◌*◌, ◌/◌, ◌%◌, ◌^◌, ◌<◌, ◌≤◌, true, false, not, ◌&&◌, ◌||◌, inl, inr, eqb, ltb, List, length, get_or, set, replicate, refl, sym, ap, ◌∙◌, arith, get_or-set_same, get_or-set_other, bit_or, bit_and, w64}
 use Rattle.std.specs.Int.{bit_not, trailing_zeros}
-use Rattle.std.proofs.lemmas.Bool.{eq-eqb, ne_eqb, cases_eq, cases_lt}
+use Rattle.std.proofs.lemmas.Bool.{eq-eqb, ne_eqb, cases_eq, cases_lt, lt-ltb, le-ltb}
+use Rattle.std.proofs.lemmas.Bool.Decides.{nat_tests}
 use Rattle.std.proofs.lemmas.List.{get_or_past, get_or-replicate, length-replicate}
 use Rattle.std.proofs.lemmas.Nat.Bits.{bit_at-trailing_zeros}
 use Rattle.std.proofs.Math.Bool.{or-false, and-true}
 use Rattle.bit_rows.specs.Rows.{bit_of, has}
-use Rattle.bit_rows.proofs.Bits.{clash, bit_put, bit_meet, bit_other, bit_alone, bit_zero}
+use Rattle.bit_rows.proofs.Bits.{clash, bit_put, bit_meet, bit_other, bit_alone, bit_zero, low_ones}
 
 -- numbers of one word differ as their bits do
 pub same_bit : (y z : ℕ) → z / 64 ≡ y / 64 → eqb (z % 64) (y % 64) ≡ eqb z y
@@ -109,3 +110,39 @@ some_number row k some fits =
     let here : (64 * k + t) / 64 ≡ k = omega (arith, t_below) in
     let rest : (64 * k + t) % 64 ≡ t = omega (arith, t_below) in
     (64 * k + t, has_at row (64 * k + t) k here ∙ rw (rest, low.1) refl)
+
+-- words of ones have all numbers up to the last word
+pub has_ones : (count y : ℕ) → has (replicate count 18446744073709551615) y ≡ ltb y (64 * count)
+unfolding has
+has_ones count y =
+    elim (cases_lt y (64 * count)) [
+      | inl inside ↦
+          rw (get_or-replicate {A = ℕ} count (y / 64) 18446744073709551615 0 (omega (arith, inside)), lt-ltb y (64 * count) inside)
+          (low_ones 0 (y % 64) (omega arith) ∙ lt-ltb (y % 64) 64 (omega arith))
+      | inr past ↦
+          rw (le-ltb y (64 * count) past)
+          (has_past (replicate count 18446744073709551615) y (let l = length-replicate {A = ℕ} count 18446744073709551615 in omega (arith, l, past)))
+    ]
+
+-- with the last word cut they have those below n
+pub has_cut : (count n rest y : ℕ) → count ≡ (n + 63) / 64 → rest ≡ n % 64 → 0 < rest
+    → has (set (replicate count 18446744073709551615) (n / 64) (18446744073709551615 / 2 ^ (64 - rest))) y ≡ ltb y n
+has_cut count n rest y size is some =
+    let row : List ℕ = replicate count 18446744073709551615 in
+    let len = length-replicate {A = ℕ} count 18446744073709551615 in
+    let word : ℕ = 18446744073709551615 / 2 ^ (64 - rest) in
+    let inside : n / 64 < length row = omega (arith, len, size, is, some) in
+    elim (cases_eq (y / 64) (n / 64)) [
+      | inl same ↦
+          has_at (set row (n / 64) word) y (n / 64) same
+          ∙ rw (get_or-set_same row (n / 64) word 0 inside) (low_ones (64 - rest) (y % 64) (omega arith) ∙ cut same)
+      | inr other ↦
+          has_at (set row (n / 64) word) y (y / 64) refl
+          ∙ rw (get_or-set_other row (n / 64) (y / 64) word 0 other) (sym (has_at row y (y / 64) refl) ∙ has_ones count y ∙ apart other)
+    ]
+  where
+    cut : y / 64 ≡ n / 64 → ltb (y % 64) (64 - (64 - rest)) ≡ ltb y n
+    cut same = grind (arith, nat_tests, is, some)
+
+    apart : y / 64 ≢ n / 64 → ltb y (64 * count) ≡ ltb y n
+    apart other = grind (arith, nat_tests, size, is, some)

@@ -1,7 +1,7 @@
 //! One row of bits.
 
 ghost use Rattle.std.specs.Prelude.{◌≡◌, ◌≢◌, ℕ, ◌+◌, ◌*◌, ◌/◌, ◌%◌, ◌<◌, ◌≤◌, ◌||◌, false, length};
-ghost use Rattle.std.specs.Prelude.{◌&&◌, not, nat_eq, replicate, IsTrue, IfOk};
+ghost use Rattle.std.specs.Prelude.{◌&&◌, not, nat_eq, nat_lt, replicate, IsTrue, IfOk};
 ghost use Rattle.bit_rows.specs.Rows.{bit_of, has, word_count, IsBlankTo, IsFirstWord, IsWith, IsWithout};
 
 use std::alloc::{AllocError, Global};
@@ -22,6 +22,13 @@ pub(crate) fn zeros(alloc: Global, count: usize) -> Result<Vec<u64>, AllocError>
     vec![in alloc; 0u64; count]
 }
 
+/// So many words whose bits are all 1.
+fn ones(alloc: Global, count: usize) -> Result<Vec<u64>, AllocError>
+    ensures { IfOk result (λ words. words.items ≡ replicate count 18446744073709551615) }
+{
+    vec![in alloc; u64::MAX; count]
+}
+
 /// A row without numbers, with room for those below `n`. An error is a growth of memory that was
 /// refused.
 pub fn blank(alloc: Global, n: u32) -> Result<Vec<u64>, AllocError>
@@ -29,6 +36,20 @@ pub fn blank(alloc: Global, n: u32) -> Result<Vec<u64>, AllocError>
     ensures none { IfOk result (λ row. (y : ℕ) → has row.items y ≡ false) }
 {
     zeros(alloc, word_count(n))
+}
+
+/// The row of all numbers below `n`. An error is a growth of memory that was refused.
+pub fn full(alloc: Global, n: u32) -> Result<Vec<u64>, AllocError>
+    ensures words { IfOk result (λ row. length row.items ≡ word_count n) }
+    ensures numbers { IfOk result (λ row. (y : ℕ) → has row.items y ≡ nat_lt y n) }
+{
+    let mut row = ones(alloc, word_count(n))?;
+    let rest = n % 64;
+    if rest == 0 {
+        return Ok(row);
+    }
+    row[n as usize / 64] = u64::MAX >> (64 - rest);
+    Ok(row)
 }
 
 /// Whether the row has number `y`.
@@ -78,7 +99,7 @@ pub(crate) fn meet(row: &mut [u64], one: &[u64], other: &[u64])
 }
 
 /// Takes the numbers of another row of its length out of the row.
-pub(crate) fn part(row: &mut [u64], other: &[u64])
+pub fn part(row: &mut [u64], other: &[u64])
     requires { length other.now ≡ length row.old }
     ensures { (y : ℕ) → has row.new y ≡ (has row.old y && not (has other.now y)) }
 {

@@ -1,5 +1,4 @@
 pub mod Along
-pub mod Claims
 pub mod Standing
 pub mod Shown
 pub mod Sources

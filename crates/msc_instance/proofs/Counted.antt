@@ -13,6 +13,7 @@ use Rattle.msc_chart.specs.Orders.{queue_bound, queue_of}
 use Rattle.msc_chart.specs.Laws.{EventsHaveQueues, QueueNumbersAreBounded, IsBounded}
 use Rattle.msc_chart.proofs.Drawn.{output_not_local}
 use Rattle.msc_chart.proofs.Readers.{output_in}
+use Rattle.msc_execution.proofs.Lists.Ranges.{count_more}
 use Rattle.msc_instance.specs.Handing.{place_of, AreCounted, AreReceivers}
 
 module _ (queues : Queues) (d : Drawing) (accepted : IsAccepted d) (m : ℕ)
@@ -41,14 +42,6 @@ module _ (queues : Queues) (d : Drawing) (accepted : IsAccepted d) (m : ℕ)
       low s_in in
       let turned = mul_comm (length d.instances) (queue_bound queues d) in
       rw (n_is, q_is) (omega (arith, within, turned, long))
-
--- one number more of a range
-pub count_more : (p : ℕ → Bool) (n : ℕ) → count_by p (range_with_len 0 (n + 1))
-    ≡ count_by p (range_with_len 0 n) + cond (p n) 1 0
-count_more p n =
-    ap (count_by p) (sym (map-id (range_with_len 0 (n + 1))))
-    ∙ sum_by-map-range_with_len_more (λ x. cond (p x) 1 0) (λ x. x) 0 n n (omega arith)
-    ∙ ap (λ (l : List ℕ). count_by p l + cond (p n) 1 0) (map-id (range_with_len 0 n))
 
 -- a count is small
 pub count_small : (queues : Queues) (d : Drawing) (n : ℕ) (counts : List ℕ) (k : ℕ)

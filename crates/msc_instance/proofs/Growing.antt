@@ -1,7 +1,7 @@
 -- How claims and clocks grow with a log, one event at a time.
 use Rattle.std.proofs.Common.{◌≡◌, ℕ, ◌+◌, max, Bool, true, false, cond, List, [], ◌∷◌, ◌++◌, map, filter, length, refl, ap, ◌∙◌, subst, arith}
 use Rattle.std.specs.Prelude.{nat_eq}
-use Rattle.std.proofs.lemmas.Bool.{eq-eqb, ne_eqb}
+use Rattle.std.proofs.lemmas.Bool.{eq-eqb, eqb-true, ne_eqb}
 use Rattle.std.proofs.lemmas.List.{append-nil}
 use Rattle.std.proofs.lemmas.List.Elements.{filter-append}
 use Rattle.msc_chart.specs.Lists.{occurs, until}
@@ -9,14 +9,16 @@ use Rattle.msc_chart.specs.Charts.{message, is_output, is_input}
 use Rattle.msc_chart.specs.Drawings.{Drawing}
 use Rattle.msc_chart.specs.Orders.{queue_of}
 use Rattle.msc_chart.proofs.ListLemmas.{clash, by_test, until-append, until-within}
+use Rattle.msc_gather.proofs.Once.{occurs-head, occurs-tail, until-new}
 use Rattle.msc_fifo.specs.declared.entry.Entry.{Entry}
 use Rattle.msc_fifo.specs.declared.entry.Entry.TheVariants.{Message, Ended}
 use Rattle.msc_fifo.specs.Claims.{claim}
 use Rattle.msc_execution.specs.Roles.{Role}
 use Rattle.msc_execution.specs.Logs.{Reading, clock_next, along_from, clock_along, outputs_at, inputs_at, outputs, inputs}
 use Rattle.msc_execution.specs.Growth.{clocks_at, claim_at}
+use Rattle.msc_execution.proofs.Lists.Words.{passes, fails}
+use Rattle.msc_execution.proofs.Wiring.Growing.{agree}
 use Rattle.msc_instance.specs.Steps.{with_event}
-use Rattle.msc_instance.proofs.Occurs.{occurs-head, occurs-tail, until-new, in_filter}
 
 -- two functions of clocks that agree on a list give one clock along it
 pub one_clock : (d : Drawing) (f g : ℕ → ℕ) (c : ℕ) (log : List ℕ)
@@ -68,14 +70,6 @@ clock_pushed d r log e k n new =
     ∙ (λ j. cond (is_output d.events e) (own j)
     (cond (is_input d.events e) (max (before j) (own j)) (before j)))
 
-map_same : {B : Type 0} (f g : ℕ → B) (xs : List ℕ) → ((x : ℕ) → occurs xs x ≡ true → f x ≡ g x)
-    → map f xs ≡ map g xs
-map_same f g [] same = refl
-map_same f g (x ∷ xs) same =
-    let here = same x (occurs-head xs x) in
-    let rest = map_same f g xs (λ y there. same y (occurs-tail x xs y there)) in
-    λ j. here j ∷ rest j
-
 pub map_push : {B : Type 0} (f : ℕ → B) (xs : List ℕ) (x : ℕ) → map f (xs ++ x ∷ []) ≡ map f xs ++ f x ∷ []
 map_push f [] x = refl
 map_push f (y ∷ xs) x = ap (λ l. f y ∷ l) (map_push f xs x)
@@ -88,43 +82,43 @@ pub filter_no : (p : ℕ → Bool) (xs : List ℕ) (e : ℕ) → p e ≡ false �
 filter_no p xs e h = filter-append p xs (e ∷ [])
     ∙ ap (λ (b : Bool). filter p xs ++ cond b (e ∷ []) []) h ∙ append-nil (filter p xs)
 
+module _ (p q : ℕ → Bool) (xs : List ℕ) (e : ℕ) where
+  -- one number more that passes two tests
+  both_pass : p e ≡ true → q e ≡ true → filter q (filter p (xs ++ e ∷ [])) ≡ filter q (filter p xs) ++ e ∷ []
+  both_pass first second = ap (filter q) (filter_yes p xs e first) ∙ filter_yes q (filter p xs) e second
+
+  -- and one that fails one of them
+  one_fails : (p e ≡ true → q e ≡ true → ⊥) → filter q (filter p (xs ++ e ∷ [])) ≡ filter q (filter p xs)
+  one_fails not_both =
+      by_test (p e)
+      (λ first. ap (filter q) (filter_yes p xs e first)
+      ∙ filter_no q (filter p xs) e (fails (q e) (λ second. not_both first second)))
+      (λ none. ap (filter q) (filter_no p xs e none))
+
 -- the outputs to a queue and the inputs from it, with one event more
 module _ (r : Role) (log : List ℕ) (e q : ℕ) where
+  abbrev in_queue : ℕ → Bool
+  in_queue x = nat_eq (queue_of r.queues r.chart (message r.chart.events x)) q
+
   pub outputs_more : is_output r.chart.events e ≡ true
       → queue_of r.queues r.chart (message r.chart.events e) ≡ q
       → outputs_at r.queues r.chart q (log ++ e ∷ []) ≡ outputs_at r.queues r.chart q log ++ e ∷ []
-  outputs_more output here =
-      let p : ℕ → Bool = λ x. nat_eq (queue_of r.queues r.chart (message r.chart.events x)) q in
-      ap (filter p) (filter_yes (is_output r.chart.events) log e output)
-      ∙ filter_yes p (outputs r.chart log) e (eq-eqb _ _ here)
+  outputs_more output here = both_pass (is_output r.chart.events) in_queue log e output (eq-eqb _ _ here)
 
   pub outputs_same : (is_output r.chart.events e ≡ true
       → queue_of r.queues r.chart (message r.chart.events e) ≡ q → ⊥)
       → outputs_at r.queues r.chart q (log ++ e ∷ []) ≡ outputs_at r.queues r.chart q log
-  outputs_same other =
-      let p : ℕ → Bool = λ x. nat_eq (queue_of r.queues r.chart (message r.chart.events x)) q in
-      by_test (is_output r.chart.events e)
-      (λ output. ap (filter p) (filter_yes (is_output r.chart.events) log e output)
-      ∙ filter_no p (outputs r.chart log) e (ne_eqb _ _ (λ h. other output h)))
-      (λ none. ap (filter p) (filter_no (is_output r.chart.events) log e none))
+  outputs_same other = one_fails (is_output r.chart.events) in_queue log e (λ output there. other output (eqb-true _ _ there))
 
   pub inputs_more : is_input r.chart.events e ≡ true
       → queue_of r.queues r.chart (message r.chart.events e) ≡ q
       → inputs_at r.queues r.chart q (log ++ e ∷ []) ≡ inputs_at r.queues r.chart q log ++ e ∷ []
-  inputs_more input here =
-      let p : ℕ → Bool = λ x. nat_eq (queue_of r.queues r.chart (message r.chart.events x)) q in
-      ap (filter p) (filter_yes (is_input r.chart.events) log e input)
-      ∙ filter_yes p (inputs r.chart log) e (eq-eqb _ _ here)
+  inputs_more input here = both_pass (is_input r.chart.events) in_queue log e input (eq-eqb _ _ here)
 
   pub inputs_same : (is_input r.chart.events e ≡ true
       → queue_of r.queues r.chart (message r.chart.events e) ≡ q → ⊥)
       → inputs_at r.queues r.chart q (log ++ e ∷ []) ≡ inputs_at r.queues r.chart q log
-  inputs_same other =
-      let p : ℕ → Bool = λ x. nat_eq (queue_of r.queues r.chart (message r.chart.events x)) q in
-      by_test (is_input r.chart.events e)
-      (λ input. ap (filter p) (filter_yes (is_input r.chart.events) log e input)
-      ∙ filter_no p (inputs r.chart log) e (ne_eqb _ _ (λ h. other input h)))
-      (λ none. ap (filter p) (filter_no (is_input r.chart.events) log e none))
+  inputs_same other = one_fails (is_input r.chart.events) in_queue log e (λ input there. other input (eqb-true _ _ there))
 
 module _ (r : Role) (reading : Reading) (log : List ℕ) (e k n : ℕ) (new : occurs log e ≡ false)
     (sender q : ℕ) where
@@ -143,20 +137,20 @@ module _ (r : Role) (reading : Reading) (log : List ℕ) (e k n : ℕ) (new : oc
 
   in_outputs : (s : ℕ) → occurs (outputs_at r.queues r.chart q log) s ≡ true → occurs log s ≡ true
   in_outputs s h =
-      (in_filter (is_output r.chart.events) log s
-      (in_filter (λ x. nat_eq (queue_of r.queues r.chart (message r.chart.events x)) q)
+      (passes (is_output r.chart.events) log s
+      (passes (λ x. nat_eq (queue_of r.queues r.chart (message r.chart.events x)) q)
       (outputs r.chart log) s h).0).0
 
   in_inputs : (s : ℕ) → occurs (inputs_at r.queues r.chart q log) s ≡ true → occurs log s ≡ true
   in_inputs s h =
-      (in_filter (is_input r.chart.events) log s
-      (in_filter (λ x. nat_eq (queue_of r.queues r.chart (message r.chart.events x)) q)
+      (passes (is_input r.chart.events) log s
+      (passes (λ x. nat_eq (queue_of r.queues r.chart (message r.chart.events x)) q)
       (inputs r.chart log) s h).0).0
 
   old_claims : map (claim_at r (log ++ e ∷ []) (with_event e k n reading) sender)
       (outputs_at r.queues r.chart q log) ≡ map (claim_at r log reading sender)
       (outputs_at r.queues r.chart q log)
-  old_claims = map_same (claim_at r (log ++ e ∷ []) (with_event e k n reading) sender)
+  old_claims = agree (claim_at r (log ++ e ∷ []) (with_event e k n reading) sender)
       (claim_at r log reading sender) (outputs_at r.queues r.chart q log)
       (λ s h. claim_same s (in_outputs s h))
 
@@ -168,11 +162,6 @@ module _ (r : Role) (reading : Reading) (log : List ℕ) (e k n : ℕ) (new : oc
       ++ claim k (Message sender (message r.chart.events e))
       (clock_along r.chart reading.read_at log + 1) n ∷ []
   sent_more output here =
-      let p : ℕ → Bool = λ x. nat_eq (queue_of r.queues r.chart (message r.chart.events x)) q in
-      let grown : outputs_at r.queues r.chart q (log ++ e ∷ []) ≡ outputs_at r.queues r.chart q log
-      ++ e ∷ [] =
-      ap (filter p) (filter_yes (is_output r.chart.events) log e output)
-      ∙ filter_yes p (outputs r.chart log) e (eq-eqb _ _ here) in
       let own = event_own e k n reading in
       let past : until (log ++ e ∷ []) e ≡ log = until-new log [] e new in
       let clock : clock_along r.chart (with_event e k n reading).read_at (until (log ++ e ∷ []) e)
@@ -184,7 +173,7 @@ module _ (r : Role) (reading : Reading) (log : List ℕ) (e k n : ℕ) (new : oc
       ≡ claim k (Message sender (message r.chart.events e))
       (clock_along r.chart reading.read_at log + 1) n =
       (λ j. claim (own.1 j) (Message sender (message r.chart.events e)) (clock j + 1) (own.0 j)) in
-      ap (map (claim_at r (log ++ e ∷ []) (with_event e k n reading) sender)) grown
+      ap (map (claim_at r (log ++ e ∷ []) (with_event e k n reading) sender)) (outputs_more r log e q output here)
       ∙ map_push (claim_at r (log ++ e ∷ []) (with_event e k n reading) sender)
       (outputs_at r.queues r.chart q log) e
       ∙ (λ j. old_claims j ++ last j ∷ [])
@@ -196,17 +185,11 @@ module _ (r : Role) (reading : Reading) (log : List ℕ) (e k n : ℕ) (new : oc
       (outputs_at r.queues r.chart q (log ++ e ∷ [])) ≡ map (claim_at r log reading sender)
       (outputs_at r.queues r.chart q log)
   sent_same other =
-      let p : ℕ → Bool = λ x. nat_eq (queue_of r.queues r.chart (message r.chart.events x)) q in
-      let grown : outputs_at r.queues r.chart q (log ++ e ∷ []) ≡ outputs_at r.queues r.chart q log =
-      by_test (is_output r.chart.events e)
-      (λ output. ap (filter p) (filter_yes (is_output r.chart.events) log e output)
-      ∙ filter_no p (outputs r.chart log) e (ne_eqb _ _ (λ h. other output h)))
-      (λ none. ap (filter p) (filter_no (is_output r.chart.events) log e none)) in
-      ap (map (claim_at r (log ++ e ∷ []) (with_event e k n reading) sender)) grown ∙ old_claims
+      ap (map (claim_at r (log ++ e ∷ []) (with_event e k n reading) sender)) (outputs_same r log e q other) ∙ old_claims
 
   old_reads : map (with_event e k n reading).read_at (inputs_at r.queues r.chart q log)
       ≡ map reading.read_at (inputs_at r.queues r.chart q log)
-  old_reads = map_same (with_event e k n reading).read_at reading.read_at
+  old_reads = agree (with_event e k n reading).read_at reading.read_at
       (inputs_at r.queues r.chart q log)
       (λ s h. (event_other e k n reading s (not_new log e s new (in_inputs s h))).0)
 
@@ -215,12 +198,8 @@ module _ (r : Role) (reading : Reading) (log : List ℕ) (e k n : ℕ) (new : oc
       → map (with_event e k n reading).read_at (inputs_at r.queues r.chart q (log ++ e ∷ []))
       ≡ map reading.read_at (inputs_at r.queues r.chart q log) ++ n ∷ []
   read_more input here =
-      let p : ℕ → Bool = λ x. nat_eq (queue_of r.queues r.chart (message r.chart.events x)) q in
-      let grown : inputs_at r.queues r.chart q (log ++ e ∷ []) ≡ inputs_at r.queues r.chart q log ++ e ∷ [] =
-      ap (filter p) (filter_yes (is_input r.chart.events) log e input)
-      ∙ filter_yes p (inputs r.chart log) e (eq-eqb _ _ here) in
       let own = (event_own e k n reading).0 in
-      ap (map (with_event e k n reading).read_at) grown
+      ap (map (with_event e k n reading).read_at) (inputs_more r log e q input here)
       ∙ map_push (with_event e k n reading).read_at (inputs_at r.queues r.chart q log) e
       ∙ (λ j. old_reads j ++ own j ∷ [])
 
@@ -228,14 +207,7 @@ module _ (r : Role) (reading : Reading) (log : List ℕ) (e k n : ℕ) (new : oc
       → queue_of r.queues r.chart (message r.chart.events e) ≡ q → ⊥)
       → map (with_event e k n reading).read_at (inputs_at r.queues r.chart q (log ++ e ∷ []))
       ≡ map reading.read_at (inputs_at r.queues r.chart q log)
-  read_same other =
-      let p : ℕ → Bool = λ x. nat_eq (queue_of r.queues r.chart (message r.chart.events x)) q in
-      let grown : inputs_at r.queues r.chart q (log ++ e ∷ []) ≡ inputs_at r.queues r.chart q log =
-      by_test (is_input r.chart.events e)
-      (λ input. ap (filter p) (filter_yes (is_input r.chart.events) log e input)
-      ∙ filter_no p (inputs r.chart log) e (ne_eqb _ _ (λ h. other input h)))
-      (λ none. ap (filter p) (filter_no (is_input r.chart.events) log e none)) in
-      ap (map (with_event e k n reading).read_at) grown ∙ old_reads
+  read_same other = ap (map (with_event e k n reading).read_at) (inputs_same r log e q other) ∙ old_reads
 
 -- what a take adds to the clocks of messages, where there is a clock for each entry
 pub clocks_message : (got : List Entry) (clocks : List ℕ) (i m n : ℕ) → length clocks ≡ length got

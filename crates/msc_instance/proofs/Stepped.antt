@@ -13,12 +13,8 @@ use Rattle.msc_execution.specs.Roles.{Role, NumberedOutlet, NumberedInlet}
 use Rattle.msc_execution.specs.Logs.{Reading, clock_along, outputs_at, inputs_at}
 use Rattle.msc_execution.specs.Growth.{all_messages, clocks_at, claim_at, IsLeftBy, HasTaken}
 use Rattle.msc_instance.specs.Steps.{with_event, IsPutBy, IsGotBy}
+use Rattle.msc_execution.proofs.Settling.Placed.{all_messages-append}
 use Rattle.msc_instance.proofs.Growing.{sent_more, sent_same, read_more, read_same, outputs_more, outputs_same, inputs_more, inputs_same, map_push, clocks_message, clocks_ended}
-
-all_messages-append : (es fs : List Entry) → all_messages (es ++ fs) ≡ all_messages es ++ all_messages fs
-all_messages-append [] fs = refl
-all_messages-append (Message i m ∷ es) fs = ap (λ l. m ∷ l) (all_messages-append es fs)
-all_messages-append (Ended i ∷ es) fs = all_messages-append es fs
 
 module _ (r : Role) (log : List ℕ) (reading : Reading) (old new : NumberedOutlet) where
   pub begun : (reading : Reading) → old.1.closed ≡ false → IsPutBy r [] reading old old

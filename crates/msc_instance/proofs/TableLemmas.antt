@@ -10,6 +10,7 @@ use Rattle.msc_chart.specs.Orders.{queue_bound, queue_of}
 use Rattle.msc_chart.specs.Laws.{messages_in, sends_to, EventsHaveQueues, QueueNumbersAreBounded}
 use Rattle.msc_chart.proofs.ListLemmas.{by_test}
 use Rattle.msc_execution.specs.Roles.{Role, EndLists, role, queues_below, quota_of, takes_from, sent_queues, taken_queues, IsFit}
+use Rattle.msc_execution.proofs.Wiring.Growing.{any_has}
 use Rattle.msc_instance.specs.Fitting.{AreCountsOf, HaveRoom, numbers_in, numbers_of}
 use Rattle.msc_instance.proofs.Counted.{queue_small}
 use Rattle.msc_instance.proofs.ListCounts.{any_counts}
@@ -36,11 +37,6 @@ filter_twice p f g a (suc n) same =
     (λ kept. ap (λ b. filter g (cond b (a ∷ fs) fs)) kept
     ∙ ap (λ b. cond b (a ∷ filter g fs) (filter g fs)) gone)
     (λ left. ap (λ b. filter g (cond b (a ∷ fs) fs)) left)))
-
--- a test passes nowhere in an empty list
-any_has : (p : ℕ → Bool) (xs : List ℕ) → list_any p xs ≡ true → nat_lt 0 (length xs) ≡ true
-any_has p [] h = absurd (true≢false (sym h))
-any_has p (x ∷ xs) h = lt-ltb 0 (length (x ∷ xs)) (omega arith)
 
 -- what fails in a range is not kept
 none_kept : (h : ℕ → Bool) (a n : ℕ) → ((m : ℕ) → m < a + n → h m ≡ false)

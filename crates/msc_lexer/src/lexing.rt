@@ -117,8 +117,8 @@ fn pieces(alloc: Global, text: &[u8]) -> Result<Vec<Token>, LexFault>
         if let Some(kind) = kind {
             tokens.push(Token {
                 kind,
-                start: at,
-                end,
+                start: at as u32,
+                end: end as u32,
             })?;
         }
         at = end;

@@ -36,6 +36,6 @@ pub fn text_bytes(alloc: Global, text: &[u8], token: &Token) -> Result<Vec<u8>, 
     ensures value { IfOk result (λ v.
         v.items ≡ unquoted (slice_range text.now token.now.start token.now.end)) }
 {
-    let quoted = &text[token.start..token.end];
+    let quoted = &text[token.start as usize..token.end as usize];
     halved(alloc, &quoted[1..quoted.len() - 1])
 }

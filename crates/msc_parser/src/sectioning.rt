@@ -2,7 +2,7 @@
 //!
 //! Each function reads the front of a slice of tokens, and answers the rest of the slice with it.
 
-ghost use Rattle.std.specs.Prelude.{◌≡◌, ◌≢◌, Some};
+ghost use Rattle.std.specs.Prelude.{◌≡◌, ◌≢◌, ◌≤◌, [], Some, length};
 ghost use Rattle.msc_lexer.specs.Lexemes.{AreWithin, Reserved};
 ghost use Rattle.msc_parser.specs.Grammar.{IsEvent, IsCoregion, IsItem, IsInstance, IsSection};
 ghost use Rattle.msc_parser.specs.Places.{InInstance, DeclName, Items, Events, Sections};
@@ -92,7 +92,34 @@ fn item<'a>(
     Ok((Item::Single(event), rest))
 }
 
-/// The items of a section, and its `endinstance`.
+/// How many statements end before the next `endinstance`, which are no fewer than the items of the
+/// section that these tokens begin with.
+fn statement_ends(tokens: &[Token]) -> usize
+    ensures { result ≤ length tokens.now }
+{
+    let mut ends = 0;
+    let mut at = 0;
+    while at < tokens.len() && tokens[at].kind != Kind::Word(Word::EndInstance) {
+        if tokens[at].kind == Kind::Semicolon {
+            ends += 1;
+        }
+        at += 1;
+    }
+    ends
+}
+
+/// An empty list with room for so many items. Where that room is refused, it is a list that grows.
+fn room_for(alloc: Global, count: usize) -> Vec<Item>
+    ensures { result.items ≡ [] }
+{
+    match Vec::with_capacity(alloc, count) {
+        Ok(items) => items,
+        Err(_) => Vec::new(alloc),
+    }
+}
+
+/// The items of a section, and its `endinstance`. Room for them is made at once, so that no list is
+/// copied to grow.
 fn items<'a>(
     alloc: Global,
     text: &[u8],
@@ -102,7 +129,7 @@ fn items<'a>(
     ensures { Reads text.now (AreUpTo (Reserved Word.EndInstance)
         IsItem) Items (StatementEnd Sections) tokens.now result }
 {
-    let mut items = Vec::new(alloc);
+    let mut items = room_for(alloc, statement_ends(tokens));
     let mut rest = tokens;
     'statements: while !stands(Kind::Word(Word::EndInstance), rest) {
         let (item, after) = item(alloc, text, rest)?;

@@ -35,10 +35,13 @@ pub fn unexpected(text: &[u8], tokens: &[Token], what: What) -> ParseFault
 {
     match tokens {
         [] => ParseFault::Expected(text.len(), what),
-        [token, ..] => match token.kind {
-            Kind::Word(word) if is_refused(word) => ParseFault::Unsupported(token.start, word),
-            _ => ParseFault::Expected(token.start, what),
-        },
+        [token, ..] => {
+            let place = token.start as usize;
+            match token.kind {
+                Kind::Word(word) if is_refused(word) => ParseFault::Unsupported(place, word),
+                _ => ParseFault::Expected(place, what),
+            }
+        }
     }
 }
 
@@ -83,7 +86,7 @@ pub fn take_name<'a>(
         return Err(unexpected(text, tokens, what));
     }
     let token = tokens[0];
-    let name = Name::from_slice(alloc, &text[token.start..token.end])?;
+    let name = Name::from_slice(alloc, &text[token.start as usize..token.end as usize])?;
     Ok((name, &tokens[1..]))
 }
 

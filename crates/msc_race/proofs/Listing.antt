@@ -3,4 +3,7 @@ pub mod Pairs
 pub mod Ascending
 pub mod Words
 pub mod Gaps
+pub mod Counts
+pub mod OpenPairs
 pub mod DrawnPairs
+pub mod Verdicts

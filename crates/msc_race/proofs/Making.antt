@@ -2,6 +2,7 @@
 pub mod ChoiceLemmas
 pub mod RowLemmas
 pub mod StateLemmas
+pub mod SummaryLemmas
 pub mod RemainderLemmas
 pub mod FrontLemmas
 pub mod LinkLemmas

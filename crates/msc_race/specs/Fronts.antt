@@ -35,23 +35,19 @@ pub record IsLowest (events : List ChartEvent) (start i f : ℕ) : Type 0 where
   pub within : f ≤ length events
   pub itself : f < length events → (line events f ≡ i) × (start ≤ f)
 
--- the events from start on are left, and each front is the first of them on its line
-pub record AreLinesFrom (instances : ℕ) (events : List ChartEvent) (lefts firsts opens : List ℕ) (start : ℕ) : Type 0 where
-  pub left_row : IsRow (length events) lefts
-  pub controlled_row : IsRow (length events) opens
-  pub left : (y : ℕ) → IsTrue (has lefts y) ↔ ((start ≤ y) × (y < length events))
-  pub lines : length firsts ≡ instances
-  pub fronts : (i : ℕ) → i < instances → IsLowest events start i (get_or firsts i 0)
-  pub controlled : (y : ℕ) → has opens y ≡ false
+-- of each line the first event from start on, or the number of events
+abbrev pub AreFirst : Drawing → List ℕ → ℕ → Type 0
+AreFirst d firsts start =
+    (i : ℕ) → i < length d.instances → IsLowest d.events start i (get_or firsts i 0)
 
--- all events are left, and what is open below k is told
-pub record AreLinesTo (instances : ℕ) (events : List ChartEvent) (lefts firsts opens : List ℕ) (k : ℕ) : Type 0 where
-  pub left_row : IsRow (length events) lefts
-  pub controlled_row : IsRow (length events) opens
-  pub left : (y : ℕ) → IsTrue (has lefts y) ↔ (y < length events)
-  pub lines : length firsts ≡ instances
-  pub fronts : (i : ℕ) → i < instances → IsLowest events 0 i (get_or firsts i 0)
-  pub controlled : (y : ℕ) → IsTrue (has opens y) ↔ (IsOpenControlled events lefts y × (y < k))
+-- all events are left, and what is open is told of the lines below k
+pub record AreLinesTo (d : Drawing) (lefts firsts opens : List ℕ) (k : ℕ) : Type 0 where
+  pub left_row : IsRow (length d.events) lefts
+  pub controlled_row : IsRow (length d.events) opens
+  pub left : (y : ℕ) → IsTrue (has lefts y) ↔ (y < length d.events)
+  pub lines : length firsts ≡ length d.instances
+  pub fronts : AreFirst d firsts 0
+  pub controlled : (y : ℕ) → IsTrue (has opens y) ↔ (IsOpenControlled d.events lefts y × (line d.events y < k))
 
 -- a controlled event that is left in the segment of f, from f on and before end
 pub record IsOpened (events : List ChartEvent) (left : List ℕ) (f end s : ℕ) : Type 0 where
@@ -76,13 +72,8 @@ pub record IsNextLeft (events : List ChartEvent) (left : List ℕ) (i start f : 
 
 -- the lines of a chart, as the code holds them
 abbrev pub HoldsLines : Drawing → Lines → Type 0
-HoldsLines d l = AreLines (length d.instances) d.events l.left.items l.fronts.items l.controlled.items
-
--- the lines of a chart while they are made, from the last event back
-abbrev pub HoldsLinesFrom : Drawing → Lines → ℕ → Type 0
-HoldsLinesFrom d l start =
-    AreLinesFrom (length d.instances) d.events l.left.items l.fronts.items l.controlled.items start
+HoldsLines d l = AreLines (length d.instances) d.events l.left.items l.fronts.items l.controlled
 
 -- and while the controlled are opened
 abbrev pub HoldsLinesTo : Drawing → Lines → ℕ → Type 0
-HoldsLinesTo d l k = AreLinesTo (length d.instances) d.events l.left.items l.fronts.items l.controlled.items k
+HoldsLinesTo d l k = AreLinesTo d l.left.items l.fronts.items l.controlled k

@@ -2,6 +2,7 @@
 pub mod Laws
 pub mod Races
 pub mod Gaps
+pub mod Walks
 pub mod Samples
 -- what the code keeps
 pub mod Choices

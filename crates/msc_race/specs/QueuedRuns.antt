@@ -36,7 +36,7 @@ pub record AreQueues (chart : WiredChart) (queues : ℕ → List ℕ) (firsts en
 -- the queues after a run, as the code holds them
 abbrev pub HoldsQueues : WiredChart → List ℕ → QueuedRun → Type 0
 HoldsQueues chart run c =
-    AreQueues chart (λ q. state chart q run) c.heads.items c.lasts.items c.next.items c.inputs.items
+    AreQueues chart (λ q. state chart q run) c.heads.items c.lasts.items c.next.items c.inputs
 
 -- x, an output or an input, may come next after the run, whose queues are held
 pub record IsComing (chart : WiredChart) (c : QueuedRun) (x : ℕ) : Type 0 where

@@ -1,9 +1,11 @@
 -- Races as lists of pairs of events, and verdicts.
-use Rattle.std.specs.Prelude.{◌≡◌, ◌≢◌, ℕ, ◌<◌, ◌↔◌, ◌⊎◌, Bool, ◌&&◌, not, List, [], length, IsTrue}
+use Rattle.std.specs.Prelude.{◌≡◌, ◌≢◌, ℕ, ◌<◌, ◌↔◌, ◌⊎◌, Bool, ◌&&◌, not, List, [], ◌∷◌, length, IsTrue}
+use Rattle.msc_chart.specs.declared.queue.Queues.{Queues}
 use Rattle.msc_chart.specs.declared.event.ChartEvent.{ChartEvent}
 use Rattle.msc_chart.specs.Charts.{before}
+use Rattle.msc_chart.specs.Drawings.{Drawing, IsAccepted}
 use Rattle.msc_chart.specs.Lists.{pairs_of, Occurs, StandsAt}
-use Rattle.msc_chart.specs.Orders.{WiredChart, IsEnforcedOrder, IsRace}
+use Rattle.msc_chart.specs.Orders.{WiredChart, wired, IsEnforcedOrder, IsRace}
 use Rattle.msc_chart.specs.Runs.{Run, KeepsDrawnOrder, Reverses}
 use Rattle.msc_order.specs.Tables.{Table, orders}
 use Rattle.msc_race.specs.Laws.{HasNoRace}
@@ -57,3 +59,20 @@ pub record NamesReversed (chart : WiredChart) (pairs : List (ℕ × ℕ)) : Type
 abbrev pub TellsRuns : WiredChart → Verdict → Type 0
 TellsRuns chart Pass = (events : List ℕ) → Run chart events → KeepsDrawnOrder chart events
 TellsRuns chart (Races pairs) = NamesReversed chart pairs
+
+-- the verdict with these races: `pass` where there are none
+abbrev pub verdict_of : List (ℕ × ℕ) → Verdict
+verdict_of [] = Pass
+verdict_of (p ∷ pairs) = Races (p ∷ pairs)
+
+-- the verdict by an order: its races are the drawn pairs that the order does not hold
+abbrev pub verdict_by : List ChartEvent → Table → Verdict
+verdict_by events order = verdict_of (all_races events order)
+
+-- the enforced order gives a verdict that is one on the chart, and that tells what its runs reverse
+abbrev pub EnforcedOrdersTellVerdicts : Type 0
+EnforcedOrdersTellVerdicts =
+    (queues : Queues) (d : Drawing) → IsAccepted d
+    → (order : Table) → IsEnforcedOrder (wired queues d) (orders order)
+    → IsVerdict (wired queues d) (verdict_by d.events order)
+    × TellsRuns (wired queues d) (verdict_by d.events order)

@@ -1,6 +1,6 @@
 -- The events that the choice of the next one depends on, as rows of bits.
 use Rattle.std.specs.Prelude.{◌≡◌, ℕ, ◌<◌, ◌↔◌, List, IsTrue}
-use Rattle.msc_chart.specs.Charts.{is_input}
+use Rattle.msc_chart.specs.Charts.{is_input, is_output}
 use Rattle.msc_chart.specs.Orders.{WiredChart, queue}
 use Rattle.msc_chart.specs.Chosen.{IsFree, IsHeld, IsPassedOn}
 use Rattle.msc_race.specs.declared.choosing.Choice.{Choice}
@@ -22,6 +22,22 @@ IsUnheld chart e x = IsFree chart e x × (IsHeld chart e x → ⊥)
 abbrev pub IsPassedOnWith : WiredChart → ℕ → ℕ → Type 0
 IsPassedOnWith chart e x =
     IsPassedOn chart e x × IsTrue (is_input chart.events e) × (queue chart x ≡ queue chart e)
+
+-- a free output to the queue of e, an input
+abbrev pub IsFreeWith : WiredChart → ℕ → ℕ → Type 0
+IsFreeWith chart e x =
+    IsTrue (is_output chart.events x) × IsFree chart e x × IsTrue (is_input chart.events e) × (queue chart x ≡ queue chart e)
+
+-- the row holds the numbers with a property but those below k that have another
+abbrev pub HoldsOthers : List ℕ → (ℕ → Type 0) → (ℕ → Type 0) → ℕ → Type 0
+HoldsOthers row P Q k = (y : ℕ) → IsTrue (has row y) ↔ (P y × (y < k → Q y → ⊥))
+
+-- The rows hold the free events, those of them that are not held as far as that is told of the events
+-- below k, and of these those that are passed on with e.
+pub record AreToldBelow (c : Choice) (r : Remaining) (k : ℕ) : Type 0 where
+  pub free : (y : ℕ) → IsTrue (has r.free.items y) ↔ IsFree (wired_chart c) c.e y
+  pub unheld : HoldsOthers r.unheld.items (IsFree (wired_chart c) c.e) (IsHeld (wired_chart c) c.e) k
+  pub passed : HoldsBelow r.passed.items (IsPassedOnWith (wired_chart c) c.e) k
 
 -- The rows hold, of the events below k, those that are free, those that are not held, and those that
 -- are passed on with e.

@@ -1,6 +1,6 @@
 //! The beginning of a chosen run, and the event that comes next in it.
 //!
-//! Sets of events are rows of bits, so that the least event of a set is found word by word.
+//! Sets of events are rows of bits, so that the least event of a set is found in a few steps.
 
 ghost use Rattle.std.specs.Prelude.{◌≡◌, ◌<◌, [], ◌∷◌, ◌++◌, IfOk, IfSome, IfNone, OnOk};
 ghost use Rattle.msc_chart.specs.Runs.{IsWhole};
@@ -60,13 +60,12 @@ impl Beginning {
         let controlled = &self.lines.controlled;
         let inputs = &self.queued.inputs;
         if !self.remaining.has_free() {
-            return lowest(controlled, inputs, &self.lines.left, 0);
+            return lowest(controlled, inputs, &self.lines.left);
         }
-        let from = self.remaining.free_from;
         if self.remaining.has_passed() {
-            return lowest(controlled, inputs, &self.remaining.unheld, from);
+            return lowest(controlled, inputs, &self.remaining.unheld);
         }
-        lowest(controlled, inputs, &self.remaining.free, from)
+        lowest(controlled, inputs, &self.remaining.free)
     }
 
     /// `x` comes next.

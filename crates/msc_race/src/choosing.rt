@@ -1,12 +1,18 @@
 //! What a chosen run is made from, and what each event is in it.
 
-ghost use Rattle.std.specs.Prelude.{◌<◌, IsTrue, ◌↔◌};
-ghost use Rattle.msc_chart.specs.Chosen.{IsFree, IsHeld, IsPassedOn};
+ghost use Rattle.std.specs.Prelude.{◌≡◌, ℕ, ◌<◌, IsTrue, IfOk, ◌↔◌};
+ghost use Rattle.bit_rows.specs.Rows.{has};
+ghost use Rattle.msc_chart.specs.Charts.{is_input};
+ghost use Rattle.msc_chart.specs.Orders.{queue};
+ghost use Rattle.msc_chart.specs.Chosen.{IsFree};
 ghost use Rattle.msc_race.specs.Choices.{wired_chart, size, IsSettled};
-ghost use Rattle.msc_race.specs.Remainders.{IsPassedOnWith, IsUnheld};
+ghost use Rattle.msc_race.specs.Remainders.{IsFreeWith};
+ghost use Rattle.msc_race.specs.Rows.{IsRow};
 
+use bit_rows::row::{clear, full, part};
 use msc_chart::{Event, Wiring};
 use msc_order::Order;
+use std::alloc::{AllocError, Global};
 
 /// What the chosen run of an event is made from: a chart under an architecture, its enforced order,
 /// and the event.
@@ -30,50 +36,30 @@ impl Choice<'_> {
         !self.order.holds(self.e, x)
     }
 
-    /// Whether a free event is a held output: one whose input is not free.
-    pub fn is_held(&self, x: Event) -> bool
+    /// The row of the events that are free of `e`. An error is a growth of memory that was refused.
+    pub fn free(&self, alloc: Global) -> Result<Vec<u64>, AllocError>
         requires settled { IsSettled self.now }
-        requires free { IsFree (wired_chart self.now) self.now.e x }
-        ensures { IsTrue result ↔ IsHeld (wired_chart self.now) self.now.e x }
+        ensures row { IfOk result (λ row. IsRow (size self.now) row.items) }
+        ensures free { IfOk result (λ row. (y : ℕ) → IsTrue (has row.items y)
+            ↔ IsFree (wired_chart self.now) self.now.e y) }
     {
-        let passed = self.is_free(self.wiring.chart.other_end(x));
-        self.wiring.chart.is_output(x) && !passed
+        let mut row = full(alloc, self.wiring.chart.events())?;
+        part(&mut row, self.order.row(self.e));
+        clear(&mut row, self.e);
+        Ok(row)
     }
 
-    /// Whether `t` is an output that is passed on: a free one whose input is free.
-    pub fn is_passed_on(&self, t: Event) -> bool
-        requires settled { IsSettled self.now }
-        requires known { t < size self.now }
-        ensures { IsTrue result ↔ IsPassedOn (wired_chart self.now) self.now.e t }
-    {
-        let passed = self.is_free(self.wiring.chart.other_end(t));
-        self.wiring.chart.is_output(t) && self.is_free(t) && passed
-    }
-
-    /// Whether `x` is free, and not a held output.
-    pub fn is_unheld(&self, x: Event) -> bool
+    /// Whether `x` is a free output to queue `q`, that of `e`, an input.
+    pub fn is_free_with(&self, q: u32, x: Event) -> bool
         requires settled { IsSettled self.now }
         requires known { x < size self.now }
-        ensures { IsTrue result ↔ IsUnheld (wired_chart self.now) self.now.e x }
+        requires input { IsTrue (is_input self.now.wiring.chart.now.events self.now.e) }
+        requires queue { q ≡ queue (wired_chart self.now) self.now.e }
+        ensures { IsTrue result ↔ IsFreeWith (wired_chart self.now) self.now.e x }
     {
-        if !self.is_free(x) {
+        if !self.wiring.chart.is_output(x) {
             return false;
         }
-        !self.is_held(x)
-    }
-
-    /// Whether `e` is an input, and `x` is an output to its queue that is passed on.
-    pub fn is_passed_on_with(&self, x: Event) -> bool
-        requires settled { IsSettled self.now }
-        requires known { x < size self.now }
-        ensures { IsTrue result ↔ IsPassedOnWith (wired_chart self.now) self.now.e x }
-    {
-        if self.wiring.chart.is_controlled(self.e) {
-            return false;
-        }
-        if !self.is_passed_on(x) {
-            return false;
-        }
-        self.wiring.queue(x) == self.wiring.queue(self.e)
+        self.wiring.queue(x) == q && self.is_free(x)
     }
 }

@@ -17,7 +17,7 @@ ghost use Rattle.msc_race.specs.Laws.{WhatIsEnforcedIsNeverReversed, WhatIsNotEn
 ghost use Rattle.msc_race.specs.Laws.{WhatMayComeMakesALongerRun};
 ghost use Rattle.msc_race.specs.Samples.{IsReversal, NoRunReversesBoth, crossed, mailboxes};
 ghost use Rattle.msc_race.specs.Samples.{overtaken, relayed, senders, unordered};
-ghost use Rattle.msc_race.specs.Races.{AreRaces};
+ghost use Rattle.msc_race.specs.Races.{AreRaces, EnforcedOrdersTellVerdicts};
 
 use msc_chart::laws::ends_share_queues;
 
@@ -75,6 +75,14 @@ pub fn races_are_what_runs_reverse()
     ensures none { RunsKeepTheDrawnOrder }
 {
     ends_share_queues();
+}
+
+/// What the enforced order of an architecture does not hold of the drawn pairs makes a verdict: the
+/// drawn pairs that some run reverses, or `pass` where there are none.
+pub fn enforced_orders_tell_verdicts()
+    ensures { EnforcedOrdersTellVerdicts }
+{
+    races_are_what_runs_reverse();
 }
 
 /// Each event has exactly one chosen run. It is whole, and each other event that is not enforced

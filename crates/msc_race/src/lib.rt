@@ -18,6 +18,6 @@ mod reversing;
 mod rows;
 mod verdict;
 
-pub use racing::{check, check_order, push_open, races};
+pub use racing::{Walk, check, check_order, count_races, push_open, races};
 pub use reversing::{chosen_run, reversing_run};
 pub use verdict::Verdict;

@@ -5,12 +5,13 @@ ghost use Rattle.msc_chart.specs.Charts.{before, is_controlled, line};
 ghost use Rattle.bit_rows.specs.Rows.{has, IsWithout};
 ghost use Rattle.msc_race.specs.Rows.{IsRow};
 ghost use Rattle.msc_race.specs.Choices.{size, IsSettled};
-ghost use Rattle.msc_race.specs.Fronts.{HoldsLines, HoldsLinesFrom, HoldsLinesTo, IsNextLeft};
-ghost use Rattle.msc_race.specs.Fronts.{IsOpened, IsOpenedEnd};
+ghost use Rattle.msc_race.specs.Fronts.{AreFirst, HoldsLines, HoldsLinesTo, IsNextLeft, IsOpened};
+ghost use Rattle.msc_race.specs.Fronts.{IsOpenedEnd};
 
 use crate::choosing::Choice;
-use crate::rows::blank;
-use bit_rows::row::{clear, has, put_where};
+use crate::rows::empty;
+use bit_rows::row::{clear, full, has};
+use bit_rows::set::Set;
 use msc_chart::Event;
 use std::alloc::{AllocError, Global};
 
@@ -20,7 +21,7 @@ use std::alloc::{AllocError, Global};
 pub struct Lines {
     pub left: Vec<u64>,
     pub fronts: Vec<Event>,
-    pub controlled: Vec<u64>,
+    pub controlled: Set,
 }
 
 /// Whether event `f` is there, and on line `i`.
@@ -53,16 +54,17 @@ fn next_left(choice: &Choice, left: &[u64], i: u32, start: Event) -> Event
 }
 
 /// Opens the controlled that are left from `f` up to `end`.
-fn open_controlled(row: &mut [u64], choice: &Choice, left: &[u64], f: Event, end: Event)
-    requires row { IsRow (size choice.now) row.old }
+fn open_controlled(set: &mut Set, choice: &Choice, left: &[u64], f: Event, end: Event)
+    requires row { IsRow (size choice.now) set.old }
     requires left_row { IsRow (size choice.now) left.now }
     requires within { end ≤ size choice.now }
     requires later { f ≤ end }
-    ensures { (y : ℕ) → IsTrue (has row.new y)
-        ↔ (IsTrue (has row.old y) ⊎ IsOpened choice.now.wiring.chart.now.events left.now f end y) }
+    ensures words { length set.new ≡ length set.old }
+    ensures numbers { (y : ℕ) → IsTrue (has set.new y)
+        ↔ (IsTrue (has set.old y) ⊎ IsOpened choice.now.wiring.chart.now.events left.now f end y) }
 {
     for y in f..end {
-        put_where(row, y, choice.wiring.chart.is_controlled(y) && has(left, y));
+        set.put_where(y, choice.wiring.chart.is_controlled(y) && has(left, y));
     }
 }
 
@@ -84,55 +86,49 @@ fn opened_end(choice: &Choice, i: u32, start: Event, front: Event) -> Event
     choice.wiring.chart.segment_end(front)
 }
 
-/// Whether `x` is controlled, and `front` is not drawn before it.
-fn is_first(choice: &Choice, front: Event, x: Event) -> bool
-    requires front { front < size choice.now }
-    requires known { x < size choice.now }
-    ensures { IsTrue result
-        ↔ (IsTrue (is_controlled choice.now.wiring.chart.now.events x)
-        × (before choice.now.wiring.chart.now.events front x ≡ false)) }
+/// The first event of each line; of a line without events the number of all events.
+fn first_events(alloc: Global, choice: &Choice) -> Result<Vec<Event>, AllocError>
+    requires { IsSettled choice.now }
+    ensures lines { IfOk result
+        (λ firsts. length firsts.items ≡ length choice.now.wiring.chart.now.instances) }
+    ensures first { IfOk result (λ firsts. AreFirst choice.now.wiring.chart.now firsts.items 0) }
 {
-    if !choice.wiring.chart.is_controlled(x) {
-        return false;
+    let events = choice.wiring.chart.events();
+    let mut firsts = vec![in alloc; events; choice.wiring.chart.instances() as usize]?;
+    for k in 0..events {
+        let x = events - 1 - k;
+        firsts[choice.wiring.chart.instance_of(x) as usize] = x;
     }
-    !choice.wiring.chart.before(front, x)
+    Ok(firsts)
 }
 
 impl Lines {
-    /// Lines of which nothing is told yet.
-    fn blank(alloc: Global, choice: &Choice) -> Result<Lines, AllocError>
+    /// The lines while nothing is open yet.
+    fn closed(alloc: Global, choice: &Choice) -> Result<Lines, AllocError>
         requires { IsSettled choice.now }
-        ensures { IfOk result (λ l. HoldsLinesFrom choice.now.wiring.chart.now l
-            (size choice.now)) }
+        ensures { IfOk result (λ l. HoldsLinesTo choice.now.wiring.chart.now l 0) }
     {
         let events = choice.wiring.chart.events();
         Ok(Lines {
-            left: blank(alloc, events)?,
-            fronts: vec![in alloc; events; choice.wiring.chart.instances() as usize]?,
-            controlled: blank(alloc, events)?,
+            left: full(alloc, events)?,
+            fronts: first_events(alloc, choice)?,
+            controlled: empty(alloc, events)?,
         })
     }
 
-    /// Adds event `x`, where the events after it are told.
-    fn add(&mut self, choice: &Choice, x: Event)
+    /// Opens the controlled events of line `i` before which nothing is drawn.
+    fn open_line(&mut self, choice: &Choice, i: u32)
         requires settled { IsSettled choice.now }
-        requires known { x < size choice.now }
-        requires later { HoldsLinesFrom choice.now.wiring.chart.now self.old (x + 1) }
-        ensures { HoldsLinesFrom choice.now.wiring.chart.now self.new x }
+        requires known { i < length choice.now.wiring.chart.now.instances }
+        requires lines { HoldsLinesTo choice.now.wiring.chart.now self.old i }
+        ensures { HoldsLinesTo choice.now.wiring.chart.now self.new (i + 1) }
     {
-        put_where(&mut self.left, x, true);
-        self.fronts[choice.wiring.chart.instance_of(x) as usize] = x;
-    }
-
-    /// Opens `x`, where it is controlled and nothing is drawn before it.
-    fn open_first(&mut self, choice: &Choice, x: Event)
-        requires settled { IsSettled choice.now }
-        requires known { x < size choice.now }
-        requires lines { HoldsLinesTo choice.now.wiring.chart.now self.old x }
-        ensures { HoldsLinesTo choice.now.wiring.chart.now self.new (x + 1) }
-    {
-        let front = self.fronts[choice.wiring.chart.instance_of(x) as usize];
-        put_where(&mut self.controlled, x, is_first(choice, front, x));
+        let front = self.fronts[i as usize];
+        if !is_on(choice, front, i) {
+            return;
+        }
+        let end = choice.wiring.chart.segment_end(front);
+        open_controlled(&mut self.controlled, choice, &self.left, front, end);
     }
 
     /// The lines before any event has occurred.
@@ -142,13 +138,9 @@ impl Lines {
         ensures left { IfOk result
             (λ l. (y : ℕ) → IsTrue (has l.left.items y) ↔ (y < size choice.now)) }
     {
-        let events = choice.wiring.chart.events();
-        let mut lines = Lines::blank(alloc, choice)?;
-        for k in 0..events {
-            lines.add(choice, events - 1 - k);
-        }
-        for x in 0..events {
-            lines.open_first(choice, x);
+        let mut lines = Lines::closed(alloc, choice)?;
+        for i in 0..choice.wiring.chart.instances() {
+            lines.open_line(choice, i);
         }
         Ok(lines)
     }
@@ -164,7 +156,7 @@ impl Lines {
         let i = choice.wiring.chart.instance_of(x);
         let start = self.fronts[i as usize];
         clear(&mut self.left, x);
-        clear(&mut self.controlled, x);
+        self.controlled.clear(x);
         let front = next_left(choice, &self.left, i, start);
         self.fronts[i as usize] = front;
         let end = opened_end(choice, i, start, front);

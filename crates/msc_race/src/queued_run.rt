@@ -9,8 +9,8 @@ ghost use Rattle.msc_race.specs.QueuedRuns.{HoldsQueues, IsComing};
 ghost use Rattle.msc_race.specs.Choices.{wired_chart, size, IsSettled};
 
 use crate::choosing::Choice;
-use crate::rows::blank;
-use bit_rows::row::{clear, put_where};
+use crate::rows::empty;
+use bit_rows::set::Set;
 use msc_chart::Event;
 use msc_chart::laws::ends_share_queues;
 use std::alloc::{AllocError, Global};
@@ -24,7 +24,7 @@ pub struct QueuedRun {
     pub heads: Vec<Event>,
     pub lasts: Vec<Event>,
     pub next: Vec<Event>,
-    pub inputs: Vec<u64>,
+    pub inputs: Set,
 }
 
 impl QueuedRun {
@@ -41,7 +41,7 @@ impl QueuedRun {
             heads: vec![in alloc; events; queues]?,
             lasts: vec![in alloc; 0; queues]?,
             next: vec![in alloc; 0; events as usize]?,
-            inputs: blank(alloc, events)?,
+            inputs: empty(alloc, events)?,
         })
     }
 
@@ -66,7 +66,8 @@ impl QueuedRun {
         self.lasts[q] = x;
         if self.heads[q] == choice.wiring.chart.events() {
             self.heads[q] = x;
-            put_where(&mut self.inputs, choice.wiring.chart.other_end(x), true);
+            self.inputs
+                .put_where(choice.wiring.chart.other_end(x), true);
         } else {
             self.next[last as usize] = x;
         }
@@ -84,17 +85,14 @@ impl QueuedRun {
         let events = choice.wiring.chart.events();
         let q = choice.wiring.queue(x) as usize;
         let output = choice.wiring.chart.other_end(x);
-        clear(&mut self.inputs, x);
+        self.inputs.clear(x);
         if self.lasts[q] == output {
             self.heads[q] = events;
         } else {
             let following = self.next[output as usize];
             self.heads[q] = following;
-            put_where(
-                &mut self.inputs,
-                choice.wiring.chart.other_end(following),
-                true,
-            );
+            self.inputs
+                .put_where(choice.wiring.chart.other_end(following), true);
         }
     }
 

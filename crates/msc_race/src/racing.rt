@@ -5,14 +5,16 @@
 //! are passed over at once.
 
 ghost use Rattle.std.specs.Prelude.{◌≡◌, ℕ, ◌+◌, ◌*◌, ◌/◌, ◌%◌, ◌<◌, ◌≤◌, ◌++◌, ◌&&◌, not, nat_le};
-ghost use Rattle.std.specs.Prelude.{nat_lt, length, IfOk, OnOk};
+ghost use Rattle.std.specs.Prelude.{nat_lt, length, List, IfOk, OnOk};
+ghost use Rattle.msc_chart.specs.declared.event.ChartEvent.{ChartEvent};
 ghost use Rattle.msc_chart.specs.Lists.{pairs_to};
 ghost use Rattle.msc_chart.specs.Charts.{IsLineEnd, IsSegmentEnd};
 ghost use Rattle.msc_chart.specs.Orders.{wired, IsEnforcedOrder};
 ghost use Rattle.bit_rows.specs.Rows.{bit_of};
 ghost use Rattle.msc_order.specs.Tables.{orders};
 ghost use Rattle.msc_race.specs.Gaps.{is_gap, is_open};
-ghost use Rattle.msc_race.specs.Races.{all_races, IsVerdict, TellsRuns};
+ghost use Rattle.msc_race.specs.Races.{all_races, is_raced, IsVerdict, TellsRuns};
+ghost use Rattle.msc_race.specs.Walks.{HasReached};
 ghost use Rattle.msc_race.specs.Words.{is_in_word};
 
 use crate::laws::races_are_what_runs_reverse;
@@ -119,6 +121,103 @@ fn line_end(chart: &Chart, e: Event, known: Event) -> Event
     if e < known { known } else { chart.line_end(e) }
 }
 
+/// How many numbers from `start` up to `end` have a 0 as their bit in a row ([`bit_rows`]).
+fn count_gaps(row: &[u64], start: u32, end: u32) -> u32
+    requires reach { end ≤ 64 * length row.now }
+    requires few { 64 * length row.now < 4294967232 }
+    ensures { (e : ℕ) → result ≡ length (pairs_to (is_gap row.now start) e end) }
+{
+    if start >= end {
+        return 0;
+    }
+    let mut count = 0;
+    for w in start / 64..end.div_ceil(64) {
+        count += gaps_of(row[w as usize], w, start, end).count_ones();
+    }
+    count
+}
+
+/// How many of the events from `start` up to `end` `order` does not have `e` before, where `order`
+/// is one of the chart.
+fn count_open(chart: &Chart, order: &Order, e: Event, start: Event, end: Event) -> u32
+    requires events { length order.now ≡ length chart.now.events }
+    requires known { e < length chart.now.events }
+    requires within { end ≤ length chart.now.events }
+    ensures { result ≡ length (pairs_to (is_open order.now start) e end) }
+{
+    chart.accepted();
+    count_gaps(order.row(e), start, end)
+}
+
+/// A walk over the events of a chart, from the first to the last, one after another.
+#[derive(Clone, Copy, Debug)]
+pub struct Walk {
+    /// The number past the segment of the event that was reached last, 0 before the first.
+    pub segment_end: Event,
+    /// The number past the line of that event, 0 before the first.
+    pub line_end: Event,
+}
+
+impl Walk {
+    /// A walk before the first event.
+    pub fn new() -> Walk
+        ensures { (events : List ChartEvent) → HasReached events 0 result }
+    {
+        Walk {
+            segment_end: 0,
+            line_end: 0,
+        }
+    }
+
+    /// Goes on to event `e`.
+    fn reach(&mut self, chart: &Chart, e: Event)
+        requires known { e < length chart.now.events }
+        requires reached { HasReached chart.now.events e self.now }
+        ensures segment { IsSegmentEnd chart.now.events e self.new.segment_end }
+        ensures line { IsLineEnd chart.now.events e self.new.line_end }
+    {
+        self.segment_end = segment_end(chart, e, self.segment_end);
+        self.line_end = line_end(chart, e, self.line_end);
+    }
+
+    /// Goes on to event `e` and appends its pairs with the events that it is drawn before and that
+    /// `order` does not have it before, ascending. With the enforced order of an architecture these
+    /// are its races. The order was made of a chart with as many events. An error is a growth of
+    /// memory that was refused.
+    pub fn push_races(
+        &mut self,
+        list: &mut Vec<(Event, Event)>,
+        chart: &Chart,
+        order: &Order,
+        e: Event,
+    ) -> Result<(), AllocError>
+        requires events { length order.now ≡ length chart.now.events }
+        requires known { e < length chart.now.events }
+        requires reached { HasReached chart.now.events e self.now }
+        ensures reached { HasReached chart.now.events (e + 1) self.new }
+        ensures races { OnOk result (list.new.items ≡ list.old.items
+            ++ pairs_to (is_raced chart.now.events order.now) e (length chart.now.events)) }
+    {
+        chart.accepted();
+        self.reach(chart, e);
+        push_open(list, chart, order, e, self.segment_end, self.line_end)
+    }
+
+    /// Goes on to event `e` and answers how many pairs [`Walk::push_races`] appends there.
+    fn count(&mut self, chart: &Chart, order: &Order, e: Event) -> u32
+        requires events { length order.now ≡ length chart.now.events }
+        requires known { e < length chart.now.events }
+        requires reached { HasReached chart.now.events e self.now }
+        ensures reached { HasReached chart.now.events (e + 1) self.new }
+        ensures count { result
+            ≡ length (pairs_to (is_raced chart.now.events order.now) e (length chart.now.events)) }
+    {
+        chart.accepted();
+        self.reach(chart, e);
+        count_open(chart, order, e, self.segment_end, self.line_end)
+    }
+}
+
 /// The pairs of events that are drawn in an order which `order` does not hold, ascending. With the
 /// enforced order of an architecture these are the races. The order was made of a chart with as
 /// many events. An error is a growth of memory that was refused.
@@ -127,14 +226,26 @@ pub fn races(alloc: Global, chart: &Chart, order: &Order) -> Result<Vec<(Event, 
     ensures { IfOk result (λ list. list.items ≡ all_races chart.now.events order.now) }
 {
     let mut list = Vec::new(alloc);
-    let mut start = 0;
-    let mut end = 0;
+    let mut walk = Walk::new();
     for e in 0..chart.events() {
-        start = segment_end(chart, e, start);
-        end = line_end(chart, e, end);
-        push_open(&mut list, chart, order, e, start, end)?;
+        walk.push_races(&mut list, chart, order, e)?;
     }
     Ok(list)
+}
+
+/// How many pairs of events are drawn in an order which `order` does not hold: as many as
+/// [`races`] lists. The order was made of a chart with as many events. It takes no memory.
+// A pair is of two events, so there are fewer than the square of `EVENT_LIMIT`, which fits.
+pub fn count_races(chart: &Chart, order: &Order) -> u32
+    requires events { length order.now ≡ length chart.now.events }
+    ensures { result ≡ length (all_races chart.now.events order.now) }
+{
+    let mut total = 0;
+    let mut walk = Walk::new();
+    for e in 0..chart.events() {
+        total += walk.count(chart, order, e);
+    }
+    total
 }
 
 /// As [`check`], for a caller that has made the enforced order. An error is a growth of memory that

@@ -1,14 +1,17 @@
 //! The events that the choice of the next one depends on, as rows of bits.
 
 ghost use Rattle.std.specs.Prelude.{◌≡◌, ℕ, ◌+◌, ◌<◌, ◌≤◌, ◌↔◌, IfOk, IsTrue};
-ghost use Rattle.msc_race.specs.Choices.{size, IsSettled};
+ghost use Rattle.msc_chart.specs.Charts.{is_input};
+ghost use Rattle.msc_chart.specs.Orders.{queue};
+ghost use Rattle.msc_race.specs.Choices.{size, wired_chart, IsSettled};
 ghost use Rattle.bit_rows.specs.Rows.{has};
-ghost use Rattle.msc_race.specs.Remainders.{AreBelow, AreRows, AreWithout, HasFirstWords};
+ghost use Rattle.msc_race.specs.Remainders.{AreBelow, AreRows, AreToldBelow, AreWithout, HasFirstWords};
 
 use crate::choosing::Choice;
 use crate::rows::blank;
-use bit_rows::row::{clear, first_word, put_where};
+use bit_rows::row::{clear, first_word, put};
 use msc_chart::Event;
+use msc_chart::laws::ends_share_queues;
 use std::alloc::{AllocError, Global};
 
 /// Of the events that have not occurred: those that are free of `e`, those of them that are not
@@ -24,34 +27,60 @@ pub struct Remaining {
 }
 
 impl Remaining {
-    /// Rows without events.
-    fn blank(alloc: Global, choice: &Choice) -> Result<Remaining, AllocError>
+    /// The free events, of which it is not told yet which are held or passed on.
+    fn untold(alloc: Global, choice: &Choice) -> Result<Remaining, AllocError>
         requires { IsSettled choice.now }
         ensures rows { IfOk result (λ r. AreRows (size choice.now) r) }
-        ensures below { IfOk result (λ r. AreBelow choice.now r 0) }
+        ensures told { IfOk result (λ r. AreToldBelow choice.now r 0) }
     {
-        let events = choice.wiring.chart.events();
+        let free = choice.free(alloc)?;
         Ok(Remaining {
-            free: blank(alloc, events)?,
-            unheld: blank(alloc, events)?,
-            passed: blank(alloc, events)?,
+            unheld: Vec::from_slice(alloc, free.as_slice())?,
+            free,
+            passed: blank(alloc, choice.wiring.chart.events())?,
             free_from: 0,
             passed_from: 0,
         })
     }
 
-    /// Puts `x` into the rows that it belongs to.
-    fn add(&mut self, choice: &Choice, x: Event)
+    /// Tells of `x` whether it is held, or passed on to queue `q`, that of `e`, an input.
+    fn tell(&mut self, choice: &Choice, q: u32, x: Event)
         requires settled { IsSettled choice.now }
         requires known { x < size choice.now }
+        requires input { IsTrue (is_input choice.now.wiring.chart.now.events choice.now.e) }
+        requires queue { q ≡ queue (wired_chart choice.now) choice.now.e }
         requires rows { AreRows (size choice.now) self.old }
-        requires below { AreBelow choice.now self.old x }
+        requires told { AreToldBelow choice.now self.old x }
         ensures rows { AreRows (size choice.now) self.new }
-        ensures below { AreBelow choice.now self.new (x + 1) }
+        ensures told { AreToldBelow choice.now self.new (x + 1) }
     {
-        put_where(&mut self.free, x, choice.is_free(x));
-        put_where(&mut self.unheld, x, choice.is_unheld(x));
-        put_where(&mut self.passed, x, choice.is_passed_on_with(x));
+        ends_share_queues();
+        if !choice.is_free_with(q, x) {
+            return;
+        }
+        if choice.is_free(choice.wiring.chart.other_end(x)) {
+            put(&mut self.passed, x);
+        } else {
+            clear(&mut self.unheld, x);
+        }
+    }
+
+    /// Tells which events are held or passed on: none where `e` is no input.
+    fn tell_all(&mut self, choice: &Choice)
+        requires settled { IsSettled choice.now }
+        requires rows { AreRows (size choice.now) self.old }
+        requires told { AreToldBelow choice.now self.old 0 }
+        ensures rows { AreRows (size choice.now) self.new }
+        ensures told { AreToldBelow choice.now self.new (size choice.now) }
+    {
+        ends_share_queues();
+        if choice.wiring.chart.is_controlled(choice.e) {
+            return;
+        }
+        let q = choice.wiring.queue(choice.e);
+        for x in 0..choice.wiring.chart.events() {
+            self.tell(choice, q, x);
+        }
     }
 
     /// The rows before any event has occurred.
@@ -61,10 +90,8 @@ impl Remaining {
         ensures below { IfOk result (λ r. AreBelow choice.now r (size choice.now)) }
         ensures first { IfOk result HasFirstWords }
     {
-        let mut rows = Remaining::blank(alloc, choice)?;
-        for x in 0..choice.wiring.chart.events() {
-            rows.add(choice, x);
-        }
+        let mut rows = Remaining::untold(alloc, choice)?;
+        rows.tell_all(choice);
         rows.free_from = first_word(&rows.free, 0);
         rows.passed_from = first_word(&rows.passed, 0);
         Ok(rows)

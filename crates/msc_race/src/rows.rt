@@ -1,12 +1,13 @@
 //! Rows of bits for the events of a chart.
 
 ghost use Rattle.std.specs.Prelude.{◌≡◌, ℕ, ◌≤◌, false, length, IsTrue, IfOk, IfSome, IfNone};
-ghost use Rattle.bit_rows.specs.Rows.{has, IsBlankTo};
+ghost use Rattle.bit_rows.specs.Rows.{has};
 ghost use Rattle.msc_chart.specs.Lists.{IsLeast};
 ghost use Rattle.msc_race.specs.Rows.{is_masked, IsRow};
 
 use bit_rows::row;
 use bit_rows::row::lowest_in;
+use bit_rows::set::Set;
 use msc_chart::EVENT_LIMIT;
 use std::alloc::{AllocError, Global};
 
@@ -19,20 +20,32 @@ pub fn blank(alloc: Global, n: u32) -> Result<Vec<u64>, AllocError>
     row::blank(alloc, n)
 }
 
-/// The least number of two rows that is in the mask too, which has none in its words below `from`.
-pub fn lowest(a: &[u64], b: &[u64], mask: &[u64], from: usize) -> Option<u32>
+/// A set without events, with room for those below `n`.
+pub fn empty(alloc: Global, n: u32) -> Result<Set, AllocError>
+    requires { n ≤ EVENT_LIMIT }
+    ensures row { IfOk result (λ set. IsRow n set) }
+    ensures none { IfOk result (λ set. (y : ℕ) → has set y ≡ false) }
+{
+    Set::blank(alloc, n)
+}
+
+/// The least number of one of two sets that is in a row too.
+pub fn lowest(a: &Set, b: &Set, mask: &[u64]) -> Option<u32>
     requires few { length a.now ≤ 64 }
     requires b { length b.now ≡ length a.now }
     requires mask { length mask.now ≡ length a.now }
-    requires blank { IsBlankTo mask.now from }
     ensures some { IfSome result (λ y. IsLeast (λ z. IsTrue (is_masked a.now b.now mask.now z)) y) }
     ensures none { IfNone result ((y : ℕ) → IsTrue (is_masked a.now b.now mask.now y) → ⊥) }
 {
-    for k in from..a.len() {
-        let word = (a[k] | b[k]) & mask[k];
+    let (one, other) = (a.words(), b.words());
+    let mut left = a.summary() | b.summary();
+    while left != 0 {
+        let k = left.trailing_zeros();
+        let word = (one[k as usize] | other[k as usize]) & mask[k as usize];
         if word != 0 {
-            return Some(lowest_in(word, k as u32));
+            return Some(lowest_in(word, k));
         }
+        left &= left - 1;
     }
     None
 }

@@ -26,6 +26,14 @@ abbrev pub outcome_line : Verdict → List ℕ
 outcome_line Pass = line (codes "pass")
 outcome_line (Races pairs) = codes "races " ++ line (decimal (length pairs))
 
+-- the line of so many races: a chart without races passes
+abbrev pub count_line : ℕ → List ℕ
+count_line count = cond (nat_eq count 0) (line (codes "pass")) (codes "races " ++ line (decimal count))
+
+-- the head of a verdict with so many races
+abbrev pub head_text : Drawing → Queues → ℕ → List ℕ
+head_text d queues count = name_line d ++ (queues_line queues ++ count_line count)
+
 -- the head of a verdict
 abbrev pub verdict_text : Drawing → Queues → Verdict → List ℕ
 verdict_text d queues v = name_line d ++ (queues_line queues ++ outcome_line v)

@@ -9,7 +9,7 @@ ghost use Rattle.msc_report.specs.Spans.{HasPut, place_text};
 ghost use Rattle.msc_report.specs.Verdicts.{race_text, run_line};
 
 use crate::race::{write_event, write_instance, write_numbers};
-use crate::race_line::{are_short, put_blocks, put_slices};
+use crate::race_line::{are_short, put_blocks, put_number, put_slices};
 use msc_chart::{Chart, Event};
 use std::alloc::{AllocError, Global};
 use std::io;
@@ -129,13 +129,14 @@ impl EventTexts {
         Ok(EventTexts { bytes, spans })
     }
 
-    /// The number of event `e`, after a space.
-    fn number(&self, e: Event) -> &[u8]
+    /// Puts the number of event `e`, after a space, behind a line.
+    fn put_number(&self, line: &mut Vec<u8>, e: Event) -> Result<(), AllocError>
         requires { e < length self.now }
-        ensures { result.now ≡ (get_or self.now e no_text).number }
+        ensures { OnOk result
+            (line.new.items ≡ line.old.items ++ (get_or self.now e no_text).number) }
     {
         let span = self.spans[e as usize];
-        &self.bytes[span.number..span.first]
+        put_number(line, self.bytes.as_slice(), &span)
     }
 
     /// Puts the text of the race of `e` and `f`, two events of one line, behind a page. An error is
@@ -164,7 +165,7 @@ impl EventTexts {
     {
         let mut line = Vec::from_slice(alloc, b"run")?;
         for e in run {
-            line.extend_from_slice(self.number(*e))?;
+            self.put_number(&mut line, *e)?;
         }
         line.extend_from_slice(b"\n")?;
         Ok(line)

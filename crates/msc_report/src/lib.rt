@@ -18,5 +18,5 @@ pub use event_texts::EventTexts;
 pub use fault::{Fault, PairFault};
 pub use race::{write_event_at, write_race, write_run};
 pub use trace::write_trace;
-pub use verdict::{write_name_line, write_queues_line, write_verdict};
+pub use verdict::{write_head, write_name_line, write_queues_line, write_verdict};
 pub use writing::{write_draft, write_fault, write_pair_fault};

@@ -100,3 +100,19 @@ pub(crate) fn put_slices(
     page.extend_from_slice(&bytes[two.second..two.end])?;
     Ok(())
 }
+
+/// Puts the number of an event behind a line, as a block where one does not go past the bytes. An
+/// error is a growth of memory that was refused.
+pub(crate) fn put_number(line: &mut Vec<u8>, bytes: &[u8], span: &Span) -> Result<(), AllocError>
+    requires { IsWithin bytes.now span.now }
+    ensures { OnOk result (line.new.items ≡ line.old.items ++ (text_at bytes.now span.now).number) }
+{
+    if span.first - span.number > NUMBER || bytes.len() - span.number < NUMBER {
+        return line.extend_from_slice(&bytes[span.number..span.first]);
+    }
+    let at = line.len();
+    line.extend_from_slice(&[0; NUMBER])?;
+    let end = put_block::<NUMBER>(line.as_mut_slice(), at, bytes, span.number, span.first);
+    line.truncate(end);
+    Ok(())
+}

@@ -1,8 +1,9 @@
 //! The text of a verdict's head.
 
-ghost use Rattle.std.specs.Prelude.{OnOk};
+ghost use Rattle.std.specs.Prelude.{◌++◌, OnOk};
 ghost use Rattle.std.specs.Io.KnownBytes.{Appends};
-ghost use Rattle.msc_report.specs.Verdicts.{name_line, outcome_line, queues_line, verdict_text};
+ghost use Rattle.msc_report.specs.Verdicts.{count_line, head_text, name_line, outcome_line};
+ghost use Rattle.msc_report.specs.Verdicts.{queues_line, verdict_text};
 
 use msc_chart::{Chart, Queues};
 use msc_race::Verdict;
@@ -26,6 +27,15 @@ pub fn write_queues_line<W: Write>(writer: &mut W, queues: Queues) -> io::Result
 {
     let word = queues.word();
     writeln!(writer, "queues {word}")
+}
+
+/// Writes the lines of a chart's name and of an architecture.
+fn write_lines<W: Write>(writer: &mut W, chart: &Chart, queues: Queues) -> io::Result<()>
+    ensures { OnOk result (Appends (W.contents writer.old) (W.contents writer.new)
+        (name_line chart.now ++ queues_line queues)) }
+{
+    write_name_line(writer, chart)?;
+    write_queues_line(writer, queues)
 }
 
 /// Writes whether a chart passes, or how many races it has.
@@ -53,7 +63,32 @@ pub fn write_verdict<W: Write>(
     ensures { OnOk result (Appends (W.contents writer.old) (W.contents writer.new)
         (verdict_text chart.now queues verdict.now)) }
 {
-    write_name_line(writer, chart)?;
-    write_queues_line(writer, queues)?;
+    write_lines(writer, chart, queues)?;
     write_outcome(writer, verdict)
+}
+
+/// Writes that a chart passes where it has no races, or how many it has.
+fn write_count<W: Write>(writer: &mut W, count: u32) -> io::Result<()>
+    ensures { OnOk result (Appends (W.contents writer.old) (W.contents writer.new)
+        (count_line count)) }
+{
+    if count == 0 {
+        return writer.write_all(b"pass\n");
+    }
+    writeln!(writer, "races {count}")
+}
+
+/// Writes the head of a verdict on a chart under an architecture by the number of its races. It is
+/// what [`write_verdict`] writes of a verdict that lists so many.
+pub fn write_head<W: Write>(
+    writer: &mut W,
+    chart: &Chart,
+    queues: Queues,
+    count: u32,
+) -> io::Result<()>
+    ensures { OnOk result (Appends (W.contents writer.old) (W.contents writer.new)
+        (head_text chart.now queues count)) }
+{
+    write_lines(writer, chart, queues)?;
+    write_count(writer, count)
 }

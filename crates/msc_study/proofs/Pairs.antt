@@ -21,7 +21,7 @@ use Rattle.msc_study.specs.declared.explained.Explained.TheVariants as answers
 use Rattle.msc_study.specs.Explained.{told, PrintsPair}
 use Rattle.msc_study.specs.Explaining.{AnswersPair, AreTwoEvents, HasPairFault, IsPairFault, PrintsReason, RefusesInputPair, RefusesPair}
 use Rattle.msc_study.specs.Reasons.{explained_text}
-use Rattle.msc_text.proofs.Answered.{of_input}
+use Rattle.msc_text.proofs.InputAnswers.{Drafted}
 use Rattle.msc_text.proofs.Inputs.{draft_back, HasRead}
 use Rattle.msc_text.specs.Charting.{IsChartOf, IsChartOrMemory}
 
@@ -118,14 +118,8 @@ module _ (text : List ℕ) (queues : Queues) (e f : ℕ) where
         | inr memory ↦ inr (inl memory)
       ]
 
-  -- and what is answered of what was read is answered of the input
-  pub answers_input : (r : Result Explained Fault) (input before after : Option (List ℕ)) → HasRead text input
-      → IfOk r (λ told. AnswersPair text queues e f told before after)
-      → IfOk r (λ told. IfSome input (λ bytes. AnswersPair bytes queues e f told before after))
-  answers_input (Ok answers.Enforced) input before after read wrote =
-      of_input text input (λ bytes. AnswersPair bytes queues e f answers.Enforced before after) read wrote.1.draft wrote.1.has wrote
-  answers_input (Ok answers.Free) input before after read wrote =
-      of_input text input (λ bytes. AnswersPair bytes queues e f answers.Free before after) read wrote.1.draft wrote.1.has wrote
-  answers_input (Ok (answers.Refused p)) input before after read has =
-      of_input text input (λ bytes. AnswersPair bytes queues e f (answers.Refused p) before after) read has.draft has.has has
-  answers_input (Err fault) input before after read said = tt
+  -- and what is answered of a pair speaks of a draft of the text
+  pub answers_drafted : (before after : Option (List ℕ)) (told : Explained) → AnswersPair text queues e f told before after → Drafted text
+  answers_drafted before after answers.Enforced wrote = (wrote.1.draft, wrote.1.has)
+  answers_drafted before after answers.Free wrote = (wrote.1.draft, wrote.1.has)
+  answers_drafted before after (answers.Refused p) has = (has.draft, has.has)

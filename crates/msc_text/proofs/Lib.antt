@@ -3,6 +3,9 @@ pub mod Refusals
 pub mod Races
 pub mod PageLemmas
 pub mod Shown
+pub mod EachEvent
+pub mod Told
 pub mod Answered
 pub mod Inputs
 pub mod RunEvents
+pub mod InputAnswers

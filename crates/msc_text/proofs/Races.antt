@@ -1,5 +1,5 @@
--- The races of a verdict are pairs of events.
-use Rattle.std.proofs.Common.{ℕ, ◌<◌, List, length, get_or, arith}
+-- Races are pairs of events.
+use Rattle.std.proofs.Common.{ℕ, ◌<◌, Bool, List, length, get_or, arith}
 use Rattle.std.specs.Prelude.{IsTrue}
 use Rattle.std.proofs.lemmas.Option.{slice_get-get_or}
 use Rattle.std.proofs.lemmas.List.Elements.{All-from_get_or}
@@ -7,13 +7,11 @@ use Rattle.msc_chart.specs.declared.event.ChartEvent.{ChartEvent}
 use Rattle.msc_chart.specs.declared.queue.Queues.{Queues}
 use Rattle.msc_chart.specs.Charts.{before}
 use Rattle.msc_chart.specs.Drawings.{Drawing}
-use Rattle.msc_chart.specs.Lists.{Occurs}
+use Rattle.msc_chart.specs.Lists.{pairs_to, Occurs}
 use Rattle.msc_chart.specs.Orders.{wired}
-use Rattle.msc_race.specs.declared.verdict.Verdict.{Verdict}
-use Rattle.msc_race.specs.declared.verdict.Verdict.TheVariants.{Pass, Races}
-use Rattle.msc_race.specs.Races.{IsVerdict, AreRaces}
-use Rattle.msc_text.specs.Checking.{races_of}
-use Rattle.msc_text.specs.Pages.{AreEvents}
+use Rattle.msc_race.specs.Races.{AreRaces}
+use Rattle.msc_race.proofs.Listing.Pairs.{to_parts}
+use Rattle.msc_text.specs.Pages.{AreBelow}
 
 -- what is drawn before something, and what it is drawn before, are events
 drawn_events : (events : List ChartEvent) (e f : ℕ) → IsTrue (before events e f) → (e < length events) × (f < length events)
@@ -25,9 +23,15 @@ pub pair_events : (queues : Queues) (d : Drawing) (pairs : List (ℕ × ℕ)) (p
     → (p.0 < length d.events) × (p.1 < length d.events)
 pair_events queues d pairs (e, f) races there = drawn_events d.events e f ((races e f).1 there).0
 
--- so all of a verdict's pairs are
-pub verdict_events : (queues : Queues) (d : Drawing) (v : Verdict) → IsVerdict (wired queues d) v → AreEvents d (races_of v)
-verdict_events queues d Pass said = λ k x within. absurd (omega (arith, within))
-verdict_events queues d (Races pairs) said =
-    All-from_get_or (λ p. (p.0 < length d.events) × (p.1 < length d.events)) pairs (0, 0) (λ k within.
-    pair_events queues d pairs (get_or pairs k (0, 0)) said.0.races (k, slice_get-get_or pairs k (0, 0) within))
+-- a pair of event e that passes a test is one of events
+pair_below : (test : ℕ → ℕ → Bool) (n e : ℕ) (p : ℕ × ℕ) → e < n → Occurs (pairs_to test e n) p → (p.0 < n) × (p.1 < n)
+pair_below test n e (x, y) within there =
+    let parts = to_parts test e n x y there in
+    (omega (arith, parts.0, within), parts.1)
+
+-- so all of them are
+pub pairs_events : (test : ℕ → ℕ → Bool) (n e : ℕ) → e < n → AreBelow n (pairs_to test e n)
+pairs_events test n e within =
+    let pairs = pairs_to test e n in
+    All-from_get_or (λ p. (p.0 < n) × (p.1 < n)) pairs (0, 0) (λ k inside.
+    pair_below test n e (get_or pairs k (0, 0)) within (k, slice_get-get_or pairs k (0, 0) inside))

@@ -3,8 +3,8 @@
 ghost use Rattle.std.specs.Prelude.{◌≡◌, ◌≢◌, ◌⊎◌, ℕ, List, length, IfErr, IfOk, IfSome};
 ghost use Rattle.msc_chart.specs.Orders.{wired, IsEnforcedOrder};
 ghost use Rattle.msc_order.specs.Tables.{orders};
-ghost use Rattle.msc_race.specs.Races.{IsVerdict};
-ghost use Rattle.msc_report.specs.Verdicts.{verdict_text};
+ghost use Rattle.msc_race.specs.Races.{verdict_by, IsVerdict, TellsRuns};
+ghost use Rattle.msc_report.specs.Verdicts.{head_text};
 ghost use Rattle.msc_text.specs.Answers.{OnRead, RefusesInput, RefusesText};
 ghost use Rattle.msc_text.specs.Checking.{passes, races_of, BeginsVerdict, ChecksText, PrintsVerdict, RefusesDraft, RefusesInputDraft, WritesVerdict};
 ghost use Rattle.msc_text.specs.Pages.{Writes};
@@ -15,21 +15,11 @@ use crate::reading::read_all;
 use crate::showing::put_races;
 use msc_chart::{Chart, Event, Queues};
 use msc_order::Order;
-use msc_race::laws::the_chosen_run_reverses;
-use msc_race::{Verdict, check_order};
-use msc_report::{Fault, write_verdict};
+use msc_race::laws::{enforced_orders_tell_verdicts, the_chosen_run_reverses};
+use msc_race::{Verdict, count_races};
+use msc_report::{Fault, write_head};
 use std::alloc::{AllocError, Global};
 use std::io::{Read, Write};
-
-/// Whether a verdict is `pass`.
-fn passes(verdict: &Verdict) -> bool
-    ensures { result ≡ passes verdict.now }
-{
-    match verdict {
-        Verdict::Pass => true,
-        Verdict::Races(_) => false,
-    }
-}
 
 /// The races of a verdict.
 pub fn races_of<'v>(verdict: &'v Verdict) -> &'v [(Event, Event)]
@@ -41,56 +31,45 @@ pub fn races_of<'v>(verdict: &'v Verdict) -> &'v [(Event, Event)]
     }
 }
 
-/// The head of a verdict, a page for what follows it.
-fn head_of(
-    alloc: Global,
-    chart: &Chart,
-    queues: Queues,
-    verdict: &Verdict,
-) -> Result<Page, AllocError>
-    ensures { IfOk result (λ page. page.bytes.items ≡ verdict_text chart.now queues verdict.now) }
+/// The head of a verdict with so many races, a page for what follows it.
+fn head_of(alloc: Global, chart: &Chart, queues: Queues, count: u32) -> Result<Page, AllocError>
+    ensures { IfOk result (λ page. page.bytes.items ≡ head_text chart.now queues count) }
 {
     let mut page = Page::new(alloc);
-    match write_verdict(&mut page, chart, queues, verdict) {
+    match write_head(&mut page, chart, queues, count) {
         Ok(()) => Ok(page),
         Err(_) => Err(AllocError),
     }
 }
 
-/// Writes the head of a verdict and each race, the first `show` with the chosen run of their first
-/// event; answers whether the verdict is `pass`.
+/// Writes the head of a chart's verdict and each race, the first `show` with the chosen run of
+/// their first event; answers whether the verdict is `pass`. The races are counted for the head,
+/// and then made again event by event, so that no list has all of them.
 fn write_checked<W: Write>(
     alloc: Global,
     writer: &mut W,
     chart: &Chart,
     queues: Queues,
     order: &Order,
-    verdict: &Verdict,
     show: u32,
 ) -> Result<bool, Fault>
     requires enforced { IsEnforcedOrder (wired queues chart.now) (orders order.now) }
     requires square { length order.now ≡ length chart.now.events }
-    requires verdict { IsVerdict (wired queues chart.now) verdict.now }
-    ensures answered { IfOk result (λ passed. passed ≡ passes verdict.now) }
+    ensures verdict { IsVerdict (wired queues chart.now) (verdict_by chart.now.events order.now) }
+    ensures runs { TellsRuns (wired queues chart.now) (verdict_by chart.now.events order.now) }
+    ensures answered { IfOk result (λ p. p ≡ passes (verdict_by chart.now.events order.now)) }
     ensures written { (printed : List ℕ)
-        × PrintsVerdict chart.now queues show verdict.now printed
+        × PrintsVerdict chart.now queues show (verdict_by chart.now.events order.now) printed
         × Writes result (W.contents writer.old) (W.contents writer.new) printed }
 {
     the_chosen_run_reverses();
+    enforced_orders_tell_verdicts();
     chart.accepted();
-    let mut page = head_of(alloc, chart, queues, verdict)?;
-    put_races(
-        alloc,
-        writer,
-        &mut page,
-        chart,
-        queues,
-        order,
-        races_of(verdict),
-        show,
-    )?;
+    let count = count_races(chart, order);
+    let mut page = head_of(alloc, chart, queues, count)?;
+    put_races(alloc, writer, &mut page, chart, queues, order, count, show)?;
     writer.write_all(page.bytes.as_slice())?;
-    Ok(passes(verdict))
+    Ok(count == 0)
 }
 
 /// Writes the verdict on a text's chart under an architecture, and each race in order, the first
@@ -119,8 +98,7 @@ pub fn check_text<W: Write>(
 {
     let chart = chart_of_text(alloc, text)?;
     let order = Order::enforced(alloc, &chart, queues)?;
-    let verdict = check_order(alloc, &chart, queues, &order)?;
-    write_checked(alloc, writer, &chart, queues, &order, &verdict, show)
+    write_checked(alloc, writer, &chart, queues, &order, show)
 }
 
 /// Reads an input to its end, and writes the verdict on its chart and each race in order, as

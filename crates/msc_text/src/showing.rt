@@ -4,6 +4,7 @@ ghost use Rattle.std.specs.Prelude.{◌≡◌, ℕ, ◌<◌, ◌++◌, List, [],
 ghost use Rattle.msc_chart.specs.Drawings.{Drawing};
 ghost use Rattle.msc_chart.specs.Orders.{wired, IsEnforcedOrder};
 ghost use Rattle.msc_order.specs.Tables.{orders};
+ghost use Rattle.msc_race.specs.Races.{all_races};
 ghost use Rattle.msc_report.specs.EventTexts.{AreTextsOf};
 ghost use Rattle.msc_report.specs.Verdicts.{race_text, run_line};
 ghost use Rattle.msc_text.specs.Checking.{races_text, shown_text, unshown_text, AreChosen};
@@ -12,8 +13,8 @@ ghost use Rattle.msc_text.specs.Pages.{AreBelow, AreEvents, Puts};
 use crate::page::Page;
 use msc_chart::{Chart, Event, Queues};
 use msc_order::Order;
-use msc_race::chosen_run;
 use msc_race::laws::the_chosen_run_reverses;
+use msc_race::{Walk, chosen_run};
 use msc_report::{EventTexts, Fault};
 use std::alloc::{AllocError, Global};
 use std::io::Write;
@@ -125,17 +126,19 @@ fn put_unshown<W: Write>(
 }
 
 /// Puts each of these races behind a page, the first `show` with the chosen run of their first
-/// event. Full pages go out.
-pub fn put_races<W: Write>(
+/// event.
+fn put_some<W: Write>(
     alloc: Global,
     writer: &mut W,
     page: &mut Page,
     chart: &Chart,
     queues: Queues,
     order: &Order,
+    texts: &EventTexts,
     races: &[(Event, Event)],
-    show: u32,
+    show: usize,
 ) -> Result<(), Fault>
+    requires texts { AreTextsOf chart.now texts.now }
     requires enforced { IsEnforcedOrder (wired queues chart.now) (orders order.now) }
     requires square { length order.now ≡ length chart.now.events }
     requires known { AreEvents chart.now races.now }
@@ -143,11 +146,46 @@ pub fn put_races<W: Write>(
         → Puts result (W.contents writer.old) (W.contents writer.new)
         page.old.bytes.items page.new.bytes.items (races_text chart.now runs show races.now) }
 {
-    if races.is_empty() {
+    let (shown, others) = races.split_at(show.min(races.len()));
+    put_shown(alloc, writer, page, chart, queues, order, texts, shown)?;
+    put_unshown(writer, page, texts, others)
+}
+
+/// Puts all races of a chart behind a page, of which there are `count`, the first `show` with the
+/// chosen run of their first event. Full pages go out. One list serves the races of each event.
+pub fn put_races<W: Write>(
+    alloc: Global,
+    writer: &mut W,
+    page: &mut Page,
+    chart: &Chart,
+    queues: Queues,
+    order: &Order,
+    count: u32,
+    show: u32,
+) -> Result<(), Fault>
+    requires enforced { IsEnforcedOrder (wired queues chart.now) (orders order.now) }
+    requires square { length order.now ≡ length chart.now.events }
+    requires count { count ≡ length (all_races chart.now.events order.now) }
+    ensures { (runs : ℕ → List ℕ) → AreChosen (wired queues chart.now) runs
+        → Puts result (W.contents writer.old) (W.contents writer.new)
+        page.old.bytes.items page.new.bytes.items
+        (races_text chart.now runs show (all_races chart.now.events order.now)) }
+{
+    if count == 0 {
         return Ok(());
     }
     let texts = EventTexts::new(alloc, chart)?;
-    let (shown, others) = races.split_at((show as usize).min(races.len()));
-    put_shown(alloc, writer, page, chart, queues, order, &texts, shown)?;
-    put_unshown(writer, page, &texts, others)
+    let mut races = Vec::new(alloc);
+    let mut walk = Walk::new();
+    let mut left = show as usize;
+    for e in 0..chart.events() {
+        races.clear();
+        walk.push_races(&mut races, chart, order, e)?;
+        let list = races.as_slice();
+        put_some(
+            alloc, writer, page, chart, queues, order, &texts, list, left,
+        )?;
+        left = left.saturating_sub(races.len());
+    }
+    Ok(())
 }

@@ -10,6 +10,7 @@ use Rattle.msc_fifo.specs.declared.claim.Claim.{Claim}
 use Rattle.msc_fifo.specs.declared.entry.Entry.TheVariants.{Message as Sent, Ended}
 use Rattle.msc_fifo.specs.Claims.{claim, is_message}
 use Rattle.msc_fifo.specs.Ends.{OutletState}
+use Rattle.msc_fifo.proofs.PlaceLemmas.{own_among}
 use Rattle.msc_execution.specs.Roles.{role, queues_in}
 use Rattle.msc_execution.specs.Logs.{outputs_at}
 use Rattle.msc_execution.specs.Growth.{claim_at}
@@ -20,7 +21,6 @@ use Rattle.msc_execution.specs.Shown.{as_place, places_at, places_of}
 use Rattle.msc_execution.proofs.Lists.Among.{among_front, map_at, at_map, occurs_among}
 use Rattle.msc_execution.proofs.Wiring.Receivers.{queues_have}
 use Rattle.msc_execution.proofs.Wiring.Logged.{output_there}
-use Rattle.msc_execution.proofs.Clocks.Claims.{claims_are_among}
 use Rattle.msc_execution.proofs.Clocks.Standing.{message_at, at_message, place_clock_is}
 use Rattle.msc_execution.proofs.Clocks.Shown.{place_of, places_are, place_entry}
 use Rattle.msc_execution.proofs.Clocks.Sources.{IsRead, Source, settled, nothing, known_out, queue_out, outlet_at, claims_are, source}
@@ -114,8 +114,8 @@ module _ {queues : Queues} {d : Drawing} {open' : Bool} {patience : ℕ} {o : Ou
       (outputs_at queues d q (log_at o i)) s at.0 at.1) in
       let own = st.is_settled.is_log.claims out (st.all_there i out i_below found.1) in
       let among =
-      claims_are_among out.sender log c at.0
-      (ap (λ (l : List Claim). slice_get l at.0) (sym own) ∙ front) in
+      (own_among out.sender at.0 log c
+      (ap (λ (l : List Claim). slice_get l at.0) (sym own) ∙ front)).0 in
       let here = at_map (place_of d) log c among.0 among.1 in
       let message_there : occurs (messages (map (place_of d) log))
       (output_of d (message d.events s)) ≡ true =

@@ -1,5 +1,5 @@
 -- From the clauses of calls to logged outputs: each message at a place was put by one.
-use Rattle.std.proofs.Common.{◌≡◌, ℕ, ◌+◌, ◌<◌, Bool, true, false, List, [], ◌∷◌, ◌++◌, map, length, Some, slice_get, inl, inr, sym, ap, ◌∙◌, subst, refl}
+use Rattle.std.proofs.Common.{◌≡◌, ℕ, zero, suc, ◌+◌, ◌<◌, Bool, true, false, List, [], ◌∷◌, ◌++◌, map, length, Some, slice_get, inl, inr, sym, ap, ◌∙◌, subst, refl}
 use Rattle.msc_chart.specs.declared.queue.Queues.{Queues}
 use Rattle.msc_chart.specs.Lists.{occurs, until}
 use Rattle.msc_chart.specs.Charts.{line, message, is_output}
@@ -13,8 +13,9 @@ use Rattle.msc_fifo.specs.declared.entry.Entry.TheVariants.{Message as Sent, End
 use Rattle.msc_fifo.specs.declared.places.Place.{Place as SettledPlace}
 use Rattle.msc_fifo.specs.Claims.{claim, is_message}
 use Rattle.msc_fifo.specs.Ends.{OutletState}
-use Rattle.msc_fifo.specs.Entries.{sender_of as from_of}
-use Rattle.msc_fifo.specs.Settlement.{claims_of, IsAmong}
+use Rattle.msc_fifo.specs.Entries.{sender_of as from_of, IsOrderly}
+use Rattle.msc_fifo.specs.Settlement.{claims_of, entries_at, IsAmong}
+use Rattle.msc_fifo.proofs.PlaceLemmas.{among_own, outlet_of}
 use Rattle.msc_execution.specs.Roles.{NumberedOutlet, role, wired_ends, fresh_outlet, sent_queues, queues_in}
 use Rattle.msc_execution.specs.Logs.{Reading, outputs_at, clock_along}
 use Rattle.msc_execution.specs.Growth.{IsLeftBy, claim_at}
@@ -24,8 +25,15 @@ use Rattle.msc_execution.specs.Shown.{places_at}
 use Rattle.msc_execution.proofs.Lists.Among.{among_cases, among_single, map_at, at_map, zip_right, zip_left, among_occurs, occurs_among}
 use Rattle.msc_execution.proofs.Wiring.Logged.{output_at}
 use Rattle.msc_execution.proofs.Wiring.Fitted.{have_outlets}
-use Rattle.msc_execution.proofs.Clocks.Claims.{among_claims, sender_small, outlet_of}
 use Rattle.msc_execution.proofs.Clocks.Shown.{looked_up, none_up}
+
+-- a claim is of one of the senders
+sender_small : (n : ℕ) (log : List Claim) (c : Claim) (k : ℕ) → IsOrderly n (entries_at log)
+    → slice_get log k ≡ Some c → from_of c.entry < n
+sender_small n [] c k h at = cc
+sender_small n (e ∷ log) c zero h at = let same : e ≡ c = cc in
+    subst (λ (x : Claim). from_of x.entry < n) same h.0
+sender_small n (e ∷ log) c (suc k) h at = sender_small n log c k h.2 at
 
 -- an execution of an accepted chart, with what each instance read
 pub record IsRead (queues : Queues) (d : Drawing) (open' : Bool) (patience : ℕ)
@@ -154,7 +162,7 @@ module _ {queues : Queues} {d : Drawing} {open' : Bool} {patience : ℕ} {o : Ou
       (sender_small st.inlet.senders log c k st.is_settled.is_log.orderly at)) in
       let own : OutletState = out.0 in
       let among : IsAmong c (claims_of own.sender log) =
-      among_claims own.sender log c k at (sym out.2) in
+      among_own own.sender k log c at (sym out.2) in
       let mine : IsAmong c own.claims =
       subst (λ (l : List Claim). IsAmong c l)
       (sym (st.is_settled.is_log.claims own out.1)) among in

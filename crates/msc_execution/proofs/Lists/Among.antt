@@ -1,5 +1,5 @@
 -- What is among the elements of lists.
-use Rattle.std.proofs.Common.{◌≡◌, ◌⊎◌, ℕ, zero, suc, Bool, true, false, cond, eqb, List, [], ◌∷◌, ◌++◌, map, filter, Some, slice_get, inl, inr, ⊎_elim, refl, ap, subst}
+use Rattle.std.proofs.Common.{◌≡◌, ◌⊎◌, ℕ, zero, suc, Bool, true, eqb, List, [], ◌∷◌, ◌++◌, map, filter, Some, slice_get, inl, inr, ⊎_elim, refl, ap, subst}
 use Rattle.std.specs.List.{AllZip, list_any}
 use Rattle.std.proofs.lemmas.Bool.{eqb-true, eq-eqb, or_cases, or_left, or_right}
 use Rattle.msc_chart.specs.Lists.{occurs}
@@ -11,20 +11,6 @@ module _ {A : Type 0} where
   -- what is among a list is among a longer one
   pub among_more : (y x : A) (xs : List A) → IsAmong x xs → IsAmong x (y ∷ xs)
   among_more y x xs h = (suc h.0, h.1)
-
-  -- and where the head may be missing
-  pub cond-among : (b : Bool) (y x : A) (xs : List A) → IsAmong x xs
-      → IsAmong x (cond b (y ∷ xs) xs)
-  cond-among true y x xs h = among_more y x xs h
-  cond-among false y x xs h = h
-
-  -- what stands in a list whose head may be missing
-  pub cond-get : (b : Bool) (y x : A) (xs : List A) (k : ℕ)
-      → slice_get (cond b (y ∷ xs) xs) k ≡ Some x
-      → ((b ≡ true) × (y ≡ x)) ⊎ ((j : ℕ) × (slice_get xs j ≡ Some x))
-  cond-get true y x xs zero h = let same : y ≡ x = cc in inl (refl, same)
-  cond-get true y x xs (suc k) h = inr (k, h)
-  cond-get false y x xs k h = inr (k, h)
 
   -- what is among the front is among the whole
   pub among_front : (xs ys : List A) (x : A) (k : ℕ) → slice_get xs k ≡ Some x
@@ -146,8 +132,3 @@ each_occurs P (x ∷ xs) e h there =
       | inl same ↦ subst P (eqb-true x e same) h.0
       | inr later ↦ each_occurs P xs e h.1 later
     ]
-
--- what stands in a list of one
-pub single : {A : Type 0} (x y : A) (k : ℕ) → slice_get (x ∷ []) k ≡ Some y → x ≡ y
-single x y zero at = cc
-single x y (suc k) at = cc

@@ -8,7 +8,7 @@ use Rattle.msc_fifo.specs.Claims.{is_message}
 use Rattle.msc_fifo.specs.Ends.{OutletState, AreOutletsOf}
 use Rattle.msc_fifo.specs.Settlement.{IsPlaced, claims_of, entries_at, items_of}
 use Rattle.msc_execution.specs.Samples.{own_outlet, other_outlet, mailbox, all_claims}
-use Rattle.msc_execution.proofs.Lists.Among.{EachOf, each_at, single}
+use Rattle.msc_execution.proofs.Lists.Among.{EachOf, each_at, among_single}
 
 module _ (id : QueueId) where
   -- the claims are the places of the queue
@@ -51,25 +51,25 @@ module _ (id : QueueId) where
   }
     where
       numbers : (k : ℕ) (c : Claim) → slice_get all_claims k ≡ Some c → c.place ≡ k
-      numbers zero c at = ap (λ (o : Claim). o.place) (sym (single (get_or all_claims 0 c) c 0 at))
+      numbers zero c at = ap (λ (o : Claim). o.place) (sym (among_single (get_or all_claims 0 c) c 0 at))
       numbers (suc zero) c at =
-          ap (λ (o : Claim). o.place) (sym (single (get_or all_claims 1 c) c 0 at))
+          ap (λ (o : Claim). o.place) (sym (among_single (get_or all_claims 1 c) c 0 at))
       numbers (suc (suc zero)) c at =
-          ap (λ (o : Claim). o.place) (sym (single (get_or all_claims 2 c) c 0 at))
+          ap (λ (o : Claim). o.place) (sym (among_single (get_or all_claims 2 c) c 0 at))
       numbers (suc (suc (suc zero))) c at =
-          ap (λ (o : Claim). o.place) (sym (single (get_or all_claims 3 c) c 0 at))
+          ap (λ (o : Claim). o.place) (sym (among_single (get_or all_claims 3 c) c 0 at))
       numbers (suc (suc (suc (suc k)))) c at = cc
 
       clocks : (k : ℕ) (c : Claim) → k < 4 → slice_get all_claims k ≡ Some c
           → c.clock ≡ get_or (1 ∷ 1 ∷ 0 ∷ 0 ∷ []) k 0
       clocks zero c lt at =
-          ap (λ (o : Claim). o.clock) (sym (single (get_or all_claims 0 c) c 0 at))
+          ap (λ (o : Claim). o.clock) (sym (among_single (get_or all_claims 0 c) c 0 at))
       clocks (suc zero) c lt at =
-          ap (λ (o : Claim). o.clock) (sym (single (get_or all_claims 1 c) c 0 at))
+          ap (λ (o : Claim). o.clock) (sym (among_single (get_or all_claims 1 c) c 0 at))
       clocks (suc (suc zero)) c lt at =
-          ap (λ (o : Claim). o.clock) (sym (single (get_or all_claims 2 c) c 0 at))
+          ap (λ (o : Claim). o.clock) (sym (among_single (get_or all_claims 2 c) c 0 at))
       clocks (suc (suc (suc zero))) c lt at =
-          ap (λ (o : Claim). o.clock) (sym (single (get_or all_claims 3 c) c 0 at))
+          ap (λ (o : Claim). o.clock) (sym (among_single (get_or all_claims 3 c) c 0 at))
       clocks (suc (suc (suc (suc k)))) c lt at = absurd (omega arith)
 
   -- the outlets are all of the queue's

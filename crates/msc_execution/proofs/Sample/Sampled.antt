@@ -21,7 +21,7 @@ use Rattle.msc_execution.specs.Executions.{log_at, end_at, placed_messages, AreA
 use Rattle.msc_execution.specs.Clocks.{trace_of, sorted, put_in, is_below, key_of, clock_step, clock_from, greatest_offer, place_clock, place_of, messages}
 use Rattle.msc_execution.specs.Shown.{trace_in, as_place}
 use Rattle.msc_execution.specs.Samples.{two, own_outlet, other_outlet, mailbox, both_back, all_claims, account_of, IsSampled, sample}
-use Rattle.msc_execution.proofs.Lists.Among.{any_parts, EachOf, each_at, each_occurs, single}
+use Rattle.msc_execution.proofs.Lists.Among.{any_parts, EachOf, each_at, each_occurs, among_single}
 use Rattle.msc_execution.proofs.Sample.Ran.{queues_are, both_send, ids, runs}
 use Rattle.msc_execution.proofs.Sample.Placed.{is_placed, are_outlets}
 
@@ -51,12 +51,12 @@ module _ (id : QueueId) where
         there zero o below among = (
           0,
           ap (λ (p : ℕ × OutletState). Some p.1)
-              (single (0, own_outlet id) (0, o) among.0 among.1),
+              (among_single (0, own_outlet id) (0, o) among.0 among.1),
         )
         there (suc i) o below among = (
           1,
           ap (λ (p : ℕ × OutletState). Some p.1)
-              (single (0, other_outlet id) (0, o) among.0 among.1),
+              (among_single (0, other_outlet id) (0, o) among.0 among.1),
         )
 
     -- instance 0 alone takes from it
@@ -136,7 +136,7 @@ module _ (id : QueueId) where
     -- the one settled queue
     the_one : (q : ℕ) (t : Settled) → Occurs {T = ℕ × Settled} ((0, s) ∷ []) (q, t)
         → pair 0 s ≡ pair q t
-    the_one q t there = single (pair 0 s) (pair q t) there.0 there.1
+    the_one q t there = among_single (pair 0 s) (pair q t) there.0 there.1
 
     -- so the sample is an execution
     pub is_execution : IsExecution Mailbox two true 1 (sample s)

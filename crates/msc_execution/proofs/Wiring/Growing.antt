@@ -20,7 +20,7 @@ use Rattle.msc_execution.proofs.Lists.Ranges.{filter_more}
 use Rattle.msc_execution.proofs.Wiring.Receivers.{in_below}
 
 -- where some element passes there is an element
-any_has : (g : ℕ → Bool) (ms : List ℕ) → list_any g ms ≡ true → nat_lt 0 (length ms) ≡ true
+pub any_has : (g : ℕ → Bool) (ms : List ℕ) → list_any g ms ≡ true → nat_lt 0 (length ms) ≡ true
 any_has g [] h = absurd (true≢false (sym h))
 any_has g (m ∷ ms) h = lt-ltb 0 (length (m ∷ ms)) (omega arith)
 
@@ -60,7 +60,7 @@ one_mapped f true n = refl
 one_mapped f false n = refl
 
 -- functions that agree on the members of a list
-agree : {A : Type 0} (f g : ℕ → A) (xs : List ℕ) → ((x : ℕ) → occurs xs x ≡ true → f x ≡ g x)
+pub agree : {A : Type 0} (f g : ℕ → A) (xs : List ℕ) → ((x : ℕ) → occurs xs x ≡ true → f x ≡ g x)
     → map f xs ≡ map g xs
 agree f g [] h = refl
 agree {A} f g (x ∷ xs) h =

@@ -4,16 +4,18 @@ use Rattle.std.specs.Prelude.{nat_le}
 use Rattle.std.proofs.lemmas.Bool.{and_parts, cases_lt, le-leb, lt-leb, not-true}
 use Rattle.msc_chart.specs.declared.event.ChartEvent.{ChartEvent}
 use Rattle.msc_chart.specs.Charts.{before, IsInTextOrder, IsLineEnd, IsSegmentEnd}
-use Rattle.msc_chart.specs.Lists.{Occurs}
+use Rattle.msc_chart.specs.Lists.{pairs_to, Occurs}
 use Rattle.msc_chart.specs.Orders.{WiredChart, IsEnforcedOrder}
 use Rattle.msc_chart.proofs.Drawn.{before_from, before_parts}
 use Rattle.msc_order.specs.Tables.{Table, orders}
 use Rattle.msc_order.proofs.Drawing.{before_later}
 use Rattle.msc_race.specs.Races.{all_races, is_raced, AreAscending, IsRaceList}
+use Rattle.msc_race.specs.declared.racing.Walk.{Walk}
 use Rattle.msc_race.specs.Gaps.{is_open}
 use Rattle.msc_race.specs.Laws.{HasNoRace}
+use Rattle.msc_race.specs.Walks.{HasReached}
 use Rattle.msc_race.proofs.Listing.Ascending.{of_ascends}
-use Rattle.msc_race.proofs.Listing.Pairs.{of_from, of_parts}
+use Rattle.msc_race.proofs.Listing.Pairs.{of_from, of_parts, pairs_between, pairs_same}
 use Rattle.msc_race.proofs.Shared.{by_test, clash}
 
 module _ (events : List ChartEvent) where
@@ -31,7 +33,7 @@ module _ (events : List ChartEvent) where
       }
 
   -- the next event of the line has the same end
-  pub line_goes_on : (e end : ℕ) → IsLineEnd events e end → e + 1 < end → IsLineEnd events (e + 1) end
+  line_goes_on : (e end : ℕ) → IsLineEnd events e end → e + 1 < end → IsLineEnd events (e + 1) end
   line_goes_on e end l more =
       let next = l.together (e + 1) (omega arith) more in
       record {
@@ -61,14 +63,27 @@ module _ (events : List ChartEvent) where
     drawn_past f past = by_test (before events e f) (λ b. let p = before_parts events e f b in absurd (l.past f past p.1 p.2)) (λ none. none)
 
     -- so what an order leaves open is raced
-    pub open_is_raced : (order : Table) (f : ℕ) → f < end → is_open order start e f ≡ is_raced events order e f
+    open_is_raced : (order : Table) (f : ℕ) → f < end → is_open order start e f ≡ is_raced events order e f
     unfolding is_open is_raced
     open_is_raced order f inside = ap (λ (b : Bool). b && not (orders order e f)) (drawn_from f inside)
 
     -- no event past the line is raced
-    pub none_past : (order : Table) (f : ℕ) → end ≤ f → is_raced events order e f ≡ false
+    none_past : (order : Table) (f : ℕ) → end ≤ f → is_raced events order e f ≡ false
     unfolding is_raced
     none_past order f past = rw (drawn_past f past) refl
+
+    -- so what an order leaves open up to the end of the line are all pairs of e that are raced
+    pub open_are_raced : (order : Table) → pairs_to (is_open order start) e end ≡ pairs_to (is_raced events order) e (length events)
+    open_are_raced order =
+        pairs_same (is_open order start) (is_raced events order) e end (open_is_raced order)
+        ∙ sym (pairs_between (is_raced events order) e end (length events) l.within (λ f low high. none_past order f low))
+
+    -- and what has the ends of e has reached the events before the next one
+    pub goes_on : (walk : Walk) → walk.segment_end ≡ start → walk.line_end ≡ end → HasReached events (e + 1) walk
+    goes_on walk segment line = record {
+      segment = rw segment (segment_goes_on e start s);
+      line = rw line (line_goes_on e end l);
+    }
 
 -- the drawn pairs that the enforced order has not are the races
 pub list_of_races : (chart : WiredChart) (order : Table) → IsEnforcedOrder chart (orders order) → (pairs : List (ℕ × ℕ)) → pairs ≡ all_races chart.events order → IsRaceList chart pairs

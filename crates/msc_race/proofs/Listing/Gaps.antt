@@ -4,9 +4,9 @@ use Rattle.std.specs.Int.{bit_not}
 use Rattle.std.proofs.Math.Bool.{and-false, and-true, and_comm}
 use Rattle.std.proofs.lemmas.Bool.{cases_lt, le-leb, lt-leb, lt-ltb, le-ltb}
 use Rattle.std.proofs.lemmas.Bool.Decides.{nat_tests}
-use Rattle.std.proofs.lemmas.Nat.Bits.{bit_at_ones, bit_at_ones_above, bit_at_mask_inside, bit_at_mask_below, ones_shl, ones_shr}
+use Rattle.std.proofs.lemmas.Nat.Bits.{bit_at_mask_inside, bit_at_mask_below, ones_shl}
 use Rattle.bit_rows.specs.Rows.{bit_of, has}
-use Rattle.bit_rows.proofs.Bits.{bit_meet, bit_other, bit_zero}
+use Rattle.bit_rows.proofs.Bits.{bit_meet, bit_other, bit_zero, low_ones}
 use Rattle.msc_chart.specs.Lists.{pairs_to}
 use Rattle.msc_race.specs.Gaps.{is_gap}
 use Rattle.msc_race.specs.Words.{is_in_word}
@@ -20,15 +20,6 @@ high_ones s i fits inside =
     rw (ones_shl 64 s fits) (elim (cases_lt i s) [
       | inl below ↦ rw (bit_at_mask_below s 64 i below, lt-leb s i below) refl
       | inr from ↦ rw (bit_at_mask_inside s 64 i from inside, le-leb s i from) refl
-    ])
-
--- the ones of a word below bit 64 - s
-low_ones : (s i : ℕ) → s ≤ 64 → bit_of (18446744073709551615 / 2 ^ s) i ≡ ltb i (64 - s)
-unfolding bit_of
-low_ones s i fits =
-    rw (ones_shr 64 s fits) (elim (cases_lt i (64 - s)) [
-      | inl below ↦ rw (bit_at_ones (64 - s) i below, lt-ltb i (64 - s) below) refl
-      | inr past ↦ rw (bit_at_ones_above (64 - s) i past, le-ltb i (64 - s) past) refl
     ])
 
 -- the zeros of word k within a range

@@ -58,10 +58,28 @@ module _ (test : ℕ → ℕ → Bool) where
       range_more : (k : ℕ) → range_with_len 0 (k + 1) ≡ range_with_len 0 k ++ k ∷ []
       range_more k = sym (map-id (range_with_len 0 (k + 1))) ∙ map-range_with_len_more (λ x. x) 0 k k (omega arith) ∙ ap (λ l. l ++ k ∷ []) (map-id (range_with_len 0 k))
 
+  -- more numbers have the pairs of fewer, and some others behind them
+  pub below_rest : (n k j : ℕ) → (rest : List (ℕ × ℕ)) × (pairs_below n (k + j) ≡ pairs_below n k ++ rest)
+  below_rest n k zero = ([], ap (pairs_below n) (add-zero k) ∙ sym (append-nil (pairs_below n k)))
+  below_rest n k (suc j) =
+      let before = below_rest n k j in
+      let same : k + suc j ≡ k + j + 1 = omega arith in (
+        before.0 ++ pairs_to test (k + j) n,
+        rw same (below_more n (k + j) ∙ ap (λ (l : List (ℕ × ℕ)). l ++ pairs_to test (k + j) n) before.1
+            ∙ append_assoc (pairs_below n k) before.0 (pairs_to test (k + j) n)),
+      )
+
   -- the pairs of all numbers
   pub below_all : (n k : ℕ) → k ≡ n → pairs_below n k ≡ pairs_of test n
   unfolding pairs_below pairs_of
   below_all n k h = rw h refl
+
+  -- and those of the numbers below k are first among them
+  pub of_rest : (n k : ℕ) → k ≤ n → (rest : List (ℕ × ℕ)) × (pairs_of test n ≡ pairs_below n k ++ rest)
+  of_rest n k le =
+      let more = below_rest n k (n - k) in
+      let same : k + (n - k) ≡ n = omega arith in
+      (more.0, sym (below_all n (k + (n - k)) same) ∙ more.1)
 
 -- tests that agree below k have the same pairs
 pub pairs_same : (p q : ℕ → ℕ → Bool) (e k : ℕ) → ((f : ℕ) → f < k → p e f ≡ q e f) → pairs_to p e k ≡ pairs_to q e k

@@ -11,7 +11,7 @@ use Rattle.msc_race.specs.Words.{is_in_word}
 use Rattle.msc_race.proofs.Listing.Pairs.{pairs_between, pairs_join, pairs_more, pairs_none}
 
 -- 1 less has a zero where the lowest one was, and above it the same bits
-one_less : (t word : ℕ) → bit_at word t ≡ 1 → ((i : ℕ) → i < t → bit_at word i ≡ 0)
+pub one_less : (t word : ℕ) → bit_at word t ≡ 1 → ((i : ℕ) → i < t → bit_at word i ≡ 0)
     → (bit_at (word - 1) t ≡ 0) × ((i : ℕ) → t < i → bit_at (word - 1) i ≡ bit_at word i)
 one_less zero word one none =
     (omega (arith, bit_at_lowest (word - 1), bit_at_lowest word, one), λ i above. higher i above (omega (arith, bit_at_lowest word, one)))

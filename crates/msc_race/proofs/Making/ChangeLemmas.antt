@@ -33,7 +33,7 @@ module _ {chart : WiredChart} {c : QueuedRun} {x : ℕ} (here : IsComing chart c
   next = c.next.items
 
   abbrev inputs : List ℕ
-  inputs = c.inputs.items
+  inputs = c.inputs
 
   abbrev n : ℕ
   n = length chart.events

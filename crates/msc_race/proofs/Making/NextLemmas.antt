@@ -29,7 +29,7 @@ IfNone_then (Some x) h f = h
 module _ (choice : Choice) (b : Beginning) where
   -- an event that may come next is picked with the mask
   abbrev pub is_picked : List ℕ → ℕ → Type 0
-  is_picked mask y = IsTrue (is_masked b.lines.controlled.items b.queued.inputs.items mask y)
+  is_picked mask y = IsTrue (is_masked b.lines.controlled b.queued.inputs mask y)
 
   -- the least event that is picked with the mask is the next one, and where none is, the run is whole
   pub record IsMask (mask : List ℕ) : Type 0 where
@@ -41,7 +41,7 @@ module _ (choice : Choice) (b : Beginning) where
     picks_of : (mask : List ℕ) (P : ℕ → Type 0) → HoldsLeft mask P (run_of b) → (y : ℕ)
         → is_picked mask y ↔ (MayCome (wired_chart choice) (run_of b) y × P y)
     picks_of =
-        picked (wired_chart choice) is_wired (run_of b) b.lines.left.items b.lines.controlled.items b.queued.inputs.items
+        picked (wired_chart choice) is_wired (run_of b) b.lines.left.items b.lines.controlled b.queued.inputs
         kept.left kept.lines.controlled kept.queues.inputs
 
     -- a free event in the rows is left

@@ -1,4 +1,5 @@
 use Rattle.std.proofs.lemmas.Result.{err_from_is_err_and}
+use Rattle.msc_race.specs.Races.{verdict_by}
 use Rattle.msc_text.proofs.Answered.{prints, writes_no_chart, writes_no_parse, writes_or_fails, writes_verdict, begins_verdict}
 use Rattle.msc_text.proofs.Refusals.{draft_passes, draft_so, text_passes, text_so}
 use Rattle.msc_text.proofs.checking.check_text.Goals as goal
@@ -23,21 +24,21 @@ returns-clause-no_chart g c =
 
 pub returns-clause-begun : goal.returns-clause-begun
 returns-clause-begun g c =
+    let d = c.in_ok-chart.chart in
     let of = c.in_ok-chart.ensures.chart in
-    let verdict = c.in_ok-verdict.ensures in
-    let wrote = c.write_checked.ensures.written in
-    begins_verdict _ c.write_checked.result c.args.text.now c.args.queues c.args.show c.in_ok-verdict.verdict _ _ _ wrote.2
-    (prints c.args.text.now c.args.queues c.args.show of.draft c.in_ok-chart.chart c.in_ok-verdict.verdict _
-    of.has of.faultless of.chart verdict.verdict verdict.runs wrote.1)
+    let v = verdict_by d.events c.in_ok-order.order in
+    let said = c.write_checked.ensures in
+    begins_verdict _ c.write_checked.result c.args.text.now c.args.queues c.args.show v _ _ _ said.written.2
+    (prints c.args.text.now c.args.queues c.args.show of.draft d v _ of.has of.faultless of.chart said.verdict said.runs said.written.1)
 
 pub returns-clause-untouched : goal.returns-clause-untouched
 returns-clause-untouched g c = writes_or_fails _ c.write_checked.result _ _ _ c.write_checked.ensures.written.2
 
 pub returns-clause-written : goal.returns-clause-written
 returns-clause-written g c =
+    let d = c.in_ok-chart.chart in
     let of = c.in_ok-chart.ensures.chart in
-    let verdict = c.in_ok-verdict.ensures in
-    let wrote = c.write_checked.ensures.written in
-    writes_verdict c.write_checked.result c.args.text.now c.args.queues c.args.show c.in_ok-verdict.verdict _ _ _ wrote.2 c.write_checked.ensures.answered
-    (prints c.args.text.now c.args.queues c.args.show of.draft c.in_ok-chart.chart c.in_ok-verdict.verdict _
-    of.has of.faultless of.chart verdict.verdict verdict.runs wrote.1)
+    let v = verdict_by d.events c.in_ok-order.order in
+    let said = c.write_checked.ensures in
+    writes_verdict c.write_checked.result c.args.text.now c.args.queues c.args.show v _ _ _ said.written.2 said.answered
+    (prints c.args.text.now c.args.queues c.args.show of.draft d v _ of.has of.faultless of.chart said.verdict said.runs said.written.1)

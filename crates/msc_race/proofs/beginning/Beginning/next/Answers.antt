@@ -10,7 +10,7 @@ returns-then-not-has_free-clause-some c =
     let mask =
     mask_of_all choice c.args.self.now c.requires.settled c.requires.kept is_wired c.a_chosen_run_goes_on.ensures.run c.no_run_is_stuck.ensures.longer
     (λ some. clash (c.has_free.ensures.1 some) c.if-not-has_free.true) in
-    IfSome_then c.lowest.result (rw (c.deref.ensures.value, c.deref-then-not-has_free.ensures.value, c.deref-then-not-has_free-2.ensures.value) at c.lowest.ensures.some) mask.next
+    IfSome_then c.lowest.result (rw c.deref.ensures.value at c.lowest.ensures.some) mask.next
 
 pub returns-then-not-has_free-clause-none : goal.returns-then-not-has_free-clause-none
 returns-then-not-has_free-clause-none c =
@@ -19,7 +19,7 @@ returns-then-not-has_free-clause-none c =
     let mask =
     mask_of_all choice c.args.self.now c.requires.settled c.requires.kept is_wired c.a_chosen_run_goes_on.ensures.run c.no_run_is_stuck.ensures.longer
     (λ some. clash (c.has_free.ensures.1 some) c.if-not-has_free.true) in
-    IfNone_then c.lowest.result (rw (c.deref.ensures.value, c.deref-then-not-has_free.ensures.value, c.deref-then-not-has_free-2.ensures.value) at c.lowest.ensures.none) mask.whole
+    IfNone_then c.lowest.result (rw c.deref.ensures.value at c.lowest.ensures.none) mask.whole
 
 pub returns-then-has_passed-clause-some : goal.returns-then-has_passed-clause-some
 returns-then-has_passed-clause-some c =
@@ -28,7 +28,7 @@ returns-then-has_passed-clause-some c =
     let mask =
     mask_of_unheld choice c.args.self.now c.requires.settled c.requires.kept is_wired c.a_chosen_run_goes_on.ensures.next
     (c.has_free.ensures.0 c.if-not-has_free.false) (c.has_passed.ensures.0 c.if-has_passed.true) in
-    IfSome_then c.lowest-then-has_passed.result (rw (c.deref-then-has_passed.ensures.value, c.deref-then-has_passed-2.ensures.value, c.deref-then-has_passed-3.ensures.value) at c.lowest-then-has_passed.ensures.some) mask.next
+    IfSome_then c.lowest-then-has_passed.result (rw c.deref-then-has_passed.ensures.value at c.lowest-then-has_passed.ensures.some) mask.next
 
 pub returns-then-has_passed-clause-none : goal.returns-then-has_passed-clause-none
 returns-then-has_passed-clause-none c =
@@ -37,7 +37,7 @@ returns-then-has_passed-clause-none c =
     let mask =
     mask_of_unheld choice c.args.self.now c.requires.settled c.requires.kept is_wired c.a_chosen_run_goes_on.ensures.next
     (c.has_free.ensures.0 c.if-not-has_free.false) (c.has_passed.ensures.0 c.if-has_passed.true) in
-    IfNone_then c.lowest-then-has_passed.result (rw (c.deref-then-has_passed.ensures.value, c.deref-then-has_passed-2.ensures.value, c.deref-then-has_passed-3.ensures.value) at c.lowest-then-has_passed.ensures.none) mask.whole
+    IfNone_then c.lowest-then-has_passed.result (rw c.deref-then-has_passed.ensures.value at c.lowest-then-has_passed.ensures.none) mask.whole
 
 pub returns-clause-some : goal.returns-clause-some
 returns-clause-some c =
@@ -46,7 +46,7 @@ returns-clause-some c =
     let mask =
     mask_of_rest choice c.args.self.now c.requires.settled c.requires.kept is_wired c.a_chosen_run_goes_on.ensures.next
     (c.has_free.ensures.0 c.if-not-has_free.false) (λ passed. clash (c.has_passed.ensures.1 passed) c.if-has_passed.false) in
-    IfSome_then c.lowest-2.result (rw (c.deref-2.ensures.value, c.deref-3.ensures.value, c.deref-4.ensures.value) at c.lowest-2.ensures.some) mask.next
+    IfSome_then c.lowest-2.result (rw c.deref-2.ensures.value at c.lowest-2.ensures.some) mask.next
 
 pub returns-clause-none : goal.returns-clause-none
 returns-clause-none c =
@@ -55,4 +55,4 @@ returns-clause-none c =
     let mask =
     mask_of_rest choice c.args.self.now c.requires.settled c.requires.kept is_wired c.a_chosen_run_goes_on.ensures.next
     (c.has_free.ensures.0 c.if-not-has_free.false) (λ passed. clash (c.has_passed.ensures.1 passed) c.if-has_passed.false) in
-    IfNone_then c.lowest-2.result (rw (c.deref-2.ensures.value, c.deref-3.ensures.value, c.deref-4.ensures.value) at c.lowest-2.ensures.none) mask.whole
+    IfNone_then c.lowest-2.result (rw c.deref-2.ensures.value at c.lowest-2.ensures.none) mask.whole

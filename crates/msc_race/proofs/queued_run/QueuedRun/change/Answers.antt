@@ -39,5 +39,5 @@ returns-else-not-is_local-clause-queues c =
     let local = sym c.is_local.ensures ∙ c.if-not-is_local.false in
     let same : (q : ℕ) → state chart q (past ++ c.args.x ∷ []) ≡ state chart q past =
     state_passed chart past c.args.x is_wired c.requires.run c.requires.may local in
-    subst (λ (queues : ℕ → List ℕ). AreQueues chart queues self.heads.items self.lasts.items self.next.items self.inputs.items)
+    subst (λ (queues : ℕ → List ℕ). AreQueues chart queues self.heads.items self.lasts.items self.next.items self.inputs)
     (λ k. λ q. sym (same q) k) c.requires.queues

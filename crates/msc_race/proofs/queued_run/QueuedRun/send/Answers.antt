@@ -1,5 +1,4 @@
-use Rattle.std.proofs.Common.{length, sym, ap, ◌∙◌, arith}
-use Rattle.std.proofs.lemmas.List.{with_items_is}
+use Rattle.std.proofs.Common.{sym, ◌∙◌, arith}
 use Rattle.msc_race.proofs.Making.ComingLemmas.{has_head, has_last, head_read, last_read}
 use Rattle.msc_race.proofs.Making.ChangeLemmas.{last_known, sent_first, sent_later}
 use Rattle.msc_race.proofs.queued_run.QueuedRun.send.Goals as goal
@@ -33,9 +32,8 @@ pub returns-then-index-events-clause-queues : goal.returns-then-index-events-cla
 returns-then-index-events-clause-queues c =
     let here = c.requires.coming in
     let head = head_read here _ _ _ c.queue-q.ensures c.index.ensures in
-    let inputs = with_items_is c.args.self.now.inputs c.put_where.new.row (c.put_where.auto.row ∙ c.deref_mut.ensures.len) in
-    rw (inputs, c.queue-q.ensures) (sent_first here c.requires.output (sym head ∙ c.if-index-events.true ∙ c.events.ensures.number)
-    c.put_where.new.row (c.put_where.auto.row ∙ ap length c.deref_mut.ensures.value) (rw (c.deref_mut.ensures.value, c.other_end.ensures.value) at c.put_where.ensures))
+    rw c.queue-q.ensures (sent_first here c.requires.output (sym head ∙ c.if-index-events.true ∙ c.events.ensures.number)
+    c.put_where.new.self c.put_where.ensures.words (rw c.other_end.ensures.value at c.put_where.ensures.numbers))
 
 pub returns-else-index-events-clause-queues : goal.returns-else-index-events-clause-queues
 returns-else-index-events-clause-queues c =

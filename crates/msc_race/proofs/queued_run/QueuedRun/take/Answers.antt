@@ -1,6 +1,4 @@
-use Rattle.std.proofs.Common.{length, sym, ap, ◌∙◌, arith}
-use Rattle.std.specs.Vec.{with_items}
-use Rattle.std.proofs.lemmas.List.{with_items_is}
+use Rattle.std.proofs.Common.{sym, ◌∙◌, arith}
 use Rattle.msc_race.proofs.Making.ComingLemmas.{has_head, has_last, last_read, next_read}
 use Rattle.msc_race.proofs.Making.ChangeLemmas.{following_known, taken_last, taken_more}
 use Rattle.msc_race.proofs.queued_run.QueuedRun.take.Goals as goal
@@ -29,18 +27,14 @@ pub returns-then-index-output-clause-queues : goal.returns-then-index-output-cla
 returns-then-index-output-clause-queues c =
     let here = c.requires.coming in
     let last = last_read here _ _ _ c.queue-q.ensures c.index.ensures in
-    let inputs = with_items_is c.args.self.now.inputs c.clear.new.row (c.clear.auto.row ∙ c.deref_mut.ensures.len) in
-    rw (inputs, c.queue-q.ensures, c.events-events.ensures.number) (taken_last here c.requires.input (sym last ∙ c.if-index-output.true ∙ c.other_end-output.ensures.value)
-    c.clear.new.row (c.clear.auto.row ∙ ap length c.deref_mut.ensures.value) (rw c.deref_mut.ensures.value at c.clear.ensures))
+    rw (c.queue-q.ensures, c.events-events.ensures.number) (taken_last here c.requires.input (sym last ∙ c.if-index-output.true ∙ c.other_end-output.ensures.value)
+    c.clear.new.self c.clear.ensures.words c.clear.ensures.numbers)
 
 pub returns-else-index-output-clause-queues : goal.returns-else-index-output-clause-queues
 returns-else-index-output-clause-queues c =
     let here = c.requires.coming in
-    let inputs_now = c.args.self.now.inputs in
     let last = last_read here _ _ _ c.queue-q.ensures c.index.ensures in
     let follows = next_read here _ _ _ c.other_end-output.ensures.value c.index-following.ensures in
-    let cleared = with_items_is inputs_now c.clear.new.row (c.clear.auto.row ∙ c.deref_mut.ensures.len) in
-    let inputs = with_items_is (with_items inputs_now c.clear.new.row) c.put_where.new.row (c.put_where.auto.row ∙ c.deref_mut-else-index-output.ensures.len) in
-    rw (inputs, c.queue-q.ensures, follows) (taken_more here c.requires.input (λ same. c.if-index-output.false (last ∙ same ∙ sym c.other_end-output.ensures.value))
-    c.clear.new.row c.put_where.new.row (c.clear.auto.row ∙ ap length c.deref_mut.ensures.value) (c.put_where.auto.row ∙ ap length (c.deref_mut-else-index-output.ensures.value ∙ cleared))
-    (rw c.deref_mut.ensures.value at c.clear.ensures) (rw (c.deref_mut-else-index-output.ensures.value, cleared, c.other_end.ensures.value, follows) at c.put_where.ensures))
+    rw (c.queue-q.ensures, follows) (taken_more here c.requires.input (λ same. c.if-index-output.false (last ∙ same ∙ sym c.other_end-output.ensures.value))
+    c.clear.new.self c.put_where.new.self c.clear.ensures.words c.put_where.ensures.words
+    c.clear.ensures.numbers (rw (c.other_end.ensures.value, follows) at c.put_where.ensures.numbers))
