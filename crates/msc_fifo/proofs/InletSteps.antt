@@ -13,7 +13,7 @@ use Rattle.msc_fifo.specs.Claims.{is_message}
 use Rattle.msc_fifo.specs.Entries.{sender_of, IsOrderly}
 use Rattle.msc_fifo.specs.World.{Each, Slot, entries, code, World, world, Holds, IsDated, IsStored, slot, IsSmall}
 use Rattle.msc_fifo.specs.Views.{IsSender, IsReceiver, Fits, Sound, Kept, receives, new_sender, sends, beside, nobody}
-use Rattle.msc_fifo.specs.Moves.{Seated, LooksAt, LearnsIt, SettlesIt, Told, clocks_at_once, ReadsItsEntry, ReadsItsClock}
+use Rattle.msc_fifo.specs.Moves.{Seated, LooksAt, LearnsIt, SettlesIt, Told, clocks_at_once, IsClaimOf, ReadsItsEntry, ReadsItsClock}
 use Rattle.msc_fifo.proofs.EntryLemmas.{messages_of-nothing, has_ended-nothing, nothing_past, orderly_wider, orderly-at}
 use Rattle.msc_fifo.proofs.LogLemmas.{cond-true, cond-false, own-nothing, each-map, each-append, get_inside, claim_get}
 use Rattle.msc_fifo.proofs.Worlds.{Grows, Spares, dated_stays, sender_stays, receiver_stays}
@@ -170,36 +170,36 @@ kept_at places id k w x c sound few h at =
     record { item = y.2 ∙ ap (λ (z : Slot). code z.entry) same; small = subst (λ (z : Slot). IsSmall z.entry) same y.3; clk = stored.1 })
     (sound.cells c.place (omega arith))
 
+-- the words of a claim that the inlet's seat knows
+written : (places id : ℕ) (s : State (Unit {0}) View) (h : Kept places s) (v : View) (c : Claim) → get_elem? s.views id ≡ some v → IsClaimOf c v.senders → IsWritten places (now h) c
+written places id s h v c at of =
+    let total = h.rooms in
+    let x = member (IsSender places (now h) id) v.senders of.1.0 of.0 of.1.1 (h.each id v at).1 in
+    kept_at places id of.2.0 (now h) of.0 c h.sound (omega arith) x of.2.1
+
 -- reading the entry of a place keeps the rule, and tells that of its claim
 pub reads_entry : (places slots id i : ℕ) (me : Seated) → me.0.gets ≡ true → Allows (Kept places) slots id me i (λ n. n) (ReadsItsEntry (step slots i 0 0 none) me)
-reads_entry places slots id i me gets s h same at lt = let v : View = me.0 in let old = now h in let total = h.rooms in (
-  v,
+reads_entry places slots id i me gets s h same at lt = (
+  me.0,
   keeps,
   tt,
-  inlet_keeps places i id s me.1 v v h at refl refl (h.each id v at).0,
+  inlet_keeps places i id s me.1 me.0 me.0 h at refl refl (h.each id me.0 at).0,
   (
     refl,
     λ c of word.
-        let x = member (IsSender places old id) v.senders of.1.0 of.0 of.1.1 (h.each id v at).1 in
-        let r = kept_at places id of.2.0 old of.0 c h.sound (omega arith) x of.2.1 in
+        let r = written places id s h me.0 c at of in
         (ap (λ (j : ℕ). slice_index s.words j) word ∙ r.item, r.small),
   ),
 )
 
 -- reading the clock of a place keeps the rule, and tells that of its claim
 pub reads_clock : (places slots id i : ℕ) (me : Seated) → me.0.gets ≡ true → Allows (Kept places) slots id me i (λ n. n) (ReadsItsClock (step slots i 0 0 none) me)
-reads_clock places slots id i me gets s h same at lt = let v : View = me.0 in let old = now h in let total = h.rooms in (
-  v,
+reads_clock places slots id i me gets s h same at lt = (
+  me.0,
   keeps,
   tt,
-  inlet_keeps places i id s me.1 v v h at refl refl (h.each id v at).0,
-  (
-    refl,
-    λ c of word.
-        let x = member (IsSender places old id) v.senders of.1.0 of.0 of.1.1 (h.each id v at).1 in
-        let r = kept_at places id of.2.0 old of.0 c h.sound (omega arith) x of.2.1 in
-        ap (λ (j : ℕ). slice_index s.words j) word ∙ r.clk,
-  ),
+  inlet_keeps places i id s me.1 me.0 me.0 h at refl refl (h.each id me.0 at).0,
+  (refl, λ c of word. ap (λ (j : ℕ). slice_index s.words j) word ∙ (written places id s h me.0 c at of).clk),
 )
 
 -- what stands in a list that is one longer

@@ -1,7 +1,7 @@
 -- The link of an event is the output that was taken from its queue right before it.
 use Rattle.std.proofs.Common.{◌≡◌, ℕ, zero, suc, ◌+◌, ◌<◌, true, false, inl, inr, eqb, List, [], ◌∷◌, ◌++◌, length, get_or, take, map, append_assoc, filter, Option, Some, None, refl, sym, ap, subst, ◌∙◌, Bool, arith}
 use Rattle.std.specs.List.{concat}
-use Rattle.std.proofs.lemmas.Bool.{eqb-true, eq-eqb, ne_eqb, and_parts, and_from, or_cases, or_left, or_right, false_from_ne_true}
+use Rattle.std.proofs.lemmas.Bool.{eq-eqb, ne_eqb, false_from_ne_true}
 use Rattle.std.proofs.lemmas.List.{append-nil}
 use Rattle.std.proofs.lemmas.List.Elements.{filter-append}
 use Rattle.msc_chart.specs.Charts.{line, partner, is_output, is_input, is_local}
@@ -9,12 +9,13 @@ use Rattle.msc_chart.specs.Lists.{occurs, until, IsOnce}
 use Rattle.msc_chart.specs.Orders.{WiredChart, queue}
 use Rattle.msc_chart.proofs.ListLemmas.{clash}
 use Rattle.msc_chart.proofs.Drawn.{not_both, partner_of_output, partner_of_input, output_not_local, input_not_local}
-use Rattle.msc_gather.specs.Schedule.{log_of, is_logged, AreLogs, IsSeated, is_taken_first, crosses}
+use Rattle.msc_gather.specs.Schedule.{log_of, is_logged, AreLogs, IsSeated, crosses}
 use Rattle.msc_gather.specs.Heads.{IsLink}
 use Rattle.msc_gather.specs.Links.{IsLastTaken, HoldsTaken}
 use Rattle.msc_gather.specs.Marks.{is_marked, AreMarks}
 use Rattle.msc_chart.proofs.KindTests.{output_below, input_below}
 use Rattle.msc_gather.proofs.Once.{until-until, until-append-new, occurs-head, occurs-tail}
+use Rattle.msc_gather.proofs.ComesFirst.{crosses_sent, crosses_queued, crosses_cases}
 use Rattle.msc_gather.proofs.Filters.{until-filter}
 use Rattle.msc_gather.proofs.Apart.{apart_of_once, once_of_apart, Apart-concat, of_concat, in_concat}
 use Rattle.msc_gather.proofs.TakenLemmas.{taken_filtered}
@@ -107,40 +108,6 @@ module _ {chart : WiredChart} {n : ℕ} {logs : List (List ℕ)} (sound : AreLog
       let many = sound.as_many in
       let known = sound.known found.0 e (omega (arith, found.1)) found.2 in
       (known.0, ap (λ (j : ℕ). occurs (get_or logs j []) e) known.1 ∙ found.2)
-
--- an output crosses to its input
-crosses_sent : (chart : WiredChart) (logs : List (List ℕ)) (x y : ℕ)
-    → is_output chart.events x ≡ true
-    → partner chart.events x ≡ y → crosses chart logs x y ≡ true
-unfolding crosses
-crosses_sent chart logs x y o p = or_left _ _ (and_from _ _ o (eq-eqb _ _ p))
-
--- and an output to one of its queue that is taken later
-crosses_queued : (chart : WiredChart) (logs : List (List ℕ)) (x y : ℕ)
-    → is_output chart.events x ≡ true
-    → is_output chart.events y ≡ true → queue chart x ≡ queue chart y
-    → is_taken_first chart logs x y ≡ true → crosses chart logs x y ≡ true
-unfolding crosses
-crosses_queued chart logs x y o p same h = or_right _ _
-    (and_from _ _ (and_from _ _ o p) (and_from _ _ (eq-eqb _ _ same) h))
-
--- and nothing else crosses
-pub crosses_cases : {X : Type 0} (chart : WiredChart) (logs : List (List ℕ)) (x y : ℕ)
-    → crosses chart logs x y ≡ true
-    → (is_output chart.events x ≡ true → partner chart.events x ≡ y → X)
-    → (is_output chart.events x ≡ true → is_output chart.events y ≡ true
-    → queue chart x ≡ queue chart y
-    → is_taken_first chart logs x y ≡ true → X) → X
-unfolding crosses
-crosses_cases chart logs x y h g k =
-    elim (or_cases _ _ h) [
-      | inl c ↦ let p = and_parts _ _ c in g p.0 (eqb-true _ _ p.1)
-      | inr d ↦
-          let p = and_parts _ _ d in
-          let o = and_parts _ _ p.0 in
-          let q = and_parts _ _ p.1 in
-          k o.0 o.1 (eqb-true _ _ q.0) q.1
-    ]
 
 module _ {chart : WiredChart} {n : ℕ} (logs : List (List ℕ)) (seated : IsSeated chart n) where
   -- nothing crosses to a local event

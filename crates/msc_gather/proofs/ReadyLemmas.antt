@@ -11,7 +11,7 @@ use Rattle.msc_gather.specs.Links.{AreLinks}
 use Rattle.msc_gather.specs.Merges.{IsMerging, MayFollowOn}
 use Rattle.msc_chart.proofs.KindTests.{output_below}
 use Rattle.msc_gather.proofs.HeadLemmas.{head_of_follower, head_follows, item_there}
-use Rattle.msc_gather.proofs.LinkLemmas.{crosses_cases}
+use Rattle.msc_gather.proofs.ComesFirst.{crosses_cases}
 
 -- what crosses is an event
 link_below : (chart : WiredChart) (logs : List (List ℕ)) (x y : ℕ) → crosses chart logs y x ≡ true

@@ -9,6 +9,7 @@ ghost use Rattle.msc_lexer.specs.Scanning.{ClosesAt, IsDoubled, QuoteEndsAt};
 
 use crate::byte::is_run_byte;
 use crate::lanes::{LANES, run_in_load};
+use memchr::memchr;
 
 /// The number of bytes of the run at the front of a text, one after the other.
 fn run_by_one(text: &[u8]) -> usize
@@ -38,10 +39,13 @@ pub fn note_end(body: &[u8]) -> Option<usize>
     ensures found { IfSome result (ClosesAt body.now) }
     ensures none { IfNone result (NeverCloses body.now) }
 {
-    for at in 1..body.len() {
-        if body[at - 1] == b'*' && body[at] == b'/' {
-            return Some(at - 1);
+    let mut at = 0;
+    'slashes: while let Some(before) = memchr(b'/', &body[at..]) {
+        let slash = at + before;
+        if slash > 0 && body[slash - 1] == b'*' {
+            return Some(slash - 1);
         }
+        at = slash + 1;
     }
     None
 }
