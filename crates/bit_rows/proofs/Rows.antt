@@ -1,12 +1,12 @@
 -- What the reads and writes of one row of bits do to its numbers.
 use Rattle.std.proofs.Common.{◌≡◌, ◌≢◌, ℕ, ◌+◌, ◌-◌, ◌*◌, ◌/◌, ◌%◌, ◌^◌, ◌<◌, ◌≤◌, true, false, not, ◌&&◌, ◌||◌, inl, inr, eqb, ltb, List, length, get_or, set, replicate, refl, sym, ap, ◌∙◌, arith, get_or-set_same, get_or-set_other, bit_or, bit_and, w64}
 use Rattle.std.specs.Int.{bit_not, trailing_zeros}
-use Rattle.std.proofs.lemmas.Bool.{eq-eqb, ne_eqb, cases_eq, cases_lt, lt-ltb, le-ltb}
+use Rattle.std.proofs.lemmas.Bool.{and_parts, eq-eqb, ne_eqb, cases_eq, cases_lt, lt-ltb, le-ltb}
 use Rattle.std.proofs.lemmas.Bool.Decides.{nat_tests}
 use Rattle.std.proofs.lemmas.List.{get_or_past, get_or-replicate, length-replicate}
 use Rattle.std.proofs.lemmas.Nat.Bits.{bit_at-trailing_zeros}
 use Rattle.std.proofs.Math.Bool.{or-false, and-true}
-use Rattle.bit_rows.specs.Rows.{bit_of, has}
+use Rattle.bit_rows.specs.Rows.{bit_of, has, AreApartTo}
 use Rattle.bit_rows.proofs.Bits.{clash, bit_put, bit_meet, bit_other, bit_alone, bit_zero, low_ones}
 
 -- numbers of one word differ as their bits do
@@ -71,18 +71,7 @@ has_none row y none = rw none (bit_zero (y % 64))
 pub has_past : (row : List ℕ) (y : ℕ) → 64 * length row ≤ y → has row y ≡ false
 has_past row y past = has_none row y (get_or_past row (y / 64) 0 (omega (arith, past)))
 
--- where word k is empty too, a row that has no number in the words below has none up to its end
-pub none_further : (row : List ℕ) (k : ℕ) → ((y : ℕ) → y < 64 * k → has row y ≡ false)
-    → get_or row k 0 ≡ 0 → (y : ℕ) → y < 64 * (k + 1) → has row y ≡ false
-none_further row k none empty y below =
-    elim (cases_lt y (64 * k)) [
-      | inl before ↦ none y before
-      | inr after ↦
-          let same : y / 64 ≡ k = omega (arith, after, below) in
-          has_none row y (rw same empty)
-    ]
-
--- and one that has none below word k has none below the next word
+-- where word k is empty too, a row that has no number below it has none below the next word
 pub above_further : (row : List ℕ) (k : ℕ) → ((y : ℕ) → has row y ≡ true → 64 * k ≤ y)
     → get_or row k 0 ≡ 0 → (y : ℕ) → has row y ≡ true → 64 * (k + 1) ≤ y
 above_further row k above empty y h =
@@ -100,16 +89,32 @@ pub has_at : (row : List ℕ) (y k : ℕ) → y / 64 ≡ k → has row y ≡ bit
 unfolding has
 has_at row y k here = rw here refl
 
--- a word that is not 0 has a number
-pub some_number : (row : List ℕ) (k : ℕ) → get_or row k 0 ≢ 0 → get_or row k 0 < 2 ^ 64 → (y : ℕ) × (has row y ≡ true)
+-- where two rows have nothing in common in word k either, they have nothing up to its end
+pub none_common : (one other : List ℕ) (k : ℕ) → AreApartTo one other k → bit_and (get_or one k 0) (get_or other k 0) ≡ 0 → AreApartTo one other (k + 1)
+none_common one other k none empty y below here =
+    elim (cases_lt y (64 * k)) [
+      | inl before ↦ none y before here
+      | inr after ↦
+          let same : y / 64 ≡ k = omega (arith, after, below) in
+          let i : ℕ = y % 64 in
+          let met = sym (bit_meet (get_or one k 0) (get_or other k 0) i) ∙ ap (λ w. bit_of w i) empty ∙ bit_zero i in
+          has_at other y k same ∙ ap (λ b. b && bit_of (get_or other k 0) i) (sym here ∙ has_at one y k same) ∙ met
+    ]
+
+-- and where they have something in common in it, that is a number of both
+pub some_common : (one other : List ℕ) (k : ℕ) → bit_and (get_or one k 0) (get_or other k 0) ≢ 0 → bit_and (get_or one k 0) (get_or other k 0) < 2 ^ 64
+    → (y : ℕ) × (y / 64 ≡ k) × (has one y ≡ true) × (has other y ≡ true)
 unfolding bit_of
-some_number row k some fits =
-    let low = bit_at-trailing_zeros w64 (get_or row k 0) (omega (arith, some)) fits in
-    let t : ℕ = trailing_zeros w64 (get_or row k 0) in
+some_common one other k some fits =
+    let word : ℕ = bit_and (get_or one k 0) (get_or other k 0) in
+    let low = bit_at-trailing_zeros w64 word (omega (arith, some)) fits in
+    let t : ℕ = trailing_zeros w64 word in
     let t_below : t < 64 = low.0 in
     let here : (64 * k + t) / 64 ≡ k = omega (arith, t_below) in
     let rest : (64 * k + t) % 64 ≡ t = omega (arith, t_below) in
-    (64 * k + t, has_at row (64 * k + t) k here ∙ rw (rest, low.1) refl)
+    let bit : bit_of word t ≡ true = rw low.1 refl in
+    let both = and_parts _ _ (sym (bit_meet (get_or one k 0) (get_or other k 0) t) ∙ bit) in
+    (64 * k + t, here, has_at one (64 * k + t) k here ∙ rw rest both.0, has_at other (64 * k + t) k here ∙ rw rest both.1)
 
 -- words of ones have all numbers up to the last word
 pub has_ones : (count y : ℕ) → has (replicate count 18446744073709551615) y ≡ ltb y (64 * count)

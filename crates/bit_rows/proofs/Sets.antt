@@ -1,7 +1,7 @@
 -- Which words of a set's row have a number, while numbers come and go.
-use Rattle.std.proofs.Common.{◌≡◌, ℕ, ◌+◌, ◌*◌, ◌/◌, ◌%◌, ◌^◌, ◌<◌, ◌≤◌, true, false, not, ◌&&◌, ◌||◌, inl, inr, eqb, List, length, get_or, refl, sym, ◌∙◌, arith, bit_or, bit_and, w64}
+use Rattle.std.proofs.Common.{◌≡◌, ℕ, ◌*◌, ◌/◌, ◌%◌, ◌^◌, ◌<◌, ◌≤◌, false, not, ◌||◌, inl, inr, eqb, List, length, get_or, refl, sym, ◌∙◌, arith, bit_or, bit_and, w64}
 use Rattle.std.specs.Int.{bit_not}
-use Rattle.std.proofs.lemmas.Bool.{eqb-true, eq-eqb, ne_eqb, cases_eq, or_cases, or_left, or_right, and_parts, and_from}
+use Rattle.std.proofs.lemmas.Bool.{eqb-true, eq-eqb, ne_eqb, or_cases, or_left, or_right, and_parts, and_from}
 use Rattle.bit_rows.specs.Rows.{bit_of, has, IsWithout}
 use Rattle.bit_rows.specs.Sets.{HasSummary}
 use Rattle.bit_rows.proofs.Bits.{clash, bit_alone, bit_meet, bit_other, bit_put, bit_zero}

@@ -22,11 +22,11 @@ IsWithout old new x = (y : ℕ) → has new y ≡ (has old y && not (nat_eq y x)
 abbrev pub IsWith : List ℕ → List ℕ → Bool → ℕ → Type 0
 IsWith old new wanted x = (y : ℕ) → has new y ≡ (has old y || (wanted && nat_eq y x))
 
--- the row has no number in its words below k
-abbrev pub IsBlankTo : List ℕ → ℕ → Type 0
-IsBlankTo row k = (y : ℕ) → y < 64 * k → has row y ≡ false
+-- two rows have no number in common in their words below k
+abbrev pub AreApartTo : List ℕ → List ℕ → ℕ → Type 0
+AreApartTo one other k = (y : ℕ) → y < 64 * k → IsTrue (has one y) → has other y ≡ false
 
--- no word of the row below k has a number, and the row has one where it has a word k
-pub record IsFirstWord (row : List ℕ) (k : ℕ) : Type 0 where
-  pub blank : IsBlankTo row k
-  pub some : k < length row → (y : ℕ) × IsTrue (has row y)
+-- two rows have nothing in common in their words below k, and something in word k, where there is one
+pub record IsFirstCommon (one other : List ℕ) (k : ℕ) : Type 0 where
+  pub apart : AreApartTo one other k
+  pub some : k < length one → (y : ℕ) × (y / 64 ≡ k) × IsTrue (has one y) × IsTrue (has other y)

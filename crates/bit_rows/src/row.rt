@@ -2,7 +2,7 @@
 
 ghost use Rattle.std.specs.Prelude.{◌≡◌, ◌≢◌, ℕ, ◌+◌, ◌*◌, ◌/◌, ◌%◌, ◌<◌, ◌≤◌, ◌||◌, false, length};
 ghost use Rattle.std.specs.Prelude.{◌&&◌, not, nat_eq, nat_lt, replicate, IsTrue, IfOk};
-ghost use Rattle.bit_rows.specs.Rows.{bit_of, has, word_count, IsBlankTo, IsFirstWord, IsWith, IsWithout};
+ghost use Rattle.bit_rows.specs.Rows.{bit_of, has, word_count, AreApartTo, IsFirstCommon, IsWithout};
 
 use std::alloc::{AllocError, Global};
 
@@ -69,16 +69,6 @@ pub fn put(row: &mut [u64], y: u32)
     row[y as usize / 64] |= 1 << (y % 64);
 }
 
-/// Puts number `y` into the row, where it is wanted.
-pub fn put_where(row: &mut [u64], y: u32, wanted: bool)
-    requires { y < 64 * length row.old }
-    ensures { IsWith row.old row.new wanted y }
-{
-    if wanted {
-        put(row, y);
-    }
-}
-
 /// Takes number `y` out of the row.
 pub fn clear(row: &mut [u64], y: u32)
     requires { y < 64 * length row.old }
@@ -129,16 +119,17 @@ pub fn lowest_in(word: u64, k: u32) -> u32
     64 * k + word.trailing_zeros()
 }
 
-/// The first word of the row that has a number, where the words below `from` have none; or how many
-/// words there are.
-pub fn first_word(row: &[u64], from: usize) -> usize
-    requires { IsBlankTo row.now from }
-    ensures { IsFirstWord row.now result }
+/// The first word in which two rows of one length have a number in common, where the words below
+/// `from` have none; or how many words there are.
+pub fn first_common(one: &[u64], other: &[u64], from: usize) -> usize
+    requires other { length other.now ≡ length one.now }
+    requires from { AreApartTo one.now other.now from }
+    ensures { IsFirstCommon one.now other.now result }
 {
-    for k in from..row.len() {
-        if row[k] != 0 {
+    for k in from..one.len() {
+        if one[k] & other[k] != 0 {
             return k;
         }
     }
-    row.len()
+    one.len()
 }

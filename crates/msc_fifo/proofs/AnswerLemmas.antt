@@ -17,8 +17,8 @@ use Rattle.msc_fifo.specs.Views.{offers_of, IsProper}
 use Rattle.msc_fifo.specs.Moves.{Told}
 use Rattle.msc_fifo.specs.Settling.{Shows, IsSenderOf, AreSendersOf}
 use Rattle.msc_fifo.specs.Parts.{IsPartOf, ArePartsOf}
-use Rattle.msc_fifo.proofs.LogLemmas.{get_inside}
-use Rattle.msc_fifo.proofs.PlaceLemmas.{build, dress, entries-build, length-build, get-build, claims-build, dressed, among_each, among_own, own_among, offer_among, outlet_of}
+use Rattle.msc_fifo.proofs.LogLemmas.{get_inside, member}
+use Rattle.msc_fifo.proofs.PlaceLemmas.{build, dress, entries-build, length-build, get-build, claims-build, dressed, among_own, own_among, offer_among, outlet_of}
 use Rattle.msc_fifo.proofs.ItemLemmas.{claimed_items}
 use Rattle.msc_fifo.proofs.SettleLemmas.{IsLearned, learned, account_of}
 use Rattle.msc_fifo.proofs.FillLemmas.{once_apart, slice_get-set_same, kept_accounts}
@@ -88,10 +88,10 @@ answered inlet outlets v n are t senders made got clocks proper =
     let mine : (c : Claim) → IsAmong c log → (o : OutletState) × IsAmong o outlets × (o.sender ≡ sender_of c.entry) =
     λ c a. outlet_of (sender_of c.entry) outlets (are.once (sender_of c.entry) (sender_within inlet.senders a.0 (entries_at log) c.entry orderly (entry_at log a.0 c a.1))) in
     let positive : (c : Claim) → IsAmong c log → is_message c.entry ≡ true → 0 < c.clock = λ c a message.
-    let o = mine c a in let k = among_each (IsKnown inlet.senders log t.offered) outlets o.0 o.1.0 o.1.1 known in
-    let p = among_each (λ (x : OutletState). Each IsProper x.claims) outlets o.0 o.1.0 o.1.1 proper in
+    let o = mine c a in let k = member (IsKnown inlet.senders log t.offered) outlets o.1.0 o.0 o.1.1 known in
+    let p = member (λ (x : OutletState). Each IsProper x.claims) outlets o.1.0 o.0 o.1.1 proper in
     let b : IsAmong c o.0.claims = subst (IsAmong c) (sym k.claims) (subst (λ (i : ℕ). IsAmong c (claims_of i log)) (sym o.2) (among_own (sender_of c.entry) a.0 log c a.1 refl)) in
-    let q = among_each IsProper o.0.claims c b.0 b.1 p message in omega arith in
+    let q = member IsProper o.0.claims b.0 c b.1 p message in omega arith in
     let dated : (c : Claim) → IsAmong c log → is_message c.entry ≡ true → (x : Slot) × (slice_get t.log c.place ≡ Some x) × Covers t.log c.place c.clock × ((i : ℕ) × (i < v.made) × ((j : ℕ) × (slice_get (t.offered i) j ≡ Some c.clock))) = λ c a message.
     let g = get-build 0 a.0 a.0 t.clk t.log c (omega arith) a.1 in
     let place : a.0 ≡ c.place = ap (λ (x : Claim). x.place) g.2 in
@@ -111,8 +111,8 @@ answered inlet outlets v n are t senders made got clocks proper =
       is_log = record {
         numbered = λ k c at. (let g = get-build 0 k k t.clk t.log c (omega arith) at in sym (ap (λ (x : Claim). x.place) g.2));
         orderly = orderly;
-        claims = λ o a. (among_each (IsKnown inlet.senders log t.offered) outlets o a.0 a.1 known).claims;
-        items = λ o a. (let k = among_each (IsKnown inlet.senders log t.offered) outlets o a.0 a.1 known in
+        claims = λ o a. (member (IsKnown inlet.senders log t.offered) outlets a.0 o a.1 known).claims;
+        items = λ o a. (let k = member (IsKnown inlet.senders log t.offered) outlets a.0 o a.1 known in
             ap entries_at k.claims ∙ claimed_items o.sender inlet.senders log o.put o.closed orderly k.put k.closed);
         got = (t.got.0, es ∙ t.got.1 ∙ ap (λ l. l ++ t.got.0) got);
         clocks = λ k c lt at. (let g = get-build 0 k k t.clk t.log c (omega arith) at in let lt' : k < length v.clocks = subst (λ (l : List ℕ). k < length l) (sym clocks) lt in
@@ -121,7 +121,7 @@ answered inlet outlets v n are t senders made got clocks proper =
             subst (λ (m : ℕ). m ≤ c.clock) (ap (λ (x : Claim). x.offer) g.2) (q.2 b.0 g.0 (subst (λ (k : ℕ). k ≤ c.place) (sym place) le) g.1));
         offered = λ c a message. (let q = dated c a message in let i = q.3.0 in
             let o = outlet_of i outlets (are.once i (subst (λ (m : ℕ). i < m) made q.3.1)) in
-            let k = among_each (IsKnown inlet.senders log t.offered) outlets o.0 o.1.0 o.1.1 known in
+            let k = member (IsKnown inlet.senders log t.offered) outlets o.1.0 o.0 o.1.1 known in
             let f = offer_among o.0.claims q.3.2.0 c.clock (subst (λ (l : List ℕ). slice_get l q.3.2.0 ≡ Some c.clock) (sym (k.offers ∙ ap t.offered o.2)) q.3.2.1) in
             let w = subst (IsAmong f.0) k.claims f.1 in
             (f.0, (own_among o.0.sender w.0 log f.0 w.1).0, f.2, f.3));

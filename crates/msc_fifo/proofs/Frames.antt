@@ -1,5 +1,5 @@
--- A step of an outlet or of the inlet keeps the rule where the seat's own view fits afterwards.
-use Rattle.std.proofs.Common.{◌≡◌, ◌≢◌, ℕ, zero, suc, ◌+◌, ◌<◌, ◌≤◌, true, false, true≢false, List, [], ◌∷◌, ◌++◌, length, set, slice_index, sym, refl, ap, ◌∙◌, subst, ⊎_elim, arith, length-set, get_or-set_same, get_or-set_other}
+-- A step of an outlet, or one that only reads, keeps the rule where the seat's own view fits afterwards.
+use Rattle.std.proofs.Common.{◌≡◌, ◌≢◌, ℕ, zero, suc, ◌+◌, ◌<◌, ◌≤◌, false, true≢false, List, [], ◌∷◌, ◌++◌, length, set, slice_index, sym, refl, ap, ◌∙◌, subst, ⊎_elim, arith, length-set, get_or-set_same, get_or-set_other}
 use mathlib.Core.Option.{some, some-ne-none, some-injective}
 use lib.ListN.{get_elem?}
 use Rattle.atomic_table.specs.Table.{State, keeps, stepped}
@@ -7,7 +7,7 @@ use Rattle.atomic_table.proofs.Lists.{at_set}
 use Rattle.msc_fifo.specs.declared.rule.Sender.{Sender}
 use Rattle.msc_fifo.specs.declared.rule.View.{View}
 use Rattle.msc_fifo.specs.World.{Each, Slot, World, world}
-use Rattle.msc_fifo.specs.Views.{rooms_of, IsSender, IsReceiver, Fits, Sound, Kept}
+use Rattle.msc_fifo.specs.Views.{rooms_of, IsSender, Fits, Sound, Kept}
 use Rattle.msc_fifo.proofs.LogLemmas.{each-map}
 use Rattle.msc_fifo.proofs.Worlds.{Grows, Spares, sender_stays, receiver_stays}
 
@@ -42,7 +42,7 @@ pub other_word : (words : List ℕ) (i j n : ℕ) → j ≢ i → slice_index (s
 other_word words i j n other = get_or-set_other words i j n 0 other
 
 -- a word that is only read
-pub set_same : (xs : List ℕ) (i : ℕ) → set xs i (slice_index xs i) ≡ xs
+set_same : (xs : List ℕ) (i : ℕ) → set xs i (slice_index xs i) ≡ xs
 set_same [] i = refl
 set_same (x ∷ xs) zero = refl
 set_same (x ∷ xs) (suc i) = ap (λ l. x ∷ l) (set_same xs i)
@@ -56,14 +56,14 @@ abbrev pub next : {places : ℕ} {s : State (Unit {0}) View} → Kept places s �
 next h offered log words = world h.reader h.made h.seat offered log words
 
 -- an outlet's step keeps the rule where the words grow, the other senders are spared, and its own view fits
-pub outlet_keeps : (places i n id : ℕ) (s : State (Unit {0}) View) (c : List (ℕ × Unit {0})) (v w : View) (x y : Sender) (h : Kept places s) (offered : ℕ → List ℕ) (log : List Slot) (words : List ℕ)
-    → set s.words i n ≡ words → get_elem? s.views id ≡ some v → v.senders ≡ x ∷ [] → w.gets ≡ false → w.senders ≡ y ∷ []
-    → Grows (now h) (next h offered log words) → ((j : ℕ) → j ≢ x.from → Spares (now h) (next h offered log words) j)
-    → IsSender places (next h offered log words) id y → Sound places (next h offered log words)
-    → slice_index words 0 ≡ length log → w.room + length log ≡ v.room + length h.log
+pub outlet_keeps : (places i n id : ℕ) (s : State (Unit {0}) View) (c : List (ℕ × Unit {0})) (v w : View) (x y : Sender) (h : Kept places s) (offered : ℕ → List ℕ) (log : List Slot)
+    → get_elem? s.views id ≡ some v → v.senders ≡ x ∷ [] → w.gets ≡ false → w.senders ≡ y ∷ []
+    → Grows (now h) (next h offered log (set s.words i n)) → ((j : ℕ) → j ≢ x.from → Spares (now h) (next h offered log (set s.words i n)) j)
+    → IsSender places (next h offered log (set s.words i n)) id y → Sound places (next h offered log (set s.words i n))
+    → slice_index (set s.words i n) 0 ≡ length log → w.room + length log ≡ v.room + length h.log
     → Kept places (stepped s i n id c w keeps)
-outlet_keeps places i n id s c v w x y h offered log words is at only quiet only' grows spares mine sound claimed rooms =
-    let old = now h in let new = next h offered log words in
+outlet_keeps places i n id s c v w x y h offered log at only quiet only' grows spares mine sound claimed rooms =
+    let old = now h in let new = next h offered log (set s.words i n) in
     let me = (subst (Each (IsSender places old id)) only (h.each id v at).1).0 in
     let F : ℕ → View → Type 0 = Fits places new in
     let others : (j : ℕ) (u : View) → j ≢ id → get_elem? s.views j ≡ some u → F j u = λ j u other at'. (
@@ -71,7 +71,6 @@ outlet_keeps places i n id s c v w x y h offered log words is at only quiet only
       each-map (IsSender places old j) (IsSender places new j) u.senders
           (λ z hz. sender_stays places old new j j z grows (spares z.from (λ same. other (sym hz.seat ∙ ap h.seat same ∙ me.seat))) hz.seat hz) (h.each j u at').1,
     ) in
-    let wide = h.wide in
     record {
       reader = h.reader;
       made = h.made;
@@ -80,31 +79,28 @@ outlet_keeps places i n id s c v w x y h offered log words is at only quiet only
       log = log;
       wide = length-set s.words i n ∙ h.wide;
       small = h.small;
-      claimed = ap (λ (l : List ℕ). slice_index l 0) is ∙ claimed;
+      claimed = claimed;
       rooms = (let r = rooms_set s.views id v w at in let t = h.rooms in omega arith);
-      sound = subst (λ (l : List ℕ). Sound places (next h offered log l)) (sym is) sound;
-      each = λ j u e. subst (λ (l : List ℕ). Fits places (next h offered log l) j u) (sym is)
-          (all_set F s.views id w ((λ g. absurd (true≢false (sym g ∙ quiet))), subst (Each (IsSender places new id)) (sym only') (mine, tt)) others j u e);
+      sound = sound;
+      each = all_set F s.views id w ((λ g. absurd (true≢false (sym g ∙ quiet))), subst (Each (IsSender places new id)) (sym only') (mine, tt)) others;
     }
 
--- a step of the inlet that writes nothing keeps the rule where its own view fits
-pub inlet_keeps : (places i id : ℕ) (s : State (Unit {0}) View) (c : List (ℕ × Unit {0})) (v w : View) (h : Kept places s)
-    → get_elem? s.views id ≡ some v → w.senders ≡ v.senders → w.room ≡ v.room → (w.gets ≡ true → IsReceiver places (now h) id w)
-    → Kept places (stepped s i (slice_index s.words i) id c w keeps)
-inlet_keeps places i id s c v w h at only rooms mine =
-    let n = slice_index s.words i in let is = set_same s.words i in
-    let F : ℕ → View → Type 0 = Fits places (now h) in
+-- a step that writes nothing keeps the rule where the seat's own view fits
+pub read_keeps : (places i id : ℕ) (s : State (Unit {0}) View) (c : List (ℕ × Unit {0})) (v w : View) (h : Kept places s)
+    → get_elem? s.views id ≡ some v → w.room ≡ v.room → Fits places (now h) id w → Kept places (stepped s i (slice_index s.words i) id c w keeps)
+read_keeps places i id s c v w h at rooms mine =
+    let is = set_same s.words i in
     record {
       reader = h.reader;
       made = h.made;
       seat = h.seat;
       offered = h.offered;
       log = h.log;
-      wide = length-set s.words i n ∙ h.wide;
+      wide = length-set s.words i (slice_index s.words i) ∙ h.wide;
       small = h.small;
       claimed = ap (λ (l : List ℕ). slice_index l 0) is ∙ h.claimed;
       rooms = (let r = rooms_set s.views id v w at in let t = h.rooms in omega arith);
       sound = subst (λ (l : List ℕ). Sound places (next h h.offered h.log l)) (sym is) h.sound;
       each = λ j u e. subst (λ (l : List ℕ). Fits places (next h h.offered h.log l) j u) (sym is)
-          (all_set F s.views id w (mine, subst (Each (IsSender places (now h) id)) (sym only) (h.each id v at).1) (λ j u other at'. h.each j u at') j u e);
+          (all_set (Fits places (now h)) s.views id w mine (λ j u other at'. h.each j u at') j u e);
     }

@@ -14,10 +14,10 @@ use Rattle.msc_fifo.specs.Entries.{sender_of, IsOrderly}
 use Rattle.msc_fifo.specs.World.{Each, Slot, entries, code, World, world, Holds, IsDated, IsStored, slot, IsSmall}
 use Rattle.msc_fifo.specs.Views.{IsSender, IsReceiver, Fits, Sound, Kept, receives, new_sender, sends, beside, nobody}
 use Rattle.msc_fifo.specs.Moves.{Seated, LooksAt, LearnsIt, SettlesIt, Told, clocks_at_once, IsClaimOf, ReadsItsEntry, ReadsItsClock}
-use Rattle.msc_fifo.proofs.EntryLemmas.{messages_of-nothing, has_ended-nothing, nothing_past, orderly_wider, orderly-at}
-use Rattle.msc_fifo.proofs.LogLemmas.{cond-true, cond-false, own-nothing, each-map, each-append, get_inside, claim_get}
-use Rattle.msc_fifo.proofs.Worlds.{Grows, Spares, dated_stays, sender_stays, receiver_stays}
-use Rattle.msc_fifo.proofs.Frames.{all_set, rooms_set, rooms_snoc, inlet_keeps, now}
+use Rattle.msc_fifo.proofs.EntryLemmas.{messages_of-nothing, has_ended-nothing, nothing_past, orderly_wider, orderly-at, code_full}
+use Rattle.msc_fifo.proofs.LogLemmas.{cond-true, cond-false, own-nothing, each-map, each-append, get_inside, member, claim_get}
+use Rattle.msc_fifo.proofs.Worlds.{Grows, Spares, sound_stays, sender_stays, receiver_stays}
+use Rattle.msc_fifo.proofs.Frames.{all_set, rooms_set, rooms_snoc, read_keeps, now}
 
 -- what the log shows at a place, among its entries
 get_entry : (log : List Slot) (k : ℕ) (x : Slot) → slice_get log k ≡ Some x → slice_get (entries log) k ≡ Some x.entry
@@ -43,11 +43,6 @@ index_last [] x zero h = refl
 index_last [] x (suc k) h = absurd (omega arith)
 index_last (y ∷ xs) x zero h = absurd (omega arith)
 index_last (y ∷ xs) x (suc k) h = index_last xs x k (omega arith)
-
--- the word of an entry is not 0
-code_full : (e : Entry) → code e ≢ 0
-code_full (Message i m) z = omega arith
-code_full (Ended i) z = omega arith
 
 -- the end mark's place has the clock 0
 mark_clock : (w : World) (k i : ℕ) (x : Slot) → slice_get w.log k ≡ Some x → x.entry ≡ Ended i → IsDated w k (w.clk k) → w.clk k ≡ 0
@@ -82,7 +77,7 @@ taken places id w v (Ended i) x more h sound fits even whole at is full = let on
 looks : (places slots id i : ℕ) (me : Seated) → me.0.gets ≡ true → i ≡ length me.0.got + length me.0.got + 2 → length me.0.clocks ≡ length me.0.got → length me.0.got < places → (s : State (Unit {0}) View) (h : Kept places s) (at : get_elem? s.views id ≡ some me.0)
     → Holds h.log (length me.0.got) (slice_index s.words i)
     → (w : View) × Kept places (stepped s i (slice_index s.words i) id me.1 w keeps) × LooksAt (step slots i 0 0 none) me (slice_index s.words i) (w, me.1)
-looks places slots id i me gets word even fits s h at (inl z) = (me.0, inlet_keeps places i id s me.1 me.0 me.0 h at refl refl (h.each id me.0 at).0, (inl (z, refl), refl))
+looks places slots id i me gets word even fits s h at (inl z) = (me.0, read_keeps places i id s me.1 me.0 me.0 h at refl (h.each id me.0 at), (inl (z, refl), refl))
 looks places slots id i me gets word even fits s h at (inr x) =
     let v : View = me.0 in let e : Entry = x.0.entry in let w : View = record v { got = v.got ++ e ∷ []; clocks = v.clocks ++ clocks_at_once e } in
     let old = now h in
@@ -94,7 +89,7 @@ looks places slots id i me gets word even fits s h at (inr x) =
     let front = orderly-at h.made v.got e more.0 (subst (IsOrderly h.made) whole h.sound.orderly) in
     let full : old.item (length v.got) ≢ 0 = λ z. code_full e (sym x.2 ∙ ap (λ (j : ℕ). slice_index s.words j) word ∙ z) in (
       w,
-      inlet_keeps places i id s me.1 v w h at refl refl (λ _. taken places id old v e x.0 more.0 mine h.sound fits even whole x.1 refl full),
+      read_keeps places i id s me.1 v w h at refl ((λ _. taken places id old v e x.0 more.0 mine h.sound fits even whole x.1 refl full), (h.each id v at).1),
       (inr (e, x.2, x.3, (refl, subst (λ (n : ℕ). sender_of e < n) (sym mine.made) front.0, front.1)), refl),
     )
 
@@ -122,7 +117,7 @@ learns_keep places slots id i me gets word behind s h same at lt =
       few = omega arith;
       clocks = λ k lt. ⊎_elim (λ (is : k ≡ length v.clocks). ap old.clk is ∙ here ∙ sym (index_last v.clocks n k is)) (λ (before : k < length v.clocks). mine.clocks k before ∙ sym (index_front v.clocks (n ∷ []) k before)) (eq-or-lt_of_le (omega arith));
     } in
-    (w, keeps, tt, inlet_keeps places i id s me.1 v w h at refl refl (λ _. known), (refl, refl))
+    (w, keeps, tt, read_keeps places i id s me.1 v w h at refl ((λ _. known), (h.each id v at).1), (refl, refl))
 
 -- reading the claim word keeps the rule, and tells all that was claimed
 pub settles_keep : (places slots id : ℕ) (me : Seated) → me.0.gets ≡ true → Allows (Kept places) slots id me 0 (λ n. n) (SettlesIt (step slots 0 0 0 none) me)
@@ -143,14 +138,7 @@ settles_keep places slots id me gets s h same at lt =
       senders = each-map (IsSender places old id) _ v.senders
           (λ x p. (subst (λ (n : ℕ). x.from < n) (sym mine.made) p.made, p.put, p.closed, p.claims, p.offers, each-map (IsStored old) _ x.claims (λ c q. q.1) p.stored)) (h.each id v at).1;
     } in
-    (v, keeps, tt, inlet_keeps places 0 id s me.1 v v h at refl refl (λ g. mine), (refl, told))
-
-module _ {A : Type 0} where
-  -- what holds of all holds of one among them
-  member : (P : A → Type 0) (xs : List A) (k : ℕ) (x : A) → slice_get xs k ≡ Some x → Each P xs → P x
-  member P [] k x at h = cc
-  member P (y ∷ xs) zero x at h = let is : y ≡ x = cc in subst P is h.0
-  member P (y ∷ xs) (suc k) x at h = member P xs k x at h.1
+    (v, keeps, tt, read_keeps places 0 id s me.1 v v h at refl (h.each id v at), (refl, told))
 
 -- what the words of a stored claim are
 pub record IsWritten (places : ℕ) (w : World) (c : Claim) : Type 0 where
@@ -183,7 +171,7 @@ reads_entry places slots id i me gets s h same at lt = (
   me.0,
   keeps,
   tt,
-  inlet_keeps places i id s me.1 me.0 me.0 h at refl refl (h.each id me.0 at).0,
+  read_keeps places i id s me.1 me.0 me.0 h at refl (h.each id me.0 at),
   (
     refl,
     λ c of word.
@@ -198,7 +186,7 @@ reads_clock places slots id i me gets s h same at lt = (
   me.0,
   keeps,
   tt,
-  inlet_keeps places i id s me.1 me.0 me.0 h at refl refl (h.each id me.0 at).0,
+  read_keeps places i id s me.1 me.0 me.0 h at refl (h.each id me.0 at),
   (refl, λ c of word. ap (λ (j : ℕ). slice_index s.words j) word ∙ (written places id s h me.0 c at of).clk),
 )
 
@@ -272,13 +260,7 @@ splits_keep places id room v gets alone enough s h at =
       small = h.small;
       claimed = h.claimed;
       rooms = (let a = rooms_set s.views id v l at in let b = rooms_snoc vs r in let t = h.rooms in omega arith);
-      sound = record {
-        orderly = orderly_wider h.made (entries h.log) h.sound.orderly;
-        cells = h.sound.cells;
-        dated = λ k lt. dated_stays old new k (old.clk k) grows (h.sound.dated k lt);
-        above = h.sound.above;
-        clock = ⊎_elim (λ (z : old.clock ≡ 0). inl z) (λ f. inr (grows.offered old.clock f)) h.sound.clock;
-      };
+      sound = sound_stays places old new grows (orderly_wider h.made (entries h.log) h.sound.orderly) (λ k. inl refl) (λ k. inl refl) tt (inl refl) h.sound;
       each = λ j u e. ⊎_elim (λ y. olds j u y) (λ (y : (j ≡ length vs) × (r ≡ u)). subst (F j) y.1 ((λ no. absurd (true≢false (sym no))), (first j y.0, tt))) (snoc_cases vs r u j e);
     }
 
@@ -317,13 +299,7 @@ joins_keep places id v other w x gets only s h at two at' =
       small = h.small;
       claimed = h.claimed;
       rooms = (let a = rooms_set s.views id v both at in let b = rooms_set vs other w nobody at' in let t = h.rooms in omega arith);
-      sound = record {
-        orderly = h.sound.orderly;
-        cells = h.sound.cells;
-        dated = λ k lt. dated_stays old new k (old.clk k) grows (h.sound.dated k lt);
-        above = h.sound.above;
-        clock = h.sound.clock;
-      };
+      sound = sound_stays places old new grows h.sound.orderly (λ k. inl refl) (λ k. inl refl) tt (inl refl) h.sound;
       each = all_set F vs other nobody ((λ no. absurd (true≢false (sym no))), tt) (λ j u away e. now' j u e away);
     }
 

@@ -1,5 +1,5 @@
 -- Lists of claims: what one claim more changes.
-use Rattle.std.proofs.Common.{◌≡◌, ◌≢◌, ◌⊎◌, inl, inr, ⊎_elim, map, ℕ, zero, suc, ◌+◌, ◌<◌, ◌==◌, Bool, true, false, cond, true≢false, List, [], ◌∷◌, ◌++◌, length, Some, slice_get, sym, refl, ap, ◌∙◌, arith, eq-eqb, ne_eqb, append-nil}
+use Rattle.std.proofs.Common.{◌≡◌, ◌≢◌, ◌⊎◌, inl, inr, ⊎_elim, map, ℕ, zero, suc, ◌+◌, ◌<◌, ◌==◌, Bool, true, false, cond, true≢false, List, [], ◌∷◌, ◌++◌, length, Some, slice_get, sym, refl, ap, ◌∙◌, subst, arith, eq-eqb, ne_eqb, append-nil}
 use Rattle.msc_fifo.specs.declared.claim.Claim.{Claim}
 use Rattle.msc_fifo.specs.Entries.{sender_of, HasNothingOf}
 use Rattle.msc_fifo.specs.World.{Each, Slot, Spot, slot, spot, spot_of, entries, own, Covers}
@@ -37,6 +37,12 @@ module _ {A : Type 0} where
   get_back (x ∷ xs) ys zero e lt h = h
   get_back (x ∷ xs) ys (suc k) e lt h = get_back xs ys k e (omega arith) h
 
+  -- what stands in both stands in the first or in the second
+  pub get_either : (xs ys : List A) (k : ℕ) (e : A) → slice_get (xs ++ ys) k ≡ Some e → (slice_get xs k ≡ Some e) ⊎ ((j : ℕ) × (slice_get ys j ≡ Some e))
+  get_either [] ys k e h = inr (k, h)
+  get_either (x ∷ xs) ys zero e h = inl h
+  get_either (x ∷ xs) ys (suc k) e h = get_either xs ys k e h
+
   -- the last member
   pub get_last : (xs : List A) (e : A) (k : ℕ) → k ≡ length xs → slice_get (xs ++ e ∷ []) k ≡ Some e
   get_last [] e zero h = refl
@@ -49,6 +55,12 @@ module _ {A : Type 0} where
   get_inside [] k e h = cc
   get_inside (x ∷ xs) zero e h = omega arith
   get_inside (x ∷ xs) (suc k) e h = let r = get_inside xs k e h in omega arith
+
+  -- what holds of all holds of one among them
+  pub member : (P : A → Type 0) (xs : List A) (k : ℕ) (x : A) → slice_get xs k ≡ Some x → Each P xs → P x
+  member P [] k x at h = cc
+  member P (y ∷ xs) zero x at h = let is : y ≡ x = cc in subst P is h.0
+  member P (y ∷ xs) (suc k) x at h = member P xs k x at h.1
 
   -- all members of two lists
   pub each-append : (P : A → Type 0) (xs ys : List A) → Each P xs → Each P ys → Each P (xs ++ ys)

@@ -1,8 +1,9 @@
 -- Each step of an outlet keeps the rule of the table.
-use Rattle.std.proofs.Common.{◌≡◌, ◌≢◌, ◌⊎◌, ℕ, zero, suc, ◌+◌, ◌-◌, ◌^◌, ◌%◌, ◌<◌, ◌≤◌, ◌==◌, max, Bool, true, false, cond, List, [], ◌∷◌, ◌++◌, map, length, set, Some, slice_get, slice_index, sym, refl, ap, ◌∙◌, subst, inl, inr, ⊎_elim, append-nil, arith, length-append, mod-eq_of_lt, eq-eqb, ne_eqb, lt_of_not-le}
-use mathlib.Core.Option.{none}
-use native.Mathlib.Decide.{dec_le}
-use Rattle.atomic_table.specs.Table.{step, keeps, Allows}
+use Rattle.std.proofs.Common.{◌≡◌, ◌≢◌, ◌⊎◌, ℕ, ◌+◌, ◌-◌, ◌^◌, ◌%◌, ◌<◌, ◌≤◌, ◌==◌, max, Bool, true, false, true≢false, cond, List, [], ◌∷◌, ◌++◌, map, length, set, Some, slice_get, slice_index, sym, refl, ap, ◌∙◌, subst, inl, inr, ⊎_elim, append-nil, arith, length-append, mod-eq_of_lt, eq-eqb, ne_eqb}
+use Rattle.std.proofs.lemmas.Bool.{cases_eq, cases_lt}
+use mathlib.Core.Option.{some, none}
+use lib.ListN.{get_elem?}
+use Rattle.atomic_table.specs.Table.{State, step, stepped, keeps, Allows}
 use Rattle.msc_fifo.specs.declared.entry.Entry.{Entry}
 use Rattle.msc_fifo.specs.declared.entry.Entry.TheVariants.{Message, Ended}
 use Rattle.msc_fifo.specs.declared.claim.Claim.{Claim}
@@ -13,37 +14,27 @@ use Rattle.msc_fifo.specs.Entries.{sender_of, messages_of, has_ended, IsOrderly}
 use Rattle.msc_fifo.specs.World.{Each, Slot, slot, spot_of, entries, own, code, IsSmall, World, Offered, Holds, IsDated, IsStored}
 use Rattle.msc_fifo.specs.Views.{IsPending, IsSender, Sound, Kept}
 use Rattle.msc_fifo.specs.Moves.{Seated, OffersIt, ClaimsIt, DatesIt, ShowsIt, StoresIt, with_senders, after_offer, after_claim, after_date, after_show, after_store}
-use Rattle.msc_fifo.proofs.EntryLemmas.{orderly-push, has_ended-message, has_ended-ended, messages_of-message, messages_of-ended, untouched}
-use Rattle.msc_fifo.proofs.LogLemmas.{entries-append, cond-true, cond-false, get_front, get_last, get_inside, own-mine, own-other, each-map, each-append}
-use Rattle.msc_fifo.proofs.Worlds.{Grows, Spares, dated_stays, stored_stays}
-use Rattle.msc_fifo.proofs.Frames.{outlet_keeps, room_within, this_word, other_word, set_same, now, next}
+use Rattle.msc_fifo.proofs.EntryLemmas.{orderly-push, has_ended-message, has_ended-ended, messages_of-message, messages_of-ended, untouched, code_full}
+use Rattle.msc_fifo.proofs.LogLemmas.{entries-append, cond-true, cond-false, get_front, get_last, get_inside, own-mine, own-other, each-append}
+use Rattle.msc_fifo.proofs.Worlds.{Grows, Spares, dated_stays, sound_stays, stored_stay}
+use Rattle.msc_fifo.proofs.Frames.{outlet_keeps, read_keeps, room_within, this_word, other_word, now, next}
 
--- a step of one sender, seen from a world in which only the offers are others
-sound_same : (places : ℕ) (w w' : World) → Grows w w' → w'.made ≡ w.made → w'.log ≡ w.log → ((k : ℕ) → w'.item k ≡ w.item k) → ((k : ℕ) → w'.clk k ≡ w.clk k) → (w'.clock ≡ 0) ⊎ Offered w' w'.clock → Sound places w → Sound places w'
-sound_same places w w' g made log item clk clock h = record {
-  orderly = subst (λ (n : ℕ). IsOrderly n (entries w'.log)) (sym made) (subst (λ (l : List Slot). IsOrderly w.made (entries l)) (sym log) h.orderly);
-  cells = λ k lt. subst (λ (l : List Slot). Holds l k (w'.item k)) (sym log) (subst (Holds w.log k) (sym (item k)) (h.cells k lt));
-  dated = λ k lt. subst (IsDated w' k) (sym (clk k)) (dated_stays w w' k (w.clk k) g (h.dated k lt));
-  above = λ k x at. (let a = h.above k x (subst (λ (l : List Slot). slice_get l k ≡ Some x) log at) in let b = g.clock in omega arith);
-  clock = clock;
-}
+-- what is known of a sender that only a claim of its own changes
+abbrev Standing : ℕ → World → ℕ → Sender → Type 0
+Standing places w id x = (w.seat x.from ≡ id) × (x.from < w.made) × (x.places ≡ places) × (x.put ≡ messages_of x.from (entries w.log)) × (x.closed ≡ has_ended x.from (entries w.log))
 
--- the greater of two is at least the second
-max_right : (n o : ℕ) → o ≤ max n o
-max_right n o = omega arith
+-- that much of all that is known of it
+standing : {places id : ℕ} {w : World} {x : Sender} → IsSender places w id x → Standing places w id x
+standing h = (h.seat, h.made, h.places_are, h.put, h.closed)
 
--- and at least the first
-max_left : (n o : ℕ) → n ≤ max n o
-max_left n o = omega arith
+-- and all of it, with what its other steps change
+sender_is : {places id : ℕ} {w : World} {x : Sender} → Standing places w id x → map spot_of (x.claims ++ x.pending) ≡ own x.from 0 w.log → x.offers ≡ w.offered x.from → x.ready ≤ w.clock
+    → Each (IsStored w) x.claims → Each (IsPending w x) x.pending → IsSender places w id x
+sender_is k claims offers ready stored pending = record { seat = k.0; made = k.1; places_are = k.2; put = k.3; closed = k.4; claims = claims; offers = offers; ready = ready; stored = stored; pending = pending }
 
--- and one of them, where it is known which is at most the other
-max_either : (n o : ℕ) → Dec (o ≤ n) → (max n o ≡ n) ⊎ (max n o ≡ o)
-max_either n o (yes le) = inl (omega arith)
-max_either n o (no not) = let lt = lt_of_not-le not in inr (omega arith)
-
--- and one of them
+-- the greater of two is one of them
 max_cases : (n o : ℕ) → (max n o ≡ n) ⊎ (max n o ≡ o)
-max_cases n o = max_either n o (dec_le o n)
+max_cases n o = ⊎_elim (λ (lt : n < o). inr (omega arith)) (λ (le : o ≤ n). inl (omega arith)) (cases_lt n o)
 
 -- the offers of the sender i are one more
 abbrev more_offers : (ℕ → List ℕ) → ℕ → ℕ → ℕ → List ℕ
@@ -77,7 +68,7 @@ offers_keep places slots id o me x quiet only rest s h same at lt =
       made = omega arith;
       log = ([], sym (append-nil h.log));
       frozen = λ k _. (item k, clk k);
-      clock = (let m = max_left n o in omega arith);
+      clock = omega arith;
       offered = λ m f. (f.0, f.1, (f.2.0, offered_more h.offered i o f.0 f.2.0 m f.2.1));
     } in
     let spares : (j : ℕ) → j ≢ i → Spares old new j = λ j other. record {
@@ -88,26 +79,14 @@ offers_keep places slots id o me x quiet only rest s h same at lt =
       places = λ k z at' is. (item k, clk k);
     } in
     let offered_o : Offered new o = (i, mine.made, (length (h.offered i), subst (λ (l : List ℕ). slice_get l (length (h.offered i)) ≡ Some o) (sym here) (get_last (h.offered i) o (length (h.offered i)) refl))) in
-    let topped : (new.clock ≡ 0) ⊎ Offered new new.clock = ⊎_elim
-    (λ (e : n' ≡ n). ⊎_elim (λ (z : n ≡ 0). inl (clock ∙ e ∙ z)) (λ f. inr (subst (Offered new) (sym (clock ∙ e)) (grows.offered n f))) h.sound.clock)
-    (λ (e : n' ≡ o). inr (subst (Offered new) (sym (clock ∙ e)) offered_o)) (max_cases n o) in
-    let sender : IsSender places new id y = record {
-      seat = mine.seat;
-      made = mine.made;
-      places_are = mine.places_are;
-      put = mine.put;
-      closed = mine.closed;
-      claims = mine.claims;
-      offers = ap (λ l. l ++ o ∷ []) mine.offers ∙ sym here;
-      ready = (let m = max_right n o in omega arith);
-      stored = each-map (IsStored old) (IsStored new) x.claims (λ c. stored_stays old new c grows) mine.stored;
-      pending = subst (Each (IsPending new y)) (sym rest) tt;
-    } in (
+    let topped : (new.clock ≡ old.clock) ⊎ Offered new new.clock = ⊎_elim (λ (e : n' ≡ n). inl (clock ∙ e)) (λ (e : n' ≡ o). inr (subst (Offered new) (sym (clock ∙ e)) offered_o)) (max_cases n o) in
+    let offers : y.offers ≡ offered i = ap (λ l. l ++ o ∷ []) mine.offers ∙ sym here in
+    let sender : IsSender places new id y = sender_is (standing mine) mine.claims offers (omega arith) (stored_stay old new x.claims grows mine.stored) (subst (Each (IsPending new y)) (sym rest) tt) in (
       w,
       keeps,
       tt,
-      outlet_keeps places 1 n' id s me.1 v w x y h offered h.log words refl at only quiet (ap (map (after_offer o)) only) grows spares sender
-          (sound_same places old new grows refl refl item clk topped h.sound) (other_word s.words 1 0 n' (λ e. omega arith) ∙ h.claimed) refl,
+      outlet_keeps places 1 n' id s me.1 v w x y h offered h.log at only quiet (ap (map (after_offer o)) only) grows spares sender
+          (sound_stays places old new grows h.sound.orderly (λ k. inl (item k)) (λ k. inl (clk k)) tt topped h.sound) (other_word s.words 1 0 n' (λ e. omega arith) ∙ h.claimed) refl,
       (refl, refl),
     )
 
@@ -171,7 +150,7 @@ grown places id k old new x (Message i m) rest is last fits log item clk seat of
       claims = claims_more x (claim k (Message i m) x.ready 0) old.log rest h.claims is last ∙ ap (own x.from 0) (sym log);
       offers = h.offers ∙ sym offered;
       ready = (let a = h.ready in let b = g.clock in omega arith);
-      stored = each-map (IsStored old) (IsStored new) x.claims (λ c. stored_stays old new c g) h.stored;
+      stored = stored_stay old new x.claims g h.stored;
       pending = (pending_claim places k old new x (after_claim k (Message i m) x) (Message i m) x.ready last fits h.places_are refl refl refl is log item clk, tt);
     }
 grown places id k old new x (Ended i) rest is last fits log item clk seat offered g h =
@@ -186,7 +165,7 @@ grown places id k old new x (Ended i) rest is last fits log item clk seat offere
       claims = claims_more x (claim k (Ended i) 0 0) old.log rest h.claims is last ∙ ap (own x.from 0) (sym log);
       offers = h.offers ∙ sym offered;
       ready = (let a = h.ready in let b = g.clock in omega arith);
-      stored = each-map (IsStored old) (IsStored new) x.claims (λ c. stored_stays old new c g) h.stored;
+      stored = stored_stay old new x.claims g h.stored;
       pending = (pending_claim places k old new x (after_claim k (Ended i) x) (Ended i) 0 last fits h.places_are refl refl refl is log item clk, tt);
     }
 
@@ -194,13 +173,6 @@ grown places id k old new x (Ended i) rest is last fits log item clk seat offere
 offer_below : (x : Sender) (e : Entry) (n : ℕ) → x.ready ≤ n → offer_for x e ≤ n
 offer_below x (Message i m) n le = le
 offer_below x (Ended i) n le = omega arith
-
--- what stands in a list that is one longer
-snoc_get : (log : List Slot) (x y : Slot) (k : ℕ) → slice_get (log ++ x ∷ []) k ≡ Some y → (slice_get log k ≡ Some y) ⊎ (x ≡ y)
-snoc_get [] x y zero h = inr cc
-snoc_get [] x y (suc k) h = cc
-snoc_get (z ∷ log) x y zero h = inl h
-snoc_get (z ∷ log) x y (suc k) h = snoc_get log x y k h
 
 -- a claim keeps the rule: the entry is the sender's next one, and nobody else's
 pub claims_keep : (places slots id : ℕ) (me : Seated) (x : Sender) (e : Entry) → me.0.gets ≡ false → me.0.senders ≡ x ∷ [] → x.pending ≡ [] → x.closed ≡ false → sender_of e ≡ x.from → 0 < me.0.room
@@ -243,31 +215,18 @@ claims_keep places slots id me x e quiet only rest opened is room s h same at lt
     let lt' : sender_of e < h.made = subst (λ (k : ℕ). k < h.made) (sym is) mine.made in
     let going : has_ended (sender_of e) (entries h.log) ≡ false = subst (λ (k : ℕ). has_ended k (entries h.log) ≡ false) (sym is) (sym mine.closed ∙ opened) in
     let low = offer_below x e old.clock mine.ready in
-    let sound : Sound places new = record {
-      orderly = subst (IsOrderly h.made) (sym more) (orderly-push h.made (entries h.log) e h.sound.orderly lt' going);
-      cells = λ k lt. subst (Holds log k) (sym (item k)) (⊎_elim (λ (z : old.item k ≡ 0). inl z) (λ z. inr (z.0, get_front h.log (slot e o ∷ []) k z.0 z.1, z.2, z.3)) (h.sound.cells k lt));
-      dated = λ k lt. subst (IsDated new k) (sym (clk k)) (dated_stays old new k (old.clk k) grows (h.sound.dated k lt));
-      above = λ k z at'. (let le : z.offer ≤ old.clock = ⊎_elim (λ was. h.sound.above k z was) (λ (is' : slot e o ≡ z). subst (λ (t : Slot). t.offer ≤ old.clock) is' low) (snoc_get h.log (slot e o) z k at') in omega arith);
-      clock = ⊎_elim (λ (z : old.clock ≡ 0). inl (clock ∙ z)) (λ f. inr (subst (Offered new) (sym clock) f)) h.sound.clock;
-    } in
+    let orderly = subst (IsOrderly h.made) (sym more) (orderly-push h.made (entries h.log) e h.sound.orderly lt' going) in
+    let sound = sound_stays places old new grows orderly (λ k. inl (item k)) (λ k. inl (clk k)) (omega arith, tt) (inl clock) h.sound in
     let blank = item n ∙ item_blank places old n h.sound fits count in
     let blank' = clk n ∙ clk_blank places old n h.sound fits count in (
       w,
       keeps,
       tt,
-      outlet_keeps places 0 n' id s me.1 v w x y h h.offered log words refl at only quiet (ap (map (after_claim n e)) only) grows spares
+      outlet_keeps places 0 n' id s me.1 v w x y h h.offered log at only quiet (ap (map (after_claim n e)) only) grows spares
           (grown places id n old new x e rest is count fits refl blank blank' refl refl grows mine) sound
           (this_word s.words 0 n' inside ∙ next_is ∙ ap (λ (k : ℕ). k + 1) count ∙ sym one) (omega arith),
       (refl, refl, subst (Each (λ (z : Sender). n < z.places)) (sym only) ((let p = mine.places_are in omega arith), tt)),
     )
-
--- nothing changes: the words grow
-grows_same : (w : World) → Grows w w
-grows_same w = record { made = omega arith; log = ([], sym (append-nil w.log)); frozen = λ k _. (refl, refl); clock = omega arith; offered = λ n f. f }
-
--- nothing changes: each sender is spared
-spares_same : (w : World) (j : ℕ) → Spares w w j
-spares_same w j = record { put = refl; closed = refl; claims = refl; offers = refl; places = λ k x at is. (refl, refl) }
 
 -- reading the clock word keeps the rule: it covers the place that was claimed
 pub dates_keep : (places slots id : ℕ) (me : Seated) (x : Sender) (c : Claim) → me.0.gets ≡ false → me.0.senders ≡ x ∷ [] → x.pending ≡ c ∷ [] → is_message c.entry ≡ true
@@ -287,22 +246,13 @@ dates_keep places slots id me x c quiet only waits message s h same at lt =
       shown = p.shown;
       dated = ⊎_elim (λ (z : n ≡ 0). inl z) (λ f. inr (slot c.entry c.offer, p.at, message, (λ j z le at'. h.sound.above j z at'), f)) h.sound.clock;
     } in
-    let sender : IsSender places old id y = record {
-      seat = mine.seat;
-      made = mine.made;
-      places_are = mine.places_are;
-      put = mine.put;
-      closed = mine.closed;
-      claims = ap (λ l. map spot_of (x.claims ++ map (λ (d : Claim). claim d.place d.entry d.offer n) l)) waits ∙ map-append x.claims c' ∙ sym (map-append x.claims c) ∙ ap (λ l. map spot_of (x.claims ++ l)) (sym waits) ∙ mine.claims;
-      offers = mine.offers;
-      ready = mine.ready;
-      stored = mine.stored;
-      pending = subst (λ l. Each (IsPending old y) (map (λ (d : Claim). claim d.place d.entry d.offer n) l)) (sym waits) (pending, tt);
-    } in (
+    let claims : map spot_of (y.claims ++ y.pending) ≡ own x.from 0 h.log = ap (λ l. map spot_of (x.claims ++ map (λ (d : Claim). claim d.place d.entry d.offer n) l)) waits ∙ map-append x.claims c' ∙ sym (map-append x.claims c) ∙ ap (λ l. map spot_of (x.claims ++ l)) (sym waits) ∙ mine.claims in
+    let waiting : Each (IsPending old y) y.pending = subst (λ l. Each (IsPending old y) (map (λ (d : Claim). claim d.place d.entry d.offer n) l)) (sym waits) (pending, tt) in
+    let sender : IsSender places old id y = sender_is (standing mine) claims mine.offers mine.ready mine.stored waiting in (
       w,
       keeps,
       tt,
-      outlet_keeps places 1 n id s me.1 v w x y h h.offered h.log s.words (set_same s.words 1) at only quiet (ap (map (after_date n)) only) (grows_same old) (λ j _. spares_same old j) sender h.sound h.claimed refl,
+      read_keeps places 1 id s me.1 v w h at refl ((λ g. absurd (true≢false (sym g ∙ quiet))), subst (λ l. Each (IsSender places old id) (map (after_date n) l)) (sym only) (sender, tt)),
       (refl, refl, subst (Each (λ (z : Sender). z.ready ≤ n)) (sym only) (mine.ready, tt)),
     )
 
@@ -311,137 +261,91 @@ apart : (w : World) (x : Sender) (c : Claim) (j k : ℕ) (z : Slot) → IsPendin
 apart w x c j k z p other at is same = let both : Some z ≡ Some (slot c.entry c.offer) = sym at ∙ ap (slice_get w.log) same ∙ p.at in
     let z_is : z ≡ slot c.entry c.offer = cc in other (sym is ∙ ap (λ (t : Slot). sender_of t.entry) z_is ∙ p.mine)
 
--- two numbers are equal or not
-same_or_not : (j k : ℕ) → (j ≡ k) ⊎ (j ≢ k)
-same_or_not zero zero = inl refl
-same_or_not zero (suc k) = inr (λ e. omega arith)
-same_or_not (suc j) zero = inr (λ e. omega arith)
-same_or_not (suc j) (suc k) = ⊎_elim (λ e. inl (ap suc e)) (λ n. inr (λ e. n (omega arith))) (same_or_not j k)
+-- the world after a word is written
+abbrev with_word : {places : ℕ} {s : State (Unit {0}) View} → Kept places s → ℕ → ℕ → World
+with_word {s = s} h i n = next h h.offered h.log (set s.words i n)
+
+-- writing a word of the place of a pending claim keeps the rule where the place is then lawful and has the claim's clock, and what its sender knows fits
+writes_keep : (places i n id : ℕ) (s : State (Unit {0}) View) (me : Seated) (f : Sender → Sender) (x : Sender) (c : Claim) (h : Kept places s)
+    → get_elem? s.views id ≡ some me.0 → me.0.gets ≡ false → me.0.senders ≡ x ∷ [] → IsPending (now h) x c → c.place + c.place + 2 ≤ i → i ≤ c.place + c.place + 3
+    → Holds h.log c.place ((with_word h i n).item c.place) → (with_word h i n).clk c.place ≡ c.clock → (Grows (now h) (with_word h i n) → IsSender places (with_word h i n) id (f x))
+    → Kept places (stepped s i n id me.1 (with_senders f me.0) keeps)
+writes_keep places i n id s me f x c h at quiet only p low high holds dated fits =
+    let old = now h in let new = with_word h i n in
+    let others : (k : ℕ) → k ≢ c.place → (new.item k ≡ old.item k) × (new.clk k ≡ old.clk k) = λ k other.
+    (other_word s.words i (k + k + 2) n (λ e. other (omega arith)), other_word s.words i (k + k + 3) n (λ e. other (omega arith))) in
+    let clock : new.clock ≡ old.clock = other_word s.words i 1 n (λ e. omega arith) in
+    let grows : Grows old new = record {
+      made = omega arith;
+      log = ([], sym (append-nil h.log));
+      frozen = λ k full. others k (λ is. full (ap old.item is ∙ p.empty));
+      clock = omega arith;
+      offered = λ m f. f;
+    } in
+    let spares : (j : ℕ) → j ≢ x.from → Spares old new j = λ j other. record {
+      put = refl;
+      closed = refl;
+      claims = refl;
+      offers = refl;
+      places = λ k z at' is. others k (apart old x c j k z p other at' is);
+    } in
+    let item : (k : ℕ) → (new.item k ≡ old.item k) ⊎ Holds h.log k (new.item k) = λ k.
+    ⊎_elim (λ (is : k ≡ c.place). inr (subst (λ (j : ℕ). Holds h.log j (new.item j)) (sym is) holds)) (λ other. inl (others k other).0) (cases_eq k c.place) in
+    let here : IsDated new c.place (new.clk c.place) = subst (IsDated new c.place) (sym dated) (dated_stays old new c.place c.clock grows p.dated) in
+    let clk : (k : ℕ) → (new.clk k ≡ old.clk k) ⊎ IsDated new k (new.clk k) = λ k.
+    ⊎_elim (λ (is : k ≡ c.place). inr (subst (λ (j : ℕ). IsDated new j (new.clk j)) (sym is) here)) (λ other. inl (others k other).1) (cases_eq k c.place) in
+    outlet_keeps places i n id s me.1 me.0 (with_senders f me.0) x (f x) h h.offered h.log at only quiet (ap (map f) only) grows spares (fits grows)
+    (sound_stays places old new grows h.sound.orderly item clk tt (inl clock) h.sound) (other_word s.words i 0 n (λ e. omega arith) ∙ h.claimed) refl
 
 -- storing the clock of the place keeps the rule
 pub shows_keep : (places slots id i n : ℕ) (me : Seated) (x : Sender) (c : Claim) → me.0.gets ≡ false → me.0.senders ≡ x ∷ [] → x.pending ≡ c ∷ [] → i ≡ c.place + c.place + 3 → n ≡ c.clock
     → Allows (Kept places) slots id me i (λ _. n) (λ _. ShowsIt (step slots i n 0 none) me n)
 shows_keep places slots id i n me x c quiet only waits word value s h same at lt =
-    let v : View = me.0 in
-    let y : Sender = after_show n x in let w : View = with_senders (after_show n) v in
-    let words : List ℕ = set s.words i n in
-    let old = now h in let new = next h h.offered h.log words in
+    let v : View = me.0 in let y : Sender = after_show n x in
+    let old = now h in let new = with_word h i n in
     let mine = (subst (Each (IsSender places old id)) only (h.each id v at).1).0 in
     let p = (subst (Each (IsPending old x)) waits mine.pending).0 in
     let wide = h.wide in let fits = p.inside in let are = mine.places_are in
     let inside : i < length s.words = omega arith in
-    let item : (k : ℕ) → new.item k ≡ old.item k = λ k. other_word s.words i (k + k + 2) n (λ e. omega arith) in
-    let clk : (k : ℕ) → k ≢ c.place → new.clk k ≡ old.clk k = λ k other. other_word s.words i (k + k + 3) n (λ e. other (omega arith)) in
-    let here : new.clk c.place ≡ n = ap (λ (j : ℕ). slice_index words j) (sym word) ∙ this_word s.words i n inside in
-    let clock : new.clock ≡ old.clock = other_word s.words i 1 n (λ e. omega arith) in
-    let grows : Grows old new = record {
-      made = omega arith;
-      log = ([], sym (append-nil h.log));
-      frozen = λ k full. (item k, clk k (λ is. full (ap old.item is ∙ p.empty)));
-      clock = omega arith;
-      offered = λ m f. f;
-    } in
-    let spares : (j : ℕ) → j ≢ x.from → Spares old new j = λ j other. record {
-      put = refl;
-      closed = refl;
-      claims = refl;
-      offers = refl;
-      places = λ k z at' is. (item k, clk k (apart old x c j k z p other at' is));
-    } in
-    let sound : Sound places new = record {
-      orderly = h.sound.orderly;
-      cells = λ k lt. subst (Holds h.log k) (sym (item k)) (h.sound.cells k lt);
-      dated = λ k lt. ⊎_elim (λ (is : k ≡ c.place). subst (λ (j : ℕ). IsDated new j (new.clk j)) (sym is) (subst (IsDated new c.place) (sym (here ∙ value)) (dated_stays old new c.place c.clock grows p.dated)))
-          (λ other. subst (IsDated new k) (sym (clk k other)) (dated_stays old new k (old.clk k) grows (h.sound.dated k lt))) (same_or_not k c.place);
-      above = λ k z at'. (let a = h.sound.above k z at' in omega arith);
-      clock = ⊎_elim (λ (z : old.clock ≡ 0). inl (clock ∙ z)) (λ f. inr (subst (Offered new) (sym clock) f)) h.sound.clock;
-    } in
+    let item : new.item c.place ≡ old.item c.place = other_word s.words i (c.place + c.place + 2) n (λ e. omega arith) in
+    let here : new.clk c.place ≡ n = ap (λ (j : ℕ). slice_index (set s.words i n) j) (sym word) ∙ this_word s.words i n inside in
+    let sender : Grows old new → IsSender places new id y = λ grows.
     let pending : IsPending new y c = record {
       at = p.at;
       mine = p.mine;
       inside = p.inside;
-      empty = item c.place ∙ p.empty;
+      empty = item ∙ p.empty;
       shown = here;
       dated = dated_stays old new c.place c.clock grows p.dated;
     } in
-    let sender : IsSender places new id y = record {
-      seat = mine.seat;
-      made = mine.made;
-      places_are = mine.places_are;
-      put = mine.put;
-      closed = mine.closed;
-      claims = mine.claims;
-      offers = mine.offers;
-      ready = (let a = mine.ready in omega arith);
-      stored = each-map (IsStored old) (IsStored new) x.claims (λ d. stored_stays old new d grows) mine.stored;
-      pending = subst (Each (IsPending new y)) (sym waits) (pending, tt);
-    } in (
-      w,
+    let ready : y.ready ≤ new.clock = let a = mine.ready in let b = grows.clock in omega arith in
+    sender_is (standing mine) mine.claims mine.offers ready (stored_stay old new x.claims grows mine.stored) (subst (Each (IsPending new y)) (sym waits) (pending, tt)) in (
+      with_senders (after_show n) v,
       keeps,
       tt,
-      outlet_keeps places i n id s me.1 v w x y h h.offered h.log words refl at only quiet (ap (map (after_show n)) only) grows spares sender sound (other_word s.words i 0 n (λ e. omega arith) ∙ h.claimed) refl,
+      writes_keep places i n id s me (after_show n) x c h at quiet only p (omega arith) (omega arith) (inl (item ∙ p.empty)) (here ∙ value) sender,
       (refl, refl),
     )
-
--- the word of an entry is not 0
-code_some : (e : Entry) → code e ≢ 0
-code_some (Message i m) z = omega arith
-code_some (Ended i) z = omega arith
 
 -- storing the entry of the place keeps the rule: the claim is stored from now on
 pub stores_keep : (places slots id i n : ℕ) (me : Seated) (x : Sender) (c : Claim) → me.0.gets ≡ false → me.0.senders ≡ x ∷ [] → x.pending ≡ c ∷ [] → i ≡ c.place + c.place + 2 → n ≡ code c.entry → IsSmall c.entry → x.shown ≡ c.clock
     → Allows (Kept places) slots id me i (λ _. n) (λ _. StoresIt (step slots i n 0 none) me n)
 stores_keep places slots id i n me x c quiet only waits word value small shown s h same at lt =
-    let v : View = me.0 in
-    let y : Sender = after_store x in let w : View = with_senders after_store v in
-    let words : List ℕ = set s.words i n in
-    let old = now h in let new = next h h.offered h.log words in
+    let v : View = me.0 in let y : Sender = after_store x in
+    let old = now h in let new = with_word h i n in
     let mine = (subst (Each (IsSender places old id)) only (h.each id v at).1).0 in
     let p = (subst (Each (IsPending old x)) waits mine.pending).0 in
     let wide = h.wide in let fits = p.inside in let are = mine.places_are in
     let inside : i < length s.words = omega arith in
-    let clk : (k : ℕ) → new.clk k ≡ old.clk k = λ k. other_word s.words i (k + k + 3) n (λ e. omega arith) in
-    let item : (k : ℕ) → k ≢ c.place → new.item k ≡ old.item k = λ k other. other_word s.words i (k + k + 2) n (λ e. other (omega arith)) in
-    let here : new.item c.place ≡ n = ap (λ (j : ℕ). slice_index words j) (sym word) ∙ this_word s.words i n inside in
-    let clock : new.clock ≡ old.clock = other_word s.words i 1 n (λ e. omega arith) in
-    let grows : Grows old new = record {
-      made = omega arith;
-      log = ([], sym (append-nil h.log));
-      frozen = λ k full. (item k (λ is. full (ap old.item is ∙ p.empty)), clk k);
-      clock = omega arith;
-      offered = λ m f. f;
-    } in
-    let spares : (j : ℕ) → j ≢ x.from → Spares old new j = λ j other. record {
-      put = refl;
-      closed = refl;
-      claims = refl;
-      offers = refl;
-      places = λ k z at' is. (item k (apart old x c j k z p other at' is), clk k);
-    } in
-    let sound : Sound places new = record {
-      orderly = h.sound.orderly;
-      cells = λ k lt. ⊎_elim (λ (is : k ≡ c.place). inr (slot c.entry c.offer, ap (slice_get h.log) is ∙ p.at, ap new.item is ∙ here ∙ value, small))
-          (λ other. subst (Holds h.log k) (sym (item k other)) (h.sound.cells k lt)) (same_or_not k c.place);
-      dated = λ k lt. subst (IsDated new k) (sym (clk k)) (dated_stays old new k (old.clk k) grows (h.sound.dated k lt));
-      above = λ k z at'. (let a = h.sound.above k z at' in omega arith);
-      clock = ⊎_elim (λ (z : old.clock ≡ 0). inl (clock ∙ z)) (λ f. inr (subst (Offered new) (sym clock) f)) h.sound.clock;
-    } in
-    let stored : IsStored new c = ((λ z. code_some c.entry (sym value ∙ sym here ∙ z)), clk c.place ∙ p.shown ∙ shown) in
-    let sender : IsSender places new id y = record {
-      seat = mine.seat;
-      made = mine.made;
-      places_are = mine.places_are;
-      put = mine.put;
-      closed = mine.closed;
-      claims = ap (map spot_of) (append-nil (x.claims ++ x.pending)) ∙ mine.claims;
-      offers = mine.offers;
-      ready = omega arith;
-      stored = each-append (IsStored new) x.claims x.pending (each-map (IsStored old) (IsStored new) x.claims (λ d. stored_stays old new d grows) mine.stored) (subst (Each (IsStored new)) (sym waits) (stored, tt));
-      pending = tt;
-    } in (
-      w,
+    let clk : new.clk c.place ≡ c.clock = other_word s.words i (c.place + c.place + 3) n (λ e. omega arith) ∙ p.shown ∙ shown in
+    let item : new.item c.place ≡ code c.entry = ap (λ (j : ℕ). slice_index (set s.words i n) j) (sym word) ∙ this_word s.words i n inside ∙ value in
+    let last : IsStored new c = ((λ z. code_full c.entry (sym item ∙ z)), clk) in
+    let sender : Grows old new → IsSender places new id y = λ grows.
+    let stored : Each (IsStored new) y.claims = each-append (IsStored new) x.claims x.pending (stored_stay old new x.claims grows mine.stored) (subst (Each (IsStored new)) (sym waits) (last, tt)) in
+    sender_is (standing mine) (ap (map spot_of) (append-nil (x.claims ++ x.pending)) ∙ mine.claims) mine.offers (omega arith) stored tt in (
+      with_senders after_store v,
       keeps,
       tt,
-      outlet_keeps places i n id s me.1 v w x y h h.offered h.log words refl at only quiet (ap (map after_store) only) grows spares sender sound (other_word s.words i 0 n (λ e. omega arith) ∙ h.claimed) refl,
+      writes_keep places i n id s me after_store x c h at quiet only p (omega arith) (omega arith) (inr (slot c.entry c.offer, p.at, item, small)) clk sender,
       (refl, refl),
     )

@@ -61,12 +61,6 @@ dressed clk [] h = refl
 dressed clk (c ∷ cs) h = λ j. claim c.place c.entry c.offer (h.0 j) ∷ dressed clk cs h.1 j
 
 module _ {A : Type 0} where
-  -- what holds of all holds of one among them
-  pub among_each : (P : A → Type 0) (xs : List A) (x : A) (k : ℕ) → slice_get xs k ≡ Some x → Each P xs → P x
-  among_each P [] x k at h = cc
-  among_each P (y ∷ xs) x zero at h = let is : y ≡ x = cc in subst P is h.0
-  among_each P (y ∷ xs) x (suc k) at h = among_each P xs x k at h.1
-
   -- what is in a list is in a longer one
   among_more : (y x : A) (xs : List A) → IsAmong x xs → IsAmong x (y ∷ xs)
   among_more y x xs h = (suc h.0, h.1)

@@ -1,12 +1,12 @@
 -- What a step leaves of all that the rule speaks of, and what the seats go on to know.
-use Rattle.std.proofs.Common.{◌≡◌, ◌≢◌, ℕ, ◌<◌, ◌≤◌, List, ◌++◌, length, Some, slice_get, sym, ap, ◌∙◌, subst, inl, inr, append_assoc, arith}
+use Rattle.std.proofs.Common.{◌≡◌, ◌≢◌, ◌⊎◌, ℕ, ◌<◌, ◌≤◌, List, ◌++◌, length, Some, slice_get, sym, ap, ◌∙◌, subst, inl, inr, ⊎_elim, append_assoc, arith}
 use Rattle.msc_fifo.specs.declared.claim.Claim.{Claim}
 use Rattle.msc_fifo.specs.declared.rule.Sender.{Sender}
 use Rattle.msc_fifo.specs.declared.rule.View.{View}
-use Rattle.msc_fifo.specs.Entries.{sender_of, messages_of, has_ended}
-use Rattle.msc_fifo.specs.World.{Slot, slot, entries, own, World, Covers, Offered, IsDated, IsStored}
-use Rattle.msc_fifo.specs.Views.{IsPending, IsSender, IsReceiver}
-use Rattle.msc_fifo.proofs.LogLemmas.{entries-append, get_front, covers_longer, each-map}
+use Rattle.msc_fifo.specs.Entries.{sender_of, messages_of, has_ended, IsOrderly}
+use Rattle.msc_fifo.specs.World.{Each, Slot, slot, entries, own, World, Covers, Offered, Holds, IsDated, IsStored}
+use Rattle.msc_fifo.specs.Views.{IsPending, IsSender, IsReceiver, Sound}
+use Rattle.msc_fifo.proofs.LogLemmas.{entries-append, get_front, get_either, member, covers_longer, each-map}
 
 -- what a step leaves, whoever makes it: stored places are frozen, and nothing that was claimed or offered goes away
 pub record Grows (w w' : World) : Type 0 where
@@ -37,9 +37,28 @@ pub dated_stays : (w w' : World) (k n : ℕ) → Grows w w' → IsDated w k n �
 dated_stays w w' k n g (inl z) = inl z
 dated_stays w w' k n g (inr h) = inr (h.0, at_longer w w' k h.0 g h.1, h.2, covers_stay w w' k n h.0 g h.1 h.3, g.offered n h.4)
 
--- a stored claim stays stored
-pub stored_stays : (w w' : World) (c : Claim) → Grows w w' → IsStored w c → IsStored w' c
-stored_stays w w' c g h = let f = g.frozen c.place h.0 in ((λ z. h.0 (sym f.0 ∙ z)), f.1 ∙ h.1)
+-- what a place holds stays lawful
+holds_stays : (w w' : World) (k n : ℕ) → Grows w w' → Holds w.log k n → Holds w'.log k n
+holds_stays w w' k n g (inl z) = inl z
+holds_stays w w' k n g (inr h) = inr (h.0, at_longer w w' k h.0 g h.1, h.2, h.3)
+
+-- what holds whatever the seats know stays so where each word is as before or lawful, and the clock word covers the new offers
+pub sound_stays : (places : ℕ) (w w' : World) (g : Grows w w') → IsOrderly w'.made (entries w'.log)
+    → ((k : ℕ) → (w'.item k ≡ w.item k) ⊎ Holds w'.log k (w'.item k)) → ((k : ℕ) → (w'.clk k ≡ w.clk k) ⊎ IsDated w' k (w'.clk k))
+    → Each (λ (x : Slot). x.offer ≤ w'.clock) g.log.0 → (w'.clock ≡ w.clock) ⊎ Offered w' w'.clock → Sound places w → Sound places w'
+sound_stays places w w' g orderly item clk above clock h = record {
+  orderly = orderly;
+  cells = λ k lt. ⊎_elim (λ (same : w'.item k ≡ w.item k). subst (Holds w'.log k) (sym same) (holds_stays w w' k (w.item k) g (h.cells k lt))) (λ new. new) (item k);
+  dated = λ k lt. ⊎_elim (λ (same : w'.clk k ≡ w.clk k). subst (IsDated w' k) (sym same) (dated_stays w w' k (w.clk k) g (h.dated k lt))) (λ new. new) (clk k);
+  above = λ k x at. ⊎_elim (λ (was : slice_get w.log k ≡ Some x). let a = h.above k x was in let b = g.clock in omega arith)
+      (λ (new : (j : ℕ) × (slice_get g.log.0 j ≡ Some x)). member (λ (y : Slot). y.offer ≤ w'.clock) g.log.0 new.0 x new.1 above)
+      (get_either w.log g.log.0 k x (subst (λ (l : List Slot). slice_get l k ≡ Some x) g.log.1 at));
+  clock = ⊎_elim (λ (same : w'.clock ≡ w.clock). ⊎_elim (λ (z : w.clock ≡ 0). inl (same ∙ z)) (λ f. inr (subst (Offered w') (sym same) (g.offered w.clock f))) h.clock) (λ new. inr new) clock;
+}
+
+-- stored claims stay stored
+pub stored_stay : (w w' : World) (cs : List Claim) → Grows w w' → Each (IsStored w) cs → Each (IsStored w') cs
+stored_stay w w' cs g = each-map (IsStored w) (IsStored w') cs (λ c h. let f = g.frozen c.place h.0 in ((λ z. h.0 (sym f.0 ∙ z)), f.1 ∙ h.1))
 
 -- a claim that is not stored stays so where the step is none of its sender
 pending_stays : (w w' : World) (x : Sender) (c : Claim) → Grows w w' → Spares w w' x.from → IsPending w x c → IsPending w' x c
@@ -63,7 +82,7 @@ sender_stays places w w' id id' x g s seat h = record {
   claims = h.claims ∙ sym s.claims;
   offers = h.offers ∙ sym s.offers;
   ready = (let a = h.ready in let b = g.clock in omega arith);
-  stored = each-map (IsStored w) (IsStored w') x.claims (λ c. stored_stays w w' c g) h.stored;
+  stored = stored_stay w w' x.claims g h.stored;
   pending = each-map (IsPending w x) (IsPending w' x) x.pending (λ c. pending_stays w w' x c g s) h.pending;
 }
 

@@ -1,9 +1,8 @@
 -- To take the least event that may follow, again and again, gathers the logs. Where none may follow,
 -- no run has these lines.
-use Rattle.std.proofs.Common.{◌≡◌, ℕ, zero, suc, ◌<◌, ◌≤◌, true, false, ◌&&◌, not, ◌⊎◌, inl, inr, List, [], ◌∷◌, ◌++◌, length, refl, sym, ap, subst, ◌∙◌, append_assoc, arith}
+use Rattle.std.proofs.Common.{◌≡◌, ℕ, zero, suc, ◌<◌, true, false, ◌&&◌, not, ◌⊎◌, inl, inr, List, [], ◌∷◌, ◌++◌, length, refl, sym, ap, subst, ◌∙◌, append_assoc, arith}
 use Rattle.std.proofs.lemmas.Bool.{and_parts, and_from, not-true, not_from_false, cases_lt, cases_order}
 use Rattle.std.proofs.lemmas.List.{append-nil}
-use Rattle.std.proofs.Math.Nat.{le_refl}
 use Rattle.msc_chart.specs.Orders.{WiredChart}
 use Rattle.msc_chart.specs.Charts.{line}
 use Rattle.msc_chart.specs.Lists.{Steps, occurs}
@@ -187,17 +186,9 @@ gather_step chart instances logs seated sound past steps =
 gather_from : (chart : WiredChart) (instances : ℕ) (logs : List (List ℕ)) → IsSeated chart instances
     → AreLogs chart instances logs
     → (fuel : ℕ) (past : List ℕ) → count_below (is_left (is_logged chart logs) past)
-    (length chart.events) ≤ fuel → Steps (FollowsLeast chart logs) [] past
+    (length chart.events) < fuel → Steps (FollowsLeast chart logs) [] past
     → ((events : List ℕ) × IsGathered chart instances logs events) ⊎ HasNoMerge chart instances logs
-gather_from chart instances logs seated sound zero past enough steps =
-    elim (gather_step chart instances logs seated sound past steps) [
-      | inl done ↦ done
-      | inr next ↦
-          let may = next.1.itself in
-          let less = left_less (is_logged chart logs) past (length chart.events) next.0 may.event
-          may.logged may.new in
-          let h : ⊥ = omega arith in absurd h
-    ]
+gather_from chart instances logs seated sound zero past enough steps = absurd (omega arith)
 gather_from chart instances logs seated sound (suc fuel) past enough steps =
     elim (gather_step chart instances logs seated sound past steps) [
       | inl done ↦ done
@@ -215,7 +206,7 @@ pub gathered_or_none : (chart : WiredChart) (instances : ℕ) (logs : List (List
     → ((events : List ℕ) × IsGathered chart instances logs events) ⊎ HasNoMerge chart instances logs
 gathered_or_none chart instances logs seated sound =
     gather_from chart instances logs seated sound
-    (count_below (is_left (is_logged chart logs) []) (length chart.events)) [] (le_refl _) tt
+    (suc (count_below (is_left (is_logged chart logs) []) (length chart.events))) [] (omega arith) tt
 
 -- logs that aren't logs of the chart are no run's lines
 pub no_logs_none : (chart : WiredChart) (instances : ℕ) (logs : List (List ℕ))

@@ -151,44 +151,43 @@ module _ {r : Role} {first : EndLists} {shut : Bool} {outs : List NumberedOutlet
         };
       }
 
+  -- an inlet that brought no message
+  begun_kept : (k : ℕ) (n new : NumberedInlet) → k < length ins
+      → ((x : NumberedInlet) → IsGotBy r log begun.reading x (get_or ins k n) → IsGotBy r log begun.reading x new)
+      → HasBegun r first (state shut outs (set ins k new) log clock)
+  begun_kept k n new lt own =
+      let kept = begun.kept in
+      record {
+        reading = begun.reading;
+        kept = record {
+          log = kept.log;
+          put = kept.put;
+          got = zip_set (IsGotBy r log begun.reading) first.inlets ins k n new lt own kept.got;
+          clock = kept.clock;
+        };
+      }
+
   -- an end mark more
   pub begun_ended : (k i : ℕ) (n new : NumberedInlet)
       → k < length ins → HasGot clock (took.Ended i) (get_or ins k n) new
       → HasBegun r first (state shut outs (set ins k new) log clock)
   begun_ended k i n new lt got =
       let reading = begun.reading in
-      record {
-        reading = reading;
-        kept = record {
-          log = begun.kept.log;
-          put = begun.kept.put;
-          got = zip_set (IsGotBy r log reading) first.inlets ins k n new lt
-              (λ x own. subst (λ (q : ℕ). IsGotBy r log reading x (q, new.1)) (sym got.number)
-              (stepped.ended r log reading x (get_or ins k n) own got.even i 0 new.1 got.same got.got
-              got.clocks)) begun.kept.got;
-          clock = begun.kept.clock;
-        };
-      }
+      begun_kept k n new lt
+      (λ x own. subst (λ (q : ℕ). IsGotBy r log reading x (q, new.1)) (sym got.number)
+      (stepped.ended r log reading x (get_or ins k n) own got.even i 0 new.1 got.same got.got
+      got.clocks))
 
   -- a take that found nothing
   pub begun_nothing : (k : ℕ) (n new : NumberedInlet)
       → k < length ins → HasGot clock took.Nothing (get_or ins k n) new
       → HasBegun r first (state shut outs (set ins k new) log clock)
   begun_nothing k n new lt got =
-      let reading = begun.reading in
       let same : new.1.got ≡ (get_or ins k n).1.got = got.got ∙ append-nil (get_or ins k n).1.got in
-      record {
-        reading = reading;
-        kept = record {
-          log = begun.kept.log;
-          put = begun.kept.put;
-          got = zip_set (IsGotBy r log reading) first.inlets ins k n new lt
-              (λ x own. record {
-                number = got.number ∙ own.number;
-                same = (got.same.0 ∙ own.same.0, got.same.1 ∙ own.same.1);
-                got = ap all_messages same ∙ own.got;
-                clocks = (λ j. clocks_at (same j) (got.clocks j)) ∙ own.clocks;
-              }) begun.kept.got;
-          clock = begun.kept.clock;
-        };
-      }
+      begun_kept k n new lt
+      (λ x own. record {
+        number = got.number ∙ own.number;
+        same = (got.same.0 ∙ own.same.0, got.same.1 ∙ own.same.1);
+        got = ap all_messages same ∙ own.got;
+        clocks = (λ j. clocks_at (same j) (got.clocks j)) ∙ own.clocks;
+      })

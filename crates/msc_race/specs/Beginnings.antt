@@ -1,14 +1,18 @@
 -- What is kept while a chosen run is made.
 use Rattle.std.specs.Prelude.{◌≡◌, ℕ, ◌<◌, false, ◌↔◌, List, [], IsTrue}
 use Rattle.msc_chart.specs.Lists.{occurs, Steps}
-use Rattle.msc_chart.specs.Chosen.{IsFree, IsChosenNext}
+use Rattle.msc_chart.specs.Chosen.{IsChosenNext}
 use Rattle.msc_race.specs.declared.choosing.Choice.{Choice}
 use Rattle.msc_race.specs.declared.beginning.Beginning.{Beginning}
 use Rattle.bit_rows.specs.Rows.{has}
 use Rattle.msc_race.specs.Choices.{wired_chart, size}
-use Rattle.msc_race.specs.Remainders.{AreRows, HasFirstWords, IsUnheld, IsPassedOnWith}
+use Rattle.msc_race.specs.Remainders.{AreRows, AreTold, HasFirstWords}
 use Rattle.msc_race.specs.Fronts.{HoldsLines}
 use Rattle.msc_race.specs.QueuedRuns.{HoldsQueues}
+
+-- two rows have a number in common
+abbrev pub HaveCommon : List ℕ → List ℕ → Type 0
+HaveCommon one other = (y : ℕ) × IsTrue (has one y) × IsTrue (has other y)
 
 -- the row holds the events with a property that have not occurred
 abbrev pub HoldsLeft : List ℕ → (ℕ → Type 0) → List ℕ → Type 0
@@ -24,8 +28,6 @@ pub record IsBeginning (c : Choice) (f : Beginning) : Type 0 where
   pub lines : HoldsLines c.wiring.chart.now f.lines
   pub queues : HoldsQueues (wired_chart c) (run_of f) f.queued
   pub rows : AreRows (size c) f.remaining
-  pub first : HasFirstWords f.remaining
+  pub told : AreTold c f.remaining
+  pub first : HasFirstWords f.remaining f.lines.left.items
   pub left : HoldsLeft f.lines.left.items (λ y. y < size c) (run_of f)
-  pub free : HoldsLeft f.remaining.free.items (IsFree (wired_chart c) c.e) (run_of f)
-  pub unheld : HoldsLeft f.remaining.unheld.items (IsUnheld (wired_chart c) c.e) (run_of f)
-  pub passed : HoldsLeft f.remaining.passed.items (IsPassedOnWith (wired_chart c) c.e) (run_of f)

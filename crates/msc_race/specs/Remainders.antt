@@ -5,9 +5,13 @@ use Rattle.msc_chart.specs.Orders.{WiredChart, queue}
 use Rattle.msc_chart.specs.Chosen.{IsFree, IsHeld, IsPassedOn}
 use Rattle.msc_race.specs.declared.choosing.Choice.{Choice}
 use Rattle.msc_race.specs.declared.remaining.Remaining.{Remaining}
-use Rattle.bit_rows.specs.Rows.{has, IsFirstWord, IsWithout}
+use Rattle.bit_rows.specs.Rows.{has, AreApartTo, IsFirstCommon}
 use Rattle.msc_race.specs.Rows.{IsRow}
 use Rattle.msc_race.specs.Choices.{wired_chart}
+
+-- the row holds the numbers with a property
+abbrev pub Holds : List ℕ → (ℕ → Type 0) → Type 0
+Holds row P = (y : ℕ) → IsTrue (has row y) ↔ P y
 
 -- the row holds the numbers below k with a property
 abbrev pub HoldsBelow : List ℕ → (ℕ → Type 0) → ℕ → Type 0
@@ -39,12 +43,11 @@ pub record AreToldBelow (c : Choice) (r : Remaining) (k : ℕ) : Type 0 where
   pub unheld : HoldsOthers r.unheld.items (IsFree (wired_chart c) c.e) (IsHeld (wired_chart c) c.e) k
   pub passed : HoldsBelow r.passed.items (IsPassedOnWith (wired_chart c) c.e) k
 
--- The rows hold, of the events below k, those that are free, those that are not held, and those that
--- are passed on with e.
-pub record AreBelow (c : Choice) (r : Remaining) (k : ℕ) : Type 0 where
-  pub free : HoldsBelow r.free.items (IsFree (wired_chart c) c.e) k
-  pub unheld : HoldsBelow r.unheld.items (IsUnheld (wired_chart c) c.e) k
-  pub passed : HoldsBelow r.passed.items (IsPassedOnWith (wired_chart c) c.e) k
+-- the rows hold the free events, those of them that are not held, and those that are passed on with e
+pub record AreTold (c : Choice) (r : Remaining) : Type 0 where
+  pub free : Holds r.free.items (IsFree (wired_chart c) c.e)
+  pub unheld : Holds r.unheld.items (IsUnheld (wired_chart c) c.e)
+  pub passed : Holds r.passed.items (IsPassedOnWith (wired_chart c) c.e)
 
 -- rows for the numbers below n
 pub record AreRows (n : ℕ) (r : Remaining) : Type 0 where
@@ -52,13 +55,18 @@ pub record AreRows (n : ℕ) (r : Remaining) : Type 0 where
   pub unheld : IsRow n r.unheld.items
   pub passed : IsRow n r.passed.items
 
--- it is known where the rows of free events and of what is passed on begin
-pub record HasFirstWords (r : Remaining) : Type 0 where
-  pub free : IsFirstWord r.free.items r.free_from
-  pub passed : IsFirstWord r.passed.items r.passed_from
+-- it is known where what is left of the free events, and of what is passed on, begins
+pub record HasFirstWords (r : Remaining) (left : List ℕ) : Type 0 where
+  pub free : IsFirstCommon r.free.items left r.free_from
+  pub passed : IsFirstCommon r.passed.items left r.passed_from
 
--- the rows have lost x, and nothing else
-pub record AreWithout (old new : Remaining) (x : ℕ) : Type 0 where
-  pub free : IsWithout old.free.items new.free.items x
-  pub unheld : IsWithout old.unheld.items new.unheld.items x
-  pub passed : IsWithout old.passed.items new.passed.items x
+-- nothing of both is left in the words before
+pub record AreLeftFrom (r : Remaining) (left : List ℕ) : Type 0 where
+  pub free : AreApartTo r.free.items left r.free_from
+  pub passed : AreApartTo r.passed.items left r.passed_from
+
+-- the rows are the same
+pub record AreSameRows (old new : Remaining) : Type 0 where
+  pub free : new.free ≡ old.free
+  pub unheld : new.unheld ≡ old.unheld
+  pub passed : new.passed ≡ old.passed

@@ -2,11 +2,12 @@
 //!
 //! Sets of events are rows of bits, so that the least event of a set is found in a few steps.
 
-ghost use Rattle.std.specs.Prelude.{◌≡◌, ◌<◌, [], ◌∷◌, ◌++◌, IfOk, IfSome, IfNone, OnOk};
+ghost use Rattle.std.specs.Prelude.{◌≡◌, ◌<◌, ◌↔◌, [], ◌∷◌, ◌++◌, IfOk, IfSome, IfNone, IsTrue, OnOk};
 ghost use Rattle.msc_chart.specs.Runs.{IsWhole};
 ghost use Rattle.msc_chart.specs.Chosen.{IsChosenNext};
 ghost use Rattle.msc_race.specs.Choices.{wired_chart, size, IsSettled};
-ghost use Rattle.msc_race.specs.Beginnings.{IsBeginning, run_of};
+ghost use Rattle.msc_race.specs.Beginnings.{HaveCommon, IsBeginning, run_of};
+ghost use Rattle.msc_race.specs.Remainders.{HasFirstWords};
 
 use crate::choosing::Choice;
 use crate::laws::{a_chosen_run_goes_on, no_run_is_stuck};
@@ -32,9 +33,10 @@ impl Beginning {
         requires { IsSettled choice.now }
         ensures { IfOk result (λ f. IsBeginning choice.now f) }
     {
+        let lines = Lines::start(alloc, choice)?;
         Ok(Beginning {
-            remaining: Remaining::start(alloc, choice)?,
-            lines: Lines::start(alloc, choice)?,
+            remaining: Remaining::start(alloc, choice, &lines.left)?,
+            lines,
             queued: QueuedRun::start(alloc, choice)?,
         })
     }
@@ -44,6 +46,23 @@ impl Beginning {
         ensures { result.items ≡ run_of self }
     {
         self.queued.into_run()
+    }
+
+    /// Whether a free event is left.
+    fn has_free(&self) -> bool
+        requires { HasFirstWords self.now.remaining self.now.lines.left.items }
+        ensures { IsTrue result ↔ HaveCommon self.now.remaining.free.items self.now.lines.left.items }
+    {
+        self.remaining.free_from < self.remaining.free.len()
+    }
+
+    /// Whether an output to the queue of `e` that is passed on is left.
+    fn has_passed(&self) -> bool
+        requires { HasFirstWords self.now.remaining self.now.lines.left.items }
+        ensures { IsTrue result
+            ↔ HaveCommon self.now.remaining.passed.items self.now.lines.left.items }
+    {
+        self.remaining.passed_from < self.remaining.passed.len()
     }
 
     /// The next event of the chosen run, or none where it is whole.
@@ -59,10 +78,10 @@ impl Beginning {
         ends_share_queues();
         let controlled = &self.lines.controlled;
         let inputs = &self.queued.inputs;
-        if !self.remaining.has_free() {
+        if !self.has_free() {
             return lowest(controlled, inputs, &self.lines.left);
         }
-        if self.remaining.has_passed() {
+        if self.has_passed() {
             return lowest(controlled, inputs, &self.remaining.unheld);
         }
         lowest(controlled, inputs, &self.remaining.free)
@@ -77,8 +96,8 @@ impl Beginning {
         ensures run { OnOk result (run_of self.new ≡ run_of self.old ++ x ∷ []) }
     {
         a_chosen_run_goes_on();
-        self.remaining.occur(choice, x);
         self.lines.occur(choice, x);
+        self.remaining.seek(&self.lines.left);
         self.queued.occur(choice, x)
     }
 }

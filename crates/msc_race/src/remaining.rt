@@ -1,22 +1,21 @@
 //! The events that the choice of the next one depends on, as rows of bits.
 
-ghost use Rattle.std.specs.Prelude.{◌≡◌, ℕ, ◌+◌, ◌<◌, ◌≤◌, ◌↔◌, IfOk, IsTrue};
+ghost use Rattle.std.specs.Prelude.{◌≡◌, ℕ, ◌+◌, ◌<◌, ◌≤◌, length, IfOk, IsTrue};
 ghost use Rattle.msc_chart.specs.Charts.{is_input};
 ghost use Rattle.msc_chart.specs.Orders.{queue};
 ghost use Rattle.msc_race.specs.Choices.{size, wired_chart, IsSettled};
-ghost use Rattle.bit_rows.specs.Rows.{has};
-ghost use Rattle.msc_race.specs.Remainders.{AreBelow, AreRows, AreToldBelow, AreWithout, HasFirstWords};
+ghost use Rattle.msc_race.specs.Remainders.{AreLeftFrom, AreRows, AreSameRows, AreTold, AreToldBelow, HasFirstWords};
+ghost use Rattle.msc_race.specs.Rows.{IsRow};
 
 use crate::choosing::Choice;
 use crate::rows::blank;
-use bit_rows::row::{clear, first_word, put};
+use bit_rows::row::{clear, first_common, put};
 use msc_chart::Event;
 use msc_chart::laws::ends_share_queues;
 use std::alloc::{AllocError, Global};
 
-/// Of the events that have not occurred: those that are free of `e`, those of them that are not
-/// held, and the outputs to the queue of `e` that are passed on; and the first words with free
-/// events and with such outputs.
+/// The events that are free of `e`, those of them that are not held, and the outputs to the queue of
+/// `e` that are passed on; and the first words in which free events, and such outputs, are left.
 #[derive(Drop)]
 pub struct Remaining {
     pub free: Vec<u64>,
@@ -83,50 +82,31 @@ impl Remaining {
         }
     }
 
-    /// The rows before any event has occurred.
-    pub fn start(alloc: Global, choice: &Choice) -> Result<Remaining, AllocError>
-        requires { IsSettled choice.now }
+    /// The rows, where these events are left.
+    pub fn start(alloc: Global, choice: &Choice, left: &[u64]) -> Result<Remaining, AllocError>
+        requires settled { IsSettled choice.now }
+        requires left { IsRow (size choice.now) left.now }
         ensures rows { IfOk result (λ r. AreRows (size choice.now) r) }
-        ensures below { IfOk result (λ r. AreBelow choice.now r (size choice.now)) }
-        ensures first { IfOk result HasFirstWords }
+        ensures told { IfOk result (λ r. AreTold choice.now r) }
+        ensures first { IfOk result (λ r. HasFirstWords r left.now) }
     {
         let mut rows = Remaining::untold(alloc, choice)?;
         rows.tell_all(choice);
-        rows.free_from = first_word(&rows.free, 0);
-        rows.passed_from = first_word(&rows.passed, 0);
+        rows.free_from = 0;
+        rows.passed_from = 0;
+        rows.seek(left);
         Ok(rows)
     }
 
-    /// Takes `x` out of the rows.
-    pub fn occur(&mut self, choice: &Choice, x: Event)
-        requires known { x < size choice.now }
-        requires rows { AreRows (size choice.now) self.old }
-        requires first { HasFirstWords self.old }
-        ensures rows { AreRows (size choice.now) self.new }
-        ensures without { AreWithout self.old self.new x }
-        ensures first { HasFirstWords self.new }
+    /// Goes on to the first words in which free events, and outputs that are passed on, are left.
+    pub fn seek(&mut self, left: &[u64])
+        requires free { length left.now ≡ length self.old.free.items }
+        requires passed { length left.now ≡ length self.old.passed.items }
+        requires from { AreLeftFrom self.old left.now }
+        ensures same { AreSameRows self.old self.new }
+        ensures first { HasFirstWords self.new left.now }
     {
-        choice.wiring.chart.accepted();
-        clear(&mut self.free, x);
-        clear(&mut self.unheld, x);
-        clear(&mut self.passed, x);
-        self.free_from = first_word(&self.free, self.free_from);
-        self.passed_from = first_word(&self.passed, self.passed_from);
-    }
-
-    /// Whether a free event is left.
-    pub fn has_free(&self) -> bool
-        requires { HasFirstWords self.now }
-        ensures { IsTrue result ↔ ((y : ℕ) × IsTrue (has self.now.free.items y)) }
-    {
-        self.free_from < self.free.len()
-    }
-
-    /// Whether an output to the queue of `e` that is passed on is left.
-    pub fn has_passed(&self) -> bool
-        requires { HasFirstWords self.now }
-        ensures { IsTrue result ↔ ((y : ℕ) × IsTrue (has self.now.passed.items y)) }
-    {
-        self.passed_from < self.passed.len()
+        self.free_from = first_common(&self.free, left, self.free_from);
+        self.passed_from = first_common(&self.passed, left, self.passed_from);
     }
 }

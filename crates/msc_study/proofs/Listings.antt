@@ -1,5 +1,5 @@
 -- What a study lists of a verdict's races.
-use Rattle.std.proofs.Common.{zero, ◌≡◌, ℕ, ◌+◌, Bool, true, false, List, [], ◌∷◌, length, inl, inr, refl, ap, subst, arith}
+use Rattle.std.proofs.Common.{zero, ◌≡◌, ℕ, ◌-◌, Bool, true, false, List, [], ◌∷◌, length, inl, inr, refl, ap, subst, arith}
 use Rattle.std.specs.Prelude.{◌↔◌, ◌==◌, IsTrue, slice_get}
 use Rattle.msc_chart.specs.Lists.{Occurs}
 use Rattle.msc_chart.specs.Orders.{WiredChart}
@@ -38,8 +38,30 @@ module _ (chart : WiredChart) where
   pub are_closest : (pairs : List (ℕ × ℕ)) → IsClosestList chart pairs → AreRacesOf chart pairs
   are_closest pairs said e f there = ((said.closest e f).1 there).race
 
-  module _ (view : View) (v : Verdict) (said : IsVerdict chart v) (some others : List (ℕ × ℕ))
-      (split : Splits (Counts chart view.allowed) (Allowed chart view.allowed) (races_of v) some others) where
+  -- the kept ones of the closest races are what is wanted, where these alone are
+  pub near_wanted : (view : View) (near more rest : List (ℕ × ℕ)) → IsClosestList chart near
+      → Splits (Counts chart view.allowed) (Allowed chart view.allowed) near more rest → view.closest ≡ true → AreListed chart view more
+  near_wanted view near more rest are close only = record {
+    each = λ e f. (
+      λ wanted. elim (in_one _ _ (e, f) close ((are.closest e f).0 (wanted.closest only))) [
+        | inl kept ↦ kept
+        | inr there ↦ absurd (wanted.counts (of_left _ _ (e, f) close there).1)
+      ],
+      λ there. let found = of_kept _ _ (e, f) close there in let near = (are.closest e f).1 found.0 in record {
+        race = near.race;
+        counts = found.1;
+        closest = λ told. near;
+      },
+    );
+    ascending = kept_ascends _ _ close are.ascending;
+  }
+
+  module _ (view : View) (v : Verdict) (said : IsVerdict chart v) {races some others : List (ℕ × ℕ)} (of_verdict : races ≡ races_of v)
+      (parted : Splits (Counts chart view.allowed) (Allowed chart view.allowed) races some others) where
+    -- the races of the verdict are split so
+    split : Splits (Counts chart view.allowed) (Allowed chart view.allowed) (races_of v) some others
+    split = subst (λ (all : List (ℕ × ℕ)). Splits (Counts chart view.allowed) (Allowed chart view.allowed) all some others) of_verdict parted
+
     -- the others are those of the kinds that are left out
     left_out : AreLeftOut chart view.allowed others
     left_out = record {
@@ -68,7 +90,7 @@ module _ (chart : WiredChart) where
         absurd (found.1 (all p.0 p.1 ((verdict_races v said p.0 p.1).1 found.0)))
 
     -- the kept ones are what is wanted, where it need not be closest
-    kept_wanted : view.closest ≡ false → AreListed chart view some
+    pub kept_wanted : view.closest ≡ false → AreListed chart view some
     kept_wanted every = record {
       each = λ e f. (
         λ wanted. elim (in_one _ _ (e, f) split ((verdict_races v said e f).0 wanted.race)) [
@@ -84,43 +106,14 @@ module _ (chart : WiredChart) where
       ascending = kept_ascends _ _ split (verdict_ascends v said);
     }
 
-    -- what is listed, where it need not be closest
-    pub lists_all : (count : ℕ) (passed : Bool) → count + length some ≡ length (races_of v) → (IsTrue passed ↔ some ≡ [])
-        → view.closest ≡ false → IsListing chart view count passed some
-    lists_all count passed counted empty every = record {
-      left_out = others;
-      allowed = left_out;
-      counted = omega (arith, counted, both_count _ _ split);
-      answered = (λ told. all_allowed (empty.0 told), λ all. empty.1 (none_kept some refl all));
-      wanted = kept_wanted every;
-    }
-
-    module _ (near more rest : List (ℕ × ℕ)) (are : IsClosestList chart near)
-        (close : Splits (Counts chart view.allowed) (Allowed chart view.allowed) near more rest) where
-      -- the kept ones of the closest races are what is wanted, where these alone are
-      near_wanted : view.closest ≡ true → AreListed chart view more
-      near_wanted only = record {
-        each = λ e f. (
-          λ wanted. elim (in_one _ _ (e, f) close ((are.closest e f).0 (wanted.closest only))) [
-            | inl kept ↦ kept
-            | inr there ↦ absurd (wanted.counts (of_left _ _ (e, f) close there).1)
-          ],
-          λ there. let found = of_kept _ _ (e, f) close there in let near = (are.closest e f).1 found.0 in record {
-            race = near.race;
-            counts = found.1;
-            closest = λ told. near;
-          },
-        );
-        ascending = kept_ascends _ _ close are.ascending;
-      }
-
-      -- what is listed, where the closest races alone are wanted
-      pub lists_closest : (count : ℕ) (passed : Bool) → count + length some ≡ length (races_of v) → (IsTrue passed ↔ some ≡ [])
-          → view.closest ≡ true → IsListing chart view count passed more
-      lists_closest count passed counted empty only = record {
-        left_out = others;
-        allowed = left_out;
-        counted = omega (arith, counted, both_count _ _ split);
-        answered = (λ told. all_allowed (empty.0 told), λ all. empty.1 (none_kept some refl all));
-        wanted = near_wanted only;
-      }
+    -- what is listed
+    pub lists_wanted : (count n : ℕ) (told : Bool) (listed : List (ℕ × ℕ)) → n ≡ length some → count ≡ length races - n
+        → told ≡ (length some == 0) → AreListed chart view listed → IsListing chart view count told listed
+    lists_wanted count n told listed long counted says wanted =
+        let empty = empty_told some told says in record {
+          left_out = others;
+          allowed = left_out;
+          counted = omega (arith, counted, long, both_count _ _ parted);
+          answered = (λ yes. all_allowed (empty.0 yes), λ all. empty.1 (none_kept some refl all));
+          wanted = wanted;
+        }

@@ -1,13 +1,10 @@
 -- What explaining a pair of events answers.
-use Rattle.std.proofs.Common.{◌≡◌, ◌≢◌, ◌⊎◌, ℕ, true, false, List, Option, Result, Ok, Err, None, Some, inl, inr, refl, sym, ap, ◌∙◌, subst, arith}
+use Rattle.std.proofs.Common.{◌≡◌, ◌≢◌, ◌⊎◌, ℕ, List, Option, Result, Ok, Err, None, Some, inl, inr, refl, sym, ap, ◌∙◌, subst, arith}
 use Rattle.std.specs.Prelude.{IfErr, IfOk, IfSome}
 use Rattle.std.specs.Io.KnownBytes.{Appends}
 use Rattle.msc_chart.specs.declared.queue.Queues.{Queues}
-use Rattle.msc_chart.specs.Drawings.{Drawing, IsAccepted, chart_of}
-use Rattle.msc_chart.specs.Faults.{IsFaultless}
+use Rattle.msc_chart.specs.Drawings.{Drawing, IsAccepted}
 use Rattle.msc_chart.specs.Orders.{wired}
-use Rattle.msc_parser.specs.Grammar.{Tree}
-use Rattle.msc_parser.specs.Parsing.{HasDraft}
 use Rattle.msc_reason.specs.Laws.{AWhyIsEnough}
 use Rattle.msc_reason.specs.Reasons.{IsReason}
 use Rattle.msc_reason.specs.declared.reason.Reason.{Reason}
@@ -19,7 +16,7 @@ use Rattle.msc_report.specs.declared.fault.PairFault.TheVariants.{NoEvent, OneEv
 use Rattle.msc_study.specs.declared.explained.Explained.{Explained}
 use Rattle.msc_study.specs.declared.explained.Explained.TheVariants as answers
 use Rattle.msc_study.specs.Explained.{told, PrintsPair}
-use Rattle.msc_study.specs.Explaining.{AnswersPair, AreTwoEvents, HasPairFault, IsPairFault, PrintsReason, RefusesInputPair, RefusesPair}
+use Rattle.msc_study.specs.Explaining.{AnswersPair, AreTwoEvents, IsPairFault, RefusesInputPair, RefusesPair}
 use Rattle.msc_study.specs.Reasons.{explained_text}
 use Rattle.msc_text.proofs.InputAnswers.{Drafted}
 use Rattle.msc_text.proofs.Inputs.{draft_back, HasRead}
@@ -69,57 +66,50 @@ fails_otherwise {A} (Err e) x said no_memory no_device same =
     elim said [ inl memory ↦ no_memory (sym is ∙ memory) | inr device ↦ no_device (sym is ∙ device) ]
 
 module _ (text : List ℕ) (queues : Queues) (e f : ℕ) where
-  -- what is printed of the chart of a text's draft is printed of the text
-  pub answers_pair : (r : Result Explained Fault) (draft : Tree) (d : Drawing) (before after : Option (List ℕ)) → HasDraft text draft → IsFaultless draft → d ≡ chart_of draft
+  -- what is printed of the chart of a text is printed of the text
+  pub answers_pair : (r : Result Explained Fault) (d : Drawing) (before after : Option (List ℕ)) → IsChartOf text d
       → IfOk r (λ told. (printed : List ℕ) × PrintsPair d queues e f told printed × Appends before after printed)
       → IfOk r (λ told. AnswersPair text queues e f told before after)
-  answers_pair (Ok answers.Enforced) draft d before after has faultless same (printed, prints, wrote) = (
-    printed,
-    record { draft = draft; has = has; faultless = faultless; shown = subst (λ (d : Drawing). PrintsReason d queues e f true printed) same prints },
-    wrote,
-  )
-  answers_pair (Ok answers.Free) draft d before after has faultless same (printed, prints, wrote) = (
-    printed,
-    record { draft = draft; has = has; faultless = faultless; shown = subst (λ (d : Drawing). PrintsReason d queues e f false printed) same prints },
-    wrote,
-  )
-  answers_pair (Ok (answers.Refused p)) draft d before after has faultless same (printed, prints, wrote) = absurd prints
-  answers_pair (Err fault) draft d before after has faultless same said = tt
+  answers_pair (Ok answers.Enforced) d before after of_text (printed, prints, wrote) =
+      (printed, record { chart = d; of_text = of_text; shown = prints }, wrote)
+  answers_pair (Ok answers.Free) d before after of_text (printed, prints, wrote) =
+      (printed, record { chart = d; of_text = of_text; shown = prints }, wrote)
+  answers_pair (Ok (answers.Refused p)) d before after of_text (printed, prints, wrote) = absurd prints
+  answers_pair (Err fault) d before after of_text said = tt
 
-  -- the chart in which a pair has a fault is answered, unless memory runs out
-  faulty : (r : Result Drawing Fault) (p : PairFault) → ((d : Drawing) → IsChartOf text d → IsChartOrMemory d r) → (has : HasPairFault text e f p)
-      → IsChartOrMemory (chart_of has.draft) r
-  faulty r p only has = only (chart_of has.draft) (record { draft = has.draft; has = has.has; faultless = has.faultless; chart = refl })
-
-  -- so where a chart has two such events, no fault of a pair stands
+  -- where a chart has two such events, no fault of a pair stands
   pub two_stand : (answer : Result Explained Fault) (d : Drawing) → ((c : Drawing) → IsChartOf text c → IsChartOrMemory c (Ok d)) → AreTwoEvents d e f
       → RefusesPair text e f answer
   two_stand answer d only two p has =
-      absurd (no_fault (chart_of has.draft) e f p (subst (λ (c : Drawing). AreTwoEvents c e f) (faulty (Ok d) p only has) two) has.stands)
+      absurd (no_fault has.chart e f p (subst (λ (c : Drawing). AreTwoEvents c e f) (only has.chart has.of_text) two) has.stands)
 
   -- a fault of a pair is answered as it stands
   pub pair_stands : (d : Drawing) (p : PairFault) → ((c : Drawing) → IsChartOf text c → IsChartOrMemory c (Ok d)) → IsPairFault d e f p
       → RefusesPair text e f (Ok (answers.Refused p))
   pair_stands d p only stands q has =
       inl (ap (λ (x : PairFault). Ok (answers.Refused x))
-      (one_fault (chart_of has.draft) e f p q (subst (λ (c : Drawing). IsPairFault c e f p) (faulty (Ok d) q only has) stands) has.stands))
+      (one_fault has.chart e f p q (subst (λ (c : Drawing). IsPairFault c e f p) (only has.chart has.of_text) stands) has.stands))
 
   -- and a text without a chart has none, unless memory runs out
   pub no_pair : (x : Fault) → ((c : Drawing) → IsChartOf text c → IsChartOrMemory c (Err x)) → RefusesPair text e f (Err x)
-  no_pair x only q has = inr (ap Err (faulty (Err x) q only has))
+  no_pair x only q has = inr (ap Err (only has.chart has.of_text))
 
   -- what is said of the fault of a pair of what was read holds of the input
   pub refuses_input_pair : (input : Option (List ℕ)) (answer : Result Explained Fault) → HasRead text input
       → RefusesPair text e f answer → RefusesInputPair input e f answer
   refuses_input_pair None answer read said p = tt
   refuses_input_pair (Some bytes) answer read said p =
-      λ has. elim (said p (record { draft = has.draft; has = draft_back text bytes read has.draft has.has; faultless = has.faultless; stands = has.stands })) [
+      λ has.
+      let of = has.of_text in
+      let of_read : IsChartOf text has.chart =
+      record { draft = of.draft; has = draft_back text bytes read of.draft of.has; faultless = of.faultless; chart = of.chart } in
+      elim (said p (record { chart = has.chart; of_text = of_read; stands = has.stands })) [
         | inl same ↦ inl same
         | inr memory ↦ inr (inl memory)
       ]
 
   -- and what is answered of a pair speaks of a draft of the text
   pub answers_drafted : (before after : Option (List ℕ)) (told : Explained) → AnswersPair text queues e f told before after → Drafted text
-  answers_drafted before after answers.Enforced wrote = (wrote.1.draft, wrote.1.has)
-  answers_drafted before after answers.Free wrote = (wrote.1.draft, wrote.1.has)
-  answers_drafted before after (answers.Refused p) has = (has.draft, has.has)
+  answers_drafted before after answers.Enforced wrote = (wrote.1.of_text.draft, wrote.1.of_text.has)
+  answers_drafted before after answers.Free wrote = (wrote.1.of_text.draft, wrote.1.of_text.has)
+  answers_drafted before after (answers.Refused p) has = (has.of_text.draft, has.of_text.has)

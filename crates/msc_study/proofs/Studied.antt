@@ -2,11 +2,8 @@
 use Rattle.std.proofs.Common.{◌≡◌, ◌⊎◌, ℕ, Bool, List, ◌++◌, length, take, Option, Result, Ok, Err, ap, sym, subst, inr}
 use Rattle.std.specs.Prelude.{IfErr, IfOk}
 use Rattle.msc_chart.specs.declared.queue.Queues.{Queues}
-use Rattle.msc_chart.specs.Drawings.{Drawing, IsAccepted, chart_of}
-use Rattle.msc_chart.specs.Faults.{IsFaultless}
+use Rattle.msc_chart.specs.Drawings.{Drawing, IsAccepted}
 use Rattle.msc_chart.specs.Orders.{wired, IsEnforcedOrder}
-use Rattle.msc_parser.specs.Grammar.{Tree}
-use Rattle.msc_parser.specs.Parsing.{HasDraft}
 use Rattle.msc_race.specs.declared.verdict.Verdict.{Verdict}
 use Rattle.msc_race.specs.Laws.{AChosenRunExists, ChosenRunsAreWhole, ChosenRunsReverseRaces}
 use Rattle.msc_race.specs.Races.{IsVerdict, TellsRuns}
@@ -20,6 +17,7 @@ use Rattle.msc_study.specs.Lines.{head_text, races_text}
 use Rattle.msc_study.specs.Studying.{AreLacks, BeginsStudy, PrintsStudy, Studies, WritesStudy}
 use Rattle.msc_study.specs.declared.view.View.{View}
 use Rattle.msc_text.proofs.Answered.{chosen_runs, shows_races}
+use Rattle.msc_text.specs.Charting.{IsChartOf}
 use Rattle.msc_text.specs.Checking.{AreChosen}
 use Rattle.msc_text.specs.Pages.{Writes}
 
@@ -51,19 +49,11 @@ module _ (queues : Queues) (d : Drawing) (view : View) (v : Verdict) (passed : B
         wrote lacks.0 runs.0 lacks.1 runs.1,
       )
 
-  -- a study of the chart of a text's draft is printed of the text
-  pub studies : (text : List ℕ) (draft : Tree) (printed : List ℕ) → HasDraft text draft → IsFaultless draft → d ≡ chart_of draft
-      → IsVerdict (wired queues d) v → TellsRuns (wired queues d) v → PrintsStudy d queues view v passed printed
-      → Studies text queues view passed printed
-  studies text draft printed has faultless same races reversed shown = record {
-    draft = draft;
-    has = has;
-    faultless = faultless;
-    verdict = v;
-    races = subst (λ (d : Drawing). IsVerdict (wired queues d) v) same races;
-    reversed = subst (λ (d : Drawing). TellsRuns (wired queues d) v) same reversed;
-    shown = subst (λ (d : Drawing). PrintsStudy d queues view v passed printed) same shown;
-  }
+  -- a study of the chart of a text is printed of the text
+  pub studies : (text printed : List ℕ) → IsChartOf text d → IsVerdict (wired queues d) v → TellsRuns (wired queues d) v
+      → PrintsStudy d queues view v passed printed → Studies text queues view passed printed
+  studies text printed of_text races reversed shown =
+      record { chart = d; of_text = of_text; verdict = v; races = races; reversed = reversed; shown = shown }
 
   -- what was written is what is printed of the text
   pub writes_study : (r : Result Bool Fault) (text printed : List ℕ) (before after : Option (List ℕ))

@@ -2,18 +2,16 @@
 use Rattle.std.specs.Prelude.{◌≡◌, ◌≢◌, ◌≤◌, ◌<◌, ◌⊎◌, ◌↔◌, ℕ, Bool, true, false, List, length, Option, Result, Ok, Err, IfOk, IfSome, IsTrue}
 use Rattle.std.specs.Io.KnownBytes.{Appends}
 use Rattle.msc_chart.specs.declared.queue.Queues.{Queues}
-use Rattle.msc_chart.specs.Drawings.{Drawing, chart_of}
-use Rattle.msc_chart.specs.Faults.{IsFaultless}
+use Rattle.msc_chart.specs.Drawings.{Drawing}
 use Rattle.msc_chart.specs.Orders.{wired, Enforced}
-use Rattle.msc_parser.specs.Grammar.{Tree}
-use Rattle.msc_parser.specs.Parsing.{HasDraft}
 use Rattle.msc_reason.specs.Reasons.{IsReason}
 use Rattle.msc_reason.specs.declared.reason.Reason.{Reason}
 use Rattle.msc_report.specs.declared.fault.Fault.{Fault}
-use Rattle.msc_report.specs.declared.fault.Fault.TheVariants.{Memory, Device, NotStarted}
+use Rattle.msc_report.specs.declared.fault.Fault.TheVariants.{Memory, Device}
 use Rattle.msc_report.specs.declared.fault.PairFault.{PairFault}
 use Rattle.msc_report.specs.declared.fault.PairFault.TheVariants.{NoEvent, OneEvent}
 use Rattle.msc_text.specs.Answers.{RefusesText}
+use Rattle.msc_text.specs.Charting.{IsChartOf}
 use Rattle.msc_text.specs.Checking.{RefusesDraft}
 use Rattle.msc_study.specs.declared.explained.Explained.{Explained}
 use Rattle.msc_study.specs.declared.explained.Explained.TheVariants as answers
@@ -40,24 +38,22 @@ pub record PrintsReason (d : Drawing) (queues : Queues) (e f : ℕ) (enforced : 
   pub answered : IsTrue enforced ↔ Enforced (wired queues d) e f
   pub text : printed ≡ explained_text d queues e f reason
 
--- the same of the chart of a text's draft, in which no fault stands
+-- the same of the chart of a text
 pub record Explains (text : List ℕ) (queues : Queues) (e f : ℕ) (enforced : Bool) (printed : List ℕ) : Type 0 where
-  pub draft : Tree
-  pub has : HasDraft text draft
-  pub faultless : IsFaultless draft
-  pub shown : PrintsReason (chart_of draft) queues e f enforced printed
+  pub chart : Drawing
+  pub of_text : IsChartOf text chart
+  pub shown : PrintsReason chart queues e f enforced printed
 
 -- what is printed of the text went behind the known bytes of a writer
 abbrev pub WritesReason : List ℕ → Queues → ℕ → ℕ → Bool → Option (List ℕ) → Option (List ℕ) → Type 0
 WritesReason text queues e f enforced before after =
     (printed : List ℕ) × Explains text queues e f enforced printed × Appends before after printed
 
--- the text has a draft in which no fault stands, and of its chart the pair has this fault first
+-- the text has a chart, and of it the pair has this fault first
 pub record HasPairFault (text : List ℕ) (e f : ℕ) (fault : PairFault) : Type 0 where
-  pub draft : Tree
-  pub has : HasDraft text draft
-  pub faultless : IsFaultless draft
-  pub stands : IsPairFault (chart_of draft) e f fault
+  pub chart : Drawing
+  pub of_text : IsChartOf text chart
+  pub stands : IsPairFault chart e f fault
 
 -- what is answered of a pair: the whole text went out, or the pair has the fault
 abbrev pub AnswersPair : List ℕ → Queues → ℕ → ℕ → Explained → Option (List ℕ) → Option (List ℕ) → Type 0
@@ -70,10 +66,6 @@ abbrev pub RefusesPair : List ℕ → ℕ → ℕ → Result Explained Fault →
 RefusesPair text e f answer =
     (fault : PairFault) → HasPairFault text e f fault
     → (answer ≡ Ok (answers.Refused fault)) ⊎ (answer ≡ Err Memory)
-
--- no instance is answered that could not be started
-abbrev pub StartsNothing : {A : Type 0} → Result A Fault → Type 0
-StartsNothing answer = (i : ℕ) → answer ≢ Err (NotStarted i)
 
 -- what explaining a pair of a text's events answers and writes
 pub record ExplainsText (text : List ℕ) (queues : Queues) (e f : ℕ) (answer : Result Explained Fault) (before after : Option (List ℕ)) : Type 0 where

@@ -2,11 +2,8 @@
 use Rattle.std.specs.Prelude.{◌≡◌, ◌⊎◌, ◌↔◌, ℕ, Bool, List, Option, Result, Err, IfOk, IsTrue}
 use Rattle.std.specs.Io.KnownBytes.{Appends}
 use Rattle.msc_chart.specs.declared.queue.Queues.{Queues}
-use Rattle.msc_chart.specs.Drawings.{Drawing, chart_of}
-use Rattle.msc_chart.specs.Faults.{IsFaultless}
+use Rattle.msc_chart.specs.Drawings.{Drawing}
 use Rattle.msc_chart.specs.Orders.{WiredChart, wired, IsRace}
-use Rattle.msc_parser.specs.Grammar.{Tree}
-use Rattle.msc_parser.specs.Parsing.{HasDraft}
 use Rattle.msc_race.specs.declared.verdict.Verdict.{Verdict}
 use Rattle.msc_race.specs.Races.{IsVerdict, TellsRuns}
 use Rattle.msc_reason.specs.Lacks.{IsLackOf}
@@ -14,6 +11,7 @@ use Rattle.msc_reason.specs.declared.lack.Lack.{Lack}
 use Rattle.msc_report.specs.declared.fault.Fault.{Fault}
 use Rattle.msc_report.specs.declared.fault.Fault.TheVariants.{Memory}
 use Rattle.msc_text.specs.Answers.{RefusesText}
+use Rattle.msc_text.specs.Charting.{IsChartOf}
 use Rattle.msc_text.specs.Checking.{AreChosen, Begins, RefusesDraft, ShowsRaces}
 use Rattle.msc_study.specs.declared.view.View.{View}
 use Rattle.msc_study.specs.Lines.{studied_text}
@@ -39,17 +37,15 @@ pub record PrintsStudy (d : Drawing) (queues : Queues) (view : View) (v : Verdic
   pub answered : IsTrue passed ↔ AreAllAllowed (wired queues d) view.allowed
   pub text : printed ≡ studied_text d queues view lacks runs v allowed listed
 
--- What is printed of a text, and whether no race is left that is not allowed. The text has a draft in
--- which no fault stands. The verdict names the races of its chart, which are the drawn pairs that some
--- run reverses.
+-- What is printed of a text, and whether no race of its chart is left that is not allowed. The verdict
+-- names the chart's races, which are the drawn pairs that some run reverses.
 pub record Studies (text : List ℕ) (queues : Queues) (view : View) (passed : Bool) (printed : List ℕ) : Type 0 where
-  pub draft : Tree
-  pub has : HasDraft text draft
-  pub faultless : IsFaultless draft
+  pub chart : Drawing
+  pub of_text : IsChartOf text chart
   pub verdict : Verdict
-  pub races : IsVerdict (wired queues (chart_of draft)) verdict
-  pub reversed : TellsRuns (wired queues (chart_of draft)) verdict
-  pub shown : PrintsStudy (chart_of draft) queues view verdict passed printed
+  pub races : IsVerdict (wired queues chart) verdict
+  pub reversed : TellsRuns (wired queues chart) verdict
+  pub shown : PrintsStudy chart queues view verdict passed printed
 
 -- what is printed of the text went behind the known bytes of a writer
 abbrev pub WritesStudy : List ℕ → Queues → View → Bool → Option (List ℕ) → Option (List ℕ) → Type 0

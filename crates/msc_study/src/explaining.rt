@@ -5,9 +5,9 @@ ghost use Rattle.std.specs.Io.KnownBytes.{Appends};
 ghost use Rattle.msc_chart.specs.Orders.{wired, Enforced};
 ghost use Rattle.msc_reason.specs.Reasons.{IsReason};
 ghost use Rattle.msc_study.specs.Explained.{told, NamesAll, PrintsPair};
-ghost use Rattle.msc_study.specs.Explaining.{AnswersPair, AreTwoEvents, ExplainsText, IsPairFault, RefusesInputPair, RefusesPair, StartsNothing};
+ghost use Rattle.msc_study.specs.Explaining.{AnswersPair, AreTwoEvents, ExplainsText, IsPairFault, RefusesInputPair, RefusesPair};
 ghost use Rattle.msc_study.specs.Reasons.{explained_text};
-ghost use Rattle.msc_text.specs.Answers.{OnRead, RefusesInput, RefusesText};
+ghost use Rattle.msc_text.specs.Answers.{OnRead, RefusesInput, RefusesText, StartsNothing};
 ghost use Rattle.msc_text.specs.Checking.{RefusesDraft, RefusesInputDraft};
 
 use crate::explained::Explained;

@@ -8,7 +8,7 @@ ghost use Rattle.msc_race.specs.Races.{IsVerdict};
 ghost use Rattle.msc_study.specs.Counting.{IsListing};
 ghost use Rattle.msc_study.specs.Lines.{head_text};
 ghost use Rattle.msc_study.specs.Studying.{BeginsStudy, PrintsStudy, StudiesText, WritesStudy};
-ghost use Rattle.msc_text.specs.Answers.{OnRead, RefusesInput, RefusesText};
+ghost use Rattle.msc_text.specs.Answers.{OnRead, RefusesInput, RefusesText, StartsNothing};
 ghost use Rattle.msc_text.specs.Checking.{RefusesDraft, RefusesInputDraft};
 ghost use Rattle.msc_text.specs.Pages.{Writes};
 
@@ -112,6 +112,7 @@ pub fn study_text<W: Write>(
         (W.contents writer.old) (W.contents writer.new)) }
     ensures refused { RefusesText text.now result }
     ensures no_chart { RefusesDraft text.now result }
+    ensures started { StartsNothing result }
     ensures begun { IfErr result (λ e. e ≡ Fault.Memory → (writer.new ≡ writer.old)
         ⊎ BeginsStudy text.now queues view (W.contents writer.old) (W.contents writer.new)) }
     ensures untouched { IfErr result
@@ -139,6 +140,7 @@ pub fn study_input<R: Read, W: Write>(
         bytes queues view passed (W.contents writer.old) (W.contents writer.new))) }
     ensures refused { RefusesInput (R.remaining reader.old) result }
     ensures no_chart { RefusesInputDraft (R.remaining reader.old) result }
+    ensures started { StartsNothing result }
     ensures read { OnRead (R.remaining reader.old) (R.remaining reader.new) result (λ bytes. StudiesText
         bytes queues view result (W.contents writer.old) (W.contents writer.new)) }
     ensures begun { IfErr result (λ e. e ≡ Fault.Memory → (writer.new ≡ writer.old)

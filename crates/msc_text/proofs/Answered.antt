@@ -7,8 +7,7 @@ use Rattle.std.proofs.lemmas.Bool.{cases_lt}
 use Rattle.msc_chart.specs.declared.fault.ChartFault.{ChartFault}
 use Rattle.msc_chart.specs.declared.queue.Queues.{Queues}
 use Rattle.msc_chart.specs.Chosen.{IsChosenRun}
-use Rattle.msc_chart.specs.Drawings.{Drawing, IsAccepted, chart_of}
-use Rattle.msc_chart.specs.Faults.{IsFaultless}
+use Rattle.msc_chart.specs.Drawings.{Drawing, IsAccepted}
 use Rattle.msc_chart.specs.Orders.{wired}
 use Rattle.msc_parser.specs.declared.fault.ParseFault.{ParseFault}
 use Rattle.msc_parser.specs.Grammar.{Tree}
@@ -20,29 +19,12 @@ use Rattle.msc_race.specs.Races.{IsVerdict, TellsRuns}
 use Rattle.msc_report.specs.declared.fault.Fault.{Fault}
 use Rattle.msc_report.specs.declared.fault.Fault.TheVariants.{Parse, Chart, NotStarted, Memory, Device}
 use Rattle.msc_text.proofs.Races.{pair_events}
+use Rattle.msc_text.specs.Charting.{IsChartOf}
 use Rattle.msc_text.specs.Checking.{passes, checked_text, AreChosen, PrintsVerdict, ShowsRaces, Prints, WritesVerdict, BeginsVerdict}
 use Rattle.msc_text.specs.Pages.{Writes}
 
--- writing refuses no text
-pub writes_no_parse : (r : Result Bool Fault) (before after : Option (List ℕ)) (text : List ℕ) → Writes r before after text → (f : ParseFault) → r ≢ Err (Parse f)
-writes_no_parse (Ok a) before after text wrote f e = absurd cc
-writes_no_parse (Err Memory) before after text wrote f e = absurd cc
-writes_no_parse (Err Device) before after text wrote f e = absurd cc
-writes_no_parse (Err (Parse g)) before after text wrote f e = wrote
-writes_no_parse (Err (Chart g)) before after text wrote f e = wrote
-writes_no_parse (Err (NotStarted i)) before after text wrote f e = wrote
-
--- and no draft
-pub writes_no_chart : (r : Result Bool Fault) (before after : Option (List ℕ)) (text : List ℕ) → Writes r before after text → (f : ChartFault) → r ≢ Err (Chart f)
-writes_no_chart (Ok a) before after text wrote f e = absurd cc
-writes_no_chart (Err Memory) before after text wrote f e = absurd cc
-writes_no_chart (Err Device) before after text wrote f e = absurd cc
-writes_no_chart (Err (Parse g)) before after text wrote f e = wrote
-writes_no_chart (Err (Chart g)) before after text wrote f e = wrote
-writes_no_chart (Err (NotStarted i)) before after text wrote f e = wrote
-
--- it ends by want of memory or by the writer alone
-pub writes_or_fails : (A : Type 0) (r : Result Bool Fault) (before after : Option (List ℕ)) (text : List ℕ) → Writes r before after text
+-- writing ends by want of memory or by the writer alone
+pub writes_or_fails : {B : Type 0} (A : Type 0) (r : Result B Fault) (before after : Option (List ℕ)) (text : List ℕ) → Writes r before after text
     → IfErr r (λ e. e ≢ Memory → e ≢ Device → A)
 writes_or_fails A (Ok a) before after text wrote = tt
 writes_or_fails A (Err Memory) before after text wrote = λ no_memory no_device. absurd (no_memory refl)
@@ -50,6 +32,24 @@ writes_or_fails A (Err Device) before after text wrote = λ no_memory no_device.
 writes_or_fails A (Err (Parse f)) before after text wrote = absurd wrote
 writes_or_fails A (Err (Chart f)) before after text wrote = absurd wrote
 writes_or_fails A (Err (NotStarted i)) before after text wrote = absurd wrote
+
+-- it answers no other fault
+writes_otherwise : {A : Type 0} (r : Result A Fault) (before after : Option (List ℕ)) (text : List ℕ) → Writes r before after text → (x : Fault) → x ≢ Memory → x ≢ Device → r ≢ Err x
+writes_otherwise {A} r before after text wrote x no_memory no_device same =
+    subst (λ (a : Result A Fault). IfErr a (λ e. e ≢ Memory → e ≢ Device → ⊥)) same (writes_or_fails ⊥ r before after text wrote) no_memory no_device
+
+module _ {A : Type 0} (r : Result A Fault) (before after : Option (List ℕ)) (text : List ℕ) (wrote : Writes r before after text) where
+  -- it refuses no text
+  pub writes_no_parse : (f : ParseFault) → r ≢ Err (Parse f)
+  writes_no_parse f = writes_otherwise r before after text wrote (Parse f) (λ e. cc) (λ e. cc)
+
+  -- and no draft
+  pub writes_no_chart : (f : ChartFault) → r ≢ Err (Chart f)
+  writes_no_chart f = writes_otherwise r before after text wrote (Chart f) (λ e. cc) (λ e. cc)
+
+  -- and names no instance
+  pub writes_no_start : (i : ℕ) → r ≢ Err (NotStarted i)
+  writes_no_start i = writes_otherwise r before after text wrote (NotStarted i) (λ e. cc) (λ e. cc)
 
 -- an event's chosen run, where it is an event
 chosen_run : (queues : Queues) (d : Drawing) → IsAccepted d → AChosenRunExists → (e : ℕ) → (run : List ℕ) × (e < length d.events → IsChosenRun (wired queues d) e run)
@@ -83,20 +83,12 @@ prints_verdict r before after queues d show v accepted said exists whole reverse
       wrote runs.0 runs.1,
     )
 
--- a verdict on the chart of a text's draft is printed of the text
-pub prints : (text : List ℕ) (queues : Queues) (show : ℕ) (draft : Tree) (d : Drawing) (v : Verdict) (printed : List ℕ)
-    → HasDraft text draft → IsFaultless draft → d ≡ chart_of draft → IsVerdict (wired queues d) v → TellsRuns (wired queues d) v
-    → PrintsVerdict d queues show v printed → Prints text queues show (passes v) printed
-prints text queues show draft d v printed has faultless same races reversed shown = record {
-  draft = draft;
-  has = has;
-  faultless = faultless;
-  verdict = v;
-  races = subst (λ (d : Drawing). IsVerdict (wired queues d) v) same races;
-  reversed = subst (λ (d : Drawing). TellsRuns (wired queues d) v) same reversed;
-  answered = refl;
-  shown = subst (λ (d : Drawing). PrintsVerdict d queues show v printed) same shown;
-}
+-- a verdict on the chart of a text is printed of the text
+pub prints : (text : List ℕ) (queues : Queues) (show : ℕ) (d : Drawing) (v : Verdict) (printed : List ℕ)
+    → IsChartOf text d → IsVerdict (wired queues d) v → TellsRuns (wired queues d) v → PrintsVerdict d queues show v printed
+    → Prints text queues show (passes v) printed
+prints text queues show d v printed of_text races reversed shown =
+    record { chart = d; of_text = of_text; verdict = v; races = races; reversed = reversed; answered = refl; shown = shown }
 
 -- what was written is what is printed of the text
 pub writes_verdict : (r : Result Bool Fault) (text : List ℕ) (queues : Queues) (show : ℕ) (v : Verdict) (printed : List ℕ) (before after : Option (List ℕ))

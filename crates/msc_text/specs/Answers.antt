@@ -7,7 +7,7 @@ use Rattle.msc_parser.specs.Grammar.{Tree}
 use Rattle.msc_parser.specs.Canonical.{canonical}
 use Rattle.msc_parser.specs.Parsing.{HasDraft, HasParseFault}
 use Rattle.msc_report.specs.declared.fault.Fault.{Fault}
-use Rattle.msc_report.specs.declared.fault.Fault.TheVariants.{Parse, Chart, Memory, Device}
+use Rattle.msc_report.specs.declared.fault.Fault.TheVariants.{Parse, Chart, NotStarted, Memory, Device}
 use Rattle.msc_text.specs.Reading.{IsReadFrom}
 
 -- the text has a draft, whose canonical text went behind the known bytes of a writer
@@ -25,6 +25,10 @@ pub record RefusesText {A : Type 0} (text : List ℕ) (answer : Result A Fault) 
 -- no fault of a chart is answered
 abbrev pub BuildsNoChart : {A : Type 0} → Result A Fault → Type 0
 BuildsNoChart answer = (f : ChartFault) → answer ≢ Err (Chart f)
+
+-- no instance is answered that could not be started
+abbrev pub StartsNothing : {A : Type 0} → Result A Fault → Type 0
+StartsNothing answer = (i : ℕ) → answer ≢ Err (NotStarted i)
 
 -- what reading a text to its canonical text answers and writes
 pub record ReadsText {A : Type 0} (text : List ℕ) (answer : Result A Fault) (before after : Option (List ℕ)) : Type 0 where

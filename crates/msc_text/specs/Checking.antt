@@ -6,10 +6,10 @@ use Rattle.msc_parser.specs.Grammar.{Tree}
 use Rattle.msc_parser.specs.Parsing.{HasDraft}
 use Rattle.msc_chart.specs.declared.fault.ChartFault.{ChartFault}
 use Rattle.msc_chart.specs.declared.queue.Queues.{Queues}
-use Rattle.msc_chart.specs.Drawings.{Drawing, chart_of}
+use Rattle.msc_chart.specs.Drawings.{Drawing}
 use Rattle.msc_chart.specs.Chosen.{IsChosenRun}
 use Rattle.msc_chart.specs.Lists.{Occurs}
-use Rattle.msc_chart.specs.Faults.{Stands, IsFirstFault, IsFaultless}
+use Rattle.msc_chart.specs.Faults.{Stands, IsFirstFault}
 use Rattle.msc_chart.specs.Orders.{WiredChart, wired}
 use Rattle.msc_chart.specs.Runs.{Run, IsWhole, Reverses}
 use Rattle.msc_race.specs.declared.verdict.Verdict.{Verdict}
@@ -19,6 +19,7 @@ use Rattle.msc_report.specs.declared.fault.Fault.{Fault}
 use Rattle.msc_report.specs.declared.fault.Fault.TheVariants.{Chart, Memory, Device}
 use Rattle.msc_report.specs.Verdicts.{verdict_text, race_text}
 use Rattle.msc_text.specs.Answers.{RefusesText}
+use Rattle.msc_text.specs.Charting.{IsChartOf}
 
 -- whether a verdict is `pass`
 abbrev pub passes : Verdict → Bool
@@ -63,17 +64,16 @@ pub record PrintsVerdict (d : Drawing) (queues : Queues) (show : ℕ) (v : Verdi
   pub reverse : ShowsRaces (wired queues d) runs v
   pub text : printed ≡ checked_text d queues runs show v
 
--- What is printed of a text, and whether its verdict is `pass`. The text has a draft in which no fault
--- stands. The verdict names the races of its chart, which are the drawn pairs that some run reverses.
+-- What is printed of a text, and whether the verdict on its chart is `pass`. The verdict names the
+-- chart's races, which are the drawn pairs that some run reverses.
 pub record Prints (text : List ℕ) (queues : Queues) (show : ℕ) (passed : Bool) (printed : List ℕ) : Type 0 where
-  pub draft : Tree
-  pub has : HasDraft text draft
-  pub faultless : IsFaultless draft
+  pub chart : Drawing
+  pub of_text : IsChartOf text chart
   pub verdict : Verdict
-  pub races : IsVerdict (wired queues (chart_of draft)) verdict
-  pub reversed : TellsRuns (wired queues (chart_of draft)) verdict
+  pub races : IsVerdict (wired queues chart) verdict
+  pub reversed : TellsRuns (wired queues chart) verdict
   pub answered : passed ≡ passes verdict
-  pub shown : PrintsVerdict (chart_of draft) queues show verdict printed
+  pub shown : PrintsVerdict chart queues show verdict printed
 
 -- what is printed of the text went behind the known bytes of a writer
 abbrev pub WritesVerdict : List ℕ → Queues → ℕ → Bool → Option (List ℕ) → Option (List ℕ) → Type 0

@@ -5,7 +5,7 @@ ghost use Rattle.msc_chart.specs.Orders.{wired, IsEnforcedOrder};
 ghost use Rattle.msc_order.specs.Tables.{orders};
 ghost use Rattle.msc_race.specs.Races.{verdict_by, IsVerdict, TellsRuns};
 ghost use Rattle.msc_report.specs.Verdicts.{head_text};
-ghost use Rattle.msc_text.specs.Answers.{OnRead, RefusesInput, RefusesText};
+ghost use Rattle.msc_text.specs.Answers.{OnRead, RefusesInput, RefusesText, StartsNothing};
 ghost use Rattle.msc_text.specs.Checking.{passes, races_of, BeginsVerdict, ChecksText, PrintsVerdict, RefusesDraft, RefusesInputDraft, WritesVerdict};
 ghost use Rattle.msc_text.specs.Pages.{Writes};
 
@@ -91,6 +91,7 @@ pub fn check_text<W: Write>(
         WritesVerdict text.now queues show passed (W.contents writer.old) (W.contents writer.new)) }
     ensures refused { RefusesText text.now result }
     ensures no_chart { RefusesDraft text.now result }
+    ensures started { StartsNothing result }
     ensures begun { IfErr result (λ e. e ≡ Fault.Memory → (writer.new ≡ writer.old)
         ⊎ BeginsVerdict text.now queues show (W.contents writer.old) (W.contents writer.new)) }
     ensures untouched { IfErr result
@@ -116,6 +117,7 @@ pub fn check_input<R: Read, W: Write>(
         WritesVerdict bytes queues show passed (W.contents writer.old) (W.contents writer.new))) }
     ensures refused { RefusesInput (R.remaining reader.old) result }
     ensures no_chart { RefusesInputDraft (R.remaining reader.old) result }
+    ensures started { StartsNothing result }
     ensures read { OnRead (R.remaining reader.old) (R.remaining reader.new) result (λ bytes.
         ChecksText bytes queues show result (W.contents writer.old) (W.contents writer.new)) }
     ensures begun { IfErr result (λ e. e ≡ Fault.Memory → (writer.new ≡ writer.old)

@@ -2,7 +2,7 @@
 
 ghost use Rattle.std.specs.Prelude.{◌≡◌, ◌≢◌, IfSome, IfErr, OnOk};
 ghost use Rattle.std.specs.Io.KnownBytes.{Appends};
-ghost use Rattle.msc_text.specs.Answers.{BuildsNoChart, OnRead, ReadsText, RefusesInput, RefusesText, WritesDraft};
+ghost use Rattle.msc_text.specs.Answers.{BuildsNoChart, OnRead, ReadsText, RefusesInput, RefusesText, StartsNothing, WritesDraft};
 
 use crate::reading::read_all;
 use msc_parser::parse;
@@ -19,6 +19,7 @@ pub fn read_text<W: Write>(alloc: Global, text: &[u8], writer: &mut W) -> Result
         (WritesDraft text.now (W.contents writer.old) (W.contents writer.new)) }
     ensures refused { RefusesText text.now result }
     ensures no_chart { BuildsNoChart result }
+    ensures started { StartsNothing result }
     ensures untouched { IfErr result (λ e. e ≢ Fault.Device → writer.new ≡ writer.old) }
 {
     let draft = parse(alloc, text)?;
@@ -39,6 +40,7 @@ pub fn read_input<R: Read, W: Write>(
         (λ bytes. WritesDraft bytes (W.contents writer.old) (W.contents writer.new))) }
     ensures refused { RefusesInput (R.remaining reader.old) result }
     ensures no_chart { BuildsNoChart result }
+    ensures started { StartsNothing result }
     ensures read { OnRead (R.remaining reader.old) (R.remaining reader.new) result (λ bytes.
         ReadsText bytes result (W.contents writer.old) (W.contents writer.new)) }
     ensures untouched { IfErr result (λ e. e ≢ Fault.Device → writer.new ≡ writer.old) }

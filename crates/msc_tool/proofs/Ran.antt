@@ -4,12 +4,9 @@ use Rattle.std.specs.Prelude.{IfOk, IfErr}
 use Rattle.std.specs.Io.KnownBytes.{Appends}
 use Rattle.std.specs.List.{All}
 use Rattle.msc_parser.specs.declared.fault.ParseFault.{ParseFault}
-use Rattle.msc_parser.specs.Grammar.{Tree}
-use Rattle.msc_parser.specs.Parsing.{HasDraft}
 use Rattle.msc_chart.specs.declared.fault.ChartFault.{ChartFault}
 use Rattle.msc_chart.specs.declared.queue.Queues.{Queues}
-use Rattle.msc_chart.specs.Drawings.{Drawing, IsAccepted, chart_of}
-use Rattle.msc_chart.specs.Faults.{IsFaultless}
+use Rattle.msc_chart.specs.Drawings.{Drawing, IsAccepted}
 use Rattle.msc_chart.specs.Orders.{wired}
 use Rattle.msc_execution.specs.declared.end.End.{End}
 use Rattle.msc_execution.specs.Executions.{Outcome, IsExecution, AreFinished, IsFinished}
@@ -19,6 +16,7 @@ use Rattle.msc_report.specs.declared.fault.Fault.{Fault}
 use Rattle.msc_report.specs.declared.fault.Fault.TheVariants.{Parse, Chart, NotStarted, Memory, Device}
 use Rattle.msc_report.specs.Traces.{trace_text}
 use Rattle.msc_text.proofs.RunEvents.{run_events}
+use Rattle.msc_text.specs.Charting.{IsChartOf}
 use Rattle.msc_tool.specs.Ran.{IsRunFault}
 use Rattle.msc_tool.specs.Running.{NamesAnInstance, PrintsExecution, WritesTrace}
 
@@ -51,10 +49,9 @@ ran_names {A} (Err Memory) d said i e = absurd cc
 ran_names {A} (Err Device) d said i e = absurd cc
 
 -- so it is one of the text's chart
-pub ran_names_of : {A : Type 0} (r : Result A Fault) (text : List ℕ) (draft : Tree) (d : Drawing)
-    → HasDraft text draft → IsFaultless draft → d ≡ chart_of draft → IfErr r (IsRunFault d) → NamesAnInstance text r
-ran_names_of {A} r text draft d has faultless same said i e =
-    (draft, has, faultless, subst (λ (d : Drawing). i < length d.instances) same (ran_names r d said i e))
+pub ran_names_of : {A : Type 0} (r : Result A Fault) (text : List ℕ) (d : Drawing)
+    → IsChartOf text d → IfErr r (IsRunFault d) → NamesAnInstance text r
+ran_names_of {A} r text d of_text said i e = (d, of_text, ran_names r d said i e)
 
 -- a trace is of events of the chart
 pub trace_events : (queues : Queues) (d : Drawing) (logs : List (List ℕ)) (events : List ℕ)
@@ -78,19 +75,11 @@ prints_execution d queues open' patience o ends trace events finished accepted w
           ∙ ap (λ (t : List ℕ). trace_text d queues o.ends (Some t)) same;
     }
 
--- what is printed of the chart of a text's draft is printed of the text
-pub writes_trace : (r : Result Bool Fault) (text : List ℕ) (queues : Queues) (open' : Bool) (patience : ℕ) (draft : Tree) (d : Drawing)
-    (before after : Option (List ℕ)) → HasDraft text draft → IsFaultless draft → d ≡ chart_of draft
+-- what is printed of the chart of a text is printed of the text
+pub writes_trace : (r : Result Bool Fault) (text : List ℕ) (queues : Queues) (open' : Bool) (patience : ℕ) (d : Drawing)
+    (before after : Option (List ℕ)) → IsChartOf text d
     → IfOk r (λ finished. (printed : List ℕ) × PrintsExecution d queues open' patience finished printed × Appends before after printed)
     → IfOk r (λ finished. WritesTrace text queues open' patience finished before after)
-writes_trace (Ok finished) text queues open' patience draft d before after has faultless same (printed, prints, wrote) = (
-  printed,
-  record {
-    draft = draft;
-    has = has;
-    faultless = faultless;
-    shown = subst (λ (d : Drawing). PrintsExecution d queues open' patience finished printed) same prints;
-  },
-  wrote,
-)
-writes_trace (Err e) text queues open' patience draft d before after has faultless same wrote = tt
+writes_trace (Ok finished) text queues open' patience d before after of_text (printed, prints, wrote) =
+    (printed, record { chart = d; of_text = of_text; shown = prints }, wrote)
+writes_trace (Err e) text queues open' patience d before after of_text wrote = tt

@@ -1,11 +1,8 @@
 -- What running a text answers.
 use Rattle.std.specs.Prelude.{◌≡◌, ℕ, ◌<◌, ◌↔◌, Bool, true, List, length, Option, Some, Result, Err, IfOk, IfSome}
 use Rattle.std.specs.Io.KnownBytes.{Appends}
-use Rattle.msc_parser.specs.Grammar.{Tree}
-use Rattle.msc_parser.specs.Parsing.{HasDraft}
 use Rattle.msc_chart.specs.declared.queue.Queues.{Queues}
-use Rattle.msc_chart.specs.Drawings.{Drawing, chart_of}
-use Rattle.msc_chart.specs.Faults.{IsFaultless}
+use Rattle.msc_chart.specs.Drawings.{Drawing}
 use Rattle.msc_chart.specs.Orders.{wired}
 use Rattle.msc_chart.specs.Runs.{IsWhole}
 use Rattle.msc_execution.specs.Executions.{Outcome, IsExecution, AreFinished}
@@ -14,6 +11,7 @@ use Rattle.msc_report.specs.declared.fault.Fault.{Fault}
 use Rattle.msc_report.specs.declared.fault.Fault.TheVariants.{NotStarted}
 use Rattle.msc_report.specs.Traces.{trace_text}
 use Rattle.msc_text.specs.Answers.{RefusesText}
+use Rattle.msc_text.specs.Charting.{IsChartOf}
 use Rattle.msc_text.specs.Checking.{RefusesDraft}
 
 -- What is printed of a chart: how each instance of one of its executions ended, and the execution's
@@ -29,13 +27,12 @@ pub record PrintsExecution (d : Drawing) (queues : Queues) (open' : Bool) (patie
   pub whole : finished ≡ true → IsWhole (wired queues d) trace
   pub text : printed ≡ trace_text d queues outcome.ends (Some trace)
 
--- What is printed of a text: an execution of its draft's chart. No fault stands in the draft.
+-- What is printed of a text: an execution of its chart.
 pub record PrintsTrace (text : List ℕ) (queues : Queues) (open' : Bool) (patience : ℕ)
     (finished : Bool) (printed : List ℕ) : Type 0 where
-  pub draft : Tree
-  pub has : HasDraft text draft
-  pub faultless : IsFaultless draft
-  pub shown : PrintsExecution (chart_of draft) queues open' patience finished printed
+  pub chart : Drawing
+  pub of_text : IsChartOf text chart
+  pub shown : PrintsExecution chart queues open' patience finished printed
 
 -- what is printed of the text went behind the known bytes of a writer
 abbrev pub WritesTrace : List ℕ → Queues → Bool → ℕ → Bool → Option (List ℕ) → Option (List ℕ)
@@ -46,9 +43,7 @@ WritesTrace text queues open' patience finished before after =
 
 -- i is the number of an instance of the text's chart
 abbrev pub HasInstance : List ℕ → ℕ → Type 0
-HasInstance text i =
-    (draft : Tree) × HasDraft text draft × IsFaultless draft
-    × (i < length (chart_of draft).instances)
+HasInstance text i = (chart : Drawing) × IsChartOf text chart × (i < length chart.instances)
 
 -- an instance that could not be started is one of the text's chart
 abbrev pub NamesAnInstance : {A : Type 0} → List ℕ → Result A Fault → Type 0

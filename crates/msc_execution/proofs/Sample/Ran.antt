@@ -9,6 +9,7 @@ use Rattle.msc_chart.specs.Orders.{queue_of, queue_number, queue_bound}
 use Rattle.msc_chart.specs.Laws.{messages_in, sends_to, senders_in}
 use Rattle.msc_chart.proofs.ListLemmas.{clash}
 use Rattle.msc_chart.proofs.Drawn.{before_parts}
+use Rattle.msc_fifo.specs.Ends.{OutletState}
 use Rattle.msc_fifo.specs.Identity.{QueueId}
 use Rattle.msc_fifo.specs.declared.accounts.Settled.{Settled}
 use Rattle.msc_execution.specs.Roles.{role, wired_ends, fresh_outlet, fresh_inlet, queues_in, queues_below, takes_from, quota_of, rank_of, sent_queues, taken_queues}
@@ -126,46 +127,31 @@ module _ (id : QueueId) where
   abbrev pub ids : ℕ → QueueId
   ids q = id
 
+  -- what an instance put that sends to the one queue
+  put_by : (i : ℕ) (log : List ℕ) (reading : Reading) (o : OutletState)
+      → sent_queues (role Mailbox two i) ≡ 0 ∷ []
+      → IsLeftBy (role Mailbox two i) log reading (fresh_outlet ids (role Mailbox two i) 0) (0, o)
+      → AllZip (IsLeftBy (role Mailbox two i) log reading)
+      (wired_ends ids (role Mailbox two i)).outlets ((0, o) ∷ [])
+  put_by i log reading o sends left =
+      subst (λ (l : List ℕ). AllZip (IsLeftBy (role Mailbox two i) log reading)
+      (map (fresh_outlet ids (role Mailbox two i)) l) ((0, o) ∷ [])) (sym sends) (left, tt)
+
   -- what instance 0 put
   own_put : AllZip (IsLeftBy (role Mailbox two 0) (0 ∷ 2 ∷ 1 ∷ []) (read_at_place 1))
       (wired_ends ids (role Mailbox two 0)).outlets ((0, own_outlet id) ∷ [])
   unfolding rank_of quota_of messages_in sends_to queue_of queue_number sender_of receiver_of
       output_of input_of line partner message kind is_output is_input along_from clock_next until
-  own_put =
-      subst (λ (l : List ℕ). AllZip
-      (IsLeftBy (role Mailbox two 0) (0 ∷ 2 ∷ 1 ∷ []) (read_at_place 1))
-      (map (fresh_outlet ids (role Mailbox two 0)) l) ((0, own_outlet id) ∷ []))
-      (sym own_sends) (
-        record {
-          number = refl;
-          same = (refl, refl, refl);
-          put = refl;
-          closed =
-              refl;
-          claims = λ open'. (3, refl);
-        },
-        tt,
-      )
+  own_put = put_by 0 (0 ∷ 2 ∷ 1 ∷ []) (read_at_place 1) (own_outlet id) own_sends
+      (record { number = refl; same = (refl, refl, refl); put = refl; closed = refl; claims = λ open'. (3, refl) })
 
   -- what instance 1 put
   other_put : AllZip (IsLeftBy (role Mailbox two 1) (3 ∷ 4 ∷ []) (read_at_place 0))
       (wired_ends ids (role Mailbox two 1)).outlets ((0, other_outlet id) ∷ [])
   unfolding rank_of quota_of messages_in sends_to queue_of queue_number sender_of receiver_of
       output_of input_of line partner message kind is_output is_input along_from clock_next until
-  other_put =
-      subst (λ (l : List ℕ). AllZip (IsLeftBy (role Mailbox two 1) (3 ∷ 4 ∷ []) (read_at_place 0))
-      (map (fresh_outlet ids (role Mailbox two 1)) l) ((0, other_outlet id) ∷ []))
-      (sym other_sends) (
-        record {
-          number = refl;
-          same = (refl, refl, refl);
-          put = refl;
-          closed =
-              refl;
-          claims = λ open'. (2, refl);
-        },
-        tt,
-      )
+  other_put = put_by 1 (3 ∷ 4 ∷ []) (read_at_place 0) (other_outlet id) other_sends
+      (record { number = refl; same = (refl, refl, refl); put = refl; closed = refl; claims = λ open'. (2, refl) })
 
   -- what instance 0 got
   own_got : AllZip (HasTaken (role Mailbox two 0) (0 ∷ 2 ∷ 1 ∷ []) (read_at_place 1) (λ q. []))

@@ -9,7 +9,7 @@ use Rattle.msc_chart.specs.Chosen.{IsFree, MayComeFree}
 use Rattle.msc_chart.proofs.ListLemmas.{occurs_other}
 use Rattle.bit_rows.specs.Rows.{has, IsWithout}
 use Rattle.msc_race.specs.Rows.{is_masked}
-use Rattle.msc_race.specs.Remainders.{HoldsBelow, IsUnheld, IsPassedOnWith}
+use Rattle.msc_race.specs.Remainders.{Holds, IsUnheld, IsPassedOnWith}
 use Rattle.msc_race.specs.Fronts.{IsOpenControlled}
 use Rattle.msc_race.specs.QueuedRuns.{IsArrived}
 use Rattle.msc_race.specs.Beginnings.{HoldsLeft}
@@ -20,12 +20,7 @@ use Rattle.msc_race.proofs.Making.FrontLemmas.{still_in, was_in}
 use Rattle.msc_race.proofs.Runs.FreeRuns.{test_of_held}
 use Rattle.msc_race.proofs.Runs.FreeFirst.{held_queue}
 
--- before any event has occurred, all are left
-pub left_at_first : (row : List ℕ) (P : ℕ → Type 0) (n : ℕ) → HoldsBelow row P n → ((y : ℕ) → P y → y < n) → HoldsLeft row P []
-unfolding occurs
-left_at_first row P n held bound y = (λ h. (((held y).0 h).0, refl), λ p. (held y).1 (p.0, bound y p.0))
-
--- a row of all events holds those that are left then
+-- before any event has occurred, a row of all events holds those that are left
 pub all_at_first : (row : List ℕ) (P : ℕ → Type 0) → ((y : ℕ) → (has row y ≡ true) ↔ P y) → HoldsLeft row P []
 unfolding occurs
 all_at_first row P all y = (λ h. ((all y).0 h, refl), λ p. (all y).1 p.0)
@@ -88,18 +83,18 @@ module _ (chart : WiredChart) (is_wired : IsWired chart) (past left controlled i
       ]
 
   -- what is picked with a mask may come next, and has the property of the mask
-  pub picked : (mask : List ℕ) (P : ℕ → Type 0) → HoldsLeft mask P past → (y : ℕ)
+  pub picked : (mask : List ℕ) (P : ℕ → Type 0) → Holds mask P → (y : ℕ)
       → (is_masked controlled inputs mask y ≡ true) ↔ (MayCome chart past y × P y)
   unfolding is_masked
   picked mask P masked y = (
     λ h.
         let both = and_parts _ _ h in
-        let p = ((masked y).0 both.1).0 in
+        let p = (masked y).0 both.1 in
         elim (or_cases _ _ both.0) [
           | inl free ↦ (controlled_may y ((opens y).0 free), p)
           | inr input ↦ (input_may y ((arrived y).0 input), p)
         ],
-    λ h. and_from _ _ (may_rows y h.0) ((masked y).1 (h.1, h.0.new)),
+    λ h. and_from _ _ (may_rows y h.0) ((masked y).1 h.1),
   )
 
 module _ (chart : WiredChart) (is_wired : IsWired chart) (order : ℕ → ℕ → Bool) (told : IsEnforcedOrder chart order) (e : ℕ)

@@ -1,8 +1,8 @@
 -- Rows that hold the events wider a property.
-use Rattle.std.proofs.Common.{◌≡◌, ℕ, ◌+◌, ◌<◌, ◌≤◌, Bool, true, false, not, ◌&&◌, ◌↔◌, inl, inr, List, eqb, refl, sym, ◌∙◌, subst, arith}
+use Rattle.std.proofs.Common.{◌≡◌, ℕ, ◌+◌, ◌<◌, Bool, true, false, not, ◌&&◌, ◌↔◌, inl, inr, List, eqb, refl, sym, ◌∙◌, subst, arith}
 use Rattle.std.proofs.lemmas.Bool.{eqb-true, eq-eqb, ne_eqb, not-true, cases_lt, and_parts, and_from, or_cases, or_left, or_right}
 use Rattle.bit_rows.specs.Rows.{has, IsWith, IsWithout}
-use Rattle.msc_race.specs.Remainders.{HoldsBelow, HoldsOthers}
+use Rattle.msc_race.specs.Remainders.{Holds, HoldsBelow, HoldsOthers}
 use Rattle.msc_race.proofs.Shared.{clash}
 
 -- one number more is told
@@ -25,9 +25,8 @@ below_with old new P k b held wider told y = (
 )
 
 -- all numbers are told where none past the bound has the property
-pub below_all : (row : List ℕ) (P : ℕ → Type 0) (k n : ℕ) → HoldsBelow row P k → n ≤ k → ((y : ℕ) → P y → y < n) → HoldsBelow row P n
-below_all row P k n held enough bound y =
-    (λ h. let p = (held y).0 h in (p.0, bound y p.0), λ p. (held y).1 (p.0, omega (arith, enough, p.1)))
+pub below_all : (row : List ℕ) (P : ℕ → Type 0) (n : ℕ) → HoldsBelow row P n → ((y : ℕ) → P y → y < n) → Holds row P
+below_all row P n held bound y = (λ h. ((held y).0 h).0, λ p. (held y).1 (p, bound y p))
 
 -- nothing changes where the next number has not the property
 pub below_same : (row : List ℕ) (P : ℕ → Type 0) (k : ℕ) → HoldsBelow row P k → (P k → ⊥) → HoldsBelow row P (k + 1)
@@ -77,12 +76,10 @@ others_without old new P Q k held less out y = (
 )
 
 -- once all is told, the others are those without what takes a number out
-pub others_all : (row : List ℕ) (P Q : ℕ → Type 0) (k n : ℕ) → HoldsOthers row P Q k → n ≤ k → ((y : ℕ) → P y → y < n)
-    → HoldsBelow row (λ y. P y × (Q y → ⊥)) n
-others_all row P Q k n held enough bound y = (
-  λ h. let p = (held y).0 h in let below = bound y p.0 in ((p.0, λ q. p.1 (omega (arith, below, enough)) q), below),
-  λ p. (held y).1 (p.0.0, λ below q. p.0.1 q),
-)
+pub others_all : (row : List ℕ) (P Q : ℕ → Type 0) (n : ℕ) → HoldsOthers row P Q n → ((y : ℕ) → P y → y < n)
+    → Holds row (λ y. P y × (Q y → ⊥))
+others_all row P Q n held bound y =
+    (λ h. let p = (held y).0 h in (p.0, λ q. p.1 (bound y p.0) q), λ p. (held y).1 (p.0, λ below q. p.1 q))
 
 -- where no number has what takes numbers out, the row tells of all
 pub others_none : (row : List ℕ) (P Q : ℕ → Type 0) (k n : ℕ) → HoldsOthers row P Q k → ((y : ℕ) → Q y → ⊥) → HoldsOthers row P Q n

@@ -1,12 +1,13 @@
 -- What the rows of a chosen run hold, word by word.
-use Rattle.std.proofs.Common.{◌≡◌, ℕ, ◌+◌, ◌*◌, ◌/◌, ◌%◌, ◌<◌, ◌≤◌, ◌↔◌, Bool, true, false, ◌&&◌, ◌||◌, inl, inr, ltb, List, length, get_or, sym, ap, ◌∙◌, arith, bit_or, bit_and}
+use Rattle.std.proofs.Common.{◌≡◌, ℕ, ◌+◌, ◌*◌, ◌/◌, ◌%◌, ◌<◌, ◌≤◌, ◌↔◌, Bool, true, false, not, ◌&&◌, ◌||◌, inl, inr, eqb, ltb, List, length, get_or, sym, ap, ◌∙◌, arith, bit_or, bit_and}
 use Rattle.std.proofs.lemmas.Bool.{lt-ltb, ltb-true, cases_lt}
 use Rattle.std.proofs.Math.Bool.{and-false}
 use Rattle.std.specs.Prelude.{IsTrue}
-use Rattle.bit_rows.specs.Rows.{bit_of, has, word_count, IsFirstWord}
+use Rattle.bit_rows.specs.Rows.{bit_of, has, word_count, AreApartTo, IsFirstCommon, IsWithout}
 use Rattle.bit_rows.proofs.Bits.{bit_join, bit_meet, bit_zero, words_enough, words_few}
 use Rattle.bit_rows.proofs.Rows.{has_past}
 use Rattle.msc_chart.specs.Lists.{IsLeast}
+use Rattle.msc_race.specs.Beginnings.{HaveCommon}
 use Rattle.msc_race.specs.Rows.{is_masked, IsRow}
 use Rattle.msc_race.proofs.Shared.{clash}
 
@@ -38,18 +39,22 @@ module _ (p : ℕ → Bool) (word : ℕ → ℕ) (reads : (y : ℕ) → p y ≡ 
             reads y ∙ rw (same, empty) (bit_zero (y % 64))
       ]
 
--- a row has a number where it has a first word
-pub has_number : (row : List ℕ) (k : ℕ) → IsFirstWord row k → IsTrue (ltb k (length row)) ↔ ((y : ℕ) × IsTrue (has row y))
-has_number row k first = (
-  λ within. first.some (ltb-true k (length row) within),
-  λ some. lt-ltb k (length row) (elim (cases_lt k (length row)) [
+-- two rows have a number in common where they have a first word of such
+pub has_common : (one other : List ℕ) (k : ℕ) → IsFirstCommon one other k → IsTrue (ltb k (length one)) ↔ HaveCommon one other
+has_common one other k first = (
+  λ within. let y = first.some (ltb-true k (length one) within) in (y.0, y.2, y.3),
+  λ some. lt-ltb k (length one) (elim (cases_lt k (length one)) [
     | inl within ↦ within
-    | inr past ↦ clash some.1 (elim (cases_lt some.0 (64 * k)) [
-      | inl below ↦ first.blank some.0 below
-      | inr above ↦ has_past row some.0 (omega (arith, past, above))
-    ])
+    | inr past ↦ elim (cases_lt some.0 (64 * k)) [
+      | inl below ↦ clash some.2 (first.apart some.0 below some.1)
+      | inr above ↦ clash some.1 (has_past one some.0 (omega (arith, past, above)))
+    ]
   ]),
 )
+
+-- rows that have nothing in common have not where one loses a number
+pub apart_without : (one old new : List ℕ) (x k : ℕ) → AreApartTo one old k → IsWithout old new x → AreApartTo one new k
+apart_without one old new x k apart without y below here = without y ∙ ap (λ b. b && not (eqb y x)) (apart y below here)
 
 -- the word of what is picked from three rows
 pub picks_word : (a b mask : List ℕ) (y : ℕ)

@@ -1,4 +1,4 @@
-use Rattle.std.proofs.Common.{◌≡◌, ℕ, ◌*◌, ◌%◌, ◌<◌, ap, ltb, refl, ◌∙◌, arith}
+use Rattle.std.proofs.Common.{◌≡◌, ◌*◌, ◌%◌, ap, ltb, refl, ◌∙◌, arith}
 use Rattle.bit_rows.proofs.Bits.{words_enough, words_few}
 use Rattle.bit_rows.proofs.Rows.{has_cut, has_ones}
 use Rattle.bit_rows.proofs.row.full.Goals as goal

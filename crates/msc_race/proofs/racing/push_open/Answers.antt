@@ -1,23 +1,13 @@
-use Rattle.std.proofs.Common.{ℕ, ◌≡◌, ◌++◌, List, length, arith, subst}
+use Rattle.std.proofs.Common.{ℕ, ◌≡◌, ◌++◌, List, subst}
 use Rattle.std.specs.Prelude.{OnOk}
-use Rattle.bit_rows.proofs.Bits.{words_enough, words_few}
-use Rattle.msc_race.proofs.Listing.OpenPairs.{gaps_are_open}
+use Rattle.msc_race.proofs.Listing.OpenPairs.{gaps_are_open, row_is_few, row_reaches}
 use Rattle.msc_race.proofs.racing.push_open.Goals as goal
 
 pub push_gaps-requires-clause-reach : goal.push_gaps-requires-clause-reach
-push_gaps-requires-clause-reach c =
-    let enough = words_enough (length c.args.order.now) in
-    let words = c.row.ensures.words in
-    let same = c.requires in
-    omega (arith, enough, words, same.events, same.within)
+push_gaps-requires-clause-reach c = row_reaches c.requires.events c.row.ensures.words c.requires.within
 
 pub push_gaps-requires-clause-few : goal.push_gaps-requires-clause-few
-push_gaps-requires-clause-few c =
-    let few = words_few (length c.args.order.now) in
-    let words = c.row.ensures.words in
-    let same = c.requires in
-    let events = c.accepted.ensures.few_events in
-    omega (arith, few, words, same.events, events)
+push_gaps-requires-clause-few c = row_is_few c.requires.events c.row.ensures.words c.accepted.ensures.few_events
 
 pub returns : goal.returns
 returns c =

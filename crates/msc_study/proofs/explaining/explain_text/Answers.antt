@@ -1,6 +1,6 @@
 use Rattle.std.proofs.lemmas.Result.{err_from_is_err_and}
 use Rattle.msc_report.specs.declared.fault.Fault.TheVariants.{Chart}
-use Rattle.msc_study.proofs.Pairs.{fails_otherwise, no_pair, pair_stands, two_stand}
+use Rattle.msc_study.proofs.Pairs.{answers_pair, fails_otherwise, no_pair, pair_stands, two_stand}
 use Rattle.msc_text.proofs.Refusals.{draft_passes, draft_so, text_so}
 use Rattle.msc_study.proofs.explaining.explain_text.Goals as goal
 
@@ -25,6 +25,11 @@ returns-in-Some-clause-no_chart g c = draft_passes c.args.text.now _ _ c.in_ok-c
 pub returns-in-Some-clause-no_pair : goal.returns-in-Some-clause-no_pair
 returns-in-Some-clause-no_pair g c =
     pair_stands c.args.text.now c.args.queues c.args.e c.args.f c.in_ok-chart.chart c.in-Some.fault c.in_ok-chart.ensures.only_chart c.in-Some.ensures
+
+pub returns-clause-written : goal.returns-clause-written
+returns-clause-written g c =
+    answers_pair c.args.text.now c.args.queues c.args.e c.args.f c.write_pair_of.result c.in_ok-chart.chart _ _
+    c.in_ok-chart.ensures.chart c.write_pair_of.ensures.written
 
 pub returns-clause-no_chart : goal.returns-clause-no_chart
 returns-clause-no_chart g c =

@@ -8,13 +8,13 @@ pub returns-clause-written : goal.returns-clause-written
 returns-clause-written g c =
     input_written c.study_text.result _ c.in_ok-text.ensures.bytes c.as_slice.ensures.value
     (λ passed bytes. WritesStudy bytes c.args.queues c.args.view passed _ _)
-    (λ passed wrote. (wrote.1.draft, wrote.1.has)) c.study_text.ensures.written
+    (λ passed wrote. (wrote.1.of_text.draft, wrote.1.of_text.has)) c.study_text.ensures.written
 
 pub returns-clause-begun : goal.returns-clause-begun
 returns-clause-begun g c =
     input_begun c.study_text.result _ c.in_ok-text.ensures.bytes c.as_slice.ensures.value _
     (λ bytes. BeginsStudy bytes c.args.queues c.args.view _ _)
-    (λ wrote. (wrote.2.draft, wrote.2.has)) c.study_text.ensures.begun
+    (λ wrote. (wrote.2.of_text.draft, wrote.2.of_text.has)) c.study_text.ensures.begun
 
 pub returns-clause-refused : goal.returns-clause-refused
 returns-clause-refused g c =

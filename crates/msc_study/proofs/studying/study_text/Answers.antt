@@ -1,6 +1,6 @@
 use Rattle.std.proofs.lemmas.Result.{err_from_is_err_and}
 use Rattle.msc_study.proofs.Studied.{begins_study, studies, writes_study}
-use Rattle.msc_text.proofs.Answered.{writes_no_chart, writes_no_parse, writes_or_fails}
+use Rattle.msc_text.proofs.Answered.{writes_no_chart, writes_no_parse, writes_no_start, writes_or_fails}
 use Rattle.msc_text.proofs.Refusals.{draft_passes, draft_so, text_passes, text_so}
 use Rattle.msc_study.proofs.studying.study_text.Goals as goal
 
@@ -30,20 +30,21 @@ returns-clause-no_chart g c =
 pub returns-clause-untouched : goal.returns-clause-untouched
 returns-clause-untouched g c = writes_or_fails _ c.write_study.result _ _ _ c.write_study.ensures.written.2
 
+pub returns-clause-started : goal.returns-clause-started
+returns-clause-started g c = writes_no_start c.write_study.result _ _ _ c.write_study.ensures.written.2
+
 pub returns-clause-begun : goal.returns-clause-begun
 returns-clause-begun g c =
-    let of = c.in_ok-chart.ensures.chart in
     let verdict = c.in_ok-verdict.ensures in
     let wrote = c.write_study.ensures.written in
     begins_study c.args.queues c.in_ok-chart.chart c.args.view c.in_ok-verdict.verdict c.in_ok-made.made.passed _ c.write_study.result c.args.text.now _ _ _ wrote.2
-    (studies c.args.queues c.in_ok-chart.chart c.args.view c.in_ok-verdict.verdict c.in_ok-made.made.passed c.args.text.now of.draft _
-    of.has of.faultless of.chart verdict.verdict verdict.runs wrote.1)
+    (studies c.args.queues c.in_ok-chart.chart c.args.view c.in_ok-verdict.verdict c.in_ok-made.made.passed c.args.text.now _
+    c.in_ok-chart.ensures.chart verdict.verdict verdict.runs wrote.1)
 
 pub returns-clause-written : goal.returns-clause-written
 returns-clause-written g c =
-    let of = c.in_ok-chart.ensures.chart in
     let verdict = c.in_ok-verdict.ensures in
     let wrote = c.write_study.ensures.written in
     writes_study c.args.queues c.in_ok-chart.chart c.args.view c.in_ok-verdict.verdict c.in_ok-made.made.passed c.write_study.result c.args.text.now _ _ _ wrote.2 c.write_study.ensures.answered
-    (studies c.args.queues c.in_ok-chart.chart c.args.view c.in_ok-verdict.verdict c.in_ok-made.made.passed c.args.text.now of.draft _
-    of.has of.faultless of.chart verdict.verdict verdict.runs wrote.1)
+    (studies c.args.queues c.in_ok-chart.chart c.args.view c.in_ok-verdict.verdict c.in_ok-made.made.passed c.args.text.now _
+    c.in_ok-chart.ensures.chart verdict.verdict verdict.runs wrote.1)

@@ -8,13 +8,13 @@ pub returns-clause-written : goal.returns-clause-written
 returns-clause-written g c =
     input_written c.check_text.result _ c.in_ok-text.ensures.bytes c.as_slice.ensures.value
     (λ passed bytes. WritesVerdict bytes c.args.queues c.args.show passed _ _)
-    (λ passed wrote. (wrote.1.draft, wrote.1.has)) c.check_text.ensures.written
+    (λ passed wrote. (wrote.1.of_text.draft, wrote.1.of_text.has)) c.check_text.ensures.written
 
 pub returns-clause-begun : goal.returns-clause-begun
 returns-clause-begun g c =
     input_begun c.check_text.result _ c.in_ok-text.ensures.bytes c.as_slice.ensures.value _
     (λ bytes. BeginsVerdict bytes c.args.queues c.args.show _ _)
-    (λ wrote. (wrote.2.draft, wrote.2.has)) c.check_text.ensures.begun
+    (λ wrote. (wrote.2.of_text.draft, wrote.2.of_text.has)) c.check_text.ensures.begun
 
 pub returns-clause-refused : goal.returns-clause-refused
 returns-clause-refused g c =

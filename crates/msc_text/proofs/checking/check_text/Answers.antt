@@ -1,6 +1,6 @@
 use Rattle.std.proofs.lemmas.Result.{err_from_is_err_and}
 use Rattle.msc_race.specs.Races.{verdict_by}
-use Rattle.msc_text.proofs.Answered.{prints, writes_no_chart, writes_no_parse, writes_or_fails, writes_verdict, begins_verdict}
+use Rattle.msc_text.proofs.Answered.{prints, writes_no_chart, writes_no_parse, writes_no_start, writes_or_fails, writes_verdict, begins_verdict}
 use Rattle.msc_text.proofs.Refusals.{draft_passes, draft_so, text_passes, text_so}
 use Rattle.msc_text.proofs.checking.check_text.Goals as goal
 
@@ -22,14 +22,16 @@ pub returns-clause-no_chart : goal.returns-clause-no_chart
 returns-clause-no_chart g c =
     draft_passes c.args.text.now _ _ c.in_ok-chart.ensures.no_chart (writes_no_chart c.write_checked.result _ _ _ c.write_checked.ensures.written.2)
 
+pub returns-clause-started : goal.returns-clause-started
+returns-clause-started g c = writes_no_start c.write_checked.result _ _ _ c.write_checked.ensures.written.2
+
 pub returns-clause-begun : goal.returns-clause-begun
 returns-clause-begun g c =
     let d = c.in_ok-chart.chart in
-    let of = c.in_ok-chart.ensures.chart in
     let v = verdict_by d.events c.in_ok-order.order in
     let said = c.write_checked.ensures in
     begins_verdict _ c.write_checked.result c.args.text.now c.args.queues c.args.show v _ _ _ said.written.2
-    (prints c.args.text.now c.args.queues c.args.show of.draft d v _ of.has of.faultless of.chart said.verdict said.runs said.written.1)
+    (prints c.args.text.now c.args.queues c.args.show d v _ c.in_ok-chart.ensures.chart said.verdict said.runs said.written.1)
 
 pub returns-clause-untouched : goal.returns-clause-untouched
 returns-clause-untouched g c = writes_or_fails _ c.write_checked.result _ _ _ c.write_checked.ensures.written.2
@@ -37,8 +39,7 @@ returns-clause-untouched g c = writes_or_fails _ c.write_checked.result _ _ _ c.
 pub returns-clause-written : goal.returns-clause-written
 returns-clause-written g c =
     let d = c.in_ok-chart.chart in
-    let of = c.in_ok-chart.ensures.chart in
     let v = verdict_by d.events c.in_ok-order.order in
     let said = c.write_checked.ensures in
     writes_verdict c.write_checked.result c.args.text.now c.args.queues c.args.show v _ _ _ said.written.2 said.answered
-    (prints c.args.text.now c.args.queues c.args.show of.draft d v _ of.has of.faultless of.chart said.verdict said.runs said.written.1)
+    (prints c.args.text.now c.args.queues c.args.show d v _ c.in_ok-chart.ensures.chart said.verdict said.runs said.written.1)

@@ -15,9 +15,8 @@ returns-in_err-chart-clause-no_chart g c =
 
 pub returns-clause-written : goal.returns-clause-written
 returns-clause-written g c =
-    let of = c.in_ok-chart.ensures.chart in
-    writes_trace c.write_run.result c.args.text.now c.args.queues g.G.Gate.is_open c.args.patience of.draft c.in_ok-chart.chart _ _
-    of.has of.faultless of.chart c.write_run.ensures.written
+    writes_trace c.write_run.result c.args.text.now c.args.queues g.G.Gate.is_open c.args.patience c.in_ok-chart.chart _ _
+    c.in_ok-chart.ensures.chart c.write_run.ensures.written
 
 pub returns-clause-refused : goal.returns-clause-refused
 returns-clause-refused g c =
@@ -29,5 +28,4 @@ returns-clause-no_chart g c =
 
 pub returns-clause-started : goal.returns-clause-started
 returns-clause-started g c =
-    let of = c.in_ok-chart.ensures.chart in
-    ran_names_of c.write_run.result c.args.text.now of.draft c.in_ok-chart.chart of.has of.faultless of.chart c.write_run.ensures.fault
+    ran_names_of c.write_run.result c.args.text.now c.in_ok-chart.chart c.in_ok-chart.ensures.chart c.write_run.ensures.fault

@@ -1,4 +1,4 @@
-use Rattle.std.proofs.Common.{◌≤◌, length, arith}
+use Rattle.std.proofs.Common.{arith}
 use Rattle.bit_rows.proofs.Bits.{words_few}
 use Rattle.bit_rows.proofs.Sets.{summary_blank}
 use Rattle.bit_rows.proofs.set.Set.blank.Goals as goal

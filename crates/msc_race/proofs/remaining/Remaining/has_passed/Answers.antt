@@ -1,6 +1,0 @@
-use Rattle.std.proofs.Common.{◌∙◌}
-use Rattle.msc_race.proofs.Making.RowLemmas.{has_number}
-use Rattle.msc_race.proofs.remaining.Remaining.has_passed.Goals as goal
-
-pub returns : goal.returns
-returns c = rw (c.len.ensures ∙ c.args.self.now.passed.ok.0) (has_number _ _ c.requires.passed)
