@@ -5,15 +5,12 @@
 //! queue by queue, until all senders have ended. All queues are made before.
 
 use anyhow::{Context, Result, bail};
-use msc_fifo::{Inlet, Outlet, Taken, queue};
+use msc_fifo::{Inlet, Outlet, QUOTA_LIMIT, Taken, queue};
 use std::alloc::Global;
 use std::sync::Wait;
 use std::thread;
 use std::thread::Threads;
 use std::time::{Clock, Instant};
-
-/// How many messages a queue may have.
-const MOST_MESSAGES: u32 = 1024;
 
 /// Puts what the quotas allow, and closes.
 fn send_all(outlets: Vec<Outlet>) {
@@ -89,7 +86,7 @@ pub fn measured<R: Threads + Wait + Clock + Sync>(
     if count == 0 {
         bail!("no sender");
     }
-    let quotas = vec![in alloc; MOST_MESSAGES / count; count as usize]?;
+    let quotas = vec![in alloc; QUOTA_LIMIT as u32 / count; count as usize]?;
     let (senders, inlets) = ends(alloc, &quotas, queues)?;
     let start = Instant::now(rt)?;
     let taken = run(rt, senders, inlets).context("a thread could not be started")?;

@@ -9,7 +9,7 @@ use Rattle.msc_chart.specs.Events.{Act, DraftEvent, is_action, acts_of, events_o
 use Rattle.msc_chart.specs.Events.Act.{End, Action}
 use Rattle.msc_chart.specs.Charts.{kind, action, acts}
 use Rattle.msc_chart.specs.Drawings.{chart_events, HasActions, chart_of}
-use Rattle.msc_chart.specs.Charting.{kind_of, subject_of, event_of, actions_before, events_from, texts_of}
+use Rattle.msc_chart.specs.Charting.{act_kind, subject_of, event_of, actions_before, events_from, texts_of}
 use Rattle.msc_chart.specs.Lists.{StandsAt}
 use Rattle.msc_chart.proofs.Matched.{drawn_at}
 use Rattle.msc_chart.proofs.Drawn.{local_parts}
@@ -33,7 +33,7 @@ texts_count (Action text ∷ xs) =
     omega (arith, texts_count xs, here)
 
 -- an event is local where its act is an action
-local_kind : (a : Act) → acts (kind_of a) ≡ is_action a
+local_kind : (a : Act) → acts (act_kind a) ≡ is_action a
 local_kind (End x) = by x.sends
   where
     by : (b : Bool) → acts (cond b Output Input) ≡ false
@@ -75,7 +75,7 @@ before_less (x ∷ xs) (suc j) text h =
 
 module _ (d : Tree) where
   -- a local event is an action, numbered by the actions before it
-  local_at : (e : ℕ) (a : Act) → StandsAt (acts_of d) e a → acts (kind_of a) ≡ true → (subject_of (acts_of d) e a ≡ actions_before (acts_of d) e) × (actions_before (acts_of d) e < count_by is_action (acts_of d))
+  local_at : (e : ℕ) (a : Act) → StandsAt (acts_of d) e a → acts (act_kind a) ≡ true → (subject_of (acts_of d) e a ≡ actions_before (acts_of d) e) × (actions_before (acts_of d) e < count_by is_action (acts_of d))
   local_at e (End x) here local = absurd (true≢false (sym local ∙ local_kind (End x)))
   local_at e (Action text) here local = (refl, before_less (acts_of d) e text here)
 

@@ -8,13 +8,13 @@ use Rattle.msc_chart.specs.declared.end.MessageEnd as code
 use Rattle.msc_chart.specs.declared.end.Mark as coded
 use Rattle.msc_chart.specs.declared.end.Mark.TheVariants as marks
 use Rattle.msc_chart.specs.Events.{is_end}
-use Rattle.msc_chart.specs.Charting.{place_of}
+use Rattle.msc_chart.specs.Charting.{end_place}
 use Rattle.msc_chart.specs.Views.{end_view, mark_view}
 use Rattle.msc_chart.proofs.ListLemmas.{by_test}
 use Rattle.msc_chart.proofs.MatchingLemmas.{mark_same, mark_same-view}
 
 -- the first place at which the code finds an equal end is the place of that end
-pub place-view : (keys : List coded.Mark) (e : code.MessageEnd) → position_or_len (mark_same (marks.End e)) keys ≡ place_of (map mark_view keys) (end_view e)
+pub place-view : (keys : List coded.Mark) (e : code.MessageEnd) → position_or_len (mark_same (marks.End e)) keys ≡ end_place (map mark_view keys) (end_view e)
 place-view [] e = refl
 place-view (k ∷ ks) e = rw mark_same-view (ap (λ n. cond (not (is_end (end_view e) (mark_view k))) (1 + n) 0) (place-view ks e))
 

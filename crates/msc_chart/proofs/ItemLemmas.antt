@@ -12,7 +12,7 @@ use Rattle.msc_chart.specs.Events.{DraftEvent, drawn, acts_of, events_of, events
 use Rattle.msc_chart.specs.Charts.{at, line, segment, no_event}
 use Rattle.msc_chart.specs.Drawings.{chart_events}
 use Rattle.msc_chart.specs.Charting.{event_of}
-use Rattle.msc_chart.specs.Items.{Place, place, places_of, places_of_item, places_of_items, places_of_sections, ItemsAreDrawnInOrder}
+use Rattle.msc_chart.specs.Items.{ItemPlace, item_place, draft_places, places_of_item, places_of_items, places_of_sections, ItemsAreDrawnInOrder}
 use Rattle.msc_chart.proofs.Places.{map-place, place-map}
 use Rattle.msc_chart.proofs.DraftEvents.{joined}
 use Rattle.msc_chart.proofs.Matched.{chart_count, chart-place}
@@ -20,12 +20,12 @@ use Rattle.msc_chart.proofs.Drawn.{before_from, before_parts}
 
 -- an event of a draft with its place
 abbrev Placed : Type 0
-Placed = DraftEvent × Place
+Placed = DraftEvent × ItemPlace
 
 -- of an item
 abbrev placed_of_item : ℕ → List ℕ → ℕ → ℕ → Item → List Placed
-placed_of_item i own seg k (Single s) = (drawn i own seg s, place i k) ∷ []
-placed_of_item i own seg k (Coregion ss) = map (λ s. (drawn i own seg s, place i k)) ss
+placed_of_item i own seg k (Single s) = (drawn i own seg s, item_place i k) ∷ []
+placed_of_item i own seg k (Coregion ss) = map (λ s. (drawn i own seg s, item_place i k)) ss
 
 -- of the items of a section
 abbrev placed_of_items : ℕ → List ℕ → ℕ → ℕ → List Item → List Placed
@@ -50,11 +50,11 @@ module _ (i : ℕ) (own : List ℕ) where
   -- what an item has is its events and their places
   item_events : (seg k : ℕ) (x : Item) → map (λ b. b.0) (placed_of_item i own seg k x) ≡ events_of_item i own seg x
   item_events seg k (Single s) = refl
-  item_events seg k (Coregion ss) = from_mapped (λ s. (drawn i own seg s, place i k)) (λ b. b.0) ss
+  item_events seg k (Coregion ss) = from_mapped (λ s. (drawn i own seg s, item_place i k)) (λ b. b.0) ss
 
   item_places : (seg k : ℕ) (x : Item) → map (λ b. b.1) (placed_of_item i own seg k x) ≡ places_of_item i k x
   item_places seg k (Single s) = refl
-  item_places seg k (Coregion ss) = from_mapped (λ s. (drawn i own seg s, place i k)) (λ b. b.1) ss
+  item_places seg k (Coregion ss) = from_mapped (λ s. (drawn i own seg s, item_place i k)) (λ b. b.1) ss
 
   -- and so it is of the items of a section
   items_events : (seg k : ℕ) (xs : List Item) → map (λ b. b.0) (placed_of_items i own seg k xs) ≡ events_of_items i own seg xs
@@ -75,12 +75,12 @@ module _ (i : ℕ) (own : List ℕ) where
 
   of_item : (seg k : ℕ) (x : Item) (b : Placed) → Occurs (placed_of_item i own seg k x) b → OfItem seg k x b
   of_item seg k (Single s) b (zero, h) =
-      let same : (drawn i own seg s, place i k) ≡ b = cc in
+      let same : (drawn i own seg s, item_place i k) ≡ b = cc in
       subst (OfItem seg k (Single s)) same (record { on_line = refl; in_segment = refl; in_section = refl; in_item = refl; next = refl })
   of_item seg k (Single s) b (suc j, h) = cc
   of_item seg k (Coregion []) b (j, h) = cc
   of_item seg k (Coregion (s ∷ ss)) b (j, h) =
-      let r = map-place (λ t. (drawn i own seg t, place i k)) (s ∷ ss) j b h in
+      let r = map-place (λ t. (drawn i own seg t, item_place i k)) (s ∷ ss) j b h in
       subst (OfItem seg k (Coregion (s ∷ ss))) r.2 (record { on_line = refl; in_segment = refl; in_section = refl; in_item = refl; next = refl })
 
   -- where an event of some items stands
@@ -141,6 +141,7 @@ sections_events : (i : ℕ) (ss : List Section) → map (λ b. b.0) (placed_of_s
 sections_events i [] = refl
 sections_events i (s ∷ ss) = from_joined (λ b. b.0) _ _ _ _ (items_events i s.decl.name 0 0 s.items) (sections_events (i + 1) ss)
 
+-- and their places are those of the sections
 sections_places : (i : ℕ) (ss : List Section) → map (λ b. b.1) (placed_of_sections i ss) ≡ places_of_sections i ss
 sections_places i [] = refl
 sections_places i (s ∷ ss) = from_joined (λ b. b.1) _ _ _ _ (items_places i s.decl.name 0 0 s.items) (sections_places (i + 1) ss)
@@ -180,7 +181,7 @@ sections_agree i (s ∷ ss) a b h m one_line =
     ]
 
 -- as many events as places
-pub each_has_an_event : (d : Tree) → length (places_of d) ≡ length (chart_events d)
+pub each_has_an_event : (d : Tree) → length (draft_places d) ≡ length (chart_events d)
 unfolding events_of
 each_has_an_event d =
     ap length (sym (sections_places 0 d.sections)) ∙ length-map (placed_of_sections 0 d.sections) (λ b. b.1)
@@ -189,13 +190,13 @@ each_has_an_event d =
 
 module _ (d : Tree) where
   -- the event that stands at a place of the text
-  record IsEventAt (e : ℕ) (p : Place) : Type 0 where
+  record IsEventAt (e : ℕ) (p : ItemPlace) : Type 0 where
     both : Placed
     occurs : Occurs (placed_of_sections 0 d.sections) both
     placed : both.1 ≡ p
     stands : StandsAt (chart_events d) e (event_of (acts_of d) e both.0)
 
-  event_at : (e : ℕ) (p : Place) → StandsAt (places_of d) e p → IsEventAt e p
+  event_at : (e : ℕ) (p : ItemPlace) → StandsAt (draft_places d) e p → IsEventAt e p
   unfolding events_of
   event_at e p h =
       let placed = placed_of_sections 0 d.sections in

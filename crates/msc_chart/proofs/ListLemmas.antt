@@ -14,6 +14,16 @@ by_test false f g = g refl
 pub clash : {X : Type 0} {b : Bool} → b ≡ true → b ≡ false → X
 clash p q = cc
 
+-- the head of a list occurs in it
+pub occurs-head : (x : ℕ) (xs : List ℕ) → occurs (x ∷ xs) x ≡ true
+unfolding occurs
+occurs-head x xs = or_left (eqb x x) (occurs xs x) (eq-eqb x x refl)
+
+-- and so does what occurs behind the head
+pub occurs-tail : (x : ℕ) (xs : List ℕ) (e : ℕ) → occurs xs e ≡ true → occurs (x ∷ xs) e ≡ true
+unfolding occurs
+occurs-tail x xs e h = or_right (eqb x e) (occurs xs e) h
+
 -- what occurs in two joined lists occurs in one of them
 pub occurs-append : (xs ys : List ℕ) (e : ℕ) → occurs (xs ++ ys) e ≡ (occurs xs e || occurs ys e)
 unfolding occurs
@@ -23,6 +33,10 @@ occurs-append (x ∷ xs) ys e = elim (eqb x e) as (λ b. (b || occurs (xs ++ ys)
 -- what occurs in a list occurs in it with more behind
 pub occurs-left : (xs ys : List ℕ) (e : ℕ) → occurs xs e ≡ true → occurs (xs ++ ys) e ≡ true
 occurs-left xs ys e h = occurs-append xs ys e ∙ or_left (occurs xs e) (occurs ys e) h
+
+-- and so does what occurs in the second of two joined lists
+pub occurs-right : (xs ys : List ℕ) (e : ℕ) → occurs ys e ≡ true → occurs (xs ++ ys) e ≡ true
+occurs-right xs ys e h = occurs-append xs ys e ∙ or_right (occurs xs e) (occurs ys e) h
 
 -- the list is what stands before the first e, e, and a rest
 pub parts : (xs : List ℕ) (e : ℕ) → occurs xs e ≡ true → (rest : List ℕ) × (xs ≡ until xs e ++ e ∷ rest)
@@ -56,6 +70,20 @@ until-append (x ∷ xs) ys e h =
       | true ↦ λ k. refl
       | false ↦ λ k. ap (λ l. x ∷ l) (until-append xs ys e k)
     ]) h
+
+-- where one number stands before another, that one does not stand before it
+pub until-other : (xs : List ℕ) (e f : ℕ) → occurs (until xs f) e ≡ true → occurs (until xs e) f ≡ false
+unfolding occurs until
+until-other [] e f h = refl
+until-other (x ∷ xs) e f h =
+    (elim (eqb x f) as (λ b. eqb x f ≡ b → occurs (cond b [] (x ∷ until xs f)) e ≡ true → occurs (cond (eqb x e) [] (x ∷ until xs e)) f ≡ false) [
+      | true ↦ λ same k. clash k refl
+      | false ↦ λ other k.
+          (elim (eqb x e) as (λ b. (b || occurs (until xs f) e) ≡ true → occurs (cond b [] (x ∷ until xs e)) f ≡ false) [
+            | true ↦ λ j. refl
+            | false ↦ λ j. rw other (until-other xs e f j)
+          ]) k
+    ]) refl h
 
 -- two lists of steps, the second from where the first ends, are one list of steps
 pub Steps-append : (May : List ℕ → ℕ → Type 0) (past xs ys : List ℕ) → Steps May past xs → Steps May (past ++ xs) ys → Steps May past (xs ++ ys)

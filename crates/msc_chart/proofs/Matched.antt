@@ -13,7 +13,7 @@ use Rattle.msc_chart.specs.Events.{MessageEnd, Act, DraftEvent, acts_of, events_
 use Rattle.msc_chart.specs.Events.Act.{End, Action}
 use Rattle.msc_chart.specs.Charts.{at, no_event, line, segment, kind, partner, sends, takes, acts, is_output, is_input, IsMatched, IsInTextOrder, AreOnLines}
 use Rattle.msc_chart.specs.Drawings.{chart_events}
-use Rattle.msc_chart.specs.Charting.{place_of, kind_of, partner_of, event_of, events_from}
+use Rattle.msc_chart.specs.Charting.{end_place, act_kind, partner_of, event_of, events_from}
 use Rattle.msc_chart.specs.Sortings.{AreReady}
 use Rattle.msc_chart.specs.Lists.{StandsAt, Occurs}
 use Rattle.msc_chart.specs.Faults.{Stands, IsClearBelow, IsTwice}
@@ -129,7 +129,7 @@ module _ (d : Tree) (clear : IsClearBelow d 10) where
   none-twice e h = let low : 10 ≤ 7 = clear (TwiceEvent e) h in omega arith
 
   -- so each stands at its place
-  pub place-own : (e : ℕ) (x : MessageEnd) → StandsAt (acts_of d) e (End x) → place_of (acts_of d) x ≡ e
+  pub place-own : (e : ℕ) (x : MessageEnd) → StandsAt (acts_of d) e (End x) → end_place (acts_of d) x ≡ e
   place-own = place-once (acts_of d) none-twice
 
   -- no end is alone
@@ -146,10 +146,10 @@ module _ (d : Tree) (clear : IsClearBelow d 10) where
 
   -- the other end of an end, at its place
   pub partner_at : (e : ℕ) (x : MessageEnd) → StandsAt (acts_of d) e (End x)
-      → (place_of (acts_of d) (other_end x) < length (chart_events d))
-      × ((y : DraftEvent) × (at (chart_events d) (place_of (acts_of d) (other_end x)) ≡ event_of (acts_of d) (place_of (acts_of d) (other_end x)) y) × (y.act ≡ End (other_end x)))
+      → (end_place (acts_of d) (other_end x) < length (chart_events d))
+      × ((y : DraftEvent) × (at (chart_events d) (end_place (acts_of d) (other_end x)) ≡ event_of (acts_of d) (end_place (acts_of d) (other_end x)) y) × (y.act ≡ End (other_end x)))
   partner_at e x here =
-      let p : ℕ = place_of (acts_of d) (other_end x) in
+      let p : ℕ = end_place (acts_of d) (other_end x) in
       let o = other-occurs e x here in
       let stands : StandsAt (acts_of d) p (End (other_end x)) = (place-stands (acts_of d) (other_end x) o.0 o.1).0 in
       let n = chart_count d in
@@ -168,16 +168,16 @@ module _ (d : Tree) (clear : IsClearBelow d 10) where
   back_to : (e : ℕ) (a : Act) → StandsAt (acts_of d) e a → (at (chart_events d) e).partner ≡ partner_of (acts_of d) e a
       → (at (chart_events d) (partner_of (acts_of d) e a)).partner ≡ e
   back_to e (End x) here same =
-      let p : ℕ = place_of (acts_of d) (other_end x) in
+      let p : ℕ = end_place (acts_of d) (other_end x) in
       let y = (partner_at e x here).1 in
       ap (λ (v : ChartEvent). v.partner) y.1
       ∙ ap (partner_of (acts_of d) p) y.2
-      ∙ ap (place_of (acts_of d)) (other-other x)
+      ∙ ap (end_place (acts_of d)) (other-other x)
       ∙ place-own e x here
   back_to e (Action text) here same = same
 
   -- it is an output where that event is an input
-  crosswise : (e : ℕ) (a : Act) → StandsAt (acts_of d) e a → e < length (chart_events d) → (at (chart_events d) e).kind ≡ kind_of a
+  crosswise : (e : ℕ) (a : Act) → StandsAt (acts_of d) e a → e < length (chart_events d) → (at (chart_events d) e).kind ≡ act_kind a
       → is_output (chart_events d) (partner_of (acts_of d) e a) ≡ is_input (chart_events d) e
   unfolding is_output is_input kind
   crosswise e (End x) here within same =
@@ -185,13 +185,13 @@ module _ (d : Tree) (clear : IsClearBelow d 10) where
       let y = p.1 in
       rw (lt-ltb _ _ p.0, lt-ltb _ _ within)
       (ap (λ (v : ChartEvent). sends v.kind) y.1
-      ∙ ap (λ (a : Act). sends (kind_of a)) y.2
+      ∙ ap (λ (a : Act). sends (act_kind a)) y.2
       ∙ other_kinds x.sends
       ∙ ap takes (sym same))
   crosswise e (Action text) here within same = rw (lt-ltb _ _ within) (ap sends same ∙ ap takes (sym same))
 
   -- and of a local event it is that event itself
-  alone : (e : ℕ) (a : Act) → (at (chart_events d) e).partner ≡ partner_of (acts_of d) e a → acts (kind_of a) ≡ true → (at (chart_events d) e).partner ≡ e
+  alone : (e : ℕ) (a : Act) → (at (chart_events d) e).partner ≡ partner_of (acts_of d) e a → acts (act_kind a) ≡ true → (at (chart_events d) e).partner ≡ e
   alone e (End x) same local = absurd (none_acts x.sends local)
   alone e (Action text) same local = same
 

@@ -17,6 +17,7 @@ use Rattle.msc_chart.specs.declared.end.Mark.TheVariants as marks
 use Rattle.msc_chart.specs.contracts.end.MarkPartialEq.TheImpl as derived
 use Rattle.msc_chart.specs.Events.{MessageEnd, Act, same_end, same_name, same_number, is_end}
 use Rattle.msc_chart.specs.Events.Act.{End, Action}
+use Rattle.msc_chart.specs.Hashing.{equal_ends}
 use Rattle.msc_chart.specs.Views.{end_view, mark_view}
 
 -- the code compares ends as their names compare
@@ -75,26 +76,17 @@ same_end-refl a =
     (and_from _ _ ((bytes_decides a.key.receiver a.key.receiver).1 refl)
     (and_from _ _ ((bytes_decides a.key.name a.key.name).1 refl) (same_number-refl a.key.number))))
 
--- what the code computes for `==` of two ends
-abbrev pub code_same : code.MessageEnd → code.MessageEnd → Bool
-code_same a b =
-    beq a.sends b.sends
-    && (pointwise nat_eq a.sender.now b.sender.now
-    && (pointwise nat_eq a.receiver.now b.receiver.now
-    && (pointwise nat_eq a.name.now b.name.now
-    && option_eq (λ x y. pointwise nat_eq x.now y.now) a.number b.number)))
-
--- which is what the definition computes for what they show
-pub code_same-view : (a b : code.MessageEnd) → code_same a b ≡ same_end (end_view a) (end_view b)
-code_same-view a b = ap (λ n. beq a.sends b.sends && (same_name a.sender.now b.sender.now && (same_name a.receiver.now b.receiver.now && (same_name a.name.now b.name.now && n)))) (number_view a b)
+-- what the code computes for `==` of two ends is what the definition computes for what they show
+pub equal_ends-view : (a b : code.MessageEnd) → equal_ends a b ≡ same_end (end_view a) (end_view b)
+equal_ends-view a b = ap (λ n. beq a.sends b.sends && (same_name a.sender.now b.sender.now && (same_name a.receiver.now b.receiver.now && (same_name a.name.now b.name.now && n)))) (number_view a b)
 
 -- so ends that the code finds equal show one end
-pub code_same-true : (a b : code.MessageEnd) → code_same a b ≡ true → end_view a ≡ end_view b
-code_same-true a b h = same_end-true _ _ (sym (code_same-view a b) ∙ h)
+pub equal_ends-true : (a b : code.MessageEnd) → equal_ends a b ≡ true → end_view a ≡ end_view b
+equal_ends-true a b h = same_end-true _ _ (sym (equal_ends-view a b) ∙ h)
 
 -- and ends that show one end are found equal
-pub code_same-from : (a b : code.MessageEnd) → end_view a ≡ end_view b → code_same a b ≡ true
-code_same-from a b h = code_same-view a b ∙ ap (same_end (end_view a)) (sym h) ∙ same_end-refl (end_view a)
+pub equal_ends-from : (a b : code.MessageEnd) → end_view a ≡ end_view b → equal_ends a b ≡ true
+equal_ends-from a b h = equal_ends-view a b ∙ ap (same_end (end_view a)) (sym h) ∙ same_end-refl (end_view a)
 
 -- an act that is an end is that end
 pub is_end-true : (x : MessageEnd) (a : Act) → is_end x a ≡ true → a ≡ End x
@@ -107,7 +99,7 @@ mark_same = derived.eq-value.it
 
 -- the code finds the mark of an end where the definition finds the end
 pub mark_same-view : (e : code.MessageEnd) (m : coded.Mark) → mark_same (marks.End e) m ≡ is_end (end_view e) (mark_view m)
-mark_same-view e (marks.End x) = code_same-view e x
+mark_same-view e (marks.End x) = equal_ends-view e x
 mark_same-view e (marks.Action n t) = refl
 
 -- marks that show one end are found equal
@@ -115,7 +107,7 @@ pub mark_same-from : (a b : coded.Mark) (x : MessageEnd) → mark_view a ≡ End
 mark_same-from (marks.End a) (marks.End b) x p q =
     let here : end_view a ≡ x = cc in
     let there : end_view b ≡ x = cc in
-    code_same-from a b (here ∙ sym there)
+    equal_ends-from a b (here ∙ sym there)
 mark_same-from (marks.End a) (marks.Action n t) x p q = cc
 mark_same-from (marks.Action n t) b x p q = cc
 

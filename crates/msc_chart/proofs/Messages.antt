@@ -11,7 +11,7 @@ use Rattle.msc_chart.specs.Events.{MessageEnd, Act, is_sent, other_end, acts_of}
 use Rattle.msc_chart.specs.Events.Act.{End, Action}
 use Rattle.msc_chart.specs.Charts.{at, kind, partner, message, sends, is_output}
 use Rattle.msc_chart.specs.Drawings.{chart_events, Drawing, no_message, output_of, HasMessages, chart_of}
-use Rattle.msc_chart.specs.Charting.{place_of, output_end, outputs_before, kind_of, partner_of, subject_of, messages_from}
+use Rattle.msc_chart.specs.Charting.{end_place, output_end, outputs_before, act_kind, partner_of, subject_of, messages_from}
 use Rattle.msc_chart.specs.Lists.{StandsAt}
 use Rattle.msc_chart.specs.Faults.{IsClearBelow}
 use Rattle.msc_chart.proofs.ListLemmas.{by_test}
@@ -135,7 +135,7 @@ module _ (d : Tree) (clear : IsClearBelow d 10) where
   chart = chart_of d
 
   -- the end of an output
-  sent_end : (e : ℕ) (a : Act) → StandsAt (acts_of d) e a → sends (kind_of a) ≡ true → (x : MessageEnd) × StandsAt (acts_of d) e (End x) × (x.sends ≡ true) × (a ≡ End x)
+  sent_end : (e : ℕ) (a : Act) → StandsAt (acts_of d) e a → sends (act_kind a) ≡ true → (x : MessageEnd) × StandsAt (acts_of d) e (End x) × (x.sends ≡ true) × (a ≡ End x)
   sent_end e (End x) here sent = (x, here, by x.sends sent, refl)
     where
       by : (b : Bool) → sends (cond b Output Input) ≡ true → b ≡ true
@@ -159,7 +159,7 @@ module _ (d : Tree) (clear : IsClearBelow d 10) where
   sent_message e o =
       let x = sent_at e o in
       x.3
-      ∙ ap (λ (end : MessageEnd). outputs_before (acts_of d) (place_of (acts_of d) end)) (output_same x.0 x.2)
+      ∙ ap (λ (end : MessageEnd). outputs_before (acts_of d) (end_place (acts_of d) end)) (output_same x.0 x.2)
       ∙ ap (outputs_before (acts_of d)) (place-own d clear e x.0 x.1)
 
   -- both ends of a message are about it, and a local event is its own partner
@@ -168,7 +168,7 @@ module _ (d : Tree) (clear : IsClearBelow d 10) where
   shared_by e (End x) here same =
       let y = (partner_at d clear e x here).1 in
       ap (λ (v : ChartEvent). v.subject) y.1
-      ∙ ap (subject_of (acts_of d) (place_of (acts_of d) (other_end x))) y.2
+      ∙ ap (subject_of (acts_of d) (end_place (acts_of d) (other_end x))) y.2
       ∙ sym same
   shared_by e (Action text) here same = refl
 
@@ -204,7 +204,7 @@ module _ (d : Tree) (clear : IsClearBelow d 10) where
       let output : output_of chart m ≡ r.place = r.output ∙ omega arith in
       rw output (
         output_from (chart_events d) r.place within
-            (ap (λ (v : ChartEvent). sends v.kind) x.3 ∙ ap (λ (a : Act). sends (kind_of a)) same ∙ ap (λ (b : Bool). sends (cond b Output Input)) r.sent),
+            (ap (λ (v : ChartEvent). sends v.kind) x.3 ∙ ap (λ (a : Act). sends (act_kind a)) same ∙ ap (λ (b : Bool). sends (cond b Output Input)) r.sent),
         r.count,
       )
 

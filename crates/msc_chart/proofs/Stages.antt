@@ -2,8 +2,8 @@
 use Rattle.std.proofs.lemmas.Bool.{cases_lt}
 use Rattle.std.proofs.Common.{inl, inr, ◌≡◌, ℕ, ◌+◌, ◌<◌, ◌≤◌, Bool, true, false, List, [], ◌∷◌, length, map, Bor, refl, sym, ap, ◌∙◌, subst, arith}
 use Rattle.std.specs.Map.Iter.{deref}
-use Rattle.std.specs.Cmp.Lexicographic.{pointwise, bytes_decides}
-use Rattle.std.specs.Prelude.{nat_eq, count_by}
+use Rattle.std.specs.Cmp.Lexicographic.{bytes_decides}
+use Rattle.std.specs.Prelude.{count_by}
 use Rattle.std.proofs.lemmas.List.{length-map}
 use Rattle.std.proofs.lemmas.Option.{slice_get_within}
 use Rattle.msc_parser.specs.Grammar.{Tree}
@@ -14,7 +14,8 @@ use Rattle.msc_chart.specs.declared.end.Act as code_act
 use Rattle.msc_chart.specs.declared.end.Act.TheVariants as code_acts
 use Rattle.msc_chart.specs.Events.{Act, instances_of, header_of, acts_of, events_of, address_of, is_action}
 use Rattle.msc_chart.specs.Events.Act.{End}
-use Rattle.msc_chart.specs.Views.{act_view, event_view, mark_view, mark_of, marks_from}
+use Rattle.msc_chart.specs.Hashing.{equal_names}
+use Rattle.msc_chart.specs.Views.{act_view, event_view, mark_view, mark_at, marks_from}
 use Rattle.msc_chart.specs.Numbering.{AreNewBelow, IsFirstRepeat}
 use Rattle.msc_chart.specs.Lists.{IsLeast}
 use Rattle.msc_chart.specs.Faults.{Stands, HoldsAt, IsRepeat, IsTwice, IsUnknown, IsUnmatched, OfEnd, AreTooMany, IsFirstFault, IsClearBelow}
@@ -23,16 +24,12 @@ use Rattle.msc_chart.proofs.Places.{repeat_from, no_repeat}
 use Rattle.msc_chart.proofs.MatchingLemmas.{mark_same}
 use Rattle.msc_chart.proofs.TwiceLemmas.{AreOwn, twice_from, none_twice}
 
--- what the code computes for `==` of two names
-abbrev pub same_bytes : Bor (List ℕ) → Bor (List ℕ) → Bool
-same_bytes a b = pointwise nat_eq a.now b.now
-
 -- names that compare equal are equal
-bytes-true : (a b : Bor (List ℕ)) → same_bytes a b ≡ true → deref a ≡ deref b
+bytes-true : (a b : Bor (List ℕ)) → equal_names a b ≡ true → deref a ≡ deref b
 bytes-true a b h = (bytes_decides a.now b.now).0 h
 
 -- and equal names compare equal
-bytes-from : (a b : Bor (List ℕ)) → deref a ≡ deref b → same_bytes a b ≡ true
+bytes-from : (a b : Bor (List ℕ)) → deref a ≡ deref b → equal_names a b ≡ true
 bytes-from a b h = (bytes_decides a.now b.now).1 h
 
 -- a place that holds is within the list
@@ -88,16 +85,16 @@ module _ (d : Tree) where
   -- faults of the instance names
   module _ (names : List (Bor (List ℕ))) (seen : map deref names ≡ instances_of d) where
     -- the first name that repeats an earlier one is the first fault
-    pub repeated_instance_first : IsClearBelow d 2 → (i : ℕ) → IsFirstRepeat same_bytes names i → IsFirstFault d (TwiceInstance i)
+    pub repeated_instance_first : IsClearBelow d 2 → (i : ℕ) → IsFirstRepeat equal_names names i → IsFirstFault d (TwiceInstance i)
     unfolding Stands
     repeated_instance_first clear i h =
-        let l = least_repeat deref same_bytes names bytes-true bytes-from (instances_of d) seen i h in
+        let l = least_repeat deref equal_names names bytes-true bytes-from (instances_of d) seen i h in
         first_of d 2 i clear (TwiceInstance i) refl refl l.itself (least_le l)
 
     -- where all names differ, no section repeats one
-    pub distinct_instances_clear : IsClearBelow d 2 → AreNewBelow same_bytes names (length names) → IsClearBelow d 3
+    pub distinct_instances_clear : IsClearBelow d 2 → AreNewBelow equal_names names (length names) → IsClearBelow d 3
     unfolding Stands
-    distinct_instances_clear clear new = clear_next d 2 clear (none_repeats deref same_bytes names bytes-from (instances_of d) seen new)
+    distinct_instances_clear clear new = clear_next d 2 clear (none_repeats deref equal_names names bytes-from (instances_of d) seen new)
 
     -- the first header name without a section is the first fault, where no lower one stands
     pub unknown_header_first : IsClearBelow d 3 → (k : ℕ) → IsLeast (HoldsAt (IsUnknown (map deref names)) (map (λ x. x.name) d.header)) k → IsFirstFault d (HeaderWithoutBody k)
@@ -203,7 +200,7 @@ pub marks_seen : (d : Tree) (events : List coded.DraftEvent) (marks : List code.
 unfolding acts_of
 marks_seen d events marks same seen = ap (map mark_view) same ∙ by 0 events ∙ ap (map (λ e. e.act)) seen
   where
-    one : (k : ℕ) (a : code_act.Act) → mark_view (mark_of k a) ≡ act_view a
+    one : (k : ℕ) (a : code_act.Act) → mark_view (mark_at k a) ≡ act_view a
     one k (code_acts.End e) = refl
     one k (code_acts.Action text) = refl
 

@@ -8,7 +8,7 @@ use Rattle.std.proofs.lemmas.List.Sums.{sum_by-cons}
 use Rattle.std.proofs.lemmas.Option.{slice_get_within, slice_get-get_or}
 use Rattle.msc_chart.specs.Events.{MessageEnd, Act, is_sent, is_action, is_end, other_end}
 use Rattle.msc_chart.specs.Events.Act.{End, Action}
-use Rattle.msc_chart.specs.Charting.{place_of, kind_of, event_of, partner_of, subject_of, output_end, outputs_before, actions_before}
+use Rattle.msc_chart.specs.Charting.{end_place, act_kind, event_of, partner_of, subject_of, output_end, outputs_before, actions_before}
 use Rattle.msc_chart.specs.Faults.{HoldsAt, IsTwice, IsUnmatched, OfEnd}
 use Rattle.msc_chart.specs.Lists.{StandsAt, Occurs}
 use Rattle.msc_chart.specs.declared.end.Mark.{Mark}
@@ -22,7 +22,7 @@ use Rattle.msc_chart.proofs.Places.{one_at, place-map}
 
 -- an end that stands somewhere stands at its place
 pub place-stands : (acts : List Act) (x : MessageEnd) (j : ℕ) → StandsAt acts j (End x)
-    → StandsAt acts (place_of acts x) (End x) × (place_of acts x ≤ j)
+    → StandsAt acts (end_place acts x) (End x) × (end_place acts x ≤ j)
 place-stands [] x j h = cc
 place-stands (y ∷ ys) x zero h =
     let same : y ≡ End x = cc in
@@ -33,23 +33,23 @@ place-stands (y ∷ ys) x (suc j) h =
     (λ found. rw found (ap Some (is_end-true x y found), omega arith))
     (λ other.
     let r = place-stands ys x j h in
-    let step : place_of (y ∷ ys) x ≡ suc (place_of ys x) = rw other (omega arith) in
+    let step : end_place (y ∷ ys) x ≡ suc (end_place ys x) = rw other (omega arith) in
     (subst (λ (n : ℕ). StandsAt (y ∷ ys) n (End x)) (sym step) r.0, omega (arith, r.1, step)))
 
 -- at a place within the list the end stands
-pub place-found : (acts : List Act) (x : MessageEnd) → place_of acts x < length acts
-    → StandsAt acts (place_of acts x) (End x)
+pub place-found : (acts : List Act) (x : MessageEnd) → end_place acts x < length acts
+    → StandsAt acts (end_place acts x) (End x)
 place-found [] x h = absurd (omega (arith, h))
 place-found (y ∷ ys) x h =
     by_test (is_end x y)
     (λ found. rw found (ap Some (is_end-true x y found)))
     (λ other.
-    let step : place_of (y ∷ ys) x ≡ suc (place_of ys x) = rw other (omega arith) in
+    let step : end_place (y ∷ ys) x ≡ suc (end_place ys x) = rw other (omega arith) in
     let rest = place-found ys x (omega (arith, step, h)) in
     subst (λ (n : ℕ). StandsAt (y ∷ ys) n (End x)) (sym step) rest)
 
 -- a place is at most the number of acts
-pub place-few : (acts : List Act) (x : MessageEnd) → place_of acts x ≤ length acts
+pub place-few : (acts : List Act) (x : MessageEnd) → end_place acts x ≤ length acts
 place-few [] x = omega arith
 place-few (y ∷ ys) x =
     let rest = place-few ys x in
@@ -59,38 +59,38 @@ place-few (y ∷ ys) x =
 
 -- where no end stands twice, each stands at its place
 pub place-once : (acts : List Act) → ((k : ℕ) → IsTwice acts k → ⊥) → (e : ℕ) (x : MessageEnd)
-    → StandsAt acts e (End x) → place_of acts x ≡ e
+    → StandsAt acts e (End x) → end_place acts x ≡ e
 place-once acts once e x h =
     let p = place-stands acts x e h in
-    elim (cases_lt (place_of acts x) e) [
-      | inl below ↦ absurd (once e (x, h, (place_of acts x, below, p.0)))
+    elim (cases_lt (end_place acts x) e) [
+      | inl below ↦ absurd (once e (x, h, (end_place acts x, below, p.0)))
       | inr ge ↦ omega (arith, p.1)
     ]
 
 -- an end whose place is the number of acts occurs nowhere
-pub place-none : (acts : List Act) (x : MessageEnd) → place_of acts x ≡ length acts
+pub place-none : (acts : List Act) (x : MessageEnd) → end_place acts x ≡ length acts
     → Occurs acts (End x) → ⊥
 place-none acts x past o =
     let p = place-stands acts x o.0 o.1 in
-    let within = slice_get_within acts (place_of acts x) (End x) p.0 in
+    let within = slice_get_within acts (end_place acts x) (End x) p.0 in
     omega (arith, past, within)
 
 -- and an end that occurs nowhere has that place
 pub none-place : (acts : List Act) (x : MessageEnd) → (Occurs acts (End x) → ⊥)
-    → place_of acts x ≡ length acts
+    → end_place acts x ≡ length acts
 none-place acts x none =
-    elim (cases_lt (place_of acts x) (length acts)) [
-      | inl below ↦ absurd (none (place_of acts x, place-found acts x below))
+    elim (cases_lt (end_place acts x) (length acts)) [
+      | inl below ↦ absurd (none (end_place acts x, place-found acts x below))
       | inr ge ↦ let few = place-few acts x in omega arith
     ]
 
 -- at the place of an end no action stands
 pub place-no_action : (acts : List Act) (x : MessageEnd) (text : List ℕ)
-    → StandsAt acts (place_of acts x) (Action text) → ⊥
+    → StandsAt acts (end_place acts x) (Action text) → ⊥
 place-no_action acts x text h =
-    let within = slice_get_within acts (place_of acts x) (Action text) h in
+    let within = slice_get_within acts (end_place acts x) (Action text) h in
     let found = place-found acts x within in
-    let one : Action text ≡ End x = one_at acts (place_of acts x) (Action text) (End x) h found in
+    let one : Action text ≡ End x = one_at acts (end_place acts x) (Action text) (End x) h found in
     cc
 
 -- as many partners as acts
@@ -99,6 +99,7 @@ partners-length : (acts : List Act) (e : ℕ) (xs : List Act)
 partners-length acts e [] = refl
 partners-length acts e (x ∷ xs) = ap suc (partners-length acts (e + 1) xs)
 
+-- and so for all acts
 pub partners-many : (acts : List Act) → length (partners_of acts) ≡ length acts
 partners-many acts = partners-length acts 0 acts
 
@@ -114,6 +115,7 @@ partners-place acts e (y ∷ ys) (suc k) x h =
     let number : (e + 1) + k ≡ e + suc k = omega arith in
     partners-place acts (e + 1) ys k x h ∙ ap (λ (n : ℕ). partner_of acts n x) number
 
+-- and so for all acts
 pub partner-at : (acts : List Act) (k : ℕ) (x : Act) → StandsAt acts k x
     → get_or (partners_of acts) k 0 ≡ partner_of acts k x
 partner-at acts k x h =
@@ -128,6 +130,7 @@ numbers-length o a (End x ∷ xs) =
 numbers-length o a (Action text ∷ xs) =
     let rest = numbers-length o (a + 1) xs in omega (arith, rest)
 
+-- and so for all acts
 pub numbers-many : (acts : List Act) → length (numbers_of acts) ≡ length acts + 1
 numbers-many acts = numbers-length 0 0 acts
 
@@ -177,9 +180,9 @@ actions-at o a (Action other ∷ xs) (suc k) text h =
 
 -- the number at the place of an output, or past all acts
 pub number-of_end : (acts : List Act) (x : MessageEnd)
-    → get_or (numbers_of acts) (place_of acts x) 0 ≡ outputs_before acts (place_of acts x)
+    → get_or (numbers_of acts) (end_place acts x) 0 ≡ outputs_before acts (end_place acts x)
 number-of_end acts x =
-    let r = outputs-at 0 0 acts (place_of acts x) (place-few acts x) (place-no_action acts x) in
+    let r = outputs-at 0 0 acts (end_place acts x) (place-few acts x) (place-no_action acts x) in
     omega (arith, r)
 
 -- the number at the place of an action is its subject
@@ -190,17 +193,17 @@ number-of_action acts e text h = let r = actions-at 0 0 acts e text h in omega (
 -- the output of a message stands at the place of an output, or at the partner of an input
 pub output-place : (acts : List Act) → ((k : ℕ) → IsTwice acts k → ⊥) → (e : ℕ) (x : MessageEnd)
     → StandsAt acts e (End x)
-    → cond x.sends e (place_of acts (other_end x)) ≡ place_of acts (output_end x)
+    → cond x.sends e (end_place acts (other_end x)) ≡ end_place acts (output_end x)
 output-place acts once e x h =
     by_test x.sends
     (λ sent.
     let itself : x ≡ output_end x = λ i. record { sends = sent i; key = x.key } in
-    ap (λ (b : Bool). cond b e (place_of acts (other_end x))) sent
+    ap (λ (b : Bool). cond b e (end_place acts (other_end x))) sent
     ∙ sym (place-once acts once e x h)
-    ∙ ap (place_of acts) itself)
+    ∙ ap (end_place acts) itself)
     (λ taken.
     let other : other_end x ≡ output_end x = λ i. record { sends = not (taken i); key = x.key } in
-    ap (λ (b : Bool). cond b e (place_of acts (other_end x))) taken ∙ ap (place_of acts) other)
+    ap (λ (b : Bool). cond b e (end_place acts (other_end x))) taken ∙ ap (end_place acts) other)
 
 -- what the mark that is read at a place shows stands there
 pub mark-at : (marks : List Mark) (e : ℕ) (d m : Mark) → e < length marks → get_or marks e d ≡ m
@@ -231,7 +234,7 @@ module _ (acts : List Act) (sends : Bool) (e : ℕ) (x : MessageEnd)
       → beq x.sends sends ≡ true
       → IsTrue (nat_eq p n) ↔ HoldsAt (OfEnd (IsUnmatched sends acts)) acts e
   unmatched-test p n read count kind =
-      let at : p ≡ place_of acts (other_end x) = read ∙ partner-at acts e (End x) here in (
+      let at : p ≡ end_place acts (other_end x) = read ∙ partner-at acts e (End x) here in (
         λ t.
             let past = sym at ∙ eqb-true p n t ∙ count in
             let same = (booleans_Decides x.sends sends).0 kind in
@@ -249,7 +252,7 @@ action-matched acts sends e text here u =
 module _ (acts : List Act) (once : (k : ℕ) → IsTwice acts k → ⊥) (e : ℕ) (x : MessageEnd)
     (here : StandsAt acts e (End x)) (k : ℕ)
     (output : k ≡ cond x.sends e (get_or (partners_of acts) e 0)) where
-  output-here : k ≡ place_of acts (output_end x)
+  output-here : k ≡ end_place acts (output_end x)
   output-here =
       output ∙ ap (cond x.sends e) (partner-at acts e (End x) here)
       ∙ output-place acts once e x here
@@ -267,13 +270,13 @@ module _ (acts : List Act) (once : (k : ℕ) → IsTwice acts k → ⊥) (e : �
 -- the event that an event of a draft becomes, by the kind, partner and subject of what stands there
 module _ (acts : List Act) (e : ℕ) (x : DraftEvent) (own : StandsAt acts e (event_view x).act) where
   pub charted_act : (a : Act) (t : EventKind × ℕ) (p : ℕ) → StandsAt acts e a
-      → p ≡ get_or (partners_of acts) e 0 → t ≡ (kind_of a, subject_of acts e a)
+      → p ≡ get_or (partners_of acts) e 0 → t ≡ (act_kind a, subject_of acts e a)
       → record { line = x.line; segment = x.segment; kind = t.0; partner = p; subject = t.1 }
       ≡ event_of acts e (event_view x)
   charted_act a t p here read parts =
       let same : a ≡ (event_view x).act = one_at acts e a (event_view x).act here own in
       let partner = read ∙ partner-at acts e a here ∙ ap (partner_of acts e) same in
-      let whole = parts ∙ ap (λ (b : Act). (kind_of b, subject_of acts e b)) same in
+      let whole = parts ∙ ap (λ (b : Act). (act_kind b, subject_of acts e b)) same in
       λ i. record {
         line = x.line;
         segment = x.segment;

@@ -7,12 +7,12 @@ use Rattle.msc_chart.specs.declared.end.DraftEvent as coded
 use Rattle.msc_chart.specs.declared.end.Act as code_act
 use Rattle.msc_chart.specs.declared.end.Act.TheVariants as code_acts
 use Rattle.msc_chart.specs.Events.Act.{End}
-use Rattle.msc_chart.specs.Views.{end_view, mark_view, mark_of, marks_from}
+use Rattle.msc_chart.specs.Views.{end_view, mark_view, mark_at, marks_from}
 use Rattle.msc_chart.specs.Lists.{StandsAt}
 use Rattle.msc_chart.specs.Numbering.{AreNewBelow, IsFirstRepeat}
 use Rattle.msc_chart.specs.Faults.{IsTwice}
 use Rattle.msc_chart.proofs.Places.{any-place, place-any, take-place, place-take, map-place, place-map}
-use Rattle.msc_chart.proofs.MatchingLemmas.{code_same-true, mark_same, mark_same-from}
+use Rattle.msc_chart.proofs.MatchingLemmas.{equal_ends-true, mark_same, mark_same-from}
 
 -- the mark of an action has this number
 abbrev pub HasNumber : ℕ → code.Mark → Type 0
@@ -24,7 +24,7 @@ abbrev pub AreOwn : List code.Mark → Type 0
 AreOwn ms = (e : ℕ) (m : code.Mark) → StandsAt ms e m → HasNumber e m
 
 -- a mark that is made for a place has its number
-made_for : (k : ℕ) (a : code_act.Act) → HasNumber k (mark_of k a)
+made_for : (k : ℕ) (a : code_act.Act) → HasNumber k (mark_at k a)
 made_for k (code_acts.End x) = tt
 made_for k (code_acts.Action text) = refl
 
@@ -32,7 +32,7 @@ made_for k (code_acts.Action text) = refl
 numbered_from : (k : ℕ) (xs : List coded.DraftEvent) (j : ℕ) (m : code.Mark) → StandsAt (marks_from k xs) j m → HasNumber (k + j) m
 numbered_from k [] j m h = cc
 numbered_from k (x ∷ xs) zero m h =
-    let same : mark_of k x.act ≡ m = cc in
+    let same : mark_at k x.act ≡ m = cc in
     let number : k ≡ k + 0 = omega arith in
     subst (λ (n : ℕ). HasNumber n m) number (subst (HasNumber k) same (made_for k x.act))
 numbered_from k (x ∷ xs) (suc j) m h =
@@ -49,7 +49,7 @@ module _ (ms : List code.Mark) where
   -- equal marks at two places are two ends
   two_ends : (i j : ℕ) → j < i → (a b : code.Mark) → StandsAt ms i a → StandsAt ms j b → HasNumber i a → HasNumber j b → mark_same a b ≡ true → IsTwice (map mark_view ms) i
   two_ends i j below (marks.End a) (marks.End b) p q h k same =
-      (end_view a, place-map mark_view ms i (marks.End a) p, (j, below, subst (StandsAt (map mark_view ms) j) (ap End (sym (code_same-true a b same))) (place-map mark_view ms j (marks.End b) q)))
+      (end_view a, place-map mark_view ms i (marks.End a) p, (j, below, subst (StandsAt (map mark_view ms) j) (ap End (sym (equal_ends-true a b same))) (place-map mark_view ms j (marks.End b) q)))
   two_ends i j below (marks.End a) (marks.Action n t) p q h k same = absurd (true≢false (sym same))
   two_ends i j below (marks.Action n t) (marks.End b) p q h k same = absurd (true≢false (sym same))
   two_ends i j below (marks.Action n t) (marks.Action l u) p q h k same =

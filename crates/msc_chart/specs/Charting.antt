@@ -9,8 +9,8 @@ use Rattle.msc_chart.specs.Events.{DraftEvent, MessageEnd, Act, other_end, is_en
 use Rattle.msc_chart.specs.Events.Act.{End, Action}
 
 -- the place of the first act that is this end, or the number of acts
-abbrev pub place_of : List Act → MessageEnd → ℕ
-place_of acts e = position_or_len (is_end e) acts
+abbrev pub end_place : List Act → MessageEnd → ℕ
+end_place acts e = position_or_len (is_end e) acts
 
 -- the output of the message of an end
 abbrev pub output_end : MessageEnd → MessageEnd
@@ -25,9 +25,9 @@ abbrev pub actions_before : List Act → ℕ → ℕ
 actions_before acts e = count_by is_action (take e acts)
 
 -- an end of a message is an output or an input, an action a local event
-abbrev pub kind_of : Act → EventKind
-kind_of (End x) = cond x.sends Output Input
-kind_of (Action text) = Local
+abbrev pub act_kind : Act → EventKind
+act_kind (End x) = cond x.sends Output Input
+act_kind (Action text) = Local
 
 -- whether an act becomes an event of this kind
 abbrev pub is_of : EventKind → Act → Bool
@@ -37,12 +37,12 @@ is_of Local = is_action
 
 -- the event at the other end of its message; an action is its own
 abbrev pub partner_of : List Act → ℕ → Act → ℕ
-partner_of acts e (End x) = place_of acts (other_end x)
+partner_of acts e (End x) = end_place acts (other_end x)
 partner_of acts e (Action text) = e
 
 -- Messages are numbered by their outputs, and actions by themselves, in the order of the text.
 abbrev pub subject_of : List Act → ℕ → Act → ℕ
-subject_of acts e (End x) = outputs_before acts (place_of acts (output_end x))
+subject_of acts e (End x) = outputs_before acts (end_place acts (output_end x))
 subject_of acts e (Action text) = actions_before acts e
 
 -- event e of a chart, of a draft with these acts
@@ -50,7 +50,7 @@ abbrev pub event_of : List Act → ℕ → DraftEvent → ChartEvent
 event_of acts e x = record {
   line = x.line;
   segment = x.segment;
-  kind = kind_of x.act;
+  kind = act_kind x.act;
   partner = partner_of acts e x.act;
   subject = subject_of acts e x.act;
 }

@@ -9,6 +9,7 @@ use Rattle.msc_chart.specs.Lists.{occurs, Steps}
 abbrev pub no_event : ChartEvent
 no_event = record { line = 0; segment = 0; kind = Output; partner = 0; subject = 0 }
 
+-- event e
 abbrev pub at : List ChartEvent → ℕ → ChartEvent
 at events e = get_or events e no_event
 
@@ -36,21 +37,25 @@ message events e = (at events e).subject
 unfoldable pub action : List ChartEvent → ℕ → ℕ
 action events e = (at events e).subject
 
+-- an output puts a message into its queue
 abbrev pub sends : EventKind → Bool
 sends Output = true
 sends Input = false
 sends Local = false
 
+-- an input takes one
 abbrev pub takes : EventKind → Bool
 takes Output = false
 takes Input = true
 takes Local = false
 
+-- a local event does neither
 abbrev pub acts : EventKind → Bool
 acts Output = false
 acts Input = false
 acts Local = true
 
+-- an instance decides when its outputs and its local events happen, and not when an input does
 abbrev pub controls : EventKind → Bool
 controls Output = true
 controls Input = false

@@ -38,5 +38,6 @@ IsChosenNext chart e past x =
     (SomeFreeLeft chart e past × IsLeast (MayComeFree chart e past) x)
     ⊎ ((SomeFreeLeft chart e past → ⊥) × IsLeast (MayCome chart past) x)
 
+-- the chosen run of e: a whole run in which each event is the one that comes next so
 abbrev pub IsChosenRun : WiredChart → ℕ → List ℕ → Type 0
 IsChosenRun chart e events = Steps (IsChosenNext chart e) [] events × IsWhole chart events

@@ -36,9 +36,11 @@ chart_of draft = record {
   actions = texts_of (acts_of draft);
 }
 
+-- what stands at a number past the last message; no rule speaks of it
 abbrev pub no_message : Message
 no_message = record { name = []; number = None; output = 0 }
 
+-- message m
 abbrev pub message_at : Drawing → ℕ → Message
 message_at d m = get_or d.messages m no_message
 

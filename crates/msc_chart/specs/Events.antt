@@ -29,6 +29,7 @@ pub data Act : Type 0 where
   End : MessageEnd → Act
   Action : List ℕ → Act
 
+-- an event of a draft: its line, its segment there, and what it does
 pub record DraftEvent : Type 0 where
   pub line : ℕ
   pub segment : ℕ
@@ -41,6 +42,7 @@ end_by Output own s =
 end_by Input own s =
     record { sends = false; key = record { sender = s.address; receiver = own; name = s.name; number = s.number } }
 
+-- the same by the way of the statement itself
 abbrev pub end_of : List ℕ → Signal → MessageEnd
 end_of own s = end_by s.way own s
 
@@ -49,6 +51,7 @@ abbrev pub act_of : List ℕ → Statement → Act
 act_of own (statements.Message s) = End (end_of own s)
 act_of own (statements.Action text) = Action text
 
+-- the event that a statement draws
 abbrev pub drawn : ℕ → List ℕ → ℕ → Statement → DraftEvent
 drawn line own segment s = record { line = line; segment = segment; act = act_of own s }
 
@@ -115,6 +118,7 @@ is_action (Action text) = true
 abbrev pub same_name : List ℕ → List ℕ → Bool
 same_name = pointwise nat_eq
 
+-- message instance names are compared where both have one
 abbrev pub same_number : Option (List ℕ) → Option (List ℕ) → Bool
 same_number None None = true
 same_number None (Some y) = false

@@ -29,32 +29,32 @@ names_alike : Alike (pointwise nat_eq) fed_name
 names_alike = same_Alike fed_name bytes_decides
 
 -- bytes are equal
-abbrev same_name : Bor (List ℕ) → Bor (List ℕ) → Bool
-same_name p q = pointwise nat_eq p.now q.now
+abbrev pub equal_names : Bor (List ℕ) → Bor (List ℕ) → Bool
+equal_names p q = pointwise nat_eq p.now q.now
 
 -- numbers are equal where both or neither stand, with equal bytes
-abbrev same_number : Option (Bor (List ℕ)) → Option (Bor (List ℕ)) → Bool
-same_number = option_eq same_name
+abbrev pub equal_numbers : Option (Bor (List ℕ)) → Option (Bor (List ℕ)) → Bool
+equal_numbers = option_eq equal_names
 
 -- equal numbers are fed alike
-number_fed : (x y : Option (Bor (List ℕ))) → same_number x y ≡ true → fed_number x ≡ fed_number y
+number_fed : (x y : Option (Bor (List ℕ))) → equal_numbers x y ≡ true → fed_number x ≡ fed_number y
 number_fed None None h = refl
 number_fed None (Some q) h = absurd (true≢false (sym h))
 number_fed (Some p) None h = absurd (true≢false (sym h))
 number_fed (Some p) (Some q) h = names_alike.fed p.now q.now h
 
 -- the same, as a record
-numbers_alike : Alike same_number fed_number
+numbers_alike : Alike equal_numbers fed_number
 numbers_alike = record { fed = number_fed }
 
 -- ends are equal where they are of one kind, with equal names
-abbrev same_end : code.MessageEnd → code.MessageEnd → Bool
-same_end x y =
-    beq x.sends y.sends && (same_name x.sender y.sender && (same_name x.receiver y.receiver
-    && (same_name x.name y.name && same_number x.number y.number)))
+abbrev pub equal_ends : code.MessageEnd → code.MessageEnd → Bool
+equal_ends x y =
+    beq x.sends y.sends && (equal_names x.sender y.sender && (equal_names x.receiver y.receiver
+    && (equal_names x.name y.name && equal_numbers x.number y.number)))
 
 -- equal ends are fed alike
-pub ends_alike : Alike same_end fed_end
+pub ends_alike : Alike equal_ends fed_end
 ends_alike =
     and-Alike (on_Alike (λ (e : code.MessageEnd). e.sends) (same_Alike fed.bool booleans_Decides))
     (and-Alike (on_Alike (λ (e : code.MessageEnd). e.sender.now) names_alike)

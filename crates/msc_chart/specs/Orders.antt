@@ -36,6 +36,7 @@ pub record WiredChart : Type 0 where
   pub events : List ChartEvent
   pub queue_at : ℕ → ℕ
 
+-- a chart under one of the architectures
 abbrev pub wired : Queues → Drawing → WiredChart
 wired queues d = record {
   events = d.events;

@@ -24,5 +24,6 @@ IsClosedAt events e low s =
     IsPassed events e low s
     → get_or low (at events (at events s).partner).line 0 ≤ (at events (at events s).partner).segment
 
+-- and so for each event below k
 abbrev pub AreClosedBelow : List ChartEvent → ℕ → List ℕ → ℕ → Type 0
 AreClosedBelow events e low k = (s : ℕ) → s < k → IsClosedAt events e low s

@@ -16,44 +16,55 @@ use Rattle.msc_chart.specs.Drawings.{Drawing}
 use Rattle.msc_chart.specs.Orders.{queue_of, WiredChart, Enforced}
 use Rattle.msc_chart.specs.Lists.{Occurs, pairs_of}
 
--- the names of the charts' instances and messages, by their last letter
+-- the name `a`
 abbrev pub a : List ℕ
 a = 97 ∷ []
 
+-- the name `b`
 abbrev pub b : List ℕ
 b = 98 ∷ []
 
+-- the name `c`
 abbrev pub c : List ℕ
 c = 99 ∷ []
 
+-- the name `d`
 abbrev pub d : List ℕ
 d = 100 ∷ []
 
+-- the name `x`
 abbrev pub x : List ℕ
 x = 120 ∷ []
 
+-- the name `m1`
 abbrev pub m1 : List ℕ
 m1 = 109 ∷ 49 ∷ []
 
+-- the name `m2`
 abbrev pub m2 : List ℕ
 m2 = 109 ∷ 50 ∷ []
 
+-- the name `m3`
 abbrev pub m3 : List ℕ
 m3 = 109 ∷ 51 ∷ []
 
+-- the name `m4`
 abbrev pub m4 : List ℕ
 m4 = 109 ∷ 52 ∷ []
 
+-- the name `q`
 abbrev pub q : List ℕ
 q = 113 ∷ []
 
+-- the name `z`
 abbrev pub z : List ℕ
 z = 122 ∷ []
 
--- the texts of actions
+-- the text `go` of an action
 abbrev pub go : List ℕ
 go = 103 ∷ 111 ∷ []
 
+-- the text `done` of an action
 abbrev pub done : List ℕ
 done = 100 ∷ 111 ∷ 110 ∷ 101 ∷ []
 
@@ -69,9 +80,11 @@ in_from name address = Message (record { way = Input; name = name; number = None
 abbrev pub action : List ℕ → Statement
 action text = Action text
 
+-- a section without kind
 abbrev pub instance_of : List ℕ → List Item → Section
 instance_of name items = record { decl = record { name = name; kind = [] }; items = items }
 
+-- a draft named `t` of these sections
 abbrev pub draft_of : List Section → Tree
 draft_of sections = record { name = 116 ∷ []; header = []; sections = sections }
 

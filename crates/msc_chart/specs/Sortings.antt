@@ -37,6 +37,7 @@ IsBarred events marks e = (x : ℕ) × IsDirectly events x e × (is_put marks x 
 abbrev pub IsStuckAt : List ChartEvent → List Bool → ℕ → Type 0
 IsStuckAt events marks e = IsTrue (is_put marks e) ⊎ IsBarred events marks e
 
+-- and so is each event below k
 abbrev pub IsStuckBelow : List ChartEvent → List Bool → ℕ → Type 0
 IsStuckBelow events marks k = (e : ℕ) → e < k → IsStuckAt events marks e
 
@@ -57,6 +58,7 @@ pub record IsSortingOf (events : List ChartEvent) (order : List ℕ) (marks : Li
   pub all : length order + left ≡ length events
   pub steps : Steps (Follows events) [] order
 
+-- a pass knows its marks, and has a place for each line
 abbrev pub IsSorting : List ChartEvent → Sorting → Type 0
 IsSorting events p = IsSortingOf events p.order.items p.is_put.items p.first.items p.left × (vec_len p.unopened ≡ vec_len p.first)
 

@@ -9,6 +9,7 @@ abbrev pub partners_from : List Act → ℕ → List Act → List ℕ
 partners_from acts e [] = []
 partners_from acts e (x ∷ xs) = partner_of acts e x ∷ partners_from acts (e + 1) xs
 
+-- of all acts
 abbrev pub partners_of : List Act → List ℕ
 partners_of acts = partners_from acts 0 acts
 
@@ -21,5 +22,6 @@ numbers_from outputs actions (End x ∷ xs) =
 numbers_from outputs actions (Action text ∷ xs) =
     actions ∷ numbers_from outputs (actions + 1) xs
 
+-- of all acts
 abbrev pub numbers_of : List Act → List ℕ
 numbers_of acts = numbers_from 0 0 acts

@@ -10,16 +10,19 @@ use Rattle.msc_chart.specs.declared.end.Mark.TheVariants as coded_marks
 use Rattle.msc_chart.specs.Events.{MessageEnd, Act, DraftEvent}
 use Rattle.msc_chart.specs.Events.Act.{End, Action}
 
+-- what an end of the code shows
 abbrev pub end_view : code.MessageEnd → MessageEnd
 end_view e = record {
   sends = e.sends;
   key = record { sender = e.sender.now; receiver = e.receiver.now; name = e.name.now; number = option_copied e.number };
 }
 
+-- what an act shows
 abbrev pub act_view : coded_act.Act → Act
 act_view (coded_acts.End e) = End (end_view e)
 act_view (coded_acts.Action text) = Action text.now
 
+-- what an event of a draft shows
 abbrev pub event_view : coded.DraftEvent → DraftEvent
 event_view e = record { line = e.line; segment = e.segment; act = act_view e.act }
 
@@ -29,11 +32,11 @@ mark_view (coded_marks.End e) = End (end_view e)
 mark_view (coded_marks.Action n text) = Action text.bytes.now
 
 -- the mark of event e, which does this
-abbrev pub mark_of : ℕ → coded_act.Act → coded_mark.Mark
-mark_of e (coded_acts.End x) = coded_marks.End x
-mark_of e (coded_acts.Action text) = coded_marks.Action e (record { bytes = text })
+abbrev pub mark_at : ℕ → coded_act.Act → coded_mark.Mark
+mark_at e (coded_acts.End x) = coded_marks.End x
+mark_at e (coded_acts.Action text) = coded_marks.Action e (record { bytes = text })
 
 -- the marks of events from e on
 abbrev pub marks_from : ℕ → List coded.DraftEvent → List coded_mark.Mark
 marks_from e [] = []
-marks_from e (x ∷ xs) = mark_of e x.act ∷ marks_from (e + 1) xs
+marks_from e (x ∷ xs) = mark_at e x.act ∷ marks_from (e + 1) xs

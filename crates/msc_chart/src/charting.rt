@@ -3,7 +3,7 @@
 ghost use Rattle.std.specs.Prelude.{◌≡◌, ◌<◌, ◌≤◌, ℕ, map, length, cond, IfOk};
 ghost use Rattle.std.specs.Option.{option_copied};
 ghost use Rattle.msc_chart.specs.Events.{instances_of};
-ghost use Rattle.msc_chart.specs.Charting.{place_of, partner_of, event_of, events_from, messages_from, texts_of};
+ghost use Rattle.msc_chart.specs.Charting.{end_place, partner_of, event_of, events_from, messages_from, texts_of};
 ghost use Rattle.msc_chart.specs.Faults.{IsTwice};
 ghost use Rattle.msc_chart.specs.Lists.{StandsAt};
 ghost use Rattle.msc_chart.specs.Tables.{numbers_of, partners_of};
@@ -21,7 +21,7 @@ use std::alloc::{AllocError, Global};
 
 /// The place of an end among all events, or their number.
 fn place<'d>(places: &IndexSet<Mark<'d>>, end: MessageEnd<'d>) -> usize
-    ensures place { result ≡ place_of (map mark_view places.now.keys) (end_view end.entry) }
+    ensures place { result ≡ end_place (map mark_view places.now.keys) (end_view end.entry) }
     ensures within { result ≤ length places.now.keys }
 {
     places.get_index_of(&Mark::End(end)).unwrap_or(places.len())

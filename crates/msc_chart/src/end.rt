@@ -5,7 +5,7 @@ ghost use mathlib.Core.Path.{refl};
 ghost use Rattle.msc_chart.specs.Events.{events_of, events_of_item, events_of_items, next_segment, act_of, drawn, end_of, other_end, address_of};
 ghost use Rattle.msc_chart.specs.Charting.{is_of};
 ghost use Rattle.msc_chart.specs.Hashing.{fed_end, ends_alike};
-ghost use Rattle.msc_chart.specs.Views.{act_view, end_view, event_view, mark_of, mark_view};
+ghost use Rattle.msc_chart.specs.Views.{act_view, end_view, event_view, mark_at, mark_view};
 
 use crate::INSTANCE_LIMIT;
 use crate::event::EventKind;
@@ -74,7 +74,7 @@ pub(crate) enum Act<'d> {
 impl<'d> Act<'d> {
     /// The mark of event `e`, which does this.
     pub fn mark(self, e: u32) -> Mark<'d>
-        ensures { result ≡ mark_of e self.entry }
+        ensures { result ≡ mark_at e self.entry }
     {
         match self {
             Act::End(end) => Mark::End(end),

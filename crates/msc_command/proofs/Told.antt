@@ -8,12 +8,12 @@ use Rattle.msc_command.specs.declared.program.Status.{Status}
 use Rattle.msc_command.specs.declared.program.Status.TheVariants.{Done, Races, Refused, Unfinished, Failed}
 use Rattle.msc_command.specs.declared.words.Task.{Task}
 use Rattle.msc_command.specs.declared.words.Task.TheVariants.{Read, Check, Study, Judge, Explain, Run}
-use Rattle.msc_command.specs.Program.{status_code, Obeys, Prints, TellsRaces, WritesAnswer}
+use Rattle.msc_command.specs.Program.{status_code, Obeys, TellsAnswer, TellsRaces, WritesAnswer}
 use Rattle.msc_command.specs.Words.{AsksFor}
 
 -- the answer of a task is what its status tells
 pub prints : (task : Task) (text : List ℕ) (status : Status) (before after : Option (List ℕ))
-    → WritesAnswer task text status before after → Prints status before after
+    → WritesAnswer task text status before after → TellsAnswer status before after
 prints task text Done before after told = tt
 prints task text Refused before after told = tt
 prints task text Failed before after told = tt
@@ -42,7 +42,7 @@ obeys command found task text Failed rest left before after asks reads told = tt
 
 -- its status tells of it
 pub obeyed : (command : List ℕ) (found : Found) (status : Status) (rest left before after : Option (List ℕ))
-    → Obeys command found status rest left before after → Prints status before after
+    → Obeys command found status rest left before after → TellsAnswer status before after
 obeyed command found Done rest left before after done = tt
 obeyed command found Races rest left before after done = prints done.0 done.1 Races before after done.4
 obeyed command found Refused rest left before after done = tt
@@ -50,7 +50,7 @@ obeyed command found Unfinished rest left before after done = prints done.0 done
 obeyed command found Failed rest left before after done = tt
 
 -- where the exit status is 1, the answer tells of races
-pub told_races : (status : Status) (before after : Option (List ℕ)) → Prints status before after → status_code status ≡ 1 → TellsRaces before after
+pub told_races : (status : Status) (before after : Option (List ℕ)) → TellsAnswer status before after → status_code status ≡ 1 → TellsRaces before after
 told_races Done before after told one = absurd cc
 told_races Races before after told one = told
 told_races Refused before after told one = absurd cc

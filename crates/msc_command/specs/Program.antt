@@ -108,7 +108,7 @@ PrintsUnfinished before after =
     × WritesTrace text queues true patience false before after
 
 -- what the status tells of the answer that went out
-abbrev pub Prints : Status → Option (List ℕ) → Option (List ℕ) → Type 0
-Prints Races before after = TellsRaces before after
-Prints Unfinished before after = PrintsUnfinished before after
-Prints status before after = Unit {0}
+abbrev pub TellsAnswer : Status → Option (List ℕ) → Option (List ℕ) → Type 0
+TellsAnswer Races before after = TellsRaces before after
+TellsAnswer Unfinished before after = PrintsUnfinished before after
+TellsAnswer status before after = Unit {0}

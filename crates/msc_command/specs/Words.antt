@@ -28,7 +28,7 @@ pub record IsFlag (found : Found) (id : List ℕ) (given : Bool) : Type 0 where
   pub no : one_text found id ≡ Some (codes "false") → given ≡ false
 
 -- the word of an argument is the numeral of a number of 32 bits
-pub record IsEvent (found : Found) (id : List ℕ) (n : ℕ) : Type 0 where
+pub record IsEventWord (found : Found) (id : List ℕ) (n : ℕ) : Type 0 where
   pub text : List ℕ
   pub word : one_text found id ≡ Some text
   pub numeral : IsNumeral 10 (without_leading_plus text)
@@ -37,10 +37,10 @@ pub record IsEvent (found : Found) (id : List ℕ) (n : ℕ) : Type 0 where
 
 -- an argument has no such word
 abbrev pub LacksEvent : Found → List ℕ → Type 0
-LacksEvent found id = (n : ℕ) → IsEvent found id n → ⊥
+LacksEvent found id = (n : ℕ) → IsEventWord found id n → ⊥
 
 -- the number of an option, and what it is without it
-pub record IsNumber (found : Found) (id : List ℕ) (without n : ℕ) : Type 0 where
+pub record IsOptionNumber (found : Found) (id : List ℕ) (without n : ℕ) : Type 0 where
   pub absent : one_text found id ≡ None → n ≡ without
   pub given : (text : List ℕ) → one_text found id ≡ Some text
       → IsNumeral 10 (without_leading_plus text) → digits_value 10 (without_leading_plus text) < 2 ^ 32
@@ -63,8 +63,8 @@ pub record IsView (found : Found) (view : View) : Type 0 where
   pub closest : IsFlag found (codes "closest") view.closest
   pub why : IsFlag found (codes "why") view.why
   pub allowed : AreAllowed found view.allowed
-  pub most : IsNumber found (codes "most") 4294967295 view.most
-  pub show : IsNumber found (codes "show") 4294967295 view.show
+  pub most : IsOptionNumber found (codes "most") 4294967295 view.most
+  pub show : IsOptionNumber found (codes "show") 4294967295 view.show
 
 -- more or less is to be seen than a verdict and its races with runs
 abbrev pub is_study : View → Bool
@@ -86,17 +86,17 @@ AsksToCheck found task = ⊥
 abbrev pub AsksFor : List ℕ → Found → Task → Type 0
 AsksFor command found Read = command ≡ codes "read"
 AsksFor command found (Explain queues e f) =
-    (command ≡ codes "explain") × IsEvent found (codes "E") e × IsEvent found (codes "F") f
+    (command ≡ codes "explain") × IsEventWord found (codes "E") e × IsEventWord found (codes "F") f
     × (architecture found ≡ Some queues)
 AsksFor command found (Run queues patience) =
-    (command ≡ codes "run") × IsNumber found (codes "patience") 1000000000 patience
+    (command ≡ codes "run") × IsOptionNumber found (codes "patience") 1000000000 patience
     × (architecture found ≡ Some queues)
 AsksFor command found task = (command ≡ codes "check") × AsksToCheck found task
 
 -- the words name no command, or no architecture where the command takes one, or not both events
 -- where it takes two
-abbrev pub IsUnknown : List ℕ → Found → Type 0
-IsUnknown command found =
+abbrev pub IsNoCommand : List ℕ → Found → Type 0
+IsNoCommand command found =
     (command ≢ codes "read")
     × (((command ≢ codes "check") × (command ≢ codes "explain") × (command ≢ codes "run"))
     ⊎ ((architecture found ≡ None)

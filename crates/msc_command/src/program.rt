@@ -4,7 +4,7 @@ ghost use Rattle.std.specs.Prelude.{◌≡◌, ◌≢◌, ◌⊎◌, codes, IfOk
 ghost use Rattle.std.specs.IoError.{error_kind};
 ghost use Rattle.std.specs.declared.io.ErrorKind.TheVariants.{OutOfMemory};
 ghost use Rattle.clap.specs.Matches.{found_of};
-ghost use Rattle.msc_command.specs.Program.{ends_as, status_code, status_of, Obeys, Prints, PrintsUnfinished, TellsRaces, WritesAnswer};
+ghost use Rattle.msc_command.specs.Program.{ends_as, status_code, status_of, Obeys, TellsAnswer, PrintsUnfinished, TellsRaces, WritesAnswer};
 ghost use Rattle.msc_text.specs.Reading.{IsReadFrom};
 
 use crate::words::{Choice, Task, architectures, grammar, joined, kinds, task_of};
@@ -181,7 +181,7 @@ fn perform_on<R: Files + Threads + Wait + Sync, I: Read, O: Write>(
 
 /// Writes what `clap` says of words that are no command, or the help that they ask for.
 fn tell_usage<O: Write, E: Write>(output: &mut O, faults: &mut E, error: &Error) -> Status
-    ensures { (before after : Option (List ℕ)) → Prints result before after }
+    ensures { (before after : Option (List ℕ)) → TellsAnswer result before after }
 {
     if error.kind() == clap::error::ErrorKind::OutOfMemory {
         return end_with(faults, Fault::Memory);
@@ -228,7 +228,7 @@ fn obey_matches<R: Files + Threads + Wait + Sync, I: Read, O: Write, E: Write>(
     output: &mut O,
     faults: &mut E,
 ) -> Status
-    ensures { Prints result (O.contents output.old) (O.contents output.new) }
+    ensures { TellsAnswer result (O.contents output.old) (O.contents output.new) }
 {
     match matches.subcommand() {
         Some((command, words)) => obey(rt, alloc, command, words, input, output, faults),
@@ -247,7 +247,7 @@ fn run<R: Files + Threads + Wait + Sync, I: Read, O: Write, E: Write>(
     faults: &mut E,
 ) -> Result<Status, AllocError>
     ensures { IfOk result (λ status.
-        Prints status (O.contents output.old) (O.contents output.new)) }
+        TellsAnswer status (O.contents output.old) (O.contents output.new)) }
 {
     let architectures = architectures(alloc)?;
     let shown_architectures = joined(alloc, architectures.as_slice())?;

@@ -2,7 +2,7 @@
 
 ghost use Rattle.std.specs.Prelude.{◌≡◌, MatchOption, Some, map};
 ghost use Rattle.clap.specs.Matches.{found_of};
-ghost use Rattle.msc_command.specs.Words.{architecture, is_study, names_kind, AreAllowed, AsksFor, AsksToCheck, IsEvent, IsFlag, IsNumber, LacksEvent, IsUnknown, IsView};
+ghost use Rattle.msc_command.specs.Words.{architecture, is_study, names_kind, AreAllowed, AsksFor, AsksToCheck, IsEventWord, IsFlag, IsOptionNumber, LacksEvent, IsNoCommand, IsView};
 
 use clap::{Arg, ArgAction, ArgMatches, Command, value_parser};
 use msc_chart::{Event, Queues};
@@ -269,14 +269,14 @@ pub fn grammar<'a>(
 /// The event that an argument names, if it does.
 fn event_of(words: &ArgMatches, name: &str) -> Option<Event>
     ensures { MatchOption result (LacksEvent (found_of words.now) name.now)
-        (IsEvent (found_of words.now) name.now) }
+        (IsEventWord (found_of words.now) name.now) }
 {
     words.get_one(name)
 }
 
 /// The number of an option, and `without` where it does not stand.
 fn number_of(words: &ArgMatches, name: &str, without: u32) -> u32
-    ensures { IsNumber (found_of words.now) name.now without result }
+    ensures { IsOptionNumber (found_of words.now) name.now without result }
 {
     words.get_one(name).unwrap_or(without)
 }
@@ -362,7 +362,7 @@ fn queues_of(words: &ArgMatches) -> Option<Queues>
 
 /// What the words of a command ask for, if they name it.
 pub fn task_of(command: &str, words: &ArgMatches) -> Option<Task>
-    ensures { MatchOption result (IsUnknown command.now (found_of words.now))
+    ensures { MatchOption result (IsNoCommand command.now (found_of words.now))
         (AsksFor command.now (found_of words.now)) }
 {
     if command == "read" {

@@ -6,10 +6,10 @@ use Rattle.std.specs.List.{concat}
 use Rattle.msc_chart.specs.Orders.{WiredChart, queue}
 use Rattle.msc_chart.specs.Charts.{line, partner, is_output, is_local}
 use Rattle.msc_chart.specs.Lists.{occurs, until}
-use Rattle.msc_chart.proofs.ListLemmas.{by_test, parts, until-within, occurs-left}
+use Rattle.msc_chart.proofs.ListLemmas.{by_test, parts, until-within, occurs-left, occurs-head, occurs-tail, occurs-right}
 use Rattle.msc_chart.proofs.Drawn.{output_or_input, partner_of_input}
 use Rattle.msc_gather.specs.Schedule.{log_of, is_logged, IsSeated}
-use Rattle.msc_gather.proofs.Once.{occurs-right, occurs-cases, ne_occurs, occurs-head, occurs-tail}
+use Rattle.msc_gather.proofs.Once.{occurs-cases, ne_occurs}
 use Rattle.msc_gather.proofs.Filters.{occurs-filter}
 use Rattle.msc_execution.specs.Clocks.{Places, messages, place_clock, put_clock, clock_step, clock_from, clock_after, clock_before, offer_of}
 use Rattle.msc_execution.specs.Timed.{IsTimed, all_puts}
@@ -102,7 +102,7 @@ module _ {chart : WiredChart} {instances : ℕ} {logs : List (List ℕ)} {places
   unfolding clock_from
   from_timed c [] known h = h
   from_timed c (e ∷ es) known h =
-      let k = known e (occurs-head es e) in
+      let k = known e (occurs-head e es) in
       from_timed (clock_step chart places c e) es (λ d there. known d (occurs-tail e es d there))
       (step_timed c e k.0 k.1 h)
 

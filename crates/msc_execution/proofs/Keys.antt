@@ -9,7 +9,7 @@ use Rattle.msc_chart.proofs.KindTests.{output_below}
 use Rattle.msc_chart.proofs.Drawn.{not_both, partner_of_output}
 use Rattle.msc_gather.specs.Schedule.{log_of, is_logged, is_taken_first, IsSeated}
 use Rattle.msc_gather.proofs.Once.{until-until}
-use Rattle.msc_execution.specs.Clocks.{Places, messages, place_of, greatest_offer, put_clock, clock_before, clock_of, offer_of, offer_up_to, key_of, comes_sooner, is_below}
+use Rattle.msc_execution.specs.Clocks.{Places, messages, place_number, greatest_offer, put_clock, clock_before, clock_of, offer_of, offer_up_to, key_of, comes_sooner, is_below}
 use Rattle.msc_execution.specs.Timed.{IsTimed, taken_from}
 use Rattle.msc_execution.proofs.Sorting.{below_first, below_then}
 use Rattle.msc_execution.proofs.Queued.{offers_rise, until-front, taken_in_order}
@@ -20,7 +20,7 @@ module _ {chart : WiredChart} {instances : ℕ} {logs : List (List ℕ)} {places
     (seated : IsSeated chart instances) (timed : IsTimed chart instances logs places) where
   -- the key of an output
   pub key_output : (e : ℕ) → is_output chart.events e ≡ true → key_of chart logs places e
-      ≡ offer_up_to chart logs places e ∷ 0 ∷ queue chart e ∷ place_of (places (queue chart e)) e
+      ≡ offer_up_to chart logs places e ∷ 0 ∷ queue chart e ∷ place_number (places (queue chart e)) e
       ∷ []
   unfolding key_of
   key_output e o = rw o refl
@@ -131,7 +131,7 @@ module _ {chart : WiredChart} {instances : ℕ} {logs : List (List ℕ)} {places
       named in
       let rise = offers_rise (offer_of chart logs places) (places q) s t in_queue in
       let key_s = subst (λ (z : ℕ). key_of chart logs places s
-      ≡ greatest_offer (offer_of chart logs places) (places z) s ∷ 0 ∷ z ∷ place_of (places z) s
+      ≡ greatest_offer (offer_of chart logs places) (places z) s ∷ 0 ∷ z ∷ place_number (places z) s
       ∷ []) same (key_output s os) in
       below_by s t _ _ key_s (key_output t ot)
       (below_then _ _ _ _ rise.0

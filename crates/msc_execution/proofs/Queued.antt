@@ -6,12 +6,12 @@ use Rattle.msc_chart.specs.Charts.{partner, is_input}
 use Rattle.msc_chart.specs.Lists.{occurs, until}
 use Rattle.msc_chart.proofs.ListLemmas.{clash, by_test}
 use Rattle.msc_chart.proofs.KindTests.{input_below}
-use Rattle.msc_execution.specs.Clocks.{Place, messages, place_of, greatest_offer}
-use Rattle.msc_execution.specs.Clocks.Place.{Message, EndMark}
+use Rattle.msc_execution.specs.Clocks.{QueuePlace, messages, place_number, greatest_offer}
+use Rattle.msc_execution.specs.Clocks.QueuePlace.{Message, EndMark}
 use Rattle.msc_execution.specs.Timed.{taken_from}
 
 -- an offer is no greater than the greatest up to its place
-pub own_offer : (offer : ℕ → ℕ) (places : List Place) (s : ℕ) → occurs (messages places) s ≡ true
+pub own_offer : (offer : ℕ → ℕ) (places : List QueuePlace) (s : ℕ) → occurs (messages places) s ≡ true
     → offer s ≤ greatest_offer offer places s
 unfolding occurs messages greatest_offer
 own_offer offer [] s h = clash h refl
@@ -24,23 +24,23 @@ own_offer offer (Message i x c ∷ places) s h =
 own_offer offer (EndMark i ∷ places) s h = let rest = own_offer offer places s h in omega arith
 
 -- along the places the greatest offer doesn't fall, and the places rise
-pub offers_rise : (offer : ℕ → ℕ) (places : List Place) (s t : ℕ)
+pub offers_rise : (offer : ℕ → ℕ) (places : List QueuePlace) (s t : ℕ)
     → occurs (until (messages places) t) s ≡ true
     → (greatest_offer offer places s ≤ greatest_offer offer places t)
-    × (place_of places s < place_of places t)
-unfolding occurs until messages greatest_offer place_of
+    × (place_number places s < place_number places t)
+unfolding occurs until messages greatest_offer place_number
 offers_rise offer [] s t h = clash h refl
 offers_rise offer (Message i x c ∷ places) s t h =
     (elim (eqb x t) as (λ b. occurs (cond b [] (x ∷ until (messages places) t)) s ≡ true
     → (cond (eqb x s) (offer x) (max (offer x) (greatest_offer offer places s))
     ≤ cond b (offer x) (max (offer x) (greatest_offer offer places t)))
-    × (cond (eqb x s) 0 (suc (place_of places s)) < cond b 0 (suc (place_of places t)))) [
+    × (cond (eqb x s) 0 (suc (place_number places s)) < cond b 0 (suc (place_number places t)))) [
       | true ↦ λ k. clash k refl
       | false ↦ λ k.
           (elim (eqb x s) as (λ b. (b || occurs (until (messages places) t) s) ≡ true
           → (cond b (offer x) (max (offer x) (greatest_offer offer places s))
           ≤ max (offer x) (greatest_offer offer places t))
-          × (cond b 0 (suc (place_of places s)) < suc (place_of places t))) [
+          × (cond b 0 (suc (place_number places s)) < suc (place_number places t))) [
             | true ↦ λ j. (omega arith, omega arith)
             | false ↦ λ j. let rest = offers_rise offer places s t
                 j in (omega (arith, rest.0), omega (arith, rest.1))

@@ -60,6 +60,7 @@ below_trans (x ∷ xs) (y ∷ ys) (z ∷ zs) h k =
           ]
     ]
 
+-- the first two of three tests change places
 or-swap : (a b c : Bool) → (a || (b || c)) ≡ (b || (a || c))
 or-swap true true c = refl
 or-swap true false c = refl

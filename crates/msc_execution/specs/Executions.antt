@@ -23,9 +23,11 @@ pub record Outcome : Type 0 where
   pub ends : List End
   pub settled : List (ℕ × Settled)
 
+-- the log of instance i
 abbrev pub log_at : Outcome → ℕ → List ℕ
 log_at o i = get_or o.logs i []
 
+-- how it ended
 abbrev pub end_at : Outcome → ℕ → End
 end_at o i = get_or o.ends i Finished
 

@@ -47,6 +47,7 @@ unfoldable pub taken_below : Role → ℕ → List ℕ
 taken_below r n =
     filter (λ q. takes_from r.queues r.chart q r.number) (queues_below r.queues r.chart n)
 
+-- no outlet and no inlet
 abbrev pub no_ends : EndLists
 no_ends = record { outlets = []; inlets = [] }
 

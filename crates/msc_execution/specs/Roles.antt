@@ -15,13 +15,15 @@ pub record Role : Type 0 where
   pub chart : Drawing
   pub number : ℕ
 
+-- the part of instance i of a chart
 abbrev pub role : Queues → Drawing → ℕ → Role
 role queues d i = record { queues = queues; chart = d; number = i }
 
--- an end with the number of its queue
+-- an outlet with the number of its queue
 abbrev pub NumberedOutlet : Type 0
 NumberedOutlet = ℕ × OutletState
 
+-- and an inlet with that of its own
 abbrev pub NumberedInlet : Type 0
 NumberedInlet = ℕ × InletState
 
@@ -29,6 +31,10 @@ NumberedInlet = ℕ × InletState
 pub record EndLists : Type 0 where
   pub outlets : List NumberedOutlet
   pub inlets : List NumberedInlet
+
+-- the ends that are these outlets and inlets
+abbrev pub ends_from : List NumberedOutlet → List NumberedInlet → EndLists
+ends_from outlets inlets = record { outlets = outlets; inlets = inlets }
 
 -- the numbers below n of the queues that have a message, ascending
 unfoldable pub queues_below : Queues → Drawing → ℕ → List ℕ

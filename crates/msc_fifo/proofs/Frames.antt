@@ -7,7 +7,7 @@ use Rattle.atomic_table.proofs.Lists.{at_set}
 use Rattle.msc_fifo.specs.declared.rule.Sender.{Sender}
 use Rattle.msc_fifo.specs.declared.rule.View.{View}
 use Rattle.msc_fifo.specs.World.{Each, Slot, World, world}
-use Rattle.msc_fifo.specs.Views.{rooms_of, IsSender, Fits, Sound, Kept}
+use Rattle.msc_fifo.specs.Views.{rooms_of, IsSender, Agrees, Sound, Kept}
 use Rattle.msc_fifo.proofs.LogLemmas.{each-map}
 use Rattle.msc_fifo.proofs.Worlds.{Grows, Spares, sender_stays, receiver_stays}
 
@@ -65,7 +65,7 @@ pub outlet_keeps : (places i n id : ℕ) (s : State (Unit {0}) View) (c : List (
 outlet_keeps places i n id s c v w x y h offered log at only quiet only' grows spares mine sound claimed rooms =
     let old = now h in let new = next h offered log (set s.words i n) in
     let me = (subst (Each (IsSender places old id)) only (h.each id v at).1).0 in
-    let F : ℕ → View → Type 0 = Fits places new in
+    let F : ℕ → View → Type 0 = Agrees places new in
     let others : (j : ℕ) (u : View) → j ≢ id → get_elem? s.views j ≡ some u → F j u = λ j u other at'. (
       (λ g. receiver_stays places old new j u grows refl refl ((h.each j u at').0 g)),
       each-map (IsSender places old j) (IsSender places new j) u.senders
@@ -87,7 +87,7 @@ outlet_keeps places i n id s c v w x y h offered log at only quiet only' grows s
 
 -- a step that writes nothing keeps the rule where the seat's own view fits
 pub read_keeps : (places i id : ℕ) (s : State (Unit {0}) View) (c : List (ℕ × Unit {0})) (v w : View) (h : Kept places s)
-    → get_elem? s.views id ≡ some v → w.room ≡ v.room → Fits places (now h) id w → Kept places (stepped s i (slice_index s.words i) id c w keeps)
+    → get_elem? s.views id ≡ some v → w.room ≡ v.room → Agrees places (now h) id w → Kept places (stepped s i (slice_index s.words i) id c w keeps)
 read_keeps places i id s c v w h at rooms mine =
     let is = set_same s.words i in
     record {
@@ -101,6 +101,6 @@ read_keeps places i id s c v w h at rooms mine =
       claimed = ap (λ (l : List ℕ). slice_index l 0) is ∙ h.claimed;
       rooms = (let r = rooms_set s.views id v w at in let t = h.rooms in omega arith);
       sound = subst (λ (l : List ℕ). Sound places (next h h.offered h.log l)) (sym is) h.sound;
-      each = λ j u e. subst (λ (l : List ℕ). Fits places (next h h.offered h.log l) j u) (sym is)
-          (all_set (Fits places (now h)) s.views id w mine (λ j u other at'. h.each j u at') j u e);
+      each = λ j u e. subst (λ (l : List ℕ). Agrees places (next h h.offered h.log l) j u) (sym is)
+          (all_set (Agrees places (now h)) s.views id w mine (λ j u other at'. h.each j u at') j u e);
     }

@@ -12,7 +12,7 @@ use Rattle.msc_fifo.specs.declared.rule.View.{View}
 use Rattle.msc_fifo.specs.Claims.{is_message}
 use Rattle.msc_fifo.specs.Entries.{sender_of, IsOrderly}
 use Rattle.msc_fifo.specs.World.{Each, Slot, entries, code, World, world, Holds, IsDated, IsStored, slot, IsSmall}
-use Rattle.msc_fifo.specs.Views.{IsSender, IsReceiver, Fits, Sound, Kept, receives, new_sender, sends, beside, nobody}
+use Rattle.msc_fifo.specs.Views.{IsSender, IsReceiver, Agrees, Sound, Kept, receives, new_sender, outlet_view, beside, nobody}
 use Rattle.msc_fifo.specs.Moves.{Seated, LooksAt, LearnsIt, SettlesIt, Told, clocks_at_once, IsClaimOf, ReadsItsEntry, ReadsItsClock}
 use Rattle.msc_fifo.proofs.EntryLemmas.{messages_of-nothing, has_ended-nothing, nothing_past, orderly_wider, orderly-at, code_full}
 use Rattle.msc_fifo.proofs.LogLemmas.{cond-true, cond-false, own-nothing, each-map, each-append, get_inside, member, claim_get}
@@ -198,10 +198,10 @@ snoc_cases (x ∷ xs) a b zero e = inl e
 snoc_cases (x ∷ xs) a b (suc j) e = ⊎_elim (λ h. inl h) (λ (h : (j ≡ length xs) × (a ≡ b)). inr (ap suc h.0, h.1)) (snoc_cases xs a b j e)
 
 -- making the next sender keeps the rule: nothing of it stands anywhere
-pub splits_keep : (places id room : ℕ) (v : View) → v.gets ≡ true → v.senders ≡ [] → room ≤ v.room → Splits (Kept places) id v (receives v.places (v.room - room) (v.made + 1) v.got v.clocks) (sends room (new_sender v.places v.made))
+pub splits_keep : (places id room : ℕ) (v : View) → v.gets ≡ true → v.senders ≡ [] → room ≤ v.room → Splits (Kept places) id v (receives v.places (v.room - room) (v.made + 1) v.got v.clocks) (outlet_view room (new_sender v.places v.made))
 splits_keep places id room v gets alone enough s h at =
     let x : Sender = new_sender v.places v.made in
-    let l : View = receives v.places (v.room - room) (v.made + 1) v.got v.clocks in let r : View = sends room x in let vs : List View = set s.views id l in
+    let l : View = receives v.places (v.room - room) (v.made + 1) v.got v.clocks in let r : View = outlet_view room x in let vs : List View = set s.views id l in
     let old = now h in
     let mine = (h.each id v at).0 gets in
     let here : v.made ≡ h.made = mine.made in
@@ -234,7 +234,7 @@ splits_keep places id room v gets alone enough s h at =
       few = mine.few;
       clocks = mine.clocks;
     } in
-    let F : ℕ → View → Type 0 = Fits places new in
+    let F : ℕ → View → Type 0 = Agrees places new in
     let olds : (j : ℕ) (u : View) → get_elem? vs j ≡ some u → F j u =
     all_set F s.views id l ((λ _. receiver), tt)
     (λ j u other e. ((λ g. absurd (other (sym ((h.each j u e).0 g).reader ∙ mine.reader))), kept j u (h.each j u e).1)) in
@@ -278,15 +278,15 @@ joins_keep places id v other w x gets only s h at two at' =
     let spares : (j : ℕ) → Spares old new j = λ j. record { put = refl; closed = refl; claims = refl; offers = refl; places = λ k z at' is. (refl, refl) } in
     let moved : (j : ℕ) (z : Sender) → j ≢ other → IsSender places old j z → IsSender places new j z = λ j z away hz.
     sender_stays places old new j j z grows (spares z.from) (cond-false (z.from == x.from) id (h.seat z.from) (ne_eqb z.from x.from (λ e. away (sym hz.seat ∙ ap h.seat e ∙ theirs.seat))) ∙ hz.seat) hz in
-    let stays : (j : ℕ) (u : View) → j ≢ other → Fits places old j u → Fits places new j u = λ j u away f. (
+    let stays : (j : ℕ) (u : View) → j ≢ other → Agrees places old j u → Agrees places new j u = λ j u away f. (
       (λ g. receiver_stays places old new j u grows refl refl (f.0 g)),
       each-map (IsSender places old j) (IsSender places new j) u.senders (λ z hz. moved j z away hz) f.1,
     ) in
-    let joined : Fits places new id both = let f = stays id v (λ e. two (sym e)) (h.each id v at) in (
+    let joined : Agrees places new id both = let f = stays id v (λ e. two (sym e)) (h.each id v at) in (
       (λ g. let k = f.0 gets in record { reader = k.reader; made = k.made; places_are = k.places_are; got = k.got; stored = k.stored; few = k.few; clocks = k.clocks }),
       each-append (IsSender places new id) v.senders w.senders f.1 (subst (Each (IsSender places new id)) (sym only) (sender_stays places old new other id x grows (spares x.from) (cond-true (x.from == x.from) id (h.seat x.from) (eq-eqb x.from x.from refl)) theirs, tt)),
     ) in
-    let F : ℕ → View → Type 0 = Fits places new in
+    let F : ℕ → View → Type 0 = Agrees places new in
     let G : ℕ → View → Type 0 = λ j u. j ≢ other → F j u in
     let now' : (j : ℕ) (u : View) → get_elem? vs j ≡ some u → G j u = all_set G s.views id both (λ _. joined) (λ j u _ e away. stays j u away (h.each j u e)) in
     record {
@@ -339,7 +339,7 @@ begins places count words small size are =
       each = λ id v e. first id v e;
     }
   where
-    first : (id : ℕ) (v : View) → get_elem? (receives places places 0 [] [] ∷ []) id ≡ some v → Fits places (world 0 0 (λ _. 0) (λ _. []) [] words) id v
-    first zero v e = subst (λ (u : View). Fits places (world 0 0 (λ _. 0) (λ _. []) [] words) 0 u) (some-injective (receives places places 0 [] []) v e)
+    first : (id : ℕ) (v : View) → get_elem? (receives places places 0 [] [] ∷ []) id ≡ some v → Agrees places (world 0 0 (λ _. 0) (λ _. []) [] words) id v
+    first zero v e = subst (λ (u : View). Agrees places (world 0 0 (λ _. 0) (λ _. []) [] words) 0 u) (some-injective (receives places places 0 [] []) v e)
         ((λ _. record { reader = refl; made = refl; places_are = refl; got = ([], refl); stored = λ k lt. absurd (omega arith); few = omega arith; clocks = λ k lt. absurd (omega arith) }), tt)
     first (suc id) v e = absurd (some-ne-none v (sym e))

@@ -5,7 +5,7 @@ use Rattle.msc_fifo.specs.declared.claim.Claim.{Claim}
 use Rattle.msc_fifo.specs.declared.rule.View.{View}
 use Rattle.msc_fifo.specs.Claims.{claim, is_message}
 use Rattle.msc_fifo.specs.World.{Each}
-use Rattle.msc_fifo.specs.Views.{sends, resting, offers_of, left_of, IsProper}
+use Rattle.msc_fifo.specs.Views.{outlet_view, resting, offers_of, left_of, IsProper}
 use Rattle.msc_fifo.specs.Moves.{after_offer, after_claim, after_date, after_show, after_store}
 use Rattle.msc_fifo.proofs.LogLemmas.{each-append}
 
@@ -30,24 +30,24 @@ offers-mark (c ∷ claims) k i = cond-both (is_message c.entry) c.offer (offers_
 
 -- after a message the outlet is at rest again, with one message, one claim and one offer more
 pub sent : (p quota i m k o n : ℕ) (put after : List ℕ) (claims more : List Claim) (w : View) → length put < quota → after ≡ put ++ m ∷ [] → more ≡ claims ++ claim k (Message i m) o n ∷ []
-    → w ≡ sends (left_of quota put false - 1) (after_store (after_show n (after_date n (after_claim k (Message i m) (after_offer o (resting p i put false claims))))))
-    → w ≡ sends (left_of quota after false) (resting p i after false more)
+    → w ≡ outlet_view (left_of quota put false - 1) (after_store (after_show n (after_date n (after_claim k (Message i m) (after_offer o (resting p i put false claims))))))
+    → w ≡ outlet_view (left_of quota after false) (resting p i after false more)
 sent p quota i m k o n put after claims more w lt push push' now =
     let len : length (put ++ m ∷ []) ≡ length put + 1 = length-append put (m ∷ []) in
     let room : left_of quota put false - 1 ≡ left_of quota (put ++ m ∷ []) false = omega arith in
     let offers = offers-message claims k i m o n in
-    now ∙ (λ j. sends (room j) record { from = i; places = p; put = put ++ m ∷ []; closed = false; claims = claims ++ claim k (Message i m) o n ∷ []; pending = []; offers = sym offers j; ready = 0; shown = 0 })
-    ∙ (λ j. sends (left_of quota (sym push j) false) (resting p i (sym push j) false (sym push' j)))
+    now ∙ (λ j. outlet_view (room j) record { from = i; places = p; put = put ++ m ∷ []; closed = false; claims = claims ++ claim k (Message i m) o n ∷ []; pending = []; offers = sym offers j; ready = 0; shown = 0 })
+    ∙ (λ j. outlet_view (left_of quota (sym push j) false) (resting p i (sym push j) false (sym push' j)))
 
 -- after the end mark the outlet is at rest again, closed, with one claim more
 pub ended : (p quota i k : ℕ) (put : List ℕ) (claims more : List Claim) (w : View) → more ≡ claims ++ claim k (Ended i) 0 0 ∷ []
-    → w ≡ sends (left_of quota put false - 1) (after_store (after_claim k (Ended i) (resting p i put false claims)))
-    → w ≡ sends (left_of quota put true) (resting p i put true more)
+    → w ≡ outlet_view (left_of quota put false - 1) (after_store (after_claim k (Ended i) (resting p i put false claims)))
+    → w ≡ outlet_view (left_of quota put true) (resting p i put true more)
 ended p quota i k put claims more w push' now =
     let room : left_of quota put false - 1 ≡ left_of quota put true = omega arith in
     let offers = offers-mark claims k i in
-    now ∙ (λ j. sends (room j) record { from = i; places = p; put = put; closed = true; claims = claims ++ claim k (Ended i) 0 0 ∷ []; pending = []; offers = sym offers j; ready = 0; shown = 0 })
-    ∙ (λ j. sends (left_of quota put true) (resting p i put true (sym push' j)))
+    now ∙ (λ j. outlet_view (room j) record { from = i; places = p; put = put; closed = true; claims = claims ++ claim k (Ended i) 0 0 ∷ []; pending = []; offers = sym offers j; ready = 0; shown = 0 })
+    ∙ (λ j. outlet_view (left_of quota put true) (resting p i put true (sym push' j)))
 
 -- the claim of a message with an offer that its clock covers is proper
 pub proper_more : (claims more : List Claim) (k i m o n : ℕ) → more ≡ claims ++ claim k (Message i m) o n ∷ [] → 0 < o → o ≤ n → Each IsProper claims → Each IsProper more

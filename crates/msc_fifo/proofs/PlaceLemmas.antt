@@ -104,9 +104,6 @@ offer_among (c ∷ cs) k n at = both (is_message c.entry) refl at (λ j h. let r
         hit (suc k) h more = more k h
     both false e h more = more k h
 
-is_of : ℕ → OutletState → Bool
-is_of i o = o.sender == i
-
 -- a choice that is false counts nothing
 cond-zero : (b : Bool) (n : ℕ) → b ≡ false → cond {A = ℕ} b 1 0 + n ≡ n
 cond-zero true n e = absurd (true≢false e)

@@ -10,7 +10,7 @@ use Rattle.msc_fifo.specs.Claims.{claim}
 use Rattle.msc_fifo.specs.Entries.{sender_of, messages_of, has_ended, IsOrderly}
 use Rattle.msc_fifo.specs.Settlement.{IsAmong}
 use Rattle.msc_fifo.specs.World.{Each, Slot, spot_of, entries, own, code, IsSmall, Covers}
-use Rattle.msc_fifo.specs.Views.{sends, resting}
+use Rattle.msc_fifo.specs.Views.{outlet_view, resting}
 
 -- what a seat knows and holds; it never holds a slot
 abbrev pub Seated : Type 0
@@ -109,7 +109,7 @@ SettlesIt st m found m' = (m' ≡ m) × Told m.0 found
 
 -- the view of an open outlet at rest, which may still claim a place, and the entry is its sender's
 abbrev pub MayClaim : ℕ → View → Entry → Type 0
-MayClaim places v e = (room : ℕ) × (i : ℕ) × (put : List ℕ) × (claims : List Claim) × (v ≡ sends room (resting places i put false claims)) × (0 < room) × (sender_of e ≡ i)
+MayClaim places v e = (room : ℕ) × (i : ℕ) × (put : List ℕ) × (claims : List Claim) × (v ≡ outlet_view room (resting places i put false claims)) × (0 < room) × (sender_of e ≡ i)
 
 -- what is known of a sender once it has put a message with its offer, at a place with a clock
 abbrev pub after_put : Entry → ℕ → ℕ → ℕ → Sender → Sender
@@ -121,4 +121,4 @@ after_mark e place x = after_store (after_claim place e x)
 
 -- the view of an open outlet before and after a claim that makes this of its sender
 abbrev pub Makes : ℕ → (Sender → Sender) → View → View → Type 0
-Makes places f v w = (room : ℕ) (i : ℕ) (put : List ℕ) (claims : List Claim) → v ≡ sends room (resting places i put false claims) → w ≡ sends (room - 1) (f (resting places i put false claims))
+Makes places f v w = (room : ℕ) (i : ℕ) (put : List ℕ) (claims : List Claim) → v ≡ outlet_view room (resting places i put false claims) → w ≡ outlet_view (room - 1) (f (resting places i put false claims))

@@ -13,7 +13,7 @@ use Rattle.msc_fifo.specs.declared.rule.View.{View}
 use Rattle.msc_fifo.specs.Claims.{is_message}
 use Rattle.msc_fifo.specs.Entries.{sender_of, messages_of, has_ended, IsOrderly}
 use Rattle.msc_fifo.specs.Identity.{QueueId}
-use Rattle.msc_fifo.specs.World.{Each, Slot, slot, spot_of, entries, own, World, world, Offered, Holds, IsDated, IsStored}
+use Rattle.msc_fifo.specs.World.{most_places, Each, Slot, slot, spot_of, entries, own, World, world, Offered, Holds, IsDated, IsStored}
 
 -- the claim isn't stored yet
 pub record IsPending (w : World) (x : Sender) (c : Claim) : Type 0 where
@@ -48,8 +48,8 @@ pub record IsReceiver (places : ℕ) (w : World) (id : ℕ) (v : View) : Type 0 
   pub clocks : (k : ℕ) → k < length v.clocks → w.clk k ≡ slice_index v.clocks k
 
 -- what a seat knows is so
-abbrev pub Fits : ℕ → World → ℕ → View → Type 0
-Fits places w id v = (v.gets ≡ true → IsReceiver places w id v) × Each (IsSender places w id) v.senders
+abbrev pub Agrees : ℕ → World → ℕ → View → Type 0
+Agrees places w id v = (v.gets ≡ true → IsReceiver places w id v) × Each (IsSender places w id) v.senders
 
 -- what holds whatever the seats know
 pub record Sound (places : ℕ) (w : World) : Type 0 where
@@ -72,11 +72,11 @@ pub record Kept (places : ℕ) (s : State (Unit {0}) View) : Type 0 where
   pub offered : ℕ → List ℕ
   pub log : List Slot
   pub wide : length s.words ≡ places + places + 2
-  pub small : places ≤ 1056
+  pub small : places ≤ most_places
   pub claimed : slice_index s.words 0 ≡ length log
   pub rooms : rooms_of s.views + length log ≡ places
   pub sound : Sound places (world reader made seat offered log s.words)
-  pub each : (id : ℕ) (v : View) → get_elem? s.views id ≡ some v → Fits places (world reader made seat offered log s.words) id v
+  pub each : (id : ℕ) (v : View) → get_elem? s.views id ≡ some v → Agrees places (world reader made seat offered log s.words) id v
 
 -- the inlet has made some senders, has got these entries and clocks, and has places to give away
 abbrev pub receives : ℕ → ℕ → ℕ → List Entry → List ℕ → View
@@ -87,8 +87,8 @@ abbrev pub new_sender : ℕ → ℕ → Sender
 new_sender places i = record { from = i; places = places; put = []; closed = false; claims = []; pending = []; offers = []; ready = 0; shown = 0 }
 
 -- an outlet that may claim so many places more
-abbrev pub sends : ℕ → Sender → View
-sends room x = record { gets = false; made = 0; places = 0; got = []; clocks = []; room = room; senders = x ∷ [] }
+abbrev pub outlet_view : ℕ → Sender → View
+outlet_view room x = record { gets = false; made = 0; places = 0; got = []; clocks = []; room = room; senders = x ∷ [] }
 
 -- the inlet has learned of an outlet
 abbrev pub beside : View → View → View
@@ -134,7 +134,7 @@ knows t = t.me.0
 
 -- the ticket is of this row, whose key is the number of its places
 abbrev pub IsTicketOf : {P A : Type 0} → Table (Unit {0}) View ℕ P A → Ticket → Type 0
-IsTicketOf row t = (t.table_id ≡ row.shared.table_id) × (t.me.1 ≡ []) × (row.shared.table_id.words ≡ row.shared.key + row.shared.key + 2) × (row.shared.key ≤ 1056)
+IsTicketOf row t = (t.table_id ≡ row.shared.table_id) × (t.me.1 ≡ []) × (row.shared.table_id.words ≡ row.shared.key + row.shared.key + 2) × (row.shared.key ≤ most_places)
 
 -- the queue of a row
 abbrev pub queue_of : {P A : Type 0} → Table (Unit {0}) View ℕ P A → QueueId

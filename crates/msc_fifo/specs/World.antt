@@ -2,6 +2,7 @@
 -- word counts the places that were claimed, the clock word is the greatest offer, and each place has
 -- a word for its entry and one for its clock, 0 while there is none.
 use Rattle.std.specs.Prelude.{◌≡◌, ◌≢◌, ◌⊎◌, ℕ, ◌+◌, ◌*◌, ◌<◌, ◌≤◌, ◌==◌, true, if◌then◌else◌, List, [], ◌∷◌, map, slice_index, slice_get, Some}
+use Rattle.msc_fifo.specs.declared.TheConstants.{QUOTA_LIMIT, SENDER_LIMIT}
 use Rattle.msc_fifo.specs.declared.entry.Entry.{Entry}
 use Rattle.msc_fifo.specs.declared.entry.Entry.TheVariants.{Message, Ended}
 use Rattle.msc_fifo.specs.declared.claim.Claim.{Claim}
@@ -21,9 +22,9 @@ pub record Slot : Type 0 where
 -- a place, and what was claimed there
 pub record Spot : Type 0 where
   pub place : ℕ
-  -- a slot of this entry and offer
   pub slot : Slot
 
+-- a slot of this entry and offer
 abbrev pub slot : Entry → ℕ → Slot
 slot e n = record { entry = e; offer = n }
 
@@ -44,15 +45,19 @@ abbrev pub own : ℕ → ℕ → List Slot → List Spot
 own i k [] = []
 own i k (x ∷ xs) = if sender_of x.entry == i then (spot k x ∷ own i (k + 1) xs) else own i (k + 1) xs
 
+-- the most places that a queue has: one for each message in all quotas, and one for each end mark
+abbrev pub most_places : ℕ
+most_places = QUOTA_LIMIT + SENDER_LIMIT
+
 -- the word of an entry
 abbrev pub code : Entry → ℕ
 code (Message i m) = 1 + 2 * (i * 4294967296 + m)
 code (Ended i) = 2 * (i + 1)
 
--- the entry of one of 32 senders, with a message of 32 bits
+-- the entry of a sender within the limit, with a message of 32 bits
 abbrev pub IsSmall : Entry → Type 0
-IsSmall (Message i m) = (i < 32) × (m < 4294967296)
-IsSmall (Ended i) = i < 32
+IsSmall (Message i m) = (i < SENDER_LIMIT) × (m < 4294967296)
+IsSmall (Ended i) = i < SENDER_LIMIT
 
 -- All that the rule speaks of: the inlet's seat, the senders that were made with their seats and all
 -- their offers, what was claimed by places, the words of the places, and the clock word

@@ -106,7 +106,7 @@ fn outlet<D: Due>(
     requires view { knows ticket.old
         ≡ receives (arc_value row.now).shared.key (knows ticket.old).room number [] [] }
     requires enough { quota + 1 ≤ (knows ticket.old).room }
-    requires number { number < 32 }
+    requires number { number < SENDER_LIMIT }
     ensures seat { IsTicketOf (arc_value row.now) ticket.new }
     ensures view { OnOk result (knows ticket.new ≡ receives (arc_value row.now).shared.key
         ((knows ticket.old).room - (quota + 1)) (number + 1) [] []) }

@@ -9,10 +9,11 @@ ghost use Rattle.std.specs.Arc.{arc_value};
 ghost use Rattle.msc_fifo.specs.declared.entry.Entry.TheVariants as entry;
 ghost use Rattle.msc_fifo.specs.Claims.{claim};
 ghost use Rattle.msc_fifo.specs.Ends.{new_outlet, HasRoom, IsSameOutlet, IsSpent};
-ghost use Rattle.msc_fifo.specs.Views.{sends, new_sender, IsTicketOf, knows};
+ghost use Rattle.msc_fifo.specs.Views.{outlet_view, new_sender, IsTicketOf, knows};
 ghost use Rattle.msc_fifo.specs.Settling.{HandsOver};
 ghost use Rattle.msc_fifo.specs.Parts.{IsPartOf};
 
+use crate::SENDER_LIMIT;
 use crate::accounts::Room;
 use crate::entry::Entry;
 use crate::fault::SendFault;
@@ -49,7 +50,8 @@ impl Model for Outlet {
     ghost use Rattle.std.specs.Prelude.{◌≡◌, ◌<◌, ◌≤◌, vec_len, vec_capacity};
     ghost use Rattle.std.specs.Arc.{arc_value};
     ghost use Rattle.msc_fifo.specs.World.{Each};
-    ghost use Rattle.msc_fifo.specs.Views.{claims_in, sends, resting, IsProper, IsTicketOf, knows, left_of};
+    ghost use Rattle.msc_fifo.specs.declared.TheConstants.{SENDER_LIMIT};
+    ghost use Rattle.msc_fifo.specs.Views.{claims_in, outlet_view, resting, IsProper, IsTicketOf, knows, left_of};
     ghost use Rattle.msc_fifo.specs.Ends.{OutletState};
 
     ghost Value = { OutletState };
@@ -65,13 +67,13 @@ impl Model for Outlet {
 
     ghost invariant = { λ o.
         IsTicketOf (arc_value o.row) o.ticket
-        × (knows o.ticket ≡ sends (left_of o.quota o.put.items o.closed) (resting
+        × (knows o.ticket ≡ outlet_view (left_of o.quota o.put.items o.closed) (resting
         (arc_value o.row).shared.key o.sender o.put.items o.closed
         (claims_in (knows o.ticket).senders)))
         × (vec_len o.put ≤ o.quota)
         × (o.quota ≤ vec_capacity o.put)
         × Each IsProper (claims_in (knows o.ticket).senders)
-        × (o.sender < 32) };
+        × (o.sender < SENDER_LIMIT) };
 }
 
 impl Outlet {
@@ -79,8 +81,8 @@ impl Outlet {
     pub(crate) fn new(row: Shelf, ticket: Ticket, sender: u32, quota: u32, put: Vec<u32>) -> Outlet
         requires seat { IsTicketOf (arc_value row) ticket }
         requires view { knows ticket
-            ≡ sends (quota + 1) (new_sender (arc_value row).shared.key sender) }
-        requires sender { sender < 32 }
+            ≡ outlet_view (quota + 1) (new_sender (arc_value row).shared.key sender) }
+        requires sender { sender < SENDER_LIMIT }
         requires empty { put.items ≡ [] }
         requires room { quota ≤ vec_capacity put }
         ensures { result ≡ new_outlet (record { table = ticket.table_id }) sender quota }

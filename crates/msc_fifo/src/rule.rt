@@ -191,11 +191,11 @@ pub struct NextSender<D> {
 
 impl<D: Due> Split<View> for NextSender<D> {
     ghost use Rattle.std.specs.Prelude.{◌+◌, ◌-◌};
-    ghost use Rattle.msc_fifo.specs.Views.{sends, new_sender, receives};
+    ghost use Rattle.msc_fifo.specs.Views.{outlet_view, new_sender, receives};
 
     ghost left = { λ v. receives v.places (v.room - D.room) (v.made + 1) v.got v.clocks };
 
-    ghost right = { λ v. sends D.room (new_sender v.places v.made) };
+    ghost right = { λ v. outlet_view D.room (new_sender v.places v.made) };
 }
 
 /// The inlet takes in what an outlet knows.

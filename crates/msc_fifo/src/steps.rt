@@ -4,7 +4,7 @@ ghost use Rattle.std.specs.Prelude.{◌≡◌, ◌+◌, ◌-◌, ◌<◌, ◌≤
 ghost use Rattle.msc_fifo.specs.declared.rule.Sender.{Sender};
 ghost use Rattle.msc_fifo.specs.Claims.{is_message};
 ghost use Rattle.msc_fifo.specs.World.{IsSmall, code};
-ghost use Rattle.msc_fifo.specs.Views.{IsTicketOf, beside, knows, new_sender, receives, sends};
+ghost use Rattle.msc_fifo.specs.Views.{IsTicketOf, beside, knows, new_sender, receives, outlet_view};
 ghost use Rattle.msc_fifo.specs.declared.claim.Claim.{Claim};
 ghost use Rattle.msc_fifo.specs.Settlement.{place_of};
 ghost use Rattle.msc_fifo.specs.Moves.{IsClaimOf, Makes, MayClaim, Takes, Told, after_mark, after_put};
@@ -100,7 +100,7 @@ pub fn deal<D: Due>(row: &Row, ticket: &mut Ticket) -> Ticket
     ensures view { knows ticket.new ≡ receives (knows ticket.old).places
         ((knows ticket.old).room - D.room) ((knows ticket.old).made + 1)
         (knows ticket.old).got (knows ticket.old).clocks }
-    ensures next { knows result ≡ sends D.room
+    ensures next { knows result ≡ outlet_view D.room
         (new_sender (knows ticket.old).places (knows ticket.old).made) }
 {
     row.shared.split_seat::<NextSender<D>>(ticket)
@@ -111,7 +111,7 @@ pub fn join(row: &Row, ticket: &mut Ticket, own: Ticket)
     requires seat { IsTicketOf row.now ticket.old }
     requires own { IsTicketOf row.now own }
     requires inlet { (knows ticket.old).gets ≡ true }
-    requires outlet { (room : ℕ) × (x : Sender) × (knows own ≡ sends room x) }
+    requires outlet { (room : ℕ) × (x : Sender) × (knows own ≡ outlet_view room x) }
     ensures seat { IsTicketOf row.now ticket.new }
     ensures view { knows ticket.new ≡ beside (knows ticket.old) (knows own) }
 {

@@ -3,8 +3,8 @@ use Rattle.std.proofs.Common.{◌≡◌, ℕ, ◌<◌, true, false, inl, inr, eq
 use Rattle.std.proofs.lemmas.Bool.{eqb-true, or_cases, false_from_ne_true}
 use Rattle.std.specs.List.{concat}
 use Rattle.msc_chart.specs.Lists.{occurs, Steps}
-use Rattle.msc_chart.proofs.ListLemmas.{clash, occurs-append, occurs-left, occurs-push}
-use Rattle.msc_gather.proofs.Once.{IsNew, occurs-head, occurs-tail, occurs-right, occurs-cases}
+use Rattle.msc_chart.proofs.ListLemmas.{clash, occurs-append, occurs-left, occurs-push, occurs-head, occurs-tail, occurs-right}
+use Rattle.msc_gather.proofs.Once.{IsNew, occurs-cases}
 
 -- nothing in the list is there twice, from its head
 abbrev pub Apart : List ℕ → Type 0
@@ -32,7 +32,7 @@ pub once_of_apart : (past xs : List ℕ) → Apart xs
 unfolding occurs
 once_of_apart past [] apart h = tt
 once_of_apart past (x ∷ xs) apart h = (
-  h x (occurs-head xs x),
+  h x (occurs-head x xs),
   once_of_apart (past ++ x ∷ []) xs apart.1 (λ e there. false_from_ne_true _ (λ old.
       elim (or_cases (eqb x e) false
       (occurs-cases past (x ∷ []) e old (h e (occurs-tail x xs e there)))) [
@@ -50,7 +50,7 @@ Apart-append (x ∷ xs) ys h k other = (
   false_from_ne_true _
       (λ there. elim (or_cases (occurs xs x) (occurs ys x) (sym (occurs-append xs ys x) ∙ there)) [
         | inl a ↦ clash a h.0
-        | inr b ↦ other x (occurs-head xs x) b
+        | inr b ↦ other x (occurs-head x xs) b
       ]),
   Apart-append xs ys h.1 k (λ e a b. other e (occurs-tail x xs e a) b),
 )

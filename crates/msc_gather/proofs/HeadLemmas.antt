@@ -4,10 +4,10 @@ use Rattle.std.proofs.lemmas.Bool.{eqb-true, or_cases, or_left, or_right, cases_
 use Rattle.msc_chart.specs.Orders.{WiredChart}
 use Rattle.msc_chart.specs.Charts.{line}
 use Rattle.msc_chart.specs.Lists.{Steps, occurs, until}
-use Rattle.msc_chart.proofs.ListLemmas.{clash, step_at, until-within, occurs-left, occurs-push}
+use Rattle.msc_chart.proofs.ListLemmas.{clash, step_at, until-within, occurs-left, occurs-push, occurs-head, occurs-tail}
 use Rattle.msc_gather.specs.Schedule.{log_of, AreLogs, goes_first, crosses, MayFollow}
-use Rattle.msc_gather.specs.Heads.{IsLink, IsBehind, IsFront}
-use Rattle.msc_gather.proofs.Once.{IsNew, until-head, until_passes, until_deeper, occurs-head, occurs-tail}
+use Rattle.msc_gather.specs.Heads.{IsLink, IsLinkBehind, IsLogFront}
+use Rattle.msc_gather.proofs.Once.{IsNew, until-head, until_passes, until_deeper}
 
 -- what crosses comes first
 pub crosses_goes : (chart : WiredChart) (logs : List (List ℕ)) (x y : ℕ)
@@ -31,7 +31,7 @@ log_goes chart logs x y h = or_left _ _ h
 -- what crosses to an event has occurred where its link has
 pub link_tells : (chart : WiredChart) (logs : List (List ℕ)) (past : List ℕ) (x : ℕ)
     (link : Option ℕ) → Steps (MayFollow chart logs) [] past → IsLink chart logs x link
-    → IsBehind past link → (z : ℕ) → crosses chart logs z x ≡ true → occurs past z ≡ true
+    → IsLinkBehind past link → (z : ℕ) → crosses chart logs z x ≡ true → occurs past z ≡ true
 link_tells chart logs past x None steps link done z h = absurd (link z h)
 link_tells chart logs past x (Some y) steps link done z h =
     elim (link.1 z h) [
@@ -44,7 +44,7 @@ link_tells chart logs past x (Some y) steps link done z h =
 -- and only there
 pub link_done : (chart : WiredChart) (logs : List (List ℕ)) (past : List ℕ) (x : ℕ)
     (link : Option ℕ) → IsLink chart logs x link
-    → ((z : ℕ) → crosses chart logs z x ≡ true → occurs past z ≡ true) → IsBehind past link
+    → ((z : ℕ) → crosses chart logs z x ≡ true → occurs past z ≡ true) → IsLinkBehind past link
 link_done chart logs past x None link all = tt
 link_done chart logs past x (Some y) link all = all y link.0
 
@@ -90,7 +90,7 @@ before_at past (x ∷ xs) (suc k) (suc j) once below less =
 -- what stands at a place of a list is in the list
 pub item_there : (xs : List ℕ) (i : ℕ) → i < length xs → occurs xs (get_or xs i 0) ≡ true
 item_there [] i h = let f : ⊥ = omega arith in absurd f
-item_there (x ∷ xs) zero h = occurs-head xs x
+item_there (x ∷ xs) zero h = occurs-head x xs
 item_there (x ∷ xs) (suc i) h = occurs-tail x xs (get_or xs i 0) (item_there xs i (omega arith))
 
 -- what stands before another event is the head, or stands before it behind the head
@@ -124,7 +124,7 @@ module _ (chart : WiredChart) (instances : ℕ) (logs : List (List ℕ))
     (steps : Steps (MayFollow chart logs) [] past) where
   -- an event that may follow is the first that is left in its log
   pub head_of_follower : (x k : ℕ) → line chart.events x < instances
-      → IsFront past (log_of chart logs x) k → MayFollow chart logs past x
+      → IsLogFront past (log_of chart logs x) k → MayFollow chart logs past x
       → (k < length (log_of chart logs x)) × (get_or (log_of chart logs x) k 0 ≡ x)
   head_of_follower x k seat front may =
       let log : List ℕ = log_of chart logs x in
@@ -149,10 +149,10 @@ module _ (chart : WiredChart) (instances : ℕ) (logs : List (List ℕ))
       ]
 
   -- the first that is left in its log may follow exactly where its link has occurred
-  pub head_follows : (i k : ℕ) (link : Option ℕ) → i < instances → IsFront past (get_or logs i []) k
+  pub head_follows : (i k : ℕ) (link : Option ℕ) → i < instances → IsLogFront past (get_or logs i []) k
       → k < length (get_or logs i [])
       → IsLink chart logs (get_or (get_or logs i []) k 0) link
-      → IsBehind past link ↔ MayFollow chart logs past (get_or (get_or logs i []) k 0)
+      → IsLinkBehind past link ↔ MayFollow chart logs past (get_or (get_or logs i []) k 0)
   head_follows i k link seat front below is_link =
       let log : List ℕ = get_or logs i [] in
       let x : ℕ = get_or log k 0 in

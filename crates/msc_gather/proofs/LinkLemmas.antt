@@ -7,14 +7,14 @@ use Rattle.std.proofs.lemmas.List.Elements.{filter-append}
 use Rattle.msc_chart.specs.Charts.{line, partner, is_output, is_input, is_local}
 use Rattle.msc_chart.specs.Lists.{occurs, until, IsOnce}
 use Rattle.msc_chart.specs.Orders.{WiredChart, queue}
-use Rattle.msc_chart.proofs.ListLemmas.{clash}
+use Rattle.msc_chart.proofs.ListLemmas.{clash, occurs-head, occurs-tail}
 use Rattle.msc_chart.proofs.Drawn.{not_both, partner_of_output, partner_of_input, output_not_local, input_not_local}
 use Rattle.msc_gather.specs.Schedule.{log_of, is_logged, AreLogs, IsSeated, crosses}
 use Rattle.msc_gather.specs.Heads.{IsLink}
 use Rattle.msc_gather.specs.Links.{IsLastTaken, HoldsTaken}
 use Rattle.msc_gather.specs.Marks.{is_marked, AreMarks}
 use Rattle.msc_chart.proofs.KindTests.{output_below, input_below}
-use Rattle.msc_gather.proofs.Once.{until-until, until-append-new, occurs-head, occurs-tail}
+use Rattle.msc_gather.proofs.Once.{until-until, until-append-new}
 use Rattle.msc_gather.proofs.ComesFirst.{crosses_sent, crosses_queued, crosses_cases}
 use Rattle.msc_gather.proofs.Filters.{until-filter}
 use Rattle.msc_gather.proofs.Apart.{apart_of_once, once_of_apart, Apart-concat, of_concat, in_concat}
@@ -25,7 +25,7 @@ filter_all : (p : ℕ → Bool) (xs : List ℕ) → ((e : ℕ) → occurs xs e �
     → filter p xs ≡ xs
 filter_all p [] all = refl
 filter_all p (x ∷ xs) all =
-    rw (all x (occurs-head xs x))
+    rw (all x (occurs-head x xs))
     (ap (λ l. x ∷ l) (filter_all p xs (λ e h. all e (occurs-tail x xs e h))))
 
 -- and where none passes, the filter is empty
@@ -33,7 +33,7 @@ filter_none : (p : ℕ → Bool) (xs : List ℕ) → ((e : ℕ) → occurs xs e 
     → filter p xs ≡ []
 filter_none p [] none = refl
 filter_none p (x ∷ xs) none =
-    rw (none x (occurs-head xs x)) (filter_none p xs (λ e h. none e (occurs-tail x xs e h)))
+    rw (none x (occurs-head x xs)) (filter_none p xs (λ e h. none e (occurs-tail x xs e h)))
 
 -- of logs of which one passes and no other does, joined, that one passes
 filter_concat : (p : ℕ → Bool) (logs : List (List ℕ)) (i : ℕ) → i < length logs

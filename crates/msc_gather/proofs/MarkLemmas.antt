@@ -9,7 +9,7 @@ use Rattle.msc_chart.specs.Orders.{WiredChart}
 use Rattle.msc_chart.proofs.ListLemmas.{clash, occurs-push, occurs_other, step_at, Steps-map, Steps-push, Steps-parts}
 use Rattle.msc_chart.proofs.Drawn.{before_from, before_parts}
 use Rattle.msc_gather.specs.Schedule.{log_of, AreLogs, IsSeated}
-use Rattle.msc_gather.specs.Marks.{MayBeLogged, IsLineLog, AreLineLogs, is_marked, MayBeMarked, IsFirstOpen, AreMarkedBeside, IsLineFrom, IsUnmarked, AreMarkedTo, AreMarks, HasOutput}
+use Rattle.msc_gather.specs.Marks.{MayComeOnLine, IsLineLog, AreLineLogs, is_marked, MayBeMarked, IsFirstOpen, AreMarkedBeside, IsLineFrom, IsUnmarked, AreMarkedTo, AreMarks, HasOutput}
 use Rattle.msc_gather.proofs.Once.{IsNew, until-self, steps_from}
 
 -- where the first event of a line that is not marked is not drawn before e, all that is drawn before e
@@ -77,7 +77,7 @@ module _ {chart : WiredChart} {i start : ℕ} {log : List ℕ} {old now : List B
       ∙ ap (λ b. b || occurs (take k log) e) (open_line e below here)
 
   -- so what may be marked may be logged
-  pub may_log : (e : ℕ) → MayBeMarked chart i now e → MayBeLogged chart i (take k log) e
+  pub may_log : (e : ℕ) → MayBeMarked chart i now e → MayComeOnLine chart i (take k log) e
   may_log e may = record {
     event = may.event;
     on_line = may.on_line;
@@ -88,7 +88,7 @@ module _ {chart : WiredChart} {i start : ℕ} {log : List ℕ} {old now : List B
   }
 
   -- and the other way round
-  pub may_mark : (e : ℕ) → MayBeLogged chart i (take k log) e → MayBeMarked chart i now e
+  pub may_mark : (e : ℕ) → MayComeOnLine chart i (take k log) e → MayBeMarked chart i now e
   may_mark e may = record {
     event = may.event;
     on_line = may.on_line;
@@ -103,8 +103,8 @@ module _ {chart : WiredChart} {i start : ℕ} {log : List ℕ} {old now : List B
       → IsLineLog chart i log → ⊥
   marking_fails below never steps =
       let split = split_at log k below in
-      let both = Steps-parts (MayBeLogged chart i) [] (take k log) (get_or log k 0 ∷ split.0)
-      (subst (λ (l : List ℕ). Steps (MayBeLogged chart i) [] l) split.1 steps) in
+      let both = Steps-parts (MayComeOnLine chart i) [] (take k log) (get_or log k 0 ∷ split.0)
+      (subst (λ (l : List ℕ). Steps (MayComeOnLine chart i) [] l) split.1 steps) in
       never (may_mark (get_or log k 0) both.1.0)
 
   -- the next event is marked
@@ -141,9 +141,9 @@ module _ {chart : WiredChart} {i start : ℕ} {log : List ℕ} {old now : List B
   marking_more next below may first =
       let e : ℕ = get_or log k 0 in
       record {
-        steps = subst (λ (l : List ℕ). Steps (MayBeLogged chart i) [] l)
+        steps = subst (λ (l : List ℕ). Steps (MayComeOnLine chart i) [] l)
             (sym (take_more log k 0 below))
-            (Steps-push (MayBeLogged chart i) (take k log) e m.steps (may_log e may));
+            (Steps-push (MayComeOnLine chart i) (take k log) e m.steps (may_log e may));
         marked = marked_next below may;
         front = record {
           later = omega (arith, m.front.later, first.later);
@@ -186,7 +186,7 @@ marks_begin chart logs marks fresh = record {
 line_log_known : (chart : WiredChart) (i : ℕ) (log : List ℕ) (e : ℕ) → IsLineLog chart i log
     → occurs log e ≡ true → line chart.events e ≡ i
 line_log_known chart i log e steps there =
-    (step_at (MayBeLogged chart i) log e steps there).1.on_line
+    (step_at (MayComeOnLine chart i) log e steps there).1.on_line
 
 -- and then the next log
 pub marks_more : {chart : WiredChart} {logs : List (List ℕ)} {n : ℕ} {old new : List Bool}
@@ -231,12 +231,12 @@ pub logs_from : {chart : WiredChart} {n : ℕ} {logs : List (List ℕ)} {marks :
     → ((r : ℕ) → r < length chart.events → HasOutput chart marks r) → AreLogs chart n logs
 logs_from {chart} {n} {logs} {marks} many seated lines m outputs =
     let at : (i e : ℕ) → i < n → occurs (get_or logs i []) e ≡ true
-    → MayBeLogged chart i (until (get_or logs i []) e) e = λ i e below there.
-    (step_at (MayBeLogged chart i) (get_or logs i []) e (lines i below) there).1 in
+    → MayComeOnLine chart i (until (get_or logs i []) e) e = λ i e below there.
+    (step_at (MayComeOnLine chart i) (get_or logs i []) e (lines i below) there).1 in
     record {
       as_many = many;
       known = λ i e below there. let may = at i e below there in (may.event, may.on_line);
-      once = λ i below. Steps-map (MayBeLogged chart i) IsNew (λ past x may. may.new) []
+      once = λ i below. Steps-map (MayComeOnLine chart i) IsNew (λ past x may. may.new) []
           (get_or logs i []) (lines i below);
       drawn = λ s x below logged controlled b.
           (at (line chart.events s) s (seated.on_lines s below) logged).drawn controlled x b;
@@ -250,7 +250,7 @@ pub line_logs_of : {chart : WiredChart} {n : ℕ} {logs : List (List ℕ)} → A
     → AreLineLogs chart n logs
 line_logs_of {chart} {n} {logs} sound i below =
     let log : List ℕ = get_or logs i [] in
-    steps_from (MayBeLogged chart i) [] log (sound.once i below) (λ e there.
+    steps_from (MayComeOnLine chart i) [] log (sound.once i below) (λ e there.
     let known = sound.known i e below there in
     let same : log_of chart logs e ≡ log = ap (λ (j : ℕ). get_or logs j []) known.1 in
     record {

@@ -8,7 +8,7 @@ use Rattle.msc_chart.specs.Orders.{WiredChart}
 use Rattle.msc_chart.proofs.ListLemmas.{by_test, clash, occurs-left, occurs-push, Steps-push}
 use Rattle.msc_chart.proofs.Numbers.{count_below}
 use Rattle.msc_gather.specs.Schedule.{log_of, is_logged, AreLogs, IsSeated, FollowsLeast}
-use Rattle.msc_gather.specs.Heads.{IsFront}
+use Rattle.msc_gather.specs.Heads.{IsLogFront}
 use Rattle.msc_gather.specs.Merges.{IsMerging}
 use Rattle.msc_chart.proofs.Left.{is_left, left_less}
 use Rattle.msc_gather.proofs.Once.{until-self, occurs-cases}
@@ -39,8 +39,8 @@ merge_begins chart logs past heads done n many p h d = record {
 }
 
 -- the front of the log of an event that follows grows
-front_more : (past log : List ℕ) (k x : ℕ) → IsFront past log k → IsOnce log → k < length log
-    → get_or log k 0 ≡ x → IsFront (past ++ x ∷ []) log (k + 1)
+front_more : (past log : List ℕ) (k x : ℕ) → IsLogFront past log k → IsOnce log → k < length log
+    → get_or log k 0 ≡ x → IsLogFront (past ++ x ∷ []) log (k + 1)
 front_more past log k x front once below here = record {
   within = omega arith;
   gone = λ j less. elim (cases_lt j k) [
@@ -59,8 +59,8 @@ front_more past log k x front once below here = record {
 }
 
 -- and another front stays
-front_other : (past log : List ℕ) (k x : ℕ) → IsFront past log k
-    → ((j : ℕ) → j < length log → x ≡ get_or log j 0 → ⊥) → IsFront (past ++ x ∷ []) log k
+front_other : (past log : List ℕ) (k x : ℕ) → IsLogFront past log k
+    → ((j : ℕ) → j < length log → x ≡ get_or log j 0 → ⊥) → IsLogFront (past ++ x ∷ []) log k
 front_other past log k x front apart = record {
   within = front.within;
   gone = λ j less. occurs-left past (x ∷ []) (get_or log j 0) (front.gone j less);
@@ -117,7 +117,7 @@ module _ {chart : WiredChart} {n : ℕ} {logs : List (List ℕ)} {past heads : L
               let front = front_more past (get_or logs i []) (get_or heads i 0) x
               (m.fronts i line_in) (sound.once i (seated.on_lines x follows.itself.event))
               head_there.0 head_there.1 in
-              rw at_i (subst (λ (w : ℕ). IsFront (past ++ x ∷ []) (get_or logs w [])
+              rw at_i (subst (λ (w : ℕ). IsLogFront (past ++ x ∷ []) (get_or logs w [])
               (get_or heads i 0 + 1)) (sym here) front)
           | inr other ↦
               let at_j : get_or (set heads i k) j 0 ≡ get_or heads j 0 =

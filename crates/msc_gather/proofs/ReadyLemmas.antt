@@ -6,7 +6,7 @@ use Rattle.msc_chart.specs.Lists.{Steps, occurs}
 use Rattle.msc_chart.specs.Orders.{WiredChart}
 use Rattle.msc_chart.proofs.ListLemmas.{Steps-map}
 use Rattle.msc_gather.specs.Schedule.{log_of, AreLogs, MayFollow, FollowsLeast, crosses}
-use Rattle.msc_gather.specs.Heads.{IsLink, IsBehind, IsFront}
+use Rattle.msc_gather.specs.Heads.{IsLink, IsLinkBehind, IsLogFront}
 use Rattle.msc_gather.specs.Links.{AreLinks}
 use Rattle.msc_gather.specs.Merges.{IsMerging, MayFollowOn}
 use Rattle.msc_chart.proofs.KindTests.{output_below}
@@ -36,12 +36,12 @@ module _ {chart : WiredChart} {logs : List (List ℕ)} {links : List (Option ℕ
   seat_in = let many : length logs ≡ n = sound.as_many in omega arith
 
   -- the first k events of the log are behind
-  front_logs : IsFront past (get_or logs i []) k
-  front_logs = subst (λ (j : ℕ). IsFront past (get_or logs i []) j) (sym k_is) (m.fronts i seat_in)
+  front_logs : IsLogFront past (get_or logs i []) k
+  front_logs = subst (λ (j : ℕ). IsLogFront past (get_or logs i []) j) (sym k_is) (m.fronts i seat_in)
 
   -- the same of the log that was read
-  front_here : IsFront past log k
-  front_here = subst (λ (l : List ℕ). IsFront past l k) (sym log_is) front_logs
+  front_here : IsLogFront past log k
+  front_here = subst (λ (l : List ℕ). IsLogFront past l k) (sym log_is) front_logs
 
   -- the first event that is left is an event of the line
   pub head_known : k < length log → (get_or log k 0 < length chart.events)
@@ -51,10 +51,10 @@ module _ {chart : WiredChart} {logs : List (List ℕ)} {links : List (Option ℕ
       (ap (λ l. occurs l (get_or log k 0)) (sym log_is) ∙ item_there log k below)
 
   -- it may follow exactly where its link is behind
-  told_by_link : k < length log → IsBehind past (get_or links (get_or log k 0) None)
+  told_by_link : k < length log → IsLinkBehind past (get_or links (get_or log k 0) None)
       ↔ MayFollow chart logs past (get_or log k 0)
   told_by_link below =
-      subst (λ (l : List ℕ). IsBehind past (get_or links (get_or l k 0) None)
+      subst (λ (l : List ℕ). IsLinkBehind past (get_or links (get_or l k 0) None)
       ↔ MayFollow chart logs past (get_or l k 0)) (sym log_is)
       (head_follows chart n logs sound past (schedule_steps chart logs past m.steps) i k
       (get_or links (get_or (get_or logs i []) k 0) None) seat front_logs
@@ -67,8 +67,8 @@ module _ {chart : WiredChart} {logs : List (List ℕ)} {links : List (Option ℕ
       → (k < length log) × (get_or log k 0 ≡ x)
   only_head x h =
       let same : log_of chart logs x ≡ log = ap (λ (j : ℕ). get_or logs j []) h.1 ∙ sym log_is in
-      let front : IsFront past (log_of chart logs x) k =
-      subst (λ (l : List ℕ). IsFront past l k) (sym same) front_here in
+      let front : IsLogFront past (log_of chart logs x) k =
+      subst (λ (l : List ℕ). IsLogFront past l k) (sym same) front_here in
       let on : line chart.events x < n = subst (λ (j : ℕ). j < n) (sym h.1) seat in
       let told = head_of_follower chart n logs sound past (schedule_steps chart logs past m.steps) x
       k on front h.0 in
@@ -76,19 +76,19 @@ module _ {chart : WiredChart} {logs : List (List ℕ)} {links : List (Option ℕ
 
   -- where its link is behind it may follow
   pub follows_where : (link : Option ℕ) → k < length log → get_or links (get_or log k 0) None ≡ link
-      → IsBehind past link
+      → IsLinkBehind past link
       → MayFollowOn chart logs past i (get_or log k 0)
   follows_where link below link_is behind = (
-    (told_by_link below).0 (subst (λ (o : Option ℕ). IsBehind past o) (sym link_is) behind),
+    (told_by_link below).0 (subst (λ (o : Option ℕ). IsLinkBehind past o) (sym link_is) behind),
     (head_known below).1,
   )
 
   -- where an event of the line may follow, the link is behind
   pub behind_where : (link : Option ℕ) (x : ℕ) → get_or links (get_or log k 0) None ≡ link
-      → MayFollowOn chart logs past i x → IsBehind past link
+      → MayFollowOn chart logs past i x → IsLinkBehind past link
   behind_where link x link_is h =
       let only = only_head x h in
-      subst (λ (o : Option ℕ). IsBehind past o) link_is
+      subst (λ (o : Option ℕ). IsLinkBehind past o) link_is
       ((told_by_link only.0).1
       (subst (λ (w : ℕ). MayFollow chart logs past w) (sym only.1) h.0))
 

@@ -5,12 +5,12 @@ use Rattle.msc_chart.specs.Orders.{WiredChart, queue}
 use Rattle.msc_chart.specs.Charts.{line, partner, is_output, is_input, before}
 use Rattle.msc_chart.specs.Runs.{Run, MayCome, is_waiting, state, on_line, HasLines}
 use Rattle.msc_chart.specs.Lists.{Steps, occurs, until, IsFirst}
-use Rattle.msc_chart.proofs.ListLemmas.{by_test, clash, step_at, until-within, first_occurs, before_first_fails, Steps-map}
+use Rattle.msc_chart.proofs.ListLemmas.{by_test, clash, step_at, until-within, first_occurs, before_first_fails, Steps-map, until-other}
 use Rattle.msc_chart.proofs.KindTests.{output_below}
 use Rattle.msc_chart.proofs.Waiting.{taken, waiting_from, waiting_parts}
 use Rattle.msc_chart.proofs.Drawn.{partner_of_output, partner_of_input}
 use Rattle.msc_gather.specs.Schedule.{log_of, is_logged, AreLogs, MayFollow, IsSchedule, IsSeated}
-use Rattle.msc_gather.proofs.Once.{IsNew, until-self, until-until, until-other, until-total, steps_from, Steps-map_with, Follows, same_list}
+use Rattle.msc_gather.proofs.Once.{IsNew, until-self, until-until, until-total, steps_from, Steps-map_with, Follows, same_list}
 use Rattle.msc_gather.proofs.Filters.{Steps-filter, occurs-filter, filter-passes, filter-within, until-filter, first_from}
 use Rattle.msc_gather.proofs.ComesFirst.{first_in_log, first_sent, first_queued, first_cases}
 

@@ -12,12 +12,12 @@ IsLink chart logs x (Some y) =
     × ((z : ℕ) → IsTrue (crosses chart logs z x) → (z ≡ y) ⊎ IsTrue (crosses chart logs z y))
 
 -- a link that is there is among these events
-abbrev pub IsBehind : List ℕ → Option ℕ → Type 0
-IsBehind past None = Unit {0}
-IsBehind past (Some y) = IsTrue (occurs past y)
+abbrev pub IsLinkBehind : List ℕ → Option ℕ → Type 0
+IsLinkBehind past None = Unit {0}
+IsLinkBehind past (Some y) = IsTrue (occurs past y)
 
 -- the first k events of a log are among these events, and no other of that log
-pub record IsFront (past log : List ℕ) (k : ℕ) : Type 0 where
+pub record IsLogFront (past log : List ℕ) (k : ℕ) : Type 0 where
   pub within : k ≤ length log
   pub gone : (j : ℕ) → j < k → IsTrue (occurs past (get_or log j 0))
   pub left : (j : ℕ) → k ≤ j → j < length log → occurs past (get_or log j 0) ≡ false

@@ -11,24 +11,24 @@ use Rattle.msc_gather.specs.Links.{AreLinks, HoldsTaken}
 use Rattle.msc_gather.specs.Merges.{IsMerging, MayFollowOn}
 
 -- the events of each log
-abbrev pub events_of : List (Vec ℕ) → List (List ℕ)
-events_of logs = map (λ v. v.items) logs
+abbrev pub log_lists : List (Vec ℕ) → List (List ℕ)
+log_lists logs = map (λ v. v.items) logs
 
 -- the logs are logs of the chart, one for each of so many lines
 abbrev pub HasLogs : Wiring → List (Vec ℕ) → Type 0
-HasLogs w logs = AreLogs (wired_by w) (length logs) (events_of logs)
+HasLogs w logs = AreLogs (wired_by w) (length logs) (log_lists logs)
 
 -- each is a log of its line
 abbrev pub HasLineLogs : Wiring → List (Vec ℕ) → Type 0
-HasLineLogs w logs = AreLineLogs (wired_by w) (length logs) (events_of logs)
+HasLineLogs w logs = AreLineLogs (wired_by w) (length logs) (log_lists logs)
 
 -- the marks are those of their events
 abbrev pub HasMarks : Wiring → List (Vec ℕ) → List Bool → Type 0
-HasMarks w logs marks = AreMarks (wired_by w) (events_of logs) marks
+HasMarks w logs marks = AreMarks (wired_by w) (log_lists logs) marks
 
 -- the links are those of their events
 abbrev pub HasLinks : Wiring → List (Vec ℕ) → List (Option ℕ) → Type 0
-HasLinks w logs links = AreLinks (wired_by w) (events_of logs) links
+HasLinks w logs links = AreLinks (wired_by w) (log_lists logs) links
 
 -- what was taken from the queues in the list
 abbrev pub TookFrom : Wiring → List ℕ → Taken → Type 0
@@ -36,17 +36,17 @@ TookFrom w list t = HoldsTaken (wired_by w) list t.before.items t.last.items
 
 -- a part of the least run of the logs
 abbrev pub HoldsMerge : Wiring → List (Vec ℕ) → Merge → Type 0
-HoldsMerge w logs m = IsMerging (wired_by w) (events_of logs) m.past.items m.heads.items
+HoldsMerge w logs m = IsMerging (wired_by w) (log_lists logs) m.past.items m.heads.items
     m.done.items
 
 -- x may follow it
 abbrev pub MayGoOn : Wiring → List (Vec ℕ) → Merge → ℕ → Type 0
-MayGoOn w logs m x = MayFollow (wired_by w) (events_of logs) m.past.items x
+MayGoOn w logs m x = MayFollow (wired_by w) (log_lists logs) m.past.items x
 
 -- x may follow it, and is on line i
 abbrev pub MayGoOnAt : Wiring → List (Vec ℕ) → Merge → ℕ → ℕ → Type 0
-MayGoOnAt w logs m i x = MayFollowOn (wired_by w) (events_of logs) m.past.items i x
+MayGoOnAt w logs m i x = MayFollowOn (wired_by w) (log_lists logs) m.past.items i x
 
 -- x is the least event that may follow it
-abbrev pub GoesOn : Wiring → List (Vec ℕ) → Merge → ℕ → Type 0
-GoesOn w logs m x = FollowsLeast (wired_by w) (events_of logs) m.past.items x
+abbrev pub MergesOn : Wiring → List (Vec ℕ) → Merge → ℕ → Type 0
+MergesOn w logs m x = FollowsLeast (wired_by w) (log_lists logs) m.past.items x

@@ -8,7 +8,7 @@ use Rattle.msc_chart.specs.Orders.{wired}
 use Rattle.msc_chart.specs.Runs.{Run, IsWhole, HasLines, HasNoMerge}
 use Rattle.msc_gather.specs.Gathering.{IsGathered}
 use Rattle.msc_gather.specs.Schedule.{log_of, AreLogs, IsSchedule, IsSeated, MayFollow, FollowsLeast, HasAll, SomeMissing}
-use Rattle.msc_gather.specs.Heads.{IsLink, IsBehind, IsFront}
+use Rattle.msc_gather.specs.Heads.{IsLink, IsLinkBehind, IsLogFront}
 
 -- partners share queues, events are on the lines of the instances, and a queue has one receiver
 abbrev pub ChartsAreSeated : Type 0
@@ -67,7 +67,7 @@ FollowersAreHeads =
     (queues : Queues) (d : Drawing) → IsAccepted d → (logs : List (List ℕ))
     → AreLogs (wired queues d) (length d.instances) logs
     → (past : List ℕ) → Steps (MayFollow (wired queues d) logs) [] past
-    → (x k : ℕ) → IsFront past (log_of (wired queues d) logs x) k
+    → (x k : ℕ) → IsLogFront past (log_of (wired queues d) logs x) k
     → MayFollow (wired queues d) logs past x
     → (k < length (log_of (wired queues d) logs x))
     × (get_or (log_of (wired queues d) logs x) k 0 ≡ x)
@@ -78,10 +78,10 @@ LinksTellFollowers =
     (queues : Queues) (d : Drawing) → IsAccepted d → (logs : List (List ℕ))
     → AreLogs (wired queues d) (length d.instances) logs
     → (past : List ℕ) → Steps (MayFollow (wired queues d) logs) [] past
-    → (i k : ℕ) (link : Option ℕ) → i < length d.instances → IsFront past (get_or logs i []) k
+    → (i k : ℕ) (link : Option ℕ) → i < length d.instances → IsLogFront past (get_or logs i []) k
     → k < length (get_or logs i []) → IsLink (wired queues d) logs (get_or (get_or logs i []) k 0)
     link
-    → IsBehind past link ↔ MayFollow (wired queues d) logs past (get_or (get_or logs i []) k 0)
+    → IsLinkBehind past link ↔ MayFollow (wired queues d) logs past (get_or (get_or logs i []) k 0)
 
 -- where each log has all events of its line, a list with these lines is whole
 abbrev pub WholeLogsGiveWholeTraces : Type 0

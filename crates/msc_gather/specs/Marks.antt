@@ -7,7 +7,7 @@ use Rattle.msc_gather.specs.Schedule.{is_logged}
 
 -- After these events the log of line i may go on with e: an event of the line that is new; a
 -- controlled one has all that is drawn before it behind it.
-pub record MayBeLogged (chart : WiredChart) (i : ℕ) (past : List ℕ) (e : ℕ) : Type 0 where
+pub record MayComeOnLine (chart : WiredChart) (i : ℕ) (past : List ℕ) (e : ℕ) : Type 0 where
   pub event : e < length chart.events
   pub on_line : line chart.events e ≡ i
   pub new : occurs past e ≡ false
@@ -16,7 +16,7 @@ pub record MayBeLogged (chart : WiredChart) (i : ℕ) (past : List ℕ) (e : ℕ
 
 -- a log of line i
 abbrev pub IsLineLog : WiredChart → ℕ → List ℕ → Type 0
-IsLineLog chart i log = Steps (MayBeLogged chart i) [] log
+IsLineLog chart i log = Steps (MayComeOnLine chart i) [] log
 
 -- a log of each of so many lines
 abbrev pub AreLineLogs : WiredChart → ℕ → List (List ℕ) → Type 0
@@ -26,7 +26,7 @@ AreLineLogs chart lines logs = (i : ℕ) → i < lines → IsLineLog chart i (ge
 abbrev pub is_marked : List Bool → ℕ → Bool
 is_marked marks e = get_or marks e false
 
--- the same as `MayBeLogged`, where the events behind e are marked
+-- the same as `MayComeOnLine`, where the events behind e are marked
 pub record MayBeMarked (chart : WiredChart) (i : ℕ) (marks : List Bool) (e : ℕ) : Type 0 where
   pub event : e < length chart.events
   pub on_line : line chart.events e ≡ i

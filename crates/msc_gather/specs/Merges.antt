@@ -4,7 +4,7 @@ use Rattle.msc_chart.specs.Charts.{line}
 use Rattle.msc_chart.specs.Lists.{occurs, Steps}
 use Rattle.msc_chart.specs.Orders.{WiredChart}
 use Rattle.msc_gather.specs.Schedule.{MayFollow, FollowsLeast}
-use Rattle.msc_gather.specs.Heads.{IsFront}
+use Rattle.msc_gather.specs.Heads.{IsLogFront}
 
 -- these events are the least that may follow one another; for each log so many of its events are
 -- among them, the first; and for each event it is told whether it is
@@ -12,7 +12,7 @@ pub record IsMerging (chart : WiredChart) (logs : List (List ℕ)) (past heads :
     (done : List Bool) : Type 0 where
   pub steps : Steps (FollowsLeast chart logs) [] past
   pub many : length heads ≡ length logs
-  pub fronts : (i : ℕ) → i < length logs → IsFront past (get_or logs i []) (get_or heads i 0)
+  pub fronts : (i : ℕ) → i < length logs → IsLogFront past (get_or logs i []) (get_or heads i 0)
   pub long : length done ≡ length chart.events
   pub told : (e : ℕ) → e < length chart.events → get_or done e false ≡ occurs past e
 

@@ -8,7 +8,7 @@ ghost use Rattle.msc_chart.specs.Lists.{IsOnce, occurs};
 ghost use Rattle.msc_chart.specs.Orders.{queue};
 ghost use Rattle.msc_chart.specs.Wirings.{size, wired_by};
 ghost use Rattle.msc_gather.specs.Heads.{IsLink};
-ghost use Rattle.msc_gather.specs.Held.{events_of, HasLinks, HasLogs, HasMarks, TookFrom};
+ghost use Rattle.msc_gather.specs.Held.{log_lists, HasLinks, HasLogs, HasMarks, TookFrom};
 ghost use Rattle.msc_gather.specs.Marks.{AreMarks};
 ghost use Rattle.msc_gather.specs.Schedule.{AreLogs, IsSeated};
 
@@ -18,7 +18,7 @@ use std::alloc::{AllocError, Global};
 
 /// The events of all logs, one log after the other.
 fn joined(alloc: Global, logs: &[Vec<Event>]) -> Result<Vec<Event>, AllocError>
-    ensures { IfOk result (λ all. all.items ≡ concat (events_of logs.now)) }
+    ensures { IfOk result (λ all. all.items ≡ concat (log_lists logs.now)) }
 {
     let mut all = Vec::new(alloc);
     for log in logs {

@@ -4,7 +4,7 @@
 ghost use Rattle.std.specs.Prelude.{◌<◌, ◌^◌, ◌↔◌, ◌≡◌, ◌≤◌, [], Err, get_or, IfOk, IsTrue};
 ghost use Rattle.std.specs.Prelude.{length, OnOk, ℕ};
 ghost use Rattle.msc_chart.specs.Wirings.{size, wired_by};
-ghost use Rattle.msc_gather.specs.Held.{events_of, HasLineLogs, HasLogs, HasMarks};
+ghost use Rattle.msc_gather.specs.Held.{log_lists, HasLineLogs, HasLogs, HasMarks};
 ghost use Rattle.msc_gather.specs.Marks.{AreMarkedBeside, HasOutput, IsFirstOpen, IsLineFrom};
 ghost use Rattle.msc_gather.specs.Marks.{IsLineLog, IsUnmarked, MayBeMarked};
 ghost use Rattle.msc_gather.specs.Schedule.{IsSeated};
@@ -17,7 +17,7 @@ use std::alloc::Global;
 /// The log of instance `i`.
 pub fn log_at(logs: &[Vec<Event>], i: u32) -> &[Event]
     requires { i < length logs.now }
-    ensures { result.now ≡ get_or (events_of logs.now) i [] }
+    ensures { result.now ≡ get_or (log_lists logs.now) i [] }
 {
     logs[i as usize].as_slice()
 }

@@ -3,7 +3,7 @@
 ghost use Rattle.std.specs.Prelude.{◌++◌, ◌+◌, ◌<◌, ◌∷◌, ◌≡◌, [], IfNone, IfOk, IfSome, length};
 ghost use Rattle.std.specs.Prelude.{min, None, OnOk, Some, ℕ};
 ghost use Rattle.msc_chart.specs.Wirings.{wired_by};
-ghost use Rattle.msc_gather.specs.Held.{GoesOn, HasLinks, HasLogs, HoldsMerge, MayGoOn};
+ghost use Rattle.msc_gather.specs.Held.{MergesOn, HasLinks, HasLogs, HoldsMerge, MayGoOn};
 ghost use Rattle.msc_gather.specs.Held.{MayGoOnAt};
 ghost use Rattle.msc_gather.specs.Schedule.{IsSeated};
 
@@ -88,7 +88,7 @@ impl Merge {
         requires links { HasLinks w.now logs.now links.now }
         requires merging { HoldsMerge w.now logs.now self.now }
         requires few { length logs.now ≡ length w.now.chart.now.instances }
-        ensures some { IfSome result (λ x. GoesOn w.now logs.now self.now x) }
+        ensures some { IfSome result (λ x. MergesOn w.now logs.now self.now x) }
         ensures none { IfNone result ((x : ℕ) → MayGoOn w.now logs.now self.now x → ⊥) }
     {
         let mut best = None;
@@ -103,7 +103,7 @@ impl Merge {
         requires seated { IsSeated (wired_by w.now) (length logs.now) }
         requires logs { HasLogs w.now logs.now }
         requires merging { HoldsMerge w.now logs.now self.old }
-        requires follows { GoesOn w.now logs.now self.old x }
+        requires follows { MergesOn w.now logs.now self.old x }
         ensures merging { OnOk result (HoldsMerge w.now logs.now self.new) }
         ensures past { OnOk result (self.new.past.items ≡ self.old.past.items ++ x ∷ []) }
     {

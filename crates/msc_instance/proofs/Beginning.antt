@@ -9,7 +9,7 @@ use Rattle.msc_execution.specs.Logs.{Reading, IsLogOf, line_events, controlled}
 use Rattle.msc_instance.specs.declared.active.Active.{Active}
 use Rattle.msc_instance.specs.declared.active.Post.{Post}
 use Rattle.msc_instance.specs.Steps.{IsPutBy, IsGotBy, HasBegun}
-use Rattle.msc_instance.specs.Active.{IsPost, IsSound, log_of, post_role, first_ends, ends_now, line_below}
+use Rattle.msc_instance.specs.Active.{IsPost, IsSound, logged_by, post_role, first_ends, ends_now, line_below}
 use Rattle.msc_instance.proofs.Occurs.{occurs-nil}
 use Rattle.msc_instance.proofs.Growing.{clock_nil}
 use Rattle.msc_instance.proofs.Stepped as stepped
@@ -27,6 +27,7 @@ all_begun r reading (o ∷ outs) all = (
   all_begun r reading outs (All-tail (λ (x : NumberedOutlet). x.1.closed ≡ false) o outs all),
 )
 
+-- nothing is a log of any instance
 empty_log : (d : Drawing) (i : ℕ) → IsLogOf d i []
 empty_log d i = record {
   on_line = λ e there. clash there (occurs-nil e);
@@ -34,6 +35,7 @@ empty_log d i = record {
   controlled = (controlled d (line_events d i), refl);
 }
 
+-- an instance has begun with the ends that it begins with
 pub begun_first : (r : Role) (first : EndLists) → IsFit r first
     → HasBegun r first (state false first.outlets first.inlets [] 0)
 begun_first r first fit =
@@ -50,7 +52,7 @@ begun_first r first fit =
 
 -- an instance with the ends of its post and an empty log
 pub begins : (d : Drawing) (p : Post) (a : Active) → IsPost d p → ends_now a ≡ first_ends p
-    → log_of a ≡ [] → a.clock ≡ 0
+    → logged_by a ≡ [] → a.clock ≡ 0
     → a.next ≡ p.start → a.first ≡ p.start → a.shut ≡ false
     → length (line_events d p.instance) ≤ vec_capacity a.journal.log → IsSound d p a
 begins d p a post ends empty clock next first open' room =

@@ -14,7 +14,7 @@ use Rattle.msc_chart.specs.Laws.{EventsHaveQueues, QueueNumbersAreBounded, IsBou
 use Rattle.msc_chart.proofs.Drawn.{output_not_local}
 use Rattle.msc_chart.proofs.Readers.{output_in}
 use Rattle.msc_execution.proofs.Lists.Ranges.{count_more}
-use Rattle.msc_instance.specs.Handing.{place_of, AreCounted, AreReceivers}
+use Rattle.msc_instance.specs.Handing.{table_place, AreCounted, AreReceivers}
 
 module _ (queues : Queues) (d : Drawing) (accepted : IsAccepted d) (m : ℕ)
     (below : m < length d.messages) where
@@ -47,7 +47,7 @@ module _ (queues : Queues) (d : Drawing) (accepted : IsAccepted d) (m : ℕ)
 pub count_small : (queues : Queues) (d : Drawing) (n : ℕ) (counts : List ℕ) (k : ℕ)
     → AreCounted queues d n counts → k < length counts → get_or counts k 0 ≤ n
 count_small queues d n counts k counted lt =
-    let p : ℕ → Bool = λ m. nat_eq (place_of queues d m) k in
+    let p : ℕ → Bool = λ m. nat_eq (table_place queues d m) k in
     omega (
       arith,
       counted k lt,
@@ -57,11 +57,11 @@ count_small queues d n counts k counted lt =
 
 -- one message more is counted
 pub counted_more : (queues : Queues) (d : Drawing) (n : ℕ) (counts : List ℕ) (place : ℕ)
-    → place_of queues d n ≡ place
+    → table_place queues d n ≡ place
     → AreCounted queues d n counts → AreCounted queues d (n + 1)
     (set counts place (get_or counts place 0 + 1))
 counted_more queues d n counts place is counted k lt =
-    let p : ℕ → Bool = λ m. nat_eq (place_of queues d m) k in
+    let p : ℕ → Bool = λ m. nat_eq (table_place queues d m) k in
     let inside : k < length counts = omega (
       arith,
       length-set counts place (get_or counts place 0 + 1),
@@ -71,12 +71,12 @@ counted_more queues d n counts place is counted k lt =
     ≡ count_by p (range_with_len 0 n) + cond (p n) 1 0 = count_more p n in
     elim (cases_eq place k) [
       | inl same ↦
-          let here : p n ≡ true = eq-eqb (place_of queues d n) k (is ∙ same) in
+          let here : p n ≡ true = eq-eqb (table_place queues d n) k (is ∙ same) in
           let one = ap (λ (b : Bool). cond {A = ℕ} b 1 0) here in
           let written = get_or-set_same counts k (get_or counts k 0 + 1) 0 inside in
           rw same (omega (arith, before, grown, one, written))
       | inr other ↦
-          let there : p n ≡ false = ne_eqb (place_of queues d n) k (λ e. other (sym is ∙ e)) in
+          let there : p n ≡ false = ne_eqb (table_place queues d n) k (λ e. other (sym is ∙ e)) in
           let none = ap (λ (b : Bool). cond {A = ℕ} b 1 0) there in
           let kept = get_or-set_other counts place k (get_or counts place 0 + 1) 0
           (λ e. other (sym e)) in
@@ -86,7 +86,7 @@ counted_more queues d n counts place is counted k lt =
 -- the place of a message, from its parts
 pub place_is : (queues : Queues) (d : Drawing) (m n q s : ℕ) → n ≡ length d.instances
     → q ≡ queue_of queues d m → s ≡ sender_of d m
-    → place_of queues d m ≡ q * n + s
+    → table_place queues d m ≡ q * n + s
 place_is queues d m n q s n_is q_is s_is = rw (n_is, q_is, s_is) refl
 
 -- the receiver of one message more is noted

@@ -10,7 +10,7 @@ use Rattle.msc_execution.specs.Roles.{NumberedInlet}
 use Rattle.msc_execution.specs.Running.{IsHungry, AllHaveEnded}
 use Rattle.msc_instance.specs.declared.active.Active.{Active}
 use Rattle.msc_instance.specs.declared.active.Post.{Post}
-use Rattle.msc_instance.specs.Active.{IsSound, HasSent, HasUpTo, IsBlocked, EndsSo, log_of, post_role, weight}
+use Rattle.msc_instance.specs.Active.{IsSound, HasSent, HasUpTo, IsBlocked, EndsSo, logged_by, post_role, weight}
 use Rattle.msc_instance.proofs.Logs.{on_post, whole}
 use Rattle.msc_instance.proofs.Kept.{comes}
 
@@ -57,14 +57,14 @@ module _ (d : Drawing) (p : Post) (a : Active) (s : IsSound d p a) (open' : Bool
   pub ends_finished : a.first ≡ p.end → EndsSo d p open' patience a end.Finished
   ends_finished at =
       comes s.begun open' patience end.Finished
-      (λ reading is. (λ q. refl, whole d p (log_of a) s.post (subst (HasUpTo p (log_of a)) at s.first)))
+      (λ reading is. (λ q. refl, whole d p (logged_by a) s.post (subst (HasUpTo p (logged_by a)) at s.first)))
 
   -- something is missing, and what comes next waits
-  module _ (part : a.first < p.end) (missing : a.first < p.end → occurs (log_of a) a.first ≡ false)
-      (blocked : IsBlocked d p.instance (log_of a)) where
-    hungry : IsHungry (post_role d p) (log_of a)
+  module _ (part : a.first < p.end) (missing : a.first < p.end → occurs (logged_by a) a.first ≡ false)
+      (blocked : IsBlocked d p.instance (logged_by a)) where
+    hungry : IsHungry (post_role d p) (logged_by a)
     hungry =
-        let on = on_post d p s.post (log_of a) a.next s.next a.first s.first.from part in
+        let on = on_post d p s.post (logged_by a) a.next s.next a.first s.first.from part in
         record { part = λ all. clash (all a.first on.0 on.1) (missing part); blocked = blocked }
 
     pub ends_starved : AllHaveEnded a.inlets.items → EndsSo d p open' patience a end.Starved

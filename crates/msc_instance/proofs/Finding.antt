@@ -3,10 +3,10 @@ use Rattle.std.proofs.Common.{◌≡◌, ℕ, zero, suc, ◌+◌, ◌<◌, ◌�
 use Rattle.std.specs.List.{range_with_len}
 use Rattle.std.proofs.lemmas.Bool.{cases_lt}
 use Rattle.msc_chart.specs.Lists.{occurs}
-use Rattle.msc_chart.proofs.ListLemmas.{by_test}
+use Rattle.msc_chart.proofs.ListLemmas.{by_test, occurs-head, occurs-tail}
 use Rattle.msc_chart.specs.Orders.{queue_bound}
 use Rattle.msc_execution.specs.Roles.{Role, queues_below, sent_queues}
-use Rattle.msc_execution.proofs.Lists.Words.{head_or_tail, at_head, in_tail, in_none, passes}
+use Rattle.msc_execution.proofs.Lists.Words.{head_or_tail, in_none, passes}
 use Rattle.msc_execution.proofs.Lists.Ranges.{in_range}
 use Rattle.msc_instance.specs.Active.{IsAscending}
 
@@ -17,6 +17,7 @@ filter_ascends p (x ∷ xs) h =
     let rest = filter_ascends p xs h.1 in
     by_test (p x) (λ in'. rw in' ((λ y there. h.0 y (passes p xs y there).0), rest)) (λ out. rw out rest)
 
+-- a range ascends
 range_ascends : (a n : ℕ) → IsAscending (range_with_len a n)
 range_ascends a zero = tt
 range_ascends a (suc n) =
@@ -41,9 +42,9 @@ module _ {X : Type 0} (num : X → ℕ) where
 
   number_in : (xs : List X) (j : ℕ) (d : X) → j < length xs → occurs (map num xs) (num (get_or xs j d)) ≡ true
   number_in [] j d lt = absurd (omega arith)
-  number_in (x ∷ xs) zero d lt = at_head (num x) (map num xs)
+  number_in (x ∷ xs) zero d lt = occurs-head (num x) (map num xs)
   number_in (x ∷ xs) (suc j) d lt =
-      in_tail (num x) (map num xs) (num (get_or xs j d)) (number_in xs j d (omega arith))
+      occurs-tail (num x) (map num xs) (num (get_or xs j d)) (number_in xs j d (omega arith))
 
   -- numbers rise from place to place
   pub rises : (xs : List X) (i j : ℕ) (d : X) → IsAscending (map num xs) → i < j → j < length xs

@@ -11,82 +11,82 @@ use Rattle.msc_chart.specs.declared.queue.Queues.{Queues}
 use Rattle.msc_chart.specs.Drawings.{Drawing}
 use Rattle.msc_chart.specs.Orders.{queue_of}
 use Rattle.msc_chart.proofs.ListLemmas.{by_test}
-use Rattle.msc_instance.specs.Fitting.{AreCountsOf, numbers_from, numbers_of}
+use Rattle.msc_instance.specs.Fitting.{AreCountsOf, used_numbers_from, numbers_of_ends}
 
 -- the rest of the table's numbers, one queue on
 module _ (counts : List ℕ) (q : ℕ) (within : q < length counts) where
   rest : List ℕ
-  rest = numbers_from counts (q + 1) (length counts - (q + 1))
+  rest = used_numbers_from counts (q + 1) (length counts - (q + 1))
 
-  one_on : numbers_from counts q (length counts - q)
+  one_on : used_numbers_from counts q (length counts - q)
       ≡ cond (nat_lt 0 (get_or counts q 0)) (q ∷ rest) rest
   unfolding rest
   one_on = let e : length counts - q ≡ suc (length counts - (q + 1)) = omega arith in
-      ap (numbers_from counts q) e
+      ap (used_numbers_from counts q) e
 
-  sends : 0 < get_or counts q 0 → numbers_from counts q (length counts - q) ≡ q ∷ rest
+  sends : 0 < get_or counts q 0 → used_numbers_from counts q (length counts - q) ≡ q ∷ rest
   sends some = one_on ∙ ap (λ b. cond b (q ∷ rest) rest) (lt-ltb 0 _ some)
 
-  sends_none : get_or counts q 0 ≡ 0 → numbers_from counts q (length counts - q) ≡ rest
+  sends_none : get_or counts q 0 ≡ 0 → used_numbers_from counts q (length counts - q) ≡ rest
   sends_none none = one_on ∙ ap (λ b. cond b (q ∷ rest) rest) (le-ltb 0 _ (omega arith))
 
   -- a queue without messages is passed over
   pub skipped : {X : Type 0} {xs : List ℕ} → get_or counts q 0 ≡ 0 → X
-      ↔ (xs ≡ numbers_from counts q (length counts - q))
-      → X ↔ (xs ≡ numbers_from counts (q + 1) (length counts - (q + 1)))
+      ↔ (xs ≡ used_numbers_from counts q (length counts - q))
+      → X ↔ (xs ≡ used_numbers_from counts (q + 1) (length counts - (q + 1)))
   unfolding rest
   skipped none h = (λ x. h.0 x ∙ sends_none none, λ e. h.1 (e ∙ sym (sends_none none)))
 
   module _ {A : Type 0} (ends : List (ℕ × A)) (k : ℕ) (some : 0 < get_or counts q 0) where
-    next_is : (e : ℕ × A) → k < length ends → numbers_of (drop k ends)
-        ≡ (get_or ends k e).0 ∷ numbers_of (drop (k + 1) ends)
-    next_is e lt = ap numbers_of (drop_more ends k e lt)
+    next_is : (e : ℕ × A) → k < length ends → numbers_of_ends (drop k ends)
+        ≡ (get_or ends k e).0 ∷ numbers_of_ends (drop (k + 1) ends)
+    next_is e lt = ap numbers_of_ends (drop_more ends k e lt)
 
     -- the next end is that of the queue
     pub matched : {X : Type 0} (e : ℕ × A) → k < length ends → (get_or ends k e).0 ≡ q
-        → X ↔ (numbers_of (drop k ends) ≡ numbers_from counts q (length counts - q))
-        → X ↔ (numbers_of (drop (k + 1) ends) ≡ numbers_from counts (q + 1)
+        → X ↔ (numbers_of_ends (drop k ends) ≡ used_numbers_from counts q (length counts - q))
+        → X ↔ (numbers_of_ends (drop (k + 1) ends) ≡ used_numbers_from counts (q + 1)
         (length counts - (q + 1)))
     unfolding rest
     matched e lt is h =
-        let front : numbers_of (drop k ends) ≡ q ∷ numbers_of (drop (k + 1) ends) = next_is e lt
-        ∙ ap (λ x. x ∷ numbers_of (drop (k + 1) ends)) is in (
-          λ x. let both : q ∷ numbers_of (drop (k + 1) ends) ≡ q ∷ rest = sym front ∙ h.0 x
+        let front : numbers_of_ends (drop k ends) ≡ q ∷ numbers_of_ends (drop (k + 1) ends) = next_is e lt
+        ∙ ap (λ x. x ∷ numbers_of_ends (drop (k + 1) ends)) is in (
+          λ x. let both : q ∷ numbers_of_ends (drop (k + 1) ends) ≡ q ∷ rest = sym front ∙ h.0 x
               ∙ sends some in cc,
           λ same. h.1 (front ∙ ap (λ l. q ∷ l) same ∙ sym (sends some)),
         )
 
     -- it is that of another queue
     pub mismatched : (e : ℕ × A) → k < length ends → (get_or ends k e).0 ≢ q
-        → numbers_of (drop k ends) ≡ numbers_from counts q (length counts - q) → ⊥
+        → numbers_of_ends (drop k ends) ≡ used_numbers_from counts q (length counts - q) → ⊥
     mismatched e lt other same =
-        let both : (get_or ends k e).0 ∷ numbers_of (drop (k + 1) ends) ≡ q ∷ rest =
+        let both : (get_or ends k e).0 ∷ numbers_of_ends (drop (k + 1) ends) ≡ q ∷ rest =
         sym (next_is e lt) ∙ same ∙ sends some in
         let wrong : (get_or ends k e).0 ≡ q = cc in
         other wrong
 
     -- there is none
-    pub exhausted : length ends ≤ k → numbers_of (drop k ends)
-        ≡ numbers_from counts q (length counts - q) → ⊥
+    pub exhausted : length ends ≤ k → numbers_of_ends (drop k ends)
+        ≡ used_numbers_from counts q (length counts - q) → ⊥
     exhausted le same =
-        let both : [] ≡ q ∷ rest = sym (ap numbers_of (drop_all k ends le)) ∙ same ∙ sends some in
+        let both : [] ≡ q ∷ rest = sym (ap numbers_of_ends (drop_all k ends le)) ∙ same ∙ sends some in
         cc
 
 -- after the last queue no end is left
 pub all_seen : {A : Type 0} {X : Type 0} (counts : List ℕ) (ends : List (ℕ × A)) (k q : ℕ)
     → length counts ≤ q
-    → X ↔ (numbers_of (drop k ends) ≡ numbers_from counts q (length counts - q)) → X
+    → X ↔ (numbers_of_ends (drop k ends) ≡ used_numbers_from counts q (length counts - q)) → X
     ↔ (length ends ≤ k)
 all_seen {A} counts ends k q done h =
-    let none : numbers_from counts q (length counts - q) ≡ [] =
-    (let e : length counts - q ≡ 0 = omega arith in ap (numbers_from counts q) e) in (
+    let none : used_numbers_from counts q (length counts - q) ≡ [] =
+    (let e : length counts - q ≡ 0 = omega arith in ap (used_numbers_from counts q) e) in (
       λ x. let e = ap length (h.0 x ∙ none) in omega (
         arith,
         e,
         length-map (drop k ends) (λ (y : ℕ × A). y.0),
         length-drop k ends,
       ),
-      λ le. h.1 (ap numbers_of (drop_all k ends le) ∙ sym none),
+      λ le. h.1 (ap numbers_of_ends (drop_all k ends le) ∙ sym none),
     )
 
 -- one message more is counted
@@ -161,6 +161,7 @@ pub byte_is : (b : Bool) → bool_byte b ≡ cond b 1 0
 byte_is true = refl
 byte_is false = refl
 
+-- which is at most 1
 pub byte_small : (b : Bool) → bool_byte b ≤ 1
 byte_small true = omega arith
 byte_small false = omega arith

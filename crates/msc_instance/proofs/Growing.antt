@@ -8,8 +8,8 @@ use Rattle.msc_chart.specs.Lists.{occurs, until}
 use Rattle.msc_chart.specs.Charts.{message, is_output, is_input}
 use Rattle.msc_chart.specs.Drawings.{Drawing}
 use Rattle.msc_chart.specs.Orders.{queue_of}
-use Rattle.msc_chart.proofs.ListLemmas.{clash, by_test, until-append, until-within}
-use Rattle.msc_gather.proofs.Once.{occurs-head, occurs-tail, until-new}
+use Rattle.msc_chart.proofs.ListLemmas.{clash, by_test, until-append, until-within, occurs-head, occurs-tail}
+use Rattle.msc_gather.proofs.Once.{until-new}
 use Rattle.msc_fifo.specs.declared.entry.Entry.{Entry}
 use Rattle.msc_fifo.specs.declared.entry.Entry.TheVariants.{Message, Ended}
 use Rattle.msc_fifo.specs.Claims.{claim}
@@ -28,9 +28,10 @@ one_clock d f g c [] same = refl
 one_clock d f g c (e ∷ es) same =
     ap (λ (n : ℕ). along_from d f
     (cond (is_output d.events e) n (cond (is_input d.events e) (max c n) c)) es)
-    (same e (occurs-head es e))
+    (same e (occurs-head e es))
     ∙ one_clock d f g (clock_next d g c e) es (λ x there. same x (occurs-tail e es x there))
 
+-- of the new event the new clock and place are read
 pub event_own : (e k n : ℕ) (r : Reading)
     → ((with_event e k n r).read_at e ≡ n) × ((with_event e k n r).place_at e ≡ k)
 event_own e k n r = (
@@ -38,6 +39,7 @@ event_own e k n r = (
   ap (λ (b : Bool). cond b k (r.place_at e)) (eq-eqb e e refl),
 )
 
+-- and of another event what was read before
 pub event_other : (e k n : ℕ) (r : Reading) (x : ℕ) → (x ≡ e → ⊥)
     → ((with_event e k n r).read_at x ≡ r.read_at x) × ((with_event e k n r).place_at x ≡ r.place_at x)
 event_other e k n r x other = (
@@ -49,6 +51,7 @@ event_other e k n r x other = (
 not_new : (log : List ℕ) (e x : ℕ) → occurs log e ≡ false → occurs log x ≡ true → x ≡ e → ⊥
 not_new log e x new there same = clash (subst (λ (z : ℕ). occurs log z ≡ true) same there) new
 
+-- the clock along a list goes on with its last event
 along_push : (d : Drawing) (f : ℕ → ℕ) (c : ℕ) (log : List ℕ) (e : ℕ)
     → along_from d f c (log ++ e ∷ []) ≡ clock_next d f (along_from d f c log) e
 unfolding along_from
@@ -70,14 +73,17 @@ clock_pushed d r log e k n new =
     ∙ (λ j. cond (is_output d.events e) (own j)
     (cond (is_input d.events e) (max (before j) (own j)) (before j)))
 
+-- values of a list with one more at its end
 pub map_push : {B : Type 0} (f : ℕ → B) (xs : List ℕ) (x : ℕ) → map f (xs ++ x ∷ []) ≡ map f xs ++ f x ∷ []
 map_push f [] x = refl
 map_push f (y ∷ xs) x = ap (λ l. f y ∷ l) (map_push f xs x)
 
+-- what passes at the end of a list is kept
 pub filter_yes : (p : ℕ → Bool) (xs : List ℕ) (e : ℕ) → p e ≡ true
     → filter p (xs ++ e ∷ []) ≡ filter p xs ++ e ∷ []
 filter_yes p xs e h = filter-append p xs (e ∷ []) ∙ ap (λ (b : Bool). filter p xs ++ cond b (e ∷ []) []) h
 
+-- and what fails there is not
 pub filter_no : (p : ℕ → Bool) (xs : List ℕ) (e : ℕ) → p e ≡ false → filter p (xs ++ e ∷ []) ≡ filter p xs
 filter_no p xs e h = filter-append p xs (e ∷ [])
     ∙ ap (λ (b : Bool). filter p xs ++ cond b (e ∷ []) []) h ∙ append-nil (filter p xs)
@@ -219,6 +225,7 @@ clocks_message (Message a b ∷ got) (x ∷ clocks) i m n h =
     ap (λ l. x ∷ l) (clocks_message got clocks i m n (omega arith))
 clocks_message (Ended a ∷ got) (x ∷ clocks) i m n h = clocks_message got clocks i m n (omega arith)
 
+-- an end mark brings no clock of a message
 pub clocks_ended : (got : List Entry) (clocks : List ℕ) (i n : ℕ) → length clocks ≡ length got
     → clocks_at (got ++ Ended i ∷ []) (clocks ++ n ∷ []) ≡ clocks_at got clocks
 clocks_ended [] [] i n h = refl

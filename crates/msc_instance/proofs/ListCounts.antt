@@ -113,6 +113,7 @@ sum_more f n =
     ∙ sum_by-map-range_with_len_more f (λ x. x) 0 n n (omega arith)
     ∙ ap (λ (l : List ℕ). sum_by f l + f n) (map-id (range_with_len 0 n))
 
+-- 1 where the numbers are equal
 is_one : ℕ → ℕ → ℕ
 is_one k i = cond (nat_eq k i) 1 0
 
@@ -143,6 +144,7 @@ one_is k (suc n) =
           omega (arith, r, m, z)
     ]
 
+-- a sum of sums
 sum_both : (f g h : ℕ → ℕ) (xs : List ℕ) → ((i : ℕ) → h i ≡ f i + g i)
     → sum_by h xs ≡ sum_by f xs + sum_by g xs
 sum_both f g h [] e = omega arith
@@ -150,6 +152,7 @@ sum_both f g h (x ∷ xs) e =
     let r = sum_both f g h xs e in
     omega (arith, r, e x, sum_by-cons f x xs, sum_by-cons g x xs, sum_by-cons h x xs)
 
+-- nothing adds up to nothing
 zeros : (n : ℕ) → sum_by (λ (i : ℕ). 0) (range_with_len 0 n) ≡ 0
 zeros zero = refl
 zeros (suc n) = let r = zeros n in omega (arith, r, sum_more (λ i. 0) n)

@@ -6,12 +6,13 @@ use Rattle.msc_chart.specs.Lists.{occurs}
 use Rattle.msc_chart.specs.Charts.{message, is_output}
 use Rattle.msc_chart.specs.Drawings.{IsAccepted}
 use Rattle.msc_chart.specs.Orders.{queue_of, queue_bound}
+use Rattle.msc_chart.proofs.ListLemmas.{occurs-head, occurs-tail}
 use Rattle.msc_fifo.specs.Ends.{HasRoom}
 use Rattle.msc_execution.specs.Roles.{Role, EndLists, NumberedOutlet, NumberedInlet, IsFit, sent_queues, taken_queues, queues_below}
 use Rattle.msc_execution.specs.Logs.{Reading, IsLogOf, sent, outputs_at}
 use Rattle.msc_execution.specs.Fits.{LogsKeepQuotas}
 use Rattle.msc_gather.proofs.Apart.{Apart}
-use Rattle.msc_execution.proofs.Lists.Words.{once_filter, fails, at_head, in_tail}
+use Rattle.msc_execution.proofs.Lists.Words.{once_filter, fails}
 use Rattle.msc_execution.proofs.Lists.Ranges.{in_range}
 use Rattle.msc_instance.specs.Steps.{IsPutBy, IsGotBy}
 use Rattle.msc_instance.proofs.Growing.{outputs_more, map_push}
@@ -93,6 +94,6 @@ module _ (r : Role) (first : EndLists) (fit : IsFit r first) where
 pub number_there : (ins : List NumberedInlet) (k : ℕ) (n : NumberedInlet) → k < length ins
     → occurs (map inlet_number ins) (get_or ins k n).0 ≡ true
 number_there [] k n lt = absurd (omega arith)
-number_there (x ∷ ins) zero n lt = at_head x.0 (map inlet_number ins)
-number_there (x ∷ ins) (suc k) n lt = in_tail x.0 (map inlet_number ins) (get_or ins k n).0
+number_there (x ∷ ins) zero n lt = occurs-head x.0 (map inlet_number ins)
+number_there (x ∷ ins) (suc k) n lt = occurs-tail x.0 (map inlet_number ins) (get_or ins k n).0
     (number_there ins k n (omega arith))

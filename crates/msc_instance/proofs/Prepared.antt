@@ -34,10 +34,12 @@ pub record ArePrepared (d : Drawing) (ends : List InstanceEnds) (jobs : List Job
   pub numbers : (i : ℕ) (j : Job) → slice_get jobs i ≡ Some j → j.number ≡ i
   pub ready : All (IsReady d) jobs
 
+-- the ends of jobs, read in one step or in two
 composed : (jobs : List Job) → map ends_of (map (λ (j : Job). j.ends) jobs) ≡ map (λ (j : Job). ends_of j.ends) jobs
 composed [] = refl
 composed (j ∷ jobs) = ap (λ (l : List EndLists). ends_of j.ends ∷ l) (composed jobs)
 
+-- no jobs are prepared for no ends
 pub none_prepared : (d : Drawing) (jobs : List Job) → jobs ≡ [] → ArePrepared d [] jobs
 none_prepared d jobs is = rw is (record { same = refl; numbers = λ i j at. cc; ready = All-nil (IsReady d) })
 

@@ -14,13 +14,13 @@ use Rattle.msc_chart.specs.Laws.{messages_in, sends_to, senders_in, QueuesAreBou
 use Rattle.msc_chart.proofs.ListLemmas.{by_test}
 use Rattle.msc_chart.proofs.Readers.{sender_in, receiver_in}
 use Rattle.msc_execution.specs.Roles.{quota_of, rank_of, takes_from}
-use Rattle.msc_instance.specs.Handing.{place_of, quotas_of, senders_among, AreCounted, AreReceivers}
+use Rattle.msc_instance.specs.Handing.{table_place, quotas_of, senders_among, AreCounted, AreReceivers}
 use Rattle.msc_instance.proofs.ListCounts.{both_tests, any_counts, count_mapped, first_passes, count_none, same_number, parts_add_up}
 
 module _ (queues : Queues) (d : Drawing) where
   -- a place in the table is that of one queue and one sender
   place_test : (q k m : ℕ) → sender_of d m < length d.instances → k < length d.instances
-      → nat_eq (place_of queues d m) (q * length d.instances + k)
+      → nat_eq (table_place queues d m) (q * length d.instances + k)
       ≡ (nat_eq (queue_of queues d m) q && nat_eq (sender_of d m) k)
   place_test q k m s_in k_in =
       by_test (nat_eq (queue_of queues d m) q)
@@ -28,7 +28,7 @@ module _ (queues : Queues) (d : Drawing) where
       let row : queue_of queues d m ≡ q = eqb-true _ _ yes in
       by_test (nat_eq (sender_of d m) k)
       (λ own.
-      let here : place_of queues d m ≡ q * length d.instances + k =
+      let here : table_place queues d m ≡ q * length d.instances + k =
       ap (λ (x : ℕ). x * length d.instances + sender_of d m) row
       ∙ ap (λ (x : ℕ). q * length d.instances + x) (eqb-true _ _ own) in
       eq-eqb _ _ here ∙ sym (ap (λ b. b && nat_eq (sender_of d m) k) yes ∙ own))
@@ -43,14 +43,14 @@ module _ (queues : Queues) (d : Drawing) where
   -- a place of the table has the quota of its queue and sender
   counted_quota : (q k a n : ℕ) → k < length d.instances
       → ((m : ℕ) → m < a + n → sender_of d m < length d.instances)
-      → count_by (λ m. nat_eq (place_of queues d m) (q * length d.instances + k))
+      → count_by (λ m. nat_eq (table_place queues d m) (q * length d.instances + k))
       (range_with_len a n)
       ≡ count_by (λ m. nat_eq (sender_of d m) k) (filter (λ m. nat_eq (queue_of queues d m) q)
       (range_with_len a n))
   counted_quota q k a zero k_in known = refl
   counted_quota q k a (suc n) k_in known =
       let r = counted_quota q k (a + 1) n k_in (λ m lt. known m (omega arith)) in
-      let c = sum_by-cons (λ m. cond (nat_eq (place_of queues d m) (q * length d.instances + k)) 1
+      let c = sum_by-cons (λ m. cond (nat_eq (table_place queues d m) (q * length d.instances + k)) 1
       0) a (range_with_len (a + 1) n) in
       let b = both_tests (λ m. nat_eq (sender_of d m) k) (λ m. nat_eq (queue_of queues d m) q) a
       (range_with_len (a + 1) n) in

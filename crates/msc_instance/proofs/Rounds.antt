@@ -6,11 +6,11 @@ use Rattle.msc_chart.proofs.ListLemmas.{by_test, clash}
 use Rattle.msc_execution.specs.Roles.{NumberedInlet}
 use Rattle.msc_instance.specs.declared.active.Active.{Active}
 use Rattle.msc_instance.specs.declared.active.Post.{Post}
-use Rattle.msc_instance.specs.Active.{IsSound, IsQuiet, IsIdle, log_of, weight}
+use Rattle.msc_instance.specs.Active.{IsSound, IsQuiet, IsIdle, logged_by, weight}
 
 -- no take on the first k inlets found anything
 pub record HasFoundNothing (d : Drawing) (p : Post) (k : ℕ) (a b : Active) : Type 0 where
-  pub kept : log_of b ≡ log_of a
+  pub kept : logged_by b ≡ logged_by a
   pub same : weight d p b ≡ weight d p a
   pub idle : (n : ℕ) → n < 4294967295 → All (λ (i : NumberedInlet). n ≤ i.1.idle) a.inlets.items
       → (j : ℕ) (i : NumberedInlet)

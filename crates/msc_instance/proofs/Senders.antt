@@ -10,6 +10,7 @@ use Rattle.msc_fifo.specs.Ends.{new_outlet, new_inlet, IsTooLarge}
 use Rattle.msc_instance.specs.declared.ends.InstanceEnds.{InstanceEnds}
 use Rattle.msc_instance.specs.Handing.{AreHandedOut, ends_at, outlet_for, inlet_for, senders_among}
 
+-- what neither the head nor the rest has stands nowhere
 at_either : (x : ℕ) (xs : List ℕ) (i : ℕ) → nat_lt 0 x ≡ false
     → ((k : ℕ) → nat_lt 0 (get_or xs k 0) ≡ false) → nat_lt 0 (get_or (x ∷ xs) i 0) ≡ false
 at_either x xs zero head rest = head

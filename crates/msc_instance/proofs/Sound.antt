@@ -16,7 +16,7 @@ use Rattle.msc_instance.specs.declared.active.Active.{Active}
 use Rattle.msc_instance.specs.declared.active.Post.{Post}
 use Rattle.msc_instance.specs.declared.journal.Journal.{Journal}
 use Rattle.msc_instance.specs.Steps.{ArePutBy, HasBegun}
-use Rattle.msc_instance.specs.Active.{IsSound, IsNext, HasPut, IsAscending, IsClosedFrom, log_of, post_role, first_ends}
+use Rattle.msc_instance.specs.Active.{IsSound, IsNext, HasPut, IsAscending, IsClosedFrom, logged_by, post_role, first_ends}
 use Rattle.msc_instance.proofs.Finding.{sent_ascends}
 use Rattle.msc_instance.proofs.Logs.{on_post, not_logged, next_moves, log_due, log_shorter, upto_push}
 use Rattle.msc_instance.proofs.Numbered.{outlet_number, outlet_numbers, has_room}
@@ -27,12 +27,12 @@ module _ (d : Drawing) (p : Post) (a : Active) (s : IsSound d p a) where
   -- a look goes on along the line
   pub looked : (next first : ℕ) → a.next ≤ next → next ≤ p.end
       → ((e : ℕ) → a.next ≤ e → e < next → is_controlled d.events e ≡ false)
-      → a.first ≤ first → first ≤ p.end → ((e : ℕ) → a.first ≤ e → e < first → occurs (log_of a) e ≡ true)
+      → a.first ≤ first → first ≤ p.end → ((e : ℕ) → a.first ≤ e → e < first → occurs (logged_by a) e ≡ true)
       → IsSound d p (record a { next = next; first = first })
   looked next first ahead to none from first_to there = record {
     post = s.post;
     begun = s.begun;
-    next = next_moves d p s.post (log_of a) a.next s.next next ahead to none;
+    next = next_moves d p s.post (logged_by a) a.next s.next next ahead to none;
     first = record {
       from = omega (arith, s.first.from, from);
       to = first_to;
@@ -47,29 +47,29 @@ module _ (d : Drawing) (p : Post) (a : Active) (s : IsSound d p a) where
 
   -- the next output or local event, where all that is drawn before it is logged
   module _ (within : a.next < p.end) (due : is_controlled d.events a.next ≡ true)
-      (ready : (x : ℕ) → before d.events x a.next ≡ true → occurs (log_of a) x ≡ true) where
-    pub due_log : IsLogOf d p.instance (log_of a ++ a.next ∷ []) × IsNext d p (log_of a ++ a.next ∷ [])
+      (ready : (x : ℕ) → before d.events x a.next ≡ true → occurs (logged_by a) x ≡ true) where
+    pub due_log : IsLogOf d p.instance (logged_by a ++ a.next ∷ []) × IsNext d p (logged_by a ++ a.next ∷ [])
         (a.next + 1)
-    due_log = log_due d p s.post (log_of a) a.next s.next within due s.begun.kept.log ready
+    due_log = log_due d p s.post (logged_by a) a.next s.next within due s.begun.kept.log ready
 
-    pub due_new : occurs (log_of a) a.next ≡ false
-    due_new = not_logged d p s.post (log_of a) a.next s.next a.next (omega arith) due
+    pub due_new : occurs (logged_by a) a.next ≡ false
+    due_new = not_logged d p s.post (logged_by a) a.next s.next a.next (omega arith) due
 
-    pub due_fits : length (log_of a) < vec_capacity a.journal.log
-    due_fits = omega (arith, log_shorter d p.instance (log_of a) a.next due_log.0, s.room)
+    pub due_fits : length (logged_by a) < vec_capacity a.journal.log
+    due_fits = omega (arith, log_shorter d p.instance (logged_by a) a.next due_log.0, s.room)
 
     not_shut : a.shut ≡ false
     not_shut = by_test a.shut (λ shut. absurd (omega (arith, s.closed shut))) (λ no'. no')
 
     pub acted : is_local d.events a.next ≡ true → (journal : Journal)
-        → journal.log.items ≡ log_of a ++ a.next ∷ []
+        → journal.log.items ≡ logged_by a ++ a.next ∷ []
         → vec_capacity journal.log ≡ vec_capacity a.journal.log
         → IsSound d p (record a { journal = journal; next = a.next + 1 })
     acted local journal noted room = record {
       post = s.post;
       begun = rw noted (begun_acted s.begun a.next local due_new due_log.0);
       next = rw noted due_log.1;
-      first = rw noted (upto_push p (log_of a) a.first a.next s.first);
+      first = rw noted (upto_push p (logged_by a) a.first a.next s.first);
       closed = λ shut. clash shut not_shut;
       room = omega (arith, room, s.room);
     }
@@ -79,22 +79,22 @@ module _ (d : Drawing) (p : Post) (a : Active) (s : IsSound d p a) where
       pub its_outlet : occurs (map outlet_number a.outlets.items)
           (queue_of p.queues d (message d.events a.next)) ≡ true
       its_outlet =
-          let on = on_post d p s.post (log_of a) a.next s.next a.next s.next.from within in
-          let put = subst (λ b. ArePutBy b (post_role d p) (log_of a) s.begun.reading
+          let on = on_post d p s.post (logged_by a) a.next s.next a.next s.next.from within in
+          let put = subst (λ b. ArePutBy b (post_role d p) (logged_by a) s.begun.reading
           (first_ends p).outlets a.outlets.items) not_shut s.begun.kept.put in
           subst (λ l. occurs l (queue_of p.queues d (message d.events a.next)) ≡ true)
-          (sym (outlet_numbers (post_role d p) (first_ends p) s.post.fit (log_of a) s.begun.reading
+          (sym (outlet_numbers (post_role d p) (first_ends p) s.post.fit (logged_by a) s.begun.reading
           a.outlets.items put))
           (s.post.laws.outlets p.queues d p.instance a.next s.post.accepted output on.1)
 
       -- the numbers of the outlets ascend
       pub its_outlets : IsAscending (map outlet_number a.outlets.items)
       its_outlets =
-          let put = subst (λ b. ArePutBy b (post_role d p) (log_of a) s.begun.reading
+          let put = subst (λ b. ArePutBy b (post_role d p) (logged_by a) s.begun.reading
           (first_ends p).outlets a.outlets.items)
           not_shut s.begun.kept.put in
           subst IsAscending
-          (sym (outlet_numbers (post_role d p) (first_ends p) s.post.fit (log_of a) s.begun.reading
+          (sym (outlet_numbers (post_role d p) (first_ends p) s.post.fit (logged_by a) s.begun.reading
           a.outlets.items put))
           (sent_ascends (post_role d p))
 
@@ -102,15 +102,15 @@ module _ (d : Drawing) (p : Post) (a : Active) (s : IsSound d p a) where
           (here : (get_or a.outlets.items k o).0 ≡ queue_of p.queues d (message d.events a.next)) where
         pub its_room : HasRoom (get_or a.outlets.items k o).1
         its_room =
-            let put = subst (λ b. ArePutBy b (post_role d p) (log_of a) s.begun.reading
+            let put = subst (λ b. ArePutBy b (post_role d p) (logged_by a) s.begun.reading
             (first_ends p).outlets a.outlets.items) not_shut s.begun.kept.put in
-            has_room (post_role d p) (first_ends p) s.post.fit (log_of a) s.begun.reading
+            has_room (post_role d p) (first_ends p) s.post.fit (logged_by a) s.begun.reading
             a.outlets.items k o a.next s.post.laws.quotas s.post.accepted
             due_log.0 output lt (sym here) put
 
         pub has_sent : (new : NumberedOutlet) (now : ℕ) (journal : Journal)
             → HasPut (message d.events a.next) a.clock now (get_or a.outlets.items k o) new
-            → journal.log.items ≡ log_of a ++ a.next ∷ []
+            → journal.log.items ≡ logged_by a ++ a.next ∷ []
             → vec_capacity journal.log ≡ vec_capacity a.journal.log
             → IsSound d p (record a {
               outlets = with_item a.outlets k new;
@@ -123,21 +123,21 @@ module _ (d : Drawing) (p : Post) (a : Active) (s : IsSound d p a) where
           post = s.post;
           begun = rw noted (begun_out put);
           next = rw noted due_log.1;
-          first = rw noted (upto_push p (log_of a) a.first a.next s.first);
+          first = rw noted (upto_push p (logged_by a) a.first a.next s.first);
           closed = λ shut. clash shut not_shut;
           room = omega (arith, room, s.room);
         }
           where
             begun_out : HasPut (message d.events a.next) a.clock now (get_or a.outlets.items k o) new
                 → HasBegun (post_role d p) (first_ends p)
-                (state a.shut (set a.outlets.items k new) a.inlets.items (log_of a ++ a.next ∷ [])
+                (state a.shut (set a.outlets.items k new) a.inlets.items (logged_by a ++ a.next ∷ [])
                 now)
             begun_out put =
                 subst (λ b. HasBegun (post_role d p) (first_ends p)
-                (state b (set a.outlets.items k new) a.inlets.items (log_of a ++ a.next ∷ []) now))
+                (state b (set a.outlets.items k new) a.inlets.items (logged_by a ++ a.next ∷ []) now))
                 (sym not_shut)
                 (begun_sent (subst (λ b. HasBegun (post_role d p) (first_ends p)
-                (state b a.outlets.items a.inlets.items (log_of a) a.clock)) not_shut s.begun)
+                (state b a.outlets.items a.inlets.items (logged_by a) a.clock)) not_shut s.begun)
                 k now a.next o new s.post.fit output due_new due_log.0 lt (sym here) put)
 
 -- a local event is controlled
@@ -167,7 +167,7 @@ pub has_closed : (d : Drawing) (p : Post) (a : Active) (outs : Vec NumberedOutle
 has_closed d p a outs s opened done closed = record {
   post = s.post;
   begun = begun_closed (subst (λ b. HasBegun (post_role d p) (first_ends p)
-      (state b a.outlets.items a.inlets.items (log_of a) a.clock)) opened s.begun) outs.items closed;
+      (state b a.outlets.items a.inlets.items (logged_by a) a.clock)) opened s.begun) outs.items closed;
   next = s.next;
   first = s.first;
   closed = λ _. done;

@@ -11,7 +11,7 @@ use Rattle.msc_chart.specs.Laws.{messages_in, sends_to, EventsHaveQueues, QueueN
 use Rattle.msc_chart.proofs.ListLemmas.{by_test}
 use Rattle.msc_execution.specs.Roles.{Role, EndLists, role, queues_below, quota_of, takes_from, sent_queues, taken_queues, IsFit}
 use Rattle.msc_execution.proofs.Wiring.Growing.{any_has}
-use Rattle.msc_instance.specs.Fitting.{AreCountsOf, HaveRoom, numbers_in, numbers_of}
+use Rattle.msc_instance.specs.Fitting.{AreCountsOf, HaveRoom, numbers_in, numbers_of_ends}
 use Rattle.msc_instance.proofs.Counted.{queue_small}
 use Rattle.msc_instance.proofs.ListCounts.{any_counts}
 use Rattle.msc_instance.proofs.Quotas.{sender_has}
@@ -102,7 +102,7 @@ module _ (r : Role) (sent : List ℕ) (ends : EndLists)
       (room.0, omega (arith, room.1, quotas (get_or ends.outlets k o).0))
 
   -- ends with the numbers of an instance's queues, and with that room, fit
-  pub fitting : numbers_of ends.outlets ≡ sent_queues r → numbers_of ends.inlets ≡ taken_queues r
+  pub fitting : numbers_of_ends ends.outlets ≡ sent_queues r → numbers_of_ends ends.inlets ≡ taken_queues r
       → HaveRoom sent ends.outlets → IsFit r ends
   fitting outlets inlets room = record {
     outlets = outlets;
@@ -118,6 +118,7 @@ zero_everywhere zero q = refl
 zero_everywhere (suc n) zero = refl
 zero_everywhere (suc n) (suc q) = zero_everywhere n q
 
+-- a part of it is nothing, too
 pub zero_in_part : (b : ℕ) (xs : List ℕ) → ((q : ℕ) → get_or xs q 0 ≡ 0) → (q : ℕ)
     → get_or (take b xs) q 0 ≡ 0
 zero_in_part zero xs h q = refl

@@ -20,7 +20,7 @@ use Rattle.msc_execution.proofs.Wiring.Logged.{input_is}
 use Rattle.msc_instance.specs.declared.active.Active.{Active}
 use Rattle.msc_instance.specs.declared.active.Post.{Post}
 use Rattle.msc_instance.specs.declared.journal.Journal.{Journal}
-use Rattle.msc_instance.specs.Active.{IsSound, IsNext, IsQuiet, EndsSo, HasGot, log_of, post_role, first_ends, weight}
+use Rattle.msc_instance.specs.Active.{IsSound, IsNext, IsQuiet, EndsSo, HasGot, logged_by, post_role, first_ends, weight}
 use Rattle.msc_instance.proofs.Logs.{log_input, log_shorter, upto_push}
 use Rattle.msc_instance.proofs.Numbered.{inlet_number, inlet_numbers, number_there}
 use Rattle.msc_instance.proofs.Begun.{begun_took, begun_ended, begun_nothing}
@@ -85,7 +85,7 @@ module _ (d : Drawing) (p : Post) (a : Active) (s : IsSound d p a) (k : ℕ) (n 
   -- a message that is strange
   pub took_strange : (i m place now : ℕ)
       → HasGot a.clock (took.Message i m place now) (get_or a.inlets.items k n) new
-      → IsStrange (post_role d p) (get_or a.inlets.items k n).0 (log_of a) m
+      → IsStrange (post_role d p) (get_or a.inlets.items k n).0 (logged_by a) m
       → (open' : Bool) (patience : ℕ)
       → EndsSo d p open' patience (record a { inlets = with_item a.inlets k new }) (end.Foreign m)
   took_strange i m place now got odd open' patience =
@@ -94,12 +94,12 @@ module _ (d : Drawing) (p : Post) (a : Active) (s : IsSound d p a) (k : ℕ) (n 
   -- a message of the chart in the queue whose input is not logged
   module _ (m : ℕ) (known : m < length d.messages)
       (here : queue_of p.queues d m ≡ (get_or a.inlets.items k n).0)
-      (fresh : occurs (log_of a) (input_of d m) ≡ false) where
+      (fresh : occurs (logged_by a) (input_of d m) ≡ false) where
     its_line : line d.events (input_of d m) ≡ p.instance
     unfolding receiver_of
     its_line =
         let numbers = inlet_numbers (post_role d p) (first_ends p) s.post.fit
-        (log_of a) s.begun.reading a.inlets.items s.begun.kept.got in
+        (logged_by a) s.begun.reading a.inlets.items s.begun.kept.got in
         let there = subst (λ l. occurs l (get_or a.inlets.items k n).0 ≡ true) numbers
         (number_there a.inlets.items k n lt) in
         s.post.laws.own p.queues d (get_or a.inlets.items k n).0 p.instance m s.post.accepted there known here
@@ -107,20 +107,20 @@ module _ (d : Drawing) (p : Post) (a : Active) (s : IsSound d p a) (k : ℕ) (n 
     pub its_event : input_of d m < length d.events
     its_event = (input_parts d.events (input_of d m) (input_is p.queues d s.post.accepted m known).0).0
 
-    input_log : IsLogOf d p.instance (log_of a ++ input_of d m ∷ [])
-        × IsNext d p (log_of a ++ input_of d m ∷ []) a.next
+    input_log : IsLogOf d p.instance (logged_by a ++ input_of d m ∷ [])
+        × IsNext d p (logged_by a ++ input_of d m ∷ []) a.next
     input_log =
         let input = (input_is p.queues d s.post.accepted m known).0 in
-        log_input d p (log_of a) a.next (input_of d m) s.post s.next s.begun.kept.log its_event its_line
+        log_input d p (logged_by a) a.next (input_of d m) s.post s.next s.begun.kept.log its_event its_line
         (fails (is_controlled d.events (input_of d m))
         (λ c. controlled_no_input d.events (input_of d m) c input)) fresh
 
-    pub input_fits : length (log_of a) < vec_capacity a.journal.log
-    input_fits = omega (arith, log_shorter d p.instance (log_of a) (input_of d m) input_log.0, s.room)
+    pub input_fits : length (logged_by a) < vec_capacity a.journal.log
+    input_fits = omega (arith, log_shorter d p.instance (logged_by a) (input_of d m) input_log.0, s.room)
 
     pub took_input : (i place now : ℕ) (journal : Journal)
         → HasGot a.clock (took.Message i m place now) (get_or a.inlets.items k n) new
-        → journal.log.items ≡ log_of a ++ input_of d m ∷ []
+        → journal.log.items ≡ logged_by a ++ input_of d m ∷ []
         → vec_capacity journal.log ≡ vec_capacity a.journal.log
         → IsSound d p (record a { inlets = with_item a.inlets k new; journal = journal; clock = now })
         × (weight d p (record a { inlets = with_item a.inlets k new; journal = journal; clock = now })
@@ -137,7 +137,7 @@ module _ (d : Drawing) (p : Post) (a : Active) (s : IsSound d p a) (k : ℕ) (n 
             begun = rw noted (begun_took s.begun k (input_of d m) i place now n new
                 s.post.fit is.0 fresh input_log.0 lt at got2);
             next = rw noted input_log.1;
-            first = rw noted (upto_push p (log_of a) a.first (input_of d m) s.first);
+            first = rw noted (upto_push p (logged_by a) a.first (input_of d m) s.first);
             closed = s.closed;
             room = omega (arith, room, s.room);
           },
@@ -145,7 +145,7 @@ module _ (d : Drawing) (p : Post) (a : Active) (s : IsSound d p a) (k : ℕ) (n 
             arith,
             sums,
             got.unended,
-            left_fewer d p.instance (log_of a) journal.log.items
+            left_fewer d p.instance (logged_by a) journal.log.items
                 (input_of d m) input_log.0 noted,
           ),
         )

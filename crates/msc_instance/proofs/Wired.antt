@@ -12,15 +12,12 @@ use Rattle.msc_chart.specs.Laws.{sends_to}
 use Rattle.msc_fifo.specs.Identity.{QueueId}
 use Rattle.msc_fifo.specs.NoQueue.{no_queue}
 use Rattle.msc_fifo.specs.Ends.{new_outlet, new_inlet}
-use Rattle.msc_execution.specs.Roles.{Role, EndLists, NumberedOutlet, NumberedInlet, role, quota_of, rank_of, takes_from, fresh_outlet, fresh_inlet, IsWiring, IsFit}
+use Rattle.msc_execution.specs.Roles.{Role, EndLists, ends_from, NumberedOutlet, NumberedInlet, role, quota_of, rank_of, takes_from, fresh_outlet, fresh_inlet, IsWiring, IsFit}
 use Rattle.msc_execution.specs.Fits.{no_ends, wired_below, WiringsFit, WiringGrows}
 use Rattle.msc_instance.specs.declared.ends.InstanceEnds.{InstanceEnds}
 use Rattle.msc_instance.specs.Views.{ends_of}
 use Rattle.msc_instance.specs.Handing.{AreUnder, AreHandedOut, AreWiredBelow, ends_at, inlet_for, outlet_for, quotas_of, senders_among}
 use Rattle.msc_instance.proofs.Quotas.{sender_has, ranks, all_senders}
-
-ends_from : List NumberedOutlet → List NumberedInlet → EndLists
-ends_from a b = record { outlets = a; inlets = b }
 
 -- the same queues, and one more
 with_queue : (ℕ → QueueId) → ℕ → QueueId → ℕ → QueueId
@@ -68,7 +65,7 @@ pub wired_more : WiringGrows → (queues : Queues) (d : Drawing) (q receiver : �
     (senders_among (quotas_of queues d q)) && nat_eq receiver i))
     → AreWiredBelow queues d q all → AreHandedOut q quotas receiver all new
     → AreWiredBelow queues d (q + 1) new
-unfolding with_queue ends_from
+unfolding with_queue
 wired_more grows queues d q receiver quotas all new is same takes before handed =
     let id : ℕ → QueueId = with_queue before.id q handed.id in
     let here : id q ≡ handed.id = ap (λ b. cond b handed.id (before.id q)) (eq-eqb q q refl) in

@@ -2,9 +2,9 @@
 use Rattle.std.proofs.Common.{◌≡◌, ◌≢◌, ℕ, zero, suc, ◌<◌, true, false, List, [], ◌∷◌, map, length, set, get_or, drop, ◌≤◌, refl, sym, ap, subst, arith}
 use Rattle.std.specs.List.{AllZip}
 use Rattle.msc_chart.specs.Lists.{occurs}
-use Rattle.msc_chart.proofs.ListLemmas.{clash}
+use Rattle.msc_chart.proofs.ListLemmas.{clash, occurs-head, occurs-tail}
 use Rattle.msc_gather.proofs.Apart.{Apart}
-use Rattle.msc_execution.proofs.Lists.Words.{at_head, in_tail, fails}
+use Rattle.msc_execution.proofs.Lists.Words.{fails}
 
 -- a wider relation holds too
 pub zip_map : {X Y : Type 0} (R S : X → Y → Type 0) (xs : List X) (ys : List Y)
@@ -50,9 +50,9 @@ zip_others R S num q [] (y ∷ ys) f none h = absurd h
 zip_others R S num q (x ∷ xs) [] f none h = absurd h
 zip_others R S num q (x ∷ xs) (y ∷ ys) f none h = (
   f x y h.0 (λ same. clash (subst (λ (k : ℕ). occurs (num x ∷ map num xs) k ≡ true) same
-      (at_head (num x) (map num xs))) none),
+      (occurs-head (num x) (map num xs))) none),
   zip_others R S num q xs ys f
-      (fails (occurs (map num xs) q) (λ there. clash (in_tail (num x) (map num xs) q there) none)) h.1,
+      (fails (occurs (map num xs) q) (λ there. clash (occurs-tail (num x) (map num xs) q there) none)) h.1,
 )
 
 -- the number at a place is one of the numbers
@@ -63,9 +63,9 @@ zip_number R num q [] [] k y f lt h = absurd (omega arith)
 zip_number R num q [] (z ∷ ys) k y f lt h = absurd h
 zip_number R num q (x ∷ xs) [] k y f lt h = absurd h
 zip_number R num q (x ∷ xs) (z ∷ ys) zero y f lt h =
-    subst (λ (k : ℕ). occurs (num x ∷ map num xs) k ≡ true) (f x h.0) (at_head (num x) (map num xs))
+    subst (λ (k : ℕ). occurs (num x ∷ map num xs) k ≡ true) (f x h.0) (occurs-head (num x) (map num xs))
 zip_number R num q (x ∷ xs) (z ∷ ys) (suc k) y f lt h =
-    in_tail (num x) (map num xs) q (zip_number R num q xs ys k y f (omega arith) h.1)
+    occurs-tail (num x) (map num xs) q (zip_number R num q xs ys k y f (omega arith) h.1)
 
 -- One place changes, that of number q, and the others are looked at anew.
 pub zip_one : {X : Type 0} (R S : X → X → Type 0) (num : X → ℕ) (q : ℕ) (xs ys : List X) (k : ℕ) (y new : X)

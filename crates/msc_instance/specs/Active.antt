@@ -39,9 +39,10 @@ abbrev pub ends_now : Active → EndLists
 ends_now a = record { outlets = a.outlets.items; inlets = a.inlets.items }
 
 -- what has been logged
-abbrev pub log_of : Active → List ℕ
-log_of a = a.journal.log.items
+abbrev pub logged_by : Active → List ℕ
+logged_by a = a.journal.log.items
 
+-- what is said of an instance between two steps
 abbrev pub state_of : Active → State
 state_of a = record { shut = a.shut; ends = ends_now a; log = a.journal.log.items; clock = a.clock }
 
@@ -81,8 +82,8 @@ pub record HasUpTo (p : Post) (log : List ℕ) (first : ℕ) : Type 0 where
 pub record IsSound (d : Drawing) (p : Post) (a : Active) : Type 0 where
   pub post : IsPost d p
   pub begun : HasBegun (post_role d p) (first_ends p) (state_of a)
-  pub next : IsNext d p (log_of a) a.next
-  pub first : HasUpTo p (log_of a) a.first
+  pub next : IsNext d p (logged_by a) a.next
+  pub first : HasUpTo p (logged_by a) a.first
   pub closed : a.shut ≡ true → a.next ≡ p.end
   pub room : length (line_events d p.instance) ≤ vec_capacity a.journal.log
 
@@ -90,12 +91,12 @@ pub record IsSound (d : Drawing) (p : Post) (a : Active) : Type 0 where
 abbrev pub weight : Drawing → Post → Active → ℕ
 weight d p a =
     sum_by (λ (n : NumberedInlet). unended_in n.1) a.inlets.items
-    + (length (line_events d p.instance) - length (log_of a))
+    + (length (line_events d p.instance) - length (logged_by a))
 
 -- what sending and closing leave: the inlets, and all that was logged
 pub record HasSent (a b : Active) : Type 0 where
   pub inlets : b.inlets.items ≡ a.inlets.items
-  pub longer : length (log_of a) ≤ length (log_of b)
+  pub longer : length (logged_by a) ≤ length (logged_by b)
 
 -- the line's first output or local event outside the log, if there is one, lacks something
 abbrev pub IsBlocked : Drawing → ℕ → List ℕ → Type 0
@@ -147,16 +148,16 @@ pub record HasCome (r : Role) (open' : Bool) (patience : ℕ) (first : EndLists)
   pub ended : EndsAs r open' patience reading left strange left.end
 
 -- what an instance leaves that ends so
-abbrev pub left_of : Active → End → Left
-left_of a end = record { log = a.journal.log.items; ends = ends_now a; end = end }
+abbrev pub what_is_left : Active → End → Left
+what_is_left a end = record { log = a.journal.log.items; ends = ends_now a; end = end }
 
 -- the run of an instance ends so
 abbrev pub EndsSo : Drawing → Post → Bool → ℕ → Active → End → Type 0
-EndsSo d p open' patience a end = HasCome (post_role d p) open' patience (first_ends p) a.shut (left_of a end)
+EndsSo d p open' patience a end = HasCome (post_role d p) open' patience (first_ends p) a.shut (what_is_left a end)
 
 -- a take on inlet k found nothing
 pub record IsQuiet (k : ℕ) (a b : Active) : Type 0 where
-  pub kept : log_of b ≡ log_of a
+  pub kept : logged_by b ≡ logged_by a
   pub idle : (n : NumberedInlet)
       → (get_or b.inlets.items k n).1.idle ≡ min ((get_or a.inlets.items k n).1.idle + 1) 4294967295
   pub others : (j : ℕ) (n : NumberedInlet) → j ≢ k → get_or b.inlets.items j n ≡ get_or a.inlets.items j n
@@ -172,7 +173,7 @@ TookOne d p k a b (step.Foreign m) = (open' : Bool) (patience : ℕ)
 
 -- no take of a round found anything
 pub record IsIdle (a b : Active) : Type 0 where
-  pub kept : log_of b ≡ log_of a
+  pub kept : logged_by b ≡ logged_by a
   pub idle : (n : ℕ) → n < 4294967295 → All (λ (i : NumberedInlet). n ≤ i.1.idle) a.inlets.items
       → All (λ (i : NumberedInlet). n + 1 ≤ i.1.idle) b.inlets.items
 

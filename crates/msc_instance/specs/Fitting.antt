@@ -17,16 +17,16 @@ AreCountsOf instance queues d i n counts =
     (range_with_len 0 n))
 
 -- the numbers of the queues that have a message in the table, from q on
-abbrev pub numbers_from : List ℕ → ℕ → ℕ → List ℕ
-numbers_from counts q n = filter (λ k. nat_lt 0 (get_or counts k 0)) (range_with_len q n)
+abbrev pub used_numbers_from : List ℕ → ℕ → ℕ → List ℕ
+used_numbers_from counts q n = filter (λ k. nat_lt 0 (get_or counts k 0)) (range_with_len q n)
 
 -- and all of them
 abbrev pub numbers_in : List ℕ → List ℕ
-numbers_in counts = numbers_from counts 0 (length counts)
+numbers_in counts = used_numbers_from counts 0 (length counts)
 
 -- the numbers of these ends
-abbrev pub numbers_of : {A : Type 0} → List (ℕ × A) → List ℕ
-numbers_of {A} ends = map (λ (e : ℕ × A). e.0) ends
+abbrev pub numbers_of_ends : {A : Type 0} → List (ℕ × A) → List ℕ
+numbers_of_ends {A} ends = map (λ (e : ℕ × A). e.0) ends
 
 -- the outlet is open, with room for so many messages more
 abbrev pub HasRoomFor : OutletState → ℕ → Type 0

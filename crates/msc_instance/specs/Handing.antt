@@ -12,14 +12,14 @@ use Rattle.msc_instance.specs.declared.ends.InstanceEnds.{InstanceEnds}
 use Rattle.msc_instance.specs.Views.{ends_of}
 
 -- where a table counts message m: it has a row for each queue, and there a place for each instance
-abbrev pub place_of : Queues → Drawing → ℕ → ℕ
-place_of queues d m = queue_of queues d m * length d.instances + sender_of d m
+abbrev pub table_place : Queues → Drawing → ℕ → ℕ
+table_place queues d m = queue_of queues d m * length d.instances + sender_of d m
 
 -- the table has the counts of the messages below n
 abbrev pub AreCounted : Queues → Drawing → ℕ → List ℕ → Type 0
 AreCounted queues d n counts =
     (k : ℕ) → k < length counts → get_or counts k 0
-    ≡ count_by (λ m. nat_eq (place_of queues d m) k) (range_with_len 0 n)
+    ≡ count_by (λ m. nat_eq (table_place queues d m) k) (range_with_len 0 n)
 
 -- the list has the receiver of each queue that has a message below n
 abbrev pub AreReceivers : Queues → Drawing → ℕ → List ℕ → Type 0

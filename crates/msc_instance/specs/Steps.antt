@@ -2,7 +2,7 @@
 use Rattle.std.specs.Prelude.{◌≡◌, ℕ, Bool, true, false, cond, List, ◌++◌, map, nat_eq}
 use Rattle.std.specs.List.{AllZip}
 use Rattle.msc_fifo.specs.Ends.{IsSameOutlet, IsSameInlet}
-use Rattle.msc_execution.specs.Roles.{Role, EndLists, NumberedOutlet, NumberedInlet, IsFit}
+use Rattle.msc_execution.specs.Roles.{Role, EndLists, NumberedOutlet, NumberedInlet}
 use Rattle.msc_execution.specs.Logs.{Reading, IsLogOf, clock_along, outputs_at, inputs_at, sent, received}
 use Rattle.msc_execution.specs.Growth.{all_messages, clocks_at, claim_at, IsLeftBy}
 
@@ -53,12 +53,6 @@ pub record IsKept (r : Role) (reading : Reading) (first : EndLists) (s : State) 
 pub record HasBegun (r : Role) (first : EndLists) (s : State) : Type 0 where
   pub reading : Reading
   pub kept : IsKept r reading first s
-
--- an instance that began with ends that fit
-pub record IsUnderWay (r : Role) (s : State) : Type 0 where
-  pub first : EndLists
-  pub fit : IsFit r first
-  pub begun : HasBegun r first s
 
 -- whatever ends an instance began with, it goes on from the one to the other
 abbrev pub GoesOn : Role → State → State → Type 0

@@ -3,7 +3,7 @@
 ghost use Rattle.std.specs.Prelude.{◌≡◌, ◌<◌, ◌≤◌, ◌+◌, false, ℕ, IsTrue};
 ghost use Rattle.msc_chart.specs.Lists.{occurs};
 ghost use Rattle.msc_chart.specs.Charts.{before, is_controlled, is_local, is_output};
-ghost use Rattle.msc_instance.specs.Active.{HasSent, IsSound, log_of};
+ghost use Rattle.msc_instance.specs.Active.{HasSent, IsSound, logged_by};
 
 use crate::ends::InstanceEnds;
 use crate::journal::Journal;
@@ -48,7 +48,7 @@ impl Active {
         ensures next { self.new.next < post.now.end
             → IsTrue (is_controlled chart.now.events self.new.next) }
         ensures first { self.new.first < post.now.end
-            → occurs (log_of self.new) self.new.first ≡ false }
+            → occurs (logged_by self.new) self.new.first ≡ false }
         ensures shut { self.new.shut ≡ self.old.shut }
     {
         self.next = next_controlled(chart, self.next, post.end);
@@ -61,12 +61,12 @@ impl Active {
         requires within { self.old.next < post.now.end }
         requires output { IsTrue (is_output chart.now.events self.old.next) }
         requires ready { (x : ℕ) → IsTrue (before chart.now.events x self.old.next)
-            → IsTrue (occurs (log_of self.old) x) }
+            → IsTrue (occurs (logged_by self.old) x) }
         ensures sound { IsSound chart.now post.now self.new }
         ensures sent { HasSent self.old self.new }
         ensures next { IsTrue result → self.new.next ≡ self.old.next + 1 }
         ensures spent { result ≡ false → self.new.clock ≡ 18446744073709551615 }
-        ensures kept { result ≡ false → log_of self.new ≡ log_of self.old }
+        ensures kept { result ≡ false → logged_by self.new ≡ logged_by self.old }
         ensures shut { self.new.shut ≡ self.old.shut }
     {
         let e = self.next;
@@ -87,7 +87,7 @@ impl Active {
         requires within { self.old.next < post.now.end }
         requires local { IsTrue (is_local chart.now.events self.old.next) }
         requires ready { (x : ℕ) → IsTrue (before chart.now.events x self.old.next)
-            → IsTrue (occurs (log_of self.old) x) }
+            → IsTrue (occurs (logged_by self.old) x) }
         ensures sound { IsSound chart.now post.now self.new }
         ensures sent { HasSent self.old self.new }
         ensures next { self.new.next ≡ self.old.next + 1 }

@@ -3,16 +3,16 @@
 ghost use Rattle.std.specs.Prelude.{◌≡◌, ℕ, ◌↔◌, IsTrue, length, get_or};
 ghost use Rattle.msc_chart.specs.Orders.{queue_bound};
 ghost use Rattle.msc_execution.specs.Roles.{IsFit, quota_of, role, sent_queues, taken_queues};
-ghost use Rattle.msc_instance.specs.Fitting.{HasRoomFor, HaveRoom, numbers_in, numbers_of};
+ghost use Rattle.msc_instance.specs.Fitting.{HasRoomFor, HaveRoom, numbers_in, numbers_of_ends};
 ghost use Rattle.msc_instance.specs.Views.{ends_of};
 
 use crate::ends::InstanceEnds;
 use msc_chart::laws::{events_have_queues, queue_numbers_are_bounded};
-use msc_chart::{Chart, Queues, Wiring};
+use msc_chart::{Chart, INSTANCE_LIMIT, Queues, Wiring};
 use msc_fifo::Outlet;
 
 /// The greatest number past all queue numbers of a chart.
-const QUEUE_LIMIT: usize = 1_024;
+const QUEUE_LIMIT: usize = INSTANCE_LIMIT as usize * INSTANCE_LIMIT as usize;
 
 /// A table with no message.
 fn no_counts() -> [u32; QUEUE_LIMIT]
@@ -43,7 +43,7 @@ fn count_own(chart: &Chart, queues: Queues, i: u32, sent: &mut [u32], taken: &mu
 
 /// Whether the numbers of the ends are those of the queues in the table, ascending.
 fn are_numbered<T>(ends: &[(u32, T)], counts: &[u32]) -> bool
-    ensures { IsTrue result ↔ (numbers_of ends.now ≡ numbers_in counts.now) }
+    ensures { IsTrue result ↔ (numbers_of_ends ends.now ≡ numbers_in counts.now) }
 {
     let mut k = 0;
     for q in 0..counts.len() {

@@ -3,7 +3,7 @@
 ghost use Rattle.std.specs.Prelude.{◌≡◌, ◌<◌, ◌+◌, ℕ, false, true, IsTrue};
 ghost use Rattle.msc_chart.specs.Lists.{occurs};
 ghost use Rattle.msc_chart.specs.Charts.{before, is_controlled};
-ghost use Rattle.msc_instance.specs.Active.{HasSent, IsBlocked, IsSound, log_of};
+ghost use Rattle.msc_instance.specs.Active.{HasSent, IsBlocked, IsSound, logged_by};
 
 use crate::active::{Active, Post};
 use crate::gate::Gate;
@@ -25,13 +25,13 @@ impl Active {
         requires within { self.old.next < post.now.end }
         requires due { IsTrue (is_controlled chart.now.events self.old.next) }
         requires ready { (x : ℕ) → IsTrue (before chart.now.events x self.old.next)
-            → IsTrue (occurs (log_of self.old) x) }
+            → IsTrue (occurs (logged_by self.old) x) }
         ensures sound { IsSound chart.now post.now self.new }
         ensures sent { HasSent self.old self.new }
         ensures next { IsTrue result → self.new.next ≡ self.old.next + 1 }
         ensures stopped { G.is_open ≡ true → result ≡ false
             → self.new.clock ≡ 18446744073709551615 }
-        ensures kept { result ≡ false → log_of self.new ≡ log_of self.old }
+        ensures kept { result ≡ false → logged_by self.new ≡ logged_by self.old }
         ensures shut { self.new.shut ≡ self.old.shut }
     {
         if !gate.at(post.instance, self.next) {
@@ -51,11 +51,11 @@ impl Active {
         ensures sent { HasSent self.old self.new }
         ensures done { result ≡ Sending.Done → self.new.next ≡ post.now.end }
         ensures waits { result ≡ Sending.Waits
-            → IsBlocked chart.now post.now.instance (log_of self.new) }
+            → IsBlocked chart.now post.now.instance (logged_by self.new) }
         ensures stopped { G.is_open ≡ true → result ≡ Sending.Stopped
             → self.new.clock ≡ 18446744073709551615 }
         ensures first { (result ≡ Sending.Stopped → ⊥) → self.new.first < post.now.end
-            → occurs (log_of self.new) self.new.first ≡ false }
+            → occurs (logged_by self.new) self.new.first ≡ false }
         ensures shut { self.new.shut ≡ self.old.shut }
     {
         'events: loop {
@@ -79,9 +79,9 @@ impl Active {
         ensures sound { IsSound chart.now post.now self.new }
         ensures sent { HasSent self.old self.new }
         ensures blocked { IsTrue result
-            → IsBlocked chart.now post.now.instance (log_of self.new) }
+            → IsBlocked chart.now post.now.instance (logged_by self.new) }
         ensures first { IsTrue result → self.new.first < post.now.end
-            → occurs (log_of self.new) self.new.first ≡ false }
+            → occurs (logged_by self.new) self.new.first ≡ false }
         ensures stopped { G.is_open ≡ true → result ≡ false
             → self.new.clock ≡ 18446744073709551615 }
     {

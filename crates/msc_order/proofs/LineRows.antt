@@ -6,7 +6,7 @@ use Rattle.msc_chart.specs.declared.event.ChartEvent.{ChartEvent}
 use Rattle.msc_chart.specs.Charts.{partner, is_output, is_controlled, before, ShareSegment}
 use Rattle.msc_chart.proofs.Drawn.{before_from, before_parts, output_controlled}
 use Rattle.bit_rows.specs.Tables.{with_row}
-use Rattle.msc_order.specs.Causes.{Led, LedByLine, IsSound, HasRowOf, KeepsOthers, IsBegun, IsNextSegment}
+use Rattle.msc_order.specs.Causes.{Led, LedByLine, HoldsOnly, HasRowOf, KeepsOthers, IsBegun, IsNextSegment}
 use Rattle.msc_order.specs.Causes.Led.{led, carried, chained}
 use Rattle.bit_rows.proofs.Bits.{clash}
 use Rattle.msc_order.proofs.Leading.{row_cases, row_kept, row_there, row_after, row_others}
@@ -64,7 +64,7 @@ module _ (events : List ChartEvent) (inputs : Bool) where
       ]
 
   -- a row that takes in the row of an event that is drawn later stays within what the line leads to
-  pub line_taken : (test now last : ℕ → ℕ → Bool) (e f : ℕ) (wanted : Bool) → IsSound (Led events inputs) test → before events e f ≡ true
+  pub line_taken : (test now last : ℕ → ℕ → Bool) (e f : ℕ) (wanted : Bool) → HoldsOnly (Led events inputs) test → before events e f ≡ true
       → (wanted ≡ true → (inputs || is_controlled events f) ≡ true) → f ≢ e → KeepsOthers e test now
       → ((x y : ℕ) → last x y ≡ with_row now e f wanted x y) → ((y : ℕ) → now e y ≡ true → LedByLine events inputs e y)
       → (y : ℕ) → last e y ≡ true → LedByLine events inputs e y
@@ -168,7 +168,7 @@ module _ (events : List ChartEvent) (inputs : Bool) where
   module _ (test now : ℕ → ℕ → Bool) (begun : ℕ → Bool) (e : ℕ) (was : IsBegun events inputs test begun) (here : begun e ≡ true)
       (o : is_output events e ≡ true) (is : (x y : ℕ) → now x y ≡ with_row test e (partner events e) true x y) where
     -- what the row of an output takes in with its input is led to
-    message_sound : IsSound (Led events inputs) now
+    message_sound : HoldsOnly (Led events inputs) now
     message_sound x y h =
         elim (row_cases test e (partner events e) true x y (sym (is x y) ∙ h)) [
           | inl old ↦ was.sound x y old

@@ -36,8 +36,8 @@ pub record IsNextSegment (events : List ChartEvent) (e start end : ℕ) : Type 0
       → (start < end) × (((start ≤ y) × (y < end)) ⊎ IsTrue (before events start y))
 
 -- a test holds only pairs of the relation
-abbrev pub IsSound : (ℕ → ℕ → Type 0) → (ℕ → ℕ → Bool) → Type 0
-IsSound R test = (x y : ℕ) → IsTrue (test x y) → R x y
+abbrev pub HoldsOnly : (ℕ → ℕ → Type 0) → (ℕ → ℕ → Bool) → Type 0
+HoldsOnly R test = (x y : ℕ) → IsTrue (test x y) → R x y
 
 -- a test holds what the relation puts after x
 abbrev pub HasRowOf : (ℕ → ℕ → Type 0) → (ℕ → ℕ → Bool) → ℕ → Type 0
@@ -45,7 +45,7 @@ HasRowOf R test x = (y : ℕ) → R x y → IsTrue (test x y)
 
 -- a test holds exactly the pairs of a relation
 pub record IsTestOf (R : ℕ → ℕ → Type 0) (test : ℕ → ℕ → Bool) : Type 0 where
-  pub sound : IsSound R test
+  pub sound : HoldsOnly R test
   pub complete : (x : ℕ) → HasRowOf R test x
 
 -- one test holds all that another does
@@ -59,7 +59,7 @@ KeepsOthers e old new = (x y : ℕ) → x ≢ e → new x y ≡ old x y
 -- A test while it is closed, row by row: it holds only pairs that are led to. A row that is begun has
 -- all that the line of its event leads to, and no other has anything.
 pub record IsBegun (events : List ChartEvent) (inputs : Bool) (test : ℕ → ℕ → Bool) (begun : ℕ → Bool) : Type 0 where
-  pub sound : IsSound (Led events inputs) test
+  pub sound : HoldsOnly (Led events inputs) test
   pub lines : (x : ℕ) → IsTrue (begun x) → HasRowOf (LedByLine events inputs) test x
   pub blank : (x y : ℕ) → begun x ≡ false → test x y ≡ false
 
@@ -82,7 +82,7 @@ pub record InQueueOrder (chart : WiredChart) (r u : ℕ) : Type 0 where
 -- is caused after what it holds it holds too.
 pub record IsBetween (chart : WiredChart) (test : ℕ → ℕ → Bool) : Type 0 where
   pub caused : (x y : ℕ) → Caused chart.events x y → IsTrue (test x y)
-  pub enforced : IsSound (Enforced chart) test
+  pub enforced : HoldsOnly (Enforced chart) test
   pub outputs : (x y : ℕ) → IsTrue (is_output chart.events x) → IsTrue (test x y) → Caused chart.events x y
   pub onward : (x y z : ℕ) → IsTrue (test x y) → Caused chart.events y z → IsTrue (test x z)
 

@@ -10,7 +10,7 @@ ghost use Rattle.std.specs.Prelude.{IsTrue, OnOk, false};
 ghost use Rattle.msc_chart.specs.Charts.{before, is_controlled, Visual};
 ghost use Rattle.bit_rows.specs.Rows.{has, word_count};
 ghost use Rattle.bit_rows.specs.Tables.{cell, HasRow};
-ghost use Rattle.msc_order.specs.Causes.{Led, LedByLine, IsNextSegment, IsSound, IsTestOf};
+ghost use Rattle.msc_order.specs.Causes.{Led, LedByLine, IsNextSegment, HoldsOnly, IsTestOf};
 ghost use Rattle.msc_order.specs.Causes.{AreBegun, HasRowOf, Keeps, KeepsOthers};
 
 use crate::segments::next_segment;
@@ -34,7 +34,7 @@ fn add_lines(words: &mut [u64], chart: &Chart, inputs: bool, e: Event, start: Ev
         ≡ length chart.now.events * word_count (length chart.now.events) }
     requires known { e < length chart.now.events }
     requires next { IsNextSegment chart.now.events e start end }
-    requires sound { IsSound (Led chart.now.events inputs)
+    requires sound { HoldsOnly (Led chart.now.events inputs)
         (cell (length chart.now.events) words.old) }
     requires blank { (y : ℕ) → cell (length chart.now.events) words.old e y ≡ false }
     requires later { (f : ℕ) → IsTrue (before chart.now.events e f)

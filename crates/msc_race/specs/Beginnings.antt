@@ -5,7 +5,7 @@ use Rattle.msc_chart.specs.Chosen.{IsChosenNext}
 use Rattle.msc_race.specs.declared.choosing.Choice.{Choice}
 use Rattle.msc_race.specs.declared.beginning.Beginning.{Beginning}
 use Rattle.bit_rows.specs.Rows.{has}
-use Rattle.msc_race.specs.Choices.{wired_chart, size}
+use Rattle.msc_race.specs.Choices.{wired_chart, event_count}
 use Rattle.msc_race.specs.Remainders.{AreRows, AreTold, HasFirstWords}
 use Rattle.msc_race.specs.Fronts.{HoldsLines}
 use Rattle.msc_race.specs.QueuedRuns.{HoldsQueues}
@@ -27,7 +27,7 @@ pub record IsBeginning (c : Choice) (f : Beginning) : Type 0 where
   pub steps : Steps (IsChosenNext (wired_chart c) c.e) [] (run_of f)
   pub lines : HoldsLines c.wiring.chart.now f.lines
   pub queues : HoldsQueues (wired_chart c) (run_of f) f.queued
-  pub rows : AreRows (size c) f.remaining
+  pub rows : AreRows (event_count c) f.remaining
   pub told : AreTold c f.remaining
   pub first : HasFirstWords f.remaining f.lines.left.items
-  pub left : HoldsLeft f.lines.left.items (λ y. y < size c) (run_of f)
+  pub left : HoldsLeft f.lines.left.items (λ y. y < event_count c) (run_of f)

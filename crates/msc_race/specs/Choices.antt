@@ -11,12 +11,12 @@ abbrev pub wired_chart : Choice → WiredChart
 wired_chart c = wired_by c.wiring
 
 -- the number of events
-abbrev pub size : Choice → ℕ
-size c = length c.wiring.chart.now.events
+abbrev pub event_count : Choice → ℕ
+event_count c = length c.wiring.chart.now.events
 
 -- the chart was accepted, the order is its enforced order, and e is an event of it
-pub record IsSettled (c : Choice) : Type 0 where
+pub record IsChoice (c : Choice) : Type 0 where
   pub accepted : IsAccepted c.wiring.chart.now
   pub enforced : IsEnforcedOrder (wired_chart c) (orders c.order.now)
-  pub square : length c.order.now ≡ size c
-  pub known : c.e < size c
+  pub square : length c.order.now ≡ event_count c
+  pub known : c.e < event_count c

@@ -50,7 +50,7 @@ pub record AreLinesTo (d : Drawing) (lefts firsts opens : List ℕ) (k : ℕ) : 
   pub controlled : (y : ℕ) → IsTrue (has opens y) ↔ (IsOpenControlled d.events lefts y × (line d.events y < k))
 
 -- a controlled event that is left in the segment of f, from f on and before end
-pub record IsOpened (events : List ChartEvent) (left : List ℕ) (f end s : ℕ) : Type 0 where
+pub record IsToOpen (events : List ChartEvent) (left : List ℕ) (f end s : ℕ) : Type 0 where
   pub later : f ≤ s
   pub within : s < end
   pub controlled : IsTrue (is_controlled events s)

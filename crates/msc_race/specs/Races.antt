@@ -25,13 +25,13 @@ abbrev pub AreRaces : WiredChart → List (ℕ × ℕ) → Type 0
 AreRaces chart pairs = (e f : ℕ) → IsRace chart e f ↔ Occurs pairs (e, f)
 
 -- p comes before q: its first event is less, or it is the same and its second event is less
-abbrev pub IsBelow : ℕ × ℕ → ℕ × ℕ → Type 0
-IsBelow p q = (p.0 < q.0) ⊎ ((p.0 ≡ q.0) × (p.1 < q.1))
+abbrev pub IsPairBefore : ℕ × ℕ → ℕ × ℕ → Type 0
+IsPairBefore p q = (p.0 < q.0) ⊎ ((p.0 ≡ q.0) × (p.1 < q.1))
 
 -- each pair of the list comes before all that stand later, so that none stands twice
 abbrev pub AreAscending : List (ℕ × ℕ) → Type 0
 AreAscending pairs =
-    (i j : ℕ) (p q : ℕ × ℕ) → i < j → StandsAt pairs i p → StandsAt pairs j q → IsBelow p q
+    (i j : ℕ) (p q : ℕ × ℕ) → i < j → StandsAt pairs i p → StandsAt pairs j q → IsPairBefore p q
 
 -- the list of all races, ascending, each once: the drawn pairs that the enforced order has not
 pub record IsRaceList (chart : WiredChart) (pairs : List (ℕ × ℕ)) : Type 0 where

@@ -10,8 +10,8 @@ use Rattle.msc_race.specs.Rows.{IsRow}
 use Rattle.msc_race.specs.Choices.{wired_chart}
 
 -- the row holds the numbers with a property
-abbrev pub Holds : List ℕ → (ℕ → Type 0) → Type 0
-Holds row P = (y : ℕ) → IsTrue (has row y) ↔ P y
+abbrev pub HoldsExactly : List ℕ → (ℕ → Type 0) → Type 0
+HoldsExactly row P = (y : ℕ) → IsTrue (has row y) ↔ P y
 
 -- the row holds the numbers below k with a property
 abbrev pub HoldsBelow : List ℕ → (ℕ → Type 0) → ℕ → Type 0
@@ -45,9 +45,9 @@ pub record AreToldBelow (c : Choice) (r : Remaining) (k : ℕ) : Type 0 where
 
 -- the rows hold the free events, those of them that are not held, and those that are passed on with e
 pub record AreTold (c : Choice) (r : Remaining) : Type 0 where
-  pub free : Holds r.free.items (IsFree (wired_chart c) c.e)
-  pub unheld : Holds r.unheld.items (IsUnheld (wired_chart c) c.e)
-  pub passed : Holds r.passed.items (IsPassedOnWith (wired_chart c) c.e)
+  pub free : HoldsExactly r.free.items (IsFree (wired_chart c) c.e)
+  pub unheld : HoldsExactly r.unheld.items (IsUnheld (wired_chart c) c.e)
+  pub passed : HoldsExactly r.passed.items (IsPassedOnWith (wired_chart c) c.e)
 
 -- rows for the numbers below n
 pub record AreRows (n : ℕ) (r : Remaining) : Type 0 where

@@ -29,18 +29,23 @@ crossing =
 abbrev pub senders : Queues → WiredChart
 senders queues = wired queues (chart_of two_senders)
 
+-- two inputs in a coregion
 abbrev pub unordered : Queues → WiredChart
 unordered queues = wired queues (chart_of coregion)
 
+-- a relay
 abbrev pub relayed : Queues → WiredChart
 relayed queues = wired queues (chart_of relay)
 
+-- one message overtakes another
 abbrev pub overtaken : Queues → WiredChart
 overtaken queues = wired queues (chart_of overtaking)
 
+-- two messages cross
 abbrev pub crossed : Queues → WiredChart
 crossed queues = wired queues (chart_of crossing)
 
+-- two mailboxes
 abbrev pub mailboxes : WiredChart
 mailboxes = wired Mailbox (chart_of two_mailboxes)
 

@@ -5,7 +5,7 @@
 ghost use Rattle.std.specs.Prelude.{◌≡◌, ◌<◌, ◌↔◌, [], ◌∷◌, ◌++◌, IfOk, IfSome, IfNone, IsTrue, OnOk};
 ghost use Rattle.msc_chart.specs.Runs.{IsWhole};
 ghost use Rattle.msc_chart.specs.Chosen.{IsChosenNext};
-ghost use Rattle.msc_race.specs.Choices.{wired_chart, size, IsSettled};
+ghost use Rattle.msc_race.specs.Choices.{wired_chart, event_count, IsChoice};
 ghost use Rattle.msc_race.specs.Beginnings.{HaveCommon, IsBeginning, run_of};
 ghost use Rattle.msc_race.specs.Remainders.{HasFirstWords};
 
@@ -30,7 +30,7 @@ pub struct Beginning {
 impl Beginning {
     /// The empty beginning.
     pub fn start(alloc: Global, choice: &Choice) -> Result<Beginning, AllocError>
-        requires { IsSettled choice.now }
+        requires { IsChoice choice.now }
         ensures { IfOk result (λ f. IsBeginning choice.now f) }
     {
         let lines = Lines::start(alloc, choice)?;
@@ -67,7 +67,7 @@ impl Beginning {
 
     /// The next event of the chosen run, or none where it is whole.
     pub fn next(&self, choice: &Choice) -> Option<Event>
-        requires settled { IsSettled choice.now }
+        requires settled { IsChoice choice.now }
         requires kept { IsBeginning choice.now self.now }
         ensures some { IfSome result
             (λ x. IsChosenNext (wired_chart choice.now) choice.now.e (run_of self.now) x) }
@@ -89,7 +89,7 @@ impl Beginning {
 
     /// `x` comes next.
     pub fn occur(&mut self, choice: &Choice, x: Event) -> Result<(), AllocError>
-        requires settled { IsSettled choice.now }
+        requires settled { IsChoice choice.now }
         requires kept { IsBeginning choice.now self.old }
         requires next { IsChosenNext (wired_chart choice.now) choice.now.e (run_of self.old) x }
         ensures kept { OnOk result (IsBeginning choice.now self.new) }

@@ -5,7 +5,7 @@ ghost use Rattle.bit_rows.specs.Rows.{has};
 ghost use Rattle.msc_chart.specs.Charts.{is_input};
 ghost use Rattle.msc_chart.specs.Orders.{queue};
 ghost use Rattle.msc_chart.specs.Chosen.{IsFree};
-ghost use Rattle.msc_race.specs.Choices.{wired_chart, size, IsSettled};
+ghost use Rattle.msc_race.specs.Choices.{wired_chart, event_count, IsChoice};
 ghost use Rattle.msc_race.specs.Remainders.{IsFreeWith};
 ghost use Rattle.msc_race.specs.Rows.{IsRow};
 
@@ -26,8 +26,8 @@ pub struct Choice<'a> {
 impl Choice<'_> {
     /// Whether `x` is free of `e`: another event, and not enforced after it.
     pub fn is_free(&self, x: Event) -> bool
-        requires settled { IsSettled self.now }
-        requires known { x < size self.now }
+        requires settled { IsChoice self.now }
+        requires known { x < event_count self.now }
         ensures { IsTrue result ↔ IsFree (wired_chart self.now) self.now.e x }
     {
         if x == self.e {
@@ -38,8 +38,8 @@ impl Choice<'_> {
 
     /// The row of the events that are free of `e`. An error is a growth of memory that was refused.
     pub fn free(&self, alloc: Global) -> Result<Vec<u64>, AllocError>
-        requires settled { IsSettled self.now }
-        ensures row { IfOk result (λ row. IsRow (size self.now) row.items) }
+        requires settled { IsChoice self.now }
+        ensures row { IfOk result (λ row. IsRow (event_count self.now) row.items) }
         ensures free { IfOk result (λ row. (y : ℕ) → IsTrue (has row.items y)
             ↔ IsFree (wired_chart self.now) self.now.e y) }
     {
@@ -51,8 +51,8 @@ impl Choice<'_> {
 
     /// Whether `x` is a free output to queue `q`, that of `e`, an input.
     pub fn is_free_with(&self, q: u32, x: Event) -> bool
-        requires settled { IsSettled self.now }
-        requires known { x < size self.now }
+        requires settled { IsChoice self.now }
+        requires known { x < event_count self.now }
         requires input { IsTrue (is_input self.now.wiring.chart.now.events self.now.e) }
         requires queue { q ≡ queue (wired_chart self.now) self.now.e }
         ensures { IsTrue result ↔ IsFreeWith (wired_chart self.now) self.now.e x }

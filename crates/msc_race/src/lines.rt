@@ -4,8 +4,8 @@ ghost use Rattle.std.specs.Prelude.{◌≡◌, ℕ, ◌+◌, ◌<◌, ◌≤◌,
 ghost use Rattle.msc_chart.specs.Charts.{before, is_controlled, line};
 ghost use Rattle.bit_rows.specs.Rows.{has, IsWithout};
 ghost use Rattle.msc_race.specs.Rows.{IsRow};
-ghost use Rattle.msc_race.specs.Choices.{size, IsSettled};
-ghost use Rattle.msc_race.specs.Fronts.{AreFirst, HoldsLines, HoldsLinesTo, IsNextLeft, IsOpened};
+ghost use Rattle.msc_race.specs.Choices.{event_count, IsChoice};
+ghost use Rattle.msc_race.specs.Fronts.{AreFirst, HoldsLines, HoldsLinesTo, IsNextLeft, IsToOpen};
 ghost use Rattle.msc_race.specs.Fronts.{IsOpenedEnd};
 
 use crate::choosing::Choice;
@@ -26,7 +26,7 @@ pub struct Lines {
 
 /// Whether event `f` is there, and on line `i`.
 fn is_on(choice: &Choice, f: Event, i: u32) -> bool
-    ensures { IsTrue result ↔ ((f < size choice.now)
+    ensures { IsTrue result ↔ ((f < event_count choice.now)
         × (line choice.now.wiring.chart.now.events f ≡ i)) }
 {
     if f >= choice.wiring.chart.events() {
@@ -37,8 +37,8 @@ fn is_on(choice: &Choice, f: Event, i: u32) -> bool
 
 /// The first number from `start` on that is left or not on line `i`.
 fn next_left(choice: &Choice, left: &[u64], i: u32, start: Event) -> Event
-    requires row { IsRow (size choice.now) left.now }
-    requires within { start ≤ size choice.now }
+    requires row { IsRow (event_count choice.now) left.now }
+    requires within { start ≤ event_count choice.now }
     ensures { IsNextLeft choice.now.wiring.chart.now.events left.now i start result }
 {
     let events = choice.wiring.chart.events();
@@ -55,13 +55,13 @@ fn next_left(choice: &Choice, left: &[u64], i: u32, start: Event) -> Event
 
 /// Opens the controlled that are left from `f` up to `end`.
 fn open_controlled(set: &mut Set, choice: &Choice, left: &[u64], f: Event, end: Event)
-    requires row { IsRow (size choice.now) set.old }
-    requires left_row { IsRow (size choice.now) left.now }
-    requires within { end ≤ size choice.now }
+    requires row { IsRow (event_count choice.now) set.old }
+    requires left_row { IsRow (event_count choice.now) left.now }
+    requires within { end ≤ event_count choice.now }
     requires later { f ≤ end }
     ensures words { length set.new ≡ length set.old }
     ensures numbers { (y : ℕ) → IsTrue (has set.new y)
-        ↔ (IsTrue (has set.old y) ⊎ IsOpened choice.now.wiring.chart.now.events left.now f end y) }
+        ↔ (IsTrue (has set.old y) ⊎ IsToOpen choice.now.wiring.chart.now.events left.now f end y) }
 {
     for y in f..end {
         set.put_where(y, choice.wiring.chart.is_controlled(y) && has(left, y));
@@ -72,10 +72,10 @@ fn open_controlled(set: &mut Set, choice: &Choice, left: &[u64], f: Event, end: 
 /// the segment of `front`, where that is drawn after `start`, and else before any.
 fn opened_end(choice: &Choice, i: u32, start: Event, front: Event) -> Event
     requires later { start ≤ front }
-    requires within { front ≤ size choice.now }
+    requires within { front ≤ event_count choice.now }
     ensures end { IsOpenedEnd choice.now.wiring.chart.now.events i start front result }
     ensures later { front ≤ result }
-    ensures within { result ≤ size choice.now }
+    ensures within { result ≤ event_count choice.now }
 {
     if !is_on(choice, front, i) {
         return front;
@@ -88,7 +88,7 @@ fn opened_end(choice: &Choice, i: u32, start: Event, front: Event) -> Event
 
 /// The first event of each line; of a line without events the number of all events.
 fn first_events(alloc: Global, choice: &Choice) -> Result<Vec<Event>, AllocError>
-    requires { IsSettled choice.now }
+    requires { IsChoice choice.now }
     ensures lines { IfOk result
         (λ firsts. length firsts.items ≡ length choice.now.wiring.chart.now.instances) }
     ensures first { IfOk result (λ firsts. AreFirst choice.now.wiring.chart.now firsts.items 0) }
@@ -105,7 +105,7 @@ fn first_events(alloc: Global, choice: &Choice) -> Result<Vec<Event>, AllocError
 impl Lines {
     /// The lines while nothing is open yet.
     fn closed(alloc: Global, choice: &Choice) -> Result<Lines, AllocError>
-        requires { IsSettled choice.now }
+        requires { IsChoice choice.now }
         ensures { IfOk result (λ l. HoldsLinesTo choice.now.wiring.chart.now l 0) }
     {
         let events = choice.wiring.chart.events();
@@ -118,7 +118,7 @@ impl Lines {
 
     /// Opens the controlled events of line `i` before which nothing is drawn.
     fn open_line(&mut self, choice: &Choice, i: u32)
-        requires settled { IsSettled choice.now }
+        requires settled { IsChoice choice.now }
         requires known { i < length choice.now.wiring.chart.now.instances }
         requires lines { HoldsLinesTo choice.now.wiring.chart.now self.old i }
         ensures { HoldsLinesTo choice.now.wiring.chart.now self.new (i + 1) }
@@ -133,10 +133,10 @@ impl Lines {
 
     /// The lines before any event has occurred.
     pub fn start(alloc: Global, choice: &Choice) -> Result<Lines, AllocError>
-        requires { IsSettled choice.now }
+        requires { IsChoice choice.now }
         ensures kept { IfOk result (λ l. HoldsLines choice.now.wiring.chart.now l) }
         ensures left { IfOk result
-            (λ l. (y : ℕ) → IsTrue (has l.left.items y) ↔ (y < size choice.now)) }
+            (λ l. (y : ℕ) → IsTrue (has l.left.items y) ↔ (y < event_count choice.now)) }
     {
         let mut lines = Lines::closed(alloc, choice)?;
         for i in 0..choice.wiring.chart.instances() {
@@ -147,8 +147,8 @@ impl Lines {
 
     /// `x` occurs.
     pub fn occur(&mut self, choice: &Choice, x: Event)
-        requires settled { IsSettled choice.now }
-        requires known { x < size choice.now }
+        requires settled { IsChoice choice.now }
+        requires known { x < event_count choice.now }
         requires kept { HoldsLines choice.now.wiring.chart.now self.old }
         ensures kept { HoldsLines choice.now.wiring.chart.now self.new }
         ensures without { IsWithout self.old.left.items self.new.left.items x }

@@ -6,7 +6,7 @@ ghost use Rattle.msc_chart.specs.Charts.{is_input, is_output};
 ghost use Rattle.msc_chart.specs.Orders.{queue};
 ghost use Rattle.msc_chart.specs.Runs.{MayCome, Run};
 ghost use Rattle.msc_race.specs.QueuedRuns.{HoldsQueues, IsComing};
-ghost use Rattle.msc_race.specs.Choices.{wired_chart, size, IsSettled};
+ghost use Rattle.msc_race.specs.Choices.{wired_chart, event_count, IsChoice};
 
 use crate::choosing::Choice;
 use crate::rows::empty;
@@ -30,7 +30,7 @@ pub struct QueuedRun {
 impl QueuedRun {
     /// The empty run.
     pub fn start(alloc: Global, choice: &Choice) -> Result<QueuedRun, AllocError>
-        requires { IsSettled choice.now }
+        requires { IsChoice choice.now }
         ensures queues { IfOk result (λ c. HoldsQueues (wired_chart choice.now) [] c) }
         ensures run { IfOk result (λ c. c.run.items ≡ []) }
     {
@@ -54,7 +54,7 @@ impl QueuedRun {
 
     /// Puts output `x` at the end of its queue.
     fn send(&mut self, choice: &Choice, x: Event)
-        requires settled { IsSettled choice.now }
+        requires settled { IsChoice choice.now }
         requires coming { IsComing (wired_chart choice.now) self.old x }
         requires output { IsTrue (is_output choice.now.wiring.chart.now.events x) }
         ensures queues { HoldsQueues (wired_chart choice.now)
@@ -75,7 +75,7 @@ impl QueuedRun {
 
     /// Takes the message of input `x` out of its queue.
     fn take(&mut self, choice: &Choice, x: Event)
-        requires settled { IsSettled choice.now }
+        requires settled { IsChoice choice.now }
         requires coming { IsComing (wired_chart choice.now) self.old x }
         requires input { IsTrue (is_input choice.now.wiring.chart.now.events x) }
         ensures queues { HoldsQueues (wired_chart choice.now)
@@ -98,7 +98,7 @@ impl QueuedRun {
 
     /// The queues change with `x`: an output's message is put, an input's is taken.
     fn change(&mut self, choice: &Choice, x: Event)
-        requires settled { IsSettled choice.now }
+        requires settled { IsChoice choice.now }
         requires queues { HoldsQueues (wired_chart choice.now) self.old.run.items self.old }
         requires run { Run (wired_chart choice.now) self.old.run.items }
         requires may { MayCome (wired_chart choice.now) self.old.run.items x }
@@ -117,7 +117,7 @@ impl QueuedRun {
 
     /// `x` occurs.
     pub fn occur(&mut self, choice: &Choice, x: Event) -> Result<(), AllocError>
-        requires settled { IsSettled choice.now }
+        requires settled { IsChoice choice.now }
         requires queues { HoldsQueues (wired_chart choice.now) self.old.run.items self.old }
         requires run { Run (wired_chart choice.now) self.old.run.items }
         requires may { MayCome (wired_chart choice.now) self.old.run.items x }

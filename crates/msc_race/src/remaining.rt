@@ -3,7 +3,7 @@
 ghost use Rattle.std.specs.Prelude.{◌≡◌, ℕ, ◌+◌, ◌<◌, ◌≤◌, length, IfOk, IsTrue};
 ghost use Rattle.msc_chart.specs.Charts.{is_input};
 ghost use Rattle.msc_chart.specs.Orders.{queue};
-ghost use Rattle.msc_race.specs.Choices.{size, wired_chart, IsSettled};
+ghost use Rattle.msc_race.specs.Choices.{event_count, wired_chart, IsChoice};
 ghost use Rattle.msc_race.specs.Remainders.{AreLeftFrom, AreRows, AreSameRows, AreTold, AreToldBelow, HasFirstWords};
 ghost use Rattle.msc_race.specs.Rows.{IsRow};
 
@@ -28,8 +28,8 @@ pub struct Remaining {
 impl Remaining {
     /// The free events, of which it is not told yet which are held or passed on.
     fn untold(alloc: Global, choice: &Choice) -> Result<Remaining, AllocError>
-        requires { IsSettled choice.now }
-        ensures rows { IfOk result (λ r. AreRows (size choice.now) r) }
+        requires { IsChoice choice.now }
+        ensures rows { IfOk result (λ r. AreRows (event_count choice.now) r) }
         ensures told { IfOk result (λ r. AreToldBelow choice.now r 0) }
     {
         let free = choice.free(alloc)?;
@@ -44,13 +44,13 @@ impl Remaining {
 
     /// Tells of `x` whether it is held, or passed on to queue `q`, that of `e`, an input.
     fn tell(&mut self, choice: &Choice, q: u32, x: Event)
-        requires settled { IsSettled choice.now }
-        requires known { x < size choice.now }
+        requires settled { IsChoice choice.now }
+        requires known { x < event_count choice.now }
         requires input { IsTrue (is_input choice.now.wiring.chart.now.events choice.now.e) }
         requires queue { q ≡ queue (wired_chart choice.now) choice.now.e }
-        requires rows { AreRows (size choice.now) self.old }
+        requires rows { AreRows (event_count choice.now) self.old }
         requires told { AreToldBelow choice.now self.old x }
-        ensures rows { AreRows (size choice.now) self.new }
+        ensures rows { AreRows (event_count choice.now) self.new }
         ensures told { AreToldBelow choice.now self.new (x + 1) }
     {
         ends_share_queues();
@@ -66,11 +66,11 @@ impl Remaining {
 
     /// Tells which events are held or passed on: none where `e` is no input.
     fn tell_all(&mut self, choice: &Choice)
-        requires settled { IsSettled choice.now }
-        requires rows { AreRows (size choice.now) self.old }
+        requires settled { IsChoice choice.now }
+        requires rows { AreRows (event_count choice.now) self.old }
         requires told { AreToldBelow choice.now self.old 0 }
-        ensures rows { AreRows (size choice.now) self.new }
-        ensures told { AreToldBelow choice.now self.new (size choice.now) }
+        ensures rows { AreRows (event_count choice.now) self.new }
+        ensures told { AreToldBelow choice.now self.new (event_count choice.now) }
     {
         ends_share_queues();
         if choice.wiring.chart.is_controlled(choice.e) {
@@ -84,9 +84,9 @@ impl Remaining {
 
     /// The rows, where these events are left.
     pub fn start(alloc: Global, choice: &Choice, left: &[u64]) -> Result<Remaining, AllocError>
-        requires settled { IsSettled choice.now }
-        requires left { IsRow (size choice.now) left.now }
-        ensures rows { IfOk result (λ r. AreRows (size choice.now) r) }
+        requires settled { IsChoice choice.now }
+        requires left { IsRow (event_count choice.now) left.now }
+        ensures rows { IfOk result (λ r. AreRows (event_count choice.now) r) }
         ensures told { IfOk result (λ r. AreTold choice.now r) }
         ensures first { IfOk result (λ r. HasFirstWords r left.now) }
     {

@@ -16,7 +16,7 @@ use Rattle.msc_race.specs.Races.{AreAscending}
 use Rattle.msc_race.proofs.Listing.Ascending.{of_ascends}
 use Rattle.msc_race.proofs.Listing.DrawnPairs.{segment_goes_on}
 use Rattle.msc_race.proofs.Listing.Pairs.{of_from, of_parts}
-use Rattle.msc_reason.specs.Closest.{IsNext, IsClosestList}
+use Rattle.msc_reason.specs.Closest.{IsDrawnNext, IsClosestList}
 use Rattle.msc_reason.specs.Ranges.{IsNextRange}
 
 module _ (events : List ChartEvent) where
@@ -27,7 +27,7 @@ module _ (events : List ChartEvent) where
       before_from events g x known p.1 (sym share.0 ∙ p.2) (omega (arith, share.1, p.3))
 
   -- and what is next to it is next to all of its segment
-  next_shared : (e g f : ℕ) → ShareSegment events e g → e < length events → g < length events → IsNext events e f → IsNext events g f
+  next_shared : (e g f : ℕ) → ShareSegment events e g → e < length events → g < length events → IsDrawnNext events e f → IsDrawnNext events g f
   next_shared e g f share e_known g_known h = record {
     drawn = before_shared e g f share g_known h.drawn;
     none_between = λ x low high. h.none_between x (before_shared g e x (sym share.0, sym share.1) e_known low) high;
@@ -78,7 +78,7 @@ module _ (events : List ChartEvent) where
   is_next e f = before events e f && not (any_below (λ x. before events e x && before events x f) (length events))
 
   -- what is next passes
-  pub next_from : (e f : ℕ) → IsNext events e f → is_next e f ≡ true
+  pub next_from : (e f : ℕ) → IsDrawnNext events e f → is_next e f ≡ true
   unfolding is_next
   next_from e f h =
       and_from _ _ h.drawn (not_from_false _ (false_from_ne_true _ (λ some.
@@ -87,7 +87,7 @@ module _ (events : List ChartEvent) where
       h.none_between x.0 both.0 both.1)))
 
   -- and nothing else does
-  pub next_parts : (e f : ℕ) → is_next e f ≡ true → IsNext events e f
+  pub next_parts : (e f : ℕ) → is_next e f ≡ true → IsDrawnNext events e f
   unfolding is_next
   next_parts e f h =
       let both = and_parts _ _ h in

@@ -10,7 +10,7 @@ use Rattle.msc_chart.proofs.Drawn.{before_from, before_parts}
 use Rattle.msc_chart.proofs.Numbers.{find_below}
 use Rattle.msc_chart.proofs.ListLemmas.{clash}
 use Rattle.msc_race.proofs.Runs.Tables.{enforced_told}
-use Rattle.msc_reason.specs.Closest.{IsClosest, IsWithin}
+use Rattle.msc_reason.specs.Closest.{IsClosest, StandsWithin}
 
 -- the drawn order is transitive
 pub before_trans : (events : List ChartEvent) (x y z : ℕ) → before events x y ≡ true → before events y z ≡ true → before events x z ≡ true
@@ -22,7 +22,7 @@ before_trans events x y z h k =
 module _ (chart : WiredChart) (is_wired : IsWired chart) where
   -- a closest race within the pair
   abbrev pub Spans : ℕ → ℕ → Type 0
-  Spans e f = (g : ℕ) × (h : ℕ) × IsClosest chart g h × IsWithin chart.events e f g h
+  Spans e f = (g : ℕ) × (h : ℕ) × IsClosest chart g h × StandsWithin chart.events e f g h
 
   -- what stands within a pair that ends earlier stands within the pair
   spans_before : (e x f : ℕ) → before chart.events x f ≡ true → Spans e x → Spans e f

@@ -13,7 +13,7 @@ use Rattle.msc_order.proofs.Drawing.{before_later}
 use Rattle.msc_order.proofs.Once.{caused_enforced, once}
 use Rattle.msc_reason.specs.Chains.{IsChain, LeadsTo, Step}
 use Rattle.msc_reason.specs.Chains.Step.{below, over}
-use Rattle.msc_reason.specs.Links.{Follows, HasNoLink, IsLink, IsMate}
+use Rattle.msc_reason.specs.Links.{IsFollowedBy, HasNoLink, IsNextStep, IsMate}
 
 -- what is drawn below an event stands from the end of its segment up to the end of its line
 pub drawn_range : (events : List ChartEvent) → IsInTextOrder events → (e start end f : ℕ) → IsSegmentEnd events e start → IsLineEnd events e end
@@ -34,12 +34,12 @@ step_caused events x y (below b c) = led b c
 step_caused events x y (over o p) = carried o p
 
 -- and so is what comes after a step
-pub step_more : (events : List ChartEvent) (x z y : ℕ) → Step events x z → Follows events z y → Caused events x y
+pub step_more : (events : List ChartEvent) (x z y : ℕ) → Step events x z → IsFollowedBy events z y → Caused events x y
 step_more events x z y h (inl same) = subst (λ (w : ℕ). Caused events x w) same (step_caused events x z h)
 step_more events x z y h (inr more) = chained (step_caused events x z h) more
 
 -- what is caused begins with a step
-pub first_step : (events : List ChartEvent) (x y : ℕ) → Caused events x y → (z : ℕ) × Step events x z × Follows events z y
+pub first_step : (events : List ChartEvent) (x y : ℕ) → Caused events x y → (z : ℕ) × Step events x z × IsFollowedBy events z y
 first_step events x y (led b c) = (y, below b c, inl refl)
 first_step events x y (carried o p) = (y, over o p, inl refl)
 first_step events x y (chained {y = m} h k) =
@@ -54,17 +54,17 @@ first_step events x y (chained {y = m} h k) =
 
 module _ (chart : WiredChart) where
   -- what follows is the event itself or enforced after it
-  follows_enforced : (z y : ℕ) → Follows chart.events z y → (z ≡ y) ⊎ Enforced chart z y
+  follows_enforced : (z y : ℕ) → IsFollowedBy chart.events z y → (z ≡ y) ⊎ Enforced chart z y
   follows_enforced z y (inl same) = inl same
   follows_enforced z y (inr more) = inr (caused_enforced chart z y more)
 
   -- where there is no link, what is caused after an event is reached by its message
-  pub over_step : (x y : ℕ) → Caused chart.events x y → HasNoLink chart x y → (is_output chart.events x ≡ true) × Follows chart.events (partner chart.events x) y
+  pub over_step : (x y : ℕ) → Caused chart.events x y → HasNoLink chart x y → (is_output chart.events x ≡ true) × IsFollowedBy chart.events (partner chart.events x) y
   over_step x y h none = by (first_step chart.events x y h)
     where
-      by : (z : ℕ) × Step chart.events x z × Follows chart.events z y → (is_output chart.events x ≡ true) × Follows chart.events (partner chart.events x) y
+      by : (z : ℕ) × Step chart.events x z × IsFollowedBy chart.events z y → (is_output chart.events x ≡ true) × IsFollowedBy chart.events (partner chart.events x) y
       by (z, below b c, onward) = absurd (none z (b, record { controlled = c; onward = follows_enforced z y onward }))
-      by (z, over o p, onward) = (o, subst (λ (w : ℕ). Follows chart.events w y) (sym p) onward)
+      by (z, over o p, onward) = (o, subst (λ (w : ℕ). IsFollowedBy chart.events w y) (sym p) onward)
 
   module _ (is_wired : IsWired chart) where
     -- from a controlled event all that is enforced is caused
@@ -76,14 +76,14 @@ module _ (chart : WiredChart) where
         ]
 
     -- a link is a step, and leads on
-    pub link_step : (x y z : ℕ) → IsLink chart x y z → Step chart.events x z × Follows chart.events z y
+    pub link_step : (x y z : ℕ) → IsNextStep chart x y z → Step chart.events x z × IsFollowedBy chart.events z y
     link_step x y z link = (
       below link.0 link.1.controlled,
       elim link.1.onward [ inl same ↦ inl same | inr more ↦ inr (controlled_caused z y link.1.controlled more) ],
     )
 
     -- so what has a link is caused
-    pub link_caused : (x y z : ℕ) → IsLink chart x y z → Caused chart.events x y
+    pub link_caused : (x y z : ℕ) → IsNextStep chart x y z → Caused chart.events x y
     link_caused x y z link = let step = link_step x y z link in step_more chart.events x z y step.0 step.1
 
     -- what is enforced and not caused comes by the rule of queues

@@ -7,7 +7,7 @@ use Rattle.msc_chart.specs.Orders.{WiredChart, IsRace}
 use Rattle.msc_race.specs.Races.{AreAscending}
 
 -- f is drawn after e, and nothing is drawn between them
-pub record IsNext (events : List ChartEvent) (e f : ℕ) : Type 0 where
+pub record IsDrawnNext (events : List ChartEvent) (e f : ℕ) : Type 0 where
   pub drawn : IsTrue (before events e f)
   pub none_between : (x : ℕ) → IsTrue (before events e x) → IsTrue (before events x f) → ⊥
 
@@ -21,7 +21,7 @@ abbrev pub HasNoClosestRace : WiredChart → Type 0
 HasNoClosestRace chart = (e f : ℕ) → IsClosest chart e f → ⊥
 
 -- the pair (g, h) stands within the pair (e, f): g is e or drawn after it, h is f or drawn before it
-pub record IsWithin (events : List ChartEvent) (e f g h : ℕ) : Type 0 where
+pub record StandsWithin (events : List ChartEvent) (e f g h : ℕ) : Type 0 where
   pub first : (g ≡ e) ⊎ IsTrue (before events e g)
   pub second : (h ≡ f) ⊎ IsTrue (before events h f)
 

@@ -10,14 +10,14 @@ use Rattle.msc_reason.specs.declared.lack.RaceKind.{RaceKind}
 use Rattle.msc_reason.specs.declared.lack.RaceKind.TheVariants.{Early, Overtaken}
 use Rattle.msc_reason.specs.declared.why.Why.{Why}
 use Rattle.msc_reason.specs.Chains.{IsWhy}
-use Rattle.msc_reason.specs.Closest.{IsClosest, HasNoClosestRace, IsWithin}
+use Rattle.msc_reason.specs.Closest.{IsClosest, HasNoClosestRace, StandsWithin}
 use Rattle.msc_reason.specs.Lacks.{IsKindOf, needed}
 
 -- within each race stands a closest race, of the same line
 abbrev pub EveryRaceSpansAClosestRace : Type 0
 EveryRaceSpansAClosestRace =
     (queues : Queues) (d : Drawing) → IsAccepted d → (e f : ℕ) → IsRace (wired queues d) e f
-    → (g : ℕ) × (h : ℕ) × IsClosest (wired queues d) g h × IsWithin d.events e f g h
+    → (g : ℕ) × (h : ℕ) × IsClosest (wired queues d) g h × StandsWithin d.events e f g h
 
 -- a chart has no race exactly where it has no closest race
 abbrev pub RacesAreToldByTheClosest : Type 0

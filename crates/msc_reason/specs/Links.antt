@@ -11,17 +11,17 @@ pub record Reaches (chart : WiredChart) (y z : ℕ) : Type 0 where
   pub onward : (z ≡ y) ⊎ Enforced chart z y
 
 -- z is drawn below x, and reaches y
-abbrev pub IsLink : WiredChart → ℕ → ℕ → ℕ → Type 0
-IsLink chart x y z = IsTrue (before chart.events x z) × Reaches chart y z
+abbrev pub IsNextStep : WiredChart → ℕ → ℕ → ℕ → Type 0
+IsNextStep chart x y z = IsTrue (before chart.events x z) × Reaches chart y z
 
 -- no event is a link from x to y
 abbrev pub HasNoLink : WiredChart → ℕ → ℕ → Type 0
-HasNoLink chart x y = (z : ℕ) → IsLink chart x y z → ⊥
+HasNoLink chart x y = (z : ℕ) → IsNextStep chart x y z → ⊥
 
 -- y is x or caused after it
-abbrev pub Follows : List ChartEvent → ℕ → ℕ → Type 0
-Follows events x y = (x ≡ y) ⊎ Caused events x y
+abbrev pub IsFollowedBy : List ChartEvent → ℕ → ℕ → Type 0
+IsFollowedBy events x y = (x ≡ y) ⊎ Caused events x y
 
 -- input e comes before u by the rule of queues, and f is u or caused after it
 abbrev pub IsMate : WiredChart → ℕ → ℕ → ℕ → Type 0
-IsMate chart e f u = InQueueOrder chart e u × Follows chart.events u f
+IsMate chart e f u = InQueueOrder chart e u × IsFollowedBy chart.events u f

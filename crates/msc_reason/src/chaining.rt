@@ -10,7 +10,7 @@ ghost use Rattle.msc_chart.specs.Orders.{wired, Enforced, IsEnforcedOrder};
 ghost use Rattle.msc_order.specs.Causes.{Caused, InQueueOrder};
 ghost use Rattle.msc_order.specs.Tables.{orders};
 ghost use Rattle.msc_reason.specs.Chains.{IsWhy, LeadsTo, Step};
-ghost use Rattle.msc_reason.specs.Links.{Follows, HasNoLink, IsLink, IsMate, Reaches};
+ghost use Rattle.msc_reason.specs.Links.{IsFollowedBy, HasNoLink, IsNextStep, IsMate, Reaches};
 
 use crate::why::Why;
 use listed::Listed;
@@ -38,7 +38,7 @@ fn last_link(chart: &Chart, queues: Queues, order: &Order, x: Event, y: Event) -
     requires x_known { x < length chart.now.events }
     requires y_known { y < length chart.now.events }
     ensures { MatchOption result (HasNoLink (wired queues chart.now) x y)
-        (IsLink (wired queues chart.now) x y) }
+        (IsNextStep (wired queues chart.now) x y) }
 {
     chart.accepted();
     let start = chart.segment_end(x);
@@ -58,7 +58,7 @@ fn next_step(chart: &Chart, queues: Queues, order: &Order, x: Event, y: Event) -
     requires square { length order.now ≡ length chart.now.events }
     requires caused { Caused chart.now.events x y }
     ensures step { Step chart.now.events x result }
-    ensures onward { Follows chart.now.events result y }
+    ensures onward { IsFollowedBy chart.now.events result y }
 {
     ends_share_queues();
     chart.accepted();
@@ -79,7 +79,7 @@ fn walk(
 ) -> Result<Listed<Event>, AllocError>
     requires enforced { IsEnforcedOrder (wired queues chart.now) (orders order.now) }
     requires square { length order.now ≡ length chart.now.events }
-    requires onward { Follows chart.now.events x y }
+    requires onward { IsFollowedBy chart.now.events x y }
     ensures { IfOk result (λ steps. LeadsTo chart.now.events x steps y) }
 {
     the_enforced_order_has_no_cycle();

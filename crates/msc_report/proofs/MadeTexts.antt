@@ -6,8 +6,8 @@ use Rattle.std.proofs.lemmas.List.{append-nil, drop-append-le, take-append-le, t
 use Rattle.std.proofs.lemmas.List.Elements.{All-get_or, All-push, All-weaker}
 use Rattle.msc_chart.specs.Drawings.{Drawing}
 use Rattle.msc_report.specs.declared.event_texts.Span.{Span}
-use Rattle.msc_report.specs.EventTexts.{EventText, text_of, no_text, AreTextsOf}
-use Rattle.msc_report.specs.Spans.{text_at, no_span, with_parts, IsWithin, HasPut, AreMade}
+use Rattle.msc_report.specs.EventTexts.{EventText, parts_of, no_text, AreTextsOf}
+use Rattle.msc_report.specs.Spans.{text_at, no_span, with_parts, IsSpanIn, HasPutText, AreMade}
 use Rattle.msc_report.specs.Verdicts.{race_text}
 
 -- what stands within a list stands there when more is put behind it
@@ -18,7 +18,7 @@ range_kept xs ys i j rising within =
     ∙ take-append-le (j - i) (drop i xs) ys (omega (arith, rising, within, size))
 
 -- and so do the parts of a text
-text_kept : (old rest : List ℕ) (s : Span) → IsWithin old s → text_at (old ++ rest) s ≡ text_at old s
+text_kept : (old rest : List ℕ) (s : Span) → IsSpanIn old s → text_at (old ++ rest) s ≡ text_at old s
 text_kept old rest s within =
     let end = within.end in
     let second = within.second in
@@ -33,7 +33,7 @@ text_kept old rest s within =
     ) refl
 
 -- whose places are within the longer list
-within_kept : (old rest : List ℕ) (s : Span) → IsWithin old s → IsWithin (old ++ rest) s
+within_kept : (old rest : List ℕ) (s : Span) → IsSpanIn old s → IsSpanIn (old ++ rest) s
 within_kept old rest s within = record {
   opening = within.opening;
   number = within.number;
@@ -52,15 +52,15 @@ made_none d = record {
 
 -- one text more is made
 pub made_more : (d : Drawing) (old new : List ℕ) (spans : List Span) (e : ℕ) (s : Span)
-    → AreMade d old spans e → HasPut d e old new s → AreMade d new (spans ++ s ∷ []) (e + 1)
+    → AreMade d old spans e → HasPutText d e old new s → AreMade d new (spans ++ s ∷ []) (e + 1)
 made_more d old new spans e s made put =
     let rest : List ℕ = put.kept.0 in
     let is : new ≡ old ++ rest = put.kept.1 in
     let size = made.size in
     record {
       size = let all = length-append spans (s ∷ []) in omega (arith, all, size);
-      within = All-push (IsWithin new) spans s
-          (All-weaker (IsWithin old) (IsWithin new) (λ x h. subst (λ b. IsWithin b x) (sym is) (within_kept old rest x h)) spans made.within)
+      within = All-push (IsSpanIn new) spans s
+          (All-weaker (IsSpanIn old) (IsSpanIn new) (λ x h. subst (λ b. IsSpanIn b x) (sym is) (within_kept old rest x h)) spans made.within)
           put.within;
       each = λ k below. elim (cases_lt k e) [
         | inl before ↦
@@ -68,14 +68,14 @@ made_more d old new spans e s made put =
             let x : Span = get_or spans k no_span in
             ap (text_at new) (get_or_append_left spans (s ∷ []) no_span k there)
             ∙ ap (λ b. text_at b x) is
-            ∙ text_kept old rest x (All-get_or (IsWithin old) spans k no_span there made.within)
+            ∙ text_kept old rest x (All-get_or (IsSpanIn old) spans k no_span there made.within)
             ∙ made.each k before
         | inr last ↦
             let same : k ≡ length spans + 0 = omega (arith, below, last, size) in
             let own : k ≡ e = omega (arith, below, last) in
             ap (λ i. text_at new (get_or (spans ++ s ∷ []) i no_span)) same
             ∙ ap (text_at new) (get_or-append-add spans (s ∷ []) 0 no_span)
-            ∙ put.text ∙ ap (text_of d) (sym own)
+            ∙ put.text ∙ ap (parts_of d) (sym own)
       ];
     }
 
@@ -105,7 +105,7 @@ block_put room bytes rest at from to n rising short inside within =
 
 -- the parts of both texts, put behind a page, are the text of their race
 pub race_joined : (d : Drawing) (e f : ℕ) (page : List ℕ)
-    → with_parts page (text_of d e) (text_of d f) ≡ page ++ race_text d e f None
+    → with_parts page (parts_of d e) (parts_of d f) ≡ page ++ race_text d e f None
 race_joined d e f page = simp (append_assoc, append-nil) refl
 
 -- and so are the parts that stand where the texts were made
@@ -117,7 +117,7 @@ pub race_put : (d : Drawing) (bytes seen : List ℕ) (spans : List Span) (texts 
 race_put d bytes seen spans texts e f one two page view made e_known f_known is e_is f_is =
     let size = made.size in
     let mapped : length texts ≡ length spans = ap (λ (l : List EventText). length l) (sym view) ∙ length-map spans (text_at bytes) in
-    let found : (k : ℕ) (s : Span) → k < length texts → s ≡ get_or spans k s → text_at seen s ≡ text_of d k =
+    let found : (k : ℕ) (s : Span) → k < length texts → s ≡ get_or spans k s → text_at seen s ≡ parts_of d k =
     λ k s known s_is. ap (λ b. text_at b s) is ∙ ap (text_at bytes) s_is
     ∙ sym (get_or-map (text_at bytes) spans k s no_text (omega (arith, known, mapped)))
     ∙ ap (λ l. get_or l k no_text) view ∙ made.each k (omega (arith, known, size)) in

@@ -2,7 +2,7 @@
 use Rattle.std.specs.Prelude.{◌≡◌, ℕ, ◌<◌, List, [], ◌++◌, codes, get_or, length}
 use Rattle.msc_chart.specs.Charts as charts
 use Rattle.msc_chart.specs.Drawings.{Drawing}
-use Rattle.msc_report.specs.Texts.{line}
+use Rattle.msc_report.specs.Texts.{text_line}
 use Rattle.msc_report.specs.Verdicts.{event_text, instance_text, spaced}
 
 -- What is printed of an event: of the first of two that race, how the line begins; its number after a
@@ -15,18 +15,19 @@ pub record EventText : Type 0 where
   pub second : List ℕ
 
 -- what is printed of event e
-abbrev pub text_of : Drawing → ℕ → EventText
-text_of d e = record {
+abbrev pub parts_of : Drawing → ℕ → EventText
+parts_of d e = record {
   opening = codes "race" ++ spaced e;
   number = spaced e;
   first = codes " on " ++ (instance_text d (charts.line d.events e) ++ (codes ": " ++ (event_text d e ++ codes "; ")));
-  second = line (event_text d e);
+  second = text_line (event_text d e);
 }
 
+-- what stands at a number past the last event; no rule speaks of it
 abbrev pub no_text : EventText
 no_text = record { opening = []; number = []; first = []; second = [] }
 
 -- these are the texts of the events of a chart, in order
 pub record AreTextsOf (d : Drawing) (texts : List EventText) : Type 0 where
   pub size : length texts ≡ length d.events
-  pub each : (e : ℕ) → e < length d.events → get_or texts e no_text ≡ text_of d e
+  pub each : (e : ℕ) → e < length d.events → get_or texts e no_text ≡ parts_of d e

@@ -4,7 +4,7 @@ use Rattle.std.specs.List.{All}
 use Rattle.msc_chart.specs.Charts as charts
 use Rattle.msc_chart.specs.Drawings.{Drawing}
 use Rattle.msc_report.specs.declared.event_texts.Span.{Span}
-use Rattle.msc_report.specs.EventTexts.{EventText, text_of}
+use Rattle.msc_report.specs.EventTexts.{EventText, parts_of}
 use Rattle.msc_report.specs.Verdicts.{instance_text}
 
 -- the name of the instance of event e, before what it does
@@ -21,7 +21,7 @@ text_at bytes s = record {
 }
 
 -- the places are in order, and none is past the bytes
-pub record IsWithin (bytes : List ℕ) (s : Span) : Type 0 where
+pub record IsSpanIn (bytes : List ℕ) (s : Span) : Type 0 where
   pub opening : s.opening ≤ s.number
   pub number : s.number ≤ s.first
   pub first : s.first ≤ s.second
@@ -29,10 +29,10 @@ pub record IsWithin (bytes : List ℕ) (s : Span) : Type 0 where
   pub end : s.end ≤ length bytes
 
 -- the text of event e was put behind the bytes, and stands at these places
-pub record HasPut (d : Drawing) (e : ℕ) (old new : List ℕ) (s : Span) : Type 0 where
+pub record HasPutText (d : Drawing) (e : ℕ) (old new : List ℕ) (s : Span) : Type 0 where
   pub kept : (rest : List ℕ) × (new ≡ old ++ rest)
-  pub within : IsWithin new s
-  pub text : text_at new s ≡ text_of d e
+  pub within : IsSpanIn new s
+  pub text : text_at new s ≡ parts_of d e
 
 -- the parts of both events of a race, put behind a page as its line has them
 abbrev pub with_parts : List ℕ → EventText → EventText → List ℕ
@@ -48,11 +48,12 @@ pub record AreShort (size : ℕ) (one two : Span) : Type 0 where
   pub first_block : one.first + 64 ≤ size
   pub second_block : two.second + 64 ≤ size
 
+-- what stands at a number past the last event; no rule speaks of it
 abbrev pub no_span : Span
 no_span = record { opening = 0; number = 0; first = 0; second = 0; end = 0 }
 
 -- the texts of the events below e were put one after the other
 pub record AreMade (d : Drawing) (bytes : List ℕ) (spans : List Span) (e : ℕ) : Type 0 where
   pub size : length spans ≡ e
-  pub within : All (IsWithin bytes) spans
-  pub each : (k : ℕ) → k < e → text_at bytes (get_or spans k no_span) ≡ text_of d k
+  pub within : All (IsSpanIn bytes) spans
+  pub each : (k : ℕ) → k < e → text_at bytes (get_or spans k no_span) ≡ parts_of d k

@@ -15,33 +15,33 @@ use Rattle.msc_report.specs.declared.fault.PairFault.{PairFault}
 use Rattle.msc_report.specs.declared.fault.PairFault.TheVariants.{NoEvent, OneEvent}
 
 -- one line of words
-abbrev pub line : List ℕ → List ℕ
-line words = words ++ 10 ∷ []
+abbrev pub text_line : List ℕ → List ℕ
+text_line words = words ++ 10 ∷ []
 
 -- one line with a place in it
 abbrev pub placed : List ℕ → ℕ → List ℕ → List ℕ
-placed before at after = before ++ (decimal at ++ line after)
+placed before at after = before ++ (decimal at ++ text_line after)
 
 -- the line of a lexical fault
 abbrev pub lexical_line : LexFault → List ℕ
-lexical_line lexical.TooLong = line (codes "lexical fault 1: text longer than 1048576 bytes")
+lexical_line lexical.TooLong = text_line (codes "lexical fault 1: text longer than 1048576 bytes")
 lexical_line (lexical.BadByte at) = placed (codes "lexical fault 2 at ") at (codes ": byte that begins no token")
 lexical_line (lexical.OpenNote at) = placed (codes "lexical fault 3 at ") at (codes ": note without end")
 lexical_line (lexical.OpenText at) = placed (codes "lexical fault 4 at ") at (codes ": text without end")
 lexical_line (lexical.LongName at) = placed (codes "lexical fault 5 at ") at (codes ": name longer than 64 bytes")
-lexical_line lexical.Memory = line (codes "memory fault")
+lexical_line lexical.Memory = text_line (codes "memory fault")
 
 -- the line of a fault of the grammar
 abbrev pub grammar_line : ParseFault → List ℕ
 grammar_line (grammar.Lex f) = lexical_line f
-grammar_line (grammar.Unsupported at word) = codes "grammar fault 2 at " ++ (decimal at ++ (codes ": " ++ (spelling word ++ line (codes " is not supported"))))
-grammar_line (grammar.Expected at w) = codes "grammar fault 3 at " ++ (decimal at ++ (codes ": expected " ++ line (expectation w)))
-grammar_line grammar.Memory = line (codes "memory fault")
+grammar_line (grammar.Unsupported at word) = codes "grammar fault 2 at " ++ (decimal at ++ (codes ": " ++ (spelling word ++ text_line (codes " is not supported"))))
+grammar_line (grammar.Expected at w) = codes "grammar fault 3 at " ++ (decimal at ++ (codes ": expected " ++ text_line (expectation w)))
+grammar_line grammar.Memory = text_line (codes "memory fault")
 
 -- the line of a chart's fault by its number, what stands before its place, its place where it has
 -- one, and what stands behind it
 abbrev pub numbered : ℕ → List ℕ → Option ℕ → List ℕ → List ℕ
-numbered number before None after = codes "chart fault " ++ (decimal number ++ (codes ": " ++ (before ++ line after)))
+numbered number before None after = codes "chart fault " ++ (decimal number ++ (codes ": " ++ (before ++ text_line after)))
 numbered number before (Some at) after = codes "chart fault " ++ (decimal number ++ (codes ": " ++ placed before at after))
 
 -- the line of a chart's fault
@@ -56,7 +56,7 @@ chart_fault_line (charts.TwiceEvent e) = numbered 6 (codes "event ") (Some e) (c
 chart_fault_line (charts.UnmatchedOut e) = numbered 7 (codes "output ") (Some e) (codes " has no input")
 chart_fault_line (charts.UnmatchedIn e) = numbered 8 (codes "input ") (Some e) (codes " has no output")
 chart_fault_line (charts.Cyclic e) = numbered 9 (codes "event ") (Some e) (codes " precedes itself")
-chart_fault_line charts.Memory = line (codes "memory fault")
+chart_fault_line charts.Memory = text_line (codes "memory fault")
 
 -- a fault's line
 abbrev pub fault_line : Fault → List ℕ
@@ -64,8 +64,8 @@ fault_line (Parse f) = grammar_line f
 fault_line (Chart f) = chart_fault_line f
 fault_line (NotStarted i) =
     placed (codes "run fault 1: instance ") i (codes " could not be started")
-fault_line Memory = line (codes "memory fault")
-fault_line Device = line (codes "device fault")
+fault_line Memory = text_line (codes "memory fault")
+fault_line Device = text_line (codes "device fault")
 
 -- the line of why two numbers are no two events of a chart
 abbrev pub pair_fault_line : PairFault → List ℕ

@@ -7,7 +7,7 @@ use Rattle.msc_chart.specs.Charts as charts
 use Rattle.msc_chart.specs.Drawings.{Drawing}
 use Rattle.msc_execution.specs.declared.end.End.{End}
 use Rattle.msc_execution.specs.declared.end.End.TheVariants.{Finished, Starved, Impatient, Stopped, Foreign}
-use Rattle.msc_report.specs.Texts.{line}
+use Rattle.msc_report.specs.Texts.{text_line}
 use Rattle.msc_report.specs.Verdicts.{event_text, instance_text, name_line, queues_line}
 
 -- how the run of an instance ended; a foreign message has its number
@@ -20,7 +20,7 @@ end_text (Foreign m) = codes "foreign " ++ decimal m
 
 -- the line of instance i, which ended so
 abbrev pub end_line : Drawing → ℕ → End → List ℕ
-end_line d i end = codes "instance " ++ (instance_text d i ++ (codes " " ++ line (end_text end)))
+end_line d i end = codes "instance " ++ (instance_text d i ++ (codes " " ++ text_line (end_text end)))
 
 -- a line for each instance from i on, in order, with its end
 abbrev pub end_lines : Drawing → ℕ → List End → List ℕ
@@ -31,14 +31,14 @@ end_lines d i (end ∷ ends) = end_line d i end ++ end_lines d (suc i) ends
 abbrev pub event_line : Drawing → ℕ → List ℕ
 event_line d e =
     decimal e ++ (codes " " ++ (instance_text d (charts.line d.events e)
-    ++ (codes " " ++ line (event_text d e))))
+    ++ (codes " " ++ text_line (event_text d e))))
 
 -- the number of a trace's events and a line for each, in the order of the trace; or that there is
 -- none
 abbrev pub trace_lines : Drawing → Option (List ℕ) → List ℕ
-trace_lines d None = line (codes "no trace")
+trace_lines d None = text_line (codes "no trace")
 trace_lines d (Some events) =
-    codes "trace " ++ (line (decimal (length events)) ++ flat_map (event_line d) events)
+    codes "trace " ++ (text_line (decimal (length events)) ++ flat_map (event_line d) events)
 
 -- an execution: the chart's name, the architecture, how each instance ended, and the trace
 abbrev pub trace_text : Drawing → Queues → List End → Option (List ℕ) → List ℕ

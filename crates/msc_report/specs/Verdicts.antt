@@ -11,24 +11,24 @@ use Rattle.msc_chart.specs.Charts as charts
 use Rattle.msc_chart.specs.Drawings.{Drawing, label_of, message_at}
 use Rattle.msc_race.specs.declared.verdict.Verdict.{Verdict}
 use Rattle.msc_race.specs.declared.verdict.Verdict.TheVariants.{Pass, Races}
-use Rattle.msc_report.specs.Texts.{line}
+use Rattle.msc_report.specs.Texts.{text_line}
 
 -- the line of a chart's name
 abbrev pub name_line : Drawing → List ℕ
-name_line d = codes "chart " ++ line d.name
+name_line d = codes "chart " ++ text_line d.name
 
 -- the line of an architecture
 abbrev pub queues_line : Queues → List ℕ
-queues_line queues = codes "queues " ++ line (queues_word queues)
+queues_line queues = codes "queues " ++ text_line (queues_word queues)
 
 -- whether a chart passes, or how many races it has
 abbrev pub outcome_line : Verdict → List ℕ
-outcome_line Pass = line (codes "pass")
-outcome_line (Races pairs) = codes "races " ++ line (decimal (length pairs))
+outcome_line Pass = text_line (codes "pass")
+outcome_line (Races pairs) = codes "races " ++ text_line (decimal (length pairs))
 
 -- the line of so many races: a chart without races passes
 abbrev pub count_line : ℕ → List ℕ
-count_line count = cond (nat_eq count 0) (line (codes "pass")) (codes "races " ++ line (decimal count))
+count_line count = cond (nat_eq count 0) (text_line (codes "pass")) (codes "races " ++ text_line (decimal count))
 
 -- the head of a verdict with so many races
 abbrev pub head_text : Drawing → Queues → ℕ → List ℕ
@@ -87,7 +87,7 @@ race_place d e f =
 
 -- what both of them do
 abbrev pub race_events : Drawing → ℕ → ℕ → List ℕ
-race_events d e f = event_text d e ++ (codes "; " ++ line (event_text d f))
+race_events d e f = event_text d e ++ (codes "; " ++ text_line (event_text d f))
 
 -- a number after a space
 abbrev pub spaced : ℕ → List ℕ
@@ -96,7 +96,7 @@ spaced e = codes " " ++ decimal e
 -- the events of a run, where one is shown
 abbrev pub run_line : Option (List ℕ) → List ℕ
 run_line None = []
-run_line (Some events) = codes "run" ++ line (flat_map spaced events)
+run_line (Some events) = codes "run" ++ text_line (flat_map spaced events)
 
 -- one race, and a run that shows it where one is given
 abbrev pub race_text : Drawing → ℕ → ℕ → Option (List ℕ) → List ℕ

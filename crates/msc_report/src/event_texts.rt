@@ -4,8 +4,8 @@ ghost use Rattle.std.specs.Prelude.{◌≡◌, ℕ, ◌<◌, ◌++◌, IfOk, Non
 ghost use Rattle.std.specs.Io.KnownBytes.{Appends};
 ghost use Rattle.std.specs.List.{All};
 ghost use Rattle.msc_chart.specs.Drawings.{Drawing};
-ghost use Rattle.msc_report.specs.EventTexts.{no_text, text_of, AreTextsOf};
-ghost use Rattle.msc_report.specs.Spans.{HasPut, place_text};
+ghost use Rattle.msc_report.specs.EventTexts.{no_text, parts_of, AreTextsOf};
+ghost use Rattle.msc_report.specs.Spans.{HasPutText, place_text};
 ghost use Rattle.msc_report.specs.Verdicts.{race_text, run_line};
 
 use crate::race::{write_event, write_instance, write_numbers};
@@ -45,11 +45,11 @@ impl Model for EventTexts {
 
     ghost Value = { List EventText };
 
-    ghost use Rattle.msc_report.specs.Spans.{text_at, IsWithin};
+    ghost use Rattle.msc_report.specs.Spans.{text_at, IsSpanIn};
 
     ghost view = { λ t. map (text_at t.bytes.items) t.spans.items };
 
-    ghost invariant = { λ t. All (IsWithin t.bytes.items) t.spans.items };
+    ghost invariant = { λ t. All (IsSpanIn t.bytes.items) t.spans.items };
 }
 
 /// Writes the name of the instance of event `e`, before what it does.
@@ -69,9 +69,9 @@ fn write_place<W: Write>(writer: &mut W, chart: &Chart, e: Event) -> io::Result<
 fn write_both(bytes: &mut Vec<u8>, chart: &Chart, e: Event) -> io::Result<usize>
     requires { e < length chart.now.events }
     ensures items { OnOk result (bytes.new.items
-        ≡ (bytes.old.items ++ (text_of chart.now e).first) ++ (text_of chart.now e).second) }
+        ≡ (bytes.old.items ++ (parts_of chart.now e).first) ++ (parts_of chart.now e).second) }
     ensures second { IfOk result (λ second.
-        second ≡ length (bytes.old.items ++ (text_of chart.now e).first)) }
+        second ≡ length (bytes.old.items ++ (parts_of chart.now e).first)) }
 {
     write_place(bytes, chart, e)?;
     let from = bytes.len();
@@ -87,7 +87,7 @@ fn write_both(bytes: &mut Vec<u8>, chart: &Chart, e: Event) -> io::Result<usize>
 /// Puts the text of event `e` behind the bytes, and answers where its parts stand.
 fn write_parts(bytes: &mut Vec<u8>, chart: &Chart, e: Event) -> io::Result<Span>
     requires { e < length chart.now.events }
-    ensures { IfOk result (HasPut chart.now e bytes.old.items bytes.new.items) }
+    ensures { IfOk result (HasPutText chart.now e bytes.old.items bytes.new.items) }
 {
     let opening = bytes.len();
     bytes.write_all(b"race")?;
@@ -107,7 +107,7 @@ fn write_parts(bytes: &mut Vec<u8>, chart: &Chart, e: Event) -> io::Result<Span>
 /// The same, where want of memory is the only error.
 fn put_parts(bytes: &mut Vec<u8>, chart: &Chart, e: Event) -> Result<Span, AllocError>
     requires { e < length chart.now.events }
-    ensures { IfOk result (HasPut chart.now e bytes.old.items bytes.new.items) }
+    ensures { IfOk result (HasPutText chart.now e bytes.old.items bytes.new.items) }
 {
     match write_parts(bytes, chart, e) {
         Ok(span) => Ok(span),

@@ -5,7 +5,7 @@
 //! over by the next one, and dropped behind the last.
 
 ghost use Rattle.std.specs.Prelude.{◌≡◌, ◌+◌, ◌≤◌, ◌++◌, IsTrue, OnOk, length, slice_range, take};
-ghost use Rattle.msc_report.specs.Spans.{text_at, with_parts, AreShort, IsWithin};
+ghost use Rattle.msc_report.specs.Spans.{text_at, with_parts, AreShort, IsSpanIn};
 
 use crate::event_texts::Span;
 use std::alloc::AllocError;
@@ -22,8 +22,8 @@ const ROOM: usize = 160;
 /// Whether each part of a race of these two events fits into its block, and no block goes past the
 /// bytes.
 pub(crate) fn are_short(bytes: &[u8], one: &Span, two: &Span) -> bool
-    requires one { IsWithin bytes.now one.now }
-    requires two { IsWithin bytes.now two.now }
+    requires one { IsSpanIn bytes.now one.now }
+    requires two { IsSpanIn bytes.now two.now }
     ensures { IsTrue result → AreShort (length bytes.now) one.now two.now }
 {
     one.first - one.opening <= NUMBER
@@ -65,8 +65,8 @@ pub(crate) fn put_blocks(
     two: &Span,
 ) -> Result<(), AllocError>
     requires short { AreShort (length bytes.now) one.now two.now }
-    requires one { IsWithin bytes.now one.now }
-    requires two { IsWithin bytes.now two.now }
+    requires one { IsSpanIn bytes.now one.now }
+    requires two { IsSpanIn bytes.now two.now }
     ensures { OnOk result (page.new.items
         ≡ with_parts page.old.items (text_at bytes.now one.now) (text_at bytes.now two.now)) }
 {
@@ -89,8 +89,8 @@ pub(crate) fn put_slices(
     one: &Span,
     two: &Span,
 ) -> Result<(), AllocError>
-    requires one { IsWithin bytes.now one.now }
-    requires two { IsWithin bytes.now two.now }
+    requires one { IsSpanIn bytes.now one.now }
+    requires two { IsSpanIn bytes.now two.now }
     ensures { OnOk result (page.new.items
         ≡ with_parts page.old.items (text_at bytes.now one.now) (text_at bytes.now two.now)) }
 {
@@ -104,7 +104,7 @@ pub(crate) fn put_slices(
 /// Puts the number of an event behind a line, as a block where one does not go past the bytes. An
 /// error is a growth of memory that was refused.
 pub(crate) fn put_number(line: &mut Vec<u8>, bytes: &[u8], span: &Span) -> Result<(), AllocError>
-    requires { IsWithin bytes.now span.now }
+    requires { IsSpanIn bytes.now span.now }
     ensures { OnOk result (line.new.items ≡ line.old.items ++ (text_at bytes.now span.now).number) }
 {
     if span.first - span.number > NUMBER || bytes.len() - span.number < NUMBER {

@@ -5,7 +5,7 @@
 
 ghost use Rattle.std.specs.Prelude.{◌≡◌, IfNone, IfSome, OnOk};
 ghost use Rattle.std.specs.Io.KnownBytes.{Appends};
-ghost use Rattle.msc_report.specs.Texts.{chart_fault_line, fault_line, grammar_line, lexical_line, line, numbered, pair_fault_line, placed};
+ghost use Rattle.msc_report.specs.Texts.{chart_fault_line, fault_line, grammar_line, lexical_line, text_line, numbered, pair_fault_line, placed};
 
 use crate::fault::{Fault, PairFault};
 use msc_chart::ChartFault;
@@ -24,7 +24,7 @@ pub fn write_draft<W: Write>(writer: &mut W, text: &[u8]) -> io::Result<()>
 /// Writes one line of words.
 fn write_line<W: Write>(writer: &mut W, words: &str) -> io::Result<()>
     ensures { OnOk result (Appends (W.contents writer.old) (W.contents writer.new)
-        (line words.now)) }
+        (text_line words.now)) }
 {
     writeln!(writer, "{words}")
 }

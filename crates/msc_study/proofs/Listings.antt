@@ -11,7 +11,7 @@ use Rattle.msc_reason.specs.Closest.{IsClosestList}
 use Rattle.msc_study.proofs.Splitting.{both_count, in_one, kept_ascends, left_ascends, of_kept, of_left}
 use Rattle.msc_study.specs.declared.view.View.{View}
 use Rattle.msc_study.specs.Counting.{Allowed, AreRacesOf, Counts, IsListing, Splits}
-use Rattle.msc_study.specs.Listing.{AreAllAllowed, AreLeftOut, AreListed}
+use Rattle.msc_study.specs.Listing.{AreAllAllowed, AreLeftOut, AreAllWanted}
 use Rattle.msc_text.specs.Checking.{races_of}
 
 -- what is told of an empty list
@@ -40,7 +40,7 @@ module _ (chart : WiredChart) where
 
   -- the kept ones of the closest races are what is wanted, where these alone are
   pub near_wanted : (view : View) (near more rest : List (ℕ × ℕ)) → IsClosestList chart near
-      → Splits (Counts chart view.allowed) (Allowed chart view.allowed) near more rest → view.closest ≡ true → AreListed chart view more
+      → Splits (Counts chart view.allowed) (Allowed chart view.allowed) near more rest → view.closest ≡ true → AreAllWanted chart view more
   near_wanted view near more rest are close only = record {
     each = λ e f. (
       λ wanted. elim (in_one _ _ (e, f) close ((are.closest e f).0 (wanted.closest only))) [
@@ -90,7 +90,7 @@ module _ (chart : WiredChart) where
         absurd (found.1 (all p.0 p.1 ((verdict_races v said p.0 p.1).1 found.0)))
 
     -- the kept ones are what is wanted, where it need not be closest
-    pub kept_wanted : view.closest ≡ false → AreListed chart view some
+    pub kept_wanted : view.closest ≡ false → AreAllWanted chart view some
     kept_wanted every = record {
       each = λ e f. (
         λ wanted. elim (in_one _ _ (e, f) split ((verdict_races v said e f).0 wanted.race)) [
@@ -108,7 +108,7 @@ module _ (chart : WiredChart) where
 
     -- what is listed
     pub lists_wanted : (count n : ℕ) (told : Bool) (listed : List (ℕ × ℕ)) → n ≡ length some → count ≡ length races - n
-        → told ≡ (length some == 0) → AreListed chart view listed → IsListing chart view count told listed
+        → told ≡ (length some == 0) → AreAllWanted chart view listed → IsListing chart view count told listed
     lists_wanted count n told listed long counted says wanted =
         let empty = empty_told some told says in record {
           left_out = others;

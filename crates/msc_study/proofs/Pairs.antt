@@ -28,6 +28,7 @@ no_fault d e f (NoEvent x) two (inl past) = let known = two.first in let much = 
 no_fault d e f (NoEvent x) two (inr past) = let known = two.second in let much = past.1 in omega (arith, known, much)
 no_fault d e f (OneEvent x) two same = two.other (sym same.1)
 
+-- a pair has at most one fault
 pub one_fault : (d : Drawing) (e f : ℕ) (p q : PairFault) → IsPairFault d e f p → IsPairFault d e f q → p ≡ q
 one_fault d e f (NoEvent x) (NoEvent y) (inl a) (inl b) = ap NoEvent (a.1 ∙ sym b.1)
 one_fault d e f (NoEvent x) (NoEvent y) (inr a) (inr b) = ap NoEvent (a.2 ∙ sym b.2)

@@ -11,39 +11,39 @@ use Rattle.msc_chart.specs.Lists.{Occurs}
 use Rattle.msc_chart.specs.Orders.{wired}
 use Rattle.msc_race.specs.declared.verdict.Verdict.{Verdict}
 use Rattle.msc_race.specs.declared.verdict.Verdict.TheVariants.{Pass, Races}
-use Rattle.msc_race.specs.Races.{AreAscending, IsBelow, IsVerdict}
+use Rattle.msc_race.specs.Races.{AreAscending, IsPairBefore, IsVerdict}
 use Rattle.msc_reason.specs.declared.lack.Lack.{Lack}
 use Rattle.msc_reason.specs.declared.lack.RaceKind.{RaceKind}
 use Rattle.msc_reason.specs.declared.lack.RaceKind.TheVariants as kinds
-use Rattle.msc_report.specs.Texts.{line}
+use Rattle.msc_report.specs.Texts.{text_line}
 use Rattle.msc_report.specs.Verdicts.{race_text, verdict_text}
 use Rattle.msc_study.proofs.Listings.{verdict_ascends, verdict_races}
 use Rattle.msc_study.proofs.Splitting.{first_or_rest, rest_ascends}
 use Rattle.msc_study.specs.declared.view.KindSet.{KindSet}
 use Rattle.msc_study.specs.declared.view.View.{View}
 use Rattle.msc_study.specs.Laws.{IsPlain}
-use Rattle.msc_study.specs.Lines.{closest_line, head_text, part_text, races_text}
-use Rattle.msc_study.specs.Listing.{AreListed, IsAllowed}
+use Rattle.msc_study.specs.Lines.{closest_line, study_head, part_text, study_races}
+use Rattle.msc_study.specs.Listing.{AreAllWanted, IsAllowed}
 use Rattle.msc_study.specs.Studying.{PrintsStudy}
 use Rattle.msc_study.specs.Views.{has_kind, is_empty}
 use Rattle.msc_text.proofs.Shown.{race_and_run}
 use Rattle.msc_text.specs.Checking.{checked_text, passes, races_of, shown_text, unshown_text}
 
 -- no two pairs come before each other
-asymmetric : {X : Type 0} (p q : ℕ × ℕ) → IsBelow p q → IsBelow q p → X
+asymmetric : {X : Type 0} (p q : ℕ × ℕ) → IsPairBefore p q → IsPairBefore q p → X
 asymmetric p q (inl less) (inl more) = absurd (omega (arith, less, more))
 asymmetric p q (inl less) (inr more) = absurd (omega (arith, less, more.0))
 asymmetric p q (inr less) (inl more) = absurd (omega (arith, less.0, more))
 asymmetric p q (inr less) (inr more) = absurd (omega (arith, less.1, more.1))
 
 -- the first of an ascending list comes before the rest
-first_below : (x p : ℕ × ℕ) (xs : List (ℕ × ℕ)) → AreAscending (x ∷ xs) → Occurs xs p → IsBelow x p
+first_below : (x p : ℕ × ℕ) (xs : List (ℕ × ℕ)) → AreAscending (x ∷ xs) → Occurs xs p → IsPairBefore x p
 first_below x p xs ascends (j, h) = ascends 0 (suc j) x p (omega arith) refl h
 
 -- two ascending lists that begin with the same pair and hold the same have the same rest
 rest_within : (x p : ℕ × ℕ) (xs ys : List (ℕ × ℕ)) → AreAscending (x ∷ xs) → Occurs (x ∷ ys) p → Occurs xs p → Occurs ys p
 rest_within x p xs ys ascends there within = elim (first_or_rest x p ys there) [
-  | inl same ↦ let below = subst (IsBelow x) (sym same) (first_below x p xs ascends within) in asymmetric x x below below
+  | inl same ↦ let below = subst (IsPairBefore x) (sym same) (first_below x p xs ascends within) in asymmetric x x below below
   | inr later ↦ later
 ]
 
@@ -84,7 +84,7 @@ module _ (queues : Queues) (d : Drawing) (view : View) (v : Verdict) (said : IsV
   none_allowed e f its = none_named view.allowed its.kind plain.allowed its.named
 
   -- all races are listed
-  lists_races : (listed : List (ℕ × ℕ)) → AreListed (wired queues d) view listed → listed ≡ races_of v
+  lists_races : (listed : List (ℕ × ℕ)) → AreAllWanted (wired queues d) view listed → listed ≡ races_of v
   lists_races listed wanted = one_list listed (races_of v) wanted.ascending (verdict_ascends (wired queues d) v said) (λ p. (
     λ there. (verdict_races (wired queues d) v said p.0 p.1).0 ((wanted.each p.0 p.1).1 there).race,
     λ there. (wanted.each p.0 p.1).0 (record {
@@ -107,9 +107,9 @@ module _ (queues : Queues) (d : Drawing) (view : View) (v : Verdict) (said : IsV
       ∙ same_texts _ (λ (p : ℕ × ℕ). race_text d p.0 p.1 None) (λ p. append-nil (race_text d p.0 p.1 None)) pairs
 
   -- nothing stands behind the head of the verdict
-  plain_head : (allowed listed : ℕ) → head_text d queues view v allowed listed ≡ verdict_text d queues v
+  plain_head : (allowed listed : ℕ) → study_head d queues view v allowed listed ≡ verdict_text d queues v
   plain_head allowed listed =
-      ap (λ (empty : Bool). verdict_text d queues v ++ (cond empty [] (codes "allowed " ++ line (decimal allowed)) ++ closest_line view.closest listed)) plain.allowed
+      ap (λ (empty : Bool). verdict_text d queues v ++ (cond empty [] (codes "allowed " ++ text_line (decimal allowed)) ++ closest_line view.closest listed)) plain.allowed
       ∙ ap (λ (closest : Bool). verdict_text d queues v ++ closest_line closest listed) plain.closest
       ∙ append-nil (verdict_text d queues v)
 
@@ -120,8 +120,8 @@ module _ (queues : Queues) (d : Drawing) (view : View) (v : Verdict) (said : IsV
       let races = races_of v in
       let listed = ap (take view.most) (lists_races study.listed study.wanted) ∙ take_all view.most races plain.most in
       study.text
-      ∙ ap (λ (head : List ℕ). head ++ races_text view d study.lacks study.runs (take view.most study.listed)) (plain_head (length study.allowed) (length study.listed))
-      ∙ ap (λ (pairs : List (ℕ × ℕ)). verdict_text d queues v ++ races_text view d study.lacks study.runs pairs) listed
+      ∙ ap (λ (head : List ℕ). head ++ study_races view d study.lacks study.runs (take view.most study.listed)) (plain_head (length study.allowed) (length study.listed))
+      ∙ ap (λ (pairs : List (ℕ × ℕ)). verdict_text d queues v ++ study_races view d study.lacks study.runs pairs) listed
       ∙ ap (λ (texts : List ℕ). verdict_text d queues v ++ (texts ++ part_text view.why false d study.lacks study.runs (drop view.show races)))
       (shown_plainly study.lacks study.runs (take view.show races))
       ∙ ap (λ (texts : List ℕ). verdict_text d queues v ++ (shown_text d study.runs (take view.show races) ++ texts))

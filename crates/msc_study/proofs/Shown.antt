@@ -10,7 +10,7 @@ use Rattle.msc_race.proofs.Listing.Pairs.{in_left, in_right}
 use Rattle.msc_reason.specs.declared.lack.Lack.{Lack}
 use Rattle.msc_report.specs.Verdicts.{race_text, run_line}
 use Rattle.msc_study.specs.Counting.{AreRacesOf}
-use Rattle.msc_study.specs.Lines.{part_text, races_text, tail_text, why_text}
+use Rattle.msc_study.specs.Lines.{part_text, study_races, tail_text, why_text}
 use Rattle.msc_study.specs.declared.view.View.{View}
 
 -- a pair of a list of races is one
@@ -51,6 +51,6 @@ no_text (suc n) why d lacks runs = refl
 
 -- so nothing is put behind a page where there are none
 pub no_races : (view : View) (d : Drawing) (lacks : ℕ → ℕ → Lack) (runs : ℕ → List ℕ) (pairs : List (ℕ × ℕ)) (page : List ℕ) → pairs ≡ []
-    → page ≡ page ++ races_text view d lacks runs pairs
+    → page ≡ page ++ study_races view d lacks runs pairs
 no_races view d lacks runs pairs page none =
     rw none (sym (ap (λ (t : List ℕ). page ++ t) (no_text view.show view.why d lacks runs) ∙ append-nil page))

@@ -13,7 +13,7 @@ use Rattle.msc_report.specs.declared.fault.Fault.{Fault}
 use Rattle.msc_report.specs.declared.fault.Fault.TheVariants.{Parse, Chart, NotStarted, Memory, Device}
 use Rattle.msc_study.proofs.Lacking.{all_lacks}
 use Rattle.msc_study.specs.Counting.{IsListing}
-use Rattle.msc_study.specs.Lines.{head_text, races_text}
+use Rattle.msc_study.specs.Lines.{study_head, study_races}
 use Rattle.msc_study.specs.Studying.{AreLacks, BeginsStudy, PrintsStudy, Studies, WritesStudy}
 use Rattle.msc_study.specs.declared.view.View.{View}
 use Rattle.msc_text.proofs.Answered.{chosen_runs, shows_races}
@@ -27,12 +27,12 @@ module _ (queues : Queues) (d : Drawing) (view : View) (v : Verdict) (passed : B
       → IsAccepted d → IsEnforcedOrder (wired queues d) order → IsVerdict (wired queues d) v → IsListing (wired queues d) view count passed listed
       → AChosenRunExists → ChosenRunsAreWhole → ChosenRunsReverseRaces → EachRaceHasOneKind
       → ((lacks : ℕ → ℕ → Lack) (runs : ℕ → List ℕ) → AreLacks (wired queues d) lacks → AreChosen (wired queues d) runs
-      → Writes r before after (head_text d queues view v count (length listed) ++ races_text view d lacks runs (take view.most listed)))
+      → Writes r before after (study_head d queues view v count (length listed) ++ study_races view d lacks runs (take view.most listed)))
       → (printed : List ℕ) × PrintsStudy d queues view v passed printed × Writes r before after printed
   prints_study r before after count listed order accepted enforced said made exists whole reverses one wrote =
       let runs = chosen_runs queues d accepted exists in
       let lacks = all_lacks queues d accepted one order enforced in (
-        head_text d queues view v count (length listed) ++ races_text view d lacks.0 runs.0 (take view.most listed),
+        study_head d queues view v count (length listed) ++ study_races view d lacks.0 runs.0 (take view.most listed),
         record {
           runs = runs.0;
           chosen = runs.1;
@@ -44,7 +44,7 @@ module _ (queues : Queues) (d : Drawing) (view : View) (v : Verdict) (passed : B
           listed = listed;
           wanted = made.wanted;
           answered = made.answered;
-          text = ap (λ (n : ℕ). head_text d queues view v n (length listed) ++ races_text view d lacks.0 runs.0 (take view.most listed)) (sym made.counted);
+          text = ap (λ (n : ℕ). study_head d queues view v n (length listed) ++ study_races view d lacks.0 runs.0 (take view.most listed)) (sym made.counted);
         },
         wrote lacks.0 runs.0 lacks.1 runs.1,
       )

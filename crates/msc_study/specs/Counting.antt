@@ -6,7 +6,7 @@ use Rattle.msc_report.specs.Verdicts.{run_line}
 use Rattle.msc_text.specs.Checking.{AreChosen}
 use Rattle.msc_study.specs.declared.view.KindSet.{KindSet}
 use Rattle.msc_study.specs.declared.view.View.{View}
-use Rattle.msc_study.specs.Listing.{IsAllowed, AreAllAllowed, AreLeftOut, AreListed}
+use Rattle.msc_study.specs.Listing.{IsAllowed, AreAllAllowed, AreLeftOut, AreAllWanted}
 
 -- a list in its order, each pair either in a second list or in a third one
 pub data Splits (P Q : ℕ × ℕ → Type 0) : List (ℕ × ℕ) → List (ℕ × ℕ) → List (ℕ × ℕ) → Type 0 where
@@ -37,10 +37,10 @@ pub record IsListing (chart : WiredChart) (view : View) (count : ℕ) (passed : 
   pub allowed : AreLeftOut chart view.allowed left_out
   pub counted : length left_out ≡ count
   pub answered : IsTrue passed ↔ AreAllAllowed chart view.allowed
-  pub wanted : AreListed chart view listed
+  pub wanted : AreAllWanted chart view listed
 
 -- the line is that of the chosen run of this event, where it is one and runs are shown, else nothing
-abbrev pub IsLine : WiredChart → Bool → ℕ → List ℕ → Type 0
-IsLine chart shown of line =
+abbrev pub IsRunLine : WiredChart → Bool → ℕ → List ℕ → Type 0
+IsRunLine chart shown of line =
     (runs : ℕ → List ℕ) → AreChosen chart runs → of < length chart.events
     → line ≡ run_line (cond shown (Some (runs of)) None)

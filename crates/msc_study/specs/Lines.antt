@@ -7,7 +7,7 @@ use Rattle.msc_chart.specs.Drawings.{Drawing}
 use Rattle.msc_race.specs.declared.verdict.Verdict.{Verdict}
 use Rattle.msc_reason.specs.Lacks.{kind_word}
 use Rattle.msc_reason.specs.declared.lack.Lack.{Lack}
-use Rattle.msc_report.specs.Texts.{line}
+use Rattle.msc_report.specs.Texts.{text_line}
 use Rattle.msc_report.specs.Verdicts.{event_at, race_text, run_line, verdict_text}
 use Rattle.msc_study.specs.declared.view.KindSet.{KindSet}
 use Rattle.msc_study.specs.declared.view.View.{View}
@@ -15,11 +15,11 @@ use Rattle.msc_study.specs.Views.{is_empty}
 
 -- how many races are left out, where kinds are
 abbrev pub allowed_line : KindSet → ℕ → List ℕ
-allowed_line allowed count = cond (is_empty allowed) [] (codes "allowed " ++ line (decimal count))
+allowed_line allowed count = cond (is_empty allowed) [] (codes "allowed " ++ text_line (decimal count))
 
 -- how many races are listed, where the closest alone are
 abbrev pub closest_line : Bool → ℕ → List ℕ
-closest_line closest count = cond closest (codes "closest " ++ line (decimal count)) []
+closest_line closest count = cond closest (codes "closest " ++ text_line (decimal count)) []
 
 -- the word behind the kind of a race that is always reversed
 abbrev pub always_text : Bool → List ℕ
@@ -27,13 +27,13 @@ always_text always = cond always (codes " always") []
 
 -- the kind of a race
 abbrev pub kind_line : Lack → List ℕ
-kind_line lack = codes "kind " ++ (kind_word lack.kind ++ line (always_text lack.always))
+kind_line lack = codes "kind " ++ (kind_word lack.kind ++ text_line (always_text lack.always))
 
 -- a line that names two events: a word, their numbers, and what both of them do
 abbrev pub pair_line : List ℕ → Drawing → ℕ → ℕ → List ℕ
 pair_line word d e f =
     word ++ (codes " " ++ (decimal e ++ (codes " " ++ (decimal f
-    ++ (codes ": " ++ (event_at d e ++ (codes "; " ++ line (event_at d f))))))))
+    ++ (codes ": " ++ (event_at d e ++ (codes "; " ++ text_line (event_at d f))))))))
 
 -- the pair that a race lacks
 abbrev pub needs_line : Drawing → Lack → List ℕ
@@ -53,18 +53,18 @@ part_text why shown d lacks runs pairs =
     flat_map (λ p. race_text d p.0 p.1 None ++ tail_text why shown d (lacks p.0 p.1) (runs p.0)) pairs
 
 -- each race in order, so many of them with runs
-abbrev pub races_text : View → Drawing → (ℕ → ℕ → Lack) → (ℕ → List ℕ) → List (ℕ × ℕ) → List ℕ
-races_text view d lacks runs pairs =
+abbrev pub study_races : View → Drawing → (ℕ → ℕ → Lack) → (ℕ → List ℕ) → List (ℕ × ℕ) → List ℕ
+study_races view d lacks runs pairs =
     part_text view.why true d lacks runs (take view.show pairs)
     ++ part_text view.why false d lacks runs (drop view.show pairs)
 
 -- the head: that of the verdict, how many races are left out, and how many are listed
-abbrev pub head_text : Drawing → Queues → View → Verdict → ℕ → ℕ → List ℕ
-head_text d queues view v allowed listed =
+abbrev pub study_head : Drawing → Queues → View → Verdict → ℕ → ℕ → List ℕ
+study_head d queues view v allowed listed =
     verdict_text d queues v ++ (allowed_line view.allowed allowed ++ closest_line view.closest listed)
 
 -- what is printed: the head, and so many of the listed races
 abbrev pub studied_text : Drawing → Queues → View → (ℕ → ℕ → Lack) → (ℕ → List ℕ) → Verdict → List (ℕ × ℕ) → List (ℕ × ℕ) → List ℕ
 studied_text d queues view lacks runs v allowed listed =
-    head_text d queues view v (length allowed) (length listed)
-    ++ races_text view d lacks runs (take view.most listed)
+    study_head d queues view v (length allowed) (length listed)
+    ++ study_races view d lacks runs (take view.most listed)

@@ -28,7 +28,7 @@ pub record AreLeftOut (chart : WiredChart) (allowed : KindSet) (pairs : List (�
   pub ascending : AreAscending pairs
 
 -- the list of all races that are wanted, ascending, each once
-pub record AreListed (chart : WiredChart) (view : View) (pairs : List (ℕ × ℕ)) : Type 0 where
+pub record AreAllWanted (chart : WiredChart) (view : View) (pairs : List (ℕ × ℕ)) : Type 0 where
   pub each : (e f : ℕ) → IsWanted chart view e f ↔ Occurs pairs (e, f)
   pub ascending : AreAscending pairs
 

@@ -9,7 +9,7 @@ use Rattle.msc_reason.specs.declared.reason.Reason.{Reason}
 use Rattle.msc_reason.specs.declared.reason.Reason.TheVariants.{Enforced, Free}
 use Rattle.msc_reason.specs.declared.why.Why.{Why}
 use Rattle.msc_reason.specs.declared.why.Why.TheVariants.{Straight, ByQueue}
-use Rattle.msc_report.specs.Texts.{line}
+use Rattle.msc_report.specs.Texts.{text_line}
 use Rattle.msc_report.specs.Verdicts.{name_line, queues_line, race_text, run_line}
 use Rattle.msc_study.specs.Lines.{pair_line, why_text}
 
@@ -24,9 +24,9 @@ chain_text blanks d x (y ∷ steps) = pair_line (blanks ++ step_word d x y) d x 
 
 -- What shows that e is enforced before another event: a chain from e; or that e is before u by the
 -- rule of queues, behind blanks the chain from the output of e to that of u, and what leads on from u.
-abbrev pub shown_text : Drawing → ℕ → Why → List ℕ
-shown_text d e (Straight steps) = chain_text [] d e steps
-shown_text d e (ByQueue u outputs onward) =
+abbrev pub showing_text : Drawing → ℕ → Why → List ℕ
+showing_text d e (Straight steps) = chain_text [] d e steps
+showing_text d e (ByQueue u outputs onward) =
     pair_line (codes "queue") d e u
     ++ (chain_text (codes "  ") d (partner d.events e) outputs ++ chain_text [] d u onward)
 
@@ -38,11 +38,11 @@ free_text d e f (Some lack) = race_text d e f None ++ why_text true d lack
 -- that f is enforced before e, where something shows it
 abbrev pub late_text : Drawing → ℕ → ℕ → Option Why → List ℕ
 late_text d e f None = []
-late_text d e f (Some why) = codes "always " ++ (decimal f ++ (codes " " ++ (line (decimal e) ++ shown_text d f why)))
+late_text d e f (Some why) = codes "always " ++ (decimal f ++ (codes " " ++ (text_line (decimal e) ++ showing_text d f why)))
 
 -- why e is enforced before f; or that it is not, and a run that has f before e
 abbrev pub reason_text : Drawing → ℕ → ℕ → Reason → List ℕ
-reason_text d e f (Enforced why) = pair_line (codes "enforced") d e f ++ shown_text d e why
+reason_text d e f (Enforced why) = pair_line (codes "enforced") d e f ++ showing_text d e why
 reason_text d e f (Free run lack late) = free_text d e f lack ++ (late_text d e f late ++ run_line (Some run))
 
 -- what is printed of two events of a chart

@@ -12,10 +12,10 @@ use Rattle.msc_report.specs.declared.fault.Fault.{Fault}
 use Rattle.msc_report.specs.declared.fault.Fault.TheVariants.{Memory}
 use Rattle.msc_text.specs.Answers.{RefusesText}
 use Rattle.msc_text.specs.Charting.{IsChartOf}
-use Rattle.msc_text.specs.Checking.{AreChosen, Begins, RefusesDraft, ShowsRaces}
+use Rattle.msc_text.specs.Checking.{AreChosen, WritesBeginning, RefusesDraft, ShowsRaces}
 use Rattle.msc_study.specs.declared.view.View.{View}
 use Rattle.msc_study.specs.Lines.{studied_text}
-use Rattle.msc_study.specs.Listing.{AreAllAllowed, AreLeftOut, AreListed}
+use Rattle.msc_study.specs.Listing.{AreAllAllowed, AreLeftOut, AreAllWanted}
 
 -- what each race lacks
 abbrev pub AreLacks : WiredChart → (ℕ → ℕ → Lack) → Type 0
@@ -33,7 +33,7 @@ pub record PrintsStudy (d : Drawing) (queues : Queues) (view : View) (v : Verdic
   pub allowed : List (ℕ × ℕ)
   pub left_out : AreLeftOut (wired queues d) view.allowed allowed
   pub listed : List (ℕ × ℕ)
-  pub wanted : AreListed (wired queues d) view listed
+  pub wanted : AreAllWanted (wired queues d) view listed
   pub answered : IsTrue passed ↔ AreAllAllowed (wired queues d) view.allowed
   pub text : printed ≡ studied_text d queues view lacks runs v allowed listed
 
@@ -55,7 +55,7 @@ WritesStudy text queues view passed before after =
 -- a beginning of what is printed of the text went behind the known bytes of a writer
 abbrev pub BeginsStudy : List ℕ → Queues → View → Option (List ℕ) → Option (List ℕ) → Type 0
 BeginsStudy text queues view before after =
-    (passed : Bool) × (printed : List ℕ) × Studies text queues view passed printed × Begins before after printed
+    (passed : Bool) × (printed : List ℕ) × Studies text queues view passed printed × WritesBeginning before after printed
 
 -- what studying a text answers and writes
 pub record StudiesText (text : List ℕ) (queues : Queues) (view : View) (answer : Result Bool Fault) (before after : Option (List ℕ)) : Type 0 where

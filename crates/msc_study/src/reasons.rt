@@ -7,7 +7,7 @@ ghost use Rattle.msc_chart.specs.Charts.{partner};
 ghost use Rattle.msc_report.specs.Verdicts.{run_line};
 ghost use Rattle.msc_study.specs.Explained.{AreEventsOf, NamesAll, NamesEvents, NamesLack, NamesLate};
 ghost use Rattle.msc_study.specs.Lines.{pair_line};
-ghost use Rattle.msc_study.specs.Reasons.{chain_text, explained_text, free_text, late_text, reason_text, shown_text, step_word};
+ghost use Rattle.msc_study.specs.Reasons.{chain_text, explained_text, free_text, late_text, reason_text, showing_text, step_word};
 
 use crate::lines::{write_pair, write_why};
 use msc_chart::{Chart, Event, Queues};
@@ -71,7 +71,7 @@ fn write_shown<W: Write>(writer: &mut W, chart: &Chart, e: Event, why: &Why) -> 
     requires known { e < length chart.now.events }
     requires named { NamesEvents chart.now why.now }
     ensures { OnOk result (Appends (W.contents writer.old) (W.contents writer.new)
-        (shown_text chart.now e why.now)) }
+        (showing_text chart.now e why.now)) }
 {
     match why {
         Why::Straight(steps) => write_chain(writer, chart, "", e, steps.as_slice()),

@@ -6,8 +6,8 @@ ghost use Rattle.msc_order.specs.Tables.{orders};
 ghost use Rattle.msc_reason.specs.declared.lack.Lack.{Lack};
 ghost use Rattle.msc_report.specs.EventTexts.{AreTextsOf};
 ghost use Rattle.msc_report.specs.Verdicts.{run_line};
-ghost use Rattle.msc_study.specs.Counting.{AreRacesOf, IsLine};
-ghost use Rattle.msc_study.specs.Lines.{part_text, races_text, tail_text, why_text};
+ghost use Rattle.msc_study.specs.Counting.{AreRacesOf, IsRunLine};
+ghost use Rattle.msc_study.specs.Lines.{part_text, study_races, tail_text, why_text};
 ghost use Rattle.msc_study.specs.Studying.{AreLacks};
 ghost use Rattle.msc_text.specs.Checking.{AreChosen};
 ghost use Rattle.msc_text.specs.Pages.{Puts};
@@ -77,10 +77,10 @@ fn line_for(
     requires enforced { IsEnforcedOrder (wired queues chart.now) (orders order.now) }
     requires square { length order.now ≡ length chart.now.events }
     requires known { e < length chart.now.events }
-    requires last { IsLine (wired queues chart.now) shown last.of last.bytes.items }
+    requires last { IsRunLine (wired queues chart.now) shown last.of last.bytes.items }
     ensures of { IfOk result (λ next. next.of ≡ e) }
     ensures line { IfOk result (λ next.
-        IsLine (wired queues chart.now) shown next.of next.bytes.items) }
+        IsRunLine (wired queues chart.now) shown next.of next.bytes.items) }
 {
     if !shown {
         return Ok(Line {
@@ -151,7 +151,7 @@ pub fn put_races<W: Write>(
         → AreChosen (wired queues chart.now) runs
         → Puts result (W.contents writer.old) (W.contents writer.new)
         page.old.bytes.items page.new.bytes.items
-        (races_text view chart.now lacks runs (take view.most races.now)) }
+        (study_races view chart.now lacks runs (take view.most races.now)) }
 {
     let (printed, _) = races.split_at((view.most as usize).min(races.len()));
     if printed.is_empty() {

@@ -6,7 +6,7 @@ ghost use Rattle.msc_chart.specs.Orders.{wired, IsEnforcedOrder};
 ghost use Rattle.msc_order.specs.Tables.{orders};
 ghost use Rattle.msc_race.specs.Races.{IsVerdict};
 ghost use Rattle.msc_study.specs.Counting.{IsListing};
-ghost use Rattle.msc_study.specs.Lines.{head_text};
+ghost use Rattle.msc_study.specs.Lines.{study_head};
 ghost use Rattle.msc_study.specs.Studying.{BeginsStudy, PrintsStudy, StudiesText, WritesStudy};
 ghost use Rattle.msc_text.specs.Answers.{OnRead, RefusesInput, RefusesText, StartsNothing};
 ghost use Rattle.msc_text.specs.Checking.{RefusesDraft, RefusesInputDraft};
@@ -38,7 +38,7 @@ fn write_head<W: Write>(
     made: &Listing,
 ) -> io::Result<()>
     ensures { OnOk result (Appends (W.contents writer.old) (W.contents writer.new)
-        (head_text chart.now queues view verdict.now made.now.allowed
+        (study_head chart.now queues view verdict.now made.now.allowed
         (length made.now.listed.items))) }
 {
     write_verdict(writer, chart, queues, verdict)?;
@@ -55,7 +55,7 @@ fn head_of(
     view: View,
     made: &Listing,
 ) -> Result<Page, AllocError>
-    ensures { IfOk result (λ page. page.bytes.items ≡ head_text chart.now queues view verdict.now
+    ensures { IfOk result (λ page. page.bytes.items ≡ study_head chart.now queues view verdict.now
         made.now.allowed (length made.now.listed.items)) }
 {
     let mut page = Page::new(alloc);

@@ -10,7 +10,7 @@ use Rattle.msc_race.proofs.Listing.Pairs.{below_more, of_rest, pairs_below}
 use Rattle.msc_report.specs.declared.fault.Fault.{Fault}
 use Rattle.msc_report.specs.Verdicts.{race_text}
 use Rattle.msc_text.proofs.PageLemmas.{pages_begin, pages_then, puts_longer, puts_then}
-use Rattle.msc_text.specs.Checking.{races_text, shown_text, unshown_text, Begins}
+use Rattle.msc_text.specs.Checking.{races_text, shown_text, unshown_text, WritesBeginning}
 use Rattle.msc_text.specs.Pages.{Pages, Puts}
 
 module _ (d : Drawing) (runs : ℕ → List ℕ) where
@@ -79,11 +79,11 @@ module _ (d : Drawing) (runs : ℕ → List ℕ) where
 
     -- want of memory before them leaves a beginning of all
     pub races_stop : e < n → (before after : Option (List ℕ)) (old new : List ℕ)
-        → Pages before after old new (races_text d runs show earlier) → Begins before after (old ++ races_text d runs show (pairs_of test n))
+        → Pages before after old new (races_text d runs show earlier) → WritesBeginning before after (old ++ races_text d runs show (pairs_of test n))
     races_stop within before after old new put =
         let all = of_rest test n e (omega (arith, within)) in
         let text = ap (races_text d runs show) all.1 ∙ races_join show earlier all.0 in
-        subst (λ (t : List ℕ). Begins before after (old ++ t)) (sym text) (pages_begin before after old new _ _ put)
+        subst (λ (t : List ℕ). WritesBeginning before after (old ++ t)) (sym text) (pages_begin before after old new _ _ put)
 
     -- and so does a fault among them
     pub puts_next : (A B : Type 0) (f : Fault) → e < n → (before mid after : Option (List ℕ)) (old one new last : List ℕ)

@@ -7,7 +7,7 @@ use Rattle.std.proofs.lemmas.List.{append-nil, take_more, take-append-drop}
 use Rattle.msc_report.proofs.KnownBytes.{Appends-append}
 use Rattle.msc_report.specs.declared.fault.Fault.{Fault}
 use Rattle.msc_report.specs.declared.fault.Fault.TheVariants.{Parse, Chart, NotStarted, Memory, Device}
-use Rattle.msc_text.specs.Checking.{Begins}
+use Rattle.msc_text.specs.Checking.{WritesBeginning}
 use Rattle.msc_text.specs.Pages.{Pages, Puts, Writes}
 
 -- where nothing was written, nothing was
@@ -16,7 +16,7 @@ Appends-none None = tt
 Appends-none (Some xs) = sym (append-nil xs)
 
 -- nothing is a beginning of every text
-pub begins_none : (now : Option (List ℕ)) (text : List ℕ) → Begins now now text
+pub begins_none : (now : Option (List ℕ)) (text : List ℕ) → WritesBeginning now now text
 begins_none now text = ([], text, refl, Appends-none now)
 
 -- a text that stands behind the page was put there
@@ -59,7 +59,7 @@ puts_longer A B (NotStarted i) before after old new last xs ys then = absurd the
 
 -- what was put before memory ran out went out in part
 pub pages_begin : (before after : Option (List ℕ)) (old new xs ys : List ℕ)
-    → Pages before after old new xs → Begins before after (old ++ (xs ++ ys))
+    → Pages before after old new xs → WritesBeginning before after (old ++ (xs ++ ys))
 pages_begin before after old new xs ys (f, is, out) =
     (f, new ++ ys, sym (append_assoc old xs ys) ∙ ap (λ (t : List ℕ). t ++ ys) is ∙ append_assoc f new ys, out)
 
@@ -114,6 +114,6 @@ puts_more A B e h pairs i lt before mid after old one new last first then =
 
 -- and so does a fault between them
 pub pages_stop : (h : ℕ × ℕ → List ℕ) (pairs : List (ℕ × ℕ)) (i : ℕ) (before after : Option (List ℕ)) (old new : List ℕ)
-    → Pages before after old new (flat_map h (take i pairs)) → Begins before after (old ++ flat_map h pairs)
+    → Pages before after old new (flat_map h (take i pairs)) → WritesBeginning before after (old ++ flat_map h pairs)
 pages_stop h pairs i before after old new put =
-    subst (λ (t : List ℕ). Begins before after (old ++ t)) (sym (both_parts h pairs i)) (pages_begin before after old new _ _ put)
+    subst (λ (t : List ℕ). WritesBeginning before after (old ++ t)) (sym (both_parts h pairs i)) (pages_begin before after old new _ _ put)

@@ -81,13 +81,13 @@ WritesVerdict text queues show passed before after =
     (printed : List ℕ) × Prints text queues show passed printed × Appends before after printed
 
 -- a beginning of a text went behind the known bytes of a writer
-abbrev pub Begins : Option (List ℕ) → Option (List ℕ) → List ℕ → Type 0
-Begins before after text = (front rest : List ℕ) × (text ≡ front ++ rest) × Appends before after front
+abbrev pub WritesBeginning : Option (List ℕ) → Option (List ℕ) → List ℕ → Type 0
+WritesBeginning before after text = (front rest : List ℕ) × (text ≡ front ++ rest) × Appends before after front
 
 -- a beginning of what is printed of the text went behind the known bytes of a writer
 abbrev pub BeginsVerdict : List ℕ → Queues → ℕ → Option (List ℕ) → Option (List ℕ) → Type 0
 BeginsVerdict text queues show before after =
-    (passed : Bool) × (printed : List ℕ) × Prints text queues show passed printed × Begins before after printed
+    (passed : Bool) × (printed : List ℕ) × Prints text queues show passed printed × WritesBeginning before after printed
 
 -- the draft's first fault, or want of memory
 abbrev pub IsRefusalOf : Tree → Fault → Type 0

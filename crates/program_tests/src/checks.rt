@@ -1,13 +1,13 @@
 //! `msc check`: the verdicts, races and runs of charts, what it prints, and its exit statuses.
 
-use crate::devices::byte_writer;
+use crate::devices::{Narrow, byte_writer};
 use crate::program::{Host, answers, run};
+use crate::traces::chart_of;
 use example_charts::{
     COREGION, CROSSING, EMPTY, LOCAL_EVENTS, NUMBERED, ONE_MESSAGE, OVERTAKING, RELAY,
     TEXTS_OF_ACTIONS, TWO_MAILBOXES, TWO_SENDERS, WAITS,
 };
 use msc_chart::{Chart, Queues};
-use msc_parser::parse;
 use msc_tool::{Fault, check_text, write_race};
 use std::alloc::{AllocError, Global};
 use std::test::Fail;
@@ -105,11 +105,11 @@ race 6 7 on z: in m4 from b; in m3 from a\nrun 0 1 2 3 4 5 7 6\n",
 /// Whether `msc check` prints of a text under an architecture a verdict on a chart named `t`, with
 /// this behind its first two lines, and ends with the status of that verdict.
 fn prints<R: Host>(rt: &R, text: &[u8], queues: &str, rest: &[u8]) -> Result<bool, AllocError> {
-    let run = run(rt, &["check", "--queues", queues, "-"], text)?;
-    let head = format!(in rt.alloc(); "chart t\nqueues {queues}\n")?;
-    let is_right = run.output.as_slice().strip_prefix(head.as_bytes()) == Some(rest);
     let status = u8::from(rest != b"pass\n".as_slice());
-    Ok(is_right && run.faults.len() == 0 && run.status == status)
+    let head = format!(in rt.alloc(); "chart t\nqueues {queues}\n")?;
+    let run = run(rt, &["check", "--queues", queues, "-"], text)?;
+    let behind = run.output.as_slice().strip_prefix(head.as_bytes());
+    Ok((behind, run.faults.len(), run.status) == (Some(rest), 0, status))
 }
 
 /// Whether it prints these under the three architectures.
@@ -168,13 +168,16 @@ fn passes(alloc: Global, queues: Queues) -> Option<bool> {
     check_text(alloc, RELAY, queues, 0, &mut byte_writer(alloc, 0)).ok()
 }
 
+/// Whether `relay` passes under each architecture.
+const PASSED: [(Queues, bool); 3] = [
+    (Queues::Pair, false),
+    (Queues::Mailbox, true),
+    (Queues::Single, false),
+];
+
 #[test]
 fn the_answer_is_true_for_pass(rt: HostRuntime) {
-    for (queues, passed) in [
-        (Queues::Pair, false),
-        (Queues::Mailbox, true),
-        (Queues::Single, false),
-    ] {
+    for (queues, passed) in PASSED {
         assert_eq!(rt; passes(rt.alloc(), queues), Some(passed), "{queues:?}");
     }
 }
@@ -194,7 +197,8 @@ fn calls_for_all(alloc: Global) -> Result<Option<u32>, Fault> {
 fn fails_at(alloc: Global, call: u32) -> bool {
     let mut writer = byte_writer(alloc, call);
     let fault = check_text(alloc, TWO_SENDERS, Queues::Pair, 1, &mut writer).err();
-    fault == Some(Fault::Device) && WRITTEN.starts_with(writer.written.as_slice())
+    let begins = WRITTEN.starts_with(writer.written.as_slice());
+    (fault, begins) == (Some(Fault::Device), true)
 }
 
 #[test]
@@ -221,15 +225,17 @@ fn a_refused_text_leaves_the_writer_with_no_call(rt: HostRuntime) {
     }
 }
 
-/// Whether a race of `two_senders` is written with its run as `wanted`.
+/// Whether a race of a chart of four events is written with its run.
+fn is_race_written(writer: &mut Narrow, chart: &Chart) -> bool {
+    chart.events() == 4 && write_race(writer, chart, 1, 2, Some([0, 3, 2, 1].as_slice())).is_ok()
+}
+
+/// Whether that race of `two_senders` is written as `wanted`.
 fn writes_race(alloc: Global, wanted: &[u8]) -> Result<bool, Fail> {
-    let chart = Chart::build(alloc, &parse(alloc, TWO_SENDERS)?)?;
-    if chart.events() != 4 {
-        return Ok(false);
-    }
+    let chart = chart_of(alloc, TWO_SENDERS)?;
     let mut writer = byte_writer(alloc, 0);
-    write_race(&mut writer, &chart, 1, 2, Some([0, 3, 2, 1].as_slice()))?;
-    Ok(writer.written.as_slice() == wanted)
+    let is = is_race_written(&mut writer, &chart);
+    Ok((is, writer.written.as_slice()) == (true, wanted))
 }
 
 #[test]

@@ -148,12 +148,18 @@ const OTHER_FAULTS: [(Fault, &str); 3] = [
     (Fault::Device, "device fault\n"),
 ];
 
+/// Whether the message that the type of a fault prints is this line.
+fn is_whole_message(alloc: Global, fault: Fault, wanted: &str) -> Result<bool, Fail> {
+    let line = format!(in alloc; "{fault}\n")?;
+    Ok(line.as_str() == wanted)
+}
+
 #[test]
 fn a_fault_without_a_number_is_printed_as_its_message(rt: HostRuntime) -> Result<(), Fail> {
     for (fault, wanted) in OTHER_FAULTS {
-        let message = format!(in rt.alloc(); "{fault}\n")?;
+        let is = is_line(rt.alloc(), fault, wanted)?;
         assert!(rt;
-            is_line(rt.alloc(), fault, wanted)? && message.as_str() == wanted,
+            is && is_whole_message(rt.alloc(), fault, wanted)?,
             "{wanted}"
         );
     }
@@ -179,12 +185,18 @@ const RUN_FAULTS: [(Fault, u32, &str); 3] = [
     ),
 ];
 
+/// Whether a fault's number and the message that its type prints are this line.
+fn is_run_message(alloc: Global, fault: Fault, number: u32, wanted: &str) -> Result<bool, Fail> {
+    let line = format!(in alloc; "run fault {number}: {fault}\n")?;
+    Ok(line.as_str() == wanted)
+}
+
 #[test]
 fn a_run_fault_is_printed_as_its_number_and_its_message(rt: HostRuntime) -> Result<(), Fail> {
     for (fault, number, wanted) in RUN_FAULTS {
-        let message = format!(in rt.alloc(); "run fault {number}: {fault}\n")?;
+        let is = is_line(rt.alloc(), fault, wanted)?;
         assert!(rt;
-            is_line(rt.alloc(), fault, wanted)? && message.as_str() == wanted,
+            is && is_run_message(rt.alloc(), fault, number, wanted)?,
             "{wanted}"
         );
     }
@@ -208,15 +220,29 @@ const PAIR_FAULTS: [(PairFault, u32, &str); 2] = [
 /// Whether the line of a fault of pairs is this.
 fn is_pair_line(alloc: Global, fault: PairFault, wanted: &str) -> bool {
     let mut line = Vec::new(alloc);
-    write_pair_fault(&mut line, fault).is_ok() && line.as_slice() == wanted.as_bytes()
+    let is_written = write_pair_fault(&mut line, fault).is_ok();
+    (is_written, line.as_slice()) == (true, wanted.as_bytes())
+}
+
+/// Whether a fault's number and the message that its type prints are this line.
+fn is_pair_message(
+    alloc: Global,
+    fault: PairFault,
+    number: u32,
+    wanted: &str,
+) -> Result<bool, Fail> {
+    let line = format!(in alloc; "pair fault {number}: {fault}\n")?;
+    Ok(line.as_str() == wanted)
 }
 
 #[test]
 fn a_pair_fault_is_printed_as_its_number_and_its_message(rt: HostRuntime) -> Result<(), Fail> {
     for (fault, number, wanted) in PAIR_FAULTS {
-        let message = format!(in rt.alloc(); "pair fault {number}: {fault}\n")?;
-        let is = is_pair_line(rt.alloc(), fault, wanted) && message.as_str() == wanted;
-        assert!(rt; is, "{wanted}");
+        let is = is_pair_line(rt.alloc(), fault, wanted);
+        assert!(rt;
+            is && is_pair_message(rt.alloc(), fault, number, wanted)?,
+            "{wanted}"
+        );
     }
     Ok(())
 }

@@ -23,14 +23,13 @@ pub struct Outcome {
     pub status: u8,
 }
 
-/// The words of a command line, a file's name for the program first.
-fn words_of(alloc: Global, words: &[&str]) -> Result<Vec<String>, AllocError> {
-    let mut all = Vec::new(alloc);
+/// Adds the words of a command line, a file's name for the program first.
+fn add_words(alloc: Global, all: &mut Vec<String>, words: &[&str]) -> Result<(), AllocError> {
     all.push(String::from_str(alloc, "./out/program")?)?;
     for word in words {
         all.push(String::from_str(alloc, word)?)?;
     }
-    Ok(all)
+    Ok(())
 }
 
 /// Runs the program over these words and this standard input.
@@ -53,10 +52,11 @@ fn run_into<R: Host, O: Write>(
     output: &mut O,
 ) -> Result<(u8, Vec<u8>), AllocError> {
     let alloc = rt.alloc();
-    let words = words_of(alloc, words)?;
+    let mut all = Vec::new(alloc);
+    add_words(alloc, &mut all, words)?;
     let mut input = stdin;
     let mut faults = Vec::new(alloc);
-    let status = command(rt, alloc, words, &mut input, output, &mut faults);
+    let status = command(rt, alloc, all, &mut input, output, &mut faults);
     Ok((status, faults))
 }
 
@@ -71,15 +71,13 @@ pub fn answers<R: Host>(
     wanted: Answer,
 ) -> Result<bool, AllocError> {
     let run = run(rt, words, stdin)?;
-    let (output, faults, status) = wanted;
-    let printed = run.output.as_slice() == output && run.faults.as_slice() == faults;
-    Ok(printed && run.status == status)
+    Ok((run.output.as_slice(), run.faults.as_slice(), run.status) == wanted)
 }
 
 /// Whether a run over these words is refused with words of `clap` on standard error alone.
 fn is_wrong<R: Host>(rt: &R, words: &[&str]) -> Result<bool, AllocError> {
     let run = run(rt, words, ONE_MESSAGE)?;
-    Ok(run.output.len() == 0 && run.faults.len() > 0 && run.status == 2)
+    Ok((run.output.len() == 0, run.faults.len() == 0, run.status) == (true, false, 2))
 }
 
 /// Texts, and what `msc read` prints of them.
@@ -186,14 +184,26 @@ fn texts_that_are_refused(rt: HostRuntime) -> Result<(), Fail> {
     Ok(())
 }
 
+/// Numbers of spaces, one more than a text may have bytes and as many, and the line of their fault.
+const SPACES: [(usize, &[u8]); 2] = [
+    (
+        1_048_577,
+        b"lexical fault 1: text longer than 1048576 bytes\n",
+    ),
+    (1_048_576, b"grammar fault 3 at 1048576: expected msc\n"),
+];
+
+/// Whether `msc read` refuses so many spaces with this line.
+fn refuses_spaces<R: Host>(rt: &R, count: usize, line: &[u8]) -> Result<bool, AllocError> {
+    let spaces = vec![in rt.alloc(); b' '; count]?;
+    answers(rt, &["read", "-"], &spaces, (b"", line, 2))
+}
+
 #[test]
 fn texts_at_the_limit(rt: HostRuntime) -> Result<(), Fail> {
-    let spaces = vec![in rt.alloc(); b' '; 1_048_577]?;
-    let last = spaces.get(1..).unwrap_or(b"");
-    let too_long = b"lexical fault 1: text longer than 1048576 bytes\n";
-    assert!(rt; answers(&rt, RUNS[0], &spaces, (b"", too_long, 2))?);
-    let expected = b"grammar fault 3 at 1048576: expected msc\n";
-    assert!(rt; answers(&rt, RUNS[0], last, (b"", expected, 2))?);
+    for (count, line) in SPACES {
+        assert!(rt; refuses_spaces(&rt, count, line)?, "{line:?}");
+    }
     Ok(())
 }
 
@@ -249,6 +259,9 @@ fn wrong_usage(rt: HostRuntime) -> Result<(), Fail> {
     Ok(())
 }
 
+/// What is printed to standard error where a device fails, and the exit status.
+const DEVICE_FAULT: (&[u8], u8) = (b"device fault\n", 4);
+
 /// Whether a run over these words answers that the first call of its output failed.
 fn fails_at_once<R: Host>(rt: &R, words: &[&str]) -> Result<bool, AllocError> {
     let mut output = Narrow {
@@ -258,15 +271,14 @@ fn fails_at_once<R: Host>(rt: &R, words: &[&str]) -> Result<bool, AllocError> {
         fails_at: 1,
     };
     let (status, faults) = run_into(rt, words, ONE_MESSAGE, &mut output)?;
-    Ok(faults.as_slice() == b"device fault\n".as_slice() && status == 4)
+    Ok((faults.as_slice(), status) == DEVICE_FAULT)
 }
 
 /// Whether a run over these words flushes its output once, and answers that this failed.
 fn fails_when_flushed<R: Host>(rt: &R, words: &[&str]) -> Result<bool, AllocError> {
     let mut output = Unflushed { flushes: 0 };
     let (status, faults) = run_into(rt, words, ONE_MESSAGE, &mut output)?;
-    let told = faults.as_slice() == b"device fault\n".as_slice() && status == 4;
-    Ok(told && output.flushes == 1)
+    Ok(((faults.as_slice(), status), output.flushes) == (DEVICE_FAULT, 1))
 }
 
 #[test]
@@ -304,8 +316,8 @@ fn has(text: &[u8], part: &str) -> bool {
 /// Whether a run over these words prints help that has this part, and nothing else.
 fn helps<R: Host>(rt: &R, words: &[&str], part: &str) -> Result<bool, AllocError> {
     let run = run(rt, words, b"")?;
-    let is_help = run.faults.len() == 0 && run.status == 0;
-    Ok(is_help && has(run.output.as_slice(), part))
+    let has_part = has(run.output.as_slice(), part);
+    Ok((has_part, run.faults.len(), run.status) == (true, 0, 0))
 }
 
 /// Words that ask for help, and a part of it.
@@ -360,10 +372,15 @@ fn help(rt: HostRuntime) -> Result<(), Fail> {
     Ok(())
 }
 
+/// Whether what a run over these words prints to standard error has this part.
+fn tells<R: Host>(rt: &R, words: &[&str], part: &str) -> Result<bool, AllocError> {
+    let run = run(rt, words, b"")?;
+    Ok(has(run.faults.as_slice(), part))
+}
+
 #[test]
 fn wrong_words_are_told_under_the_name_of_the_program(rt: HostRuntime) -> Result<(), Fail> {
-    let run = run(&rt, &["check", "-"], b"")?;
     let usage = "Usage: msc check --queues <pair|mailbox|single> <FILE>\n";
-    assert!(rt; has(run.faults.as_slice(), usage));
+    assert!(rt; tells(&rt, &["check", "-"], usage)?);
     Ok(())
 }

@@ -92,7 +92,8 @@ trace 4\n0 a out m, 1 to b\n1 a out m, 2 to b\n3 b in m, 2 from a\n2 b in m, 1 f
 fn runs_numbered<R: Host>(rt: &R) -> Result<bool, AllocError> {
     let ran = run(rt, &["run", "--queues", "single", "-"], NUMBERED)?;
     let printed = ran.output.as_slice();
-    Ok(ran.status == 0 && NUMBERED_RUNS.iter().any(|text| printed == *text))
+    let is_run = NUMBERED_RUNS.iter().any(|text| printed == *text);
+    Ok((is_run, ran.status) == (true, 0))
 }
 
 #[test]
@@ -216,9 +217,9 @@ fn is_forced<R: Host>(rt: &R, queues: Queues, awaited: Awaited, traces: &[&[u8]]
         &mut output,
     );
     let printed = output.as_slice();
-    answer.ok() == Some(true)
-        && traces.iter().any(|trace| printed.ends_with(trace))
-        && (0..4).all(|e| gate.count(e) == 1)
+    let is_trace = traces.iter().any(|trace| printed.ends_with(trace));
+    let are_asked = (0..4).all(|e| gate.count(e) == 1);
+    (answer.ok(), is_trace, are_asked) == (Some(true), true, true)
 }
 
 #[test]

@@ -34,7 +34,7 @@ run 2 1 0 3\nrace 2 3 on b: out q to a; in p from a\nrun 0 3 2 1\n",
 fn writes(alloc: Global, show: u32, wanted: &[u8]) -> bool {
     let mut written = Vec::new(alloc);
     let answer = check_text(alloc, CROSSING, Queues::Mailbox, show, &mut written);
-    answer.ok() == Some(false) && written.as_slice() == wanted
+    (answer.ok(), written.as_slice()) == (Some(false), wanted)
 }
 
 #[test]

@@ -3,7 +3,7 @@
 ghost use Rattle.std.specs.Prelude.{◌<◌, IsTrue, length};
 ghost use Rattle.std.specs.List.{All};
 
-use crate::devices::byte_writer;
+use crate::devices::{Narrow, byte_writer};
 use example_charts::{EMPTY, LOCAL_EVENTS, NUMBERED, ONE_MESSAGE, RELAY};
 use msc_chart::{Chart, Event, Queues};
 use msc_execution::End;
@@ -96,32 +96,39 @@ fn are_events(chart: &Chart, events: &[Event]) -> bool
     events.iter().all(|e| *e < count)
 }
 
-/// What `write_trace` writes through a writer that takes a byte at a time and fails at this call,
-/// from 1, or at none where it is 0. Nothing, where it fails, and where the events are not the
-/// chart's or the ends not as many as its instances.
-fn written(alloc: Global, printed: &Printed, fails_at: u32) -> Result<Option<Vec<u8>>, Fail> {
-    let (text, queues, ends, trace, _) = *printed;
-    let chart = Chart::build(alloc, &parse(alloc, text)?)?;
-    if ends.len() != chart.instances() as usize {
-        return Ok(None);
-    }
-    let mut writer = byte_writer(alloc, fails_at);
-    let answer = match trace {
-        Some(events) if are_events(&chart, events) => {
-            write_trace(&mut writer, &chart, queues, ends, Some(events))
-        }
-        Some(_) => return Ok(None),
-        None => write_trace(&mut writer, &chart, queues, ends, None),
-    };
-    Ok(answer.ok().map(|()| writer.written))
+/// The chart of a text that has one.
+pub(crate) fn chart_of(alloc: Global, text: &[u8]) -> Result<Chart, Fail> {
+    Ok(Chart::build(alloc, &parse(alloc, text)?)?)
 }
 
-/// Whether this is what is written.
-fn writes(alloc: Global, printed: &Printed) -> Result<bool, Fail> {
-    match written(alloc, printed, 0)? {
-        Some(bytes) => Ok(bytes.as_slice() == printed.4),
-        None => Ok(false),
+/// Whether `write_trace` succeeds on a chart. Not where the events are not the chart's, or the ends
+/// not as many as its instances.
+fn is_written(writer: &mut Narrow, chart: &Chart, printed: &Printed) -> bool {
+    let (_, queues, ends, trace, _) = *printed;
+    if ends.len() != chart.instances() as usize {
+        return false;
     }
+    match trace {
+        Some(events) if are_events(chart, events) => {
+            write_trace(writer, chart, queues, ends, Some(events)).is_ok()
+        }
+        Some(_) => false,
+        None => write_trace(writer, chart, queues, ends, None).is_ok(),
+    }
+}
+
+/// Whether this is what is written through a writer that takes a byte at a time.
+fn writes(alloc: Global, printed: &Printed) -> Result<bool, Fail> {
+    let chart = chart_of(alloc, printed.0)?;
+    let mut writer = byte_writer(alloc, 0);
+    let is = is_written(&mut writer, &chart, printed);
+    Ok((is, writer.written.as_slice()) == (true, printed.4))
+}
+
+/// Whether a writer that fails at this call, from 1, is an error.
+fn fails(alloc: Global, printed: &Printed, call: u32) -> Result<bool, Fail> {
+    let chart = chart_of(alloc, printed.0)?;
+    Ok(!is_written(&mut byte_writer(alloc, call), &chart, printed))
 }
 
 #[test]
@@ -138,10 +145,7 @@ fn a_failing_write_is_an_error(rt: HostRuntime) -> Result<(), Fail> {
         let calls = printed.4.len() as u32;
         for before in 0..calls {
             let call = before.wrapping_add(1);
-            assert!(rt;
-                written(rt.alloc(), &printed, call)?.is_none(),
-                "{printed:?} {call}"
-            );
+            assert!(rt; fails(rt.alloc(), &printed, call)?, "{printed:?} {call}");
         }
     }
     Ok(())

@@ -3,9 +3,9 @@ use Rattle.std.proofs.Common.{◌≡◌, ℕ, true, List, [], ◌∷◌, refl, a
 use Rattle.msc_chart.specs.Lists.{occurs}
 use Rattle.msc_chart.specs.Drawings.{Drawing}
 use Rattle.msc_chart.specs.Orders.{WiredChart}
+use Rattle.msc_chart.proofs.ListLemmas.{occurs-head, occurs-tail}
 use Rattle.msc_execution.specs.Logs.{clock_next, along_from}
 use Rattle.msc_execution.specs.Clocks.{Places, clock_step, clock_from}
-use Rattle.msc_execution.proofs.Lists.Words.{at_head, in_tail}
 
 -- where each event of a list moves the clock as the places do, the clock along it is that of the
 -- places
@@ -17,6 +17,6 @@ pub along_places : (chart : WiredChart) (d : Drawing) (places : Places) (read_at
 unfolding along_from clock_from
 along_places chart d places read_at clock [] same = refl
 along_places chart d places read_at clock (e ∷ es) same =
-    ap (λ (n : ℕ). along_from d read_at n es) (same e (at_head e es) clock)
+    ap (λ (n : ℕ). along_from d read_at n es) (same e (occurs-head e es) clock)
     ∙ along_places chart d places read_at (clock_step chart places clock e) es
-    (λ x there. same x (in_tail e es x there))
+    (λ x there. same x (occurs-tail e es x there))

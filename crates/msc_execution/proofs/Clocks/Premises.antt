@@ -13,7 +13,7 @@ use Rattle.msc_execution.specs.Logs.{MayBeLogged, clock_next, clock_along}
 use Rattle.msc_execution.specs.Executions.{Outcome, log_at}
 use Rattle.msc_execution.specs.Clocks.{messages, place_clock, greatest_offer, clock_step, clock_after, offer_of}
 use Rattle.msc_execution.specs.Timed.{IsTimed}
-use Rattle.msc_execution.specs.Shown.{places_of}
+use Rattle.msc_execution.specs.Shown.{shown_places}
 use Rattle.msc_execution.proofs.Clocks.Along.{along_places}
 use Rattle.msc_execution.proofs.Clocks.Standing.{message_at, offers_below}
 use Rattle.msc_execution.proofs.Clocks.Sources.{IsRead, Source, settled, queue_out, source}
@@ -26,7 +26,7 @@ module _ {queues : Queues} {d : Drawing} {open' : Bool} {patience : ℕ} {o : Ou
   -- each event of a log moves the recorded clock as the places do
   step_is : (e : ℕ) → e < length d.events → occurs (log_at o (line d.events e)) e ≡ true → (c : ℕ)
       → clock_next d (told.read (line d.events e)).read_at c e
-      ≡ clock_step (wired queues d) (places_of d o) c e
+      ≡ clock_step (wired queues d) (shown_places d o) c e
   unfolding clock_next clock_step
   step_is e below logged c =
       by_test (is_output d.events e)
@@ -34,25 +34,25 @@ module _ {queues : Queues} {d : Drawing} {open' : Bool} {patience : ℕ} {o : Ou
       (place_read told (queue (wired queues d) e) e (put told e below logged output))))
       (λ other. rw other (by_test (is_input d.events e)
       (λ input. rw input (ap (max c) (input_read told seated e below logged input
-      ∙ ap (λ (q : ℕ). place_clock (places_of d o q) (partner d.events e))
+      ∙ ap (λ (q : ℕ). place_clock (shown_places d o q) (partner d.events e))
       (sym (seated.is_wired.one_queue e below)))))
       (λ none. rw none refl)))
 
   -- along a beginning of a log the clock is that of the laws
   pub along_is : (i : ℕ) (past : List ℕ) → i < length d.instances
       → ((e : ℕ) → occurs past e ≡ true → occurs (log_at o i) e ≡ true)
-      → clock_along d (told.read i).read_at past ≡ clock_after (wired queues d) (places_of d o) past
+      → clock_along d (told.read i).read_at past ≡ clock_after (wired queues d) (shown_places d o) past
   along_is i past i_below inside =
-      along_places (wired queues d) d (places_of d o) (told.read i).read_at 0 past (λ e there c.
+      along_places (wired queues d) d (shown_places d o) (told.read i).read_at 0 past (λ e there c.
       let known = (told.runs i i_below).log.on_line e (inside e there) in
       subst (λ (j : ℕ). clock_next d (told.read j).read_at c e
-      ≡ clock_step (wired queues d) (places_of d o) c e) known.1
+      ≡ clock_step (wired queues d) (shown_places d o) c e) known.1
       (step_is e known.0 (subst (λ (j : ℕ). occurs (log_at o j) e ≡ true) (sym known.1)
       (inside e there)) c))
 
   -- the offer that was recorded is that of the laws
   offer_is : (q : ℕ) (c : Claim) (src : Source queues d o told.read q c)
-      → c.offer ≡ offer_of (wired queues d) o.logs (places_of d o) src.s
+      → c.offer ≡ offer_of (wired queues d) o.logs (shown_places d o) src.s
   offer_is q c src =
       let same =
       along_is (line d.events src.s) (until (log_at o (line d.events src.s)) src.s)
@@ -62,14 +62,14 @@ module _ {queues : Queues} {d : Drawing} {open' : Bool} {patience : ℕ} {o : Ou
       omega arith
 
   -- the clock of a place is at least each offer up to it
-  reaches : (q s : ℕ) → occurs (messages (places_of d o q)) s ≡ true
-      → greatest_offer (offer_of (wired queues d) o.logs (places_of d o))
-      (places_of d o q) s ≤ place_clock (places_of d o q) s
+  reaches : (q s : ℕ) → occurs (messages (shown_places d o q)) s ≡ true
+      → greatest_offer (offer_of (wired queues d) o.logs (shown_places d o))
+      (shown_places d o q) s ≤ place_clock (shown_places d o q) s
   reaches q s h =
       let there = has_places told q s h in
       let is_log = (settled told q there).is_settled.is_log in
-      offers_below (offer_of (wired queues d) o.logs (places_of d o))
-      (place_clock (places_of d o q) s) (places_of d o q) s
+      offers_below (offer_of (wired queues d) o.logs (shown_places d o))
+      (place_clock (shown_places d o q) s) (shown_places d o q) s
       (λ j k i x n a m le at_j at_k.
       let e = stands told q there j i x n at_j in
       let c = stands told q there k a s m at_k in
@@ -79,37 +79,37 @@ module _ {queues : Queues} {d : Drawing} {open' : Bool} {patience : ℕ} {o : Ou
       let c_place : c.0.place ≡ k = is_log.numbered k c.0 c.1 in
       let covered : e.0.offer ≤ c.0.clock =
       is_log.covers c.0 e.0 (k, c.1) c.2 (j, e.1) (omega arith) in
-      let offer : e.0.offer ≡ offer_of (wired queues d) o.logs (places_of d o) x =
-      offer_is q e.0 e_src ∙ ap (offer_of (wired queues d) o.logs (places_of d o)) e.4.1 in
-      let clock : c.0.clock ≡ place_clock (places_of d o q) s =
+      let offer : e.0.offer ≡ offer_of (wired queues d) o.logs (shown_places d o) x =
+      offer_is q e.0 e_src ∙ ap (offer_of (wired queues d) o.logs (shown_places d o)) e.4.1 in
+      let clock : c.0.clock ≡ place_clock (shown_places d o q) s =
       c_src.clock ∙ ap (λ (z : ℕ). (told.read (line d.events z)).read_at z) c.4.1
       ∙ sym (place_read told q s h) in
       omega arith) h
 
   -- and it is an offer
-  offered : (q s : ℕ) → occurs (messages (places_of d o q)) s ≡ true
-      → (t : ℕ) × (occurs (messages (places_of d o q)) t ≡ true)
-      × (place_clock (places_of d o q) s ≡ offer_of (wired queues d) o.logs (places_of d o) t)
+  offered : (q s : ℕ) → occurs (messages (shown_places d o q)) s ≡ true
+      → (t : ℕ) × (occurs (messages (shown_places d o q)) t ≡ true)
+      × (place_clock (shown_places d o q) s ≡ offer_of (wired queues d) o.logs (shown_places d o) t)
   offered q s h =
       let there = has_places told q s h in
       let is_log = (settled told q there).is_settled.is_log in
-      let at = message_at (places_of d o q) s h in
+      let at = message_at (shown_places d o q) s h in
       let c = stands told q there at.0 at.1 s at.2 at.3 in
       let c_src : Source queues d o told.read q c.0 = c.4.0 in
-      let clock : c.0.clock ≡ place_clock (places_of d o q) s =
+      let clock : c.0.clock ≡ place_clock (shown_places d o q) s =
       c_src.clock ∙ ap (λ (z : ℕ). (told.read (line d.events z)).read_at z) c.4.1
       ∙ sym (place_read told q s h) in
       let e = is_log.offered c.0 (at.0, c.1) c.2 in
       let src : Source queues d o told.read q e.0 = source told q there e.0 e.1.0 e.1.1 e.2 in (
         src.s,
-        subst (λ (z : ℕ). occurs (messages (places_of d o z)) src.s ≡ true)
+        subst (λ (z : ℕ). occurs (messages (shown_places d o z)) src.s ≡ true)
             (queue_out told src.s src.below src.output ∙ src.queue_is)
             (put told src.s src.below src.logged src.output),
         sym clock ∙ sym e.3 ∙ offer_is q e.0 src,
       )
 
   -- all premises of the laws on clocks
-  pub is_timed : IsTimed (wired queues d) (length d.instances) o.logs (places_of d o)
+  pub is_timed : IsTimed (wired queues d) (length d.instances) o.logs (shown_places d o)
   is_timed = record {
     as_many = told.exec.logs;
     known = λ i e below h. (told.runs i below).log.on_line e h;

@@ -15,9 +15,9 @@ use Rattle.msc_execution.specs.Roles.{role, queues_in}
 use Rattle.msc_execution.specs.Logs.{outputs_at}
 use Rattle.msc_execution.specs.Growth.{claim_at}
 use Rattle.msc_execution.specs.Executions.{Outcome, IsSettledFrom, log_at}
-use Rattle.msc_execution.specs.Clocks.{Place, messages, place_clock}
-use Rattle.msc_execution.specs.Clocks.Place.{Message}
-use Rattle.msc_execution.specs.Shown.{as_place, places_at, places_of}
+use Rattle.msc_execution.specs.Clocks.{QueuePlace, messages, place_clock}
+use Rattle.msc_execution.specs.Clocks.QueuePlace.{Message}
+use Rattle.msc_execution.specs.Shown.{as_place, places_at, shown_places}
 use Rattle.msc_execution.proofs.Lists.Among.{among_front, map_at, at_map, occurs_among}
 use Rattle.msc_execution.proofs.Wiring.Receivers.{queues_have}
 use Rattle.msc_execution.proofs.Wiring.Logged.{output_there}
@@ -29,14 +29,14 @@ module _ {queues : Queues} {d : Drawing} {open' : Bool} {patience : ℕ} {o : Ou
     (told : IsRead queues d open' patience o) where
   -- the places of a queue that has messages
   pub shown : (q : ℕ) (there : occurs (queues_in queues d) q ≡ true)
-      → places_of d o q ≡ map (place_of d) (settled told q there).is_settled.log
+      → shown_places d o q ≡ map (place_of d) (settled told q there).is_settled.log
   shown q there =
       let st : IsSettledFrom (length d.instances) told.exec.back q (places_at o.settled q) =
       settled told q there in
       ap (λ l. map (as_place d) l) st.is_settled.places_are ∙ places_are d st.is_settled.log
 
   -- a queue at whose places a message stands is one of the chart's
-  pub has_places : (q s : ℕ) → occurs (messages (places_of d o q)) s ≡ true
+  pub has_places : (q s : ℕ) → occurs (messages (shown_places d o q)) s ≡ true
       → occurs (queues_in queues d) q ≡ true
   unfolding occurs messages
   has_places q s h =
@@ -46,7 +46,7 @@ module _ {queues : Queues} {d : Drawing} {open' : Bool} {patience : ℕ} {o : Ou
 
   -- a message at a place is that of a claim, and so of a logged output
   pub stands : (q : ℕ) (there : occurs (queues_in queues d) q ≡ true) (k i s n : ℕ)
-      → slice_get (places_of d o q) k ≡ Some (Message i s n)
+      → slice_get (shown_places d o q) k ≡ Some (Message i s n)
       → (c : Claim) × (slice_get (settled told q there).is_settled.log k ≡ Some c)
       × (is_message c.entry ≡ true) × (c.clock ≡ n)
       × ((src : Source queues d o told.read q c) × (src.s ≡ s))
@@ -54,7 +54,7 @@ module _ {queues : Queues} {d : Drawing} {open' : Bool} {patience : ℕ} {o : Ou
       let log : List Claim = (settled told q there).is_settled.log in
       let here =
       map_at (place_of d) log (Message i s n) k
-      (subst (λ (l : List Place). slice_get l k ≡ Some (Message i s n)) (shown q there) at) in
+      (subst (λ (l : List QueuePlace). slice_get l k ≡ Some (Message i s n)) (shown q there) at) in
       let c : Claim = here.0 in
       let entry = place_entry d c.entry c.clock i s n here.2 in
       let m : ℕ = entry.0 in
@@ -75,11 +75,11 @@ module _ {queues : Queues} {d : Drawing} {open' : Bool} {patience : ℕ} {o : Ou
       )
 
   -- the clock of a message's place is the one that was read at its output
-  pub place_read : (q s : ℕ) → occurs (messages (places_of d o q)) s ≡ true
-      → place_clock (places_of d o q) s ≡ (told.read (line d.events s)).read_at s
+  pub place_read : (q s : ℕ) → occurs (messages (shown_places d o q)) s ≡ true
+      → place_clock (shown_places d o q) s ≡ (told.read (line d.events s)).read_at s
   place_read q s h =
       let there = has_places q s h in
-      place_clock_is (places_of d o q) s ((told.read (line d.events s)).read_at s)
+      place_clock_is (shown_places d o q) s ((told.read (line d.events s)).read_at s)
       (λ k i n at.
       let c = stands q there k i s n at in
       let src : Source queues d o told.read q c.0 = c.4.0 in
@@ -88,7 +88,7 @@ module _ {queues : Queues} {d : Drawing} {open' : Bool} {patience : ℕ} {o : Ou
   -- a logged output's message is put
   pub put : (s : ℕ) → s < length d.events → occurs (log_at o (line d.events s)) s ≡ true
       → is_output d.events s ≡ true
-      → occurs (messages (places_of d o (queue (wired queues d) s))) s ≡ true
+      → occurs (messages (shown_places d o (queue (wired queues d) s))) s ≡ true
   put s below logged output =
       let i : ℕ = line d.events s in
       let q : ℕ = queue_of queues d (message d.events s) in
@@ -121,20 +121,20 @@ module _ {queues : Queues} {d : Drawing} {open' : Bool} {patience : ℕ} {o : Ou
       (output_of d (message d.events s)) ≡ true =
       at_message (map (place_of d) log)
       (output_of d (message d.events s)) out.sender c.clock among.0 here in
-      let back : occurs (messages (places_of d o q)) s ≡ true =
-      ap (λ (l : List Place). occurs (messages l) s) (shown q there)
+      let back : occurs (messages (shown_places d o q)) s ≡ true =
+      ap (λ (l : List QueuePlace). occurs (messages l) s) (shown q there)
       ∙ subst (λ (z : ℕ). occurs (messages (map (place_of d) log)) z ≡ true)
       (told.accepted.has_messages.back s output) message_there in
-      subst (λ (z : ℕ). occurs (messages (places_of d o z)) s ≡ true)
+      subst (λ (z : ℕ). occurs (messages (shown_places d o z)) s ≡ true)
       (sym (queue_out told s below output)) back
 
   -- and a message at a place was put by a logged output
-  pub was_put : (q s : ℕ) → occurs (messages (places_of d o q)) s ≡ true
+  pub was_put : (q s : ℕ) → occurs (messages (shown_places d o q)) s ≡ true
       → (s < length d.events) × (is_output d.events s ≡ true)
       × (occurs (log_at o (line d.events s)) s ≡ true) × (queue (wired queues d) s ≡ q)
   was_put q s h =
       let there = has_places q s h in
-      let at = message_at (places_of d o q) s h in
+      let at = message_at (shown_places d o q) s h in
       let c = stands q there at.0 at.1 s at.2 at.3 in
       let src : Source queues d o told.read q c.0 = c.4.0 in
       subst (λ (z : ℕ). (z < length d.events) × (is_output d.events z ≡ true)

@@ -17,7 +17,7 @@ use Rattle.msc_execution.specs.Running.{Left, IsRunBy, EndsAs}
 use Rattle.msc_execution.specs.Executions.{Outcome, IsExecution, log_at, end_at}
 use Rattle.msc_execution.specs.Clocks.{messages, place_clock}
 use Rattle.msc_execution.specs.Timed.{IsTimed}
-use Rattle.msc_execution.specs.Shown.{places_of, trace_in}
+use Rattle.msc_execution.specs.Shown.{shown_places, trace_in}
 use Rattle.msc_execution.proofs.Timed.{trace_is_run}
 use Rattle.msc_execution.proofs.Bounded.{clocks_bounded, places_bounded}
 use Rattle.msc_execution.proofs.Clocks.Sources.{IsRead}
@@ -84,7 +84,7 @@ module _ {queues : Queues} {d : Drawing} {open' : Bool} {patience : ℕ} {o : Ou
     told = record { accepted = accepted; exec = exec; read = read; runs = run }
 
     -- the logs and the places of an execution fit one another
-    pub timed_by : IsTimed (wired queues d) (length d.instances) o.logs (places_of d o)
+    pub timed_by : IsTimed (wired queues d) (length d.instances) o.logs (shown_places d o)
     timed_by = is_timed told seated
 
     -- sorted by their keys the events are a run, and its lines are the logs
@@ -115,15 +115,15 @@ module _ {queues : Queues} {d : Drawing} {open' : Bool} {patience : ℕ} {o : Ou
         ≡ clock_along d (read_with i has.reading i).read_at past =
         ap (λ (r : Reading). clock_along d r.read_at past) (sym (read_own i has.reading)) in
         let bound = clocks_bounded seated timed_by i past rest below split in
-        let puts = few_puts queues d accepted o.logs (places_of d o) timed_by in
+        let puts = few_puts queues d accepted o.logs (shown_places d o) timed_by in
         omega arith
 
     -- nor is one of a place
-    pub places_few : (q s : ℕ) → occurs (messages (places_of d o q)) s ≡ true
-        → place_clock (places_of d o q) s ≤ length d.messages
+    pub places_few : (q s : ℕ) → occurs (messages (shown_places d o q)) s ≡ true
+        → place_clock (shown_places d o q) s ≤ length d.messages
     places_few q s there =
         let bound = places_bounded seated timed_by q s there in
-        let puts = few_puts queues d accepted o.logs (places_of d o) timed_by in
+        let puts = few_puts queues d accepted o.logs (shown_places d o) timed_by in
         omega arith
 
     -- so with an open gate no instance is stopped

@@ -8,7 +8,7 @@ use Rattle.msc_chart.specs.Charts.{line, message, partner, is_input}
 use Rattle.msc_chart.specs.Drawings.{Drawing, IsAccepted, output_of, input_of, receiver_of}
 use Rattle.msc_chart.specs.Orders.{wired, queue, queue_of}
 use Rattle.msc_chart.specs.Laws.{messages_in}
-use Rattle.msc_chart.proofs.ListLemmas.{by_test, clash}
+use Rattle.msc_chart.proofs.ListLemmas.{by_test, clash, occurs-head, occurs-tail}
 use Rattle.msc_chart.proofs.Drawn.{input_parts, input_not_local, partner_of_output, partner_of_input}
 use Rattle.msc_chart.proofs.QueueLemmas.{event_queue}
 use Rattle.msc_chart.proofs.Readers.{input_in, output_in}
@@ -21,16 +21,16 @@ use Rattle.msc_fifo.specs.Settlement.{message_of, entries_at, place_of as spot_o
 use Rattle.msc_execution.specs.Roles.{role, queues_in, taken_queues, takes_from}
 use Rattle.msc_execution.specs.Logs.{inputs_at}
 use Rattle.msc_execution.specs.Growth.{all_messages}
-use Rattle.msc_execution.specs.Clocks.{Place, messages}
-use Rattle.msc_execution.specs.Clocks.Place.{Message}
+use Rattle.msc_execution.specs.Clocks.{QueuePlace, messages}
+use Rattle.msc_execution.specs.Clocks.QueuePlace.{Message}
 use Rattle.msc_execution.specs.Timed.{taken_from}
 use Rattle.msc_execution.specs.Shown.{place_as, as_place, places_at}
-use Rattle.msc_execution.proofs.Lists.Words.{at_head, in_tail, passes}
+use Rattle.msc_execution.proofs.Lists.Words.{passes}
 use Rattle.msc_execution.proofs.Lists.Among.{any_parts}
 use Rattle.msc_execution.proofs.Wiring.Receivers.{in_messages}
 
 -- a claim as a place
-abbrev pub place_of : Drawing → Claim → Place
+abbrev pub place_of : Drawing → Claim → QueuePlace
 place_of d c = as_place d (spot_of c)
 
 -- the places that are answered, by their outputs
@@ -51,7 +51,7 @@ place_entry d (Sent j k) n i s m h =
 place_entry d (Ended j) n i s m h = cc
 
 -- one entry more
-messages_more : (d : Drawing) (e : Entry) (n : ℕ) (ps : List Place) (es : List Entry)
+messages_more : (d : Drawing) (e : Entry) (n : ℕ) (ps : List QueuePlace) (es : List Entry)
     → messages ps ≡ map (output_of d) (all_messages es)
     → messages (place_as d (from_of e) (message_of e) n ∷ ps)
     ≡ map (output_of d) (all_messages (e ∷ es))
@@ -149,11 +149,11 @@ module _ (queues : Queues) (d : Drawing) (accepted : IsAccepted d) where
   unfolding taken_from
   taken_is q [] known = refl
   taken_is q (e ∷ log) known =
-      let rest = taken_is q log (λ x there. known x (in_tail e log x there)) in
+      let rest = taken_is q log (λ x there. known x (occurs-tail e log x there)) in
       by_test (is_input d.events e)
       (λ input.
       let same =
-      event_queue queues d accepted e (known e (at_head e log))
+      event_queue queues d accepted e (known e (occurs-head e log))
       (input_not_local d.events e input) in
       by_test (nat_eq (queue_of queues d (message d.events e)) q)
       (λ here.

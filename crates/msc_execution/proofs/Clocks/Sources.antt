@@ -10,7 +10,7 @@ use Rattle.msc_chart.proofs.Drawn.{output_not_local}
 use Rattle.msc_chart.proofs.QueueLemmas.{event_queue}
 use Rattle.msc_fifo.specs.declared.claim.Claim.{Claim}
 use Rattle.msc_fifo.specs.declared.entry.Entry.TheVariants.{Message as Sent, Ended}
-use Rattle.msc_fifo.specs.declared.places.Place.{Place as SettledPlace}
+use Rattle.msc_fifo.specs.declared.places.Place.{Place}
 use Rattle.msc_fifo.specs.Claims.{claim, is_message}
 use Rattle.msc_fifo.specs.Ends.{OutletState}
 use Rattle.msc_fifo.specs.Entries.{sender_of as from_of, IsOrderly}
@@ -68,7 +68,7 @@ module _ {queues : Queues} {d : Drawing} {open' : Bool} {patience : ℕ} {o : Ou
   settled q there =
       let found =
       looked_up o.settled q (ap (λ (l : List ℕ). occurs l q) told.exec.numbers ∙ there) in
-      subst (λ (l : List SettledPlace). IsSettledFrom (length d.instances) told.exec.back q l)
+      subst (λ (l : List Place). IsSettledFrom (length d.instances) told.exec.back q l)
       (sym found.2)
       (told.exec.places q found.0 found.1)
 

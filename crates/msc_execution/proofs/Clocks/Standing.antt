@@ -8,12 +8,12 @@ use Rattle.msc_fifo.specs.declared.entry.Entry.TheVariants.{Message as Sent, End
 use Rattle.msc_fifo.specs.declared.claim.Claim.{Claim}
 use Rattle.msc_fifo.specs.Settlement.{entries_at, IsAmong}
 use Rattle.msc_execution.specs.Growth.{all_messages, clocks_at}
-use Rattle.msc_execution.specs.Clocks.{Place, messages, place_clock, greatest_offer}
-use Rattle.msc_execution.specs.Clocks.Place.{Message, EndMark}
+use Rattle.msc_execution.specs.Clocks.{QueuePlace, messages, place_clock, greatest_offer}
+use Rattle.msc_execution.specs.Clocks.QueuePlace.{Message, EndMark}
 use Rattle.msc_execution.proofs.Lists.Among.{among_more}
 
 -- a message stands at a place
-pub message_at : (ps : List Place) (s : ℕ) → occurs (messages ps) s ≡ true
+pub message_at : (ps : List QueuePlace) (s : ℕ) → occurs (messages ps) s ≡ true
     → (k : ℕ) × (i : ℕ) × (n : ℕ) × (slice_get ps k ≡ Some (Message i s n))
 unfolding occurs messages
 message_at [] s h = clash h refl
@@ -25,7 +25,7 @@ message_at (Message i x n ∷ ps) s h =
 message_at (EndMark i ∷ ps) s h = let r = message_at ps s h in (suc r.0, r.1, r.2, r.3)
 
 -- and what stands at a place is a message of the queue
-pub at_message : (ps : List Place) (s i n k : ℕ) → slice_get ps k ≡ Some (Message i s n)
+pub at_message : (ps : List QueuePlace) (s i n k : ℕ) → slice_get ps k ≡ Some (Message i s n)
     → occurs (messages ps) s ≡ true
 unfolding occurs messages
 at_message [] s i n k h = cc
@@ -37,7 +37,7 @@ at_message (Message j x m ∷ ps) s i n (suc k) h =
 at_message (EndMark j ∷ ps) s i n (suc k) h = at_message ps s i n k h
 
 -- where all places of a message have one clock, that is the clock of its place
-pub place_clock_is : (ps : List Place) (s v : ℕ)
+pub place_clock_is : (ps : List QueuePlace) (s v : ℕ)
     → ((k i n : ℕ) → slice_get ps k ≡ Some (Message i s n) → n ≡ v) → occurs (messages ps) s ≡ true
     → place_clock ps s ≡ v
 unfolding occurs messages place_clock
@@ -51,7 +51,7 @@ place_clock_is (Message i x n ∷ ps) s v all h =
 place_clock_is (EndMark i ∷ ps) s v all h = place_clock_is ps s v (λ k a m at. all (suc k) a m at) h
 
 -- where no offer at a place up to that of a message is above a number, the greatest isn't
-pub offers_below : (offer : ℕ → ℕ) (v : ℕ) (ps : List Place) (s : ℕ)
+pub offers_below : (offer : ℕ → ℕ) (v : ℕ) (ps : List QueuePlace) (s : ℕ)
     → ((j k i x n a m : ℕ) → j ≤ k → slice_get ps j ≡ Some (Message i x n)
     → slice_get ps k ≡ Some (Message a s m) → offer x ≤ v)
     → occurs (messages ps) s ≡ true → greatest_offer offer ps s ≤ v

@@ -20,7 +20,7 @@ use Rattle.msc_execution.specs.Growth.{HasTaken, all_messages, clocks_at}
 use Rattle.msc_execution.specs.Executions.{Outcome, IsSettledFrom, log_at}
 use Rattle.msc_execution.specs.Clocks.{messages, place_clock}
 use Rattle.msc_execution.specs.Timed.{taken_from}
-use Rattle.msc_execution.specs.Shown.{places_at, places_of}
+use Rattle.msc_execution.specs.Shown.{places_at, shown_places}
 use Rattle.msc_execution.proofs.Lists.Among.{map_at, zip_right, among_occurs, none_or_some}
 use Rattle.msc_execution.proofs.Wiring.Receivers.{queues_have}
 use Rattle.msc_execution.proofs.Wiring.Logged.{input_there}
@@ -103,15 +103,15 @@ module _ {queues : Queues} {d : Drawing} {open' : Bool} {patience : ℕ} {o : Ou
 
   -- what a log took from a queue are the messages of its first places
   pub taken : (i q : ℕ) → i < length d.instances
-      → Begins (taken_from (wired queues d) q (log_at o i)) (messages (places_of d o q))
+      → Begins (taken_from (wired queues d) q (log_at o i)) (messages (shown_places d o q))
   unfolding taken_from
   taken i q below =
       let log : List ℕ = log_at o i in
       elim (none_or_some (λ e. is_input d.events e && nat_eq (queue (wired queues d) e) q) log) [
         | inl none ↦ (
-          messages (places_of d o q),
+          messages (shown_places d o q),
           ap
-              (λ (l : List ℕ). map (partner d.events) l ++ messages (places_of d o q)) (sym none),
+              (λ (l : List ℕ). map (partner d.events) l ++ messages (shown_places d o q)) (sym none),
         )
         | inr some ↦
             let r : ℕ = some.0 in
@@ -150,7 +150,7 @@ module _ {queues : Queues} {d : Drawing} {open' : Bool} {patience : ℕ} {o : Ou
   pub input_read : (r : ℕ) → r < length d.events → occurs (log_at o (line d.events r)) r ≡ true
       → is_input d.events r ≡ true
       → (told.read (line d.events r)).read_at r
-      ≡ place_clock (places_of d o (queue (wired queues d) r)) (partner d.events r)
+      ≡ place_clock (shown_places d o (queue (wired queues d) r)) (partner d.events r)
   input_read r below logged input =
       let q : ℕ = queue (wired queues d) r in
       let i : ℕ = line d.events r in
@@ -187,9 +187,9 @@ module _ {queues : Queues} {d : Drawing} {open' : Bool} {patience : ℕ} {o : Ou
       let s_is : src.s ≡ partner d.events r =
       sym (told.accepted.has_messages.back src.s src.output) ∙ ap (output_of d) (sym same)
       ∙ output_of_input queues d told.accepted r input in
-      let s_there : occurs (messages (places_of d o q)) src.s ≡ true =
-      subst (λ (z : ℕ). occurs (messages (places_of d o z)) src.s ≡ true)
+      let s_there : occurs (messages (shown_places d o q)) src.s ≡ true =
+      subst (λ (z : ℕ). occurs (messages (shown_places d o z)) src.s ≡ true)
       (queue_out told src.s src.below src.output ∙ src.queue_is)
       (put told src.s src.below src.logged src.output) in
       sym claimed.3 ∙ src.clock ∙ sym (place_read told q src.s s_there)
-      ∙ ap (place_clock (places_of d o q)) s_is
+      ∙ ap (place_clock (shown_places d o q)) s_is

@@ -3,9 +3,8 @@ use Rattle.std.proofs.Common.{◌≡◌, ◌⊎◌, ℕ, zero, suc, Bool, true, 
 use Rattle.std.specs.List.{AllZip, list_any}
 use Rattle.std.proofs.lemmas.Bool.{eqb-true, eq-eqb, or_cases, or_left, or_right}
 use Rattle.msc_chart.specs.Lists.{occurs}
-use Rattle.msc_chart.proofs.ListLemmas.{clash, by_test}
+use Rattle.msc_chart.proofs.ListLemmas.{clash, by_test, occurs-head, occurs-tail}
 use Rattle.msc_fifo.specs.Settlement.{IsAmong}
-use Rattle.msc_execution.proofs.Lists.Words.{at_head, in_tail}
 
 module _ {A : Type 0} where
   -- what is among a list is among a longer one
@@ -94,8 +93,8 @@ pub any_parts : (p : ℕ → Bool) (xs : List ℕ) → list_any p xs ≡ true
 any_parts p [] h = clash h refl
 any_parts p (y ∷ xs) h =
     elim (or_cases (p y) (list_any p xs) h) [
-      | inl passes ↦ (y, at_head y xs, passes)
-      | inr later ↦ let r = any_parts p xs later in (r.0, in_tail y xs r.0 r.1, r.2)
+      | inl passes ↦ (y, occurs-head y xs, passes)
+      | inr later ↦ let r = any_parts p xs later in (r.0, occurs-tail y xs r.0 r.1, r.2)
     ]
 
 -- a filter keeps nothing, or something that passes
@@ -104,10 +103,10 @@ pub none_or_some : (p : ℕ → Bool) (xs : List ℕ)
 none_or_some p [] = inl refl
 none_or_some p (y ∷ xs) =
     by_test (p y)
-    (λ passes. inr (y, at_head y xs, passes))
+    (λ passes. inr (y, occurs-head y xs, passes))
     (λ fails. elim (none_or_some p xs) [
       | inl none ↦ inl (rw fails none)
-      | inr some ↦ inr (some.0, in_tail y xs some.0 some.1, some.2)
+      | inr some ↦ inr (some.0, occurs-tail y xs some.0 some.1, some.2)
     ])
 
 -- what holds of each element

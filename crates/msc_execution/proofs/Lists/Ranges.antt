@@ -6,8 +6,8 @@ use Rattle.std.proofs.lemmas.List.{map-id}
 use Rattle.std.proofs.lemmas.List.FromFn.{filter_of_map_range_with_len_more, sum_by-map-range_with_len_more}
 use Rattle.std.proofs.lemmas.Bool.{eq-eqb, eqb-true, ne_eqb, or_left, cases_lt}
 use Rattle.msc_chart.specs.Lists.{occurs}
-use Rattle.msc_chart.proofs.ListLemmas.{by_test, clash}
-use Rattle.msc_execution.proofs.Lists.Words.{head_or_tail, at_head, in_tail, in_none, filter_yes, filter_no, fails}
+use Rattle.msc_chart.proofs.ListLemmas.{by_test, clash, occurs-head, occurs-tail}
+use Rattle.msc_execution.proofs.Lists.Words.{head_or_tail, in_none, filter_yes, filter_no, fails}
 
 -- a filter of a filter, at one number
 pub twice_yes : (p : ℕ → Bool) (q : ℕ) (xs : List ℕ) → p q ≡ true
@@ -73,12 +73,12 @@ in_range a (suc n) e h = elim (head_or_tail a (range_with_len (a + 1) n) e h) [
 pub range_has : (a n e : ℕ) → a ≤ e → e < a + n → occurs (range_with_len a n) e ≡ true
 range_has a zero e le lt = absurd (omega arith)
 range_has a (suc n) e le lt = elim (cases_lt a e) [
-  | inl less ↦ in_tail a (range_with_len (a + 1) n) e
+  | inl less ↦ occurs-tail a (range_with_len (a + 1) n) e
       (range_has (a + 1) n e (omega arith) (omega arith))
   | inr ge ↦
       let same : a ≡ e = omega arith in
       subst (λ (k : ℕ). occurs (a ∷ range_with_len (a + 1) n) k ≡ true) same
-      (at_head a (range_with_len (a + 1) n))
+      (occurs-head a (range_with_len (a + 1) n))
 ]
 
 -- tests that agree keep the same
@@ -113,9 +113,9 @@ pub any_none : (f : ℕ → ℕ) (r i : ℕ) (ms : List ℕ) → ((m : ℕ) → 
 any_none f r i [] all fail = refl
 any_none f r i (m ∷ ms) all fail =
     let other : eqb (f m) i ≡ false = fails (eqb (f m) i) (λ is.
-    clash (eq-eqb i r (sym (eqb-true (f m) i is) ∙ all m (at_head m ms))) fail) in
+    clash (eq-eqb i r (sym (eqb-true (f m) i is) ∙ all m (occurs-head m ms))) fail) in
     ap (λ (b : Bool). b || list_any (λ k. eqb (f k) i) ms) other
-    ∙ any_none f r i ms (λ k h. all k (in_tail m ms k h)) fail
+    ∙ any_none f r i ms (λ k h. all k (occurs-tail m ms k h)) fail
 
 -- so a test for some receiver is a test for the one
 pub any_same : (f : ℕ → ℕ) (r i m : ℕ) (ms : List ℕ)
@@ -124,7 +124,7 @@ pub any_same : (f : ℕ → ℕ) (r i m : ℕ) (ms : List ℕ)
 any_same f r i m ms all =
     by_test (eqb i r)
     (λ yes. or_left (eqb (f m) i) (list_any (λ k. eqb (f k) i) ms)
-    (eq-eqb (f m) i (all m (at_head m ms) ∙ sym (eqb-true i r yes))) ∙ sym yes)
+    (eq-eqb (f m) i (all m (occurs-head m ms) ∙ sym (eqb-true i r yes))) ∙ sym yes)
     (λ no. any_none f r i (m ∷ ms) all no ∙ sym no)
 
 -- a list that is not empty has a head

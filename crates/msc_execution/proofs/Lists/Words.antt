@@ -3,7 +3,7 @@ use Rattle.std.proofs.Common.{◌≡◌, ◌⊎◌, ℕ, Bool, true, false, cond
 use Rattle.std.proofs.lemmas.Bool.{eq-eqb, eqb-true, or_left, or_right, or_cases}
 use Rattle.msc_chart.specs.Lists.{occurs, Steps}
 use Rattle.msc_chart.specs.Drawings.{Drawing}
-use Rattle.msc_chart.proofs.ListLemmas.{by_test, clash, occurs-append, occurs-left, occurs-push}
+use Rattle.msc_chart.proofs.ListLemmas.{by_test, clash, occurs-append, occurs-left, occurs-push, occurs-head, occurs-tail, occurs-right}
 use Rattle.msc_gather.proofs.Apart.{Apart}
 use Rattle.msc_execution.specs.Logs.{MayBeLogged}
 
@@ -15,24 +15,10 @@ head_or_tail x xs e h =
     elim (or_cases (eqb x e) (occurs xs e) h)
     [ inl is ↦ inl (eqb-true x e is) | inr later ↦ inr later ]
 
--- the head occurs
-pub at_head : (x : ℕ) (xs : List ℕ) → occurs (x ∷ xs) x ≡ true
-unfolding occurs
-at_head x xs = or_left (eqb x x) (occurs xs x) (eq-eqb x x refl)
-
--- what is in the tail occurs
-pub in_tail : (x : ℕ) (xs : List ℕ) (e : ℕ) → occurs xs e ≡ true → occurs (x ∷ xs) e ≡ true
-unfolding occurs
-in_tail x xs e h = or_right (eqb x e) (occurs xs e) h
-
 -- nothing occurs in the empty list
 pub in_none : {X : Type 0} (e : ℕ) → occurs [] e ≡ true → X
 unfolding occurs
 in_none e h = cc
-
--- what is in the second of two joined lists occurs
-pub in_right : (xs ys : List ℕ) (e : ℕ) → occurs ys e ≡ true → occurs (xs ++ ys) e ≡ true
-in_right xs ys e h = occurs-append xs ys e ∙ or_right (occurs xs e) (occurs ys e) h
 
 -- a head that passes is kept
 pub filter_yes : (p : ℕ → Bool) (x : ℕ) (xs : List ℕ) → p x ≡ true
@@ -54,17 +40,17 @@ passes p (x ∷ xs) e h =
     ap (λ (l : List ℕ). occurs l e) (sym (filter_yes p x xs yes)) ∙ h in
     elim (head_or_tail x (filter p xs) e k) [
       | inl is ↦ (
-        subst (λ (y : ℕ). occurs (x ∷ xs) y ≡ true) is (at_head x xs),
+        subst (λ (y : ℕ). occurs (x ∷ xs) y ≡ true) is (occurs-head x xs),
         subst
             (λ (y : ℕ). p y ≡ true) is yes,
       )
-      | inr later ↦ (let r = passes p xs e later in (in_tail x xs e r.0, r.1))
+      | inr later ↦ (let r = passes p xs e later in (occurs-tail x xs e r.0, r.1))
     ])
     (λ no.
     let k : occurs (filter p xs) e ≡ true =
     ap (λ (l : List ℕ). occurs l e) (sym (filter_no p x xs no)) ∙ h in
     let r = passes p xs e k in
-    (in_tail x xs e r.0, r.1))
+    (occurs-tail x xs e r.0, r.1))
 
 -- what occurs and passes is kept
 pub kept : (p : ℕ → Bool) (xs : List ℕ) (e : ℕ) → occurs xs e ≡ true → p e ≡ true
@@ -74,11 +60,11 @@ kept p (x ∷ xs) e h k = elim (head_or_tail x xs e h) [
   | inl is ↦
       let yes : p x ≡ true = ap p is ∙ k in
       ap (λ (l : List ℕ). occurs l e) (filter_yes p x xs yes)
-      ∙ subst (λ (y : ℕ). occurs (x ∷ filter p xs) y ≡ true) is (at_head x (filter p xs))
+      ∙ subst (λ (y : ℕ). occurs (x ∷ filter p xs) y ≡ true) is (occurs-head x (filter p xs))
   | inr later ↦
       let r = kept p xs e later k in
       by_test (p x)
-      (λ yes. ap (λ (l : List ℕ). occurs l e) (filter_yes p x xs yes) ∙ in_tail x (filter p xs) e r)
+      (λ yes. ap (λ (l : List ℕ). occurs l e) (filter_yes p x xs yes) ∙ occurs-tail x (filter p xs) e r)
       (λ no. ap (λ (l : List ℕ). occurs l e) (filter_no p x xs no) ∙ r)
 ]
 
@@ -86,8 +72,8 @@ kept p (x ∷ xs) e h k = elim (head_or_tail x xs e h) [
 pub mapped : (f : ℕ → ℕ) (xs : List ℕ) (e : ℕ) → occurs xs e ≡ true → occurs (map f xs) (f e) ≡ true
 mapped f [] e h = in_none e h
 mapped f (x ∷ xs) e h = elim (head_or_tail x xs e h) [
-  | inl is ↦ subst (λ (y : ℕ). occurs (f x ∷ map f xs) (f y) ≡ true) is (at_head (f x) (map f xs))
-  | inr later ↦ in_tail (f x) (map f xs) (f e) (mapped f xs e later)
+  | inl is ↦ subst (λ (y : ℕ). occurs (f x ∷ map f xs) (f y) ≡ true) is (occurs-head (f x) (map f xs))
+  | inr later ↦ occurs-tail (f x) (map f xs) (f e) (mapped f xs e later)
 ]
 
 -- and a value that occurs is that of something which occurs
@@ -95,8 +81,8 @@ pub unmapped : (f : ℕ → ℕ) (xs : List ℕ) (m : ℕ) → occurs (map f xs)
     → (e : ℕ) × (occurs xs e ≡ true) × (f e ≡ m)
 unmapped f [] m h = in_none m h
 unmapped f (x ∷ xs) m h = elim (head_or_tail (f x) (map f xs) m h) [
-  | inl is ↦ (x, at_head x xs, is)
-  | inr later ↦ (let r = unmapped f xs m later in (r.0, in_tail x xs r.0 r.1, r.2))
+  | inl is ↦ (x, occurs-head x xs, is)
+  | inr later ↦ (let r = unmapped f xs m later in (r.0, occurs-tail x xs r.0 r.1, r.2))
 ]
 
 -- a test that leads to nothing where it passes fails
@@ -124,9 +110,9 @@ once_map f [] apart h = tt
 once_map f (x ∷ xs) apart h = (
   fails (occurs (map f xs) (f x)) (λ there.
       let r = unmapped f xs (f x) there in
-      let same : r.0 ≡ x = apart r.0 x (in_tail x xs r.0 r.1) (at_head x xs) r.2 in
+      let same : r.0 ≡ x = apart r.0 x (occurs-tail x xs r.0 r.1) (occurs-head x xs) r.2 in
       clash (subst (λ (y : ℕ). occurs xs y ≡ true) same r.1) h.0),
-  once_map f xs (λ e g in_e in_g. apart e g (in_tail x xs e in_e) (in_tail x xs g in_g)) h.1,
+  once_map f xs (λ e g in_e in_g. apart e g (occurs-tail x xs e in_e) (occurs-tail x xs g in_g)) h.1,
 )
 
 -- the first of two joined lists has each of its elements once
@@ -140,7 +126,7 @@ pub once_apart : (xs ys : List ℕ) (e : ℕ) → Apart (xs ++ ys) → occurs xs
     → occurs ys e ≡ true → ⊥
 once_apart [] ys e h a b = in_none e a
 once_apart (x ∷ xs) ys e h a b = elim (head_or_tail x xs e a) [
-  | inl is ↦ clash (in_right xs ys x (subst (λ (y : ℕ). occurs ys y ≡ true) (sym is) b)) h.0
+  | inl is ↦ clash (occurs-right xs ys x (subst (λ (y : ℕ). occurs ys y ≡ true) (sym is) b)) h.0
   | inr later ↦ once_apart xs ys e h.1 later b
 ]
 

@@ -11,14 +11,14 @@ use Rattle.msc_chart.specs.Laws.{messages_in}
 use Rattle.msc_fifo.specs.Identity.{QueueId}
 use Rattle.msc_fifo.specs.declared.accounts.Account.{Account}
 use Rattle.msc_fifo.specs.declared.accounts.Settled.{Settled}
-use Rattle.msc_fifo.specs.declared.places.Place.{Place as SettledPlace}
+use Rattle.msc_fifo.specs.declared.places.Place.{Place}
 use Rattle.msc_fifo.specs.Ends.{OutletState}
 use Rattle.msc_fifo.specs.Settlement.{IsAmong}
 use Rattle.msc_execution.specs.declared.end.End.TheVariants.{Foreign}
 use Rattle.msc_execution.specs.Roles.{takes_from}
 use Rattle.msc_execution.specs.Logs.{Begins, received, received_from}
 use Rattle.msc_execution.specs.Executions.{log_at, end_at, placed_messages, AreAccounts, IsTrafficOf, IsSettledFrom, IsExecution}
-use Rattle.msc_execution.specs.Clocks.{trace_of, sorted, put_in, is_below, key_of, clock_step, clock_from, greatest_offer, place_clock, place_of, messages}
+use Rattle.msc_execution.specs.Clocks.{trace_of, sorted, put_in, is_below, key_of, clock_step, clock_from, greatest_offer, place_clock, place_number, messages}
 use Rattle.msc_execution.specs.Shown.{trace_in, as_place}
 use Rattle.msc_execution.specs.Samples.{two, own_outlet, other_outlet, mailbox, both_back, all_claims, account_of, IsSampled, sample}
 use Rattle.msc_execution.proofs.Lists.Among.{any_parts, EachOf, each_at, each_occurs, among_single}
@@ -126,7 +126,7 @@ module _ (id : QueueId) where
       first = λ r takes.
           subst (λ (j : ℕ). Begins (received Mailbox two 0 (log_at (sample s) j))
           (placed_messages s.places.items)) (taker r takes)
-          ([], ap (λ (l : List SettledPlace). placed_messages l) sampled.places);
+          ([], ap (λ (l : List Place). placed_messages l) sampled.places);
     }
 
     -- a settled queue with its number
@@ -165,9 +165,9 @@ module _ (id : QueueId) where
 pub trace_is : (s : Settled) → IsSampled s
     → trace_in Mailbox two (sample s) ≡ 3 ∷ 4 ∷ 0 ∷ 2 ∷ 1 ∷ []
 unfolding trace_of sorted put_in is_below key_of clock_step clock_from greatest_offer place_clock
-    place_of messages queue queue_number sender_at receiver_at output_of line partner message
+    place_number messages queue queue_number sender_at receiver_at output_of line partner message
     is_output is_input kind until occurs
 trace_is s sampled =
-    ap (λ (l : List SettledPlace).
+    ap (λ (l : List Place).
     trace_of (wired Mailbox two) (sample s).logs
     (λ q. map (as_place two) (cond (nat_eq 0 q) l []))) sampled.places

@@ -1,11 +1,11 @@
 -- What came back of all instances, queue by queue: nothing is lost, and nothing is added.
 use Rattle.std.proofs.Common.{map, ◌≡◌, ℕ, zero, suc, ◌<◌, true, eqb, List, [], ◌∷◌, ◌++◌, Some, slice_get, inl, inr, ap, subst, arith}
 use Rattle.std.proofs.lemmas.Bool.{eqb-true, eq-eqb, cases_eq}
-use Rattle.msc_chart.proofs.ListLemmas.{by_test}
+use Rattle.msc_chart.proofs.ListLemmas.{by_test, occurs-head, occurs-tail}
 use Rattle.msc_fifo.specs.Settlement.{IsAmong}
 use Rattle.msc_chart.specs.Lists.{occurs, Occurs}
 use Rattle.msc_fifo.specs.declared.accounts.Settled.{Settled}
-use Rattle.msc_execution.proofs.Lists.Words.{head_or_tail, at_head, in_tail, in_none}
+use Rattle.msc_execution.proofs.Lists.Words.{head_or_tail, in_none}
 use Rattle.msc_execution.specs.Settling.{of_queue}
 use Rattle.msc_execution.proofs.Lists.Among.{among_more, among_front, among_cases}
 use Rattle.msc_execution.proofs.Settling.Came.{together}
@@ -93,6 +93,6 @@ numbered q s [] j at = cc
 numbered q s (x ∷ xs) zero at =
     let same : x.0 ≡ q = (let e : x ≡ (q, s) = cc in ap (λ (y : ℕ × Settled). y.0) e) in
     subst (λ (k : ℕ). occurs (x.0 ∷ map (λ (s : ℕ × Settled). s.0) xs) k ≡ true) same
-    (at_head x.0 (map (λ (s : ℕ × Settled). s.0) xs))
+    (occurs-head x.0 (map (λ (s : ℕ × Settled). s.0) xs))
 numbered q s (x ∷ xs) (suc j) at =
-    in_tail x.0 (map (λ (s : ℕ × Settled). s.0) xs) q (numbered q s xs j at)
+    occurs-tail x.0 (map (λ (s : ℕ × Settled). s.0) xs) q (numbered q s xs j at)

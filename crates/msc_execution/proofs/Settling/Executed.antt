@@ -9,7 +9,7 @@ use Rattle.msc_chart.specs.Lists.{occurs, Occurs}
 use Rattle.msc_chart.specs.Charts.{line}
 use Rattle.msc_chart.specs.Drawings.{Drawing, IsAccepted, input_of, sender_of, receiver_of}
 use Rattle.msc_chart.specs.Laws.{senders_in}
-use Rattle.msc_chart.proofs.ListLemmas.{occurs_at}
+use Rattle.msc_chart.proofs.ListLemmas.{occurs_at, occurs-head, occurs-right}
 use Rattle.msc_chart.proofs.Readers.{input_in}
 use Rattle.msc_fifo.specs.Identity.{QueueId}
 use Rattle.msc_fifo.specs.declared.accounts.Account.{Account}
@@ -24,7 +24,7 @@ use Rattle.msc_execution.specs.Running.{EndsAs}
 use Rattle.msc_execution.specs.Executions.{Outcome, log_at, end_at, placed_messages, AreAccounts, IsSettledFrom, IsExecution, AreFinished, IsFinished}
 use Rattle.msc_execution.specs.Settling.{of_queue, FinishedExecutionsLeaveNothing}
 use Rattle.msc_gather.proofs.Apart.{Apart}
-use Rattle.msc_execution.proofs.Lists.Words.{at_head, in_right, kept, once_apart}
+use Rattle.msc_execution.proofs.Lists.Words.{kept, once_apart}
 use Rattle.msc_execution.proofs.Wiring.Receivers.{the_receiver}
 use Rattle.msc_execution.proofs.Wiring.Logged.{sent_is, sent_once, taken_by}
 use Rattle.msc_execution.proofs.Settling.Came.{came_of, all_outlets, all_inlets, HaveRun, HaveEnded, AreSettled}
@@ -154,7 +154,7 @@ executed queues d open' patience id o back accepted logs ends runs all =
 -- a list in which nothing occurs is empty
 no_member : (xs : List ℕ) → ((m : ℕ) → occurs xs m ≡ true → ⊥) → xs ≡ []
 no_member [] f = refl
-no_member (x ∷ xs) f = absurd (f x (at_head x xs))
+no_member (x ∷ xs) f = absurd (f x (occurs-head x xs))
 
 module _ {queues : Queues} {d : Drawing} {open' : Bool} {patience : ℕ} {o : Outcome}
     (accepted : IsAccepted d) (x : IsExecution queues d open' patience o)
@@ -202,7 +202,7 @@ module _ {queues : Queues} {d : Drawing} {open' : Bool} {patience : ℕ} {o : Ou
       subst Apart parts (sent_once queues d accepted q i (log_at o i) log) in
       let none : b.left ≡ [] = no_member b.left (λ m m_left.
       let m_sent : occurs (sent queues d q (log_at o i)) m ≡ true =
-      ap (λ (l : List ℕ). occurs l m) parts ∙ in_right b.taken b.left m m_left in
+      ap (λ (l : List ℕ). occurs l m) parts ∙ occurs-right b.taken b.left m m_left in
       let m_is = sent_is queues d accepted q i (log_at o i) m log m_sent in
       let m_received : occurs (received queues d q (log_at o r)) m ≡ true =
       taken_by queues d accepted q (log_at o r) m m_is.known m_is.queue

@@ -4,13 +4,13 @@ use Rattle.std.specs.Prelude.{count_by}
 use Rattle.std.specs.List.{range_with_len}
 use Rattle.std.proofs.lemmas.Bool.{eq-eqb, cases_lt}
 use Rattle.msc_chart.specs.Lists.{occurs}
-use Rattle.msc_chart.proofs.ListLemmas.{by_test, clash}
+use Rattle.msc_chart.proofs.ListLemmas.{by_test, clash, occurs-head, occurs-tail}
 use Rattle.msc_fifo.specs.declared.entry.Entry.{Entry}
 use Rattle.msc_fifo.specs.declared.entry.Entry.TheVariants.{Message, Ended}
 use Rattle.msc_fifo.specs.Entries.{messages_of}
 use Rattle.msc_execution.specs.Growth.{all_messages}
 use Rattle.msc_gather.proofs.Apart.{Apart}
-use Rattle.msc_execution.proofs.Lists.Words.{head_or_tail, at_head, in_tail, in_none, fails}
+use Rattle.msc_execution.proofs.Lists.Words.{head_or_tail, in_none, fails}
 use Rattle.msc_execution.proofs.Lists.Ranges.{count_more}
 
 -- a message of the sender is among its messages
@@ -29,14 +29,14 @@ part_later : (i n s : ℕ) (es : List Entry) (m : ℕ) → occurs (messages_of s
 part_later i n s es m h =
     by_test (eqb i s)
     (λ yes. ap (λ (l : List ℕ). occurs l m) (part_yes i n s es yes)
-    ∙ in_tail n (messages_of s es) m h)
+    ∙ occurs-tail n (messages_of s es) m h)
     (λ no. ap (λ (l : List ℕ). occurs l m) (part_no i n s es no) ∙ h)
 
 -- a message is among its sender's
 part_here : (i n : ℕ) (es : List Entry) → occurs (messages_of i (Message i n ∷ es)) n ≡ true
 part_here i n es =
     ap (λ (l : List ℕ). occurs l n) (part_yes i n i es (eq-eqb i i refl))
-    ∙ at_head n (messages_of i es)
+    ∙ occurs-head n (messages_of i es)
 
 -- a message that was got is among the messages of some sender
 pub in_a_part : (es : List Entry) (m : ℕ) → occurs (all_messages es) m ≡ true

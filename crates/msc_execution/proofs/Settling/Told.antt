@@ -9,7 +9,7 @@ use Rattle.msc_chart.specs.declared.queue.Queues.{Queues}
 use Rattle.msc_chart.specs.Lists.{occurs}
 use Rattle.msc_chart.specs.Drawings.{Drawing, IsAccepted, input_of, sender_of}
 use Rattle.msc_chart.specs.Laws.{senders_in, sends_to}
-use Rattle.msc_chart.proofs.ListLemmas.{by_test, clash, occurs-left, occurs-push, occurs_at}
+use Rattle.msc_chart.proofs.ListLemmas.{by_test, clash, occurs-left, occurs-push, occurs_at, occurs-head}
 use Rattle.msc_fifo.specs.Identity.{QueueId}
 use Rattle.msc_fifo.specs.declared.entry.Entry.{Entry}
 use Rattle.msc_fifo.specs.declared.accounts.Settled.{Settled}
@@ -23,7 +23,7 @@ use Rattle.msc_execution.specs.Growth.{HasTaken, all_messages}
 use Rattle.msc_execution.specs.Running.{Left, EndsAs, IsNothingStrange, IsStrangeAlone}
 use Rattle.msc_execution.specs.Settling.{of_queue, IsSettledOf}
 use Rattle.msc_gather.proofs.Apart.{Apart}
-use Rattle.msc_execution.proofs.Lists.Words.{at_head, in_none, passes, fails, once_left, once_apart}
+use Rattle.msc_execution.proofs.Lists.Words.{in_none, passes, fails, once_left, once_apart}
 use Rattle.msc_execution.proofs.Lists.Ranges.{in_range}
 use Rattle.msc_execution.proofs.Wiring.Logged.{IsOf, sent_is, sent_once, taken_by}
 use Rattle.msc_execution.proofs.Settling.Came.{Came, left_of, all_outlets, all_inlets, HaveEnded, AreEndsOf, AreAccountsOfLogs, AreSettled, IsTold}
@@ -202,7 +202,7 @@ module _ {queues : Queues} {d : Drawing} {open' : Bool} {patience : ℕ} {id : �
       let logged : occurs (c.logs i) (input_of d m) ≡ true =
       st.is_strange (x.is.known, x.is.queue) in
       once_apart mine (m ∷ []) m once
-      (taken_by queues d accepted q (c.logs i) m x.is.known x.is.queue logged) (at_head m [])
+      (taken_by queues d accepted q (c.logs i) m x.is.known x.is.queue logged) (occurs-head m [])
 
   -- so nobody ended by a strange message
   pub nobody : (i m : ℕ) → i < length d.instances → c.ends i ≢ Foreign m

@@ -8,7 +8,7 @@ use Rattle.msc_chart.specs.Lists.{occurs, until}
 use Rattle.msc_chart.specs.Charts.{line, message}
 use Rattle.msc_chart.specs.Drawings.{Drawing, sender_of}
 use Rattle.msc_chart.specs.Laws.{messages_in, senders_in}
-use Rattle.msc_chart.proofs.ListLemmas.{by_test, clash, parts, occurs-append, occurs-left}
+use Rattle.msc_chart.proofs.ListLemmas.{by_test, clash, parts, occurs-append, occurs-left, occurs-head, occurs-tail, occurs-right}
 use Rattle.msc_chart.proofs.Drawn.{output_parts, output_not_local}
 use Rattle.msc_fifo.specs.Identity.{QueueId}
 use Rattle.msc_fifo.specs.Ends.{new_outlet, new_inlet}
@@ -16,7 +16,7 @@ use Rattle.msc_execution.specs.Roles.{NumberedOutlet, EndLists, role, wired_ends
 use Rattle.msc_execution.specs.Logs.{sent}
 use Rattle.msc_execution.specs.Fits.{WiringsFit, OutputsHaveOutlets, LogsKeepQuotas, InletsBringOwn}
 use Rattle.msc_gather.proofs.Apart.{Apart}
-use Rattle.msc_execution.proofs.Lists.Words.{head_or_tail, at_head, in_tail, in_right, passes, kept}
+use Rattle.msc_execution.proofs.Lists.Words.{head_or_tail, passes, kept}
 use Rattle.msc_execution.proofs.Wiring.Receivers.{messages_has, sent_has, the_receiver}
 use Rattle.msc_execution.proofs.Wiring.Logged.{sent_is, sent_once}
 
@@ -74,12 +74,12 @@ pub pigeons : (xs ys : List ℕ) → Apart xs → ((x : ℕ) → occurs xs x ≡
     → length xs ≤ length ys
 pigeons [] ys once h = omega arith
 pigeons (x ∷ xs) ys once h =
-    let p = parts ys x (h x (at_head x xs)) in
+    let p = parts ys x (h x (occurs-head x xs)) in
     let front : List ℕ = until ys x in
     let rest : List ℕ = p.0 in
     let shorter : length xs ≤ length (front ++ rest) = pigeons xs (front ++ rest) once.1 (λ y y_in.
     let there : occurs (front ++ x ∷ rest) y ≡ true =
-    ap (λ (l : List ℕ). occurs l y) (sym p.1) ∙ h y (in_tail x xs y y_in) in
+    ap (λ (l : List ℕ). occurs l y) (sym p.1) ∙ h y (occurs-tail x xs y y_in) in
     by_test (occurs front y)
     (λ early. occurs-left front rest y early)
     (λ late.
@@ -88,7 +88,7 @@ pigeons (x ∷ xs) ys once h =
     ∙ there in
     elim (head_or_tail x rest y behind) [
       | inl is ↦ clash (subst (λ (k : ℕ). occurs xs k ≡ true) (sym is) y_in) once.0
-      | inr later ↦ in_right front rest y later
+      | inr later ↦ occurs-right front rest y later
     ])) in
     let whole : length ys ≡ length front + suc (length rest) =
     ap (λ (l : List ℕ). length l) p.1 ∙ length-append front (x ∷ rest) in

@@ -10,12 +10,12 @@ use Rattle.msc_chart.specs.Lists.{occurs}
 use Rattle.msc_chart.specs.Drawings.{Drawing}
 use Rattle.msc_chart.specs.Orders.{queue_bound}
 use Rattle.msc_chart.specs.Laws.{messages_in, sends_to, senders_in}
-use Rattle.msc_chart.proofs.ListLemmas.{by_test, clash}
+use Rattle.msc_chart.proofs.ListLemmas.{by_test, clash, occurs-head, occurs-tail}
 use Rattle.msc_fifo.specs.Identity.{QueueId}
 use Rattle.msc_fifo.specs.Ends.{new_outlet, new_inlet}
-use Rattle.msc_execution.specs.Roles.{Role, NumberedOutlet, NumberedInlet, EndLists, fresh_outlet, fresh_inlet, wired_ends, queues_below, takes_from, sent_queues, taken_queues, rank_of, quota_of}
+use Rattle.msc_execution.specs.Roles.{Role, NumberedOutlet, NumberedInlet, EndLists, ends_from, fresh_outlet, fresh_inlet, wired_ends, queues_below, takes_from, sent_queues, taken_queues, rank_of, quota_of}
 use Rattle.msc_execution.specs.Fits.{sent_below, taken_below, no_ends, wired_below, IsWiringStep, WiringGrows}
-use Rattle.msc_execution.proofs.Lists.Words.{at_head, in_tail, passes}
+use Rattle.msc_execution.proofs.Lists.Words.{passes}
 use Rattle.msc_execution.proofs.Lists.Ranges.{filter_more}
 use Rattle.msc_execution.proofs.Wiring.Receivers.{in_below}
 
@@ -64,12 +64,8 @@ pub agree : {A : Type 0} (f g : ℕ → A) (xs : List ℕ) → ((x : ℕ) → oc
     → map f xs ≡ map g xs
 agree f g [] h = refl
 agree {A} f g (x ∷ xs) h =
-    ap (λ (a : A). a ∷ map f xs) (h x (at_head x xs))
-    ∙ ap (λ (l : List A). g x ∷ l) (agree f g xs (λ y y_in. h y (in_tail x xs y y_in)))
-
--- ends of these outlets and inlets
-abbrev ends_from : List NumberedOutlet → List NumberedInlet → EndLists
-ends_from a b = record { outlets = a; inlets = b }
+    ap (λ (a : A). a ∷ map f xs) (h x (occurs-head x xs))
+    ∙ ap (λ (l : List A). g x ∷ l) (agree f g xs (λ y y_in. h y (occurs-tail x xs y y_in)))
 
 module _ (r : Role) (n : ℕ) where
   -- an instance sends to one queue more, or not

@@ -8,12 +8,12 @@ use Rattle.msc_chart.specs.Lists.{occurs}
 use Rattle.msc_chart.specs.Drawings.{Drawing, IsAccepted, sender_of, receiver_of, output_of}
 use Rattle.msc_chart.specs.Orders.{queue_of, queue_bound, wired, queue}
 use Rattle.msc_chart.specs.Laws.{messages_in, sends_to}
-use Rattle.msc_chart.proofs.ListLemmas.{by_test}
+use Rattle.msc_chart.proofs.ListLemmas.{by_test, occurs-head}
 use Rattle.msc_chart.proofs.Drawn.{output_parts, output_not_local}
 use Rattle.msc_chart.proofs.QueueLemmas.{bounded, number_bounded, event_queue}
 use Rattle.msc_chart.proofs.Readers.{receiver_in}
 use Rattle.msc_execution.specs.Roles.{role, queues_below, queues_in, takes_from, sent_queues, taken_queues}
-use Rattle.msc_execution.proofs.Lists.Words.{head_or_tail, at_head, in_none, passes, kept}
+use Rattle.msc_execution.proofs.Lists.Words.{head_or_tail, in_none, passes, kept}
 use Rattle.msc_execution.proofs.Lists.Ranges.{twice_yes, twice_no, one_of_range, in_range, range_has, any_same, some_first}
 
 -- a queue with a message: its number is below n, and it has a message
@@ -150,7 +150,7 @@ receiver_from : (queues : Queues) (d : Drawing) (q m : ℕ) (ms : List ℕ) → 
     → messages_in queues d q ≡ m ∷ ms → IsReceiver queues d q (receiver_of d m)
 unfolding takes_from
 receiver_from queues d q m ms accepted is =
-    let first = in_messages queues d q m (ap (λ (l : List ℕ). occurs l m) is ∙ at_head m ms) in
+    let first = in_messages queues d q m (ap (λ (l : List ℕ). occurs l m) is ∙ occurs-head m ms) in
     let all : (k : ℕ) → k < length d.messages → queue_of queues d k ≡ q
     → receiver_of d k ≡ receiver_of d m =
     λ k k_in k_at. (bounded queues d m accepted first.0).one_receiver k m k_in first.0

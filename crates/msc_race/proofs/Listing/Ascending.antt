@@ -1,7 +1,7 @@
 -- The pairs that pass a test are listed ascending.
 use Rattle.std.proofs.Common.{zero, suc, ◌≡◌, ℕ, ◌+◌, Bool, true, false, cond, inl, inr, List, [], ◌∷◌, ◌++◌, refl, sym, ap, ◌∙◌, subst, arith}
 use Rattle.msc_chart.specs.Lists.{Occurs, pairs_of, pairs_to}
-use Rattle.msc_race.specs.Races.{AreAscending, IsBelow}
+use Rattle.msc_race.specs.Races.{AreAscending, IsPairBefore}
 use Rattle.msc_race.proofs.Listing.Pairs.{below_all, below_more, below_none, below_parts, in_either, last_of, pairs_below, pairs_next, pairs_none, to_parts}
 
 -- no pair stands in the empty list
@@ -9,18 +9,18 @@ pub none_ascend : AreAscending []
 none_ascend i j p q less h k = cc
 
 -- a pair before an ascending list of pairs that it comes before
-pub first_ascends : (x : ℕ × ℕ) (xs : List (ℕ × ℕ)) → ((q : ℕ × ℕ) → Occurs xs q → IsBelow x q) → AreAscending xs
+pub first_ascends : (x : ℕ × ℕ) (xs : List (ℕ × ℕ)) → ((q : ℕ × ℕ) → Occurs xs q → IsPairBefore x q) → AreAscending xs
     → AreAscending (x ∷ xs)
 first_ascends x xs before rest zero zero p q less h k = absurd (omega arith)
 first_ascends x xs before rest zero (suc j) p q less h k =
     let same : x ≡ p = cc in
-    subst (λ (r : ℕ × ℕ). IsBelow r q) same (before q (j, k))
+    subst (λ (r : ℕ × ℕ). IsPairBefore r q) same (before q (j, k))
 first_ascends x xs before rest (suc i) zero p q less h k = absurd (omega arith)
 first_ascends x xs before rest (suc i) (suc j) p q less h k = rest i j p q (omega arith) h k
 
 -- an ascending list before another one whose pairs come after its own
 both_ascend : (xs ys : List (ℕ × ℕ)) → AreAscending xs → AreAscending ys
-    → ((p q : ℕ × ℕ) → Occurs xs p → Occurs ys q → IsBelow p q) → AreAscending (xs ++ ys)
+    → ((p q : ℕ × ℕ) → Occurs xs p → Occurs ys q → IsPairBefore p q) → AreAscending (xs ++ ys)
 both_ascend [] ys a b between = b
 both_ascend (x ∷ xs) ys a b between =
     first_ascends x (xs ++ ys)

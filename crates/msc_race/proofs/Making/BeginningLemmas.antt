@@ -9,7 +9,7 @@ use Rattle.msc_chart.specs.Chosen.{IsFree, MayComeFree}
 use Rattle.msc_chart.proofs.ListLemmas.{occurs_other}
 use Rattle.bit_rows.specs.Rows.{has, IsWithout}
 use Rattle.msc_race.specs.Rows.{is_masked}
-use Rattle.msc_race.specs.Remainders.{Holds, IsUnheld, IsPassedOnWith}
+use Rattle.msc_race.specs.Remainders.{HoldsExactly, IsUnheld, IsPassedOnWith}
 use Rattle.msc_race.specs.Fronts.{IsOpenControlled}
 use Rattle.msc_race.specs.QueuedRuns.{IsArrived}
 use Rattle.msc_race.specs.Beginnings.{HoldsLeft}
@@ -83,7 +83,7 @@ module _ (chart : WiredChart) (is_wired : IsWired chart) (past left controlled i
       ]
 
   -- what is picked with a mask may come next, and has the property of the mask
-  pub picked : (mask : List ℕ) (P : ℕ → Type 0) → Holds mask P → (y : ℕ)
+  pub picked : (mask : List ℕ) (P : ℕ → Type 0) → HoldsExactly mask P → (y : ℕ)
       → (is_masked controlled inputs mask y ≡ true) ↔ (MayCome chart past y × P y)
   unfolding is_masked
   picked mask P masked y = (

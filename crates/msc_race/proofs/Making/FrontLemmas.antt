@@ -7,7 +7,7 @@ use Rattle.msc_chart.specs.declared.event.ChartEvent.{ChartEvent}
 use Rattle.msc_chart.specs.Charts.{line, segment, before, IsInTextOrder, IsSegmentEnd}
 use Rattle.msc_chart.proofs.Drawn.{before_from, before_parts}
 use Rattle.bit_rows.specs.Rows.{has, IsWithout}
-use Rattle.msc_race.specs.Fronts.{AreLines, IsFront, IsOpenControlled, IsOpened, IsOpenedEnd, IsNextLeft}
+use Rattle.msc_race.specs.Fronts.{AreLines, IsFront, IsOpenControlled, IsToOpen, IsOpenedEnd, IsNextLeft}
 use Rattle.msc_race.proofs.Shared.{by_test, clash}
 use Rattle.msc_race.proofs.Runs.EventLemmas.{controlled_parts}
 
@@ -132,7 +132,7 @@ module _ (events : List ChartEvent) (text : IsInTextOrder events) (old new : Lis
 
     module _ (end : ℕ) (segment_end : IsSegmentEnd events front end) (here : line events front ≡ line events x) where
       -- what is left in the segment of the front is open
-      opened_open : (y : ℕ) → IsOpened events new front end y → IsOpenControlled events new y
+      opened_open : (y : ℕ) → IsToOpen events new front end y → IsOpenControlled events new y
       opened_open y opened =
           let share = segment_end.together y opened.later opened.within in
           record {
@@ -149,7 +149,7 @@ module _ (events : List ChartEvent) (text : IsInTextOrder events) (old new : Lis
           }
 
       -- and what is open was open, or is left there
-      open_opened : (y : ℕ) → IsOpenControlled events new y → IsOpenControlled events old y ⊎ IsOpened events new front end y
+      open_opened : (y : ℕ) → IsOpenControlled events new y → IsOpenControlled events old y ⊎ IsToOpen events new front end y
       open_opened y opens =
           elim (cases_eq (line events y) (line events x)) [
             | inr off ↦ inl (elsewhere y opens off)
@@ -168,7 +168,7 @@ module _ (events : List ChartEvent) (text : IsInTextOrder events) (old new : Lis
 
     module _ (end : ℕ) (ends : IsOpenedEnd events (line events x) start front end) where
       -- what is open was open, or is opened
-      was_or_opened : (y : ℕ) → IsOpenControlled events new y → IsOpenControlled events old y ⊎ IsOpened events new front end y
+      was_or_opened : (y : ℕ) → IsOpenControlled events new y → IsOpenControlled events old y ⊎ IsToOpen events new front end y
       was_or_opened y open_now = elim ends [
         | inl segment ↦ open_opened end segment.1 segment.0 y open_now
         | inr none ↦ inl (was_open none.1 y open_now)
@@ -177,7 +177,7 @@ module _ (events : List ChartEvent) (text : IsInTextOrder events) (old new : Lis
       -- the open controlled are those that were, without x, and those that are opened
       pub controlled_after : (opens cleared new_opens : List ℕ) → IsWithout opens cleared x
           → ((y : ℕ) → (has opens y ≡ true) ↔ IsOpenControlled events old y)
-          → ((y : ℕ) → (has new_opens y ≡ true) ↔ ((has cleared y ≡ true) ⊎ IsOpened events new front end y))
+          → ((y : ℕ) → (has new_opens y ≡ true) ↔ ((has cleared y ≡ true) ⊎ IsToOpen events new front end y))
           → (y : ℕ) → (has new_opens y ≡ true) ↔ IsOpenControlled events new y
       controlled_after opens cleared new_opens clears told added y = (
         λ h. elim ((added y).0 h) [
@@ -209,7 +209,7 @@ module _ (events : List ChartEvent) (text : IsInTextOrder events) (old new : Lis
       → IsNextLeft events new (line events x) (get_or fronts (line events x) 0) front
       → IsOpenedEnd events (line events x) (get_or fronts (line events x) 0) front end
       → length new ≡ length old → length new_opens ≡ length opens → IsWithout opens cleared x
-      → ((y : ℕ) → (has new_opens y ≡ true) ↔ ((has cleared y ≡ true) ⊎ IsOpened events new front end y))
+      → ((y : ℕ) → (has new_opens y ≡ true) ↔ ((has cleared y ≡ true) ⊎ IsToOpen events new front end y))
       → AreLines instances events new (set fronts (line events x) front) new_opens
   lines_after instances fronts opens cleared new_opens front end kept on next ends same_left same_opens clears added =
       let start = get_or fronts (line events x) 0 in

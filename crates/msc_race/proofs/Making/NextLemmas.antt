@@ -9,9 +9,9 @@ use Rattle.msc_order.specs.Tables.{orders}
 use Rattle.msc_race.specs.declared.choosing.Choice.{Choice}
 use Rattle.msc_race.specs.declared.beginning.Beginning.{Beginning}
 use Rattle.msc_race.specs.Rows.{is_masked}
-use Rattle.msc_race.specs.Choices.{wired_chart, size, IsSettled}
+use Rattle.msc_race.specs.Choices.{wired_chart, event_count, IsChoice}
 use Rattle.msc_race.specs.Laws.{ChosenRunsGoOn, ChosenStepsAreARun, NoRunIsStuck}
-use Rattle.msc_race.specs.Remainders.{Holds, IsUnheld}
+use Rattle.msc_race.specs.Remainders.{HoldsExactly, IsUnheld}
 use Rattle.msc_race.specs.Beginnings.{run_of, HaveCommon, IsBeginning}
 use Rattle.msc_race.proofs.Making.ChoiceLemmas.{iff_trans}
 use Rattle.msc_race.proofs.Making.BeginningLemmas.{all_free, least_same, picked, unheld_free}
@@ -31,9 +31,9 @@ module _ (choice : Choice) (b : Beginning) where
     pub next : (x : ℕ) → IsLeast (is_picked mask) x → IsChosenNext (wired_chart choice) choice.e (run_of b) x
     pub whole : ((y : ℕ) → is_picked mask y → ⊥) → IsWhole (wired_chart choice) (run_of b)
 
-  module _ (settled : IsSettled choice) (kept : IsBeginning choice b) (is_wired : IsWired (wired_chart choice)) where
+  module _ (settled : IsChoice choice) (kept : IsBeginning choice b) (is_wired : IsWired (wired_chart choice)) where
     -- what is picked may come next, and has the property of the mask
-    picks_of : (mask : List ℕ) (P : ℕ → Type 0) → Holds mask P → (y : ℕ)
+    picks_of : (mask : List ℕ) (P : ℕ → Type 0) → HoldsExactly mask P → (y : ℕ)
         → is_picked mask y ↔ (MayCome (wired_chart choice) (run_of b) y × P y)
     picks_of =
         picked (wired_chart choice) is_wired (run_of b) b.lines.left.items b.lines.controlled b.queued.inputs
@@ -49,7 +49,7 @@ module _ (choice : Choice) (b : Beginning) where
     mask_of_all steps stuck none =
         let chart = wired_chart choice in
         let past = run_of b in
-        let same = picks_of b.lines.left.items (λ y. (y < size choice) × (occurs past y ≡ false)) kept.left in
+        let same = picks_of b.lines.left.items (λ y. (y < event_count choice) × (occurs past y ≡ false)) kept.left in
         let run = steps choice.wiring.queues choice.wiring.chart.now choice.e past kept.steps in
         record {
           next = λ x least. inr (
@@ -63,7 +63,7 @@ module _ (choice : Choice) (b : Beginning) where
         }
 
     -- with a free event left, the mask holds those that do not wait
-    mask_of_free : ChosenRunsGoOn → HaveCommon b.remaining.free.items b.lines.left.items → (mask : List ℕ) (P : ℕ → Type 0) → Holds mask P
+    mask_of_free : ChosenRunsGoOn → HaveCommon b.remaining.free.items b.lines.left.items → (mask : List ℕ) (P : ℕ → Type 0) → HoldsExactly mask P
         → ((y : ℕ) → (MayCome (wired_chart choice) (run_of b) y × P y) ↔ MayComeFree (wired_chart choice) choice.e (run_of b) y)
         → IsMask mask
     mask_of_free goes_on some mask P held ready =

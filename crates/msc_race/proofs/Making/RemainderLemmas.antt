@@ -2,7 +2,7 @@
 use Rattle.std.proofs.Common.{◌≡◌, ℕ, ◌+◌, ◌<◌, Bool, true, false, not, ◌&&◌, ◌↔◌, inl, inr, List, eqb, refl, sym, ◌∙◌, subst, arith}
 use Rattle.std.proofs.lemmas.Bool.{eqb-true, eq-eqb, ne_eqb, not-true, cases_lt, and_parts, and_from, or_cases, or_left, or_right}
 use Rattle.bit_rows.specs.Rows.{has, IsWith, IsWithout}
-use Rattle.msc_race.specs.Remainders.{Holds, HoldsBelow, HoldsOthers}
+use Rattle.msc_race.specs.Remainders.{HoldsExactly, HoldsBelow, HoldsOthers}
 use Rattle.msc_race.proofs.Shared.{clash}
 
 -- one number more is told
@@ -25,7 +25,7 @@ below_with old new P k b held wider told y = (
 )
 
 -- all numbers are told where none past the bound has the property
-pub below_all : (row : List ℕ) (P : ℕ → Type 0) (n : ℕ) → HoldsBelow row P n → ((y : ℕ) → P y → y < n) → Holds row P
+pub below_all : (row : List ℕ) (P : ℕ → Type 0) (n : ℕ) → HoldsBelow row P n → ((y : ℕ) → P y → y < n) → HoldsExactly row P
 below_all row P n held bound y = (λ h. ((held y).0 h).0, λ p. (held y).1 (p, bound y p))
 
 -- nothing changes where the next number has not the property
@@ -77,7 +77,7 @@ others_without old new P Q k held less out y = (
 
 -- once all is told, the others are those without what takes a number out
 pub others_all : (row : List ℕ) (P Q : ℕ → Type 0) (n : ℕ) → HoldsOthers row P Q n → ((y : ℕ) → P y → y < n)
-    → Holds row (λ y. P y × (Q y → ⊥))
+    → HoldsExactly row (λ y. P y × (Q y → ⊥))
 others_all row P Q n held bound y =
     (λ h. let p = (held y).0 h in (p.0, λ q. p.1 (bound y p.0) q), λ p. (held y).1 (p.0, λ below q. p.1 q))
 

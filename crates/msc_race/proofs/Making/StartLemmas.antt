@@ -6,7 +6,7 @@ use Rattle.msc_chart.specs.Drawings.{Drawing}
 use Rattle.msc_chart.specs.Charts.{line, IsInTextOrder, IsSegmentEnd}
 use Rattle.msc_chart.proofs.Drawn.{before_parts}
 use Rattle.bit_rows.specs.Rows.{has}
-use Rattle.msc_race.specs.Fronts.{AreLinesTo, IsLowest, IsOpenControlled, IsOpened}
+use Rattle.msc_race.specs.Fronts.{AreLinesTo, IsLowest, IsOpenControlled, IsToOpen}
 use Rattle.msc_race.proofs.Shared.{clash}
 use Rattle.msc_race.proofs.Making.RowLemmas.{row_same}
 use Rattle.msc_race.proofs.Runs.EventLemmas.{controlled_parts}
@@ -43,7 +43,7 @@ module _ (events : List ChartEvent) (text : IsInTextOrder events) (left : List �
 
   module _ (end : ℕ) (ends : IsSegmentEnd events front end) (here : line events front ≡ i) where
     -- what is controlled in the segment of the first event is open
-    opened_open : (y : ℕ) → IsOpened events left front end y → IsOpenControlled events left y × (line events y ≡ i)
+    opened_open : (y : ℕ) → IsToOpen events left front end y → IsOpenControlled events left y × (line events y ≡ i)
     opened_open y opened =
         let share = ends.together y opened.later opened.within in
         let on : line events y ≡ i = sym share.0 ∙ here in (
@@ -60,7 +60,7 @@ module _ (events : List ChartEvent) (text : IsInTextOrder events) (left : List �
         )
 
     -- and nothing else of the line
-    open_opened : (y : ℕ) → IsOpenControlled events left y → line events y ≡ i → IsOpened events left front end y
+    open_opened : (y : ℕ) → IsOpenControlled events left y → line events y ≡ i → IsToOpen events left front end y
     open_opened y opens on =
         let known = (controlled_parts events y opens.controlled).0 in
         let later = low.least y (omega arith) known on in
@@ -102,7 +102,7 @@ module _ (d : Drawing) (text : IsInTextOrder d.events) (left fronts opens : List
 
   -- another opens what is controlled in its first segment
   pub told_more : (end : ℕ) (new : List ℕ) → IsSegmentEnd d.events (get_or fronts i 0) end → line d.events (get_or fronts i 0) ≡ i → length new ≡ length opens
-      → ((y : ℕ) → (has new y ≡ true) ↔ ((has opens y ≡ true) ⊎ IsOpened d.events left (get_or fronts i 0) end y))
+      → ((y : ℕ) → (has new y ≡ true) ↔ ((has opens y ≡ true) ⊎ IsToOpen d.events left (get_or fronts i 0) end y))
       → AreLinesTo d left fronts new (i + 1)
   told_more end new ends here same added =
       let front = get_or fronts i 0 in

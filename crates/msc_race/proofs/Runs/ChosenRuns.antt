@@ -6,8 +6,9 @@ use Rattle.msc_chart.specs.Lists.{occurs, until, IsLeast, Steps}
 use Rattle.msc_chart.specs.Orders.{WiredChart, IsRace}
 use Rattle.msc_chart.specs.Runs.{Run, MayCome, IsWhole, Reverses}
 use Rattle.msc_chart.specs.Chosen.{IsFree, MayComeFree, IsChosenNext, IsChosenRun}
+use Rattle.msc_chart.proofs.ListLemmas.{until-other}
 use Rattle.msc_race.proofs.Shared.{clash, step_at, until-within, Steps-map}
-use Rattle.msc_race.proofs.Runs.Standing.{until_other, until_swapped}
+use Rattle.msc_race.proofs.Runs.Standing.{until_swapped}
 use Rattle.msc_race.proofs.Runs.EventLemmas.{before_differs, before_parts}
 
 -- what comes next in a chosen run may come
@@ -35,7 +36,7 @@ chosen_reverses chart e events chosen f free = (
       let at_e = step_at (IsChosenNext chart e) events e chosen.0 (until-within events f e h) in
       elim at_e.1 [
         | inl a ↦ a.1.itself.free.1 refl
-        | inr b ↦ b.0 (f, free, until_other events e f h)
+        | inr b ↦ b.0 (f, free, until-other events e f h)
       ]),
 )
 

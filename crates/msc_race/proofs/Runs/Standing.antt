@@ -4,23 +4,6 @@ use Rattle.std.proofs.lemmas.Bool.{eqb-true, ne_eqb}
 use Rattle.msc_chart.specs.Lists.{occurs, until}
 use Rattle.msc_race.proofs.Shared.{clash, until-within}
 
--- of two members of a list, where the first stands before the second, the second does not stand
--- before the first
-pub until_other : (xs : List ℕ) (e f : ℕ) → occurs (until xs f) e ≡ true
-    → occurs (until xs e) f ≡ false
-unfolding occurs until
-until_other [] e f h = refl
-until_other (x ∷ xs) e f h =
-    (elim (eqb x f) as (λ b. eqb x f ≡ b → occurs (cond b [] (x ∷ until xs f)) e ≡ true
-    → occurs (cond (eqb x e) [] (x ∷ until xs e)) f ≡ false) [
-      | true ↦ λ same k. cc
-      | false ↦ λ other k.
-          (elim (eqb x e) as (λ b. (b || occurs (until xs f) e) ≡ true → occurs (cond b [] (x ∷ until xs e)) f ≡ false) [
-            | true ↦ λ j. refl
-            | false ↦ λ j. rw other (until_other xs e f j)
-          ]) k
-    ]) refl h
-
 -- a member of a list stands before another number that does not stand before it
 pub until_swapped : (xs : List ℕ) (e f : ℕ) → f ≢ e → occurs xs f ≡ true
     → occurs (until xs f) e ≡ false → occurs (until xs e) f ≡ true

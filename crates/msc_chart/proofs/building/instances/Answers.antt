@@ -6,7 +6,8 @@ use Rattle.msc_chart.specs.Numbering.{IsFirstRepeat, AreNumbered}
 use Rattle.msc_chart.specs.Lists.{IsLeast}
 use Rattle.msc_chart.specs.Faults.{HoldsAt, IsUnknown}
 use Rattle.msc_chart.proofs.Places.{repeat_at, numbered_at}
-use Rattle.msc_chart.proofs.Stages.{same_bytes, many_instances_first, few_instances_clear, repeated_instance_first, distinct_instances_clear, unknown_header_first, known_headers_clear, least_within, names_count}
+use Rattle.msc_chart.specs.Hashing.{equal_names}
+use Rattle.msc_chart.proofs.Stages.{many_instances_first, few_instances_clear, repeated_instance_first, distinct_instances_clear, unknown_header_first, known_headers_clear, least_within, names_count}
 use Rattle.msc_chart.proofs.building.instances.Goals as goal
 
 pub returns-then-sections-clause-fault : goal.returns-then-sections-clause-fault
@@ -14,7 +15,7 @@ returns-then-sections-clause-fault c = λ _. many_instances_first c.args.draft.n
 
 pub overflow_cast-result : goal.overflow_cast-result
 overflow_cast-result c =
-    let r : IsFirstRepeat same_bytes c.as_slice.result.now c.in-Some.i = repeat_at _ _ c.in_ok-numbers.numbers.keys _ _ c.in-Some.is c.in_ok-numbers.ensures in
+    let r : IsFirstRepeat equal_names c.as_slice.result.now c.in-Some.i = repeat_at _ _ c.in_ok-numbers.numbers.keys _ _ c.in-Some.is c.in_ok-numbers.ensures in
     let seen : map deref c.as_slice.result.now ≡ instances_of c.args.draft.now = ap (map deref) c.as_slice.ensures.value ∙ c.in_ok-names.ensures in
     let count = names_count c.args.draft.now c.as_slice.result.now seen in
     omega (arith, r.within, ap length c.sections.ensures.value)
@@ -32,7 +33,7 @@ overflow_cast-result-in-Some-unknown_header c =
 
 pub returns-in-Some-unknown_header-clause-fault : goal.returns-in-Some-unknown_header-clause-fault
 returns-in-Some-unknown_header-clause-fault c =
-    let n : AreNumbered same_bytes c.as_slice.result.now c.in_ok-numbers.numbers.keys = numbered_at _ _ _ _ c.in_default.is c.in_ok-numbers.ensures in
+    let n : AreNumbered equal_names c.as_slice.result.now c.in_ok-numbers.numbers.keys = numbered_at _ _ _ _ c.in_default.is c.in_ok-numbers.ensures in
     let seen : map deref c.as_slice.result.now ≡ instances_of c.args.draft.now = ap (map deref) c.as_slice.ensures.value ∙ c.in_ok-names.ensures in
     let keys_seen : map deref c.in_ok-numbers.numbers.keys ≡ instances_of c.args.draft.now = ap (map deref) n.same ∙ seen in
     let clear = distinct_instances_clear c.args.draft.now c.as_slice.result.now seen (few_instances_clear c.args.draft.now (rw (← c.sections.ensures.value) (omega arith))) n.new in
@@ -41,7 +42,7 @@ returns-in-Some-unknown_header-clause-fault c =
 
 pub returns-clause-clear : goal.returns-clause-clear
 returns-clause-clear c =
-    let n : AreNumbered same_bytes c.as_slice.result.now c.in_ok-numbers.numbers.keys = numbered_at _ _ _ _ c.in_default.is c.in_ok-numbers.ensures in
+    let n : AreNumbered equal_names c.as_slice.result.now c.in_ok-numbers.numbers.keys = numbered_at _ _ _ _ c.in_default.is c.in_ok-numbers.ensures in
     let seen : map deref c.as_slice.result.now ≡ instances_of c.args.draft.now = ap (map deref) c.as_slice.ensures.value ∙ c.in_ok-names.ensures in
     let keys_seen : map deref c.in_ok-numbers.numbers.keys ≡ instances_of c.args.draft.now = ap (map deref) n.same ∙ seen in
     let clear = distinct_instances_clear c.args.draft.now c.as_slice.result.now seen (few_instances_clear c.args.draft.now (rw (← c.sections.ensures.value) (omega arith))) n.new in

@@ -4,7 +4,7 @@ use Rattle.msc_fifo.specs.declared.rule.Sender.{Sender}
 use Rattle.msc_fifo.specs.Claims.{is_message}
 use Rattle.msc_fifo.specs.Entries.{sender_of}
 use Rattle.msc_fifo.specs.World.{Each, IsSmall, code}
-use Rattle.msc_fifo.specs.Views.{sends, resting}
+use Rattle.msc_fifo.specs.Views.{outlet_view, resting}
 use Rattle.msc_fifo.specs.Moves.{after_offer, after_claim, after_date, after_show, after_store}
 use Rattle.msc_fifo.proofs.OutletSteps.{offers_keep, claims_keep, dates_keep, shows_keep, stores_keep}
 use Rattle.msc_fifo.proofs.PutLemmas.{quiet_of, only_of, step_of, claim_of, waits, waits_dated, ready_after}
@@ -55,7 +55,7 @@ returns-clause-view g c room i put claims is =
     let v3 = step_of (after_date c.load-clock.result) _ _ _ _ v2 c.load-clock.ensures.2.0 in
     let v4 = step_of (after_show c.load-clock.result) _ _ _ _ v3 c.store.ensures.2.0 in
     let v5 = step_of after_store _ _ _ _ v4 c.store-2.ensures.2.0 in
-    v5 ∙ ap (λ (e : Entry). sends (room - 1) (after_store (after_show c.load-clock.result (after_date c.load-clock.result (after_claim c.fetch_add-place.result e (after_offer c.args.offer (resting c.args.row.now.shared.key i put false claims))))))) c.requires.said
+    v5 ∙ ap (λ (e : Entry). outlet_view (room - 1) (after_store (after_show c.load-clock.result (after_date c.load-clock.result (after_claim c.fetch_add-place.result e (after_offer c.args.offer (resting c.args.row.now.shared.key i put false claims))))))) c.requires.said
 
 pub returns-clause-above : goal.returns-clause-above
 returns-clause-above g c = let r = c.requires.rest in

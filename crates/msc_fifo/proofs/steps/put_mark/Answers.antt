@@ -4,7 +4,7 @@ use Rattle.msc_fifo.specs.declared.rule.Sender.{Sender}
 use Rattle.msc_fifo.specs.Claims.{is_message}
 use Rattle.msc_fifo.specs.Entries.{sender_of}
 use Rattle.msc_fifo.specs.World.{Each, IsSmall, code}
-use Rattle.msc_fifo.specs.Views.{sends, resting}
+use Rattle.msc_fifo.specs.Views.{outlet_view, resting}
 use Rattle.msc_fifo.specs.Moves.{after_claim, after_store}
 use Rattle.msc_fifo.proofs.OutletSteps.{claims_keep, stores_keep}
 use Rattle.msc_fifo.proofs.PutLemmas.{quiet_of, only_of, step_of, claim_of, waits_mark, shown_mark}
@@ -28,7 +28,7 @@ pub returns-clause-view : goal.returns-clause-view
 returns-clause-view g c room i put claims is =
     let v2 = claim_of _ _ _ _ _ _ is c.fetch_add-mark.ensures.2.0 in
     let v5 = step_of after_store _ _ _ _ v2 c.store.ensures.2.0 in
-    v5 ∙ ap (λ (e : Entry). sends (room - 1) (after_store (after_claim c.fetch_add-mark.result e (resting c.args.row.now.shared.key i put false claims)))) c.requires.said
+    v5 ∙ ap (λ (e : Entry). outlet_view (room - 1) (after_store (after_claim c.fetch_add-mark.result e (resting c.args.row.now.shared.key i put false claims)))) c.requires.said
 
 pub returns-clause-place : goal.returns-clause-place
 returns-clause-place g c = let r = c.requires.rest in

@@ -7,7 +7,7 @@ use Rattle.msc_chart.proofs.Drawn.{output_controlled}
 use Rattle.msc_chart.proofs.ListLemmas.{clash}
 use Rattle.msc_order.specs.Causes.{Caused}
 use Rattle.msc_order.proofs.Once.{caused_enforced}
-use Rattle.msc_reason.specs.Links.{HasNoLink, IsLink}
+use Rattle.msc_reason.specs.Links.{HasNoLink, IsNextStep}
 use Rattle.msc_reason.proofs.Walking.{controlled_caused, link_caused, over_step}
 use Rattle.msc_reason.proofs.chaining.is_caused.Goals as goal
 
@@ -22,7 +22,7 @@ returns-then-is_controlled c =
 
 -- an event that is not controlled is caused before another exactly where a link was found
 told : (chart : WiredChart) → IsWired chart → (x y : ℕ) → is_controlled chart.events x ≡ false
-    → (link : Option ℕ) → MatchOption link (HasNoLink chart x y) (IsLink chart x y)
+    → (link : Option ℕ) → MatchOption link (HasNoLink chart x y) (IsNextStep chart x y)
     → (is_some link ≡ true) ↔ Caused chart.events x y
 told chart is_wired x y none None h = (
   λ no. clash no refl,

@@ -3,7 +3,7 @@ use Rattle.msc_chart.specs.Orders.{wired}
 use Rattle.msc_order.proofs.Once.{caused_enforced}
 use Rattle.msc_race.proofs.Runs.EnforcedPairs.{enforced_below}
 use Rattle.msc_reason.specs.Chains.Step.{over}
-use Rattle.msc_reason.specs.Links.{Follows}
+use Rattle.msc_reason.specs.Links.{IsFollowedBy}
 use Rattle.msc_reason.proofs.Walking.{link_step, over_step}
 use Rattle.msc_reason.proofs.chaining.next_step.Goals as goal
 
@@ -38,4 +38,4 @@ returns-in-None-clause-step c =
 pub returns-in-None-clause-onward : goal.returns-in-None-clause-onward
 returns-in-None-clause-onward c =
     let sent = over_step (wired c.args.queues c.args.chart.now) c.args.x c.args.y c.requires.caused c.in-None.ensures in
-    subst (λ (z : ℕ). Follows c.args.chart.now.events z c.args.y) (sym c.other_end.ensures.value) sent.1
+    subst (λ (z : ℕ). IsFollowedBy c.args.chart.now.events z c.args.y) (sym c.other_end.ensures.value) sent.1

@@ -2,14 +2,14 @@ use Rattle.std.proofs.Common.{length}
 use Rattle.msc_chart.proofs.Numbers.{count_below}
 use Rattle.msc_order.specs.Tables.{orders}
 use Rattle.msc_reason.specs.Chains.{LeadsTo}
-use Rattle.msc_reason.specs.Links.{Follows}
+use Rattle.msc_reason.specs.Links.{IsFollowedBy}
 use Rattle.msc_reason.proofs.chaining.walk.Given as goal
 
 -- the chain so far, and that it can go on
 abbrev pub invariant-loop-at : goal.invariant-loop-at
 invariant-loop-at l = record {
   chain : LeadsTo l.chart.events l.x l.steps.items l.at;
-  onward : Follows l.chart.events l.at l.y;
+  onward : IsFollowedBy l.chart.events l.at l.y;
 }
 
 -- ever fewer events are enforced after where it stands

@@ -1,7 +1,7 @@
 use Rattle.std.proofs.Common.{ℕ, List, take}
 use Rattle.msc_chart.specs.Orders.{wired}
 use Rattle.msc_reason.specs.declared.lack.Lack.{Lack}
-use Rattle.msc_study.specs.Counting.{IsLine}
+use Rattle.msc_study.specs.Counting.{IsRunLine}
 use Rattle.msc_study.specs.Lines.{part_text}
 use Rattle.msc_study.specs.Studying.{AreLacks}
 use Rattle.msc_text.specs.Checking.{AreChosen}
@@ -14,4 +14,4 @@ invariant-loop-race g l =
     ((lacks : ℕ → ℕ → Lack) (runs : ℕ → List ℕ) → AreLacks (wired l.queues l.chart) lacks → AreChosen (wired l.queues l.chart) runs
     → Pages (g.W.Write.contents l.fn.writer) (g.W.Write.contents l.writer) l.fn.page.bytes.items l.page.bytes.items
     (part_text l.why l.shown l.chart lacks runs (take l.race-index l.races)))
-    × IsLine (wired l.queues l.chart) l.shown l.line.of l.line.bytes.items
+    × IsRunLine (wired l.queues l.chart) l.shown l.line.of l.line.bytes.items

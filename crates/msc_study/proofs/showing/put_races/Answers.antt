@@ -4,7 +4,7 @@ use Rattle.std.proofs.lemmas.Result.{err_from_is_err_and}
 use Rattle.msc_chart.specs.Orders.{wired}
 use Rattle.msc_study.proofs.Listings.{empty_told}
 use Rattle.msc_study.proofs.Shown.{first_races, no_races, other_races}
-use Rattle.msc_study.specs.Lines.{part_text, races_text}
+use Rattle.msc_study.specs.Lines.{part_text, study_races}
 use Rattle.msc_text.proofs.PageLemmas.{begins_none, pages_in, puts_longer, puts_on}
 use Rattle.msc_text.specs.Pages.{Pages, Puts}
 use Rattle.msc_study.proofs.showing.put_races.Goals as goal
@@ -27,12 +27,12 @@ returns-then-is_empty g c lacks runs are chosen =
     let none = sym printed ∙ (empty_told c.split_at.result.0.now _ c.is_empty.ensures).0 c.if-is_empty.true in
     let page : List ℕ = c.args.page.now.bytes.items in
     let races = take view.most c.args.races.now in
-    pages_in _ page page (races_text view c.args.chart.now lacks runs races) (no_races view c.args.chart.now lacks runs races page none)
+    pages_in _ page page (study_races view c.args.chart.now lacks runs races) (no_races view c.args.chart.now lacks runs races page none)
 
 pub returns-in_err-texts : goal.returns-in_err-texts
 returns-in_err-texts g c lacks runs are chosen =
     let exit = err_from_is_err_and c.from_residual.result c.from_residual.ensures.1 in
-    rw (exit.1, exit.2) (begins_none _ (c.args.page.now.bytes.items ++ races_text c.args.view c.args.chart.now lacks runs (take c.args.view.most c.args.races.now)))
+    rw (exit.1, exit.2) (begins_none _ (c.args.page.now.bytes.items ++ study_races c.args.view c.args.chart.now lacks runs (take c.args.view.most c.args.races.now)))
 
 pub returns-in_err-put_part : goal.returns-in_err-put_part
 returns-in_err-put_part g c lacks runs are chosen =

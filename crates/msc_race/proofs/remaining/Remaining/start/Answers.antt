@@ -1,5 +1,5 @@
 use Rattle.std.proofs.Common.{arith}
-use Rattle.msc_race.specs.Choices.{size, wired_chart}
+use Rattle.msc_race.specs.Choices.{event_count, wired_chart}
 use Rattle.msc_chart.specs.Chosen.{IsFree, IsHeld}
 use Rattle.msc_race.proofs.Making.RemainderLemmas.{below_all, others_all}
 use Rattle.msc_race.proofs.remaining.Remaining.start.Goals as goal
@@ -11,8 +11,8 @@ returns-clause-told c =
     let same = c.seek.ensures.same in
     record {
       free = rw same.free told.free;
-      unheld = rw same.unheld (others_all _ (IsFree (wired_chart choice) choice.e) (IsHeld (wired_chart choice) choice.e) (size choice) told.unheld (λ y free. free.0));
-      passed = rw same.passed (below_all _ _ (size choice) told.passed (λ y passed. passed.0.1.0));
+      unheld = rw same.unheld (others_all _ (IsFree (wired_chart choice) choice.e) (IsHeld (wired_chart choice) choice.e) (event_count choice) told.unheld (λ y free. free.0));
+      passed = rw same.passed (below_all _ _ (event_count choice) told.passed (λ y passed. passed.0.1.0));
     }
 
 pub returns-clause-rows : goal.returns-clause-rows

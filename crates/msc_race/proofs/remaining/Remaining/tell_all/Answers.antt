@@ -1,7 +1,7 @@
 use Rattle.std.proofs.Common.{sym, ◌∙◌}
 use Rattle.msc_chart.specs.Chosen.{IsFree, IsHeld}
 use Rattle.msc_order.specs.Tables.{orders}
-use Rattle.msc_race.specs.Choices.{size, wired_chart}
+use Rattle.msc_race.specs.Choices.{event_count, wired_chart}
 use Rattle.msc_race.specs.Remainders.{IsPassedOnWith}
 use Rattle.msc_race.proofs.Runs.EventLemmas.{controlled_no_input, input_from_rest, input_not_local}
 use Rattle.msc_race.proofs.Runs.FreeFirst.{held_queue}
@@ -20,10 +20,10 @@ returns-then-is_controlled-clause-told c =
     let table = orders choice.order.now in
     record {
       free = told.free;
-      unheld = others_none _ (IsFree chart choice.e) (IsHeld chart choice.e) 0 (size choice) told.unheld (λ y held.
+      unheld = others_none _ (IsFree chart choice.e) (IsHeld chart choice.e) 0 (event_count choice) told.unheld (λ y held.
           no_input (held_queue chart is_wired table settled.enforced choice.e settled.known y
           (test_of_held chart table settled.enforced choice.e settled.known y held)).0);
-      passed = below_none _ (IsPassedOnWith chart choice.e) 0 (size choice) told.passed (λ y p. no_input p.1);
+      passed = below_none _ (IsPassedOnWith chart choice.e) 0 (event_count choice) told.passed (λ y p. no_input p.1);
     }
 
 pub queue-q-requires-clause-message : goal.queue-q-requires-clause-message
