@@ -1,6 +1,6 @@
 //! The texts of a chart's events, made once.
 
-ghost use Rattle.std.specs.Prelude.{◌≡◌, ℕ, ◌<◌, ◌++◌, IfOk, None, OnOk, Some, get_or, length};
+ghost use Rattle.std.specs.Prelude.{◌≡◌, ℕ, ◌<◌, ◌≤◌, ◌++◌, IfOk, None, OnOk, Some, get_or, length, take};
 ghost use Rattle.std.specs.Io.KnownBytes.{Appends};
 ghost use Rattle.std.specs.List.{All};
 ghost use Rattle.msc_chart.specs.Drawings.{Drawing};
@@ -129,14 +129,17 @@ impl EventTexts {
         Ok(EventTexts { bytes, spans })
     }
 
-    /// Puts the number of event `e`, after a space, behind a line.
-    fn put_number(&self, line: &mut Vec<u8>, e: Event) -> Result<(), AllocError>
-        requires { e < length self.now }
-        ensures { OnOk result
-            (line.new.items ≡ line.old.items ++ (get_or self.now e no_text).number) }
+    /// Puts the number of event `e`, after a space, behind the first `at` bytes of a line, and
+    /// answers where it ends.
+    fn put_number(&self, line: &mut Vec<u8>, at: usize, e: Event) -> Result<usize, AllocError>
+        requires known { e < length self.now }
+        requires room { at ≤ length line.old.items }
+        ensures within { IfOk result (λ end. end ≤ length line.new.items) }
+        ensures put { IfOk result (λ end. take end line.new.items
+            ≡ take at line.old.items ++ (get_or self.now e no_text).number) }
     {
         let span = self.spans[e as usize];
-        put_number(line, self.bytes.as_slice(), &span)
+        put_number(line, at, self.bytes.as_slice(), &span)
     }
 
     /// Puts the text of the race of `e` and `f`, two events of one line, behind a page. An error is
@@ -164,9 +167,11 @@ impl EventTexts {
             → IfOk result (λ line. line.items ≡ run_line (Some run.now)) }
     {
         let mut line = Vec::from_slice(alloc, b"run")?;
+        let mut end = line.len();
         for e in run {
-            self.put_number(&mut line, *e)?;
+            end = self.put_number(&mut line, end, *e)?;
         }
+        line.truncate(end);
         line.extend_from_slice(b"\n")?;
         Ok(line)
     }

@@ -4,7 +4,7 @@
 //! few instructions for each, into room that was asked for once; what a block has too much is written
 //! over by the next one, and dropped behind the last.
 
-ghost use Rattle.std.specs.Prelude.{◌≡◌, ◌+◌, ◌≤◌, ◌++◌, IsTrue, OnOk, length, slice_range, take};
+ghost use Rattle.std.specs.Prelude.{◌≡◌, ◌+◌, ◌≤◌, ◌++◌, IsTrue, IfOk, OnOk, length, slice_range, take};
 ghost use Rattle.msc_report.specs.Spans.{text_at, with_parts, AreShort, IsSpanIn};
 
 use crate::event_texts::Span;
@@ -16,7 +16,7 @@ const NUMBER: usize = 16;
 /// The bytes of a block for the words of an event.
 const WORDS: usize = 64;
 
-/// The bytes of the four blocks of a race.
+/// The bytes of the four blocks of a race, or the room for ten numbers.
 const ROOM: usize = 160;
 
 /// Whether each part of a race of these two events fits into its block, and no block goes past the
@@ -101,18 +101,30 @@ pub(crate) fn put_slices(
     Ok(())
 }
 
-/// Puts the number of an event behind a line, as a block where one does not go past the bytes. An
-/// error is a growth of memory that was refused.
-pub(crate) fn put_number(line: &mut Vec<u8>, bytes: &[u8], span: &Span) -> Result<(), AllocError>
-    requires { IsSpanIn bytes.now span.now }
-    ensures { OnOk result (line.new.items ≡ line.old.items ++ (text_at bytes.now span.now).number) }
+/// Puts the number of an event behind the first `at` bytes of a line, as a block where one does not
+/// go past the bytes. It answers where the number ends; what stands behind it is room, which is
+/// asked for once for many numbers. An error is a growth of memory that was refused.
+#[inline(always)]
+pub(crate) fn put_number(
+    line: &mut Vec<u8>,
+    at: usize,
+    bytes: &[u8],
+    span: &Span,
+) -> Result<usize, AllocError>
+    requires span { IsSpanIn bytes.now span.now }
+    requires room { at ≤ length line.old.items }
+    ensures within { IfOk result (λ end. end ≤ length line.new.items) }
+    ensures put { IfOk result (λ end. take end line.new.items
+        ≡ take at line.old.items ++ (text_at bytes.now span.now).number) }
 {
     if span.first - span.number > NUMBER || bytes.len() - span.number < NUMBER {
-        return line.extend_from_slice(&bytes[span.number..span.first]);
+        line.truncate(at);
+        line.extend_from_slice(&bytes[span.number..span.first])?;
+        return Ok(line.len());
     }
-    let at = line.len();
-    line.extend_from_slice(&[0; NUMBER])?;
-    let end = put_block::<NUMBER>(line.as_mut_slice(), at, bytes, span.number, span.first);
-    line.truncate(end);
-    Ok(())
+    if line.len() - at < NUMBER {
+        line.extend_from_slice(&[0; ROOM])?;
+    }
+    let room = line.as_mut_slice();
+    Ok(put_block::<NUMBER>(room, at, bytes, span.number, span.first))
 }
