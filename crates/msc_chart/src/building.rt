@@ -48,22 +48,6 @@ fn marks_of<'d>(alloc: Global, events: &[DraftEvent<'d>]) -> Result<Vec<Mark<'d>
     Ok(marks)
 }
 
-/// The events of a draft, and their marks.
-fn marked_events<'d>(
-    alloc: Global,
-    draft: &'d Draft,
-) -> Result<(Vec<DraftEvent<'d>>, Vec<Mark<'d>>), AllocError>
-    requires sections { length draft.now.sections ≤ INSTANCE_LIMIT }
-    ensures events { IfOk result (λ r. map event_view r.0.items ≡ events_of draft.entry.now) }
-    ensures marks { IfOk result (λ r. r.1.items ≡ marks_from 0 r.0.items) }
-    ensures acts { IfOk result (λ r. map mark_view r.1.items ≡ acts_of draft.entry.now) }
-    ensures few { IfOk result (λ r. length r.1.items ≤ TEXT_LIMIT) }
-{
-    let events = events_of(alloc, draft)?;
-    let marks = marks_of(alloc, events.as_slice())?;
-    Ok((events, marks))
-}
-
 /// The instances by number, where the draft has none of the faults that concern their names.
 fn instances<'d>(alloc: Global, draft: &'d Draft) -> Result<IndexSet<&'d [u8]>, ChartFault>
     ensures names { IfOk result (λ names. map deref names.keys ≡ instances_of draft.entry.now) }
@@ -139,34 +123,92 @@ fn refuse_unmatched(draft: &Draft, marks: &[Mark], partners: &[u32]) -> Result<(
     Ok(())
 }
 
-/// The events of a draft, their marks by place, and their partners, where no fault stands that
-/// concerns messages or actions.
-fn matched_events<'d>(
+/// The marks of the events by place, where no fault stands up to an end of a message that is there
+/// twice.
+fn places<'d>(
     alloc: Global,
-    draft: &'d Draft,
+    draft: &Draft,
     instances: &IndexSet<&'d [u8]>,
-) -> Result<(Vec<DraftEvent<'d>>, IndexSet<Mark<'d>>, Vec<u32>), ChartFault>
+    events: &[DraftEvent<'d>],
+) -> Result<IndexSet<Mark<'d>>, ChartFault>
     requires names { map deref instances.now.keys ≡ instances_of draft.now }
-    requires few { length draft.now.sections ≤ INSTANCE_LIMIT }
+    requires events { map event_view events.now ≡ events_of draft.now }
+    requires few { length events.now ≤ TEXT_LIMIT }
     requires clear { IsClearBelow draft.now 4 }
-    ensures events { IfOk result (λ r. map event_view r.0.items ≡ events_of draft.entry.now) }
-    ensures acts { IfOk result (λ r. map mark_view r.1.keys ≡ acts_of draft.entry.now) }
-    ensures partners { IfOk result (λ r. r.2.items ≡ partners_of (map mark_view r.1.keys)) }
-    ensures few { IfOk result (λ r. length r.1.keys ≤ EVENT_LIMIT) }
-    ensures clear { OnOk result (IsClearBelow draft.entry.now 10) }
-    ensures fault { IfErr result (IsFirstOrMemory draft.entry.now) }
+    ensures acts { IfOk result (λ places. map mark_view places.keys ≡ acts_of draft.now) }
+    ensures few { IfOk result (λ places. length places.keys ≤ EVENT_LIMIT) }
+    ensures clear { OnOk result (IsClearBelow draft.now 8) }
+    ensures fault { IfErr result (IsFirstOrMemory draft.now) }
 {
-    let (events, kept) = marked_events(alloc, draft)?;
+    let kept = marks_of(alloc, events)?;
     let marks = kept.as_slice();
     refuse_unknown_address(draft, instances, marks)?;
     refuse_too_many(draft, marks)?;
     let (places, repeat) = numbered(alloc, marks)?;
-    if let Some(e) = repeat {
-        return Err(ChartFault::TwiceEvent(e as u32));
+    match repeat {
+        Some(e) => Err(ChartFault::TwiceEvent(e as u32)),
+        None => Ok(places),
     }
-    let partners = partners(alloc, &places)?;
-    refuse_unmatched(draft, marks, partners.as_slice())?;
-    Ok((events, places, partners))
+}
+
+/// The events of a draft, and their marks by place, where no fault stands up to an end of a message
+/// that is there twice.
+fn placed_events<'d>(
+    alloc: Global,
+    draft: &'d Draft,
+) -> Result<(Vec<DraftEvent<'d>>, IndexSet<Mark<'d>>), ChartFault>
+    ensures events { IfOk result (λ r. map event_view r.0.items ≡ events_of draft.entry.now) }
+    ensures acts { IfOk result (λ r. map mark_view r.1.keys ≡ acts_of draft.entry.now) }
+    ensures few { IfOk result (λ r. length r.1.keys ≤ EVENT_LIMIT) }
+    ensures clear { OnOk result (IsClearBelow draft.entry.now 8) }
+    ensures fault { IfErr result (IsFirstOrMemory draft.entry.now) }
+{
+    let names = instances(alloc, draft)?;
+    let events = events_of(alloc, draft)?;
+    let places = places(alloc, draft, &names, events.as_slice())?;
+    Ok((events, places))
+}
+
+/// The partners of the events, where every end of a message has its other end.
+fn matched_partners<'d>(
+    alloc: Global,
+    draft: &Draft,
+    places: &IndexSet<Mark<'d>>,
+) -> Result<Vec<u32>, ChartFault>
+    requires acts { map mark_view places.now.keys ≡ acts_of draft.now }
+    requires few { length places.now.keys ≤ EVENT_LIMIT }
+    requires clear { IsClearBelow draft.now 8 }
+    ensures value { IfOk result (λ partners.
+        partners.items ≡ partners_of (map mark_view places.now.keys)) }
+    ensures clear { OnOk result (IsClearBelow draft.now 10) }
+    ensures fault { IfErr result (IsFirstOrMemory draft.now) }
+{
+    let partners = partners(alloc, places)?;
+    refuse_unmatched(draft, places.as_slice(), partners.as_slice())?;
+    Ok(partners)
+}
+
+/// The events of the chart, and a linear order of them, of these events of a draft, where no fault
+/// stands.
+fn ordered_events<'d>(
+    alloc: Global,
+    draft: &Draft,
+    drawn: &[DraftEvent<'d>],
+    places: &IndexSet<Mark<'d>>,
+) -> Result<(Vec<ChartEvent>, Vec<Event>), ChartFault>
+    requires drawn { map event_view drawn.now ≡ events_of draft.now }
+    requires acts { map mark_view places.now.keys ≡ acts_of draft.now }
+    requires few { length places.now.keys ≤ EVENT_LIMIT }
+    requires clear { IsClearBelow draft.now 8 }
+    ensures events { IfOk result (λ r. r.0.items ≡ chart_events draft.now) }
+    ensures order { IfOk result (λ r. IsLinearOrder r.0.items r.1.items) }
+    ensures faultless { OnOk result (IsFaultless draft.now) }
+    ensures fault { IfErr result (IsFirstOrMemory draft.now) }
+{
+    let partners = matched_partners(alloc, draft, places)?;
+    let events = chart_events(alloc, drawn, places, partners.as_slice())?;
+    let order = linear_order(alloc, events.as_slice(), draft.sections().len())?;
+    Ok((events, order))
 }
 
 /// The events of the chart, a linear order of them, and the marks of the draft's events by place,
@@ -182,9 +224,7 @@ pub(crate) fn lawful_events<'d>(
     ensures faultless { OnOk result (IsFaultless draft.entry.now) }
     ensures fault { IfErr result (IsFirstOrMemory draft.entry.now) }
 {
-    let names = instances(alloc, draft)?;
-    let (drawn, places, partners) = matched_events(alloc, draft, &names)?;
-    let events = chart_events(alloc, drawn.as_slice(), &places, partners.as_slice())?;
-    let order = linear_order(alloc, events.as_slice(), draft.sections().len())?;
+    let (drawn, places) = placed_events(alloc, draft)?;
+    let (events, order) = ordered_events(alloc, draft, drawn.as_slice(), &places)?;
     Ok((events, order, places))
 }

@@ -13,7 +13,7 @@ ghost use Rattle.msc_chart.specs.Orders.{queue_of};
 ghost use Rattle.msc_chart.specs.Faults.{IsFaultless, IsFirstFault};
 
 use crate::building::lawful_events;
-use crate::charting::{instance_names, messages, texts};
+use crate::charting::{names, subjects};
 use crate::event::{ChartEvent, Event, EventKind};
 use crate::fault::ChartFault;
 use crate::message::Message;
@@ -58,12 +58,14 @@ impl Chart {
         ensures fault { IfErr result (λ f. f ≢ ChartFault.Memory → IsFirstFault draft.now f) }
     {
         let (events, order, places) = lawful_events(alloc, draft)?;
+        let (name, instances) = names(alloc, draft)?;
+        let (messages, actions) = subjects(alloc, places.as_slice())?;
         Ok(Chart {
-            name: Name::from_slice(alloc, draft.name())?,
-            instances: instance_names(alloc, draft)?,
+            name,
+            instances,
             events,
-            messages: messages(alloc, places.as_slice())?,
-            actions: texts(alloc, places.as_slice())?,
+            messages,
+            actions,
             order,
         })
     }

@@ -157,7 +157,7 @@ pub(crate) fn chart_events<'d>(
 }
 
 /// The names of the instances.
-pub(crate) fn instance_names(alloc: Global, draft: &Draft) -> Result<Listed<Name>, AllocError>
+fn instance_names(alloc: Global, draft: &Draft) -> Result<Listed<Name>, AllocError>
     ensures { IfOk result (λ names. names ≡ instances_of draft.now) }
 {
     let mut names = Vec::new(alloc);
@@ -165,6 +165,16 @@ pub(crate) fn instance_names(alloc: Global, draft: &Draft) -> Result<Listed<Name
         names.push(Name::from_slice(alloc, section.decl.name.as_slice())?)?;
     }
     Ok(Listed::from_vec(names))
+}
+
+/// The name of the chart, and the names of its instances.
+pub(crate) fn names(alloc: Global, draft: &Draft) -> Result<(Name, Listed<Name>), AllocError>
+    ensures chart { IfOk result (λ names. names.0 ≡ draft.now.name) }
+    ensures instances { IfOk result (λ names. names.1 ≡ instances_of draft.now) }
+{
+    let chart = Name::from_slice(alloc, draft.name())?;
+    let instances = instance_names(alloc, draft)?;
+    Ok((chart, instances))
 }
 
 /// The message number of an output, which is a name of its own.
@@ -178,7 +188,7 @@ fn owned_number(alloc: Global, number: Option<&[u8]>) -> Result<Option<Name>, Al
 }
 
 /// The messages, by their outputs.
-pub(crate) fn messages<'d>(alloc: Global, marks: &[Mark<'d>]) -> Result<Listed<Message>, AllocError>
+fn messages<'d>(alloc: Global, marks: &[Mark<'d>]) -> Result<Listed<Message>, AllocError>
     requires { length marks.now ≤ EVENT_LIMIT }
     ensures { IfOk result (λ messages. messages ≡ messages_from 0 (map mark_view marks.now)) }
 {
@@ -198,7 +208,7 @@ pub(crate) fn messages<'d>(alloc: Global, marks: &[Mark<'d>]) -> Result<Listed<M
 }
 
 /// The texts of the actions.
-pub(crate) fn texts<'d>(alloc: Global, marks: &[Mark<'d>]) -> Result<Listed<Label>, AllocError>
+fn texts<'d>(alloc: Global, marks: &[Mark<'d>]) -> Result<Listed<Label>, AllocError>
     ensures { IfOk result (λ texts. texts ≡ texts_of (map mark_view marks.now)) }
 {
     let mut texts = Vec::new(alloc);
@@ -208,4 +218,18 @@ pub(crate) fn texts<'d>(alloc: Global, marks: &[Mark<'d>]) -> Result<Listed<Labe
         }
     }
     Ok(Listed::from_vec(texts))
+}
+
+/// The messages, by their outputs, and the texts of the actions.
+pub(crate) fn subjects<'d>(
+    alloc: Global,
+    marks: &[Mark<'d>],
+) -> Result<(Listed<Message>, Listed<Label>), AllocError>
+    requires { length marks.now ≤ EVENT_LIMIT }
+    ensures messages { IfOk result (λ r. r.0 ≡ messages_from 0 (map mark_view marks.now)) }
+    ensures texts { IfOk result (λ r. r.1 ≡ texts_of (map mark_view marks.now)) }
+{
+    let messages = messages(alloc, marks)?;
+    let texts = texts(alloc, marks)?;
+    Ok((messages, texts))
 }

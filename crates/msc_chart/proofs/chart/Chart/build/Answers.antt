@@ -7,17 +7,16 @@ use Rattle.msc_chart.proofs.chart.Chart.build.Goals as goal
 
 pub returns-clause-chart : goal.returns-clause-chart
 returns-clause-chart c =
-    same_drawing (c.in_ok-from_slice.ensures ∙ c.name.ensures.value) c.in_ok-instance_names.ensures c.in_ok-events.ensures.events
-    (c.in_ok-messages.ensures ∙ ap (messages_from 0) (ap (map mark_view) c.as_slice.ensures.keys ∙ c.in_ok-events.ensures.acts))
-    (c.in_ok-texts.ensures ∙ ap texts_of (ap (map mark_view) c.as_slice-2.ensures.keys ∙ c.in_ok-events.ensures.acts))
+    let acts = ap (map mark_view) c.as_slice.ensures.keys ∙ c.in_ok-events.ensures.acts in
+    same_drawing c.in_ok-name.ensures.chart c.in_ok-name.ensures.instances c.in_ok-events.ensures.events
+    (c.in_ok-messages.ensures.messages ∙ ap (messages_from 0) acts) (c.in_ok-messages.ensures.texts ∙ ap texts_of acts)
 
 pub invariant_of-result : goal.invariant_of-result
-invariant_of-result c = record {
-  accepted =
-      subst IsAccepted
-      (sym (same_drawing (c.in_ok-from_slice.ensures ∙ c.name.ensures.value) c.in_ok-instance_names.ensures c.in_ok-events.ensures.events
-      (c.in_ok-messages.ensures ∙ ap (messages_from 0) (ap (map mark_view) c.as_slice.ensures.keys ∙ c.in_ok-events.ensures.acts))
-      (c.in_ok-texts.ensures ∙ ap texts_of (ap (map mark_view) c.as_slice-2.ensures.keys ∙ c.in_ok-events.ensures.acts))))
-      (accepted c.args.draft.now c.in_ok-events.ensures.faultless);
-  linear = c.in_ok-events.ensures.order;
-}
+invariant_of-result c =
+    let acts = ap (map mark_view) c.as_slice.ensures.keys ∙ c.in_ok-events.ensures.acts in
+    let same = same_drawing c.in_ok-name.ensures.chart c.in_ok-name.ensures.instances c.in_ok-events.ensures.events
+        (c.in_ok-messages.ensures.messages ∙ ap (messages_from 0) acts) (c.in_ok-messages.ensures.texts ∙ ap texts_of acts) in
+    record {
+      accepted = subst IsAccepted (sym same) (accepted c.args.draft.now c.in_ok-events.ensures.faultless);
+      linear = c.in_ok-events.ensures.order;
+    }
