@@ -77,8 +77,8 @@ abbrev pub in_from : List ℕ → List ℕ → Statement
 in_from name address = Message (record { way = Input; name = name; number = None; parameters = []; address = address })
 
 -- `action 'TEXT';`
-abbrev pub action : List ℕ → Statement
-action text = Action text
+abbrev pub does : List ℕ → Statement
+does text = Action text
 
 -- a section without kind
 abbrev pub instance_of : List ℕ → List Item → Section
@@ -116,8 +116,8 @@ empty_coregion = draft_of (instance_of a (Single (out_to m1 a) ∷ Coregion [] �
 -- a: action go, out m1; b: in m1 from a, action done
 abbrev pub actions : Tree
 actions =
-    draft_of (instance_of a (Single (action go) ∷ Single (out_to m1 b) ∷ [])
-    ∷ instance_of b (Single (in_from m1 a) ∷ Single (action done) ∷ []) ∷ [])
+    draft_of (instance_of a (Single (does go) ∷ Single (out_to m1 b) ∷ [])
+    ∷ instance_of b (Single (in_from m1 a) ∷ Single (does done) ∷ []) ∷ [])
 
 -- an event of a chart: its line, segment, kind, partner, and its message or action
 abbrev pub event : ℕ → ℕ → EventKind → ℕ → ℕ → ChartEvent
