@@ -110,7 +110,7 @@ module _ {chart : WiredChart} {instances : ℕ} {logs : List (List ℕ)} {places
   log_events : (i e : ℕ) → i < instances → occurs (get_or logs i []) e ≡ true
       → (e < length chart.events) × (is_logged chart logs e ≡ true)
   log_events i e below h =
-      let k = timed.known i e below h in
+      let k = timed.lines.known i e below h in
       (k.0, ap (λ (j : ℕ). occurs (get_or logs j []) e) k.1 ∙ h)
 
   -- so the clock before an event is one
@@ -147,7 +147,7 @@ module _ {chart : WiredChart} {instances : ℕ} {logs : List (List ℕ)} {places
   unfolding IsPut all_puts
   put_listed t put =
       let line_below : line chart.events t < instances = seated.on_lines t put.0 in
-      let many = timed.as_many in
+      let many = timed.lines.as_many in
       occurs-filter (λ e. is_output chart.events e) (concat logs) t put.1
       ∙ in_concat logs (line chart.events t) t (omega arith) put.2
 

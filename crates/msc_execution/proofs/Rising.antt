@@ -89,7 +89,7 @@ module _ {chart : WiredChart} {instances : ℕ} {logs : List (List ℕ)} {places
   -- the log of an event's line
   pub log_known : (x e : ℕ) → x < length chart.events → occurs (log_of chart logs x) e ≡ true
       → (e < length chart.events) × (line chart.events e ≡ line chart.events x)
-  log_known x e below h = timed.known (line chart.events x) e (seated.on_lines x below) h
+  log_known x e below h = timed.lines.known (line chart.events x) e (seated.on_lines x below) h
 
   -- events of one line have one log
   pub log_same : (x e : ℕ) → line chart.events e ≡ line chart.events x
@@ -118,7 +118,7 @@ module _ {chart : WiredChart} {instances : ℕ} {logs : List (List ℕ)} {places
   unfolding IsKept
   log_kept x below =
       steps_from (IsKept chart places) [] (log_of chart logs x)
-      (timed.once (line chart.events x) (seated.on_lines x below))
+      (timed.lines.once (line chart.events x) (seated.on_lines x below))
       (λ e there o.
       let k = log_known x e below there in
       let rises = put_rises e k.0 (logged_there x e below there) o in

@@ -26,10 +26,7 @@ module _ {chart : WiredChart} {instances : ℕ} {logs : List (List ℕ)} {places
   -- the logs of an execution are logs of the chart
   pub logs_of_timed : AreLogs chart instances logs
   logs_of_timed = record {
-    as_many = timed.as_many;
-    known = timed.known;
-    once = timed.once;
-    drawn = timed.drawn;
+    lines = timed.lines;
     sent = λ r below logged i.
         let q : ℕ = queue chart r in
         let has = taken_has chart q (log_of chart logs r) r i refl logged in
@@ -88,7 +85,7 @@ module _ {chart : WiredChart} {instances : ℕ} {logs : List (List ℕ)} {places
       → occurs (trace_of chart logs places) e ≡ true
   trace_has e below logged =
       let line_below : line chart.events e < instances = seated.on_lines e below in
-      let many = timed.as_many in
+      let many = timed.lines.as_many in
       in_trace e ∙ in_concat logs (line chart.events e) e (omega arith) logged
 
   -- and what it has is an event and is logged
@@ -97,21 +94,21 @@ module _ {chart : WiredChart} {instances : ℕ} {logs : List (List ℕ)} {places
   of_trace e there =
       let found = of_concat logs e (sym (in_trace e) ∙ there) in
       let i : ℕ = found.0 in
-      let many = timed.as_many in
+      let many = timed.lines.as_many in
       let below : i < length logs = found.1 in
-      let k = timed.known i e (omega arith) found.2 in
+      let k = timed.lines.known i e (omega arith) found.2 in
       (k.0, ap (λ (j : ℕ). occurs (get_or logs j []) e) k.1 ∙ found.2)
 
   -- it holds nothing twice, since no two logs share an event
   trace_apart : Apart (trace_of chart logs places)
   unfolding trace_of
   trace_apart =
-      let many = timed.as_many in
+      let many = timed.lines.as_many in
       Apart-sorted (comes_sooner chart logs places) (concat logs)
       (Apart-concat logs (λ i below.
-      (apart_of_once [] (get_or logs i []) (timed.once i (omega arith))).0)
-      (λ i j e bi bj hi hj. sym (timed.known i e (omega arith) hi).1
-      ∙ (timed.known j e (omega arith) hj).1))
+      (apart_of_once [] (get_or logs i []) (timed.lines.once i (omega arith))).0)
+      (λ i j e bi bj hi hj. sym (timed.lines.known i e (omega arith) hi).1
+      ∙ (timed.lines.known j e (omega arith) hj).1))
 
   -- and its keys do not fall
   trace_rises : (x y : ℕ) → occurs (trace_of chart logs places) y ≡ true

@@ -3,9 +3,9 @@
 use Rattle.std.specs.Prelude.{◌≡◌, ℕ, ◌<◌, ◌≤◌, ◌&&◌, List, [], length, get_or, map, filter, nat_eq, IsTrue}
 use Rattle.std.specs.List.{concat}
 use Rattle.msc_chart.specs.Orders.{WiredChart, queue}
-use Rattle.msc_chart.specs.Charts.{line, partner, is_output, is_input, is_controlled, before}
-use Rattle.msc_chart.specs.Lists.{occurs, until, IsOnce}
-use Rattle.msc_gather.specs.Schedule.{log_of, is_logged}
+use Rattle.msc_chart.specs.Charts.{partner, is_output, is_input}
+use Rattle.msc_chart.specs.Lists.{occurs}
+use Rattle.msc_gather.specs.Schedule.{is_logged, KeepLines}
 use Rattle.msc_execution.specs.Logs.{Begins}
 use Rattle.msc_execution.specs.Clocks.{Places, messages, place_clock, greatest_offer, offer_of}
 
@@ -18,15 +18,8 @@ taken_from chart q log =
 -- logs, and places of the queues, that fit one another
 pub record IsTimed (chart : WiredChart) (instances : ℕ) (logs : List (List ℕ))
     (places : Places) : Type 0 where
-  -- a log for each instance, with events of its line, each once; a controlled event follows all
-  -- that is drawn before it
-  pub as_many : length logs ≡ instances
-  pub known : (i e : ℕ) → i < instances → IsTrue (occurs (get_or logs i []) e)
-      → (e < length chart.events) × (line chart.events e ≡ i)
-  pub once : (i : ℕ) → i < instances → IsOnce (get_or logs i [])
-  pub drawn : (s x : ℕ) → s < length chart.events → IsTrue (is_logged chart logs s)
-      → IsTrue (is_controlled chart.events s) → IsTrue (before chart.events x s)
-      → IsTrue (occurs (until (log_of chart logs s) s) x)
+  -- logs of the lines
+  pub lines : KeepLines chart instances logs
   -- the places of a queue have the messages that were put there: those of its logged outputs
   pub put : (s : ℕ) → s < length chart.events → IsTrue (is_logged chart logs s)
       → IsTrue (is_output chart.events s) → IsTrue (occurs (messages (places (queue chart s))) s)

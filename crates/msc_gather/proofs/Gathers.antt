@@ -108,7 +108,7 @@ pub first_below : (chart : WiredChart) (instances : ℕ) (logs : List (List ℕ)
     → y < length chart.events
 first_below chart instances logs seated sound y x below goes =
     first_cases chart logs y x goes
-    (λ h. (sound.known (line chart.events x) y (seated.on_lines x below)
+    (λ h. (sound.lines.known (line chart.events x) y (seated.on_lines x below)
     (until-within (log_of chart logs x) x y h)).0)
     (λ o p. output_below chart.events y o)
     (λ o p same h. output_below chart.events y o)

@@ -136,8 +136,8 @@ module _ (chart : WiredChart) (instances : ℕ) (logs : List (List ℕ))
             may.new
         | inr late ↦ elim (cases_lt k p) [
           | inl less ↦
-              let stands = before_at [] log p k (sound.once (line chart.events x) seat) p_below
-              less in
+              let stands = before_at [] log p k (sound.lines.once (line chart.events x) seat)
+              p_below less in
               let named : occurs (until log x) (get_or log k 0) ≡ true =
               subst (λ (w : ℕ). occurs (until log w) (get_or log k 0) ≡ true) place.2 stands in
               clash (may.behind (get_or log k 0) (log_goes chart logs (get_or log k 0) x named))
@@ -157,7 +157,7 @@ module _ (chart : WiredChart) (instances : ℕ) (logs : List (List ℕ))
       let log : List ℕ = get_or logs i [] in
       let x : ℕ = get_or log k 0 in
       let there = item_there log k below in
-      let known = sound.known i x seat there in
+      let known = sound.lines.known i x seat there in
       let log_same : log_of chart logs x ≡ log = ap (λ (j : ℕ). get_or logs j []) known.1 in (
         λ done. record {
           event = known.0;
@@ -165,7 +165,7 @@ module _ (chart : WiredChart) (instances : ℕ) (logs : List (List ℕ))
           new = front.left k (omega arith) below;
           behind = λ y goes. elim (goes_cases chart logs y x goes) [
             | inl earlier ↦
-                let found = place_before [] log k y (sound.once i seat) below
+                let found = place_before [] log k y (sound.lines.once i seat) below
                 (ap (λ l. occurs (until l x) y) (sym log_same) ∙ earlier) in
                 subst (λ (w : ℕ). occurs past w ≡ true) found.2 (front.gone found.0 found.1)
             | inr crossing ↦ link_tells chart logs past x link steps is_link done y crossing

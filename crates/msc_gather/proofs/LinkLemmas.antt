@@ -83,21 +83,22 @@ module _ {chart : WiredChart} {n : ℕ} {logs : List (List ℕ)} (sound : AreLog
   -- each log is what the joined logs have on its line
   pub log_on_line : (i : ℕ) → i < n → filter (on chart i) (concat logs) ≡ get_or logs i []
   log_on_line i below =
-      let many = sound.as_many in
+      let many = sound.lines.as_many in
       filter_concat (on chart i) logs i (omega arith)
-      (λ e h. eq-eqb _ _ (sound.known i e below h).1)
-      (λ j e inside other h. ne_eqb _ _ (λ s. other (sym (sound.known j e (omega arith) h).1 ∙ s)))
+      (λ e h. eq-eqb _ _ (sound.lines.known i e below h).1)
+      (λ j e inside other h. ne_eqb _ _
+      (λ s. other (sym (sound.lines.known j e (omega arith) h).1 ∙ s)))
 
   -- they hold nothing twice
   pub joined_once : IsOnce (concat logs)
   unfolding occurs
   joined_once =
-      let many = sound.as_many in
+      let many = sound.lines.as_many in
       once_of_apart [] (concat logs)
       (Apart-concat logs (λ i below.
-      (apart_of_once [] (get_or logs i []) (sound.once i (omega arith))).0)
-      (λ i j e bi bj hi hj. sym (sound.known i e (omega arith) hi).1
-      ∙ (sound.known j e (omega arith) hj).1))
+      (apart_of_once [] (get_or logs i []) (sound.lines.once i (omega arith))).0)
+      (λ i j e bi bj hi hj. sym (sound.lines.known i e (omega arith) hi).1
+      ∙ (sound.lines.known j e (omega arith) hj).1))
       (λ e h. refl)
 
   -- and have the logged events
@@ -105,8 +106,8 @@ module _ {chart : WiredChart} {n : ℕ} {logs : List (List ℕ)} (sound : AreLog
       → (e < length chart.events) × (is_logged chart logs e ≡ true)
   joined_known e h =
       let found = of_concat logs e h in
-      let many = sound.as_many in
-      let known = sound.known found.0 e (omega (arith, found.1)) found.2 in
+      let many = sound.lines.as_many in
+      let known = sound.lines.known found.0 e (omega (arith, found.1)) found.2 in
       (known.0, ap (λ (j : ℕ). occurs (get_or logs j []) e) known.1 ∙ found.2)
 
 module _ {chart : WiredChart} {n : ℕ} (logs : List (List ℕ)) (seated : IsSeated chart n) where
@@ -244,7 +245,7 @@ module _ {chart : WiredChart} {n : ℕ} (logs : List (List ℕ)) (seated : IsSea
   link_marked x {before} {last} {marks} sound m h ox marked =
       let u : ℕ = partner chart.events x in
       let u_below = seated.is_wired.matched.in_range x (output_below chart.events x ox) in
-      let many = sound.as_many in
+      let many = sound.lines.as_many in
       let there : occurs (concat logs) u ≡ true =
       in_concat logs (line chart.events u) u (omega (arith, many, seated.on_lines u u_below))
       (sym (m.told u u_below) ∙ marked) in

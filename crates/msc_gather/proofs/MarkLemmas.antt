@@ -234,12 +234,14 @@ logs_from {chart} {n} {logs} {marks} many seated lines m outputs =
     → MayComeOnLine chart i (until (get_or logs i []) e) e = λ i e below there.
     (step_at (MayComeOnLine chart i) (get_or logs i []) e (lines i below) there).1 in
     record {
-      as_many = many;
-      known = λ i e below there. let may = at i e below there in (may.event, may.on_line);
-      once = λ i below. Steps-map (MayComeOnLine chart i) IsNew (λ past x may. may.new) []
-          (get_or logs i []) (lines i below);
-      drawn = λ s x below logged controlled b.
-          (at (line chart.events s) s (seated.on_lines s below) logged).drawn controlled x b;
+      lines = record {
+        as_many = many;
+        known = λ i e below there. let may = at i e below there in (may.event, may.on_line);
+        once = λ i below. Steps-map (MayComeOnLine chart i) IsNew (λ past x may. may.new) []
+            (get_or logs i []) (lines i below);
+        drawn = λ s x below logged controlled b.
+            (at (line chart.events s) s (seated.on_lines s below) logged).drawn controlled x b;
+      };
       sent = λ r below logged i.
           sym (m.told (partner chart.events r) (seated.is_wired.matched.in_range r below))
           ∙ outputs r below (m.told r below ∙ logged) i;
@@ -250,8 +252,8 @@ pub line_logs_of : {chart : WiredChart} {n : ℕ} {logs : List (List ℕ)} → A
     → AreLineLogs chart n logs
 line_logs_of {chart} {n} {logs} sound i below =
     let log : List ℕ = get_or logs i [] in
-    steps_from (MayComeOnLine chart i) [] log (sound.once i below) (λ e there.
-    let known = sound.known i e below there in
+    steps_from (MayComeOnLine chart i) [] log (sound.lines.once i below) (λ e there.
+    let known = sound.lines.known i e below there in
     let same : log_of chart logs e ≡ log = ap (λ (j : ℕ). get_or logs j []) known.1 in
     record {
       event = known.0;
@@ -259,7 +261,7 @@ line_logs_of {chart} {n} {logs} sound i below =
       new = until-self log e;
       drawn = λ controlled x b.
           ap (λ l. occurs (until l e) x) (sym same)
-          ∙ sound.drawn e x known.0 (ap (λ l. occurs l e) same ∙ there) controlled b;
+          ∙ sound.lines.drawn e x known.0 (ap (λ l. occurs l e) same ∙ there) controlled b;
     })
 
 -- and each of their inputs has its output

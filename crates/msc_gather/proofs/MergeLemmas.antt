@@ -78,7 +78,7 @@ module _ {chart : WiredChart} {n : ℕ} {logs : List (List ℕ)} {past heads : L
   line_in : line chart.events x < length logs
   line_in =
       let on : line chart.events x < n = seated.on_lines x follows.itself.event in
-      let many : length logs ≡ n = sound.as_many in omega arith
+      let many : length logs ≡ n = sound.lines.as_many in omega arith
 
   -- and is the first left of it
   pub head_there : (get_or heads (line chart.events x) 0 < length (log_of chart logs x))
@@ -104,7 +104,7 @@ module _ {chart : WiredChart} {n : ℕ} {logs : List (List ℕ)} {past heads : L
       → IsMerging chart logs next (set heads (line chart.events x) k) (set done x true)
   merge_more next k same k_is =
       let i : ℕ = line chart.events x in
-      let many : length logs ≡ n = sound.as_many in
+      let many : length logs ≡ n = sound.lines.as_many in
       subst (λ (l : List ℕ). IsMerging chart logs l (set heads i k) (set done x true)) (sym same)
       (record {
         steps = Steps-push (FollowsLeast chart logs) past x m.steps follows;
@@ -115,7 +115,7 @@ module _ {chart : WiredChart} {n : ℕ} {logs : List (List ℕ)} {past heads : L
               ap (λ (w : ℕ). get_or (set heads i k) w 0) here
               ∙ get_or-set_same heads i k 0 head_in ∙ k_is in
               let front = front_more past (get_or logs i []) (get_or heads i 0) x
-              (m.fronts i line_in) (sound.once i (seated.on_lines x follows.itself.event))
+              (m.fronts i line_in) (sound.lines.once i (seated.on_lines x follows.itself.event))
               head_there.0 head_there.1 in
               rw at_i (subst (λ (w : ℕ). IsLogFront (past ++ x ∷ []) (get_or logs w [])
               (get_or heads i 0 + 1)) (sym here) front)
@@ -127,7 +127,7 @@ module _ {chart : WiredChart} {n : ℕ} {logs : List (List ℕ)} {past heads : L
               let there : occurs (get_or logs j []) x ≡ true =
               subst (λ (w : ℕ). occurs (get_or logs j []) w ≡ true) (sym is_x)
               (item_there (get_or logs j []) p inside) in
-              other (sym (sound.known j x (omega arith) there).1)))
+              other (sym (sound.lines.known j x (omega arith) there).1)))
         ];
         long = length-set done x true ∙ m.long;
         told = λ e below. elim (cases_eq e x) [

@@ -33,7 +33,7 @@ module _ {chart : WiredChart} {logs : List (List ℕ)} {links : List (Option ℕ
     (k_is : k ≡ get_or heads i 0) where
   -- the line has a log
   seat_in : i < length logs
-  seat_in = let many : length logs ≡ n = sound.as_many in omega arith
+  seat_in = let many : length logs ≡ n = sound.lines.as_many in omega arith
 
   -- the first k events of the log are behind
   front_logs : IsLogFront past (get_or logs i []) k
@@ -47,7 +47,7 @@ module _ {chart : WiredChart} {logs : List (List ℕ)} {links : List (Option ℕ
   pub head_known : k < length log → (get_or log k 0 < length chart.events)
       × (line chart.events (get_or log k 0) ≡ i)
   head_known below =
-      sound.known i (get_or log k 0) seat
+      sound.lines.known i (get_or log k 0) seat
       (ap (λ l. occurs l (get_or log k 0)) (sym log_is) ∙ item_there log k below)
 
   -- it may follow exactly where its link is behind
@@ -118,4 +118,4 @@ pub head_read : {chart : WiredChart} {logs : List (List ℕ)} {past heads : List
     → AreLogs chart n logs → IsMerging chart logs past heads done → i < n → r ≡ get_or heads i r
     → r ≡ get_or heads i 0
 head_read {chart} {logs} {past} {heads} {done} {n} {i} {r} sound m seat read =
-    read ∙ get_or_default heads i r 0 (omega (arith, seat, sound.as_many, m.many))
+    read ∙ get_or_default heads i r 0 (omega (arith, seat, sound.lines.as_many, m.many))

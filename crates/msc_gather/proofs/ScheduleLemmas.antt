@@ -72,23 +72,25 @@ module _ {chart : WiredChart} {instances : ℕ} {logs : List (List ℕ)} {events
   -- the lines of a run are logs of the chart
   pub logs_of_run : AreLogs chart instances logs
   logs_of_run = record {
-    as_many = lines.as_many;
-    known = λ i e below h.
-        let there : occurs (filter (on chart i) events) e ≡ true =
-        ap (λ l. occurs l e) (log_is i below) ∙ h in (
-          event_below e (filter-within (on chart i) events e there),
-          eqb-true _ _
-              (filter-passes (on chart i) events e there),
-        );
-    once = λ i below. subst (λ (l : List ℕ). Steps IsNew [] l) (log_is i below)
-        (Steps-filter (MayCome chart) IsNew (on chart i)
-        (λ past x passes may. occurs-filter (on chart i) past x passes ∙ may.new) [] events
-        run);
-    drawn = λ s x below logged o b.
-        let at_s = step_at (MayCome chart) events s run (in_run s s below logged) in
-        ap (λ l. occurs l x) (before_in_log s s below refl)
-        ∙ occurs-filter (on chart (line chart.events s)) (until events s) x
-        (eq-eqb _ _ (same_line chart x s b)) ∙ at_s.1.controlled o x b;
+    lines = record {
+      as_many = lines.as_many;
+      known = λ i e below h.
+          let there : occurs (filter (on chart i) events) e ≡ true =
+          ap (λ l. occurs l e) (log_is i below) ∙ h in (
+            event_below e (filter-within (on chart i) events e there),
+            eqb-true _ _
+                (filter-passes (on chart i) events e there),
+          );
+      once = λ i below. subst (λ (l : List ℕ). Steps IsNew [] l) (log_is i below)
+          (Steps-filter (MayCome chart) IsNew (on chart i)
+          (λ past x passes may. occurs-filter (on chart i) past x passes ∙ may.new) [] events
+          run);
+      drawn = λ s x below logged o b.
+          let at_s = step_at (MayCome chart) events s run (in_run s s below logged) in
+          ap (λ l. occurs l x) (before_in_log s s below refl)
+          ∙ occurs-filter (on chart (line chart.events s)) (until events s) x
+          (eq-eqb _ _ (same_line chart x s b)) ∙ at_s.1.controlled o x b;
+    };
     sent = λ r below logged i.
         let at_r = step_at (MayCome chart) events r run (in_run r r below logged) in
         let first = first_occurs (is_waiting chart (queue chart r) (until events r))
@@ -182,7 +184,7 @@ module _ {chart : WiredChart} {instances : ℕ} {logs : List (List ℕ)}
     event = may.event;
     new = may.new;
     controlled = λ o y b. may.behind y
-        (first_in_log chart logs y x (sound.drawn x y may.event may.logged o b));
+        (first_in_log chart logs y x (sound.lines.drawn x y may.event may.logged o b));
     input = λ i.
         let s : ℕ = partner chart.events x in
         let os = partner_of_input chart.events seated.is_wired.matched x i in
@@ -223,11 +225,11 @@ module _ {chart : WiredChart} {instances : ℕ} {logs : List (List ℕ)}
       → HasLines chart instances logs events
   unfolding on_line
   lines_of_schedule events schedule = record {
-    as_many = sound.as_many;
+    as_many = sound.lines.as_many;
     each = λ i below.
         let p : ℕ → Bool = on chart i in
         let log : List ℕ = get_or logs i [] in
-        same_list [] log (filter p events) (sound.once i below)
+        same_list [] log (filter p events) (sound.lines.once i below)
         (Steps-filter (MayFollow chart logs) (Follows log) p (λ past x passes may.
         let x_line : line chart.events x ≡ i = eqb-true _ _ passes in
         let log_same : log_of chart logs x ≡ log = ap (λ (z : ℕ). get_or logs z []) x_line in
@@ -237,11 +239,12 @@ module _ {chart : WiredChart} {instances : ℕ} {logs : List (List ℕ)}
           behind = λ y h.
               let goes = first_in_log chart logs y x
               (ap (λ l. occurs (until l x) y) log_same ∙ h) in
-              occurs-filter p past y (eq-eqb _ _ (sound.known i y below (until-within log x y h)).1)
+              occurs-filter p past y
+              (eq-eqb _ _ (sound.lines.known i y below (until-within log x y h)).1)
               ∙ may.behind y goes;
         }) [] events schedule.0)
         (λ e there.
-        let k = sound.known i e below there in
+        let k = sound.lines.known i e below there in
         occurs-filter p events e (eq-eqb _ _ k.1)
         ∙ schedule.1 e k.0 (ap (λ (z : ℕ). occurs (get_or logs z []) e) k.1 ∙ there));
   }

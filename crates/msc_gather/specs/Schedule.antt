@@ -12,9 +12,9 @@ log_of chart logs e = get_or logs (line chart.events e) []
 abbrev pub is_logged : WiredChart → List (List ℕ) → ℕ → Bool
 is_logged chart logs e = occurs (log_of chart logs e) e
 
--- Logs of a chart, one for each instance: each event on its line and once, a controlled event after
--- all that is drawn before it, an input with its output logged.
-pub record AreLogs (chart : WiredChart) (instances : ℕ) (logs : List (List ℕ)) : Type 0 where
+-- Logs of the lines of a chart, one for each instance: each event on its line and once, a
+-- controlled event after all that is drawn before it.
+pub record KeepLines (chart : WiredChart) (instances : ℕ) (logs : List (List ℕ)) : Type 0 where
   pub as_many : length logs ≡ instances
   pub known : (i e : ℕ) → i < instances → IsTrue (occurs (get_or logs i []) e)
       → (e < length chart.events) × (line chart.events e ≡ i)
@@ -22,6 +22,10 @@ pub record AreLogs (chart : WiredChart) (instances : ℕ) (logs : List (List ℕ
   pub drawn : (s x : ℕ) → s < length chart.events → IsTrue (is_logged chart logs s)
       → IsTrue (is_controlled chart.events s) → IsTrue (before chart.events x s)
       → IsTrue (occurs (until (log_of chart logs s) s) x)
+
+-- Logs of a chart: logs of its lines, an input with its output logged.
+pub record AreLogs (chart : WiredChart) (instances : ℕ) (logs : List (List ℕ)) : Type 0 where
+  pub lines : KeepLines chart instances logs
   pub sent : (r : ℕ) → r < length chart.events → IsTrue (is_logged chart logs r)
       → IsTrue (is_input chart.events r) → IsTrue (is_logged chart logs (partner chart.events r))
 

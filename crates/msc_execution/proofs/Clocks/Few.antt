@@ -22,23 +22,23 @@ module _ (queues : Queues) (d : Drawing) (accepted : IsAccepted d) (logs : List 
   -- the logs hold no event twice
   logs_apart : Apart (concat logs)
   logs_apart =
-      let many = timed.as_many in
+      let many = timed.lines.as_many in
       Apart-concat logs (λ i below.
-      (apart_of_once [] (get_or logs i []) (timed.once i (omega arith))).0)
-      (λ i j e bi bj hi hj. sym (timed.known i e (omega arith) hi).1
-      ∙ (timed.known j e (omega arith) hj).1)
+      (apart_of_once [] (get_or logs i []) (timed.lines.once i (omega arith))).0)
+      (λ i j e bi bj hi hj. sym (timed.lines.known i e (omega arith) hi).1
+      ∙ (timed.lines.known j e (omega arith) hj).1)
 
   -- what is put is an output, of a message of the chart
   put_output : (s : ℕ) → occurs (all_puts (wired queues d) logs) s ≡ true
       → (is_output d.events s ≡ true) × (message d.events s < length d.messages)
   unfolding all_puts
   put_output s h =
-      let many = timed.as_many in
+      let many = timed.lines.as_many in
       let p = passes (is_output d.events) (concat logs) s h in
       let w = of_concat logs s p.0 in
       let i : ℕ = w.0 in
       let below : i < length logs = w.1 in
-      let within = (timed.known i s (omega arith) w.2).0 in
+      let within = (timed.lines.known i s (omega arith) w.2).0 in
       (p.1, accepted.has_messages.known s within (output_not_local d.events s p.1))
 
   -- each is put once

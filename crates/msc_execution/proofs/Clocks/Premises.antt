@@ -111,17 +111,19 @@ module _ {queues : Queues} {d : Drawing} {open' : Bool} {patience : ℕ} {o : Ou
   -- all premises of the laws on clocks
   pub is_timed : IsTimed (wired queues d) (length d.instances) o.logs (shown_places d o)
   is_timed = record {
-    as_many = told.exec.logs;
-    known = λ i e below h. (told.runs i below).log.on_line e h;
-    once =
-        λ i below. Steps-map (MayBeLogged d) IsNew (λ past x may. may.new) [] (log_at o i)
-        (told.runs i below).log.steps;
-    drawn = λ s x below logged controlled b.
-        let at =
-        step_at (MayBeLogged d) (log_at o (line d.events s)) s
-        (told.runs (line d.events s) (told.accepted.on_lines.on_line s below)).log.steps
-        logged in
-        at.1.drawn controlled x b;
+    lines = record {
+      as_many = told.exec.logs;
+      known = λ i e below h. (told.runs i below).log.on_line e h;
+      once =
+          λ i below. Steps-map (MayBeLogged d) IsNew (λ past x may. may.new) [] (log_at o i)
+          (told.runs i below).log.steps;
+      drawn = λ s x below logged controlled b.
+          let at =
+          step_at (MayBeLogged d) (log_at o (line d.events s)) s
+          (told.runs (line d.events s) (told.accepted.on_lines.on_line s below)).log.steps
+          logged in
+          at.1.drawn controlled x b;
+    };
     put = put told;
     was_put = was_put told;
     taken = taken told seated;
