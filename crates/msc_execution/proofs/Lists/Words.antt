@@ -1,9 +1,9 @@
 -- Lists of numbers: what occurs in them, and once.
 use Rattle.std.proofs.Common.{◌≡◌, ◌⊎◌, ℕ, Bool, true, false, cond, eqb, List, [], ◌∷◌, ◌++◌, map, filter, refl, sym, ap, ◌∙◌, inl, inr, subst}
-use Rattle.std.proofs.lemmas.Bool.{eq-eqb, eqb-true, or_left, or_right, or_cases}
+use Rattle.std.proofs.lemmas.Bool.{eqb-true, or_cases}
 use Rattle.msc_chart.specs.Lists.{occurs, Steps}
 use Rattle.msc_chart.specs.Drawings.{Drawing}
-use Rattle.msc_chart.proofs.ListLemmas.{by_test, clash, occurs-append, occurs-left, occurs-push, occurs-head, occurs-tail, occurs-right}
+use Rattle.msc_chart.proofs.ListLemmas.{by_test, clash, occurs-left, occurs-push, occurs-head, occurs-tail, occurs-right}
 use Rattle.msc_gather.proofs.Apart.{Apart}
 use Rattle.msc_execution.specs.Logs.{MayBeLogged}
 
