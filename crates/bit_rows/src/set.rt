@@ -28,8 +28,8 @@ impl Model for Set {
 }
 
 impl Set {
-    /// A set without numbers, with room for those below `n`. An error is a growth of memory that was
-    /// refused.
+    /// A set without numbers, with room for those below `n`. An error is a growth of memory that
+    /// was refused.
     pub fn blank(alloc: Global, n: u32) -> Result<Set, AllocError>
         requires { n ≤ 4096 }
         ensures words { IfOk result (λ set. length set ≡ word_count n) }

@@ -321,8 +321,8 @@ fn shown(why: &Why) -> Shown<'_> {
     }
 }
 
-/// What is said of a pair of events of a chart under an architecture, if the chart has both and they
-/// are two.
+/// What is said of a pair of events of a chart under an architecture, if the chart has both and
+/// they are two.
 fn said_of(
     alloc: Global,
     chart: &Chart,

@@ -150,7 +150,8 @@ impl Chart {
     }
 
     /// The segment of event `e` on its line, from 0: an event outside coregions is a segment of its
-    /// own, and the events of a coregion share one. An empty coregion takes none. It takes no memory.
+    /// own, and the events of a coregion share one. An empty coregion takes none. It takes no
+    /// memory.
     pub fn segment(&self, e: Event) -> u32
         requires { e < length self.now.events }
         ensures { result ≡ segment self.now.events e }
@@ -219,8 +220,8 @@ impl Chart {
         self.kind(e).is_local()
     }
 
-    /// Whether the instance of event `e` decides when it comes: it is an output or a local event. An
-    /// input waits for its message. It takes no memory.
+    /// Whether the instance of event `e` decides when it comes: it is an output or a local event.
+    /// An input waits for its message. It takes no memory.
     pub fn is_controlled(&self, e: Event) -> bool
         requires { e < length self.now.events }
         ensures { result ≡ is_controlled self.now.events e }
@@ -228,11 +229,12 @@ impl Chart {
         self.kind(e).is_controlled()
     }
 
-    /// The message of event `e`: some for every output and input, none for a local event. It takes no
-    /// memory.
+    /// The message of event `e`: some for every output and input, none for a local event. It takes
+    /// no memory.
     pub fn message(&self, e: Event) -> Option<u32>
         requires { e < length self.now.events }
-        ensures { result ≡ cond (is_local self.now.events e) None (Some (message self.now.events e)) }
+        ensures { result
+            ≡ cond (is_local self.now.events e) None (Some (message self.now.events e)) }
     {
         if self.is_local(e) {
             return None;
@@ -240,11 +242,12 @@ impl Chart {
         Some(self.message_of(e))
     }
 
-    /// The event at the other end of the message of event `e`: some for every output and input, none
-    /// for a local event. It takes no memory.
+    /// The event at the other end of the message of event `e`: some for every output and input,
+    /// none for a local event. It takes no memory.
     pub fn partner(&self, e: Event) -> Option<Event>
         requires { e < length self.now.events }
-        ensures { result ≡ cond (is_local self.now.events e) None (Some (partner self.now.events e)) }
+        ensures { result
+            ≡ cond (is_local self.now.events e) None (Some (partner self.now.events e)) }
     {
         if self.is_local(e) {
             return None;

@@ -27,8 +27,8 @@ fn place<'d>(places: &IndexSet<Mark<'d>>, end: MessageEnd<'d>) -> usize
     places.get_index_of(&Mark::End(end)).unwrap_or(places.len())
 }
 
-/// The event at the other end of the message of event `e`, which has this mark, or the number of all
-/// events where there is none. An action is its own.
+/// The event at the other end of the message of event `e`, which has this mark, or the number of
+/// all events where there is none. An action is its own.
 fn partner<'d>(places: &IndexSet<Mark<'d>>, e: u32, mark: &Mark<'d>) -> u32
     requires { length places.now.keys ≤ TEXT_LIMIT }
     ensures { result ≡ partner_of (map mark_view places.now.keys) e (mark_view mark.entry.now) }

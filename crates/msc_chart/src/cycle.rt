@@ -24,7 +24,8 @@ fn is_passed(events: &[ChartEvent], e: usize, low: &[u32], s: usize) -> bool
     event.kind.is_output() && (s == e || low[event.line as usize] < event.segment)
 }
 
-/// Reaches the input of `s`, where `s` is passed, if it lies above what is reached; answers whether.
+/// Reaches the input of `s`, where `s` is passed, if it lies above what is reached; answers
+/// whether.
 fn lower(events: &[ChartEvent], e: usize, low: &mut [u32], s: usize) -> bool
     requires matched { IsMatched events.now }
     requires lines { AreOnLines (length low.old) events.now }

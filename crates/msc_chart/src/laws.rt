@@ -31,8 +31,8 @@ pub fn pairs_have_queues_of_their_own()
     ensures { PairsHaveQueuesOfTheirOwn }
 {}
 
-/// The number of the queue of each output and input is below a bound, which is at most the square of
-/// the greatest number of instances.
+/// The number of the queue of each output and input is below a bound, which is at most the square
+/// of the greatest number of instances.
 pub fn queue_numbers_are_bounded()
     ensures numbers { QueueNumbersAreBounded }
     ensures few { QueueBoundsAreSmall }
@@ -57,8 +57,8 @@ pub fn items_are_drawn_in_order()
     ensures each { EachHasAnEvent }
 {}
 
-/// What the definitions say of small charts: the drawn order, the segments around an empty coregion,
-/// the actions, the queue numbers, and two enforced orders pair by pair.
+/// What the definitions say of small charts: the drawn order, the segments around an empty
+/// coregion, the actions, the queue numbers, and two enforced orders pair by pair.
 pub fn worked_charts()
     ensures drawn { drawn_pairs (chart_of two_senders) ≡ (1, 2) ∷ [] }
     ensures coregion { drawn_pairs (chart_of coregion) ≡ [] }
@@ -76,6 +76,7 @@ pub fn worked_charts()
     ensures single { queue_numbers Single (chart_of relay) ≡ 0 ∷ 1 ∷ 2 ∷ [] }
     ensures senders { queue_numbers Pair (chart_of two_senders) ≡ 1 ∷ 7 ∷ [] }
     ensures one { queue_numbers Mailbox (chart_of coregion) ≡ 1 ∷ 1 ∷ [] }
-    ensures enforced { AreEnforcedPairs (wired Mailbox (chart_of two_mailboxes)) two_mailboxes_pairs }
+    ensures enforced { AreEnforcedPairs (wired Mailbox (chart_of two_mailboxes))
+        two_mailboxes_pairs }
     ensures controlled { AreEnforcedPairs (wired Mailbox (chart_of actions)) actions_pairs }
 {}

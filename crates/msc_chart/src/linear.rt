@@ -3,8 +3,8 @@
 //! The events are put into a list one by one, each as soon as all that comes directly before it
 //! stands there: what is drawn before it and, for an input, its output. Each event that was put is
 //! followed by a look at what it may have opened: the input of its message, and the next segment of
-//! its line. So the sorting takes few steps for each event. Where it gets stuck before all events are
-//! put, some event precedes itself in the visual order.
+//! its line. So the sorting takes few steps for each event. Where it gets stuck before all events
+//! are put, some event precedes itself in the visual order.
 
 ghost use Rattle.std.specs.Prelude.{◌≡◌, ℕ, ◌+◌, ◌<◌, ◌≤◌, ◌↔◌, IsTrue, false, length, vec_len, IfOk, OnOk, IfErr};
 ghost use Rattle.std.specs.Bool.{OnTrue, OnFalse};
@@ -86,7 +86,8 @@ fn move_first(events: &[ChartEvent], sorting: &mut Sorting, i: u32) -> usize
     ensures marks { sorting.new.is_put ≡ sorting.old.is_put }
     ensures same { sorting.new.left ≡ sorting.old.left }
     ensures below { NoneLeftBelow events.now sorting.new.is_put.items i result }
-    ensures left { result < length events.now → IsLeftOn events.now sorting.new.is_put.items i result }
+    ensures left { result < length events.now
+        → IsLeftOn events.now sorting.new.is_put.items i result }
     ensures within { result ≤ length events.now }
 {
     let from = sorting.first[i as usize] as usize;
@@ -119,7 +120,8 @@ fn put(events: &[ChartEvent], sorting: &mut Sorting, e: usize) -> Result<bool, A
     ensures sorting { OnOk result (IsSorting events.now sorting.new) }
     ensures put { IfOk result (λ r. OnTrue r (sorting.new.left + 1 ≡ sorting.old.left)) }
     ensures same { IfOk result (λ r. OnFalse r (sorting.new.left ≡ sorting.old.left)) }
-    ensures marks { IfOk result (λ r. OnFalse r (sorting.new.is_put.items ≡ sorting.old.is_put.items)) }
+    ensures marks { IfOk result (λ r.
+        OnFalse r (sorting.new.is_put.items ≡ sorting.old.is_put.items)) }
     ensures stuck { IfOk result (λ r. OnFalse r (IsStuckAt events.now sorting.new.is_put.items e)) }
 {
     if sorting.is_put[e] {
@@ -168,8 +170,8 @@ fn put_opened(events: &[ChartEvent], sorting: &mut Sorting, e: usize) -> Result<
     put_segment(events, sorting, next)
 }
 
-/// Looks behind each event of the order from this place on, as far as the order grows; answers where
-/// it ends.
+/// Looks behind each event of the order from this place on, as far as the order grows; answers
+/// where it ends.
 fn follow(events: &[ChartEvent], sorting: &mut Sorting, from: usize) -> Result<usize, AllocError>
     requires sorting { IsSorting events.now sorting.old }
     ensures sorting { OnOk result (IsSorting events.now sorting.new) }

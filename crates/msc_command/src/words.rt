@@ -329,10 +329,11 @@ fn is_study(view: View) -> bool
     view.closest || view.why || leaves_out || view.most < u32::MAX
 }
 
-/// What the words of `msc check` ask for. Without an option besides `--show` it is the verdict; what
-/// is to be quiet lists no race.
+/// What the words of `msc check` ask for. Without an option besides `--show` it is the verdict;
+/// what is to be quiet lists no race.
 fn checking(queues: Queues, words: &ArgMatches) -> Task
-    ensures { architecture (found_of words.now) ≡ Some queues → AsksToCheck (found_of words.now) result }
+    ensures { architecture (found_of words.now) ≡ Some queues
+        → AsksToCheck (found_of words.now) result }
 {
     if is_given(words, "quiet") {
         return Task::Judge(

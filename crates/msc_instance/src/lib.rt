@@ -1,9 +1,9 @@
 //! Instances of a chart on threads: each runs its line by itself, over queues.
 //!
-//! [`Gate`] decides when an event may happen; [`InstanceEnds`] are an instance's ends of its queues.
-//! An instance sends what its line lets it send, takes what comes, and logs each event; its clock is
-//! after Lamport (1978). Instances, events and messages are numbered as in the chart, queues as the
-//! architecture numbers them. What an execution is stands in `msc_execution`.
+//! [`Gate`] decides when an event may happen; [`InstanceEnds`] are an instance's ends of its
+//! queues. An instance sends what its line lets it send, takes what comes, and logs each event; its
+//! clock is after Lamport (1978). Instances, events and messages are numbered as in the chart,
+//! queues as the architecture numbers them. What an execution is stands in `msc_execution`.
 #![tactic(auto)]
 
 mod active;

@@ -66,11 +66,11 @@ impl Active {
     }
 }
 
-/// Runs instance `i` of a chart with these ends, which fit, and logs its events into `log`. It sends
-/// what its line lets it send and takes what comes, until all its events are logged or another end
-/// is reached; its outlets are closed then. `patience` is how many rounds of takes in a row may find
-/// nothing. It never waits for another thread: an empty round gives up the rest of its time slice.
-/// It takes no memory.
+/// Runs instance `i` of a chart with these ends, which fit, and logs its events into `log`. It
+/// sends what its line lets it send and takes what comes, until all its events are logged or
+/// another end is reached; its outlets are closed then. `patience` is how many rounds of takes in a
+/// row may find nothing. It never waits for another thread: an empty round gives up the rest of its
+/// time slice. It takes no memory.
 pub fn run_instance<G: Gate>(
     chart: &Chart,
     i: u32,

@@ -19,7 +19,8 @@ pub(crate) enum Sending {
 }
 
 impl Active {
-    /// Does the next event, an output or a local event, where the gate lets it. False: it is stopped.
+    /// Does the next event, an output or a local event, where the gate lets it. False: it is
+    /// stopped.
     pub fn do_next<G: Gate>(&mut self, chart: &Chart, post: &Post, gate: &G) -> bool
         requires sound { IsSound chart.now post.now self.old }
         requires within { self.old.next < post.now.end }

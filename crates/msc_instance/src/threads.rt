@@ -156,8 +156,8 @@ fn stop(answer: Answer, mut jobs: Vec<Job>, mut answers: Vec<Answer>) -> Gathere
 
 /// Starts the thread of the first instance, does the same for the rest, and joins the first. The
 /// last job is the first instance's, and so is the last of what comes back. Where a thread can't be
-/// started, no later one is, and the outlets of its instance and of all later ones are closed before
-/// an earlier one is joined, so that the earlier ones end.
+/// started, no later one is, and the outlets of its instance and of all later ones are closed
+/// before an earlier one is joined, so that the earlier ones end.
 fn run_rest<'s, 'e, R: Threads + Wait + Sync, G: Gate + Sync>(
     rt: &'e R,
     scope: &Scope<'s, &'e ()>,

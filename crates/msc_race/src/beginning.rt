@@ -51,7 +51,8 @@ impl Beginning {
     /// Whether a free event is left.
     fn has_free(&self) -> bool
         requires { HasFirstWords self.now.remaining self.now.lines.left.items }
-        ensures { IsTrue result ↔ HaveCommon self.now.remaining.free.items self.now.lines.left.items }
+        ensures { IsTrue result
+            ↔ HaveCommon self.now.remaining.free.items self.now.lines.left.items }
     {
         self.remaining.free_from < self.remaining.free.len()
     }

@@ -14,8 +14,8 @@ use msc_chart::Event;
 use msc_chart::laws::ends_share_queues;
 use std::alloc::{AllocError, Global};
 
-/// The events that are free of `e`, those of them that are not held, and the outputs to the queue of
-/// `e` that are passed on; and the first words in which free events, and such outputs, are left.
+/// The events that are free of `e`, those of them that are not held, and the outputs to the queue
+/// of `e` that are passed on; and the first words in which free events, and such outputs, are left.
 #[derive(Drop)]
 pub struct Remaining {
     pub free: Vec<u64>,

@@ -1,8 +1,8 @@
 //! The line of a race, put together of the parts of its two events.
 //!
 //! Most parts are short. They are copied as blocks of a size that the compiler knows, which takes a
-//! few instructions for each, into room that was asked for once; what a block has too much is written
-//! over by the next one, and dropped behind the last.
+//! few instructions for each, into room that was asked for once; what a block has too much is
+//! written over by the next one, and dropped behind the last.
 
 ghost use Rattle.std.specs.Prelude.{◌≡◌, ◌+◌, ◌≤◌, ◌++◌, IsTrue, IfOk, OnOk, length, slice_range, take};
 ghost use Rattle.msc_report.specs.Spans.{text_at, with_parts, AreShort, IsSpanIn};
@@ -34,8 +34,8 @@ pub(crate) fn are_short(bytes: &[u8], one: &Span, two: &Span) -> bool
         && bytes.len() - two.second >= WORDS
 }
 
-/// Puts the bytes from one place to another into a room, as a block of N bytes. It answers the place
-/// behind them in the room.
+/// Puts the bytes from one place to another into a room, as a block of N bytes. It answers the
+/// place behind them in the room.
 #[inline(always)]
 fn put_block<const N: usize>(
     room: &mut [u8],

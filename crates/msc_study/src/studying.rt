@@ -141,8 +141,8 @@ pub fn study_input<R: Read, W: Write>(
     ensures refused { RefusesInput (R.remaining reader.old) result }
     ensures no_chart { RefusesInputDraft (R.remaining reader.old) result }
     ensures started { StartsNothing result }
-    ensures read { OnRead (R.remaining reader.old) (R.remaining reader.new) result (λ bytes. StudiesText
-        bytes queues view result (W.contents writer.old) (W.contents writer.new)) }
+    ensures read { OnRead (R.remaining reader.old) (R.remaining reader.new) result (λ bytes.
+        StudiesText bytes queues view result (W.contents writer.old) (W.contents writer.new)) }
     ensures begun { IfErr result (λ e. e ≡ Fault.Memory → (writer.new ≡ writer.old)
         ⊎ IfSome (R.remaining reader.old) (λ bytes. BeginsStudy
         bytes queues view (W.contents writer.old) (W.contents writer.new))) }
