@@ -1,3 +1,5 @@
+-- what is promised
 pub mod Rows
-pub mod Sets
 pub mod Tables
+-- what the code keeps
+pub mod Sets

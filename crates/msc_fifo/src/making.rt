@@ -66,16 +66,38 @@ fn ends(alloc: Global, quotas: &[u32], messages: usize) -> Result<(Vec<Outlet>, 
     ensures outlets { IfOk result (λ r. r.0.items ≡ new_outlets r.1.queue 0 quotas.now) }
 {
     let places = messages + quotas.len();
-    let mut outlets = Vec::with_capacity(alloc, quotas.len())?;
     let got = Vec::with_capacity(alloc, places)?;
     let (row, mut ticket) = row(alloc, places)?;
+    let outlets = outlets(alloc, &row, &mut ticket, quotas)?;
+    let inlet = Inlet::new(row, ticket, quotas.len() as u32, got);
+    Ok((outlets, inlet))
+}
+
+/// The outlets of all senders, in order, each with room for its quota.
+fn outlets(
+    alloc: Global,
+    row: &Shelf,
+    ticket: &mut Ticket,
+    quotas: &[u32],
+) -> Result<Vec<Outlet>, AllocError>
+    requires seat { IsTicketOf (arc_value row.now) ticket.old }
+    requires view { knows ticket.old
+        ≡ receives (arc_value row.now).shared.key (knows ticket.old).room 0 [] [] }
+    requires room { (knows ticket.old).room ≡ sum quotas.now + length quotas.now }
+    requires few { length quotas.now ≤ SENDER_LIMIT }
+    ensures seat { OnOk result (IsTicketOf (arc_value row.now) ticket.new) }
+    ensures view { OnOk result (knows ticket.new ≡ receives (arc_value row.now).shared.key
+        (knows ticket.new).room (length quotas.now) [] []) }
+    ensures outlets { IfOk result
+        (λ o. o.items ≡ new_outlets (queue_of (arc_value row.now)) 0 quotas.now) }
+{
+    let mut outlets = Vec::with_capacity(alloc, quotas.len())?;
     let mut number = 0;
     for quota in quotas {
-        outlets.push_reserved(outlet::<Brand>(alloc, &row, &mut ticket, number, *quota)?);
+        outlets.push_reserved(outlet::<Brand>(alloc, row, ticket, number, *quota)?);
         number += 1;
     }
-    let inlet = Inlet::new(row, ticket, number, got);
-    Ok((outlets, inlet))
+    Ok(outlets)
 }
 
 /// The words of a queue with so many places, all empty, and the inlet's ticket.

@@ -2,7 +2,7 @@ use Rattle.std.proofs.Common.{◌≡◌, ◌+◌, [], sum, take, vec_capacity, l
 use Rattle.std.specs.Arc.{arc_value}
 use Rattle.msc_fifo.specs.Ends.{new_outlets}
 use Rattle.msc_fifo.specs.Views.{receives, IsTicketOf, knows, queue_of}
-use Rattle.msc_fifo.proofs.making.ends.Given as goal
+use Rattle.msc_fifo.proofs.making.outlets.Given as goal
 
 abbrev pub ghosts-outlet : goal.ghosts-outlet
 ghosts-outlet a = record { room = a.quota + 1 }
