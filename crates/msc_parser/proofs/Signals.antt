@@ -14,7 +14,7 @@ use Rattle.msc_parser.specs.declared.fault.ParseFault.{ParseFault}
 use Rattle.msc_parser.specs.Forms.{IsToken, IsNamed, AreListed}
 use Rattle.msc_parser.specs.Grammar.{address_word, IsNumber, AreParameters, Absent, Empty, Given}
 use Rattle.msc_parser.specs.Places.{Place, Message, AfterMessage, Number, AfterNumber, Parameters, Parameter, AfterParameter, AfterParameters, Address, StatementEnd, next, address_what}
-use Rattle.msc_parser.specs.Reading.{first_kind, fault_from, Stops, DidTake, Refuses, TakesName, DidEnd, DidRead, IsSignalOf}
+use Rattle.msc_parser.specs.Reading.{first_kind, fault_from, Stops, DidTake, Refuses, TakesName, DidEnd, DidRead, IsAddressOf, IsSignalOf}
 use Rattle.msc_parser.proofs.Leading.{comma_leads, open_leads, word_leads}
 use Rattle.msc_parser.proofs.Steps.{others, took, leads_on, fault_but, OnlyTakes, stops_here, refuses_kind, name_stops, refuses_name, Stops-back}
 use Rattle.msc_parser.proofs.Endings.{stuck_but_two}
@@ -232,28 +232,44 @@ pub address_refused : (text : List ℕ) (p : Place) (a : List Token) (e : ParseF
 address_refused text p a e refused =
     refuses_name text (Address p) whats.Name a e (λ len ls. refl) (only-Address p) refl refused
 
--- an event behind its first word is its ident, a word, an address and an end
+-- an address is a word, a name and an end
+pub address_read : (text : List ℕ) (w : Way) (p : Place) {a b c d : List Token} {m : List ℕ} {v : Word}
+    → v ≡ address_word w → DidTake text (Reserved v) a b → DidTake text (Named m) b c → DidEnd text c d
+    → DidRead text (IsAddressOf w) (AfterParameters w p) p a d m
+address_read text w p {a} {b} {c} {d} {m} {v} same word address end = record {
+  part = record {
+    address = lexemes text b;
+    close = lexemes text c;
+    is_word = subst (λ (u : Word). IsToken (Reserved u) (lexemes text a) (lexemes text b)) same word.part;
+    is_address = address.part;
+    is_end = end.part;
+  };
+  within = end.within;
+  shorter = omega (arith, word.shorter, address.shorter, end.shorter);
+  leads = address_leads text w p a b v same word ∙ end_leads text p b c m address ∙ end.leads p;
+}
+
+-- an event behind its first word is its ident and its address
 pub signal_read : (text : List ℕ) (w : Way) (p : Place)
-    {a b c d e f g : List Token} {n m : List ℕ} {o : Option (List ℕ)} {ps : List (List ℕ)} {v : Word}
+    {a b c d e : List Token} {n m : List ℕ} {o : Option (List ℕ)} {ps : List (List ℕ)}
     → DidTake text (Named n) a b → DidRead text IsNumber (AfterMessage w p) (AfterNumber w p) b c o
     → DidRead text AreParameters (AfterNumber w p) (AfterParameters w p) c d ps
-    → v ≡ address_word w → DidTake text (Reserved v) d e → DidTake text (Named m) e f
-    → DidEnd text f g
-    → DidRead text (IsSignalOf w) (Message w p) p a g record { way = w; name = n; number = o; parameters = ps; address = m }
-signal_read text w p {a} {b} {c} {d} {e} {f} {g} {n} {m} {v = v} name number parameters same word address end = record {
+    → DidRead text (IsAddressOf w) (AfterParameters w p) p d e m
+    → DidRead text (IsSignalOf w) (Message w p) p a e record { way = w; name = n; number = o; parameters = ps; address = m }
+signal_read text w p {a} {b} {c} {d} {n = n} name number parameters address = record {
   part = (
     refl,
     record {
       word = lexemes text d;
-      address = lexemes text e;
-      close = lexemes text f;
+      address = address.part.address;
+      close = address.part.close;
       is_ident = record { number = lexemes text b; parameters = lexemes text c; is_name = name.part; is_number = number.part; are_parameters = parameters.part };
-      is_word = subst (λ (u : Word). IsToken (Reserved u) (lexemes text d) (lexemes text e)) same word.part;
-      is_address = address.part;
-      is_end = end.part;
+      is_word = address.part.is_word;
+      is_address = address.part.is_address;
+      is_end = address.part.is_end;
     },
   );
-  within = end.within;
-  shorter = omega (arith, name.shorter, number.shorter, parameters.shorter, word.shorter, address.shorter, end.shorter);
-  leads = message_leads text w p a b n name ∙ number.leads ∙ parameters.leads ∙ address_leads text w p d e v same word ∙ end_leads text p e f m address ∙ end.leads p;
+  within = address.within;
+  shorter = omega (arith, name.shorter, number.shorter, parameters.shorter, address.shorter);
+  leads = message_leads text w p a b n name ∙ number.leads ∙ parameters.leads ∙ address.leads;
 }

@@ -7,7 +7,7 @@ use Rattle.msc_lexer.specs.declared.word.Word.TheVariants as words
 use Rattle.msc_lexer.specs.declared.token.Kind.{Kind}
 use Rattle.msc_lexer.specs.declared.token.Kind.TheVariants as kinds
 use Rattle.msc_lexer.specs.declared.token.Token.{Token}
-use Rattle.msc_lexer.specs.Lexemes.{Symbol, Named, Quoted, Lexeme, lexemes, symbol_of, AreWithin}
+use Rattle.msc_lexer.specs.Lexemes.{Symbol, Reserved, Named, Quoted, Lexeme, lexemes, symbol_of, AreWithin}
 use Rattle.msc_parser.specs.declared.tree.Way.{Way}
 use Rattle.msc_parser.specs.declared.tree.Signal.{Signal}
 use Rattle.msc_parser.specs.declared.tree.Statement.{Statement}
@@ -19,7 +19,7 @@ use Rattle.msc_parser.specs.declared.fault.What.TheVariants as whats
 use Rattle.msc_parser.specs.declared.fault.ParseFault.{ParseFault}
 use Rattle.msc_parser.specs.declared.fault.ParseFault.TheVariants.{Memory}
 use Rattle.msc_parser.specs.Forms.{IsToken, AreMany}
-use Rattle.msc_parser.specs.Grammar.{Tree, IsEnd, way_word, IsSignal, IsAction, IsChart}
+use Rattle.msc_parser.specs.Grammar.{Tree, IsEnd, way_word, address_word, IsSignal, IsAction, IsChart}
 use Rattle.msc_parser.specs.Places.{Place, Start, Message, ActionText, StatementEnd, Done, what, walk}
 use Rattle.msc_parser.specs.Parsing.{fault_at}
 
@@ -108,6 +108,14 @@ Uses before (Err e) = Unit {0}
 abbrev pub Leaves : {X : Type 0} → Kind → Result (X × Bor (List Token)) ParseFault → Type 0
 Leaves kind (Ok x) = first_kind x.1.now ≢ Some kind
 Leaves kind (Err e) = Unit {0}
+
+-- the address of a message event of this way: a word, a name and an end
+pub record IsAddressOf (way : Way) (before : List Lexeme) (name : List ℕ) (after : List Lexeme) : Type 0 where
+  pub address : List Lexeme
+  pub close : List Lexeme
+  pub is_word : IsToken (Reserved (address_word way)) before address
+  pub is_address : IsToken (Named name) address close
+  pub is_end : IsEnd close after
 
 -- a message event of this way, behind its first word
 abbrev pub IsSignalOf : Way → List Lexeme → Signal → List Lexeme → Type 0

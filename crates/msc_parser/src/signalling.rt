@@ -9,7 +9,7 @@ ghost use Rattle.msc_parser.specs.Forms.{IsNamed, AreListed};
 ghost use Rattle.msc_parser.specs.Grammar.{address_word, IsNumber, AreParameters};
 ghost use Rattle.msc_parser.specs.Places.{Place, Message, AfterMessage, AfterNumber, Parameters};
 ghost use Rattle.msc_parser.specs.Places.{AfterParameter, AfterParameters, address_what};
-ghost use Rattle.msc_parser.specs.Reading.{first_kind, Reads, Leaves, IsSignalOf};
+ghost use Rattle.msc_parser.specs.Reading.{first_kind, Reads, Leaves, IsAddressOf, IsSignalOf};
 
 use crate::fault::{ParseFault, What};
 use crate::name::Name;
@@ -101,6 +101,28 @@ fn parameters<'a>(
     Ok((names, rest))
 }
 
+/// The address of a message event of this way, from the word before it to the end of the statement.
+fn address<'a>(
+    alloc: Global,
+    way: Way,
+    text: &[u8],
+    tokens: &'a [Token],
+) -> Result<(Name, &'a [Token]), ParseFault>
+    requires { AreWithin text.now tokens.now }
+    ensures { (p : Place) →
+        Reads text.now (IsAddressOf way) (AfterParameters way p) p tokens.now result }
+{
+    let rest = take(
+        Kind::Word(address_word(way)),
+        address_what(way),
+        text,
+        tokens,
+    )?;
+    let (address, rest) = take_name(alloc, What::Name, text, rest)?;
+    let rest = take_end(text, rest)?;
+    Ok((address, rest))
+}
+
 /// A message event of this way, behind its first word.
 pub fn signal<'a>(
     alloc: Global,
@@ -114,9 +136,7 @@ pub fn signal<'a>(
     let (name, rest) = take_name(alloc, What::Name, text, tokens)?;
     let (number, rest) = number(alloc, text, rest)?;
     let (parameters, rest) = parameters(alloc, text, rest)?;
-    let rest = take(Kind::Word(address_word(way)), address_what(way), text, rest)?;
-    let (address, rest) = take_name(alloc, What::Name, text, rest)?;
-    let rest = take_end(text, rest)?;
+    let (address, rest) = address(alloc, way, text, rest)?;
     let signal = Signal {
         way,
         name,

@@ -1,8 +1,8 @@
 use Rattle.std.proofs.Common.{◌∙◌}
 use Rattle.msc_parser.specs.declared.tree.Way.TheVariants.{Output}
-use Rattle.msc_parser.specs.Places.{Start, Message, AfterMessage, AfterNumber, AfterParameters, Address, StatementEnd}
+use Rattle.msc_parser.specs.Places.{Start, Message, AfterMessage, AfterNumber, AfterParameters}
 use Rattle.msc_parser.proofs.Steps.{exits, Stops-back}
-use Rattle.msc_parser.proofs.Signals.{signal_refused, message_leads, address_leads, end_leads, word_refused, address_refused, signal_read}
+use Rattle.msc_parser.proofs.Signals.{signal_refused, message_leads, signal_read}
 use Rattle.msc_parser.proofs.signalling.signal.Goals as goal
 
 pub returns-in_err-name : goal.returns-in_err-name
@@ -24,34 +24,18 @@ returns-in_err-parameters c = λ p.
     exits c.args.text.now _ (Message w p) p c.args.tokens.now _ c.in_err-parameters.field-0.0 c.from_residual-in_err-parameters.ensures.1
     (Stops-back c.args.text.now (Message w p) (AfterNumber w p) c.args.tokens.now c.in_ok-number.rest.now _ (message_leads c.args.text.now w p _ _ _ c.in_ok-name.ensures ∙ (c.in_ok-number.ensures w p).leads) (c.in_err-parameters.ensures w p))
 
-pub take-requires : goal.take-requires
-take-requires c = (c.in_ok-parameters.ensures Output Start).within
-
-pub returns-in_err-rest : goal.returns-in_err-rest
-returns-in_err-rest c = λ p.
-    let w = c.args.way in
-    exits c.args.text.now _ (Message w p) p c.args.tokens.now _ c.in_err-rest.field-0.0 c.from_residual-in_err-rest.ensures.1
-    (Stops-back c.args.text.now (Message w p) (AfterParameters w p) c.args.tokens.now c.in_ok-parameters.rest.now _
-    (message_leads c.args.text.now w p _ _ _ c.in_ok-name.ensures ∙ (c.in_ok-number.ensures w p).leads ∙ (c.in_ok-parameters.ensures w p).leads)
-    (word_refused c.args.text.now w p _ c.address_word.result c.address_what.result _ c.address_word.ensures c.address_what.ensures c.in_err-rest.ensures))
+pub address-requires : goal.address-requires
+address-requires c = (c.in_ok-parameters.ensures Output Start).within
 
 pub returns-in_err-address : goal.returns-in_err-address
 returns-in_err-address c = λ p.
     let w = c.args.way in
     exits c.args.text.now _ (Message w p) p c.args.tokens.now _ c.in_err-address.field-0.0 c.from_residual-in_err-address.ensures.1
-    (Stops-back c.args.text.now (Message w p) (Address p) c.args.tokens.now c.in_ok-rest.rest.now _
-    (message_leads c.args.text.now w p _ _ _ c.in_ok-name.ensures ∙ (c.in_ok-number.ensures w p).leads ∙ (c.in_ok-parameters.ensures w p).leads ∙ address_leads c.args.text.now w p _ _ c.address_word.result c.address_word.ensures c.in_ok-rest.ensures.1)
-    (address_refused c.args.text.now p _ _ c.in_err-address.ensures))
-
-pub returns-in_err-rest-2 : goal.returns-in_err-rest-2
-returns-in_err-rest-2 c = λ p.
-    let w = c.args.way in
-    exits c.args.text.now _ (Message w p) p c.args.tokens.now _ c.in_err-rest-2.field-0.0 c.from_residual-in_err-rest-2.ensures.1
-    (Stops-back c.args.text.now (Message w p) (StatementEnd p) c.args.tokens.now c.in_ok-address.rest.now _
-    (message_leads c.args.text.now w p _ _ _ c.in_ok-name.ensures ∙ (c.in_ok-number.ensures w p).leads ∙ (c.in_ok-parameters.ensures w p).leads ∙ address_leads c.args.text.now w p _ _ c.address_word.result c.address_word.ensures c.in_ok-rest.ensures.1 ∙ end_leads c.args.text.now p _ _ _ c.in_ok-address.ensures)
-    (c.in_err-rest-2.ensures p))
+    (Stops-back c.args.text.now (Message w p) (AfterParameters w p) c.args.tokens.now c.in_ok-parameters.rest.now _
+    (message_leads c.args.text.now w p _ _ _ c.in_ok-name.ensures ∙ (c.in_ok-number.ensures w p).leads ∙ (c.in_ok-parameters.ensures w p).leads)
+    (c.in_err-address.ensures p))
 
 pub returns : goal.returns
 returns c = λ p.
     let w = c.args.way in
-    signal_read c.args.text.now w p c.in_ok-name.ensures (c.in_ok-number.ensures w p) (c.in_ok-parameters.ensures w p) c.address_word.ensures c.in_ok-rest.ensures.1 c.in_ok-address.ensures c.in_ok-rest-2.ensures
+    signal_read c.args.text.now w p c.in_ok-name.ensures (c.in_ok-number.ensures w p) (c.in_ok-parameters.ensures w p) (c.in_ok-address.ensures p)
