@@ -26,3 +26,4 @@ pub mod Told
 pub mod Emptied
 pub mod Returned
 pub mod Answered
+pub mod Sendings

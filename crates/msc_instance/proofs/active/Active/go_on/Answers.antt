@@ -1,8 +1,10 @@
-use Rattle.std.proofs.Common.{refl, ◌∙◌}
+use Rattle.std.proofs.Common.{refl, sym, ◌∙◌}
 use Rattle.std.specs.Vec.{with_items}
+use Rattle.std.proofs.lemmas.Bool.{true≢false, false≢true}
 use Rattle.std.proofs.lemmas.List.{with_items_is}
 use Rattle.msc_instance.specs.Active.{logged_by}
 use Rattle.msc_instance.proofs.Logs.{none_due}
+use Rattle.msc_instance.proofs.Sendings.{done_stopped, waits_stopped}
 use Rattle.msc_instance.proofs.Sound.{has_closed}
 use Rattle.msc_instance.proofs.active.Active.go_on.Goals as goal
 
@@ -27,3 +29,33 @@ returns-else-not-self-clause-blocked g c =
     let a = c.do_ready.new.self in let s = c.do_ready.ensures.sound in
     λ _. none_due c.args.chart.now c.args.post.now s.post (logged_by a) a.next s.next
     (c.in-Done.ensures.done refl)
+
+pub returns-in-Stopped-clause-blocked : goal.returns-in-Stopped-clause-blocked
+returns-in-Stopped-clause-blocked g c = λ other. absurd (false≢true other)
+
+pub returns-in-Stopped-clause-first : goal.returns-in-Stopped-clause-first
+returns-in-Stopped-clause-first g c = λ other. absurd (false≢true other)
+
+pub returns-in-Stopped-clause-stopped : goal.returns-in-Stopped-clause-stopped
+returns-in-Stopped-clause-stopped g c = λ gate e. c.do_ready.ensures.stopped gate c.in-Stopped.is
+
+pub returns-in-Waits-clause-blocked : goal.returns-in-Waits-clause-blocked
+returns-in-Waits-clause-blocked g c = λ e. c.do_ready.ensures.waits c.in-Waits.is
+
+pub returns-in-Waits-clause-first : goal.returns-in-Waits-clause-first
+returns-in-Waits-clause-first g c = λ e. c.do_ready.ensures.first (λ other. waits_stopped (sym c.in-Waits.is ∙ other))
+
+pub returns-in-Waits-clause-stopped : goal.returns-in-Waits-clause-stopped
+returns-in-Waits-clause-stopped g c = λ gate other. absurd (true≢false other)
+
+pub returns-then-not-self-clause-stopped : goal.returns-then-not-self-clause-stopped
+returns-then-not-self-clause-stopped g c = λ gate other. absurd (true≢false other)
+
+pub returns-then-not-self-clause-first : goal.returns-then-not-self-clause-first
+returns-then-not-self-clause-first g c = λ e. c.do_ready.ensures.first (λ other. done_stopped (sym c.in-Done.is ∙ other))
+
+pub returns-else-not-self-clause-first : goal.returns-else-not-self-clause-first
+returns-else-not-self-clause-first g c = λ e. c.do_ready.ensures.first (λ other. done_stopped (sym c.in-Done.is ∙ other))
+
+pub returns-else-not-self-clause-stopped : goal.returns-else-not-self-clause-stopped
+returns-else-not-self-clause-stopped g c = λ gate other. absurd (true≢false other)
