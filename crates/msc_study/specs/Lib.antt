@@ -9,3 +9,4 @@ pub mod Views
 -- what the code keeps
 pub mod Counting
 pub mod Explained
+pub mod Studied

@@ -7,6 +7,7 @@ ghost use Rattle.msc_order.specs.Tables.{orders};
 ghost use Rattle.msc_race.specs.Races.{IsVerdict};
 ghost use Rattle.msc_study.specs.Counting.{IsListing};
 ghost use Rattle.msc_study.specs.Lines.{study_head};
+ghost use Rattle.msc_study.specs.Studied.{BeginsChartStudy, StudiesChart};
 ghost use Rattle.msc_study.specs.Studying.{BeginsStudy, PrintsStudy, StudiesText, WritesStudy};
 ghost use Rattle.msc_text.specs.Answers.{OnRead, RefusesInput, RefusesText, StartsNothing};
 ghost use Rattle.msc_text.specs.Checking.{RefusesDraft, RefusesInputDraft};
@@ -96,6 +97,27 @@ fn write_study<W: Write>(
     Ok(made.passed)
 }
 
+/// Writes a study of a chart's races; answers whether no race is left that is not allowed.
+fn study_chart<W: Write>(
+    alloc: Global,
+    chart: &Chart,
+    queues: Queues,
+    view: View,
+    writer: &mut W,
+) -> Result<bool, Fault>
+    ensures written { IfOk result (λ passed. (printed : List ℕ)
+        × StudiesChart chart.now queues view passed printed
+        × Appends (W.contents writer.old) (W.contents writer.new) printed) }
+    ensures fault { IfErr result (λ e. (e ≡ Fault.Memory) ⊎ (e ≡ Fault.Device)) }
+    ensures begun { IfErr result (λ e. e ≡ Fault.Memory → (writer.new ≡ writer.old)
+        ⊎ BeginsChartStudy chart.now queues view (W.contents writer.old) (W.contents writer.new)) }
+{
+    let order = Order::enforced(alloc, chart, queues)?;
+    let verdict = check_order(alloc, chart, queues, &order)?;
+    let made = list_races(alloc, chart, queues, &order, &verdict, view)?;
+    write_study(alloc, writer, chart, queues, &order, &verdict, view, &made)
+}
+
 /// Writes a study of the races of a text's chart under an architecture: the head of the verdict,
 /// and of the races that `view` wants the first ones, in order, with what it wants said of them;
 /// answers whether no race is left that is not allowed.
@@ -119,10 +141,7 @@ pub fn study_text<W: Write>(
         (λ e. e ≢ Fault.Memory → e ≢ Fault.Device → writer.new ≡ writer.old) }
 {
     let chart = chart_of_text(alloc, text)?;
-    let order = Order::enforced(alloc, &chart, queues)?;
-    let verdict = check_order(alloc, &chart, queues, &order)?;
-    let made = list_races(alloc, &chart, queues, &order, &verdict, view)?;
-    write_study(alloc, writer, &chart, queues, &order, &verdict, view, &made)
+    study_chart(alloc, &chart, queues, view, writer)
 }
 
 /// Reads an input to its end, and writes a study of the races of its chart, as [`study_text`];
