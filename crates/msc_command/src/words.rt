@@ -195,24 +195,30 @@ fn read_words<'a>(alloc: Global) -> Result<Command<'a>, AllocError> {
         .arg(file(alloc))
 }
 
+/// The words of `msc check` that say which races are listed, and with what.
+fn list_words<'a>(alloc: Global, command: Command<'a>) -> Result<Command<'a>, AllocError> {
+    let closest = "List the closest races alone, and print how many there are";
+    let why = "Print the kind of each race, and the pair of events that would have to be enforced";
+    let most = "List the first N races alone";
+    let show = "Print a run for each of the first N races; without it, for all";
+    command
+        .arg(flag(alloc, "closest", closest))?
+        .arg(flag(alloc, "why", why))?
+        .arg(number(alloc, "most", most))?
+        .arg(number(alloc, "show", show))
+}
+
 /// The words of `msc check`.
 fn check_words<'a>(
     alloc: Global,
     architectures: Choice<'a>,
     kinds: Choice<'a>,
 ) -> Result<Command<'a>, AllocError> {
-    let closest = "List the closest races alone, and print how many there are";
-    let why = "Print the kind of each race, and the pair of events that would have to be enforced";
-    let most = "List the first N races alone";
-    let show = "Print a run for each of the first N races; without it, for all";
-    Command::new(alloc, "check")
+    let command = Command::new(alloc, "check")
         .about("Print whether the chart has races, and for each a run that shows it")
         .after_help(CHECK_NOTES)
-        .arg(queues(alloc, architectures))?
-        .arg(flag(alloc, "closest", closest))?
-        .arg(flag(alloc, "why", why))?
-        .arg(number(alloc, "most", most))?
-        .arg(number(alloc, "show", show))?
+        .arg(queues(alloc, architectures))?;
+    list_words(alloc, command)?
         .arg(allow(alloc, kinds))?
         .arg(flag(alloc, "quiet", "Print nothing; the status tells").short('q'))?
         .arg(file(alloc))
@@ -248,22 +254,30 @@ fn run_words<'a>(alloc: Global, architectures: Choice<'a>) -> Result<Command<'a>
         .arg(file(alloc))
 }
 
+/// A command with a further one below it, if there is room for both.
+fn with<'a>(
+    command: Command<'a>,
+    below: Result<Command<'a>, AllocError>,
+) -> Result<Command<'a>, AllocError> {
+    command.subcommand(below?)
+}
+
 /// The words that the program takes.
 pub fn grammar<'a>(
     alloc: Global,
     architectures: Choice<'a>,
     kinds: Choice<'a>,
 ) -> Result<Command<'a>, AllocError> {
-    Command::new(alloc, "msc")
+    let command = Command::new(alloc, "msc")
         .bin_name("msc")?
         .version(VERSION)
         .about("Check message sequence charts for races, and run them")
         .after_help(NOTES)
-        .subcommand_required(true)
-        .subcommand(read_words(alloc)?)?
-        .subcommand(check_words(alloc, architectures, kinds)?)?
-        .subcommand(explain_words(alloc, architectures)?)?
-        .subcommand(run_words(alloc, architectures)?)
+        .subcommand_required(true);
+    let command = with(command, read_words(alloc))?;
+    let command = with(command, check_words(alloc, architectures, kinds))?;
+    let command = with(command, explain_words(alloc, architectures))?;
+    with(command, run_words(alloc, architectures))
 }
 
 /// The event that an argument names, if it does.
