@@ -7,7 +7,7 @@ use std::alloc::{AllocError, Global};
 use std::test::Fail;
 
 /// Charts with actions, and their canonical texts.
-const CHARTS: [(&[u8], &[u8]); 4] = [
+const CHARTS: &[(&[u8], &[u8])] = &[
     (
         b"msc t; instance a; action 'go'; endinstance; endmsc;",
         b"msc t;\ninstance a;\n  action 'go';\nendinstance;\nendmsc;\n",
@@ -54,18 +54,18 @@ fn is_action(draft: &Draft, text: &[u8]) -> bool {
 
 #[test]
 fn actions_are_written_and_read_again(rt: HostRuntime) -> Result<(), Fail> {
-    for (text, wanted) in CHARTS {
+    for &(text, wanted) in CHARTS {
         assert!(rt; is_written_as(rt.alloc(), text, wanted)?, "{text:?}");
     }
     Ok(())
 }
 
 /// Texts in apostrophes, and what they hold.
-const HELD: [(&[u8], &[u8]); 3] = [(b"'it''s'", b"it's"), (b"''", b""), (b"'''''a'", b"''a")];
+const HELD: &[(&[u8], &[u8])] = &[(b"'it''s'", b"it's"), (b"''", b""), (b"'''''a'", b"''a")];
 
 #[test]
 fn what_a_text_holds(rt: HostRuntime) -> Result<(), Fail> {
-    for (text, wanted) in HELD {
+    for &(text, wanted) in HELD {
         assert!(rt; holds(rt.alloc(), text, wanted)?, "{text:?}");
     }
     Ok(())

@@ -11,7 +11,7 @@ pub fn fault(alloc: Global, text: &[u8]) -> Option<ParseFault> {
 }
 
 /// Texts without a draft, and their faults.
-const REFUSED: [(&[u8], ParseFault); 9] = [
+const REFUSED: &[(&[u8], ParseFault)] = &[
     (
         b"msc t; instance a; out m to env; endinstance; endmsc;",
         ParseFault::Unsupported(28, Word::Env),
@@ -37,7 +37,7 @@ const REFUSED: [(&[u8], ParseFault); 9] = [
 
 #[test]
 fn refused_texts(rt: HostRuntime) {
-    for (text, wanted) in REFUSED {
+    for &(text, wanted) in REFUSED {
         assert_eq!(rt; fault(rt.alloc(), text), Some(wanted), "{text:?}");
     }
 }
@@ -48,7 +48,7 @@ fn has_message(alloc: Global, fault: ParseFault, wanted: &str) -> Result<bool, A
 }
 
 /// Faults and their messages.
-const MESSAGES: [(ParseFault, &str); 4] = [
+const MESSAGES: &[(ParseFault, &str)] = &[
     (
         ParseFault::Unsupported(28, Word::Env),
         "env is not supported",
@@ -63,7 +63,7 @@ const MESSAGES: [(ParseFault, &str); 4] = [
 
 #[test]
 fn messages_are_the_printed_words(rt: HostRuntime) -> Result<(), Fail> {
-    for (fault, wanted) in MESSAGES {
+    for &(fault, wanted) in MESSAGES {
         assert!(rt; has_message(rt.alloc(), fault, wanted)?, "{wanted}");
     }
     Ok(())
@@ -76,7 +76,7 @@ fn fault_of_many(alloc: Global, byte: u8, count: usize) -> Result<Option<ParseFa
 }
 
 /// Bytes, how many of them make a text, and its fault.
-const LIMITS: [(u8, usize, ParseFault); 3] = [
+const LIMITS: &[(u8, usize, ParseFault)] = &[
     (b' ', 1_048_577, ParseFault::Lex(LexFault::TooLong)),
     (b' ', 1_048_576, ParseFault::Expected(1_048_576, What::Msc)),
     (b'(', 1_048_576, ParseFault::Expected(0, What::Msc)),
@@ -84,7 +84,7 @@ const LIMITS: [(u8, usize, ParseFault); 3] = [
 
 #[test]
 fn texts_at_the_limit(rt: HostRuntime) -> Result<(), Fail> {
-    for (byte, count, wanted) in LIMITS {
+    for &(byte, count, wanted) in LIMITS {
         assert_eq!(rt;
             fault_of_many(rt.alloc(), byte, count)?,
             Some(wanted),

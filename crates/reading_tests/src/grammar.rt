@@ -73,7 +73,7 @@ fn kinds_numbers_parameters_and_coregions(rt: HostRuntime) -> Result<(), Fail> {
 
 /// Texts without a draft, where the first token stands that is not expected, and what is expected
 /// there.
-const PLACES: [(&[u8], usize, What); 45] = [
+const PLACES: &[(&[u8], usize, What)] = &[
     (b"x", 0, What::Msc),
     (b"msc ;", 4, What::Name),
     (b"msc t; inst ;", 12, What::Name),
@@ -139,7 +139,7 @@ const PLACES: [(&[u8], usize, What); 45] = [
 
 #[test]
 fn a_refused_text_for_each_place(rt: HostRuntime) {
-    for (text, at, what) in PLACES {
+    for &(text, at, what) in PLACES {
         let wanted = Some(ParseFault::Expected(at, what));
         assert_eq!(rt; fault(rt.alloc(), text), wanted, "{text:?}");
     }
@@ -151,7 +151,7 @@ fn fault_of_beginning(alloc: Global, length: usize) -> Option<ParseFault> {
 }
 
 /// Numbers of bytes, and the faults of so many.
-const CUT: [(usize, ParseFault); 13] = [
+const CUT: &[(usize, ParseFault)] = &[
     (50, ParseFault::Lex(LexFault::OpenText(49))),
     (51, ParseFault::Lex(LexFault::OpenText(49))),
     (52, ParseFault::Lex(LexFault::OpenText(49))),
@@ -169,7 +169,7 @@ const CUT: [(usize, ParseFault); 13] = [
 
 #[test]
 fn a_text_that_is_cut(rt: HostRuntime) {
-    for (length, wanted) in CUT {
+    for &(length, wanted) in CUT {
         assert_eq!(rt;
             fault_of_beginning(rt.alloc(), length),
             Some(wanted),

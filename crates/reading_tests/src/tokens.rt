@@ -19,7 +19,7 @@ fn has_tokens(alloc: Global, text: &[u8], wanted: &[Token]) -> bool {
 }
 
 /// Texts and their tokens.
-const TOKENS: [(&[u8], &[Token]); 3] = [
+const TOKENS: &[(&[u8], &[Token])] = &[
     (
         b"in /**/ x1;",
         tokens![
@@ -44,7 +44,7 @@ const TOKENS: [(&[u8], &[Token]); 3] = [
 
 #[test]
 fn a_word_a_name_and_a_mark(rt: HostRuntime) {
-    for (text, wanted) in TOKENS {
+    for &(text, wanted) in TOKENS {
         assert!(rt; has_tokens(rt.alloc(), text, wanted), "{text:?}");
     }
 }
@@ -83,7 +83,7 @@ fn each_reserved_word_in_any_case(rt: HostRuntime) {
 }
 
 /// Texts, and their first lexical faults.
-const FAULTS: [(&[u8], LexFault); 9] = [
+const FAULTS: &[(&[u8], LexFault)] = &[
     (b"a.", LexFault::BadByte(1)),
     (b"a/b", LexFault::BadByte(1)),
     (b"/*/", LexFault::OpenNote(0)),
@@ -102,7 +102,7 @@ fn has_fault(alloc: Global, text: &[u8], wanted: LexFault) -> bool {
 
 #[test]
 fn lexical_faults(rt: HostRuntime) {
-    for (text, wanted) in FAULTS {
+    for &(text, wanted) in FAULTS {
         assert!(rt; has_fault(rt.alloc(), text, wanted), "{text:?}");
     }
 }
