@@ -21,7 +21,7 @@ fn has_fault(alloc: Global, text: &[u8], wanted: Option<ChartFault>) -> bool {
 }
 
 /// Texts, and the faults of their drafts, or none where they are charts.
-const DRAFTS: [(&[u8], Option<ChartFault>); 15] = [
+const DRAFTS: &[(&[u8], Option<ChartFault>)] = &[
     (
         b"msc t; inst a; endmsc;",
         Some(ChartFault::HeaderWithoutBody(0)),
@@ -69,7 +69,7 @@ instance b; in m from a; in m from a; endinstance; endmsc;",
 
 #[test]
 fn drafts_and_their_faults(rt: HostRuntime) {
-    for (text, wanted) in DRAFTS {
+    for &(text, wanted) in DRAFTS {
         assert!(rt; has_fault(rt.alloc(), text, wanted), "{text:?}");
     }
 }
@@ -113,7 +113,7 @@ const SECOND: &str = "endinstance; instance b;";
 const END: Part = ("endinstance; endmsc;", 0, "", "");
 
 /// Charts as large as they may be, and drafts that are too large.
-const LIMITS: [(&[Part], Option<ChartFault>); 7] = [
+const LIMITS: &[(&[Part], Option<ChartFault>)] = &[
     (
         &[
             ("msc t;", 31, "instance i", "; endinstance;"),
@@ -159,7 +159,7 @@ const LIMITS: [(&[Part], Option<ChartFault>); 7] = [
 
 #[test]
 fn the_limits_of_charts(rt: HostRuntime) -> Result<(), Fail> {
-    for (parts, wanted) in LIMITS {
+    for &(parts, wanted) in LIMITS {
         assert!(rt; is_limit(rt.alloc(), parts, wanted)?, "{wanted:?}");
     }
     Ok(())
@@ -189,7 +189,7 @@ const EMPTY_COREGION: &[u8] = b"msc t; instance a; out m to a; concurrent; endco
 in m from a; endinstance; endmsc;";
 
 /// Texts, two events, and what is drawn of them.
-const DRAWN: [(&[u8], Event, Event, Drawn); 4] = [
+const DRAWN: &[(&[u8], Event, Event, Drawn)] = &[
     (COREGION, 1, 2, (4, 0, 0, false)),
     (TWO_SENDERS, 1, 2, (4, 0, 1, true)),
     (EMPTY_COREGION, 0, 1, (2, 0, 1, true)),
@@ -198,7 +198,7 @@ const DRAWN: [(&[u8], Event, Event, Drawn); 4] = [
 
 #[test]
 fn segments_and_what_is_drawn_before(rt: HostRuntime) -> Result<(), Fail> {
-    for (text, e, f, wanted) in DRAWN {
+    for &(text, e, f, wanted) in DRAWN {
         let is = is_drawn(rt.alloc(), text, e, f, wanted)?;
         assert!(rt; is, "({e}, {f}): {text:?}");
     }
@@ -246,7 +246,7 @@ fn is_line(
 }
 
 /// The instances of `relay` and their lines, and the number past the last instance.
-const LINES: [(u32, Option<(Event, Event)>); 4] = [
+const LINES: &[(u32, Option<(Event, Event)>)] = &[
     (0, Some((0, 2))),
     (1, Some((2, 4))),
     (2, Some((4, 6))),
@@ -255,7 +255,7 @@ const LINES: [(u32, Option<(Event, Event)>); 4] = [
 
 #[test]
 fn lines_of_relay(rt: HostRuntime) -> Result<(), Fail> {
-    for (i, wanted) in LINES {
+    for &(i, wanted) in LINES {
         assert!(rt; is_line(rt.alloc(), RELAY, i, wanted)?, "{i}");
     }
     Ok(())
@@ -279,7 +279,7 @@ fn is_event(alloc: Global, text: &[u8], e: Event, wanted: Shown) -> Result<bool,
 }
 
 /// Texts, an event, and what is shown of it.
-const EVENTS: [(&[u8], Event, Shown); 6] = [
+const EVENTS: &[(&[u8], Event, Shown)] = &[
     (RELAY, 1, (0, EventKind::Output, Some(4), Some(1))),
     (RELAY, 2, (1, EventKind::Input, Some(0), Some(0))),
     (RELAY, 3, (1, EventKind::Input, Some(5), Some(2))),
@@ -290,7 +290,7 @@ const EVENTS: [(&[u8], Event, Shown); 6] = [
 
 #[test]
 fn events_of_charts(rt: HostRuntime) -> Result<(), Fail> {
-    for (text, e, wanted) in EVENTS {
+    for &(text, e, wanted) in EVENTS {
         assert!(rt; is_event(rt.alloc(), text, e, wanted)?, "{e}: {text:?}");
     }
     Ok(())
@@ -311,7 +311,7 @@ const QUOTED: &[u8] = b"msc t; instance a; action 'it''s'; out m to a; action ''
 endinstance; endmsc;";
 
 /// Texts, an event, and its label.
-const LABELS: [(&[u8], Event, Option<&[u8]>); 5] = [
+const LABELS: &[(&[u8], Event, Option<&[u8]>)] = &[
     (LOCAL_EVENTS, 0, Some(b"go")),
     (LOCAL_EVENTS, 2, None),
     (LOCAL_EVENTS, 3, Some(b"done")),
@@ -321,7 +321,7 @@ const LABELS: [(&[u8], Event, Option<&[u8]>); 5] = [
 
 #[test]
 fn labels_of_local_events(rt: HostRuntime) -> Result<(), Fail> {
-    for (text, e, wanted) in LABELS {
+    for &(text, e, wanted) in LABELS {
         assert!(rt; is_label(rt.alloc(), text, e, wanted)?, "{e}: {text:?}");
     }
     Ok(())
@@ -349,7 +349,7 @@ fn is_sent(alloc: Global, text: &[u8], m: u32, wanted: Option<Sent>) -> Result<b
 }
 
 /// The messages of `relay`, and the number past the last one.
-const SENT: [(u32, Option<Sent>); 4] = [
+const SENT: &[(u32, Option<Sent>)] = &[
     (0, Some(((0, 2, 0, 1), [1, 1, 0]))),
     (1, Some(((1, 4, 0, 2), [2, 2, 1]))),
     (2, Some(((5, 3, 2, 1), [7, 1, 2]))),
@@ -358,7 +358,7 @@ const SENT: [(u32, Option<Sent>); 4] = [
 
 #[test]
 fn messages_of_relay_and_their_queues(rt: HostRuntime) -> Result<(), Fail> {
-    for (m, wanted) in SENT {
+    for &(m, wanted) in SENT {
         assert!(rt; is_sent(rt.alloc(), RELAY, m, wanted)?, "{m}");
     }
     Ok(())

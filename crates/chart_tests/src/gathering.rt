@@ -8,7 +8,7 @@ use std::alloc::{AllocError, Global};
 use std::test::Fail;
 
 /// Texts, architectures, logs, and the run that they are gathered into.
-const GATHERED: [(&[u8], Queues, &[&[Event]], &[Event]); 12] = [
+const GATHERED: &[(&[u8], Queues, &[&[Event]], &[Event])] = &[
     (
         TWO_SENDERS,
         Queues::Pair,
@@ -60,7 +60,7 @@ const GATHERED: [(&[u8], Queues, &[&[Event]], &[Event]); 12] = [
 
 /// Logs of `crossing` that no run has as its lines: each queue is in order by itself; a log too
 /// few; an event twice; events on another line; an event of no chart; an input without its output.
-const OF_NO_RUN: [&[&[Event]]; 6] = [
+const OF_NO_RUN: &[&[&[Event]]] = &[
     &[&[1, 0], &[3, 2]],
     &[&[0, 1]],
     &[&[0, 0], &[2]],
@@ -104,7 +104,7 @@ fn is_gathered(
 
 #[test]
 fn logs_of_runs(rt: HostRuntime) -> Result<(), Fail> {
-    for (text, queues, logs, wanted) in GATHERED {
+    for &(text, queues, logs, wanted) in GATHERED {
         let is = is_gathered(rt.alloc(), text, queues, logs, Some(wanted))?;
         assert!(rt; is, "{queues:?} {wanted:?}");
     }
@@ -113,7 +113,7 @@ fn logs_of_runs(rt: HostRuntime) -> Result<(), Fail> {
 
 #[test]
 fn logs_of_no_run(rt: HostRuntime) -> Result<(), Fail> {
-    for logs in OF_NO_RUN {
+    for &logs in OF_NO_RUN {
         let is = is_gathered(rt.alloc(), CROSSING, Queues::Pair, logs, None)?;
         assert!(rt; is, "{}", logs.len());
     }

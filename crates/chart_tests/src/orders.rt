@@ -45,21 +45,21 @@ fn is_enforced(
 }
 
 /// Texts, two events, and what the visual order holds of them.
-const SEEN: [(&[u8], Event, Event, Held); 2] = [
+const SEEN: &[(&[u8], Event, Event, Held)] = &[
     (OVERTAKING, 2, 3, (4, true, false)),
     (WAITS, 1, 2, (3, true, false)),
 ];
 
 #[test]
 fn what_is_drawn_is_in_the_visual_order(rt: HostRuntime) -> Result<(), Fail> {
-    for (text, e, f, wanted) in SEEN {
+    for &(text, e, f, wanted) in SEEN {
         assert!(rt; is_seen(rt.alloc(), text, e, f, wanted)?, "{text:?}");
     }
     Ok(())
 }
 
 /// Texts, architectures, two events, and what the enforced order holds of them.
-const ENFORCED: [(&[u8], Queues, Event, Event, Held); 8] = [
+const ENFORCED: &[(&[u8], Queues, Event, Event, Held)] = &[
     (OVERTAKING, Queues::Pair, 2, 3, (4, false, true)),
     (OVERTAKING, Queues::Mailbox, 2, 3, (4, false, true)),
     (OVERTAKING, Queues::Single, 2, 3, (4, false, false)),
@@ -72,7 +72,7 @@ const ENFORCED: [(&[u8], Queues, Event, Event, Held); 8] = [
 
 #[test]
 fn what_an_architecture_enforces(rt: HostRuntime) -> Result<(), Fail> {
-    for (text, queues, e, f, wanted) in ENFORCED {
+    for &(text, queues, e, f, wanted) in ENFORCED {
         let is = is_enforced(rt.alloc(), text, queues, e, f, wanted)?;
         assert!(rt; is, "{queues:?}: {text:?}");
     }
@@ -163,7 +163,7 @@ fn is_row(alloc: Global, text: &[u8], e: Event, wanted: u64) -> Result<bool, Fai
 
 #[test]
 fn the_rows_of_two_senders(rt: HostRuntime) -> Result<(), Fail> {
-    for (e, wanted) in [(0, 2), (1, 0), (2, 0), (3, 4)] {
+    for &(e, wanted) in &[(0, 2), (1, 0), (2, 0), (3, 4)] {
         assert!(rt; is_row(rt.alloc(), TWO_SENDERS, e, wanted)?, "{e}");
     }
     Ok(())

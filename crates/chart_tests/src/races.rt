@@ -87,7 +87,7 @@ fn are_many(
 }
 
 /// Numbers of messages, whether their inputs are in reverse, architectures, and the races.
-const MANY: [(u32, bool, Queues, Summary); 7] = [
+const MANY: &[(u32, bool, Queues, Summary)] = &[
     (
         32,
         true,
@@ -124,7 +124,7 @@ const MANY: [(u32, bool, Queues, Summary); 7] = [
 
 #[test]
 fn many_messages(rt: HostRuntime) -> Result<(), Fail> {
-    for (count, reversed, queues, wanted) in MANY {
+    for &(count, reversed, queues, wanted) in MANY {
         let are = are_many(rt.alloc(), count, reversed, queues, wanted)?;
         assert!(rt; are, "{count} messages, {queues:?}");
     }

@@ -19,7 +19,7 @@ instance b; in m2 from a; out k to c; in m1 from a; endinstance; \
 instance c; in k from b; endinstance; endmsc;";
 
 /// Charts, architectures, and the closest races.
-const CLOSEST: [(&[u8], Queues, &[(Event, Event)]); 9] = [
+const CLOSEST: &[(&[u8], Queues, &[(Event, Event)])] = &[
     (TWO_SENDERS, Queues::Pair, &[(1, 2)]),
     (RELAY, Queues::Mailbox, &[]),
     (OVERTAKING, Queues::Single, &[(2, 3)]),
@@ -60,7 +60,7 @@ fn are_closest(
 
 #[test]
 fn closest_races(rt: HostRuntime) -> Result<(), Fail> {
-    for (text, queues, wanted) in CLOSEST {
+    for &(text, queues, wanted) in CLOSEST {
         let are = are_closest(rt.alloc(), text, queues, wanted)?;
         assert!(rt; are, "{wanted:?}, {queues:?}");
     }
@@ -69,7 +69,7 @@ fn closest_races(rt: HostRuntime) -> Result<(), Fail> {
 
 /// Texts with as many messages from each of two senders, drawn one stream below the other; how many
 /// races their charts have, and the one closest race.
-const STREAMS: [(&[Part], usize, (Event, Event)); 2] = [
+const STREAMS: &[(&[Part], usize, (Event, Event))] = &[
     (
         &[
             ("msc t;instance a;", 20, "out m", " to b;"),
@@ -113,7 +113,7 @@ fn of_streams(alloc: Global, parts: &[Part]) -> Result<Counted, Fail> {
 
 #[test]
 fn two_streams_have_one_closest_race(rt: HostRuntime) -> Result<(), Fail> {
-    for (parts, all, pair) in STREAMS {
+    for &(parts, all, pair) in STREAMS {
         let is = of_streams(rt.alloc(), parts)? == (all, 1, Some(pair));
         assert!(rt; is, "{all} races");
     }
@@ -124,7 +124,7 @@ fn two_streams_have_one_closest_race(rt: HostRuntime) -> Result<(), Fail> {
 type Cause = (RaceKind, Event, Event, bool);
 
 /// Charts, architectures, pairs of events, and why they are races where they are.
-const REASONS: [(&[u8], Queues, (Event, Event), Option<Cause>); 18] = [
+const REASONS: &[(&[u8], Queues, (Event, Event), Option<Cause>)] = &[
     (
         TWO_SENDERS,
         Queues::Pair,
@@ -251,7 +251,7 @@ fn reason_of(
 
 #[test]
 fn reasons_of_races(rt: HostRuntime) -> Result<(), Fail> {
-    for (text, queues, pair, wanted) in REASONS {
+    for &(text, queues, pair, wanted) in REASONS {
         let reason = reason_of(rt.alloc(), text, queues, pair)?;
         assert!(rt; reason == wanted, "{pair:?}, {queues:?}");
     }
@@ -278,7 +278,7 @@ instance b; in m1 from a; in m2 from a; in m3 from a; endinstance; endmsc;";
 type Shown<'a> = (Option<Event>, &'a [Event], &'a [Event]);
 
 /// Charts, architectures, pairs of events, and why they are enforced where they are.
-const WHYS: [(&[u8], Queues, (Event, Event), Option<Shown>); 11] = [
+const WHYS: &[(&[u8], Queues, (Event, Event), Option<Shown>)] = &[
     (RELAY, Queues::Pair, (0, 5), Some((None, &[1, 4, 5], &[]))),
     (
         RELAY,
@@ -370,7 +370,7 @@ fn explains(
 
 #[test]
 fn reasons_of_enforced_pairs(rt: HostRuntime) -> Result<(), Fail> {
-    for (text, queues, pair, wanted) in WHYS {
+    for &(text, queues, pair, wanted) in WHYS {
         let is = explains(rt.alloc(), text, queues, pair, wanted)?;
         assert!(rt; is, "{pair:?}, {queues:?}");
     }
@@ -382,7 +382,7 @@ fn reasons_of_enforced_pairs(rt: HostRuntime) -> Result<(), Fail> {
 type Reversed<'a> = (&'a [Event], Option<RaceKind>, Option<Shown<'a>>);
 
 /// Charts, architectures, pairs of events that are not enforced, and what is said of them.
-const FREE: [(&[u8], Queues, (Event, Event), Reversed); 3] = [
+const FREE: &[(&[u8], Queues, (Event, Event), Reversed)] = &[
     (
         TWO_SENDERS,
         Queues::Pair,
@@ -446,7 +446,7 @@ fn frees(
 
 #[test]
 fn reasons_of_free_pairs(rt: HostRuntime) -> Result<(), Fail> {
-    for (text, queues, pair, wanted) in FREE {
+    for &(text, queues, pair, wanted) in FREE {
         let is = frees(rt.alloc(), text, queues, pair, wanted)?;
         assert!(rt; is, "{pair:?}, {queues:?}");
     }

@@ -12,7 +12,7 @@ use std::alloc::{AllocError, Global};
 use std::test::Fail;
 
 /// Texts, architectures, two events of the chart, and the run that reverses them.
-const REVERSED: [(&[u8], Queues, Event, Event, &[Event]); 6] = [
+const REVERSED: &[(&[u8], Queues, Event, Event, &[Event])] = &[
     (TWO_SENDERS, Queues::Pair, 3, 0, &[0, 1, 3, 2]),
     (TWO_SENDERS, Queues::Mailbox, 3, 0, &[0, 1, 3, 2]),
     (COREGION, Queues::Pair, 1, 2, &[0, 3, 2, 1]),
@@ -60,7 +60,7 @@ fn is_reversing_run(
 
 #[test]
 fn reversing_runs(rt: HostRuntime) -> Result<(), Fail> {
-    for (text, queues, e, f, wanted) in REVERSED {
+    for &(text, queues, e, f, wanted) in REVERSED {
         let is = is_reversing_run(rt.alloc(), text, queues, e, f, wanted)?;
         assert!(rt; is, "({e}, {f}) {queues:?}: {text:?}");
     }
