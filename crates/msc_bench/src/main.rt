@@ -8,17 +8,19 @@
 //! messages went through them is printed, and how many nanoseconds they took to standard error.
 #![tactic(auto)]
 
+ghost use Rattle.std.specs.Prelude.{◌≡◌, length};
+
 mod digest;
 mod phase;
 mod sending;
 
 use crate::digest::{built, listed, ordered, parsed};
-use crate::phase::{Phase, phase_of};
-use crate::sending::measured;
+use crate::phase::{Phase, Step, phase_of};
+use crate::sending::{ends_of, measured};
 use anyhow::{Context, Result};
 use msc_chart::{Chart, Queues};
 use msc_order::Order;
-use msc_parser::parse;
+use msc_parser::{Draft, parse};
 use msc_race::races;
 use std::alloc::Global;
 use std::env;
@@ -27,18 +29,22 @@ use std::io::Read;
 /// Parses a text.
 fn parse_often(alloc: Global, text: &[u8], count: u32) -> Result<u64> {
     for _ in 1..count {
-        parse(alloc, text)?;
+        parse(alloc, text).map(drop)?;
     }
     Ok(parsed(&parse(alloc, text)?))
 }
 
-/// Builds the chart of a text.
-fn build_often(alloc: Global, text: &[u8], count: u32) -> Result<u64> {
-    let draft = parse(alloc, text)?;
+/// Builds the chart of a draft.
+fn build_often(alloc: Global, draft: &Draft, count: u32) -> Result<u64> {
     for _ in 1..count {
-        Chart::build(alloc, &draft)?;
+        Chart::build(alloc, draft).map(drop)?;
     }
-    Ok(built(&Chart::build(alloc, &draft)?))
+    Ok(built(&Chart::build(alloc, draft)?))
+}
+
+/// Builds the chart of a text.
+fn build_text_often(alloc: Global, text: &[u8], count: u32) -> Result<u64> {
+    build_often(alloc, &parse(alloc, text)?, count)
 }
 
 /// Makes the visual order.
@@ -57,47 +63,91 @@ fn enforced_often(alloc: Global, chart: &Chart, queues: Queues, count: u32) -> R
     Ok(ordered(chart, &Order::enforced(alloc, chart, queues)?))
 }
 
-/// Lists the races.
-fn races_often(alloc: Global, chart: &Chart, queues: Queues, count: u32) -> Result<u64> {
-    let order = Order::enforced(alloc, chart, queues)?;
+/// Lists the races of an order.
+fn list_often(alloc: Global, chart: &Chart, order: &Order, count: u32) -> Result<u64>
+    requires events { length order.now ≡ length chart.now.events }
+{
     for _ in 1..count {
-        races(alloc, chart, &order)?;
+        races(alloc, chart, order)?;
     }
-    Ok(listed(&races(alloc, chart, &order)?))
+    Ok(listed(&races(alloc, chart, order)?))
+}
+
+/// Lists the races of the enforced order.
+fn races_often(alloc: Global, chart: &Chart, queues: Queues, count: u32) -> Result<u64> {
+    list_often(alloc, chart, &Order::enforced(alloc, chart, queues)?, count)
 }
 
 /// The chart of a text.
 fn chart_of(alloc: Global, text: &[u8]) -> Result<Chart> {
-    let draft = parse(alloc, text)?;
-    Ok(Chart::build(alloc, &draft)?)
+    Ok(Chart::build(alloc, &parse(alloc, text)?)?)
+}
+
+/// Goes through a step from a chart, and answers the number of its answer.
+fn take_step(alloc: Global, chart: &Chart, step: Step, count: u32) -> Result<u64> {
+    match step {
+        Step::Visual => visual_often(alloc, chart, count),
+        Step::Enforced(queues) => enforced_often(alloc, chart, queues, count),
+        Step::Races(queues) => races_often(alloc, chart, queues, count),
+    }
+}
+
+/// The same from the chart of a text.
+fn take_step_of_text(alloc: Global, text: &[u8], step: Step, count: u32) -> Result<u64> {
+    take_step(alloc, &chart_of(alloc, text)?, step, count)
 }
 
 /// Goes through a phase, and answers the number of its answer.
 fn go_through(alloc: Global, text: &[u8], phase: Phase, count: u32) -> Result<u64> {
     match phase {
         Phase::Parse => parse_often(alloc, text, count),
-        Phase::Build => build_often(alloc, text, count),
-        Phase::Visual => visual_often(alloc, &chart_of(alloc, text)?, count),
-        Phase::Enforced(queues) => enforced_often(alloc, &chart_of(alloc, text)?, queues, count),
-        Phase::Races(queues) => races_often(alloc, &chart_of(alloc, text)?, queues, count),
+        Phase::Build => build_text_often(alloc, text, count),
+        Phase::FromChart(step) => take_step_of_text(alloc, text, step, count),
     }
 }
 
-fn main(rt: HostRuntime) -> Result<()> {
-    let alloc = rt.alloc();
-    let mut words = env::args(&rt)?.skip(1);
+/// What is to be done.
+enum Task {
+    /// To send through so many queues, from so many senders, which stand first.
+    Send(u32, u32),
+    /// To go through a phase so often.
+    GoThrough(Phase, u32),
+}
+
+/// The number that a word is, where there is a word; `asked` asks for it.
+fn number(word: Option<String>, asked: &'static str) -> Result<u32> {
+    let word = word.context(asked)?;
+    Ok(word.parse()?)
+}
+
+/// What the words of the command line, behind the program's name, say is to be done.
+fn read_words(rt: &HostRuntime) -> Result<Task> {
+    let mut words = env::args(rt)?.skip(1);
     let word = words.next().context("what?")?;
-    let first: u32 = words.next().context("how many?")?.parse()?;
+    let first = number(words.next(), "how many?")?;
     if word.as_str() == "queues" {
-        let queues: u32 = words.next().context("how many queues?")?.parse()?;
-        let (taken, time) = measured(&rt, alloc, first, queues)?;
-        println!(rt; "{taken} messages")?;
-        eprintln!(rt; "{time} nanoseconds")?;
-        return Ok(());
+        return Ok(Task::Send(first, number(words.next(), "how many queues?")?));
     }
-    let mut text = Vec::new(alloc);
+    Ok(Task::GoThrough(phase_of(&word).context("no such phase")?, first))
+}
+
+/// Goes through a phase of the text on standard input, and answers the number of its answer.
+fn go_through_input(rt: &HostRuntime, phase: Phase, count: u32) -> Result<u64> {
+    let mut text = Vec::new(rt.alloc());
     rt.stdin().read_to_end(&mut text)?;
-    let phase = phase_of(&word).context("no such phase")?;
-    println!(rt; "{}", go_through(alloc, &text, phase, first)?)?;
+    go_through(rt.alloc(), &text, phase, count)
+}
+
+fn main(rt: HostRuntime) -> Result<()> {
+    match read_words(&rt)? {
+        Task::Send(senders, queues) => {
+            let (taken, time) = measured(&rt, ends_of(rt.alloc(), senders, queues)?)?;
+            println!(rt; "{taken} messages")?;
+            eprintln!(rt; "{time} nanoseconds")?;
+        }
+        Task::GoThrough(phase, count) => {
+            println!(rt; "{}", go_through_input(&rt, phase, count)?)?;
+        }
+    }
     Ok(())
 }

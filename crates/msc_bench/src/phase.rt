@@ -2,13 +2,9 @@
 
 use msc_chart::Queues;
 
-/// A step from a text to the races of its chart.
-#[derive(Clone, Copy, Debug, PartialEq, Eq)]
-pub enum Phase {
-    /// From the text to its draft.
-    Parse,
-    /// From the draft to its chart.
-    Build,
+/// What is made of a chart.
+#[derive(Clone, Copy)]
+pub enum Step {
     /// The visual order of the chart.
     Visual,
     /// The enforced order under an architecture.
@@ -17,16 +13,27 @@ pub enum Phase {
     Races(Queues),
 }
 
+/// What is made on the way from a text to the races of its chart.
+#[derive(Clone, Copy)]
+pub enum Phase {
+    /// From the text to its draft.
+    Parse,
+    /// From the draft to its chart.
+    Build,
+    /// From the chart on.
+    FromChart(Step),
+}
+
 /// The phase of this name.
 pub fn phase_of(word: &str) -> Option<Phase> {
     match word {
         "parse" => Some(Phase::Parse),
         "build" => Some(Phase::Build),
-        "visual" => Some(Phase::Visual),
-        "enforced-pair" => Some(Phase::Enforced(Queues::Pair)),
-        "enforced-mailbox" => Some(Phase::Enforced(Queues::Mailbox)),
-        "races-pair" => Some(Phase::Races(Queues::Pair)),
-        "races-mailbox" => Some(Phase::Races(Queues::Mailbox)),
+        "visual" => Some(Phase::FromChart(Step::Visual)),
+        "enforced-pair" => Some(Phase::FromChart(Step::Enforced(Queues::Pair))),
+        "enforced-mailbox" => Some(Phase::FromChart(Step::Enforced(Queues::Mailbox))),
+        "races-pair" => Some(Phase::FromChart(Step::Races(Queues::Pair))),
+        "races-mailbox" => Some(Phase::FromChart(Step::Races(Queues::Mailbox))),
         _ => None,
     }
 }

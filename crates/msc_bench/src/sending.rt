@@ -6,10 +6,10 @@
 
 use anyhow::{Context, Result, bail};
 use msc_fifo::{Inlet, Outlet, QUOTA_LIMIT, Taken, queue};
-use std::alloc::Global;
+use std::alloc::{AllocError, Global};
 use std::sync::Wait;
 use std::thread;
-use std::thread::Threads;
+use std::thread::{Scope, Threads};
 use std::time::{Clock, Instant};
 
 /// Puts what the quotas allow, and closes.
@@ -38,57 +38,94 @@ fn take_all(mut inlet: Inlet) -> u64 {
     taken
 }
 
-/// Sends and takes, each sender in a thread; answers how many messages were taken, where all
-/// threads could be started.
-fn run<R: Threads + Wait + Sync>(
-    rt: &R,
+/// Takes all messages of the queues, one after the other, and answers how many there were.
+fn take_each(inlets: Vec<Inlet>) -> u64 {
+    let mut taken = 0u64;
+    for inlet in inlets {
+        taken = taken.wrapping_add(take_all(inlet));
+    }
+    taken
+}
+
+/// Starts a thread for each sender, and says whether all could be started.
+fn start_all<'s, 'e>(scope: &Scope<'s, &'e ()>, senders: Vec<Vec<Outlet>>) -> bool {
+    for outlets in senders {
+        if scope.spawn(move || send_all(outlets)).is_err() {
+            return false;
+        }
+    }
+    true
+}
+
+/// The ends of queues: for each sender its outlets, and all inlets.
+#[derive(Drop)]
+pub struct Ends {
     senders: Vec<Vec<Outlet>>,
     inlets: Vec<Inlet>,
-) -> Option<u64> {
+}
+
+/// Sends and takes, each sender in a thread; answers how many messages were taken, where all
+/// threads could be started.
+fn run<R: Threads + Wait + Sync>(rt: &R, ends: Ends) -> Option<u64> {
+    let Ends { senders, inlets } = ends;
     thread::scope(thread::scope_env(), rt, |scope| {
-        for outlets in senders {
-            if scope.spawn(move || send_all(outlets)).is_err() {
-                return None;
-            }
+        if !start_all(scope, senders) {
+            return None;
         }
-        let mut taken = 0u64;
-        for inlet in inlets {
-            taken = taken.wrapping_add(take_all(inlet));
-        }
-        Some(taken)
+        Some(take_each(inlets))
     })
 }
 
-/// The ends of so many queues with these quotas: for each sender its outlets, and all inlets.
-fn ends(alloc: Global, quotas: &[u32], queues: u32) -> Result<(Vec<Vec<Outlet>>, Vec<Inlet>)> {
+/// So many senders without outlets.
+fn new_senders(alloc: Global, count: usize) -> Result<Vec<Vec<Outlet>>, AllocError> {
     let mut senders = Vec::new(alloc);
-    for _ in quotas {
+    for _ in 0..count {
         senders.push(Vec::new(alloc))?;
     }
-    let mut inlets = Vec::new(alloc);
-    for _ in 0..queues {
-        let (outlets, inlet) = queue(alloc, quotas)?;
-        for (own, outlet) in senders.iter_mut().zip(outlets) {
-            own.push(outlet)?;
-        }
-        inlets.push(inlet)?;
+    Ok(senders)
+}
+
+/// Gives each sender its outlet of a queue.
+fn give_out(outlets: Vec<Outlet>, senders: &mut [Vec<Outlet>]) -> Result<(), AllocError> {
+    for (own, outlet) in senders.iter_mut().zip(outlets) {
+        own.push(outlet)?;
     }
-    Ok((senders, inlets))
+    Ok(())
+}
+
+impl Ends {
+    /// Adds the ends of a new queue with these quotas.
+    fn add_queue(&mut self, alloc: Global, quotas: &[u32]) -> Result<()> {
+        let (outlets, inlet) = queue(alloc, quotas)?;
+        give_out(outlets, &mut self.senders)?;
+        self.inlets.push(inlet)?;
+        Ok(())
+    }
+}
+
+/// The ends of so many queues with these quotas.
+fn ends_with(alloc: Global, quotas: &[u32], queues: u32) -> Result<Ends> {
+    let senders = new_senders(alloc, quotas.len())?;
+    let inlets = Vec::new(alloc);
+    let mut ends = Ends { senders, inlets };
+    for _ in 0..queues {
+        ends.add_queue(alloc, quotas)?;
+    }
+    Ok(ends)
+}
+
+/// The ends of so many queues of so many senders, which share what a queue may have.
+pub fn ends_of(alloc: Global, senders: u32, queues: u32) -> Result<Ends> {
+    if senders == 0 {
+        bail!("no sender");
+    }
+    let quotas = vec![in alloc; QUOTA_LIMIT as u32 / senders; senders as usize]?;
+    ends_with(alloc, &quotas, queues)
 }
 
 /// Sends and takes, and answers how many messages were taken, and in how many nanoseconds.
-pub fn measured<R: Threads + Wait + Clock + Sync>(
-    rt: &R,
-    alloc: Global,
-    count: u32,
-    queues: u32,
-) -> Result<(u64, u128)> {
-    if count == 0 {
-        bail!("no sender");
-    }
-    let quotas = vec![in alloc; QUOTA_LIMIT as u32 / count; count as usize]?;
-    let (senders, inlets) = ends(alloc, &quotas, queues)?;
+pub fn measured<R: Threads + Wait + Clock + Sync>(rt: &R, ends: Ends) -> Result<(u64, u128)> {
     let start = Instant::now(rt)?;
-    let taken = run(rt, senders, inlets).context("a thread could not be started")?;
+    let taken = run(rt, ends).context("a thread could not be started")?;
     Ok((taken, start.elapsed(rt)?.as_nanos()))
 }
