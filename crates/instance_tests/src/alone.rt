@@ -103,7 +103,7 @@ fn is_received(alloc: Global, before: Before, wanted: Left) -> Result<bool, Fail
 }
 
 /// What the sender of `one_message` does, and how its receiver ends then.
-const RECEIVED: [(Before, Left); 4] = [
+const RECEIVED: &[(Before, Left)] = &[
     (Before::Nothing, (End::Impatient, &[])),
     (Before::Stops, (End::Starved, &[])),
     (Before::Sends, (End::Finished, &[1])),
@@ -112,23 +112,36 @@ const RECEIVED: [(Before, Left); 4] = [
 
 #[test]
 fn what_comes_of_one_message(rt: HostRuntime) -> Result<(), Fail> {
-    for (before, wanted) in RECEIVED {
+    for &(before, wanted) in RECEIVED {
         assert!(rt; is_received(rt.alloc(), before, wanted)?, "{before:?}");
     }
     Ok(())
 }
 
-/// Whether an instance of `relay` that takes a message with the last clock but one stops before it
-/// sends.
-fn is_spent(alloc: Global) -> Result<bool, Fail> {
-    let chart = chart_of(alloc, RELAY)?;
-    let mut ends = wire(alloc, &chart, Queues::Mailbox)?;
-    let relays = ends.pop();
+/// Whether the last of three instances, which takes a message with the last clock but one, stops
+/// before it sends.
+fn is_spent_in(alloc: Global, chart: &Chart) -> Result<bool, Fail> {
+    let mut ends = wire(alloc, chart, Queues::Mailbox)?;
     let is_sent = match ends.first_mut() {
         Some(sends) => is_put(sends, 1, u64::MAX - 1),
         None => false,
     };
-    Ok(is_sent && is_left(alloc, &chart, 2, relays, &AlwaysOpen, (End::Stopped, &[4]))?)
+    Ok(
+        is_sent
+            && is_left(
+                alloc,
+                chart,
+                2,
+                ends.pop(),
+                &AlwaysOpen,
+                (End::Stopped, &[4]),
+            )?,
+    )
+}
+
+/// Whether that of `relay` does.
+fn is_spent(alloc: Global) -> Result<bool, Fail> {
+    is_spent_in(alloc, &chart_of(alloc, RELAY)?)
 }
 
 #[test]

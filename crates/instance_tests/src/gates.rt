@@ -147,7 +147,7 @@ fn stopped_at<R: Threads + Wait + Sync>(
 }
 
 /// An event of `relay` at which the gate says no, and how the three instances end.
-const STOPPED: [(Event, Wanted); 6] = [
+const STOPPED: &[(Event, Wanted)] = &[
     (
         0,
         (
@@ -205,7 +205,7 @@ fn is_stopped_at<R: Threads + Wait + Sync>(
 
 #[test]
 fn a_gate_that_says_no_to_an_event(rt: HostRuntime) -> Result<(), Fail> {
-    for (event, wanted) in STOPPED {
+    for &(event, wanted) in STOPPED {
         for queues in Queues::ALL {
             let is = is_stopped_at(&rt, rt.alloc(), queues, event, wanted)?;
             assert!(rt; is, "{event} {queues:?}");

@@ -112,6 +112,16 @@ impl Ends {
         }
     }
 
+    /// Makes calls as long as they answer what they should, and says whether all do.
+    fn answers_all(&mut self, calls: &[Call]) -> bool {
+        for call in calls {
+            if !self.answers(call) {
+                return false;
+            }
+        }
+        true
+    }
+
     /// Settles the queue, the outlets handed over in the other order; and where that was refused
     /// memory, once more with what was handed back.
     fn settled(self, alloc: Global) -> Result<Settled, QueueFault> {
@@ -152,17 +162,19 @@ fn are_placed(settled: &Settled, places: &[(u32, Option<u32>, u64)]) -> bool {
     settled.places.len() == places.len()
 }
 
+/// Whether this is settled after the calls of a row.
+fn is_settled(settled: &Settled, row: &Row) -> bool {
+    let are_shown = is_shown(settled, 0, &row.zero) && is_shown(settled, 1, &row.one);
+    are_shown && settled.senders.len() == 2 && are_placed(settled, row.places)
+}
+
 /// Whether the calls of a row answer what they should, and then this is settled.
 fn is_as_said(alloc: Global, row: &Row) -> Result<bool, QueueFault> {
     let mut ends = Ends::new(alloc, row.quotas)?;
-    for call in row.calls {
-        if !ends.answers(call) {
-            return Ok(false);
-        }
+    if !ends.answers_all(row.calls) {
+        return Ok(false);
     }
-    let settled = ends.settled(alloc)?;
-    let are_shown = is_shown(&settled, 0, &row.zero) && is_shown(&settled, 1, &row.one);
-    Ok(are_shown && settled.senders.len() == 2 && are_placed(&settled, row.places))
+    Ok(is_settled(&ends.settled(alloc)?, row))
 }
 
 /// Two senders fill their quotas and close, and all is taken.
@@ -281,7 +293,7 @@ const THE_GREATEST_CLOCKS: Row = Row {
 };
 
 /// The rows above.
-const ROWS: [&Row; 5] = [
+const ROWS: &[&Row] = &[
     &ONE_THREAD,
     &SETTLED_AFTER_THE_FIRST_TAKE,
     &CLOCKS,
@@ -291,14 +303,14 @@ const ROWS: [&Row; 5] = [
 
 #[test]
 fn one_thread(rt: HostRuntime) -> Result<(), Fail> {
-    for row in ROWS {
+    for &row in ROWS {
         assert!(rt; is_as_said(rt.alloc(), row)?, "{:?}", row.quotas);
     }
     Ok(())
 }
 
 /// Quotas, and why no queue has them, or none where a queue has them.
-const LIMITS: [(&[u32], Option<QueueFault>); 10] = [
+const LIMITS: &[(&[u32], Option<QueueFault>)] = &[
     (&[], Some(QueueFault::NoSender)),
     (&[1024, 1], Some(QueueFault::TooLarge)),
     (&[1025], Some(QueueFault::TooLarge)),
@@ -311,15 +323,20 @@ const LIMITS: [(&[u32], Option<QueueFault>); 10] = [
     (&[32; 32], None),
 ];
 
+/// Whether these outlets are open and have these quotas left.
+fn are_open(outlets: &[Outlet], quotas: &[u32]) -> bool {
+    for (outlet, quota) in outlets.iter().zip(quotas) {
+        if outlet.left() != *quota || outlet.is_closed() {
+            return false;
+        }
+    }
+    outlets.len() == quotas.len()
+}
+
 /// Whether there is a queue with these quotas, and a new one is open, empty and can be settled.
 fn is_new(alloc: Global, quotas: &[u32]) -> Result<bool, QueueFault> {
     let (outlets, inlet) = queue(alloc, quotas)?;
-    for (outlet, quota) in outlets.iter().zip(quotas) {
-        if outlet.left() != *quota || outlet.is_closed() {
-            return Ok(false);
-        }
-    }
-    let known = outlets.len() == quotas.len() && inlet.unended() as usize == quotas.len();
+    let known = are_open(&outlets, quotas) && inlet.unended() as usize == quotas.len();
     match settle(alloc, inlet, outlets) {
         Ok(settled) => {
             Ok(known && settled.senders.len() == quotas.len() && settled.places.is_empty())
@@ -338,7 +355,7 @@ fn is_made(alloc: Global, quotas: &[u32], refusal: Option<QueueFault>) -> bool {
 
 #[test]
 fn limits(rt: HostRuntime) {
-    for (quotas, refusal) in LIMITS {
+    for &(quotas, refusal) in LIMITS {
         assert!(rt; is_made(rt.alloc(), quotas, refusal), "{quotas:?}");
     }
 }
@@ -469,16 +486,20 @@ fn hundred(alloc: Global, first: u32) -> Result<Vec<u32>, AllocError>
     Ok(all)
 }
 
+/// Whether the accounts of two senders show that a hundred messages of each were put and taken.
+fn are_hundreds(alloc: Global, settled: &Settled) -> Result<bool, AllocError> {
+    let (low, high) = (hundred(alloc, 0)?, hundred(alloc, 1000)?);
+    let low = (low.as_slice(), low.as_slice(), [].as_slice(), true);
+    let high = (high.as_slice(), high.as_slice(), [].as_slice(), true);
+    Ok(is_shown(settled, 0, &low) && is_shown(settled, 1, &high))
+}
+
 /// Whether two threads put a hundred messages each, a third takes them, and all is settled.
 fn are_taken<R: Threads + Sync>(rt: &R, alloc: Global) -> Result<bool, Fail> {
     let ends = in_three_threads(rt, Ends::new(alloc, (100, 100))?);
     let are_ended = ends.inlet.unended() == 0;
     let settled = ends.settled(alloc)?;
-    let (low, high) = (hundred(alloc, 0)?, hundred(alloc, 1000)?);
-    let low = (low.as_slice(), low.as_slice(), [].as_slice(), true);
-    let high = (high.as_slice(), high.as_slice(), [].as_slice(), true);
-    let are_shown = is_shown(&settled, 0, &low) && is_shown(&settled, 1, &high);
-    Ok(are_ended && are_shown && settled.places.len() == 202)
+    Ok(are_ended && are_hundreds(alloc, &settled)? && settled.places.len() == 202)
 }
 
 #[test]

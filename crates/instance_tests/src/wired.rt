@@ -3,7 +3,7 @@
 use crate::alone::is_put;
 use crate::together::chart_of;
 use example_charts::RELAY;
-use msc_chart::Queues;
+use msc_chart::{Chart, Queues};
 use msc_instance::{InstanceEnds, wire};
 use std::alloc::Global;
 use std::test::Fail;
@@ -53,16 +53,27 @@ fn is_wired(ends: &InstanceEnds, wanted: Wired) -> bool {
     are_outlets(ends, wanted.0) && are_inlets(ends, wanted.1)
 }
 
+/// Whether three instances have these ends.
+fn are_ends(all: &[InstanceEnds], wanted: [Wired; 3]) -> bool {
+    match all {
+        [a, b, c] => is_wired(a, wanted[0]) && is_wired(b, wanted[1]) && is_wired(c, wanted[2]),
+        _ => false,
+    }
+}
+
+/// Whether the instances of a chart have these ends.
+fn are_wired_in(
+    alloc: Global,
+    chart: &Chart,
+    queues: Queues,
+    wanted: [Wired; 3],
+) -> Result<bool, Fail> {
+    Ok(are_ends(&wire(alloc, chart, queues)?, wanted))
+}
+
 /// Whether the instances of `relay` have these ends.
 fn are_wired(alloc: Global, queues: Queues, wanted: [Wired; 3]) -> Result<bool, Fail> {
-    let chart = chart_of(alloc, RELAY)?;
-    let all = wire(alloc, &chart, queues)?;
-    match all.as_slice() {
-        [a, b, c] => {
-            Ok(is_wired(a, wanted[0]) && is_wired(b, wanted[1]) && is_wired(c, wanted[2]))
-        }
-        _ => Ok(false),
-    }
+    are_wired_in(alloc, &chart_of(alloc, RELAY)?, queues, wanted)
 }
 
 #[test]
@@ -108,22 +119,29 @@ fn is_changed(ends: &mut InstanceEnds, change: Change) -> bool {
     }
 }
 
-/// Whether the ends of the first instance of `relay`, when they are changed so, fit an instance;
-/// none where they could not be.
-fn fit(alloc: Global, change: Change, i: u32) -> Result<Option<bool>, Fail> {
-    let chart = chart_of(alloc, RELAY)?;
-    let mut all = wire(alloc, &chart, Queues::Single)?;
-    let Some(ends) = all.first_mut() else {
-        return Ok(None);
-    };
+/// Whether the first of these ends, when they are changed so, fit an instance of a chart; none where
+/// they could not be.
+fn first_fit(all: &mut [InstanceEnds], chart: &Chart, change: Change, i: u32) -> Option<bool> {
+    let ends = all.first_mut()?;
     if !is_changed(ends, change) {
-        return Ok(None);
+        return None;
     }
-    Ok(Some(ends.fits(&chart, i)))
+    Some(ends.fits(chart, i))
+}
+
+/// The same of the ends of a chart.
+fn fit_in(alloc: Global, chart: &Chart, change: Change, i: u32) -> Result<Option<bool>, Fail> {
+    let mut all = wire(alloc, chart, Queues::Single)?;
+    Ok(first_fit(&mut all, chart, change, i))
+}
+
+/// The same of `relay`.
+fn fit(alloc: Global, change: Change, i: u32) -> Result<Option<bool>, Fail> {
+    fit_in(alloc, &chart_of(alloc, RELAY)?, change, i)
 }
 
 /// Changes of the ends of the first instance of `relay`, an instance, and whether they fit it.
-const FITTING: [(Change, u32, bool); 6] = [
+const FITTING: &[(Change, u32, bool)] = &[
     (Change::Nothing, 0, true),
     (Change::Nothing, 1, false),
     (Change::Nothing, 7, false),
@@ -134,7 +152,7 @@ const FITTING: [(Change, u32, bool); 6] = [
 
 #[test]
 fn ends_that_fit_and_that_do_not(rt: HostRuntime) -> Result<(), Fail> {
-    for (change, i, wanted) in FITTING {
+    for &(change, i, wanted) in FITTING {
         assert_eq!(rt; fit(rt.alloc(), change, i)?, Some(wanted), "{change:?} {i}");
     }
     Ok(())
