@@ -1,5 +1,6 @@
 -- How far a text has been cut into pieces.
-use Rattle.std.proofs.Common.{◌≡◌, ℕ, ◌+◌, ◌≤◌, List, [], ◌∷◌, ◌++◌, length, drop, Option, Some, None, refl, sym, ap, subst, ◌∙◌, append_assoc, zero-add, arith}
+use Rattle.std.proofs.Common.{◌≡◌, ◌≢◌, ℕ, ◌+◌, ◌≤◌, List, [], ◌∷◌, ◌++◌, length, drop, Option, Some, None, Result, Ok, Err, refl, sym, ap, subst, ◌∙◌, append_assoc, zero-add, arith}
+use Rattle.std.specs.Result.{IfErr, IsErrAnd}
 use Rattle.std.proofs.lemmas.List.{length-append, drop_at, drop_all, drop-drop, append-nil}
 use Rattle.std.proofs.lemmas.List.Concat.{flat_map-append}
 use Rattle.msc_lexer.specs.declared.TheConstants.{TEXT_LIMIT}
@@ -113,6 +114,14 @@ flaw_found text at tokens (OpenText a) short so_far flaw =
     first_flaw text at tokens (OpenText a) short so_far flaw
 flaw_found text at tokens (LongName a) short so_far flaw =
     first_flaw text at tokens (LongName a) short so_far flaw
+
+-- and of the text is the fault that is passed on
+pub flaw_passed : {X : Type 0} (text : List ℕ) (at : ℕ) (tokens : List Token) (r : Result X LexFault) (fault : LexFault)
+    → IsErrAnd r (λ e. e ≡ fault) → length text ≤ TEXT_LIMIT → IsReadTo text at tokens → IsFlaw fault at (drop at text)
+    → IfErr r (λ e. e ≢ Memory → HasFault text e)
+flaw_passed text at tokens (Ok x) fault same short so_far flaw = tt
+flaw_passed text at tokens (Err e) fault same short so_far flaw =
+    λ _. subst (HasFault text) (sym same) (flaw_found text at tokens fault short so_far flaw)
 
 -- a piece that is no token adds none
 pub reads_gap : (text : List ℕ) (at : ℕ) (tokens : List Token) (kind : Option Kind) (len : ℕ)
