@@ -10,3 +10,6 @@ add_queues-requires-clause-masks c e o =
     let events = c.args.wiring.now.chart.now.events in
     let below = c.queue_count.ensures.past e (output_parts events e o).0 (output_not_local events e o) in
     search rules
+
+pub add_queues-requires-clause-caused : goal.add_queues-requires-clause-caused
+add_queues-requires-clause-caused c = c.in_ok-close.ensures
