@@ -1,6 +1,6 @@
 -- The texts of events while they are made, and the lines that are put together of them.
 use Rattle.std.proofs.Common.{◌≡◌, ℕ, ◌+◌, ◌-◌, ◌<◌, ◌≤◌, List, [], ◌∷◌, ◌++◌, length, take, drop, map, get_or, None, refl, sym, ap, ap₂, ◌∙◌, subst, inl, inr, arith, append_assoc, slice_range, length-append, length-drop, length-take}
-use Rattle.std.proofs.Math.Seq.{take-append-add}
+use Rattle.std.proofs.Math.Seq.{drop-append_seam, take-append_seam, take-append-add}
 use Rattle.std.proofs.lemmas.Bool.{cases_lt}
 use Rattle.std.proofs.lemmas.List.{append-nil, drop-append-le, take-append-le, take-take, get_or_append_left, get_or-append-add, get_or-map, length-map}
 use Rattle.std.proofs.lemmas.List.Elements.{All-get_or, All-push, All-weaker}
@@ -8,6 +8,7 @@ use Rattle.msc_chart.specs.Drawings.{Drawing}
 use Rattle.msc_report.specs.declared.event_texts.Span.{Span}
 use Rattle.msc_report.specs.EventTexts.{EventText, parts_of, no_text, AreTextsOf}
 use Rattle.msc_report.specs.Spans.{text_at, no_span, with_parts, IsSpanIn, HasPutText, AreMade}
+use Rattle.msc_report.specs.Texts.{text_line}
 use Rattle.msc_report.specs.Verdicts.{race_text}
 
 -- what stands within a list stands there when more is put behind it
@@ -102,6 +103,20 @@ block_put room bytes rest at from to n rising short inside within =
     ap (λ k. take (k + (to - from)) (take at room ++ (block ++ rest))) (sym front)
     ∙ take-append-add (take at room) (block ++ rest) (to - from)
     ∙ ap (λ (l : List ℕ). take at room ++ l) (take-append-le (to - from) block rest size ∙ take-take (to - from) (from + n - from) (drop from bytes) more)
+
+-- what was put between two lists stands there
+range_put : (xs ys zs : List ℕ) → slice_range ((xs ++ ys) ++ zs) (length xs) (length (xs ++ ys)) ≡ ys
+range_put xs ys zs =
+    let size : length (xs ++ ys) - length xs ≡ length ys = omega (arith, length-append xs ys) in
+    rw (size, append_assoc, drop-append_seam xs (ys ++ zs)) (take-append_seam ys zs)
+
+-- what an event does is put once behind its place and once, copied, to the end of a line
+pub both_put : (old one two three four new place event sep : List ℕ) (from to : ℕ)
+    → one ≡ old ++ place → from ≡ length one → two ≡ one ++ event → to ≡ length two
+    → three ≡ two ++ sep → four ≡ three ++ slice_range three from to → new ≡ four ++ 10 ∷ []
+    → new ≡ (old ++ (place ++ (event ++ sep))) ++ text_line event
+both_put old one two three four new place event sep from to placed from_is put to_is parted copied ended =
+    rw (ended, copied, parted, from_is, to_is, put, range_put one event sep, placed) (simp append_assoc)
 
 -- the parts of both texts, put behind a page, are the text of their race
 pub race_joined : (d : Drawing) (e f : ℕ) (page : List ℕ)
