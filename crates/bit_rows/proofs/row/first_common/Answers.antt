@@ -12,7 +12,7 @@ returns-then-one-k-ne0 c = record {
 }
 
 pub loop-k-preserved : goal.loop-k-preserved
-loop-k-preserved c = none_common c.args.one.now c.args.other.now c.loop-k.k c.loop-k.invariant c.if-one-k-ne0.false
+loop-k-preserved c = none_common c.args.one.now c.args.other.now c.loop-k.k c.loop-k.invariant (omega arith)
 
 pub returns : goal.returns
 returns c =
