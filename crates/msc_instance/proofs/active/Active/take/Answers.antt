@@ -1,4 +1,4 @@
-use Rattle.std.proofs.Common.{sym, ap, ◌∙◌, arith}
+use Rattle.std.proofs.Common.{◌≡◌, true, sym, ap, ◌∙◌, arith}
 use Rattle.msc_chart.specs.Lists.{occurs}
 use Rattle.msc_chart.proofs.ListLemmas.{clash}
 use Rattle.msc_instance.proofs.Takes.{took_nothing, took_ended, took_strange, took_input, input_fits, queue_here, event_in}
@@ -89,3 +89,8 @@ returns-else-at-clause-took g c =
     c.note.new.self
     (rw (← c.index_mut.ensures.value) c.in-Message.ensures)
     (rw (← c.input_of-e.ensures) c.note.ensures.noted) c.note.ensures.room).0
+
+pub returns-else-at-clause-open : goal.returns-else-at-clause-open
+returns-else-at-clause-open g c =
+    λ gate other. let yes : c.at.result ≡ true = c.at.ensures gate in
+    cc
