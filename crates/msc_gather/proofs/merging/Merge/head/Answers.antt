@@ -54,6 +54,9 @@ returns-then-index-clause-least c = λ x h.
     ap Some (only_head c.requires.logs c.requires.links c.requires.merging c.requires.i
     c.log_at-log.ensures k x h).1
 
+pub returns-else-index-clause-some : goal.returns-else-index-clause-some
+returns-else-index-clause-some c = tt
+
 pub returns-else-index-clause-least : goal.returns-else-index-clause-least
 returns-else-index-clause-least c = λ x h.
     let k = head_read c.requires.logs c.requires.merging c.requires.i c.index-k.ensures in
