@@ -1,8 +1,8 @@
-use Rattle.std.proofs.Common.{◌≡◌, ◌+◌, ◌<◌, ◌++◌, ◌∷◌, [], sym, ap, ◌∙◌, length, arith, rules}
+use Rattle.std.proofs.Common.{◌≡◌, ◌+◌, ◌<◌, ◌++◌, ◌∷◌, [], sym, ap, ◌∙◌, subst, length, arith, rules}
 use Rattle.msc_fifo.specs.declared.entry.Entry.TheVariants.{Message}
 use Rattle.msc_fifo.specs.declared.rule.View.{View}
 use Rattle.msc_fifo.specs.Claims.{claim}
-use Rattle.msc_fifo.specs.Ends.{OutletState}
+use Rattle.msc_fifo.specs.Ends.{HasRoom, OutletState}
 use Rattle.msc_fifo.specs.Views.{claims_in, knows, resting, outlet_view, left_of}
 use Rattle.msc_fifo.proofs.OutletLemmas.{sent, proper_more}
 use Rattle.msc_fifo.proofs.outlet.Outlet.send.Goals as goal
@@ -32,3 +32,9 @@ returns-clause-claims c = let e = c.self.inside in let i = c.self.invariant in l
     let base = i.1 ∙ (λ j. outlet_view (left_of e.quota e.put.items (opened j)) (resting (sym at j).shared.key e.sender e.put.items (opened j) claims)) in
     let now = c.put-place.ensures.view _ _ _ _ base in
     ap (λ (v : View). claims_in v.senders) now ∙ ap (λ (s : OutletState). s.claims ++ claim c.put-place.result.0 (Message s.sender c.args.m) (c.args.clock + 1) c.put-place.result.1 ∷ []) c.self.view_is
+
+pub returns-then-len-self-clause-room : goal.returns-then-len-self-clause-room
+returns-then-len-self-clause-room c = λ room going.
+    let own = subst HasRoom (sym c.self.view_is) room in
+    let less : length c.self.inside.put.items < c.self.inside.quota = own.1 in
+    absurd (omega (arith, c.self.inside.put.ok.0))
