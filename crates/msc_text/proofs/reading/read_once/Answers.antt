@@ -1,4 +1,5 @@
-use Rattle.std.proofs.Common.{take, arith}
+use Rattle.std.proofs.Common.{take, sym, arith}
+use Rattle.std.proofs.lemmas.Bool.{true≢false}
 use Rattle.std.proofs.lemmas.List.{length-take}
 use Rattle.msc_text.proofs.reading.read_once.Goals as goal
 
@@ -13,3 +14,6 @@ returns-in_ok-extend_from_slice-in-Ok-clause-more g c = record {
       let given = c.in-Ok.ensures.bound in
       omega (arith, c.read.auto.buf, c.extend_from_slice.new.self.ok.0);
 }
+
+pub returns-then-eq-clause-done : goal.returns-then-eq-clause-done
+returns-then-eq-clause-done g c = λ done. absurd (true≢false (sym done))
