@@ -1,4 +1,4 @@
-use Rattle.std.proofs.Common.{rules, refl, arith}
+use Rattle.std.proofs.Common.{rules, arith}
 use Rattle.msc_chart.specs.Orders.{queue_number}
 use Rattle.msc_chart.proofs.Readers.{small_queue}
 use Rattle.msc_chart.proofs.wiring.queue_number.Goals as goal
@@ -19,4 +19,4 @@ returns-in-Mailbox c = search rules
 
 pub returns-in-Single : goal.returns-in-Single
 unfolding queue_number
-returns-in-Single c = rw c.in-Single.is refl
+returns-in-Single c = search rules

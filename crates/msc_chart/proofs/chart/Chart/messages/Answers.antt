@@ -1,4 +1,4 @@
-use Rattle.std.proofs.Common.{length, ap}
+use Rattle.std.proofs.Common.{ap}
 use Rattle.msc_chart.proofs.chart.Chart.messages.Goals as goal
 
 pub returns-clause-number : goal.returns-clause-number
