@@ -25,3 +25,6 @@ loop-at-preserved c =
           (leads_on events c.args.x c.loop-at.steps.items c.loop-at.at (next ∷ []) next c.loop-at.invariant.chain (c.next_step-at.ensures.step, refl));
       onward = c.next_step-at.ensures.onward;
     }
+
+pub returns : goal.returns
+returns c = rw (c.from_vec.ensures, ← c.loop-at-test.false) c.loop-at.invariant.chain

@@ -59,3 +59,6 @@ returns c =
       rw (← c.other_end.ensures.value, ← c.other_end-2.ensures.value)
           (λ late. clash (c.holds.ensures ∙ c.requires.enforced.complete _ _ late) c.if-holds.false),
     )
+
+pub returns-then-is_controlled : goal.returns-then-is_controlled
+returns-then-is_controlled c = sym c.is_controlled.ensures ∙ c.if-is_controlled.true
