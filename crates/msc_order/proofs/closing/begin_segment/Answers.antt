@@ -44,3 +44,6 @@ loop-passed-preserved c =
       here = c.begin_as.ensures.begun e ∙ or_left (begun e) _ c.loop-passed.invariant.here;
       within = λ y h. c.loop-passed.invariant.within y (elim (or_cases (test e y) _ (sym (rows e y) ∙ h)) [ inl old ↦ old | inr over ↦ (and_parts _ _ over).1 ]);
     }
+
+pub begin_as-requires-clause-more : goal.begin_as-requires-clause-more
+begin_as-requires-clause-more c none y h = grind arith
