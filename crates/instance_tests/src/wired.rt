@@ -119,8 +119,8 @@ fn is_changed(ends: &mut InstanceEnds, change: Change) -> bool {
     }
 }
 
-/// Whether the first of these ends, when they are changed so, fit an instance of a chart; none where
-/// they could not be.
+/// Whether the first of these ends, when they are changed so, fit an instance of a chart; none
+/// where they could not be.
 fn first_fit(all: &mut [InstanceEnds], chart: &Chart, change: Change, i: u32) -> Option<bool> {
     let ends = all.first_mut()?;
     if !is_changed(ends, change) {
