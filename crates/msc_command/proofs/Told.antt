@@ -1,21 +1,50 @@
 -- What the status tells of an answer, and that a flush keeps it.
-use Rattle.std.proofs.Common.{◌≡◌, ℕ, List, Option, Some, None, codes, inl, inr, refl, ◌∙◌}
+use Rattle.std.proofs.Common.{◌≡◌, ◌≢◌, ℕ, List, Option, Some, None, Result, Err, inl, inr, refl, sym, ap, subst, ◌∙◌}
 use Rattle.std.specs.Io.KnownBytes.{Appends, Keeps}
-use Rattle.clap.specs.Matches.{first_value}
 use Rattle.clap.specs.declared.parser.matches.Found.{Found}
+use Rattle.msc_chart.specs.declared.fault.ChartFault.{ChartFault}
+use Rattle.msc_chart.specs.declared.queue.Queues.{Queues}
+use Rattle.msc_report.specs.declared.fault.Fault.{Fault}
+use Rattle.msc_report.specs.declared.fault.PairFault.{PairFault}
+use Rattle.msc_study.specs.Explaining.{HasPairFault}
+use Rattle.msc_report.specs.declared.fault.Fault.TheVariants.{Parse, Chart, NotStarted, Memory, Device}
+use Rattle.msc_text.specs.Answers.{OnRead, RefusesText}
 use Rattle.msc_text.specs.Reading.{IsReadFrom}
+use Rattle.msc_command.specs.declared.program.Refusal.{Refusal}
+use Rattle.msc_command.specs.declared.program.Refusal.TheVariants as refusals
 use Rattle.msc_command.specs.declared.program.Status.{Status}
 use Rattle.msc_command.specs.declared.program.Status.TheVariants.{Done, Races, Refused, Unfinished, Failed}
 use Rattle.msc_command.specs.declared.words.Task.{Task}
 use Rattle.msc_command.specs.declared.words.Task.TheVariants.{Read, Check, Study, Judge, Explain, Run}
-use Rattle.msc_command.specs.Program.{status_code, Obeys, TellsAnswer, TellsRaces, WritesAnswer}
+use Rattle.msc_command.specs.Program.{ends_as, status_code, IsFileText, IsUnanswered, Obeys, RefusesTask, TellsAnswer, TellsRaces, WritesAnswer}
 use Rattle.msc_command.specs.Words.{AsksFor}
+
+-- different ends of a run
+clash : Refused ≡ Failed → ⊥
+clash same = cc
+
+-- what an answer says of the texts that it refuses for a task
+abbrev pub Refuses : {A : Type 0} → Task → List ℕ → Result A Fault → Type 0
+Refuses task text answer =
+    RefusesText text answer
+    × ((f : ChartFault) → answer ≡ Err (Chart f) → RefusesTask task text (refusals.Fault (Chart f)))
+    × ((i : ℕ) → answer ≡ Err (NotStarted i) → RefusesTask task text (refusals.Fault (NotStarted i)))
+
+-- no answer of a task has the status of a refusal, or of a failure
+no_answer : (task : Task) (text : List ℕ) (before after : Option (List ℕ))
+    → (WritesAnswer task text Refused before after → ⊥) × (WritesAnswer task text Failed before after → ⊥)
+no_answer Read text before after = ((λ told. told), (λ told. told))
+no_answer (Check queues show) text before after = ((λ told. told), (λ told. told))
+no_answer (Study queues view) text before after = ((λ told. told), (λ told. told))
+no_answer (Judge queues view) text before after = ((λ told. told), (λ told. told))
+no_answer (Explain queues e f) text before after = ((λ told. told), (λ told. told))
+no_answer (Run queues patience) text before after = ((λ told. told), (λ told. told))
 
 -- the answer of a task is what its status tells
 pub prints : (task : Task) (text : List ℕ) (status : Status) (before after : Option (List ℕ))
     → WritesAnswer task text status before after → TellsAnswer status before after
 prints task text Done before after told = tt
-prints task text Refused before after told = tt
+prints task text Refused before after told = absurd ((no_answer task text before after).0 told)
 prints task text Failed before after told = tt
 prints Read text Races before after told = absurd told
 prints (Check queues show) text Races before after told = inl (text, queues, show, told)
@@ -32,20 +61,48 @@ prints (Run queues patience) text Unfinished before after told = (text, queues, 
 
 -- an answer to what the words of a command ask for
 pub obeys : (command : List ℕ) (found : Found) (task : Task) (text : List ℕ) (status : Status) (rest left before after : Option (List ℕ))
-    → AsksFor command found task → (first_value found (codes "FILE") ≡ Some (codes "-") → IsReadFrom rest left text)
+    → AsksFor command found task → IsFileText found rest left text
     → WritesAnswer task text status before after → Obeys command found status rest left before after
 obeys command found task text Done rest left before after asks reads told = (task, text, asks, reads, told)
 obeys command found task text Races rest left before after asks reads told = (task, text, asks, reads, told)
-obeys command found task text Refused rest left before after asks reads told = tt
+obeys command found task text Refused rest left before after asks reads told =
+    absurd ((no_answer task text before after).0 told)
 obeys command found task text Unfinished rest left before after asks reads told = (task, text, asks, reads, told)
-obeys command found task text Failed rest left before after asks reads told = tt
+obeys command found task text Failed rest left before after asks reads told =
+    absurd ((no_answer task text before after).1 told)
+
+-- why a task of the words has no answer, as the status tells that stands for it
+pub in_vain : (command : List ℕ) (found : Found) (task : Task) (refusal : Refusal) (status : Status) (rest left before after : Option (List ℕ))
+    → AsksFor command found task → status ≡ ends_as refusal
+    → IsUnanswered task (IsFileText found rest left) refusal before after → Obeys command found status rest left before after
+in_vain command found task (refusals.Fault (Parse f)) status rest left before after asks is why =
+    rw is (inr (task, refusals.Fault (Parse f), asks, refl, why))
+in_vain command found task (refusals.Fault (Chart f)) status rest left before after asks is why =
+    rw is (inr (task, refusals.Fault (Chart f), asks, refl, why))
+in_vain command found task (refusals.Fault (NotStarted i)) status rest left before after asks is why =
+    rw is (task, refusals.Fault (NotStarted i), asks, refl, why)
+in_vain command found task (refusals.Fault Memory) status rest left before after asks is why =
+    rw is (task, refusals.Fault Memory, asks, refl, why)
+in_vain command found task (refusals.Fault Device) status rest left before after asks is why =
+    rw is (task, refusals.Fault Device, asks, refl, why)
+in_vain command found task (refusals.Pair f) status rest left before after asks is why =
+    rw is (inr (task, refusals.Pair f, asks, refl, why))
+
+-- nothing goes out where a text is refused
+nothing_out : (task : Task) (reads : List ℕ → Type 0) (refusal : Refusal) (before after : Option (List ℕ))
+    → Refused ≡ ends_as refusal → IsUnanswered task reads refusal before after → after ≡ before
+nothing_out task reads refusal before after is (inl memory) = absurd (clash (is ∙ ap ends_as memory))
+nothing_out task reads refusal before after is (inr (inl device)) = absurd (clash (is ∙ ap ends_as device))
+nothing_out task reads refusal before after is (inr (inr why)) = why.3
 
 -- its status tells of it
 pub obeyed : (command : List ℕ) (found : Found) (status : Status) (rest left before after : Option (List ℕ))
     → Obeys command found status rest left before after → TellsAnswer status before after
 obeyed command found Done rest left before after done = tt
 obeyed command found Races rest left before after done = prints done.0 done.1 Races before after done.4
-obeyed command found Refused rest left before after done = tt
+obeyed command found Refused rest left before after (inl none) = none.1
+obeyed command found Refused rest left before after (inr done) =
+    nothing_out done.0 (IsFileText found rest left) done.1 before after done.3 done.4
 obeyed command found Unfinished rest left before after done = prints done.0 done.1 Unfinished before after done.4
 obeyed command found Failed rest left before after done = tt
 
@@ -56,6 +113,52 @@ told_races Races before after told one = told
 told_races Refused before after told one = absurd cc
 told_races Unfinished before after told one = absurd cc
 told_races Failed before after told one = absurd cc
+
+-- where the exit status is 2, nothing went out
+pub told_refused : (status : Status) (before after : Option (List ℕ)) → TellsAnswer status before after → status_code status ≡ 2 → after ≡ before
+told_refused Done before after told two = absurd cc
+told_refused Races before after told two = absurd cc
+told_refused Refused before after told two = told
+told_refused Unfinished before after told two = absurd cc
+told_refused Failed before after told two = absurd cc
+
+-- Why a task has no answer, by what an answer says of the bytes that were read: which texts it refuses,
+-- which drafts, and which instances it could not start.
+unanswered_by : (task : Task) (rest left : Option (List ℕ)) {A : Type 0} (answer : Result A Fault) (e : Fault) (said : List ℕ → Type 0) (before after : Option (List ℕ))
+    → answer ≡ Err e → OnRead rest left answer said → ((text : List ℕ) → said text → Refuses task text answer)
+    → (e ≢ Memory → e ≢ Device → after ≡ before) → IsUnanswered task (IsReadFrom rest left) (refusals.Fault e) before after
+unanswered_by task rest left answer e said before after is (inr (inl memory)) refuses kept = inl (let same : e ≡ Memory = cc in ap refusals.Fault same)
+unanswered_by task rest left answer e said before after is (inr (inr device)) refuses kept = inr (inl (let same : e ≡ Device = cc in ap refusals.Fault same))
+unanswered_by task rest left answer Memory said before after is (inl read) refuses kept = inl refl
+unanswered_by task rest left answer Device said before after is (inl read) refuses kept = inr (inl refl)
+unanswered_by task rest left answer (Parse f) said before after is (inl read) refuses kept =
+    inr (inr (read.0, read.1, (refuses read.0 read.2).0.stands f is, kept (λ no. cc) (λ no. cc)))
+unanswered_by task rest left answer (Chart f) said before after is (inl read) refuses kept =
+    inr (inr (read.0, read.1, (refuses read.0 read.2).1 f is, kept (λ no. cc) (λ no. cc)))
+unanswered_by task rest left answer (NotStarted i) said before after is (inl read) refuses kept =
+    inr (inr (read.0, read.1, (refuses read.0 read.2).2 i is, kept (λ no. cc) (λ no. cc)))
+
+-- the same of a task that is known
+pub unanswered : (task known : Task) (rest left : Option (List ℕ)) {A : Type 0} (answer : Result A Fault) (e : Fault) (said : List ℕ → Type 0) (before after : Option (List ℕ))
+    → task ≡ known → answer ≡ Err e → OnRead rest left answer said → ((text : List ℕ) → said text → Refuses known text answer)
+    → (e ≢ Memory → e ≢ Device → after ≡ before) → IsUnanswered task (IsReadFrom rest left) (refusals.Fault e) before after
+unanswered task known rest left answer e said before after same is read refuses kept =
+    subst (λ (t : Task). IsUnanswered t (IsReadFrom rest left) (refusals.Fault e) before after) (sym same)
+    (unanswered_by known rest left answer e said before after is read refuses kept)
+
+-- numbers that are no two events of a text's chart leave the task of explaining them without an answer
+pub no_pair : (task : Task) (queues : Queues) (e f : ℕ) (reads : List ℕ → Type 0) (text : List ℕ) (fault : PairFault) (before after : Option (List ℕ))
+    → task ≡ Explain queues e f → reads text → HasPairFault text e f fault → after ≡ before
+    → IsUnanswered task reads (refusals.Pair fault) before after
+no_pair task queues e f reads text fault before after same read has kept =
+    inr (inr (text, read, subst (λ (t : Task). RefusesTask t text (refusals.Pair fault)) (sym same) has, kept))
+
+-- and so it is of texts of which less is known
+pub unanswered_so : (task : Task) (reads so : List ℕ → Type 0) (refusal : Refusal) (before after : Option (List ℕ))
+    → ((text : List ℕ) → reads text → so text) → IsUnanswered task reads refusal before after → IsUnanswered task so refusal before after
+unanswered_so task reads so refusal before after less (inl memory) = inl memory
+unanswered_so task reads so refusal before after less (inr (inl device)) = inr (inl device)
+unanswered_so task reads so refusal before after less (inr (inr why)) = inr (inr (why.0, less why.0 why.1, why.2, why.3))
 
 -- bytes that are kept were written
 kept : (before mid after : Option (List ℕ)) (bytes : List ℕ) → Appends before mid bytes → Keeps mid after → Appends before after bytes

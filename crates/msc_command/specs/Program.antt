@@ -1,9 +1,13 @@
 -- What the program answers, and its exit statuses.
-use Rattle.std.specs.Prelude.{◌≡◌, ◌⊎◌, ℕ, Bool, List, Option, Some, codes, true, false}
+use Rattle.std.specs.Prelude.{◌≡◌, ◌⊎◌, ℕ, Bool, List, MatchOption, Option, Some, codes, option_map, true, false}
 use Rattle.std.specs.Io.KnownBytes.{Keeps}
-use Rattle.clap.specs.Matches.{first_value}
+use Rattle.clap.specs.Words.{first_value, rows_of, subcommand_name_of, subcommand_rows_of}
+use Rattle.clap.specs.declared.parser.matches.ArgMatches.{ArgMatches}
 use Rattle.clap.specs.declared.parser.matches.Found.{Found}
 use Rattle.msc_chart.specs.declared.queue.Queues.{Queues}
+use Rattle.msc_chart.specs.Faults.{IsFirstFault}
+use Rattle.msc_parser.specs.Grammar.{Tree}
+use Rattle.msc_parser.specs.Parsing.{HasDraft, HasParseFault}
 use Rattle.msc_report.specs.declared.fault.Fault.{Fault}
 use Rattle.msc_report.specs.declared.fault.Fault.TheVariants.{Parse, Chart, NotStarted, Memory, Device}
 use Rattle.msc_command.specs.declared.program.Status.{Status}
@@ -13,13 +17,13 @@ use Rattle.msc_command.specs.declared.program.Refusal.TheVariants as refusals
 use Rattle.msc_command.specs.declared.words.Task.{Task}
 use Rattle.msc_command.specs.declared.words.Task.TheVariants.{Read, Check, Study, Judge, Explain, Run}
 use Rattle.msc_study.specs.declared.view.View.{View}
-use Rattle.msc_study.specs.Explaining.{WritesReason}
+use Rattle.msc_study.specs.Explaining.{HasPairFault, WritesReason}
 use Rattle.msc_study.specs.Studying.{Studies, WritesStudy}
 use Rattle.msc_text.specs.Answers.{WritesDraft}
 use Rattle.msc_text.specs.Checking.{WritesVerdict}
 use Rattle.msc_text.specs.Reading.{IsReadFrom}
-use Rattle.msc_tool.specs.Running.{WritesTrace}
-use Rattle.msc_command.specs.Words.{AsksFor}
+use Rattle.msc_tool.specs.Running.{HasInstance, WritesTrace}
+use Rattle.msc_command.specs.Words.{AsksFor, IsNoCommand}
 
 -- the exit status for how a run ended
 abbrev pub status_code : Status → ℕ
@@ -65,15 +69,52 @@ WritesAnswer (Run queues patience) text Unfinished before after =
     WritesTrace text queues true patience false before after
 WritesAnswer task text status before after = ⊥
 
+-- a text is refused for a task with its first fault: it has no draft, its draft is no chart, or the
+-- numbers are no two events of its chart; or an instance of its chart could not be started
+abbrev pub RefusesTask : Task → List ℕ → Refusal → Type 0
+RefusesTask task text (refusals.Fault (Parse f)) = HasParseFault text f
+RefusesTask Read text (refusals.Fault (Chart f)) = ⊥
+RefusesTask task text (refusals.Fault (Chart f)) = (draft : Tree) × HasDraft text draft × IsFirstFault draft f
+RefusesTask (Run queues patience) text (refusals.Fault (NotStarted i)) = HasInstance text i
+RefusesTask (Explain queues e f) text (refusals.Pair fault) = HasPairFault text e f fault
+RefusesTask task text refusal = ⊥
+
+-- Why a task has no answer: memory ran out, a device failed, or a text that was read so is refused,
+-- and then nothing went out.
+abbrev pub IsUnanswered : Task → (List ℕ → Type 0) → Refusal → Option (List ℕ) → Option (List ℕ) → Type 0
+IsUnanswered task reads refusal before after =
+    (refusal ≡ refusals.Fault Memory) ⊎ ((refusal ≡ refusals.Fault Device)
+    ⊎ ((text : List ℕ) × reads text × RefusesTask task text refusal × (after ≡ before)))
+
+-- a text is all bytes of the input where FILE is `-`
+abbrev pub IsFileText : Found → Option (List ℕ) → Option (List ℕ) → List ℕ → Type 0
+IsFileText found rest left text = first_value found (codes "FILE") ≡ Some (codes "-") → IsReadFrom rest left text
+
+-- a task that the words of a command ask for has no answer, and a status tells why
+abbrev pub EndsUnanswered : List ℕ → Found → Status → (List ℕ → Type 0) → Option (List ℕ) → Option (List ℕ) → Type 0
+EndsUnanswered command found status reads before after =
+    (task : Task) × (refusal : Refusal) × AsksFor command found task × (status ≡ ends_as refusal)
+    × IsUnanswered task reads refusal before after
+
 -- The words of a command were obeyed as a status tells: what went out is the answer of a task that
--- they ask for, to all bytes of the input where FILE is `-`.
+-- they ask for, or it has none, or they are no command.
 abbrev pub Obeys : List ℕ → Found → Status → Option (List ℕ) → Option (List ℕ) → Option (List ℕ) → Option (List ℕ) → Type 0
-Obeys command found Refused rest left before after = Unit {0}
-Obeys command found Failed rest left before after = Unit {0}
+Obeys command found Refused rest left before after =
+    (IsNoCommand command found × (after ≡ before))
+    ⊎ EndsUnanswered command found Refused (IsFileText found rest left) before after
+Obeys command found Failed rest left before after =
+    EndsUnanswered command found Failed (IsFileText found rest left) before after
 Obeys command found status rest left before after =
-    (task : Task) × (text : List ℕ) × AsksFor command found task
-    × (first_value found (codes "FILE") ≡ Some (codes "-") → IsReadFrom rest left text)
+    (task : Task) × (text : List ℕ) × AsksFor command found task × IsFileText found rest left text
     × WritesAnswer task text status before after
+
+-- The words that were found are obeyed: those of the command that they name, by what was found of
+-- it; words that name none are refused.
+abbrev pub ObeysMatches : ArgMatches → Status → Option (List ℕ) → Option (List ℕ) → Option (List ℕ) → Option (List ℕ) → Type 0
+ObeysMatches matches status rest left before after =
+    MatchOption (subcommand_name_of matches) (status ≡ Refused) (λ command. (found : Found)
+    × (option_map (λ p. p.1) (subcommand_rows_of matches) ≡ Some (rows_of found))
+    × Obeys command found status rest left before after)
 
 -- a whole verdict with races went behind the known bytes of a writer
 abbrev pub PrintsRaces : Option (List ℕ) → Option (List ℕ) → Type 0
@@ -110,5 +151,6 @@ PrintsUnfinished before after =
 -- what the status tells of the answer that went out
 abbrev pub TellsAnswer : Status → Option (List ℕ) → Option (List ℕ) → Type 0
 TellsAnswer Races before after = TellsRaces before after
+TellsAnswer Refused before after = after ≡ before
 TellsAnswer Unfinished before after = PrintsUnfinished before after
 TellsAnswer status before after = Unit {0}

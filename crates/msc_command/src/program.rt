@@ -1,10 +1,12 @@
 //! What the program does, and how it ends.
 
-ghost use Rattle.std.specs.Prelude.{◌≡◌, ◌≢◌, ◌⊎◌, codes, IfOk, List, Option, ℕ};
+ghost use Rattle.std.specs.Prelude.{◌≡◌, ◌≢◌, ◌⊎◌, codes, IfErr, IfOk, List, ℕ};
 ghost use Rattle.std.specs.IoError.{error_kind};
 ghost use Rattle.std.specs.declared.io.ErrorKind.TheVariants.{OutOfMemory};
 ghost use Rattle.clap.specs.Matches.{found_of};
-ghost use Rattle.msc_command.specs.Program.{ends_as, status_code, status_of, Obeys, TellsAnswer, PrintsUnfinished, TellsRaces, WritesAnswer};
+ghost use Rattle.msc_command.specs.Program.{ends_as, status_code, status_of, IsUnanswered, Obeys};
+ghost use Rattle.msc_command.specs.Program.{ObeysMatches, TellsAnswer, PrintsUnfinished};
+ghost use Rattle.msc_command.specs.Program.{TellsRaces, WritesAnswer};
 ghost use Rattle.msc_text.specs.Reading.{IsReadFrom};
 
 use crate::words::{Choice, Task, architectures, grammar, joined, kinds, task_of};
@@ -62,6 +64,10 @@ enum Refusal {
 }
 
 impl From<Fault> for Refusal {
+    ghost use Rattle.msc_command.specs.declared.program.Refusal.{Refusal};
+
+    ghost from_gives = { λ fault refusal. refusal ≡ Refusal.Fault fault };
+
     fn from(fault: Fault) -> Refusal {
         Refusal::Fault(fault)
     }
@@ -99,9 +105,12 @@ fn answer<R: Threads + Wait + Sync, I: Read, O: Write>(
     input: &mut I,
     output: &mut O,
 ) -> Result<Status, Refusal>
-    ensures { IfOk result (λ status. (text : List ℕ)
+    ensures written { IfOk result (λ status. (text : List ℕ)
         × IsReadFrom (I.remaining input.old) (I.remaining input.new) text
         × WritesAnswer task text status (O.contents output.old) (O.contents output.new)) }
+    ensures refused { IfErr result (λ refusal. IsUnanswered task
+        (IsReadFrom (I.remaining input.old) (I.remaining input.new)) refusal
+        (O.contents output.old) (O.contents output.new)) }
 {
     match task {
         Task::Read => {
@@ -146,9 +155,12 @@ fn perform<R: Threads + Wait + Sync, I: Read, O: Write>(
     input: &mut I,
     output: &mut O,
 ) -> Result<Status, Refusal>
-    ensures { IfOk result (λ status. (text : List ℕ)
+    ensures written { IfOk result (λ status. (text : List ℕ)
         × IsReadFrom (I.remaining input.old) (I.remaining input.new) text
         × WritesAnswer task text status (O.contents output.old) (O.contents output.new)) }
+    ensures refused { IfErr result (λ refusal. IsUnanswered task
+        (IsReadFrom (I.remaining input.old) (I.remaining input.new)) refusal
+        (O.contents output.old) (O.contents output.new)) }
 {
     let status = answer(rt, alloc, task, input, output)?;
     match output.flush() {
@@ -166,9 +178,12 @@ fn perform_on<R: Files + Threads + Wait + Sync, I: Read, O: Write>(
     input: &mut I,
     output: &mut O,
 ) -> Result<Status, Refusal>
-    ensures { IfOk result (λ status. (text : List ℕ)
+    ensures written { IfOk result (λ status. (text : List ℕ)
         × (file.now ≡ codes "-" → IsReadFrom (I.remaining input.old) (I.remaining input.new) text)
         × WritesAnswer task text status (O.contents output.old) (O.contents output.new)) }
+    ensures refused { IfErr result (λ refusal. IsUnanswered task (λ text. file.now ≡ codes "-"
+        → IsReadFrom (I.remaining input.old) (I.remaining input.new) text)
+        refusal (O.contents output.old) (O.contents output.new)) }
 {
     if file == "-" {
         return perform(rt, alloc, task, input, output);
@@ -181,7 +196,7 @@ fn perform_on<R: Files + Threads + Wait + Sync, I: Read, O: Write>(
 
 /// Writes what `clap` says of words that are no command, or the help that they ask for.
 fn tell_usage<O: Write, E: Write>(output: &mut O, faults: &mut E, error: &Error) -> Status
-    ensures { (before after : Option (List ℕ)) → TellsAnswer result before after }
+    ensures { TellsAnswer result (O.contents output.old) (O.contents output.new) }
 {
     if error.kind() == clap::error::ErrorKind::OutOfMemory {
         return end_with(faults, Fault::Memory);
@@ -228,7 +243,9 @@ fn obey_matches<R: Files + Threads + Wait + Sync, I: Read, O: Write, E: Write>(
     output: &mut O,
     faults: &mut E,
 ) -> Status
-    ensures { TellsAnswer result (O.contents output.old) (O.contents output.new) }
+    ensures told { TellsAnswer result (O.contents output.old) (O.contents output.new) }
+    ensures obeyed { ObeysMatches matches.now result (I.remaining input.old) (I.remaining input.new)
+        (O.contents output.old) (O.contents output.new) }
 {
     match matches.subcommand() {
         Some((command, words)) => obey(rt, alloc, command, words, input, output, faults),
@@ -313,6 +330,7 @@ pub fn command<R: Files + Threads + Wait + Sync, I: Read, O: Write, E: Write>(
 ) -> u8
     ensures status { (result ≡ 0) ⊎ (result ≡ 1) ⊎ (result ≡ 2) ⊎ (result ≡ 3) ⊎ (result ≡ 4) }
     ensures races { result ≡ 1 → TellsRaces (O.contents output.old) (O.contents output.new) }
+    ensures refused { result ≡ 2 → O.contents output.new ≡ O.contents output.old }
     ensures unfinished { result ≡ 3
         → PrintsUnfinished (O.contents output.old) (O.contents output.new) }
 {

@@ -2,7 +2,9 @@
 
 ghost use Rattle.std.specs.Prelude.{◌≡◌, MatchOption, Some, map};
 ghost use Rattle.clap.specs.Matches.{found_of};
-ghost use Rattle.msc_command.specs.Words.{architecture, is_study, names_kind, AreAllowed, AsksFor, AsksToCheck, IsEventWord, IsFlag, IsOptionNumber, LacksEvent, IsNoCommand, IsView};
+ghost use Rattle.msc_command.specs.Words.{architecture, is_study, names_kind, AreAllowed, AsksFor};
+ghost use Rattle.msc_command.specs.Words.{AsksToCheck, IsEventWord, IsFlag, IsOptionNumber};
+ghost use Rattle.msc_command.specs.Words.{LacksEvent, IsNoCommand, IsView};
 
 use clap::{Arg, ArgAction, ArgMatches, Command, value_parser};
 use msc_chart::{Event, Queues};
