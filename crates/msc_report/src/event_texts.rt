@@ -1,6 +1,7 @@
 //! The texts of a chart's events, made once.
 
-ghost use Rattle.std.specs.Prelude.{◌≡◌, ℕ, ◌<◌, ◌≤◌, ◌++◌, IfOk, None, OnOk, Some, get_or, length, take};
+ghost use Rattle.std.specs.Prelude.{◌≡◌, ℕ, ◌<◌, ◌≤◌, ◌++◌, IfOk, None, OnOk, Some, get_or, length};
+ghost use Rattle.std.specs.Prelude.{take};
 ghost use Rattle.std.specs.Io.KnownBytes.{Appends};
 ghost use Rattle.std.specs.List.{All};
 ghost use Rattle.msc_chart.specs.Drawings.{Drawing};
@@ -143,7 +144,7 @@ impl EventTexts {
     }
 
     /// Puts the text of the race of `e` and `f`, two events of one line, behind a page. An error is
-    /// a growth of memory that was refused; the page then has a beginning of the text.
+    /// a growth of memory that was refused; what stands in the page is not said then.
     pub fn put_race(&self, page: &mut Vec<u8>, e: Event, f: Event) -> Result<(), AllocError>
         requires e_known { e < length self.now }
         requires f_known { f < length self.now }

@@ -1,12 +1,14 @@
 //! The text of one race.
 
-ghost use Rattle.std.specs.Prelude.{◌≡◌, ◌<◌, ◌++◌, false, OnOk, length};
+ghost use Rattle.std.specs.Prelude.{◌≡◌, ◌<◌, ◌++◌, false, None, OnOk, Some, length};
 ghost use Rattle.std.specs.Io.KnownBytes.{Appends};
 ghost use Rattle.std.specs.List.{flat_map};
 ghost use Rattle.std.specs.Option.{option_copied};
 ghost use Rattle.msc_chart.specs.Charts.{is_local, line, message, partner};
 ghost use Rattle.msc_chart.specs.Drawings.{message_at};
-ghost use Rattle.msc_report.specs.Verdicts.{action_text, event_at, event_text, instance_text, message_text, number_text, race_events, race_place, race_text, run_line, shown_byte, spaced};
+ghost use Rattle.msc_report.specs.Verdicts.{action_text, event_at, event_text, instance_text};
+ghost use Rattle.msc_report.specs.Verdicts.{message_text, number_text, race_events, race_place};
+ghost use Rattle.msc_report.specs.Verdicts.{race_text, run_line, shown_byte, spaced};
 
 use itoa::Buffer;
 use msc_chart::{Chart, Event};
@@ -164,19 +166,14 @@ pub(crate) fn write_numbers<W: Write>(writer: &mut W, numbers: &[u32]) -> io::Re
     Ok(())
 }
 
-/// Writes the events of a run, where one is shown.
-pub fn write_run<W: Write>(writer: &mut W, run: Option<&[Event]>) -> io::Result<()>
+/// Writes the line of a run: its events.
+pub fn write_run<W: Write>(writer: &mut W, run: &[Event]) -> io::Result<()>
     ensures { OnOk result (Appends (W.contents writer.old) (W.contents writer.new)
-        (run_line (option_copied run.entry))) }
+        (run_line (Some run.now))) }
 {
-    match run {
-        Some(events) => {
-            writer.write_all(b"run")?;
-            write_numbers(writer, events)?;
-            writer.write_all(b"\n")
-        }
-        None => Ok(()),
-    }
+    writer.write_all(b"run")?;
+    write_numbers(writer, run)?;
+    writer.write_all(b"\n")
 }
 
 /// Writes which events race, and on which line.
@@ -204,21 +201,14 @@ fn write_pair<W: Write>(writer: &mut W, chart: &Chart, e: Event, f: Event) -> io
 }
 
 /// Writes the race of `e` and `f`, two events of one line: their numbers, the instance's name and
-/// what they do; and behind it, where a run is given, a line with all its events.
-pub fn write_race<W: Write>(
-    writer: &mut W,
-    chart: &Chart,
-    e: Event,
-    f: Event,
-    run: Option<&[Event]>,
-) -> io::Result<()>
+/// what they do.
+pub fn write_race<W: Write>(writer: &mut W, chart: &Chart, e: Event, f: Event) -> io::Result<()>
     requires e_known { e < length chart.now.events }
     requires f_known { f < length chart.now.events }
     ensures { OnOk result (Appends (W.contents writer.old) (W.contents writer.new)
-        (race_text chart.now e f (option_copied run.entry))) }
+        (race_text chart.now e f None)) }
 {
     write_place(writer, chart, e, f)?;
     writer.write_all(b": ")?;
-    write_pair(writer, chart, e, f)?;
-    write_run(writer, run)
+    write_pair(writer, chart, e, f)
 }

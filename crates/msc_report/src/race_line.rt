@@ -4,7 +4,8 @@
 //! few instructions for each, into room that was asked for once; what a block has too much is
 //! written over by the next one, and dropped behind the last.
 
-ghost use Rattle.std.specs.Prelude.{◌≡◌, ◌+◌, ◌≤◌, ◌++◌, IsTrue, IfOk, OnOk, length, slice_range, take};
+ghost use Rattle.std.specs.Prelude.{◌≡◌, ◌+◌, ◌≤◌, ◌++◌, IsTrue, IfOk, OnOk, length, slice_range};
+ghost use Rattle.std.specs.Prelude.{take};
 ghost use Rattle.msc_report.specs.Spans.{text_at, with_parts, AreShort, IsSpanIn};
 
 use crate::event_texts::Span;
@@ -57,7 +58,7 @@ fn put_block<const N: usize>(
 }
 
 /// Puts the parts of a race behind a page, as blocks. An error is a growth of memory that was
-/// refused; the page is then as it was.
+/// refused.
 pub(crate) fn put_blocks(
     page: &mut Vec<u8>,
     bytes: &[u8],
@@ -82,7 +83,7 @@ pub(crate) fn put_blocks(
 }
 
 /// Puts the parts of a race behind a page, however long they are. An error is a growth of memory
-/// that was refused; the page then has a beginning of the text.
+/// that was refused.
 pub(crate) fn put_slices(
     page: &mut Vec<u8>,
     bytes: &[u8],

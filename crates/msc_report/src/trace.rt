@@ -4,7 +4,8 @@ ghost use Rattle.std.specs.Prelude.{◌≡◌, ◌<◌, IfSome, OnOk, length};
 ghost use Rattle.std.specs.Io.KnownBytes.{Appends};
 ghost use Rattle.std.specs.List.{All, flat_map};
 ghost use Rattle.std.specs.Option.{option_copied};
-ghost use Rattle.msc_report.specs.Traces.{end_line, end_lines, end_text, event_line, trace_lines, trace_text};
+ghost use Rattle.msc_report.specs.Traces.{end_line, end_lines, end_text, event_line, trace_lines};
+ghost use Rattle.msc_report.specs.Traces.{trace_text};
 
 use crate::race::{write_event_at, write_instance};
 use crate::verdict::{write_name_line, write_queues_line};

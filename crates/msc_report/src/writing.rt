@@ -5,7 +5,8 @@
 
 ghost use Rattle.std.specs.Prelude.{◌≡◌, IfNone, IfSome, OnOk};
 ghost use Rattle.std.specs.Io.KnownBytes.{Appends};
-ghost use Rattle.msc_report.specs.Texts.{chart_fault_line, fault_line, grammar_line, lexical_line, text_line, numbered, pair_fault_line, placed};
+ghost use Rattle.msc_report.specs.Texts.{chart_fault_line, fault_line, grammar_line, lexical_line};
+ghost use Rattle.msc_report.specs.Texts.{text_line, numbered, pair_fault_line, placed};
 
 use crate::fault::{Fault, PairFault};
 use msc_chart::ChartFault;

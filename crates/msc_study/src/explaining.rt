@@ -1,11 +1,12 @@
 //! From a text and two numbers to why one event comes before another, bytes to bytes.
 
-ghost use Rattle.std.specs.Prelude.{◌≡◌, ◌≢◌, ◌<◌, ◌⊎◌, ℕ, List, length, IfErr, IfOk, IfSome, MatchOption, Ok, true, false};
+ghost use Rattle.std.specs.Prelude.{◌≡◌, ◌≢◌, ◌<◌, ◌⊎◌, ℕ, List, length, IfErr, IfOk, IfSome};
+ghost use Rattle.std.specs.Prelude.{MatchOption, Ok};
 ghost use Rattle.std.specs.Io.KnownBytes.{Appends};
-ghost use Rattle.msc_chart.specs.Orders.{wired, Enforced};
-ghost use Rattle.msc_reason.specs.Reasons.{IsReason};
+ghost use Rattle.msc_chart.specs.Orders.{Enforced};
 ghost use Rattle.msc_study.specs.Explained.{told, NamesAll, PrintsPair};
-ghost use Rattle.msc_study.specs.Explaining.{AnswersPair, AreTwoEvents, ExplainsText, IsPairFault, RefusesInputPair, RefusesPair};
+ghost use Rattle.msc_study.specs.Explaining.{AnswersPair, AreTwoEvents, ExplainsText, IsPairFault};
+ghost use Rattle.msc_study.specs.Explaining.{RefusesInputPair, RefusesPair};
 ghost use Rattle.msc_study.specs.Reasons.{explained_text};
 ghost use Rattle.msc_text.specs.Answers.{OnRead, RefusesInput, RefusesText, StartsNothing};
 ghost use Rattle.msc_text.specs.Checking.{RefusesDraft, RefusesInputDraft};

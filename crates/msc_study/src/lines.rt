@@ -2,8 +2,7 @@
 
 ghost use Rattle.std.specs.Prelude.{◌<◌, ◌++◌, OnOk, length, true};
 ghost use Rattle.std.specs.Io.KnownBytes.{Appends};
-ghost use Rattle.msc_report.specs.Verdicts.{race_text};
-ghost use Rattle.msc_study.specs.Lines.{allowed_line, always_text, closest_line, kind_line, pair_line, why_text};
+ghost use Rattle.msc_study.specs.Lines.{allowed_line, closest_line, kind_line, pair_line, why_text};
 
 use crate::view::KindSet;
 use msc_chart::{Chart, Event};

@@ -2,12 +2,11 @@
 
 ghost use Rattle.std.specs.Prelude.{◌≡◌, ◌<◌, ◌++◌, OnOk, length};
 ghost use Rattle.std.specs.Io.KnownBytes.{Appends};
-ghost use Rattle.std.specs.Option.{option_copied};
-ghost use Rattle.msc_chart.specs.Charts.{partner};
-ghost use Rattle.msc_report.specs.Verdicts.{run_line};
-ghost use Rattle.msc_study.specs.Explained.{AreEventsOf, NamesAll, NamesEvents, NamesLack, NamesLate};
+ghost use Rattle.msc_study.specs.Explained.{AreEventsOf, NamesAll, NamesEvents, NamesLack};
+ghost use Rattle.msc_study.specs.Explained.{NamesLate};
 ghost use Rattle.msc_study.specs.Lines.{pair_line};
-ghost use Rattle.msc_study.specs.Reasons.{chain_text, explained_text, free_text, late_text, reason_text, showing_text, step_word};
+ghost use Rattle.msc_study.specs.Reasons.{chain_text, explained_text, free_text, late_text};
+ghost use Rattle.msc_study.specs.Reasons.{reason_text, showing_text, step_word};
 
 use crate::lines::{write_pair, write_why};
 use msc_chart::{Chart, Event, Queues};
@@ -100,7 +99,7 @@ fn write_free<W: Write>(
 {
     match lack {
         Some(lack) => {
-            write_race(writer, chart, e, f, None)?;
+            write_race(writer, chart, e, f)?;
             write_why(writer, chart, &lack)
         }
         None => write_pair(writer, chart, "free", e, f),
@@ -151,7 +150,7 @@ fn write_reason<W: Write>(
         Reason::Free(run, lack, late) => {
             write_free(writer, chart, e, f, *lack)?;
             write_late(writer, chart, e, f, late)?;
-            write_run(writer, Some(run.as_slice()))
+            write_run(writer, run.as_slice())
         }
     }
 }

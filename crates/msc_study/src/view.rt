@@ -19,14 +19,6 @@ pub struct KindSet {
 }
 
 impl KindSet {
-    /// The set without a kind.
-    pub const EMPTY: KindSet = KindSet {
-        early: false,
-        queues: false,
-        unordered: false,
-        overtaken: false,
-    };
-
     /// Whether the set has a kind.
     pub fn has(self, kind: RaceKind) -> bool
         ensures { result ≡ has_kind self kind }

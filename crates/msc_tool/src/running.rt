@@ -1,6 +1,7 @@
 //! From a text to an execution of its chart and its trace, bytes to bytes.
 
-ghost use Rattle.std.specs.Prelude.{◌≡◌, ◌≢◌, ◌<◌, ◌↔◌, ℕ, List, length, map, IfErr, IfOk, IfSome, IsTrue, Some};
+ghost use Rattle.std.specs.Prelude.{◌≡◌, ◌≢◌, ◌<◌, ◌↔◌, ℕ, List, length, map, IfErr, IfOk, IfSome};
+ghost use Rattle.std.specs.Prelude.{IsTrue, Some};
 ghost use Rattle.std.specs.Io.KnownBytes.{Appends};
 ghost use Rattle.std.specs.List.{All};
 ghost use Rattle.msc_chart.specs.Orders.{wired};
@@ -12,7 +13,8 @@ ghost use Rattle.msc_report.specs.Traces.{trace_text};
 ghost use Rattle.msc_text.specs.Answers.{OnRead, RefusesInput, RefusesText};
 ghost use Rattle.msc_text.specs.Checking.{RefusesDraft, RefusesInputDraft};
 ghost use Rattle.msc_tool.specs.Ran.{IsRunFault};
-ghost use Rattle.msc_tool.specs.Running.{NamesAnInstance, NamesAnInstanceOf, PrintsExecution, RunsText, WritesTrace};
+ghost use Rattle.msc_tool.specs.Running.{NamesAnInstance, NamesAnInstanceOf, PrintsExecution};
+ghost use Rattle.msc_tool.specs.Running.{RunsText, WritesTrace};
 
 use msc_chart::{Chart, Event, Queues};
 use msc_execution::End;

@@ -8,7 +8,8 @@ use example_charts::{
     TEXTS_OF_ACTIONS, TWO_MAILBOXES, TWO_SENDERS, WAITS,
 };
 use msc_chart::{Chart, Queues};
-use msc_tool::{Fault, check_text, write_race};
+use msc_report::{write_race, write_run};
+use msc_tool::{Fault, check_text};
 use std::alloc::{AllocError, Global};
 use std::test::Fail;
 
@@ -225,9 +226,11 @@ fn a_refused_text_leaves_the_writer_with_no_call(rt: HostRuntime) {
     }
 }
 
-/// Whether a race of a chart of four events is written with its run.
+/// Whether a race of a chart of four events is written, and a run behind it.
 fn is_race_written(writer: &mut Narrow, chart: &Chart) -> bool {
-    chart.events() == 4 && write_race(writer, chart, 1, 2, Some([0, 3, 2, 1].as_slice())).is_ok()
+    chart.events() == 4
+        && write_race(writer, chart, 1, 2).is_ok()
+        && write_run(writer, &[0, 3, 2, 1]).is_ok()
 }
 
 /// Whether that race of `two_senders` is written as `wanted`.
