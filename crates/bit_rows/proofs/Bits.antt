@@ -98,6 +98,7 @@ bit_other a i fits below = rw (bit_at_not w64 a i fits below) (digit_not (bit_at
 pub bit_alone : (k i : ℕ) → k < 64 → bit_of (1 * 2 ^ k % 2 ^ 64) i ≡ eqb i k
 bit_alone k i below = sym (orz (1 * 2 ^ k % 2 ^ 64)) ∙ bit_put 0 k i below ∙ rw (bit_zero i) refl
   where
+    -- joining with zero changes no bit
     orz : (a : ℕ) → bit_of (bit_or 0 a) i ≡ bit_of a i
     orz a = bit_join 0 a i ∙ rw (bit_zero i) refl
 

@@ -126,6 +126,7 @@ pub take_both : (test : ℕ → ℕ → Bool) (e f : ℕ) (wanted : Bool) (now l
 unfolding with_row
 take_both test e f true now last merged put kept x y = put refl x y ∙ rw (merged x y) (bits (test x y) (eqb x e) (test f y) (eqb y f))
   where
+    -- whether the two are taken in one after the other or both at once is the same
     bits : (a b t d : Bool) → ((a || (b && t)) || (b && d)) ≡ (a || (b && (d || t)))
     bits true b t d = refl
     bits false false t d = refl

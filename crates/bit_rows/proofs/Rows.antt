@@ -22,6 +22,7 @@ pub has_blank : (size y : ℕ) → has (replicate size 0) y ≡ false
 unfolding has
 has_blank size y = ap (λ word. bit_of word (y % 64)) (zero_at (y / 64)) ∙ bit_zero (y % 64)
   where
+    -- each word of the row is zero, and so is what is read behind them
     zero_at : (i : ℕ) → get_or {A = ℕ} (replicate size 0) i 0 ≡ 0
     zero_at i = elim (cases_lt i size) [
       | inl lt ↦ get_or-replicate size i 0 0 lt
@@ -146,8 +147,10 @@ has_cut count n rest y size is some =
           ∙ rw (get_or-set_other row (n / 64) (y / 64) word 0 other) (sym (has_at row y (y / 64) refl) ∙ has_ones count y ∙ apart other)
     ]
   where
+    -- in the word of n, the bits that are left are those of the numbers below n
     cut : y / 64 ≡ n / 64 → ltb (y % 64) (64 - (64 - rest)) ≡ ltb y n
     cut same = grind (arith, nat_tests, is, some)
 
+    -- in another word, the numbers of the row are those below n
     apart : y / 64 ≢ n / 64 → ltb y (64 * count) ≡ ltb y n
     apart other = grind (arith, nat_tests, size, is, some)

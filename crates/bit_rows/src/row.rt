@@ -2,7 +2,8 @@
 
 ghost use Rattle.std.specs.Prelude.{◌≡◌, ◌≢◌, ℕ, ◌+◌, ◌*◌, ◌/◌, ◌%◌, ◌<◌, ◌≤◌, ◌||◌, false, length};
 ghost use Rattle.std.specs.Prelude.{◌&&◌, not, nat_eq, nat_lt, replicate, IsTrue, IfOk};
-ghost use Rattle.bit_rows.specs.Rows.{bit_of, has, word_count, AreApartTo, IsFirstCommon, IsWithout};
+ghost use Rattle.bit_rows.specs.Rows.{bit_of, has, word_count, AreApartTo, IsFirstCommon};
+ghost use Rattle.bit_rows.specs.Rows.{IsWithout};
 
 use std::alloc::{AllocError, Global};
 

@@ -1,6 +1,7 @@
 //! Sets of numbers whose least one is asked for again and again.
 
-ghost use Rattle.std.specs.Prelude.{◌≡◌, ℕ, ◌*◌, ◌/◌, ◌<◌, ◌≤◌, ◌||◌, false, length, nat_eq, IsTrue, IfOk};
+ghost use Rattle.std.specs.Prelude.{◌≡◌, ℕ, ◌*◌, ◌/◌, ◌<◌, ◌≤◌, ◌||◌, false, length, nat_eq};
+ghost use Rattle.std.specs.Prelude.{IsTrue, IfOk};
 ghost use Rattle.bit_rows.specs.Rows.{bit_of, has, word_count, IsWith, IsWithout};
 
 use crate::row;

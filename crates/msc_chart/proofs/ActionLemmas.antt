@@ -36,6 +36,7 @@ texts_count (Action text ∷ xs) =
 local_kind : (a : Act) → acts (act_kind a) ≡ is_action a
 local_kind (End x) = by x.sends
   where
+    -- neither an output nor an input acts
     by : (b : Bool) → acts (cond b Output Input) ≡ false
     by true = refl
     by false = refl

@@ -2,6 +2,7 @@
 -- closed it has reached everything.
 use Rattle.std.proofs.Common.{◌≡◌, ℕ, ◌<◌, ◌≤◌, true, List, length, get_or, set, ◌⊎◌, inl, inr, refl, sym, ap, subst, ◌∙◌, arith, get_or-set_other, get_or-set_same}
 use Rattle.std.proofs.lemmas.Bool.{cases_eq}
+use Rattle.msc_chart.specs.declared.TheConstants.{EVENT_LIMIT}
 use Rattle.msc_chart.specs.declared.event.ChartEvent.{ChartEvent}
 use Rattle.msc_chart.specs.Charts.{at, line, segment, kind, partner, is_output, is_input, Visual, IsMatched, AreOnLines}
 use Rattle.msc_chart.specs.Charts.Visual.{seen, passed, linked}
@@ -101,7 +102,7 @@ module _ (lines : ℕ) (events : List ChartEvent) (e : ℕ) (low : List ℕ) (ma
       }
 
   -- at first e alone is reached
-  pub begun_sound : e < length events → length events ≤ 3072 → length low ≡ lines → ((k : ℕ) → k < length low → get_or low k 0 ≡ 4294967295)
+  pub begun_sound : e < length events → length events ≤ EVENT_LIMIT → length low ≡ lines → ((k : ℕ) → k < length low → get_or low k 0 ≡ 4294967295)
       → AreReached events e (set low (at events e).line (at events e).segment)
   unfolding line segment
   begun_sound within few len none =

@@ -50,6 +50,7 @@ module _ (events : List ChartEvent) where
   pub not_both : (e : ℕ) → is_output events e ≡ true → is_input events e ≡ true → ⊥
   not_both e o i = by (kind events e) (output_parts e o).1 (input_parts e i).1
     where
+      -- no kind both sends and takes
       by : (k : EventKind) → sends k ≡ true → takes k ≡ true → ⊥
       by Output h k = true≢false (sym k)
       by Input h k = true≢false (sym h)
@@ -89,6 +90,7 @@ module _ (events : List ChartEvent) where
   pub output_controlled : (e : ℕ) → is_output events e ≡ true → is_controlled events e ≡ true
   output_controlled e o = let p = output_parts e o in controlled_from e p.0 (by (kind events e) p.1)
     where
+      -- a kind that sends controls
       by : (k : EventKind) → sends k ≡ true → controls k ≡ true
       by Output h = refl
       by Input h = h
@@ -98,6 +100,7 @@ module _ (events : List ChartEvent) where
   pub controlled_no_input : (e : ℕ) → is_controlled events e ≡ true → is_input events e ≡ true → ⊥
   controlled_no_input e c i = by (kind events e) (controlled_parts e c).1 (input_parts e i).1
     where
+      -- no kind both controls and takes
       by : (k : EventKind) → controls k ≡ true → takes k ≡ true → ⊥
       by Output h k = true≢false (sym k)
       by Input h k = true≢false (sym h)
@@ -107,6 +110,7 @@ module _ (events : List ChartEvent) where
   pub controlled_or_input : (e : ℕ) → e < length events → (is_controlled events e ≡ true) ⊎ (is_input events e ≡ true)
   controlled_or_input e below = by (kind events e) refl
     where
+      -- each kind controls or takes
       by : (k : EventKind) → kind events e ≡ k → (is_controlled events e ≡ true) ⊎ (is_input events e ≡ true)
       by Output h = inl (controlled_from e below (ap controls h))
       by Input h = inr (input_from e below (ap takes h))
@@ -116,6 +120,7 @@ module _ (events : List ChartEvent) where
   pub output_or_input : (e : ℕ) → e < length events → is_local events e ≡ false → (is_output events e ≡ true) ⊎ (is_input events e ≡ true)
   output_or_input e below away = by (kind events e) refl
     where
+      -- each kind but the local one sends or takes
       by : (k : EventKind) → kind events e ≡ k → (is_output events e ≡ true) ⊎ (is_input events e ≡ true)
       by Output h = inl (output_from e below (ap sends h))
       by Input h = inr (input_from e below (ap takes h))
@@ -126,6 +131,7 @@ module _ (events : List ChartEvent) where
   unfolding is_local
   output_not_local e o = let p = output_parts e o in rw (lt-ltb e (length events) p.0) (by (kind events e) p.1)
     where
+      -- no kind both sends and acts
       by : (k : EventKind) → sends k ≡ true → acts k ≡ false
       by Output h = refl
       by Input h = refl
@@ -136,6 +142,7 @@ module _ (events : List ChartEvent) where
   unfolding is_local
   input_not_local e i = let p = input_parts e i in rw (lt-ltb e (length events) p.0) (by (kind events e) p.1)
     where
+      -- no kind both takes and acts
       by : (k : EventKind) → takes k ≡ true → acts k ≡ false
       by Output h = refl
       by Input h = refl

@@ -52,6 +52,7 @@ module _ (i : ℕ) (own : List ℕ) where
   item_events seg k (Single s) = refl
   item_events seg k (Coregion ss) = from_mapped (λ s. (drawn i own seg s, item_place i k)) (λ b. b.0) ss
 
+  -- and the places are the item's
   item_places : (seg k : ℕ) (x : Item) → map (λ b. b.1) (placed_of_item i own seg k x) ≡ places_of_item i k x
   item_places seg k (Single s) = refl
   item_places seg k (Coregion ss) = from_mapped (λ s. (drawn i own seg s, item_place i k)) (λ b. b.1) ss
@@ -61,6 +62,7 @@ module _ (i : ℕ) (own : List ℕ) where
   items_events seg k [] = refl
   items_events seg k (x ∷ xs) = from_joined (λ b. b.0) _ _ _ _ (item_events seg k x) (items_events (next_segment seg x) (k + 1) xs)
 
+  -- of their places too
   items_places : (seg k : ℕ) (xs : List Item) → map (λ b. b.1) (placed_of_items i own seg k xs) ≡ places_of_items i k xs
   items_places seg k [] = refl
   items_places seg k (x ∷ xs) = from_joined (λ b. b.1) _ _ _ _ (item_places seg k x) (items_places (next_segment seg x) (k + 1) xs)
@@ -73,6 +75,7 @@ module _ (i : ℕ) (own : List ℕ) where
     pub in_item : b.1.item ≡ k
     pub next : next_segment seg x ≡ seg + 1
 
+  -- so stands each event of an item
   of_item : (seg k : ℕ) (x : Item) (b : Placed) → Occurs (placed_of_item i own seg k x) b → OfItem seg k x b
   of_item seg k (Single s) b (zero, h) =
       let same : (drawn i own seg s, item_place i k) ≡ b = cc in
@@ -96,6 +99,7 @@ module _ (i : ℕ) (own : List ℕ) where
   rises seg (Coregion []) = omega arith
   rises seg (Coregion (s ∷ ss)) = omega arith
 
+  -- each event of some items stands so
   of_items : (seg k : ℕ) (xs : List Item) (b : Placed) → Occurs (placed_of_items i own seg k xs) b → OfItems seg k b
   of_items seg k [] b (j, h) = cc
   of_items seg k (x ∷ xs) b h =
@@ -196,6 +200,7 @@ module _ (d : Tree) where
     placed : both.1 ≡ p
     stands : StandsAt (chart_events d) e (event_of (acts_of d) e both.0)
 
+  -- at each place of the text stands its event
   event_at : (e : ℕ) (p : ItemPlace) → StandsAt (draft_places d) e p → IsEventAt e p
   unfolding events_of
   event_at e p h =

@@ -6,6 +6,7 @@ use Rattle.std.proofs.lemmas.Bool.{cases_lt}
 use Rattle.std.proofs.lemmas.List.{length-map}
 use Rattle.std.proofs.lemmas.List.Sums.{sum_by-cons}
 use Rattle.msc_parser.specs.Grammar.{Tree}
+use Rattle.msc_chart.specs.declared.TheConstants.{ACTION_LIMIT, EVENT_LIMIT, INSTANCE_LIMIT, MESSAGE_LIMIT}
 use Rattle.msc_chart.specs.declared.fault.ChartFault.{ChartFault}
 use Rattle.msc_chart.specs.declared.fault.ChartFault.TheVariants.{TooManyInstances, TwiceInstance, HeaderWithoutBody, UnknownAddress, TooManyMessages, TooManyActions, TwiceEvent, UnmatchedOut, UnmatchedIn, Cyclic, Memory}
 use Rattle.msc_chart.specs.declared.event.ChartEvent.{ChartEvent}
@@ -86,10 +87,12 @@ each_way (x ∷ xs) =
     let own = sum_by-cons (λ (y : Act). cond (is_action y) 1 0) x xs in
     omega (arith, rest, sent, taken, own, one_way x)
   where
+    -- an end of a message is sent or taken, and not both
     by : (b : Bool) → cond b 1 0 + cond (not b) 1 0 + 0 ≡ 1
     by true = refl
     by false = refl
 
+    -- an act is exactly one of the three
     one_way : (a : Act) → cond (is_sent a) 1 0 + cond (is_taken a) 1 0 + cond (is_action a) 1 0 ≡ 1
     one_way (End e) = by e.sends
     one_way (Action text) = refl
@@ -99,12 +102,12 @@ at_most : (limit n : ℕ) → (limit < n → ⊥) → n ≤ limit
 at_most limit n none = elim (cases_lt limit n) [ inl many ↦ absurd (none many) | inr few ↦ few ]
 
 -- so where none of them are too many, all are few
-pub few_acts : (xs : List Act) → (AreTooMany xs → ⊥) → (1024 < count_by is_action xs → ⊥) → length xs ≤ 3072
+pub few_acts : (xs : List Act) → (AreTooMany xs → ⊥) → (ACTION_LIMIT < count_by is_action xs → ⊥) → length xs ≤ EVENT_LIMIT
 few_acts xs none few =
     let each = each_way xs in
-    let sent = at_most 1024 (count_by is_sent xs) (λ m. none (inl m)) in
-    let taken = at_most 1024 (count_by is_taken xs) (λ m. none (inr m)) in
-    let own = at_most 1024 (count_by is_action xs) few in omega arith
+    let sent = at_most MESSAGE_LIMIT (count_by is_sent xs) (λ m. none (inl m)) in
+    let taken = at_most MESSAGE_LIMIT (count_by is_taken xs) (λ m. none (inr m)) in
+    let own = at_most ACTION_LIMIT (count_by is_action xs) few in omega arith
 
 -- the chart of a draft without faults is accepted
 pub accepted : (d : Tree) → IsFaultless d → IsAccepted (chart_of d)
@@ -113,14 +116,14 @@ accepted d none =
     let clear : IsClearBelow d 10 = λ f h. absurd (none f h) in
     let count : length (instances_of d) ≡ length d.sections = length-map d.sections (λ s. s.decl.name) in
     let few = few_acts (acts_of d) (none TooManyMessages) (none TooManyActions) in
-    let sent = at_most 1024 (count_by is_sent (acts_of d)) (λ m. none TooManyMessages (inl m)) in
-    let own = at_most 1024 (count_by is_action (acts_of d)) (none TooManyActions) in
+    let sent = at_most MESSAGE_LIMIT (count_by is_sent (acts_of d)) (λ m. none TooManyMessages (inl m)) in
+    let own = at_most ACTION_LIMIT (count_by is_action (acts_of d)) (none TooManyActions) in
     let outputs = messages_count 0 (acts_of d) in
     let texts = texts_count (acts_of d) in
     let events = chart_count d in
     let acts = acts_count d in
     record {
-      few_instances = at_most 32 (length (instances_of d)) (none TooManyInstances);
+      few_instances = at_most INSTANCE_LIMIT (length (instances_of d)) (none TooManyInstances);
       few_messages = omega arith;
       few_actions = omega arith;
       few_events = omega arith;

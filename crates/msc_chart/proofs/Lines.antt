@@ -55,6 +55,7 @@ below_start i (x ∷ xs) rise e within =
     let none = nothing i x xs rise up (λ k lt. below_start i xs (rest_rises x xs rise) k lt) in
     (λ lt. absurd (omega arith), λ lt. absurd (omega arith)))
   where
+    -- it holds with one more event in front that is on a lower line
     lower : (i : ℕ) (x : ChartEvent) (xs : List ChartEvent) → LinesRise xs
         → ((k : ℕ) → k < length xs → (k < line_start xs i → (at xs k).line < i) × ((at xs k).line < i → k < line_start xs i))
         → x.line < i → line_start (x ∷ xs) i ≡ 1 + line_start xs i → (e : ℕ) → e < suc (length xs)
@@ -64,6 +65,7 @@ below_start i (x ∷ xs) rise e within =
         let r = rest e (omega arith) in
         (λ lt. r.0 (omega arith), λ lt. let k = r.1 lt in omega arith)
 
+    -- behind an event that is not on a lower line there is none that is
     nothing : (i : ℕ) (x : ChartEvent) (xs : List ChartEvent) → LinesRise (x ∷ xs) → i ≤ x.line
         → ((k : ℕ) → k < length xs → (k < line_start xs i → (at xs k).line < i) × ((at xs k).line < i → k < line_start xs i))
         → line_start xs i ≡ 0

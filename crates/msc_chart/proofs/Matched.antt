@@ -6,6 +6,7 @@ use Rattle.std.proofs.lemmas.Bool.{lt-ltb}
 use Rattle.std.proofs.lemmas.Option.{slice_get_within, slice_get-get_or, get_or_from_slice_get}
 use Rattle.std.proofs.lemmas.List.{length-map}
 use Rattle.msc_parser.specs.Grammar.{Tree}
+use Rattle.msc_chart.specs.declared.TheConstants.{EVENT_LIMIT}
 use Rattle.msc_chart.specs.declared.fault.ChartFault.TheVariants.{TwiceEvent, UnmatchedOut, UnmatchedIn}
 use Rattle.msc_chart.specs.declared.event.EventKind.TheVariants.{Output, Input}
 use Rattle.msc_chart.specs.declared.event.ChartEvent.{ChartEvent}
@@ -28,6 +29,7 @@ use Rattle.msc_chart.proofs.Drawn.{local_parts}
 other-other : (x : MessageEnd) → other_end (other_end x) ≡ x
 other-other x = λ i. record { sends = twice x.sends i; key = x.key }
   where
+    -- what is negated twice is as before
     twice : (b : Bool) → not (not b) ≡ b
     twice true = refl
     twice false = refl
@@ -219,7 +221,7 @@ module _ (d : Tree) (clear : IsClearBelow d 10) where
       }
 
   -- so the events are ready to be put into a linear order
-  pub chart_ready : length (events_of d) ≤ 3072 → AreReady (length d.sections) (chart_events d)
+  pub chart_ready : length (events_of d) ≤ EVENT_LIMIT → AreReady (length d.sections) (chart_events d)
   chart_ready few = record {
     few = let n = chart_count d in omega arith;
     matched = chart_matched;

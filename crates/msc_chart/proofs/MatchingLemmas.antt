@@ -24,6 +24,7 @@ use Rattle.msc_chart.specs.Views.{end_view, mark_view}
 pub number_view : (a b : code.MessageEnd) → option_eq (λ x y. pointwise nat_eq x.now y.now) a.number b.number ≡ same_number (option_copied a.number) (option_copied b.number)
 number_view a b = by a.number b.number
   where
+    -- whether both have a number, or one has, or none has
     by : (m n : _) → option_eq (λ x y. pointwise nat_eq x.now y.now) m n ≡ same_number (option_copied m) (option_copied n)
     by None None = refl
     by None (Some y) = refl

@@ -118,6 +118,7 @@ message_own k (End y ∷ ys) m below =
     (first k y ys (λ n lt. message_own (k + 1) ys n lt) m sent (subst (λ (l : List Message). m < length l) (messages-yes k y ys sent) below)))
     (λ taken. moved k (End y) ys m taken (message_own (k + 1) ys m (subst (λ (l : List Message). m < length l) (messages-no k (End y) ys taken) below)))
   where
+    -- the first message is that of the output in front, and the others come behind it
     first : (k : ℕ) (y : MessageEnd) (ys : List Act) → ((n : ℕ) → n < length (messages_from (k + 1) ys) → IsMessageOf (k + 1) ys (messages_from (k + 1) ys) n)
         → (m : ℕ) → y.sends ≡ true → m < suc (length (messages_from (k + 1) ys)) → IsMessageOf k (End y ∷ ys) (message_of k y ∷ messages_from (k + 1) ys) m
     first k y ys rest zero sent lt = record { place = 0; end = y; stands = refl; sent = sent; count = refl; output = omega arith }
@@ -138,6 +139,7 @@ module _ (d : Tree) (clear : IsClearBelow d 10) where
   sent_end : (e : ℕ) (a : Act) → StandsAt (acts_of d) e a → sends (act_kind a) ≡ true → (x : MessageEnd) × StandsAt (acts_of d) e (End x) × (x.sends ≡ true) × (a ≡ End x)
   sent_end e (End x) here sent = (x, here, by x.sends sent, refl)
     where
+      -- of the two kinds of end only an output sends
       by : (b : Bool) → sends (cond b Output Input) ≡ true → b ≡ true
       by true h = refl
       by false h = h

@@ -8,6 +8,7 @@ use Rattle.std.proofs.lemmas.Nat.{same_from_place}
 use Rattle.std.proofs.lemmas.List.FromFn.{length-range_with_len, get_or-range_with_len}
 use Rattle.std.proofs.lemmas.List.Sums.{length-filter, count_by-le-length}
 use Rattle.std.proofs.lemmas.Option.{slice_get-get_or}
+use Rattle.msc_chart.specs.declared.TheConstants.{INSTANCE_LIMIT}
 use Rattle.msc_chart.specs.declared.queue.Queues.{Queues}
 use Rattle.msc_chart.specs.declared.queue.Queues.TheVariants.{Pair, Mailbox, Single}
 use Rattle.msc_chart.specs.Charts.{line, partner, message, is_output, is_input, is_local}
@@ -109,11 +110,11 @@ number_bounded Mailbox d e accepted below away = (ends_in d accepted e below).1
 number_bounded Single d e accepted below away = accepted.has_messages.known e below away
 
 -- which is small
-pub bound_small : (queues : Queues) (d : Drawing) → IsAccepted d → queue_bound queues d ≤ 1024
+pub bound_small : (queues : Queues) (d : Drawing) → IsAccepted d → queue_bound queues d ≤ INSTANCE_LIMIT * INSTANCE_LIMIT
 unfolding queue_bound
 bound_small Pair d accepted =
     let few = accepted.few_instances in
-    let p : length d.instances * length d.instances ≤ 32 * length d.instances = mul-le-mul_right (length d.instances) few in
+    let p : length d.instances * length d.instances ≤ INSTANCE_LIMIT * length d.instances = mul-le-mul_right (length d.instances) few in
     omega (arith, p, few)
 bound_small Mailbox d accepted = let few = accepted.few_instances in omega (arith, few)
 bound_small Single d accepted = accepted.few_messages

@@ -2,6 +2,7 @@
 use Rattle.std.proofs.Common.{◌≡◌, ℕ, suc, ◌+◌, ◌*◌, ◌<◌, ◌≤◌, List, [], length, get_or, refl, sym, ap, ◌∙◌, subst, arith}
 use Rattle.std.proofs.Math.Nat.{mul-le-mul_right, suc-mul}
 use Rattle.std.proofs.lemmas.Option.{get_or_from_slice_get, slice_get_read}
+use Rattle.msc_chart.specs.declared.TheConstants.{INSTANCE_LIMIT}
 use Rattle.msc_chart.specs.declared.event.ChartEvent.{ChartEvent}
 use Rattle.msc_chart.specs.declared.message.Message.{Message}
 use Rattle.msc_chart.specs.Charts.{at, no_event}
@@ -67,8 +68,8 @@ seen_text inside now view slice same i k x number below here =
     sym (get_or_from_slice_get now.actions k x [] (slice_get_read now.actions (length now.actions) k x refl below e))
 
 -- queue numbers are small
-pub small_queue : (s n r : ℕ) → s < n → r < n → n ≤ 32 → s * n + r < 1024
+pub small_queue : (s n r : ℕ) → s < n → r < n → n ≤ INSTANCE_LIMIT → s * n + r < INSTANCE_LIMIT * INSTANCE_LIMIT
 small_queue s n r sender receiver few =
     let one_more : suc s * n ≤ n * n = mul-le-mul_right n sender in
-    let most : n * n ≤ 32 * n = mul-le-mul_right n few in
+    let most : n * n ≤ INSTANCE_LIMIT * n = mul-le-mul_right n few in
     omega (arith, suc-mul s n, one_more, most)

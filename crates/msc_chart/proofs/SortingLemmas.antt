@@ -133,10 +133,12 @@ module _ (events : List ChartEvent) (order : List ℕ) (marks : List Bool) (firs
         steps = Steps-push (Follows events) order e kept.steps (follows events order kept.steps e opened within new);
       }
     where
+      -- what is directly before e is an event of the chart
       directly_within : (x : ℕ) → IsDirectly events x e → x < length events
       directly_within x (inl h) = (before_parts events x e h).0
       directly_within x (inr h) = (output_parts events x h.0).0
 
+      -- what was put is still put
       still : (x : ℕ) → is_put marks x ≡ true → is_put (set marks e true) x ≡ true
       still x there = elim (cases_eq x e) [
         | inl same ↦ clash (ap (is_put marks) (sym same) ∙ there) out

@@ -7,6 +7,7 @@ use Rattle.std.specs.Prelude.{count_by}
 use Rattle.std.proofs.lemmas.List.{length-map}
 use Rattle.std.proofs.lemmas.Option.{slice_get_within}
 use Rattle.msc_parser.specs.Grammar.{Tree}
+use Rattle.msc_chart.specs.declared.TheConstants.{ACTION_LIMIT, INSTANCE_LIMIT}
 use Rattle.msc_chart.specs.declared.fault.ChartFault.TheVariants.{TooManyInstances, TwiceInstance, HeaderWithoutBody, UnknownAddress, TooManyMessages, TooManyActions, TwiceEvent, UnmatchedOut, UnmatchedIn}
 use Rattle.msc_chart.specs.declared.end.Mark as code
 use Rattle.msc_chart.specs.declared.end.DraftEvent as coded
@@ -63,14 +64,14 @@ module _ {T X : Type 0} (view : T → X) (eq : T → T → Bool) (items : List T
 
 module _ (d : Tree) where
   -- more than 32 sections are the first fault
-  pub many_instances_first : 32 < length d.sections → IsFirstFault d TooManyInstances
+  pub many_instances_first : INSTANCE_LIMIT < length d.sections → IsFirstFault d TooManyInstances
   unfolding Stands instances_of
   many_instances_first many = first_of d 1 0 (clear_first d) TooManyInstances refl refl (simp length-map many) (λ p h. omega arith)
 
   -- with at most 32 sections no fault of that rank stands
-  pub few_instances_clear : length d.sections ≤ 32 → IsClearBelow d 2
+  pub few_instances_clear : length d.sections ≤ INSTANCE_LIMIT → IsClearBelow d 2
   unfolding Stands instances_of
-  few_instances_clear few = clear_next d 1 (clear_first d) (λ p h. let many : 32 < length d.sections = simp length-map at h in omega arith)
+  few_instances_clear few = clear_next d 1 (clear_first d) (λ p h. let many : INSTANCE_LIMIT < length d.sections = simp length-map at h in omega arith)
 
   -- there are as many names as sections
   pub names_count : (names : List (Bor (List ℕ))) → map deref names ≡ instances_of d → length names ≡ length d.sections
@@ -144,14 +145,14 @@ module _ (d : Tree) where
     few_messages_clear clear few = clear_next d 5 clear (λ p h. few (subst AreTooMany (sym drawn) h))
 
     -- more than 1,024 actions are the first fault, where no lower one stands
-    pub many_actions_first : IsClearBelow d 6 → 1024 < count_by is_action (map mark_view marks) → IsFirstFault d TooManyActions
+    pub many_actions_first : IsClearBelow d 6 → ACTION_LIMIT < count_by is_action (map mark_view marks) → IsFirstFault d TooManyActions
     unfolding Stands
-    many_actions_first clear many = first_of d 6 0 clear TooManyActions refl refl (subst (λ ys. 1024 < count_by is_action ys) drawn many) (λ p h. omega arith)
+    many_actions_first clear many = first_of d 6 0 clear TooManyActions refl refl (subst (λ ys. ACTION_LIMIT < count_by is_action ys) drawn many) (λ p h. omega arith)
 
     -- with at most so many no fault of that rank stands
-    pub few_actions_clear : IsClearBelow d 6 → (1024 < count_by is_action (map mark_view marks) → ⊥) → IsClearBelow d 7
+    pub few_actions_clear : IsClearBelow d 6 → (ACTION_LIMIT < count_by is_action (map mark_view marks) → ⊥) → IsClearBelow d 7
     unfolding Stands
-    few_actions_clear clear few = clear_next d 6 clear (λ p h. few (subst (λ ys. 1024 < count_by is_action ys) (sym drawn) h))
+    few_actions_clear clear few = clear_next d 6 clear (λ p h. few (subst (λ ys. ACTION_LIMIT < count_by is_action ys) (sym drawn) h))
 
     -- the first end that repeats an earlier one is the first fault, where no lower one stands
     pub repeated_end_first : IsClearBelow d 7 → AreOwn marks → (e : ℕ) → IsFirstRepeat mark_same marks e → IsFirstFault d (TwiceEvent e)
@@ -200,10 +201,12 @@ pub marks_seen : (d : Tree) (events : List coded.DraftEvent) (marks : List code.
 unfolding acts_of
 marks_seen d events marks same seen = ap (map mark_view) same ∙ by 0 events ∙ ap (map (λ e. e.act)) seen
   where
+    -- the mark of an act shows the act, wherever it stands
     one : (k : ℕ) (a : code_act.Act) → mark_view (mark_at k a) ≡ act_view a
     one k (code_acts.End e) = refl
     one k (code_acts.Action text) = refl
 
+    -- and so it is of the marks from any number on
     by : (k : ℕ) (es : List coded.DraftEvent) → map mark_view (marks_from k es) ≡ map (λ e. e.act) (map event_view es)
     by k [] = refl
     by k (e ∷ es) = ap (λ a. a ∷ map mark_view (marks_from (k + 1) es)) (one k e.act) ∙ ap (λ l. act_view e.act ∷ l) (by (k + 1) es)

@@ -252,6 +252,7 @@ action-matched acts sends e text here u =
 module _ (acts : List Act) (once : (k : ℕ) → IsTwice acts k → ⊥) (e : ℕ) (x : MessageEnd)
     (here : StandsAt acts e (End x)) (k : ℕ)
     (output : k ≡ cond x.sends e (get_or (partners_of acts) e 0)) where
+  -- k is the place of that output
   output-here : k ≡ end_place acts (output_end x)
   output-here =
       output ∙ ap (cond x.sends e) (partner-at acts e (End x) here)
@@ -263,12 +264,14 @@ module _ (acts : List Act) (once : (k : ℕ) → IsTwice acts k → ⊥) (e : �
       let few = place-few acts (output_end x) in
       omega (arith, output-here, few, numbers-many acts)
 
+  -- and it is the subject of the end
   pub subject-of_end : get_or (numbers_of acts) k 0 ≡ subject_of acts e (End x)
   subject-of_end =
       ap (λ (n : ℕ). get_or (numbers_of acts) n 0) output-here ∙ number-of_end acts (output_end x)
 
 -- the event that an event of a draft becomes, by the kind, partner and subject of what stands there
 module _ (acts : List Act) (e : ℕ) (x : DraftEvent) (own : StandsAt acts e (event_view x).act) where
+  -- the parts that were read make that event
   pub charted_act : (a : Act) (t : EventKind × ℕ) (p : ℕ) → StandsAt acts e a
       → p ≡ get_or (partners_of acts) e 0 → t ≡ (act_kind a, subject_of acts e a)
       → record { line = x.line; segment = x.segment; kind = t.0; partner = p; subject = t.1 }

@@ -78,6 +78,7 @@ events_of_sections line [] = []
 events_of_sections line (s ∷ ss) =
     events_of_items line s.decl.name 0 s.items ++ events_of_sections (line + 1) ss
 
+-- the events of a draft, section by section
 unfoldable pub events_of : Tree → List DraftEvent
 events_of draft = events_of_sections 0 draft.sections
 
@@ -85,6 +86,7 @@ events_of draft = events_of_sections 0 draft.sections
 unfoldable pub instances_of : Tree → List (List ℕ)
 instances_of draft = map (λ s. s.decl.name) draft.sections
 
+-- the names in the header
 unfoldable pub header_of : Tree → List (List ℕ)
 header_of draft = map (λ d. d.name) draft.header
 
@@ -96,6 +98,7 @@ address_of e = cond e.sends e.key.receiver e.key.sender
 abbrev pub other_end : MessageEnd → MessageEnd
 other_end e = record { sends = not e.sends; key = e.key }
 
+-- what the events of a draft do
 unfoldable pub acts_of : Tree → List Act
 acts_of draft = map (λ e. e.act) (events_of draft)
 

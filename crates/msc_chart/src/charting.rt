@@ -3,7 +3,8 @@
 ghost use Rattle.std.specs.Prelude.{◌≡◌, ◌<◌, ◌≤◌, ℕ, map, length, cond, IfOk};
 ghost use Rattle.std.specs.Option.{option_copied};
 ghost use Rattle.msc_chart.specs.Events.{instances_of};
-ghost use Rattle.msc_chart.specs.Charting.{end_place, partner_of, event_of, events_from, messages_from, texts_of};
+ghost use Rattle.msc_chart.specs.Charting.{end_place, partner_of, event_of, events_from};
+ghost use Rattle.msc_chart.specs.Charting.{messages_from, texts_of};
 ghost use Rattle.msc_chart.specs.Faults.{IsTwice};
 ghost use Rattle.msc_chart.specs.Lists.{StandsAt};
 ghost use Rattle.msc_chart.specs.Tables.{numbers_of, partners_of};

@@ -6,7 +6,8 @@ ghost use Rattle.msc_chart.specs.Events.{address_of, is_action};
 ghost use Rattle.msc_chart.specs.Charting.{is_of};
 ghost use Rattle.msc_chart.specs.Tables.{partners_of};
 ghost use Rattle.msc_chart.specs.Views.{mark_view};
-ghost use Rattle.msc_chart.specs.Faults.{AnswersLeast, AreTooMany, HoldsAt, IsUnknown, IsUnmatched, OfEnd};
+ghost use Rattle.msc_chart.specs.Faults.{AnswersLeast, AreTooMany, HoldsAt, IsUnknown, IsUnmatched};
+ghost use Rattle.msc_chart.specs.Faults.{OfEnd};
 
 use crate::end::Mark;
 use crate::event::EventKind;

@@ -2,7 +2,8 @@
 
 ghost use Rattle.std.specs.Prelude.{◌≡◌, ◌+◌, ◌<◌, ◌≤◌, ◌++◌, [], map, length, IfOk, OnOk};
 ghost use mathlib.Core.Path.{refl};
-ghost use Rattle.msc_chart.specs.Events.{events_of, events_of_item, events_of_items, next_segment, act_of, drawn, end_of, other_end, address_of};
+ghost use Rattle.msc_chart.specs.Events.{events_of, events_of_item, events_of_items, next_segment};
+ghost use Rattle.msc_chart.specs.Events.{act_of, drawn, end_of, other_end, address_of};
 ghost use Rattle.msc_chart.specs.Charting.{is_of};
 ghost use Rattle.msc_chart.specs.Hashing.{fed_end, ends_alike};
 ghost use Rattle.msc_chart.specs.Views.{act_view, end_view, event_view, mark_at, mark_view};

@@ -7,8 +7,16 @@ ghost use Rattle.msc_chart.specs.declared.event.EventKind.TheVariants.{Output, I
 ghost use Rattle.msc_chart.specs.Drawings.{chart_events, chart_of};
 ghost use Rattle.msc_chart.specs.Items.{EachHasAnEvent, ItemsAreDrawnInOrder};
 ghost use Rattle.msc_chart.specs.Orders.{wired};
-ghost use Rattle.msc_chart.specs.Laws.{EndsShareQueues, EventsHaveQueues, InputsShareLines, LinesAreRanges, LinesAreWithin, PairsHaveQueuesOfTheirOwn, QueueBoundsAreSmall, QueueNumbersAreBounded, QueuesAreBounded, SegmentsRise};
-ghost use Rattle.msc_chart.specs.Samples.{AreEnforcedPairs, actions, actions_pairs, below_coregion, coregion, done, drawn_pairs, empty_coregion, event, go, queue_numbers, relay, two_mailboxes, two_mailboxes_pairs, two_senders};
+ghost use Rattle.msc_chart.specs.Laws.{EndsShareQueues, EventsHaveQueues, InputsShareLines};
+ghost use Rattle.msc_chart.specs.Laws.{LinesAreRanges, LinesAreWithin, PairsHaveQueuesOfTheirOwn};
+ghost use Rattle.msc_chart.specs.Laws.{QueueBoundsAreSmall, QueueNumbersAreBounded};
+ghost use Rattle.msc_chart.specs.Laws.{QueuesAreBounded, SegmentsRise};
+ghost use Rattle.msc_chart.specs.Samples.{AreEnforcedPairs, actions, actions_pairs, below_coregion};
+ghost use Rattle.msc_chart.specs.Samples.{coregion, done, drawn_pairs, empty_coregion, event, go};
+ghost use Rattle.msc_chart.specs.Samples.{queue_numbers, relay, two_mailboxes, two_mailboxes_pairs};
+ghost use Rattle.msc_chart.specs.Samples.{two_senders};
+
+use crate::{ACTION_LIMIT, EVENT_LIMIT, INSTANCE_LIMIT, MESSAGE_LIMIT};
 
 /// Under each architecture a queue with a message has from 1 to 32 senders, one receiver, and at
 /// most 1,024 messages.
@@ -79,4 +87,12 @@ pub fn worked_charts()
     ensures enforced { AreEnforcedPairs (wired Mailbox (chart_of two_mailboxes))
         two_mailboxes_pairs }
     ensures controlled { AreEnforcedPairs (wired Mailbox (chart_of actions)) actions_pairs }
+{}
+
+/// The limits of a chart: its instances, messages, actions, and so its events.
+pub fn limits_of_charts()
+    ensures instances { INSTANCE_LIMIT ≡ 32 }
+    ensures messages { MESSAGE_LIMIT ≡ 1024 }
+    ensures actions { ACTION_LIMIT ≡ 1024 }
+    ensures events { EVENT_LIMIT ≡ 3072 }
 {}

@@ -6,10 +6,13 @@
 //! its line. So the sorting takes few steps for each event. Where it gets stuck before all events
 //! are put, some event precedes itself in the visual order.
 
-ghost use Rattle.std.specs.Prelude.{◌≡◌, ℕ, ◌+◌, ◌<◌, ◌≤◌, ◌↔◌, IsTrue, false, length, vec_len, IfOk, OnOk, IfErr};
+ghost use Rattle.std.specs.Prelude.{◌≡◌, ℕ, ◌+◌, ◌<◌, ◌≤◌, ◌↔◌, IsTrue, false, length, vec_len};
+ghost use Rattle.std.specs.Prelude.{IfOk, OnOk, IfErr};
 ghost use Rattle.std.specs.Bool.{OnTrue, OnFalse};
 ghost use Rattle.msc_chart.specs.Charts.{line, IsLinearOrder};
-ghost use Rattle.msc_chart.specs.Sortings.{is_put, AreReady, IsBarred, IsCycleOrMemory, IsLeftOn, IsUnbarred, IsSorting, IsStuckAt, IsStuckBelow, NoneLeftBelow};
+ghost use Rattle.msc_chart.specs.Sortings.{is_put, AreReady, IsBarred, IsCycleOrMemory, IsLeftOn};
+ghost use Rattle.msc_chart.specs.Sortings.{IsUnbarred, IsSorting, IsStuckAt, IsStuckBelow};
+ghost use Rattle.msc_chart.specs.Sortings.{NoneLeftBelow};
 
 use crate::cycle::least_cyclic;
 use crate::event::{ChartEvent, Event};

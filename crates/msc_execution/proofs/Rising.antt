@@ -55,15 +55,15 @@ module _ (chart : WiredChart) (places : Places) where
       (λ nor. rw nor (omega arith)))
 
   -- after these events an output's place has a clock that is not below the instance's
-  pub IsKept : List ℕ → ℕ → Type 0
+  pub HasRisen : List ℕ → ℕ → Type 0
   unfolding clock_from
-  IsKept past e = is_output chart.events e ≡ true
+  HasRisen past e = is_output chart.events e ≡ true
       → clock_after chart places past < put_clock chart places e
 
   -- so an event does not lower the clock
-  step_rises : (past : List ℕ) (e : ℕ) → IsKept past e
+  step_rises : (past : List ℕ) (e : ℕ) → HasRisen past e
       → clock_after chart places past ≤ clock_after chart places (past ++ e ∷ [])
-  unfolding IsKept
+  unfolding HasRisen
   step_rises past e kept =
       let pushed = clock_from-push 0 past e in
       by_test (is_output chart.events e)
@@ -72,7 +72,7 @@ module _ (chart : WiredChart) (places : Places) where
       (λ o. let s = step_keeps (clock_after chart places past) e o in omega arith)
 
   -- and a list of events does not
-  pub clock_rises : (past xs : List ℕ) → Steps IsKept past xs
+  pub clock_rises : (past xs : List ℕ) → Steps HasRisen past xs
       → clock_after chart places past ≤ clock_after chart places (past ++ xs)
   clock_rises past [] h = rw append-nil (omega arith)
   clock_rises past (x ∷ xs) h =
@@ -114,10 +114,10 @@ module _ {chart : WiredChart} {instances : ℕ} {logs : List (List ℕ)} {places
 
   -- so the outputs of a log raise the clock
   log_kept : (x : ℕ) → x < length chart.events
-      → Steps (IsKept chart places) [] (log_of chart logs x)
-  unfolding IsKept
+      → Steps (HasRisen chart places) [] (log_of chart logs x)
+  unfolding HasRisen
   log_kept x below =
-      steps_from (IsKept chart places) [] (log_of chart logs x)
+      steps_from (HasRisen chart places) [] (log_of chart logs x)
       (timed.lines.once (line chart.events x) (seated.on_lines x below))
       (λ e there o.
       let k = log_known x e below there in
@@ -135,14 +135,14 @@ module _ {chart : WiredChart} {instances : ℕ} {logs : List (List ℕ)} {places
       let log : List ℕ = log_of chart logs y in
       let x_there = until-within log y x h in
       let same = log_same y x (log_known y x below x_there).1 in
-      let at_y = step_at (IsKept chart places) log y (log_kept y below) logged in
+      let at_y = step_at (HasRisen chart places) log y (log_kept y below) logged in
       let p = parts (until log y) x h in
       let front : until (until log y) x ≡ until (log_of chart logs x) x =
       until-until log x y h ∙ ap (λ l. until l x) (sym same) in
       let split : until log y ≡ until (log_of chart logs x) x ++ x ∷ p.0 =
       p.1 ∙ ap (λ l. l ++ x ∷ p.0) front in
-      let kept = Steps-parts (IsKept chart places) [] (until (log_of chart logs x) x) (x ∷ p.0)
-      (subst (λ (l : List ℕ). Steps (IsKept chart places) [] l) split at_y.0) in
+      let kept = Steps-parts (HasRisen chart places) [] (until (log_of chart logs x) x) (x ∷ p.0)
+      (subst (λ (l : List ℕ). Steps (HasRisen chart places) [] l) split at_y.0) in
       let rises : clock_after chart places (until (log_of chart logs x) x ++ x ∷ [])
       ≤ clock_after chart places ((until (log_of chart logs x) x ++ x ∷ []) ++ p.0) =
       clock_rises chart places (until (log_of chart logs x) x ++ x ∷ []) p.0 kept.1.1 in

@@ -9,6 +9,5 @@ pub mod Clocks
 pub mod Timed
 pub mod ClockLaws
 pub mod Shown
-pub mod Samples
--- what the code keeps
 pub mod Fits
+pub mod Samples

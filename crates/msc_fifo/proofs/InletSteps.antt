@@ -11,7 +11,7 @@ use Rattle.msc_fifo.specs.declared.rule.Sender.{Sender}
 use Rattle.msc_fifo.specs.declared.rule.View.{View}
 use Rattle.msc_fifo.specs.Claims.{is_message}
 use Rattle.msc_fifo.specs.Entries.{sender_of, IsOrderly}
-use Rattle.msc_fifo.specs.World.{Each, Slot, entries, code, World, world, Holds, IsDated, IsStored, slot, IsSmall}
+use Rattle.msc_fifo.specs.World.{most_places, Each, Slot, entries, code, World, world, Holds, IsDated, IsStored, slot, IsSmall}
 use Rattle.msc_fifo.specs.Views.{IsSender, IsReceiver, Agrees, Sound, Kept, receives, new_sender, outlet_view, beside, nobody}
 use Rattle.msc_fifo.specs.Moves.{Seated, LooksAt, LearnsIt, SettlesIt, Told, clocks_at_once, IsClaimOf, ReadsItsEntry, ReadsItsClock}
 use Rattle.msc_fifo.proofs.EntryLemmas.{messages_of-nothing, has_ended-nothing, nothing_past, orderly_wider, orderly-at, code_full}
@@ -315,7 +315,7 @@ length_zeros zero = refl
 length_zeros (suc n) = ap suc (length_zeros n)
 
 -- a new row keeps the rule: nothing is claimed, and the one ticket is the inlet's
-pub begins : (places count : ℕ) (words : List ℕ) → places ≤ 1056 → count ≡ places + places + 2 → words ≡ replicate count 0 → Kept places (opening words [] (receives places places 0 [] []))
+pub begins : (places count : ℕ) (words : List ℕ) → places ≤ most_places → count ≡ places + places + 2 → words ≡ replicate count 0 → Kept places (opening words [] (receives places places 0 [] []))
 begins places count words small size are =
     let blank : (k : ℕ) → slice_index words k ≡ 0 = λ k. ap (λ (l : List ℕ). slice_index l k) are ∙ zero_at count k in
     let w : World = world 0 0 (λ _. 0) (λ _. []) [] words in
@@ -339,6 +339,7 @@ begins places count words small size are =
       each = λ id v e. first id v e;
     }
   where
+    -- what the one seat, the inlet's, knows is so
     first : (id : ℕ) (v : View) → get_elem? (receives places places 0 [] [] ∷ []) id ≡ some v → Agrees places (world 0 0 (λ _. 0) (λ _. []) [] words) id v
     first zero v e = subst (λ (u : View). Agrees places (world 0 0 (λ _. 0) (λ _. []) [] words) 0 u) (some-injective (receives places places 0 [] []) v e)
         ((λ _. record { reader = refl; made = refl; places_are = refl; got = ([], refl); stored = λ k lt. absurd (omega arith); few = omega arith; clocks = λ k lt. absurd (omega arith) }), tt)

@@ -21,7 +21,7 @@ module _ {A : Type 0} where
   cond-false false x y e = refl
 
   -- a choice in front of an append is one in front of its first part
-  cond-append : (b : Bool) (x : A) (xs ys zs : List A) → zs ≡ xs ++ ys → cond b (x ∷ zs) zs ≡ cond b (x ∷ xs) xs ++ ys
+  pub cond-append : (b : Bool) (x : A) (xs ys zs : List A) → zs ≡ xs ++ ys → cond b (x ∷ zs) zs ≡ cond b (x ∷ xs) xs ++ ys
   cond-append true x xs ys zs e = ap (λ l. x ∷ l) e
   cond-append false x xs ys zs e = e
 

@@ -44,6 +44,7 @@ more_offers offered i o p = cond (p == i) (offered p ++ o ∷ []) (offered p)
 offered_more : (offered : ℕ → List ℕ) (i o p k n : ℕ) → slice_get (offered p) k ≡ Some n → slice_get (more_offers offered i o p) k ≡ Some n
 offered_more offered i o p k n at = both (p == i)
   where
+    -- of the sender i, whose offers grow, and of any other
     both : (b : Bool) → slice_get (cond b (offered p ++ o ∷ []) (offered p)) k ≡ Some n
     both true = get_front (offered p) (o ∷ []) k n at
     both false = at
@@ -99,6 +100,7 @@ offer_for x (Ended i) = 0
 item_blank : (places : ℕ) (w : World) (k : ℕ) → Sound places w → k < places → k ≡ length w.log → w.item k ≡ 0
 item_blank places w k h lt last = blank (h.cells k lt)
   where
+    -- else it would hold an entry of the log, and place k is behind the log
     blank : Holds w.log k (w.item k) → w.item k ≡ 0
     blank (inl z) = z
     blank (inr x) = let i = get_inside w.log k x.0 x.1 in absurd (omega arith)
@@ -107,6 +109,7 @@ item_blank places w k h lt last = blank (h.cells k lt)
 clk_blank : (places : ℕ) (w : World) (k : ℕ) → Sound places w → k < places → k ≡ length w.log → w.clk k ≡ 0
 clk_blank places w k h lt last = blank (h.dated k lt)
   where
+    -- else it would have the clock of an entry of the log
     blank : IsDated w k (w.clk k) → w.clk k ≡ 0
     blank (inl z) = z
     blank (inr x) = let i = get_inside w.log k x.0 x.1 in absurd (omega arith)

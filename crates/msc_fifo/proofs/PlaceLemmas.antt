@@ -95,10 +95,12 @@ pub offer_among : (cs : List Claim) (k n : ℕ) → slice_get (offers_of cs) k �
 offer_among [] k n at = cc
 offer_among (c ∷ cs) k n at = both (is_message c.entry) refl at (λ j h. let r = offer_among cs j n h in (r.0, among_more c r.0 cs r.1, r.2, r.3))
   where
+    -- the first claim has an offer where it is of a message
     both : (b : Bool) → is_message c.entry ≡ b → slice_get (cond b (c.offer ∷ offers_of cs) (offers_of cs)) k ≡ Some n → ((j : ℕ) → slice_get (offers_of cs) j ≡ Some n → (d : Claim) × IsAmong d (c ∷ cs) × (is_message d.entry ≡ true) × (d.offer ≡ n))
         → (d : Claim) × IsAmong d (c ∷ cs) × (is_message d.entry ≡ true) × (d.offer ≡ n)
     both true e h more = hit k h more
       where
+        -- the offer is that one, or one of the other claims
         hit : (k : ℕ) → slice_get (c.offer ∷ offers_of cs) k ≡ Some n → ((j : ℕ) → slice_get (offers_of cs) j ≡ Some n → (d : Claim) × IsAmong d (c ∷ cs) × (is_message d.entry ≡ true) × (d.offer ≡ n)) → (d : Claim) × IsAmong d (c ∷ cs) × (is_message d.entry ≡ true) × (d.offer ≡ n)
         hit zero h more = let same : c.offer ≡ n = cc in (c, (0, refl), e, same)
         hit (suc k) h more = more k h
@@ -115,6 +117,7 @@ outlet_of i [] e = absurd (omega arith)
 outlet_of i (o ∷ os) e = both (o.sender == i) refl (λ no. let one = cond-zero (o.sender == i) (count_by (λ (x : OutletState). x.sender == i) os) no in
     let r = outlet_of i os (sym one ∙ sym (sum_by-cons (λ (x : OutletState). cond {A = ℕ} (x.sender == i) 1 0) o os) ∙ e) in (r.0, among_more o r.0 os r.1, r.2))
   where
+    -- the first outlet is that sender's, or it is among the others
     both : (b : Bool) → (o.sender == i) ≡ b → ((o.sender == i) ≡ false → (x : OutletState) × IsAmong x (o ∷ os) × (x.sender ≡ i)) → (x : OutletState) × IsAmong x (o ∷ os) × (x.sender ≡ i)
     both true h more = (o, (0, refl), eqb-true o.sender i h)
     both false h more = more h

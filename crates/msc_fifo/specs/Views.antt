@@ -137,5 +137,5 @@ abbrev pub IsTicketOf : {P A : Type 0} → Table (Unit {0}) View ℕ P A → Tic
 IsTicketOf row t = (t.table_id ≡ row.shared.table_id) × (t.me.1 ≡ []) × (row.shared.table_id.words ≡ row.shared.key + row.shared.key + 2) × (row.shared.key ≤ most_places)
 
 -- the queue of a row
-abbrev pub queue_of : {P A : Type 0} → Table (Unit {0}) View ℕ P A → QueueId
-queue_of row = record { table = row.shared.table_id }
+abbrev pub queue_id : {P A : Type 0} → Table (Unit {0}) View ℕ P A → QueueId
+queue_id row = record { table = row.shared.table_id }

@@ -3,7 +3,8 @@
 //! It keeps the list of what it has got beside the queue's words, and a ticket whose view is that
 //! list with the clocks that it read. Contracts see an `InletState`.
 
-ghost use Rattle.std.specs.Prelude.{◌≡◌, ◌<◌, ◌≤◌, ◌+◌, ◌++◌, [], ℕ, All, map, max, length, vec_len, vec_capacity};
+ghost use Rattle.std.specs.Prelude.{◌≡◌, ◌<◌, ◌≤◌, ◌+◌, ◌++◌, [], ℕ, All, map, max, length};
+ghost use Rattle.std.specs.Prelude.{vec_len, vec_capacity};
 ghost use Rattle.std.specs.Arc.{arc_value};
 ghost use Rattle.msc_fifo.specs.Entries.{ends_in, entries_of, idle_after, IsOrderly};
 ghost use Rattle.msc_fifo.specs.Ends.{new_inlet, unended_in, AreOutletsOf, Clocked, IsSameInlet};

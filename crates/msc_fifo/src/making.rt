@@ -1,8 +1,10 @@
 //! Making a queue: all its ends, with all the room that they will ever need.
 
-ghost use Rattle.std.specs.Prelude.{◌≡◌, ◌↔◌, ◌<◌, ◌≤◌, ◌+◌, ◌-◌, [], length, sum, Err, IfOk, OnOk, MatchOption};
+ghost use Rattle.std.specs.Prelude.{◌≡◌, ◌↔◌, ◌<◌, ◌≤◌, ◌+◌, ◌-◌, [], length, sum, Err, IfOk, OnOk};
+ghost use Rattle.std.specs.Prelude.{MatchOption};
 ghost use Rattle.std.specs.Arc.{arc_value};
-ghost use Rattle.msc_fifo.specs.Views.{receives, queue_of, IsTicketOf, knows};
+ghost use Rattle.msc_fifo.specs.World.{most_places};
+ghost use Rattle.msc_fifo.specs.Views.{receives, queue_id, IsTicketOf, knows};
 ghost use Rattle.msc_fifo.specs.Ends.{new_outlet, new_outlets, new_inlet, AreOutletsOf, IsTooLarge};
 
 use crate::fault::QueueFault;
@@ -89,7 +91,7 @@ fn outlets(
     ensures view { OnOk result (knows ticket.new ≡ receives (arc_value row.now).shared.key
         (knows ticket.new).room (length quotas.now) [] []) }
     ensures outlets { IfOk result
-        (λ o. o.items ≡ new_outlets (queue_of (arc_value row.now)) 0 quotas.now) }
+        (λ o. o.items ≡ new_outlets (queue_id (arc_value row.now)) 0 quotas.now) }
 {
     let mut outlets = Vec::with_capacity(alloc, quotas.len())?;
     let mut number = 0;
@@ -102,7 +104,7 @@ fn outlets(
 
 /// The words of a queue with so many places, all empty, and the inlet's ticket.
 fn row(alloc: Global, places: usize) -> Result<(Shelf, Ticket), AllocError>
-    requires { places ≤ 1056 }
+    requires { places ≤ most_places }
     ensures seat { IfOk result (λ r. IsTicketOf (arc_value r.0) r.1) }
     ensures places { IfOk result (λ r. (arc_value r.0).shared.key ≡ places) }
     ensures view { IfOk result (λ r. knows r.1 ≡ receives places places 0 [] []) }
@@ -132,7 +134,7 @@ fn outlet<D: Due>(
     ensures seat { IsTicketOf (arc_value row.now) ticket.new }
     ensures view { OnOk result (knows ticket.new ≡ receives (arc_value row.now).shared.key
         ((knows ticket.old).room - (quota + 1)) (number + 1) [] []) }
-    ensures outlet { IfOk result (λ o. o ≡ new_outlet (queue_of (arc_value row.now)) number quota) }
+    ensures outlet { IfOk result (λ o. o ≡ new_outlet (queue_id (arc_value row.now)) number quota) }
 {
     let own = Arc::try_clone(row)?;
     let put = Vec::with_capacity(alloc, quota as usize)?;

@@ -4,7 +4,8 @@
 //! list and its claims: so the rule of the words says what of it is still on its way
 //! (`specs/Views`). Contracts see an `OutletState`.
 
-ghost use Rattle.std.specs.Prelude.{◌≡◌, ◌↔◌, ◌+◌, ◌<◌, ◌≤◌, [], ◌∷◌, ◌++◌, ℕ, true, false, length, Err, OnOk, OnErr, IfOk, IsOk, IsTrue, vec_capacity};
+ghost use Rattle.std.specs.Prelude.{◌≡◌, ◌↔◌, ◌+◌, ◌<◌, ◌≤◌, [], ◌∷◌, ◌++◌, ℕ, true, false, length};
+ghost use Rattle.std.specs.Prelude.{Err, OnOk, OnErr, IfOk, IsOk, IsTrue, vec_capacity};
 ghost use Rattle.std.specs.Arc.{arc_value};
 ghost use Rattle.msc_fifo.specs.declared.entry.Entry.TheVariants as entry;
 ghost use Rattle.msc_fifo.specs.Claims.{claim};
@@ -51,7 +52,8 @@ impl Model for Outlet {
     ghost use Rattle.std.specs.Arc.{arc_value};
     ghost use Rattle.msc_fifo.specs.World.{Each};
     ghost use Rattle.msc_fifo.specs.declared.TheConstants.{SENDER_LIMIT};
-    ghost use Rattle.msc_fifo.specs.Views.{claims_in, outlet_view, resting, IsProper, IsTicketOf, knows, left_of};
+    ghost use Rattle.msc_fifo.specs.Views.{claims_in, outlet_view, resting, IsProper, IsTicketOf};
+    ghost use Rattle.msc_fifo.specs.Views.{knows, left_of};
     ghost use Rattle.msc_fifo.specs.Ends.{OutletState};
 
     ghost Value = { OutletState };

@@ -1,13 +1,16 @@
 //! The steps on the words of a queue, each one atomic call. None waits, and none tries again.
 
-ghost use Rattle.std.specs.Prelude.{◌≡◌, ◌+◌, ◌-◌, ◌<◌, ◌≤◌, [], ◌∷◌, ◌++◌, ℕ, true, false, None, Some, length, MatchOption};
+ghost use Rattle.std.specs.Prelude.{◌≡◌, ◌+◌, ◌-◌, ◌<◌, ◌≤◌, [], ◌∷◌, ◌++◌, ℕ, true, false, None};
+ghost use Rattle.std.specs.Prelude.{Some, length, MatchOption};
 ghost use Rattle.msc_fifo.specs.declared.rule.Sender.{Sender};
 ghost use Rattle.msc_fifo.specs.Claims.{is_message};
 ghost use Rattle.msc_fifo.specs.World.{IsSmall, code};
-ghost use Rattle.msc_fifo.specs.Views.{IsTicketOf, beside, knows, new_sender, receives, outlet_view};
+ghost use Rattle.msc_fifo.specs.Views.{IsTicketOf, beside, knows, new_sender, receives};
+ghost use Rattle.msc_fifo.specs.Views.{outlet_view};
 ghost use Rattle.msc_fifo.specs.declared.claim.Claim.{Claim};
 ghost use Rattle.msc_fifo.specs.Settlement.{place_of};
-ghost use Rattle.msc_fifo.specs.Moves.{IsClaimOf, Makes, MayClaim, Takes, Told, after_mark, after_put};
+ghost use Rattle.msc_fifo.specs.Moves.{IsClaimOf, Makes, MayClaim, Takes, Told, after_mark};
+ghost use Rattle.msc_fifo.specs.Moves.{after_put};
 
 use crate::entry::Entry;
 use crate::places::Place;

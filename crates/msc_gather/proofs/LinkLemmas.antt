@@ -152,6 +152,7 @@ module _ {chart : WiredChart} {n : ℕ} (logs : List (List ℕ)) (seated : IsSea
             (partner chart.events z)) (sym one) ∙ b,
       ))
     where
+      -- the inputs of two outputs to one queue are on one line
       receives : (x z : ℕ) → is_output chart.events x ≡ true → is_output chart.events z ≡ true
           → queue chart z ≡ queue chart x
           → line chart.events (partner chart.events z) ≡ line chart.events (partner chart.events x)

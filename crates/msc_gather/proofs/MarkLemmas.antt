@@ -130,6 +130,7 @@ module _ {chart : WiredChart} {i start : ℕ} {log : List ℕ} {old now : List B
         ];
       }
     where
+      -- what is marked now is marked, whatever it was before
       or_true : (b : Bool) → (b || true) ≡ true
       or_true true = refl
       or_true false = refl

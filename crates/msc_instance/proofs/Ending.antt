@@ -34,12 +34,14 @@ falls_empty w u p e most room =
     omega (arith, big)
 
 module _ (d : Drawing) (post : Post) (a b c : Active) (patience empty : ℕ) (sent : HasSent a b) where
+  -- so it falls in a round that found something
   pub smaller_busy : weight d post c < weight d post b
       → weight d post c * (patience + 1) + (patience - 0) < weight d post a * (patience + 1) +
       (patience - empty)
   smaller_busy less = falls (weight d post c) (weight d post a) patience empty 0
       (omega (arith, weight_sent d post a b sent, less))
 
+  -- and in an empty one, while patience lasts
   pub smaller_empty : weight d post c ≡ weight d post b → empty < patience
       → weight d post c * (patience + 1) + (patience - (empty + 1)) < weight d post a *
       (patience + 1) + (patience - empty)
@@ -62,16 +64,19 @@ module _ (d : Drawing) (p : Post) (a : Active) (s : IsSound d p a) (open' : Bool
   -- something is missing, and what comes next waits
   module _ (part : a.first < p.end) (missing : a.first < p.end → occurs (logged_by a) a.first ≡ false)
       (blocked : IsBlocked d p.instance (logged_by a)) where
+    -- so the instance is hungry
     hungry : IsHungry (post_role d p) (logged_by a)
     hungry =
         let on = on_post d p s.post (logged_by a) a.next s.next a.first s.first.from part in
         record { part = λ all. clash (all a.first on.0 on.1) (missing part); blocked = blocked }
 
+    -- it starves where all its inlets have ended
     pub ends_starved : AllHaveEnded a.inlets.items → EndsSo d p open' patience a end.Starved
     ends_starved ended =
         comes s.begun open' patience end.Starved
         (λ reading is. (λ q. refl, hungry, ended))
 
+    -- and is impatient where some have not, but all have been idle that long
     pub ends_impatient : (AllHaveEnded a.inlets.items → ⊥)
         → All (λ (n : NumberedInlet). patience ≤ n.1.idle) a.inlets.items
         → EndsSo d p open' patience a end.Impatient

@@ -40,6 +40,7 @@ module _ {X : Type 0} (num : X → ℕ) where
     | inr later ↦ let r = place_of xs q later in (suc r.0, omega (arith, r.1), r.2)
   ]
 
+  -- the number at a place occurs
   number_in : (xs : List X) (j : ℕ) (d : X) → j < length xs → occurs (map num xs) (num (get_or xs j d)) ≡ true
   number_in [] j d lt = absurd (omega arith)
   number_in (x ∷ xs) zero d lt = occurs-head (num x) (map num xs)
@@ -62,6 +63,7 @@ module _ {X : Type 0} (num : X → ℕ) where
     pub within : high ≤ length xs
     pub is : (d : X) → num (get_or xs place d) ≡ q
 
+  -- a number that occurs is at a place from 0 on, below the length
   pub between_all : (xs : List X) (q : ℕ) → occurs (map num xs) q ≡ true → IsBetween xs q 0 (length xs)
   between_all xs q h =
       let r = place_of xs q h in
@@ -69,6 +71,7 @@ module _ {X : Type 0} (num : X → ℕ) where
 
   module _ (xs : List X) (q low middle high : ℕ) (d : X) (h : IsBetween xs q low high)
       (up : IsAscending (map num xs)) where
+    -- it is in the upper half where the middle is not above it
     pub between_up : middle < high → num (get_or xs middle d) ≤ q → IsBetween xs q middle high
     between_up lt le = record {
       place = h.place;
@@ -82,6 +85,7 @@ module _ {X : Type 0} (num : X → ℕ) where
       is = h.is;
     }
 
+    -- and in the lower half where the middle is above it
     pub between_down : middle < high → q < num (get_or xs middle d) → IsBetween xs q low middle
     between_down lt gt = record {
       place = h.place;

@@ -15,18 +15,22 @@ use Rattle.msc_instance.specs.Fitting.{AreCountsOf, used_numbers_from, numbers_o
 
 -- the rest of the table's numbers, one queue on
 module _ (counts : List ℕ) (q : ℕ) (within : q < length counts) where
+  -- the numbers behind q
   rest : List ℕ
   rest = used_numbers_from counts (q + 1) (length counts - (q + 1))
 
+  -- from q on they are these, with q in front where it has a message
   one_on : used_numbers_from counts q (length counts - q)
       ≡ cond (nat_lt 0 (get_or counts q 0)) (q ∷ rest) rest
   unfolding rest
   one_on = let e : length counts - q ≡ suc (length counts - (q + 1)) = omega arith in
       ap (used_numbers_from counts q) e
 
+  -- where queue q has a message, it comes first
   sends : 0 < get_or counts q 0 → used_numbers_from counts q (length counts - q) ≡ q ∷ rest
   sends some = one_on ∙ ap (λ b. cond b (q ∷ rest) rest) (lt-ltb 0 _ some)
 
+  -- where it has none, the others are all
   sends_none : get_or counts q 0 ≡ 0 → used_numbers_from counts q (length counts - q) ≡ rest
   sends_none none = one_on ∙ ap (λ b. cond b (q ∷ rest) rest) (le-ltb 0 _ (omega arith))
 
@@ -38,6 +42,7 @@ module _ (counts : List ℕ) (q : ℕ) (within : q < length counts) where
   skipped none h = (λ x. h.0 x ∙ sends_none none, λ e. h.1 (e ∙ sym (sends_none none)))
 
   module _ {A : Type 0} (ends : List (ℕ × A)) (k : ℕ) (some : 0 < get_or counts q 0) where
+    -- the number of end k is the first of those that are left
     next_is : (e : ℕ × A) → k < length ends → numbers_of_ends (drop k ends)
         ≡ (get_or ends k e).0 ∷ numbers_of_ends (drop (k + 1) ends)
     next_is e lt = ap numbers_of_ends (drop_more ends k e lt)
@@ -91,10 +96,12 @@ all_seen {A} counts ends k q done h =
 
 -- one message more is counted
 module _ (g : ℕ → ℕ) (queues : Queues) (d : Drawing) (i : ℕ) (n : ℕ) where
+  -- how many of the messages below m that are in queue q are those of i
   own : ℕ → ℕ → ℕ
   own q m = count_by (λ k. nat_eq (g k) i) (filter (λ k. nat_eq (queue_of queues d k) q)
       (range_with_len 0 m))
 
+  -- message n adds one to its queue where it is one of i
   own_more : (q : ℕ) → own q (n + 1) ≡ own q n + cond (nat_eq (queue_of queues d n) q)
       (cond (nat_eq (g n) i) 1 0) 0
   unfolding own
@@ -119,6 +126,7 @@ module _ (g : ℕ → ℕ) (queues : Queues) (d : Drawing) (i : ℕ) (n : ℕ) w
       let its = ap (λ b. cond b (cond {A = ℕ} (p n) 1 0) 0) gone in
       omega (arith, sum, none, its))
 
+  -- no count is above the number of messages
   pub own_small : (counts : List ℕ) (q : ℕ) → AreCountsOf g queues d i n counts → q < length counts
       → get_or counts q 0 ≤ n
   own_small counts q counted lt =
@@ -134,6 +142,7 @@ module _ (g : ℕ → ℕ) (queues : Queues) (d : Drawing) (i : ℕ) (n : ℕ) w
         length-range_with_len 0 n,
       )
 
+  -- so the counts stay right when message n is counted
   pub own_counted : (counts : List ℕ) (q x : ℕ) → q ≡ queue_of queues d n
       → x ≡ cond (nat_eq (g n) i) 1 0
       → AreCountsOf g queues d i n counts → AreCountsOf g queues d i (n + 1)

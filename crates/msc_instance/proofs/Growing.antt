@@ -103,24 +103,29 @@ module _ (p q : ℕ → Bool) (xs : List ℕ) (e : ℕ) where
 
 -- the outputs to a queue and the inputs from it, with one event more
 module _ (r : Role) (log : List ℕ) (e q : ℕ) where
+  -- the message of the event is in the queue
   abbrev in_queue : ℕ → Bool
   in_queue x = nat_eq (queue_of r.queues r.chart (message r.chart.events x)) q
 
+  -- an output to the queue comes behind the others
   pub outputs_more : is_output r.chart.events e ≡ true
       → queue_of r.queues r.chart (message r.chart.events e) ≡ q
       → outputs_at r.queues r.chart q (log ++ e ∷ []) ≡ outputs_at r.queues r.chart q log ++ e ∷ []
   outputs_more output here = both_pass (is_output r.chart.events) in_queue log e output (eq-eqb _ _ here)
 
+  -- any other event is none of them
   pub outputs_same : (is_output r.chart.events e ≡ true
       → queue_of r.queues r.chart (message r.chart.events e) ≡ q → ⊥)
       → outputs_at r.queues r.chart q (log ++ e ∷ []) ≡ outputs_at r.queues r.chart q log
   outputs_same other = one_fails (is_output r.chart.events) in_queue log e (λ output there. other output (eqb-true _ _ there))
 
+  -- an input from the queue comes behind the others
   pub inputs_more : is_input r.chart.events e ≡ true
       → queue_of r.queues r.chart (message r.chart.events e) ≡ q
       → inputs_at r.queues r.chart q (log ++ e ∷ []) ≡ inputs_at r.queues r.chart q log ++ e ∷ []
   inputs_more input here = both_pass (is_input r.chart.events) in_queue log e input (eq-eqb _ _ here)
 
+  -- and any other event is none of them
   pub inputs_same : (is_input r.chart.events e ≡ true
       → queue_of r.queues r.chart (message r.chart.events e) ≡ q → ⊥)
       → inputs_at r.queues r.chart q (log ++ e ∷ []) ≡ inputs_at r.queues r.chart q log
@@ -141,18 +146,21 @@ module _ (r : Role) (reading : Reading) (log : List ℕ) (e k n : ℕ) (new : oc
       (λ x h. (event_other e k n reading x (not_new log e x new (until-within log s x h))).0) in
       λ j. claim (other.1 j) (Message sender (message r.chart.events s)) (clock j + 1) (other.0 j)
 
+  -- the outputs to the queue are in the log
   in_outputs : (s : ℕ) → occurs (outputs_at r.queues r.chart q log) s ≡ true → occurs log s ≡ true
   in_outputs s h =
       (passes (is_output r.chart.events) log s
       (passes (λ x. nat_eq (queue_of r.queues r.chart (message r.chart.events x)) q)
       (outputs r.chart log) s h).0).0
 
+  -- and so are the inputs from it
   in_inputs : (s : ℕ) → occurs (inputs_at r.queues r.chart q log) s ≡ true → occurs log s ≡ true
   in_inputs s h =
       (passes (is_input r.chart.events) log s
       (passes (λ x. nat_eq (queue_of r.queues r.chart (message r.chart.events x)) q)
       (inputs r.chart log) s h).0).0
 
+  -- so all earlier claims stay
   old_claims : map (claim_at r (log ++ e ∷ []) (with_event e k n reading) sender)
       (outputs_at r.queues r.chart q log) ≡ map (claim_at r log reading sender)
       (outputs_at r.queues r.chart q log)
@@ -193,6 +201,7 @@ module _ (r : Role) (reading : Reading) (log : List ℕ) (e k n : ℕ) (new : oc
   sent_same other =
       ap (map (claim_at r (log ++ e ∷ []) (with_event e k n reading) sender)) (outputs_same r log e q other) ∙ old_claims
 
+  -- so the clocks that earlier inputs read stay
   old_reads : map (with_event e k n reading).read_at (inputs_at r.queues r.chart q log)
       ≡ map reading.read_at (inputs_at r.queues r.chart q log)
   old_reads = agree (with_event e k n reading).read_at reading.read_at
@@ -209,6 +218,7 @@ module _ (r : Role) (reading : Reading) (log : List ℕ) (e k n : ℕ) (new : oc
       ∙ map_push (with_event e k n reading).read_at (inputs_at r.queues r.chart q log) e
       ∙ (λ j. old_reads j ++ own j ∷ [])
 
+  -- any other event leaves those clocks as they are
   pub read_same : (is_input r.chart.events e ≡ true
       → queue_of r.queues r.chart (message r.chart.events e) ≡ q → ⊥)
       → map (with_event e k n reading).read_at (inputs_at r.queues r.chart q (log ++ e ∷ []))

@@ -14,20 +14,24 @@ use Rattle.msc_instance.specs.Handing.{AreUnder, IsHandingOut, AreHandedOut, end
 
 -- what a write of one instance's ends leaves
 module _ (all : List InstanceEnds) (i : ℕ) (x : InstanceEnds) where
+  -- the instance has the ends that were written
   pub written : i < length all → ends_at (set all i x) i ≡ ends_of x
   written within =
       ap (λ l. get_or l i no_ends) (map-set ends_of all i x)
       ∙ get_or-set_same (map ends_of all) i (ends_of x) no_ends
       (omega (arith, length-map all ends_of))
 
+  -- the others have the ends that they had
   pub others : (j : ℕ) → j ≢ i → ends_at (set all i x) j ≡ ends_at all j
   others j other =
       ap (λ l. get_or l j no_ends) (map-set ends_of all i x)
       ∙ get_or-set_other (map ends_of all) i j (ends_of x) no_ends other
 
+  -- before the write it had those that are read at its place
   pub there : (d : InstanceEnds) → i < length all → ends_at all i ≡ ends_of (get_or all i d)
   there d within = get_or-map ends_of all i d no_ends within
 
+  -- and all are still of one architecture, where the new ends are of that of the old
   pub still_under : (queues : Queues) (d : InstanceEnds) → x.queues ≡ (get_or all i d).queues
       → i < length all → AreUnder queues all → AreUnder queues (set all i x)
   still_under queues d same within under = All-set (λ e. e.queues ≡ queues) all i x (same
@@ -140,6 +144,7 @@ module _ {id : QueueId} {q : ℕ} {quotas : List ℕ} {receiver : ℕ} {old new 
     {left : List OutletState} {n : ℕ}
     (done : n ≡ length quotas) (long : length quotas ≡ length old) (same : length new ≡ length old)
     (known : receiver < length old) where
+  -- so the ends of the queue are handed out
   pub ended : (x d : InstanceEnds) (inlet : InletState) → 0 < senders_among quotas
       → inlet ≡ new_inlet id (senders_among quotas)
       → x.inlets.items ≡ (get_or new receiver d).inlets.items ++ (q, inlet) ∷ []

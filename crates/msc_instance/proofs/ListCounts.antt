@@ -78,6 +78,7 @@ count_none p fails (x ∷ xs) =
 
 -- what passes a test in a range is mapped to one number: a test for another number fails there
 module _ (g : ℕ → ℕ) (h : ℕ → Bool) (r i : ℕ) where
+  -- so nothing in the range is mapped to that other number
   other_number : (a n : ℕ) → ((m : ℕ) → h m ≡ true → m < a + n → g m ≡ r) → nat_eq r i ≡ false
       → list_any (λ k. nat_eq (g k) i) (filter h (range_with_len a n)) ≡ false
   other_number a zero all fails = refl

@@ -53,6 +53,7 @@ module _ (d : Drawing) (i : ℕ) where
       ∙ filter-append (is_controlled d.events) (line_below d i n)
       (cond (nat_eq (line d.events n) i) (n ∷ []) [])
 
+  -- n is not among them where it is not controlled
   below_skip : (n : ℕ) → is_controlled d.events n ≡ false
       → controlled d (line_below d i (n + 1)) ≡ controlled d (line_below d i n)
   below_skip n out =
@@ -63,6 +64,7 @@ module _ (d : Drawing) (i : ℕ) where
       (λ off. ap (λ b. controlled d (cond b (n ∷ []) [])) off))
       ∙ append-nil (controlled d (line_below d i n))
 
+  -- and comes last where it is, and is on the line
   below_take : (n : ℕ) → is_controlled d.events n ≡ true → line d.events n ≡ i
       → controlled d (line_below d i (n + 1)) ≡ controlled d (line_below d i n) ++ n ∷ []
   below_take n in' on =
@@ -70,6 +72,7 @@ module _ (d : Drawing) (i : ℕ) where
       ∙ ap (λ b. controlled d (line_below d i n) ++ controlled d (cond b (n ∷ []) [])) (eq-eqb _ _ on)
       ∙ ap (λ b. controlled d (line_below d i n) ++ cond b (n ∷ []) []) in'
 
+  -- a range without a controlled event adds none
   below_skips : (n k : ℕ) → ((e : ℕ) → n ≤ e → e < n + k → is_controlled d.events e ≡ false)
       → controlled d (line_below d i (n + k)) ≡ controlled d (line_below d i n)
   below_skips n zero none = let s : n + 0 ≡ n = omega arith in ap (λ m. controlled d (line_below d i m)) s
@@ -78,6 +81,7 @@ module _ (d : Drawing) (i : ℕ) where
       ∙ below_skip (n + k) (none (n + k) (omega arith) (omega arith))
       ∙ below_skips n k (λ e from to. none e from (omega arith))
 
+  -- those below n begin those below a later number
   below_begins : (n k : ℕ) → Begins (controlled d (line_below d i n)) (controlled d (line_below d i (n + k)))
   below_begins n zero = (
     [],
@@ -153,6 +157,7 @@ module _ (d : Drawing) (p : Post) (post : IsPost d p) (log : List ℕ) (next : �
   }
 
   module _ (within : next < p.end) (yes' : is_controlled d.events next ≡ true) where
+    -- once it is logged, the next one is looked for behind it
     next_after : IsNext d p (log ++ next ∷ []) (next + 1)
     next_after = record {
       from = omega (arith, is.from);

@@ -44,6 +44,7 @@ pub none_prepared : (d : Drawing) (jobs : List Job) → jobs ≡ [] → ArePrepa
 none_prepared d jobs is = rw is (record { same = refl; numbers = λ i j at. cc; ready = All-nil (IsReady d) })
 
 module _ (d : Drawing) (ends : List InstanceEnds) (jobs : List Job) (are : ArePrepared d ends jobs) where
+  -- there are as many jobs as ends
   pub prepared_many : length jobs ≡ length ends
   prepared_many = sym (length-map jobs (λ (j : Job). j.ends)) ∙ ap length are.same
 
@@ -59,6 +60,7 @@ module _ (d : Drawing) (ends : List InstanceEnds) (jobs : List Job) (are : ArePr
     ready = All-push (IsReady d) jobs j are.ready ready;
   })
 
+  -- the lists of the ends are those of the jobs
   ends_same : map ends_of ends ≡ map (λ (j : Job). ends_of j.ends) jobs
   ends_same = ap (map ends_of) (sym are.same) ∙ composed jobs
 
@@ -91,12 +93,15 @@ yielded_all all first before later same whole none =
 
 -- the next ends fit their instance
 module _ (queues : Queues) (d : Drawing) (all before after : List InstanceEnds) (e : InstanceEnds) (is : all ≡ before ++ e ∷ after) where
+  -- they stand right behind those before
   here : slice_get all (length before) ≡ Some e
   here = ap (λ l. slice_get l (length before)) is ∙ at_seam before after e
 
+  -- so their instance is one of the chart
   pub next_known : length (map ends_of all) ≡ length d.instances → length before < length d.instances
   next_known many = let lt = slice_get_within all (length before) e here in omega (arith, many, length-map all ends_of)
 
+  -- and where all ends fit their instances, so do these
   pub next_fits : All (λ (x : InstanceEnds). x.queues ≡ queues) all
       → ((i : ℕ) (x : InstanceEnds) → slice_get all i ≡ Some x → IsFit (role queues d i) (ends_of x))
       → IsFit (role e.queues d (length before)) (ends_of e)

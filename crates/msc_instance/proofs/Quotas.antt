@@ -13,6 +13,7 @@ use Rattle.msc_chart.specs.Orders.{queue_of}
 use Rattle.msc_chart.specs.Laws.{messages_in, sends_to, senders_in, QueuesAreBounded}
 use Rattle.msc_chart.proofs.ListLemmas.{by_test}
 use Rattle.msc_chart.proofs.Readers.{sender_in, receiver_in}
+use Rattle.msc_fifo.specs.declared.TheConstants.{QUOTA_LIMIT}
 use Rattle.msc_execution.specs.Roles.{quota_of, rank_of, takes_from}
 use Rattle.msc_instance.specs.Handing.{table_place, quotas_of, senders_among, AreCounted, AreReceivers}
 use Rattle.msc_instance.proofs.ListCounts.{both_tests, any_counts, count_mapped, first_passes, count_none, same_number, parts_add_up}
@@ -57,6 +58,7 @@ module _ (queues : Queues) (d : Drawing) where
       let t = ap (λ b. cond {A = ℕ} b 1 0) (place_test q k a (known a (omega arith)) k_in) in
       omega (arith, r, c, b, t)
 
+  -- so a row of the table is the quotas of its queue
   row_at : (q : ℕ) (counts : List ℕ) → IsAccepted d → AreCounted queues d (length d.messages) counts
       → q * length d.instances + length d.instances ≤ length counts
       → slice_range counts (q * length d.instances) (q * length d.instances + length d.instances)
@@ -105,7 +107,7 @@ module _ (queues : Queues) (d : Drawing) where
       ∙ sym (length-filter (sends_to queues d q) (range_with_len 0 (length d.instances)))
 
   -- the quotas of a queue add up to no more than a queue may have
-  pub quotas_fit : (q : ℕ) → IsAccepted d → sum (quotas_of queues d q) ≤ 1024
+  pub quotas_fit : (q : ℕ) → IsAccepted d → sum (quotas_of queues d q) ≤ QUOTA_LIMIT
   unfolding quota_of messages_in
   quotas_fit q accepted =
       let h : ℕ → Bool = λ m. nat_eq (queue_of queues d m) q in
@@ -125,6 +127,7 @@ module _ (queues : Queues) (d : Drawing) where
 
   -- a queue without a message has no sender and no receiver
   module _ (q : ℕ) (none : messages_in queues d q ≡ []) where
+    -- no instance sends to it
     pub no_senders : senders_among (quotas_of queues d q) ≡ 0
     unfolding sends_to
     no_senders =
@@ -133,6 +136,7 @@ module _ (queues : Queues) (d : Drawing) where
         ∙ count_none (sends_to queues d q) (λ i. ap (list_any (λ m. nat_eq (sender_of d m) i)) none)
         (range_with_len 0 (length d.instances))
 
+    -- and none takes from it
     pub no_receiver : (i : ℕ) → takes_from queues d q i ≡ false
     unfolding takes_from
     no_receiver i = ap (list_any (λ m. nat_eq (receiver_of d m) i)) none
@@ -141,11 +145,13 @@ module _ (queues : Queues) (d : Drawing) where
   module _ (q m : ℕ) (rest receivers : List ℕ) (accepted : IsAccepted d)
       (some : messages_in queues d q ≡ m ∷ rest)
       (noted : AreReceivers queues d (length d.messages) receivers) where
+    -- it is a message of the chart, and in the queue
     first_there : (nat_eq (queue_of queues d m) q ≡ true) × (m < length d.messages)
     unfolding messages_in
     first_there = let p = first_passes (λ k. nat_eq (queue_of queues d k) q) 0 (length d.messages) m
         rest some in (p.0, omega (arith, p.1))
 
+    -- so some instance sends to the queue
     pub one_sender : QueuesAreBounded → 0 < senders_among (quotas_of queues d q)
     one_sender bounded =
         let at : queue_of queues d m ≡ q = eqb-true _ _ first_there.0 in
@@ -153,6 +159,7 @@ module _ (queues : Queues) (d : Drawing) where
         let same = ap (λ k. length (senders_in queues d k)) at in
         omega (arith, b, same, all_senders q)
 
+    -- the receiver that was noted is an instance
     pub receiver_known : get_or receivers q 0 < length d.instances
     receiver_known =
         let at : queue_of queues d m ≡ q = eqb-true _ _ first_there.0 in
@@ -160,6 +167,7 @@ module _ (queues : Queues) (d : Drawing) where
         ∙ noted m first_there.1 in
         omega (arith, is, receiver_in d accepted m first_there.1)
 
+    -- and it alone takes from the queue
     pub one_receiver : (i : ℕ) → takes_from queues d q i ≡ nat_eq (get_or receivers q 0) i
     unfolding takes_from messages_in
     one_receiver i =
@@ -171,6 +179,7 @@ module _ (queues : Queues) (d : Drawing) where
   -- who takes from a queue, told by its quotas and the list of receivers
   module _ (q : ℕ) (receivers : List ℕ) (accepted : IsAccepted d) (bounded : QueuesAreBounded)
       (noted : AreReceivers queues d (length d.messages) receivers) where
+    -- the receiver, if there is a sender: so it is with a message, and without one
     told_takes : (ms : List ℕ) → messages_in queues d q ≡ ms → (i : ℕ)
         → takes_from queues d q i ≡ (nat_lt 0 (senders_among (quotas_of queues d q)) && nat_eq
         (get_or receivers q 0) i)
@@ -182,15 +191,18 @@ module _ (queues : Queues) (d : Drawing) where
         ∙ sym (ap (λ b. b && nat_eq (get_or receivers q 0) i)
         (lt-ltb 0 _ (one_sender q m rest receivers accepted some noted bounded)))
 
+    -- so an instance takes from it that is the receiver, if there is a sender
     pub takes_is : (i : ℕ) → takes_from queues d q i
         ≡ (nat_lt 0 (senders_among (quotas_of queues d q)) && nat_eq (get_or receivers q 0) i)
     takes_is i = told_takes (messages_in queues d q) refl i
 
+    -- where there is a sender there is a message, and the receiver of that is an instance
     told_known : (ms : List ℕ) → messages_in queues d q ≡ ms
         → 0 < senders_among (quotas_of queues d q) → get_or receivers q 0 < length d.instances
     told_known [] none senders = absurd (omega (arith, no_senders q none))
     told_known (m ∷ rest) some senders = receiver_known q m rest receivers accepted some noted
 
+    -- so the receiver is an instance where there is a sender
     pub known_receiver : 0 < senders_among (quotas_of queues d q)
         → get_or receivers q 0 < length d.instances
     known_receiver senders = told_known (messages_in queues d q) refl senders

@@ -26,6 +26,7 @@ pub record IsTurn (d : Drawing) (p : Post) (k : ℕ) (found : Bool) (a b : Activ
   pub quiet : found ≡ false → HasFoundNothing d p k a b
 
 module _ (d : Drawing) (p : Post) where
+  -- before the first take
   pub turn_first : (a : Active) → IsSound d p a → IsTurn d p 0 false a a
   turn_first a s = record {
     sound = s;

@@ -5,6 +5,7 @@ use Rattle.std.proofs.lemmas.List.{append-nil}
 use Rattle.std.proofs.lemmas.List.Sums.{length-filter, sum_by-cons}
 use Rattle.std.specs.Prelude.{sum}
 use Rattle.msc_chart.proofs.ListLemmas.{by_test}
+use Rattle.msc_fifo.specs.declared.TheConstants.{QUOTA_LIMIT, SENDER_LIMIT}
 use Rattle.msc_fifo.specs.Identity.{QueueId}
 use Rattle.msc_fifo.specs.Ends.{new_outlet, new_inlet, IsTooLarge}
 use Rattle.msc_instance.specs.declared.ends.InstanceEnds.{InstanceEnds}
@@ -74,8 +75,8 @@ fewer (x ∷ xs) =
     rw is (omega (arith, r), omega (arith, r, whole)))
 
 -- so a queue is not too large for them
-pub not_large : (own quotas : List ℕ) → own ≡ filter (nat_lt 0) quotas → length quotas ≤ 32
-    → sum quotas ≤ 1024 → IsTooLarge own → ⊥
+pub not_large : (own quotas : List ℕ) → own ≡ filter (nat_lt 0) quotas → length quotas ≤ SENDER_LIMIT
+    → sum quotas ≤ QUOTA_LIMIT → IsTooLarge own → ⊥
 not_large own quotas is few low large =
     let small = fewer quotas in
     let long = ap length is in

@@ -48,19 +48,24 @@ module _ (d : Drawing) (p : Post) (a : Active) (s : IsSound d p a) where
   -- the next output or local event, where all that is drawn before it is logged
   module _ (within : a.next < p.end) (due : is_controlled d.events a.next ≡ true)
       (ready : (x : ℕ) → before d.events x a.next ≡ true → occurs (logged_by a) x ≡ true) where
+    -- it may be logged, and then what is next comes behind it
     pub due_log : IsLogOf d p.instance (logged_by a ++ a.next ∷ []) × IsNext d p (logged_by a ++ a.next ∷ [])
         (a.next + 1)
     due_log = log_due d p s.post (logged_by a) a.next s.next within due s.begun.kept.log ready
 
+    -- it was not logged before
     pub due_new : occurs (logged_by a) a.next ≡ false
     due_new = not_logged d p s.post (logged_by a) a.next s.next a.next (omega arith) due
 
+    -- the log has room for it
     pub due_fits : length (logged_by a) < vec_capacity a.journal.log
     due_fits = omega (arith, log_shorter d p.instance (logged_by a) a.next due_log.0, s.room)
 
+    -- the outlets are not closed yet
     not_shut : a.shut ≡ false
     not_shut = by_test a.shut (λ shut. absurd (omega (arith, s.closed shut))) (λ no'. no')
 
+    -- a local event is logged, and the instance is still sound
     pub acted : is_local d.events a.next ≡ true → (journal : Journal)
         → journal.log.items ≡ logged_by a ++ a.next ∷ []
         → vec_capacity journal.log ≡ vec_capacity a.journal.log
@@ -76,6 +81,7 @@ module _ (d : Drawing) (p : Post) (a : Active) (s : IsSound d p a) where
 
     -- where it is an output, it has an outlet with room
     module _ (output : is_output d.events a.next ≡ true) where
+      -- one of the outlets is to the queue of its message
       pub its_outlet : occurs (map outlet_number a.outlets.items)
           (queue_of p.queues d (message d.events a.next)) ≡ true
       its_outlet =
@@ -100,6 +106,7 @@ module _ (d : Drawing) (p : Post) (a : Active) (s : IsSound d p a) where
 
       module _ (k : ℕ) (o : NumberedOutlet) (lt : k < length a.outlets.items)
           (here : (get_or a.outlets.items k o).0 ≡ queue_of p.queues d (message d.events a.next)) where
+        -- the outlet to its queue has room
         pub its_room : HasRoom (get_or a.outlets.items k o).1
         its_room =
             let put = subst (λ b. ArePutBy b (post_role d p) (logged_by a) s.begun.reading
@@ -108,6 +115,7 @@ module _ (d : Drawing) (p : Post) (a : Active) (s : IsSound d p a) where
             a.outlets.items k o a.next s.post.laws.quotas s.post.accepted
             due_log.0 output lt (sym here) put
 
+        -- a send, which is logged, keeps the instance sound
         pub has_sent : (new : NumberedOutlet) (now : ℕ) (journal : Journal)
             → HasPut (message d.events a.next) a.clock now (get_or a.outlets.items k o) new
             → journal.log.items ≡ logged_by a ++ a.next ∷ []
@@ -128,6 +136,7 @@ module _ (d : Drawing) (p : Post) (a : Active) (s : IsSound d p a) where
           room = omega (arith, room, s.room);
         }
           where
+            -- after the send the ends are as they are after the longer log
             begun_out : HasPut (message d.events a.next) a.clock now (get_or a.outlets.items k o) new
                 → HasBegun (post_role d p) (first_ends p)
                 (state a.shut (set a.outlets.items k new) a.inlets.items (logged_by a ++ a.next ∷ [])

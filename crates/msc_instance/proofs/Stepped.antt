@@ -17,6 +17,7 @@ use Rattle.msc_execution.proofs.Settling.Placed.{all_messages-append}
 use Rattle.msc_instance.proofs.Growing.{sent_more, sent_same, read_more, read_same, outputs_more, outputs_same, inputs_more, inputs_same, map_push, clocks_message, clocks_ended}
 
 module _ (r : Role) (log : List ℕ) (reading : Reading) (old new : NumberedOutlet) where
+  -- an open outlet, before anything is logged
   pub begun : (reading : Reading) → old.1.closed ≡ false → IsPutBy r [] reading old old
   begun reading open' = record {
     number = refl;
@@ -116,6 +117,7 @@ module _ (r : Role) (log : List ℕ) (reading : Reading) (old new : NumberedOutl
   }
 
 module _ (r : Role) (log : List ℕ) (reading : Reading) (old new : NumberedInlet) where
+  -- an inlet, before anything is logged
   pub begun_in : (reading : Reading) → IsGotBy r [] reading old old
   begun_in reading = record {
     number = refl;

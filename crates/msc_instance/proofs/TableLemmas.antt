@@ -96,6 +96,7 @@ module _ (queues : Queues) (d : Drawing) (i : ℕ) (counts : List ℕ)
 -- outlets have room for the counts where they have it for the quotas
 module _ (r : Role) (sent : List ℕ) (ends : EndLists)
     (quotas : (q : ℕ) → get_or sent q 0 ≡ quota_of r.queues r.chart q r.number) where
+  -- so the outlets of ends that fit have it
   pub outlet_room : IsFit r ends → HaveRoom sent ends.outlets
   outlet_room fit k o lt =
       let room = fit.room k o lt in

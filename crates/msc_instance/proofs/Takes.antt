@@ -4,6 +4,7 @@ use Rattle.std.specs.List.{sum_by}
 use Rattle.std.specs.Vec.{with_item}
 use Rattle.std.proofs.lemmas.List.{get_or_default}
 use Rattle.std.proofs.lemmas.List.Sums.{sum_by-set}
+use Rattle.msc_chart.specs.declared.TheConstants.{EVENT_LIMIT}
 use Rattle.msc_chart.specs.Lists.{occurs}
 use Rattle.msc_chart.specs.Charts.{line, message, is_controlled}
 use Rattle.msc_chart.specs.Drawings.{Drawing, input_of, receiver_of}
@@ -37,6 +38,7 @@ left_fewer d i log after e is same =
 
 module _ (d : Drawing) (p : Post) (a : Active) (s : IsSound d p a) (k : ℕ) (n new : NumberedInlet)
     (lt : k < length a.inlets.items) where
+  -- what has not ended changes in the one inlet alone
   sums : sum_by (λ (x : NumberedInlet). unended_in x.1) (set a.inlets.items k new) + unended_in
       (get_or a.inlets.items k n).1
       ≡ sum_by (λ (x : NumberedInlet). unended_in x.1) a.inlets.items + unended_in new.1
@@ -95,6 +97,7 @@ module _ (d : Drawing) (p : Post) (a : Active) (s : IsSound d p a) (k : ℕ) (n 
   module _ (m : ℕ) (known : m < length d.messages)
       (here : queue_of p.queues d m ≡ (get_or a.inlets.items k n).0)
       (fresh : occurs (logged_by a) (input_of d m) ≡ false) where
+    -- the input is on the line of the instance
     its_line : line d.events (input_of d m) ≡ p.instance
     unfolding receiver_of
     its_line =
@@ -104,9 +107,11 @@ module _ (d : Drawing) (p : Post) (a : Active) (s : IsSound d p a) (k : ℕ) (n 
         (number_there a.inlets.items k n lt) in
         s.post.laws.own p.queues d (get_or a.inlets.items k n).0 p.instance m s.post.accepted there known here
 
+    -- and it is an event of the chart
     pub its_event : input_of d m < length d.events
     its_event = (input_parts d.events (input_of d m) (input_is p.queues d s.post.accepted m known).0).0
 
+    -- so it may be logged, and what is next stays next
     input_log : IsLogOf d p.instance (logged_by a ++ input_of d m ∷ [])
         × IsNext d p (logged_by a ++ input_of d m ∷ []) a.next
     input_log =
@@ -115,9 +120,11 @@ module _ (d : Drawing) (p : Post) (a : Active) (s : IsSound d p a) (k : ℕ) (n 
         (fails (is_controlled d.events (input_of d m))
         (λ c. controlled_no_input d.events (input_of d m) c input)) fresh
 
+    -- and the log has room for it
     pub input_fits : length (logged_by a) < vec_capacity a.journal.log
     input_fits = omega (arith, log_shorter d p.instance (logged_by a) (input_of d m) input_log.0, s.room)
 
+    -- once it is logged, the instance is still sound, and less can still come
     pub took_input : (i place now : ℕ) (journal : Journal)
         → HasGot a.clock (took.Message i m place now) (get_or a.inlets.items k n) new
         → journal.log.items ≡ logged_by a ++ input_of d m ∷ []
@@ -157,7 +164,7 @@ queue_here ins k x n lt is = ap inlet_number (is ∙ get_or_default ins k x n lt
 
 -- inputs are events of the chart, of which there are few
 pub event_in : (d : Drawing) (p : Post) (a : Active) → IsSound d p a → (m : ℕ) → m < length d.messages
-    → input_of d m < 3072
+    → input_of d m < EVENT_LIMIT
 event_in d p a s m known =
     let below = (input_parts d.events (input_of d m) (input_is p.queues d s.post.accepted m known).0).0 in
     omega (arith, below, s.post.accepted.few_events)

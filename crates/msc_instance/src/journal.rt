@@ -1,7 +1,9 @@
 //! The log of an instance, with a mark for each event that is in it.
 
-ghost use Rattle.std.specs.Prelude.{◌≡◌, ◌<◌, ◌++◌, ◌∷◌, ℕ, [], false, get_or, length, vec_capacity};
+ghost use Rattle.std.specs.Prelude.{◌≡◌, ◌<◌, ◌++◌, ◌∷◌, ℕ, [], false, get_or, length};
+ghost use Rattle.std.specs.Prelude.{vec_capacity};
 ghost use Rattle.msc_chart.specs.Lists.{occurs};
+ghost use Rattle.msc_chart.specs.declared.TheConstants.{EVENT_LIMIT};
 
 use msc_chart::{EVENT_LIMIT, Event};
 
@@ -12,7 +14,7 @@ const MARKS: usize = EVENT_LIMIT as usize;
 pub(crate) struct Journal {
     pub log: Vec<Event>,
     pub marks: [bool; MARKS],
-    ghost marked: { (e : ℕ) → e < 3072 → get_or marks e false ≡ occurs log.items e },
+    ghost marked: { (e : ℕ) → e < EVENT_LIMIT → get_or marks e false ≡ occurs log.items e },
 }
 
 impl Journal {

@@ -1,6 +1,6 @@
 //! The outlets of an instance.
 
-ghost use Rattle.std.specs.Prelude.{◌≡◌, ◌<◌, ◌↔◌, false, length, map, get_or, IfSome, IsTrue, None};
+ghost use Rattle.std.specs.Prelude.{◌≡◌, ◌<◌, ◌↔◌, length, map, get_or, IfSome, IsTrue, None};
 ghost use Rattle.std.specs.List.{AllZip};
 ghost use Rattle.msc_chart.specs.Lists.{occurs};
 ghost use Rattle.msc_fifo.specs.Ends.{HasRoom};

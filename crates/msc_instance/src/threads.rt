@@ -1,9 +1,11 @@
 //! One thread for each instance, started one after the other, and all joined.
 
-ghost use Rattle.std.specs.Prelude.{◌≡◌, ◌<◌, ◌≤◌, ◌++◌, ◌∷◌, [], length, map, reverse, All, IfOk, IfErr, MatchOption, vec_len, vec_capacity};
+ghost use Rattle.std.specs.Prelude.{◌≡◌, ◌<◌, ◌≤◌, ◌++◌, ◌∷◌, [], length, map, reverse, All, IfOk};
+ghost use Rattle.std.specs.Prelude.{IfErr, MatchOption, vec_len, vec_capacity};
 ghost use Rattle.std.specs.List.{AllZip};
 ghost use Rattle.msc_execution.specs.Roles.{IsFit, role};
-ghost use Rattle.msc_instance.specs.Threads.{AnswersRun, AreJobs, HasNotRun, HaveAnswered, HaveRun, HaveStopped, IsClosedJob, IsReady, WasRefused};
+ghost use Rattle.msc_instance.specs.Threads.{AnswersRun, AreJobs, HasNotRun, HaveAnswered, HaveRun};
+ghost use Rattle.msc_instance.specs.Threads.{HaveStopped, IsClosedJob, IsReady, WasRefused};
 ghost use Rattle.msc_instance.specs.Views.{ends_of};
 
 use crate::ends::{InstanceEnd, InstanceEnds};

@@ -1,10 +1,12 @@
 //! Fresh ends for all instances of a chart: each queue is made, and its ends are handed out.
 
-ghost use Rattle.std.specs.Prelude.{◌≡◌, ℕ, ◌*◌, ◌<◌, ◌≤◌, length, map, filter, sum, All, IfOk, OnOk, Some, slice_get, nat_lt};
+ghost use Rattle.std.specs.Prelude.{◌≡◌, ℕ, ◌*◌, ◌<◌, ◌≤◌, length, map, filter, sum, All, IfOk};
+ghost use Rattle.std.specs.Prelude.{OnOk, Some, slice_get, nat_lt};
 ghost use Rattle.msc_fifo.specs.Ends.{new_outlets, new_inlet};
 ghost use Rattle.msc_execution.specs.Roles.{IsFit, IsWiring, role};
 ghost use Rattle.msc_chart.specs.Orders.{queue_bound};
-ghost use Rattle.msc_instance.specs.Handing.{AreCounted, AreHandedOut, AreReceivers, AreUnder, AreWiredBelow, ends_at, senders_among};
+ghost use Rattle.msc_instance.specs.Handing.{AreCounted, AreHandedOut, AreReceivers, AreUnder};
+ghost use Rattle.msc_instance.specs.Handing.{AreWiredBelow, ends_at, senders_among};
 ghost use Rattle.msc_instance.specs.declared.ends.InstanceEnds.{InstanceEnds};
 ghost use Rattle.msc_instance.specs.Views.{ends_of};
 ghost use Rattle.msc_execution.specs.Fits.{no_ends};

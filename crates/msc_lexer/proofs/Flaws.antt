@@ -53,6 +53,7 @@ bad_stops text bad (Mark b) rest f e =
     let w = (or_parts (is_white b || is_run_byte b) (is_some (mark_of b)) (or_parts (is_white b || is_run_byte b || is_some (mark_of b)) (eqb b 39) h).0).1 in
     f (none_of (mark_of b) w)
   where
+    -- what is not some is none
     none_of : (o : Option Kind) → is_some o ≡ false → o ≡ None
     none_of None h = refl
     none_of (Some k) h = absurd (true≢false h)

@@ -53,6 +53,7 @@ tokens_or_flaw text ts fault a b =
     let same = one_cut a.pieces b.pieces [] b.rest a.cut b.cut e nil_stops (flaw_stops fault _ b.rest b.flaw) in
     no_flaw_of_nil fault (length (text_of b.pieces)) (rw (← same.1) at b.flaw)
   where
+    -- where nothing is left there is no flaw
     no_flaw_of_nil : (f : LexFault) (at : ℕ) → IsFlaw f at [] → ⊥
     no_flaw_of_nil TooLong at h = h
     no_flaw_of_nil Memory at h = h

@@ -26,6 +26,7 @@ if_other : (t : Bool) (k n : Kind) (o : Option Kind) → k ≢ n → o ≢ Some 
     → cond t (Some k) o ≢ Some n
 if_other true k n o h g e = h (inside e)
   where
+    -- where they are equal, so are the kinds in them
     inside : {a b : Kind} → Some a ≡ Some b → a ≡ b
     inside e = cc
 if_other false k n o h g e = g e
@@ -35,6 +36,7 @@ mark_no_name : (b : ℕ) → mark_of b ≢ Some kinds.Name
 mark_no_name b =
     if_other _ kinds.Semicolon kinds.Name _ (λ e. cc) (if_other _ kinds.Comma kinds.Name _ (λ e. cc) (if_other _ kinds.Colon kinds.Name _ (λ e. cc) (if_other _ kinds.LeftParen kinds.Name _ (λ e. cc) (if_other _ kinds.RightParen kinds.Name _ (λ e. cc) (λ e. none_name e)))))
   where
+    -- what has no kind is no name
     none_name : None ≡ Some kinds.Name → ⊥
     none_name e = cc
 
@@ -43,6 +45,7 @@ mark_no_text : (b : ℕ) → mark_of b ≢ Some kinds.Text
 mark_no_text b =
     if_other _ kinds.Semicolon kinds.Text _ (λ e. cc) (if_other _ kinds.Comma kinds.Text _ (λ e. cc) (if_other _ kinds.Colon kinds.Text _ (λ e. cc) (if_other _ kinds.LeftParen kinds.Text _ (λ e. cc) (if_other _ kinds.RightParen kinds.Text _ (λ e. cc) (λ e. none_text e)))))
   where
+    -- what has no kind is no text
     none_text : None ≡ Some kinds.Text → ⊥
     none_text e = cc
 
@@ -57,10 +60,12 @@ run_no_text (Some w) e = cc
 as_text : (p : Piece) → kind_of p ≡ Some kinds.Text → (body : List ℕ) × (spelled p ≡ quoted body)
 as_text (Blank b) e = absurd (none_text e)
   where
+    -- white space has no kind, so it is no text
     none_text : None ≡ Some kinds.Text → ⊥
     none_text e = cc
 as_text (Note body) e = absurd (none_text e)
   where
+    -- a note has no kind, so it is no text
     none_text : None ≡ Some kinds.Text → ⊥
     none_text e = cc
 as_text (Run bytes) e = absurd (run_no_text (word_of bytes) e)
@@ -159,6 +164,7 @@ token_some (Run (b ∷ bs)) rest at len h = omega arith
 token_some (pieces.Quoted body) rest at len h = omega arith
 token_some (Mark b) rest at len h = one (mark_of b)
   where
+    -- a mark makes one token or none
     one : (o : Option Kind) → length (token_of o at len) ≤ 1
     one None = omega arith
     one (Some k) = omega arith

@@ -87,6 +87,7 @@ pub halved_more : (bytes : List ℕ) (at step : ℕ) (out : List ℕ) → at < l
     → IsHalvedTo bytes (at + step) (out ++ get_or bytes at 0 ∷ [])
 halved_more bytes at step out lt h e = more h.rest h.whole
   where
+    -- something is left, and it begins with the byte that was read
     more : (rest : List ℕ) → bytes ≡ doubled out ++ doubled rest
         → IsHalvedTo bytes (at + step) (out ++ get_or bytes at 0 ∷ [])
     more [] w =
@@ -106,6 +107,7 @@ pub all_halved : (bytes : List ℕ) (at : ℕ) (out : List ℕ) → length bytes
     → IsHalvedTo bytes at out → doubled out ≡ bytes
 all_halved bytes at out past h = none h.rest h.whole
   where
+    -- nothing is left, since all bytes were reached
     none : (rest : List ℕ) → bytes ≡ doubled out ++ doubled rest → doubled out ≡ bytes
     none [] w = sym (w ∙ append-nil (doubled out))
     none (b ∷ bs) w =

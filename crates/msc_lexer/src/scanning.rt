@@ -1,6 +1,6 @@
 //! Where a note, a text or a run ends.
 
-ghost use Rattle.std.specs.Prelude.{◌≡◌, ℕ, ◌+◌, ◌≤◌, ◌<◌, take, length, slice_index, IfSome};
+ghost use Rattle.std.specs.Prelude.{◌≡◌, ℕ, ◌+◌, ◌≤◌, ◌<◌, length, IfSome};
 ghost use Rattle.std.specs.Prelude.{IfNone};
 ghost use Rattle.std.specs.List.{prefix_len};
 ghost use Rattle.msc_lexer.specs.Bytes.{is_run_byte};

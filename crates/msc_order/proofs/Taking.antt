@@ -12,6 +12,7 @@ use Rattle.msc_order.proofs.Between.{in_order}
 
 -- a number, and what the test has after it, are taken out of a row
 module _ (test : ℕ → ℕ → Bool) (c : ℕ) (left less : ℕ → Bool) (drop : (y : ℕ) → less y ≡ (left y && not (eqb y c || test c y))) where
+  -- what is left was there before
   pub less_left : (d : ℕ) → less d ≡ true → left d ≡ true
   less_left d h = (and_parts (left d) _ (sym (drop d) ∙ h)).0
 
@@ -19,6 +20,7 @@ module _ (test : ℕ → ℕ → Bool) (c : ℕ) (left less : ℕ → Bool) (dro
   pub less_gone : less c ≡ false
   less_gone = drop c ∙ rw (eq-eqb c c refl) (gone (left c))
     where
+      -- whether it was there or not
       gone : (b : Bool) → (b && false) ≡ false
       gone true = refl
       gone false = refl
@@ -96,6 +98,7 @@ module _ (chart : WiredChart) where
           (λ apart. inl (drop d ∙ rw (stands, ne_eqb d c other, apart) refl))
     ]
 
+    -- so one output is moved
     pub moved_one : AreMoved chart left less taken more
     moved_one = record {
       fewer = less_left test c left less drop;
@@ -131,6 +134,7 @@ module _ (chart : WiredChart) where
         → (c : ℕ) → IsOutputOf chart (queue chart s) c → Caused chart.events s c → left c ≡ true
     left_all later c own after = is c ∙ and_from _ _ (between.caused s c after) (later c own after)
 
+    -- so they are of one queue, and the test has the inputs after that of each
     pub left_seen : AreSeen chart test left
     left_seen = record {
       seen = λ c h. let known = shown (queue chart s) c (and_parts (test s c) _ (sym (is c) ∙ h)).1 in (known.0.output, known.1);
@@ -141,6 +145,7 @@ module _ (chart : WiredChart) where
   module _ (wired : IsWired chart) (test now : ℕ → ℕ → Bool) (s : ℕ) (kept taken : ℕ → Bool) (o : is_output chart.events s ≡ true) (between : IsBetween chart test)
       (own : (c : ℕ) → kept c ≡ true → IsOutputOf chart (queue chart s) c × Caused chart.events s c) (is_taken : IsTaken chart kept taken)
       (is : (x y : ℕ) → now x y ≡ (test x y || (eqb x (partner chart.events s) && taken y))) where
+    -- the table keeps what it held
     row_keeps : Keeps test now
     row_keeps x y h = is x y ∙ or_left (test x y) _ h
 
@@ -170,6 +175,7 @@ module _ (chart : WiredChart) where
       | inr new ↦ let both = and_parts (eqb x (partner chart.events s)) _ new in inr (eqb-true x _ both.0, both.1)
     ]
 
+    -- so the table is still between what is caused and what is enforced
     row_between : IsBetween chart now
     row_between = record {
       caused = λ x y h. row_keeps x y (between.caused x y h);

@@ -45,8 +45,9 @@ impl Order {
     }
 
     /// The enforced order of a chart under an architecture: the least transitive relation that puts
-    /// before an output what is drawn before it, before an input its output, and the inputs of one
-    /// queue in the order of their outputs. An error is a growth of memory that was refused.
+    /// before an output or an action what is drawn before it, before an input its output, and the
+    /// inputs of one queue in the order of their outputs. An error is a growth of memory that was
+    /// refused.
     pub fn enforced(alloc: Global, chart: &Chart, queues: Queues) -> Result<Order, AllocError>
         ensures events { IfOk result (λ order. length order ≡ length chart.now.events) }
         ensures enforced { IfOk result (λ order. IsEnforcedOrder (wired queues chart.now)

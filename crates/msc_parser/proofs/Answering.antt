@@ -23,6 +23,7 @@ no_lex_symbol : (at : ℕ) (w : What) (s : Symbol) (f : LexFault) → faults.Lex
     → ⊥
 no_lex_symbol at w (Reserved word) f e = refused (is_refused word) e
   where
+    -- neither does an unsupported word nor one that was not expected
     refused : (b : Bool) → faults.Lex f ≡ cond b (faults.Unsupported at word) (faults.Expected at w)
         → ⊥
     refused true h = cc
@@ -47,6 +48,7 @@ not_done : (len : ℕ) (end : Place × List Lexeme) (e : ParseFault) → Some e 
 not_done len end e h p q =
     let f : end ≡ (Done, []) = cc in let g : Some e ≡ fault_of len (Done, []) = h ∙ ap (fault_of len) f in some_none e g
   where
+    -- a fault is not the lack of one
     some_none : (e : ParseFault) → Some e ≡ None → ⊥
     some_none e h = cc
 
@@ -129,6 +131,7 @@ same_split before (x ∷ a) (y ∷ b) r s e good_a good_b last_a last_b =
 -- ---- one answer, since a text has one reading
 
 module _ (one : OneReading) where
+  -- a text with a draft has no fault of the grammar
   draft_or_grammar : (text : List ℕ) (t : Tree) (e : ParseFault) → HasDraft text t
       → IsGrammarFault text e → ⊥
   draft_or_grammar text t e d g =

@@ -29,6 +29,7 @@ stuck_but_two text p a b [] only no_a no_b = tt
 stuck_but_two text p a b (t ∷ ts) only no_a no_b =
     only t.kind _ (λ e. no_a (ap some_kind e)) (λ e. no_b (ap some_kind e))
   where
+    -- a kind as the first of some tokens
     some_kind : Kind → Option Kind
     some_kind k = Some k
 

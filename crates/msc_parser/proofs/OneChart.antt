@@ -81,6 +81,7 @@ instance_same b a c x y h g stop_a stop_c =
     let e3 = (token_same _ _ g.last h.last_close g.last_close (token_at _ h.last g.last h.last_close e2.1 h.is_endinstance) g.is_endinstance).1 in
     (section e0.0 e2.0, end_same g.last_close a c (subst (λ (m : List Lexeme). IsEnd m a) e3 h.is_last_end) g.is_last_end)
   where
+    -- sections with equal parts are equal
     section : {d e : Decl} {k l : List Item} → d ≡ e → k ≡ l
         → (let s : Section = record { decl = d; items = k } in s) ≡ record { decl = e; items = l }
     section p q = cc
@@ -130,6 +131,7 @@ one_chart b t u h g =
     (subst (λ (m : List Lexeme). AreMany IsSection m t.sections h.last) e3.1 h.are_sections) g.are_sections (h.last_close, h.is_endmsc) (g.last_close, g.is_endmsc) in
     tree e1.0 (h.is_header.1 ∙ ap (flat_map (λ g. g)) e3.0 ∙ sym g.is_header.1) e4.0
   where
+    -- drafts with equal parts are equal
     tree : {m n : List ℕ} {k l : List Decl} {f g : List Section} → m ≡ n → k ≡ l → f ≡ g
         → (let t : Tree = record { name = m; header = k; sections = f } in t) ≡ record { name = n; header = l; sections = g }
     tree p q r = cc

@@ -65,6 +65,7 @@ decl_same b a c x y h g stop_a stop_c =
     let e1 = kind_same g.0 a c x.kind y.kind (subst (λ (m : List Lexeme). IsKind m x.kind a) e0.1 h.2) g.2 stop_a stop_c in
     (decl e0.0 e1.0, e1.1)
   where
+    -- decls with equal parts are equal
     decl : {m n : List ℕ} {k l : List (List ℕ)} → m ≡ n → k ≡ l
         → (let d : Decl = record { name = m; kind = k } in d) ≡ record { name = n; kind = l }
     decl p q = cc
@@ -194,6 +195,7 @@ message_same b a c x y h g stop_a stop_c =
     let e3 = name_same x.address y.address l.address k.close l.close (token_at _ k.address l.address k.close e2.1 k.is_address) l.is_address in
     (signal way e1.0 e1.1 e1.2 e3.0, end_same l.close a c (subst (λ (m : List Lexeme). IsEnd m a) e3.1 k.is_end) l.is_end)
   where
+    -- message events with equal parts are equal
     signal : {v w : Way} {m n p q : List ℕ} {k l : Option (List ℕ)} {f g : List (List ℕ)} → v ≡ w
         → m ≡ n → k ≡ l → f ≡ g → p ≡ q
         → (let e : Signal = record { way = v; name = m; number = k; parameters = f; address = p } in e) ≡ record { way = w; name = n; number = l; parameters = g; address = q }

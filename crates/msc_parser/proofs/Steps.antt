@@ -88,6 +88,7 @@ alike_step : (len : ℕ) (p q : Place) (l : Lexeme) (ls : List Lexeme) (o : Opti
 alike_step len p q l ls None same in_p in_q =
     sym (in_p len (l ∷ ls)) ∙ ap (λ (w : What). Some_fault (fault_at len w (l ∷ ls))) same ∙ in_q len (l ∷ ls)
   where
+    -- a fault as that of a walk
     Some_fault : ParseFault → Option ParseFault
     Some_fault e = Some e
 alike_step len p q l ls (Some a) same in_p in_q = refl
@@ -100,6 +101,7 @@ unfolding fault_from
 same_fault text p q [] alike same in_p in_q =
     sym (in_p (length text) []) ∙ ap (λ (w : What). Some_fault (fault_at (length text) w [])) same ∙ in_q (length text) []
   where
+    -- a fault as that of a walk
     Some_fault : ParseFault → Option ParseFault
     Some_fault e = Some e
 same_fault text p q (t ∷ ts) alike same in_p in_q =
@@ -116,6 +118,7 @@ fault_but text p q kind [] alike other = same_fault text p q [] tt
 fault_but text p q kind (t ∷ ts) alike other =
     same_fault text p q (t ∷ ts) (alike t.kind _ (λ e. other (ap some_kind e)))
   where
+    -- a kind as the first of some tokens
     some_kind : Kind → Option Kind
     some_kind k = Some k
 
@@ -159,6 +162,7 @@ pub stuck_but : (text : List ℕ) (p : Place) (kind : Kind) (tokens : List Token
 stuck_but text p kind [] only other = tt
 stuck_but text p kind (t ∷ ts) only other = only t.kind _ (λ e. other (ap some_kind e))
   where
+    -- a kind as the first of some tokens
     some_kind : Kind → Option Kind
     some_kind k = Some k
 

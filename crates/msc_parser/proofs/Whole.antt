@@ -54,9 +54,11 @@ more_refused text [] e some fault = absurd (omega arith)
 more_refused text (t ∷ ts) e some fault =
     Stops-from text Done (t ∷ ts) e (ap some_fault fault ∙ sym (ap (fault_of (length text)) (stuck Done (lexeme_of text t) (lexemes text ts) (nothing (lexeme_of text t).symbol))))
   where
+    -- a fault as that of a walk
     some_fault : ParseFault → Option ParseFault
     some_fault x = Some x
 
+    -- behind a whole chart no symbol may stand
     nothing : (x : Symbol) → next Done x ≡ None
     nothing x = refl
 

@@ -4,7 +4,8 @@
 
 ghost use Rattle.msc_lexer.specs.Lexemes.{AreWithin};
 ghost use Rattle.msc_parser.specs.Grammar.{IsKind, IsDecl, AreDecls, IsHeader};
-ghost use Rattle.msc_parser.specs.Places.{DeclStatement, InInst, DeclName, DeclKind, DeclEnd, Header};
+ghost use Rattle.msc_parser.specs.Places.{DeclStatement, InInst, DeclName, DeclKind, DeclEnd};
+ghost use Rattle.msc_parser.specs.Places.{Header};
 ghost use Rattle.msc_parser.specs.Places.{Sections};
 ghost use Rattle.msc_parser.specs.Reading.{Reads};
 

@@ -2,10 +2,11 @@
 //!
 //! Sets of events are rows of bits, so that the least event of a set is found in a few steps.
 
-ghost use Rattle.std.specs.Prelude.{◌≡◌, ◌<◌, ◌↔◌, [], ◌∷◌, ◌++◌, IfOk, IfSome, IfNone, IsTrue, OnOk};
+ghost use Rattle.std.specs.Prelude.{◌≡◌, ◌<◌, ◌↔◌, [], ◌∷◌, ◌++◌, IfOk, IfSome, IfNone, IsTrue};
+ghost use Rattle.std.specs.Prelude.{OnOk};
 ghost use Rattle.msc_chart.specs.Runs.{IsWhole};
 ghost use Rattle.msc_chart.specs.Chosen.{IsChosenNext};
-ghost use Rattle.msc_race.specs.Choices.{wired_chart, event_count, IsChoice};
+ghost use Rattle.msc_race.specs.Choices.{wired_chart, IsChoice};
 ghost use Rattle.msc_race.specs.Beginnings.{HaveCommon, IsBeginning, run_of};
 ghost use Rattle.msc_race.specs.Remainders.{HasFirstWords};
 

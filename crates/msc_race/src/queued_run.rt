@@ -1,12 +1,12 @@
 //! A run, and what is in its queues, so that it is known which inputs may come next.
 
-ghost use Rattle.std.specs.Prelude.{◌≡◌, ℕ, ◌<◌, ◌≤◌, false, [], ◌∷◌, ◌++◌, length, IfOk, OnOk};
+ghost use Rattle.std.specs.Prelude.{◌≡◌, ℕ, ◌<◌, ◌≤◌, [], ◌∷◌, ◌++◌, IfOk, OnOk};
 ghost use Rattle.std.specs.Prelude.{IsTrue};
 ghost use Rattle.msc_chart.specs.Charts.{is_input, is_output};
 ghost use Rattle.msc_chart.specs.Orders.{queue};
 ghost use Rattle.msc_chart.specs.Runs.{MayCome, Run};
 ghost use Rattle.msc_race.specs.QueuedRuns.{HoldsQueues, IsComing};
-ghost use Rattle.msc_race.specs.Choices.{wired_chart, event_count, IsChoice};
+ghost use Rattle.msc_race.specs.Choices.{wired_chart, IsChoice};
 
 use crate::choosing::Choice;
 use crate::rows::empty;

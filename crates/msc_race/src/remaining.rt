@@ -4,7 +4,8 @@ ghost use Rattle.std.specs.Prelude.{◌≡◌, ℕ, ◌+◌, ◌<◌, ◌≤◌,
 ghost use Rattle.msc_chart.specs.Charts.{is_input};
 ghost use Rattle.msc_chart.specs.Orders.{queue};
 ghost use Rattle.msc_race.specs.Choices.{event_count, wired_chart, IsChoice};
-ghost use Rattle.msc_race.specs.Remainders.{AreLeftFrom, AreRows, AreSameRows, AreTold, AreToldBelow, HasFirstWords};
+ghost use Rattle.msc_race.specs.Remainders.{AreLeftFrom, AreRows, AreSameRows, AreTold};
+ghost use Rattle.msc_race.specs.Remainders.{AreToldBelow, HasFirstWords};
 ghost use Rattle.msc_race.specs.Rows.{IsRow};
 
 use crate::choosing::Choice;

@@ -62,6 +62,7 @@ module _ (chart : WiredChart) where
   pub over_step : (x y : ℕ) → Caused chart.events x y → HasNoLink chart x y → (is_output chart.events x ≡ true) × IsFollowedBy chart.events (partner chart.events x) y
   over_step x y h none = by (first_step chart.events x y h)
     where
+      -- the first step is over that message, since one to an event drawn below would be a link
       by : (z : ℕ) × Step chart.events x z × IsFollowedBy chart.events z y → (is_output chart.events x ≡ true) × IsFollowedBy chart.events (partner chart.events x) y
       by (z, below b c, onward) = absurd (none z (b, record { controlled = c; onward = follows_enforced z y onward }))
       by (z, over o p, onward) = (o, subst (λ (w : ℕ). IsFollowedBy chart.events w y) (sym p) onward)

@@ -4,6 +4,7 @@ use Rattle.std.proofs.Common.{◌≡◌, ◌⊎◌, ℕ, ◌<◌, min, List, len
 use Rattle.std.specs.Prelude.{IfSome, IfErr}
 use Rattle.std.proofs.lemmas.List.{take_all, length-take}
 use Rattle.std.proofs.lemmas.Bool.{cases_lt}
+use Rattle.msc_lexer.specs.declared.TheConstants.{TEXT_LIMIT}
 use Rattle.msc_lexer.specs.declared.fault.LexFault.TheVariants as lexical
 use Rattle.msc_parser.specs.declared.fault.ParseFault.{ParseFault}
 use Rattle.msc_parser.specs.declared.fault.ParseFault.TheVariants as grammar
@@ -15,7 +16,7 @@ use Rattle.msc_text.specs.Answers.{RefusesText, RefusesInput}
 use Rattle.msc_text.specs.Checking.{RefusesDraft, RefusesInputDraft}
 
 -- texts that are both too long have the same fault
-long_fault : (xs ys : List ℕ) → 1048576 < length xs → 1048576 < length ys → (f : ParseFault)
+long_fault : (xs ys : List ℕ) → TEXT_LIMIT < length xs → TEXT_LIMIT < length ys → (f : ParseFault)
     → HasParseFault xs f → HasParseFault ys f
 long_fault xs ys long also grammar.Memory h = h
 long_fault xs ys long also (grammar.Lex lexical.TooLong) h = also
@@ -33,10 +34,10 @@ HasRead xs input = IfSome input (λ bytes. xs ≡ take BYTE_LIMIT bytes)
 
 -- what was read is the whole input, or both are too long
 read_whole : (xs bytes : List ℕ) → xs ≡ take BYTE_LIMIT bytes
-    → (xs ≡ bytes) ⊎ ((1048576 < length xs) × (1048576 < length bytes))
+    → (xs ≡ bytes) ⊎ ((TEXT_LIMIT < length xs) × (TEXT_LIMIT < length bytes))
 read_whole xs bytes front =
     let long : length xs ≡ min BYTE_LIMIT (length bytes) = ap length front ∙ length-take BYTE_LIMIT bytes in
-    elim (cases_lt 1048576 (length bytes)) [
+    elim (cases_lt TEXT_LIMIT (length bytes)) [
       | inl more ↦ inr (omega (arith, long, more), more)
       | inr less ↦ inl (front ∙ take_all BYTE_LIMIT bytes (omega (arith, less)))
     ]

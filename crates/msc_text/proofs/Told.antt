@@ -33,6 +33,7 @@ checked_told d queues runs show pairs count head size is =
 pub passes_told : (pairs : List (ℕ × ℕ)) (count : ℕ) → count ≡ length pairs → eqb count 0 ≡ passes (verdict_of pairs)
 passes_told pairs count size = ap (λ (n : ℕ). eqb n 0) size ∙ told pairs
   where
+    -- where there are none, and where there are some
     told : (pairs : List (ℕ × ℕ)) → eqb (length pairs) 0 ≡ passes (verdict_of pairs)
     told [] = refl
     told (p ∷ pairs) = not_none p pairs

@@ -3,6 +3,6 @@ pub mod Reading
 pub mod Answers
 pub mod Checking
 pub mod Charting
+pub mod Pages
 -- what the code keeps
 pub mod Calls
-pub mod Pages

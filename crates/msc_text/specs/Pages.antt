@@ -1,4 +1,4 @@
--- What the code keeps while an answer goes out in pages. A page is what has not gone out yet.
+-- How an answer goes out in pages. A page is what has not gone out yet.
 use Rattle.std.specs.Prelude.{◌≡◌, ℕ, ◌<◌, List, ◌++◌, length, Option, Result, Ok, Err}
 use Rattle.std.specs.Io.KnownBytes.{Appends}
 use Rattle.std.specs.List.{All}

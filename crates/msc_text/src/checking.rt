@@ -6,7 +6,9 @@ ghost use Rattle.msc_order.specs.Tables.{orders};
 ghost use Rattle.msc_race.specs.Races.{verdict_by, IsVerdict, TellsRuns};
 ghost use Rattle.msc_report.specs.Verdicts.{head_text};
 ghost use Rattle.msc_text.specs.Answers.{OnRead, RefusesInput, RefusesText, StartsNothing};
-ghost use Rattle.msc_text.specs.Checking.{passes, races_of, BeginsVerdict, ChecksText, PrintsVerdict, RefusesDraft, RefusesInputDraft, WritesVerdict};
+ghost use Rattle.msc_text.specs.Checking.{passes, races_of, BeginsVerdict, ChecksText};
+ghost use Rattle.msc_text.specs.Checking.{PrintsVerdict, RefusesDraft, RefusesInputDraft};
+ghost use Rattle.msc_text.specs.Checking.{WritesVerdict};
 ghost use Rattle.msc_text.specs.Pages.{Writes};
 
 use crate::charting::chart_of_text;

@@ -1,6 +1,7 @@
 //! Reading an input to its end.
 
-ghost use Rattle.std.specs.Prelude.{◌≡◌, ◌⊎◌, ◌<◌, false, length, take, IsTrue, IfOk, IfErr, IfSome, OnOk, vec_len};
+ghost use Rattle.std.specs.Prelude.{◌≡◌, ◌⊎◌, ◌<◌, false, length, take, IsTrue, IfOk, IfErr};
+ghost use Rattle.std.specs.Prelude.{IfSome, OnOk, vec_len};
 ghost use Rattle.msc_text.specs.Calls.{IsDone, ReadsMore};
 ghost use Rattle.msc_text.specs.Reading.{IsReadFrom};
 

@@ -1,8 +1,8 @@
 //! From a text to its canonical text, bytes to bytes.
 
 ghost use Rattle.std.specs.Prelude.{◌≡◌, ◌≢◌, IfSome, IfErr, OnOk};
-ghost use Rattle.std.specs.Io.KnownBytes.{Appends};
-ghost use Rattle.msc_text.specs.Answers.{BuildsNoChart, OnRead, ReadsText, RefusesInput, RefusesText, StartsNothing, WritesDraft};
+ghost use Rattle.msc_text.specs.Answers.{BuildsNoChart, OnRead, ReadsText, RefusesInput};
+ghost use Rattle.msc_text.specs.Answers.{RefusesText, StartsNothing, WritesDraft};
 
 use crate::reading::read_all;
 use msc_parser::parse;

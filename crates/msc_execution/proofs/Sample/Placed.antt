@@ -50,6 +50,7 @@ module _ (id : QueueId) where
         (get_or all_claims 0 c, (0, refl), refl, sym is);
   }
     where
+      -- the place of each claim is its number
       numbers : (k : ℕ) (c : Claim) → slice_get all_claims k ≡ Some c → c.place ≡ k
       numbers zero c at = ap (λ (o : Claim). o.place) (sym (among_single (get_or all_claims 0 c) c 0 at))
       numbers (suc zero) c at =
@@ -60,6 +61,7 @@ module _ (id : QueueId) where
           ap (λ (o : Claim). o.place) (sym (among_single (get_or all_claims 3 c) c 0 at))
       numbers (suc (suc (suc (suc k)))) c at = cc
 
+      -- the clocks of the messages are 1, and those of the end marks 0
       clocks : (k : ℕ) (c : Claim) → k < 4 → slice_get all_claims k ≡ Some c
           → c.clock ≡ get_or (1 ∷ 1 ∷ 0 ∷ 0 ∷ []) k 0
       clocks zero c lt at =
@@ -76,12 +78,14 @@ module _ (id : QueueId) where
   pub are_outlets : AreOutletsOf (mailbox id) (own_outlet id ∷ other_outlet id ∷ [])
   are_outlets = record { queue = same; count = refl; once = ones }
     where
+      -- both are outlets of this queue
       same : (k : ℕ) (e : OutletState) → k < 2
           → (get_or (own_outlet id ∷ other_outlet id ∷ []) k e).queue ≡ id
       same zero e below = refl
       same (suc zero) e below = refl
       same (suc (suc k)) e below = absurd (omega arith)
 
+      -- and each sender has one of them
       ones : (i : ℕ) → i < 2 → count_by (λ (x : OutletState). nat_eq x.sender i)
           (own_outlet id ∷ other_outlet id ∷ []) ≡ 1
       ones zero below = refl

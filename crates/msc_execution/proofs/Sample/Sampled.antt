@@ -46,6 +46,7 @@ module _ (id : QueueId) where
       is_settled = record { log = all_claims; is_log = is_placed id; places_are = sampled.places };
     }
       where
+        -- an outlet of the queue that an instance gave back is one of the two
         there : (i : ℕ) (o : OutletState) → i < 2 → IsAmong (0, o) (both_back id i).outlets
             → IsAmong o (own_outlet id ∷ other_outlet id ∷ [])
         there zero o below among = (
@@ -156,6 +157,7 @@ module _ (id : QueueId) where
       own = own;
     }
       where
+        -- neither instance ended at a strange message
         own : (i m : ℕ) → end_at (sample s) i ≢ Foreign m
         own zero m h = cc
         own (suc zero) m h = cc

@@ -113,6 +113,7 @@ module _ {queues : Queues} {d : Drawing} {open' : Bool} {patience : ℕ} {id : �
             (got_first ends.inlet (bucket q) s.places.items is.places);
       }
     where
+      -- sender k of a queue is one of its senders
       sender_occurs : (q k i : ℕ) → slice_get (senders_in queues d q) k ≡ Some i
           → occurs (senders_in queues d q) i ≡ true
       sender_occurs q k i at =

@@ -5,6 +5,7 @@ use Rattle.std.proofs.lemmas.List.{length-append}
 use Rattle.std.proofs.lemmas.Nat.{mod-pow-add, ones_cat, ones_le_self, pow_pos, zero_from_ones}
 use Rattle.std.proofs.lemmas.Nat.Bits.{bit_at-lt}
 use Rattle.bit_rows.specs.Rows.{bit_of}
+use Rattle.msc_chart.specs.declared.TheConstants.{EVENT_LIMIT}
 use Rattle.msc_chart.specs.Lists.{pairs_to}
 use Rattle.msc_race.specs.Gaps.{is_gap}
 use Rattle.msc_race.specs.Words.{is_in_word}
@@ -33,12 +34,13 @@ module _ (test : ℕ → ℕ → Bool) where
       let next = count_next e k in
       rw one (at_most (test e k) next before)
     where
+      -- with the pair that it may bring, and without it
       at_most : {m n : ℕ} (b : Bool) → n ≡ m + cond b 1 0 → m ≤ k → n ≤ k + 1
       at_most true same le = omega (arith, same, le)
       at_most false same le = omega (arith, same, le)
 
   -- and numbers below k, with numbers below n, have at most n each
-  pub below_few : (n k : ℕ) → n ≤ 3072 → length (pairs_below test n k) ≤ k * 3072
+  pub below_few : (n k : ℕ) → n ≤ EVENT_LIMIT → length (pairs_below test n k) ≤ k * EVENT_LIMIT
   below_few n zero few = let none = ap length (below_none test n) in omega (arith, none)
   below_few n (suc k) few =
       let one : suc k ≡ k + 1 = omega arith in

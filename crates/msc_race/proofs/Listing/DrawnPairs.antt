@@ -107,5 +107,6 @@ list_of_races chart order exact pairs is = record {
 pub no_races : (chart : WiredChart) (pairs : List (ℕ × ℕ)) → IsRaceList chart pairs → pairs ≡ [] → HasNoRace chart
 no_races chart pairs list none e f race = nothing (subst (λ (l : List (ℕ × ℕ)). Occurs l (e, f)) none ((list.races e f).0 race))
   where
+    -- nothing occurs in an empty list
     nothing : Occurs {T = ℕ × ℕ} [] (e, f) → ⊥
     nothing (j, h) = cc

@@ -55,6 +55,7 @@ module _ (test : ℕ → ℕ → Bool) where
       ap (λ (l : List ℕ). flat_map (λ e. pairs_to test e n) l) (range_more k)
       ∙ sym (flat_map_more (λ e. pairs_to test e n) [] (range_with_len 0 k) k)
     where
+      -- one number more comes last in the range
       range_more : (k : ℕ) → range_with_len 0 (k + 1) ≡ range_with_len 0 k ++ k ∷ []
       range_more k = sym (map-id (range_with_len 0 (k + 1))) ∙ map-range_with_len_more (λ x. x) 0 k k (omega arith) ∙ ap (λ l. l ++ k ∷ []) (map-id (range_with_len 0 k))
 
@@ -138,12 +139,14 @@ module _ (test : ℕ → ℕ → Bool) where
       (λ passes. one (subst (λ (b : Bool). Occurs {T = ℕ × ℕ} (cond b ((e, k) ∷ []) []) (x, y)) passes h) passes)
       (λ fails. none (subst (λ (b : Bool). Occurs {T = ℕ × ℕ} (cond b ((e, k) ∷ []) []) (x, y)) fails h))
     where
+      -- where it passes, it is the one pair
       one : Occurs {T = ℕ × ℕ} ((e, k) ∷ []) (x, y) → test e k ≡ true → (x ≡ e) × (y ≡ k) × (test e k ≡ true)
       one (zero, p) passes =
           let same : (e, k) ≡ (x, y) = cc in
           (sym (ap (λ (p : ℕ × ℕ). p.0) same), sym (ap (λ (p : ℕ × ℕ). p.1) same), passes)
       one (suc j, p) passes = cc
 
+      -- where it does not, there is none
       none : Occurs {T = ℕ × ℕ} [] (x, y) → (x ≡ e) × (y ≡ k) × (test e k ≡ true)
       none (j, p) = cc
 
@@ -151,6 +154,7 @@ module _ (test : ℕ → ℕ → Bool) where
   pub to_parts : (e k x y : ℕ) → Occurs (pairs_to test e k) (x, y) → (x ≡ e) × (y < k) × (test e y ≡ true)
   to_parts e zero x y h = nothing (subst (λ (l : List (ℕ × ℕ)). Occurs l (x, y)) (pairs_none test e) h)
     where
+      -- there are no pairs of e with numbers below 0
       nothing : Occurs {T = ℕ × ℕ} [] (x, y) → (x ≡ e) × (y < zero) × (test e y ≡ true)
       nothing (j, p) = cc
   to_parts e (suc k) x y h =
@@ -181,6 +185,7 @@ module _ (test : ℕ → ℕ → Bool) where
   pub below_parts : (n k x y : ℕ) → Occurs (pairs_below test n k) (x, y) → (x < k) × (y < n) × (test x y ≡ true)
   below_parts n zero x y h = nothing (subst (λ (l : List (ℕ × ℕ)). Occurs l (x, y)) (below_none test n) h)
     where
+      -- there are no pairs of numbers below 0
       nothing : Occurs {T = ℕ × ℕ} [] (x, y) → (x < zero) × (y < n) × (test x y ≡ true)
       nothing (j, p) = cc
   below_parts n (suc k) x y h =

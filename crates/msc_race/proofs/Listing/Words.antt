@@ -16,6 +16,7 @@ pub one_less : (t word : ℕ) → bit_at word t ≡ 1 → ((i : ℕ) → i < t �
 one_less zero word one none =
     (omega (arith, bit_at_lowest (word - 1), bit_at_lowest word, one), λ i above. higher i above (omega (arith, bit_at_lowest word, one)))
   where
+    -- 1 less than an odd word has the same bits above the lowest
     higher : (i : ℕ) → 0 < i → word % 2 ≡ 1 → bit_at (word - 1) i ≡ bit_at word i
     higher zero above odd = absurd (omega arith)
     higher (suc i) above odd =
@@ -27,6 +28,7 @@ one_less (suc t) word one none =
     let lower = one_less t (word / 2) (sym (bit_at-suc word t) ∙ one) (λ i below. sym (bit_at-suc word i) ∙ none (suc i) (omega arith)) in
     (bit_at-suc (word - 1) t ∙ ap (λ (n : ℕ). bit_at n t) half ∙ lower.0, higher half lower.1)
   where
+    -- 1 less than an even word has the same bits above the lowest one, as 1 less than its half has
     higher : (word - 1) / 2 ≡ word / 2 - 1 → ((i : ℕ) → t < i → bit_at (word / 2 - 1) i ≡ bit_at (word / 2) i)
         → (i : ℕ) → suc t < i → bit_at (word - 1) i ≡ bit_at word i
     higher half lower zero above = absurd (omega arith)
@@ -47,6 +49,7 @@ out_of_word word k e f other = rw (ne_eqb (f / 64) k other) refl
 pub none_of_word : (k e : ℕ) → pairs_to (is_in_word 0 k) e (64 * k + 64) ≡ []
 none_of_word k e = pairs_between (is_in_word 0 k) e 0 (64 * k + 64) (omega arith) (λ f low below. none f) ∙ pairs_none (is_in_word 0 k) e
   where
+    -- no number is in an empty word
     none : (f : ℕ) → is_in_word 0 k e f ≡ false
     none f = elim (cases_eq (f / 64) k) [
       | inl here ↦ in_word 0 k e f here ∙ bit_zero (f % 64)

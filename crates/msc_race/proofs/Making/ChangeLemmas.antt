@@ -20,33 +20,43 @@ use Rattle.msc_race.proofs.Making.FrontLemmas.{still_in, was_in}
 module _ {chart : WiredChart} {c : QueuedRun} {x : ℕ} (here : IsComing chart c x) where
   open here use {is_wired, run, may, were}
 
+  -- the run so far
   abbrev past : List ℕ
   past = c.run.items
 
+  -- the first of each queue
   abbrev heads : List ℕ
   heads = c.heads.items
 
+  -- the last of each queue
   abbrev lasts : List ℕ
   lasts = c.lasts.items
 
+  -- what comes next in its queue after each event
   abbrev next : List ℕ
   next = c.next.items
 
+  -- the inputs whose messages are first, as a row
   abbrev inputs : List ℕ
   inputs = c.inputs
 
+  -- how many events there are; in the lists this stands for none
   abbrev n : ℕ
   n = length chart.events
 
+  -- the queue of x
   abbrev q : ℕ
   q = queue chart x
 
+  -- what is in each queue when x has occurred
   abbrev after : ℕ → List ℕ
   after p = state chart p (past ++ x ∷ [])
 
+  -- the first of the queue of x
   abbrev head : ℕ
   head = get_or heads q 0
 
+  -- and the last of it
   abbrev last : ℕ
   last = get_or lasts q 0
 
@@ -55,6 +65,7 @@ module _ {chart : WiredChart} {c : QueuedRun} {x : ℕ} (here : IsComing chart c
   last_known some = (member chart past q last (last_in n next head last (state chart q past) (were.linked q (has_head here)) some)).1
 
   module _ (o : is_output chart.events x ≡ true) where
+    -- the other queues are as they were
     away : (p : ℕ) → q ≢ p → after p ≡ state chart p past
     away p other = state_sent_elsewhere chart past x is_wired run may o p other
 
@@ -147,9 +158,11 @@ module _ {chart : WiredChart} {c : QueuedRun} {x : ℕ} (here : IsComing chart c
       sym (is_wired.matched.to_and_fro y y_in) ∙ ap (λ e. partner chart.events e) same ∙ is_wired.matched.to_and_fro z z_in
 
   module _ (i : is_input chart.events x ≡ true) where
+    -- the other queues are as they were
     gone : (p : ℕ) → q ≢ p → after p ≡ state chart p past
     gone p other = state_taken_elsewhere chart past x is_wired run may i p other
 
+    -- the output of x
     abbrev s : ℕ
     s = partner chart.events x
 
@@ -157,15 +170,19 @@ module _ {chart : WiredChart} {c : QueuedRun} {x : ℕ} (here : IsComing chart c
     full_queue : (rest : List ℕ) × (state chart q past ≡ s ∷ rest)
     full_queue = first_parts (state chart q past) s (may.input i)
 
+    -- what is behind it in the queue
     abbrev rest : List ℕ
     rest = full_queue.0
 
+    -- so the queue is that output and what is behind it
     full : state chart q past ≡ s ∷ rest
     full = full_queue.1
 
+    -- and when x has occurred, what is behind it is left
     left : after q ≡ rest
     left = state_taken chart past x is_wired run may i rest full
 
+    -- the links lead over all of the queue
     linked_full : IsQueue n next head last (s ∷ rest)
     linked_full = subst (λ (l : List ℕ). IsQueue n next head last l) full (were.linked q (has_head here))
 

@@ -6,6 +6,7 @@ use Rattle.std.specs.Prelude.{IsTrue}
 use Rattle.bit_rows.specs.Rows.{bit_of, has, word_count, AreApartTo, IsFirstCommon, IsWithout}
 use Rattle.bit_rows.proofs.Bits.{bit_join, bit_meet, bit_zero, words_enough, words_few}
 use Rattle.bit_rows.proofs.Rows.{has_past}
+use Rattle.msc_chart.specs.declared.TheConstants.{EVENT_LIMIT}
 use Rattle.msc_chart.specs.Lists.{IsLeast}
 use Rattle.msc_race.specs.Beginnings.{HaveCommon}
 use Rattle.msc_race.specs.Rows.{is_masked, IsRow}
@@ -71,7 +72,7 @@ unfolding is_masked
 picks_none a b mask y out = rw out (and-false (has a y || has b y))
 
 -- so many words are a row of few numbers
-pub row_from : (n : ℕ) (row : List ℕ) → length row ≡ word_count n → n ≤ 3072 → IsRow n row
+pub row_from : (n : ℕ) (row : List ℕ) → length row ≡ word_count n → n ≤ EVENT_LIMIT → IsRow n row
 row_from n row size small =
     let enough = words_enough n in
     let few = words_few n in

@@ -80,6 +80,7 @@ module _ (chart : WiredChart) where
         ap (λ b. (is_output chart.events z && eqb (queue chart z) q) && not b) (occurs-append past (x ∷ []) (partner chart.events z))
         ∙ tests (is_output chart.events z && eqb (queue chart z) q) (occurs past (partner chart.events z)) (eqb x (partner chart.events z))
       where
+        -- what is neither the one nor the other is not the one, and then not the other
         tests : (a b d : Bool) → (a && not (b || (d || false))) ≡ ((a && not b) && not d)
         tests true true d = refl
         tests true false true = refl
@@ -176,6 +177,7 @@ module _ (chart : WiredChart) where
           ∙ ap (λ l. filter (λ z. not (eqb z s)) l) full
           ∙ rw (eq-eqb s s refl) (filter_absent rest s all.0)
         where
+          -- x is the input of an output that waits where that is the output of x
           same_pair : (z : ℕ) → is_waiting chart (queue chart x) past z ≡ true → eqb x (partner chart.events z) ≡ eqb z (partner chart.events x)
           same_pair z there =
               let below = output_below chart.events z (waiting_parts chart (queue chart x) past z there).0 in

@@ -44,8 +44,8 @@ module _ (chart : WiredChart) (is_wired : IsWired chart) where
       && table (partner chart.events x) (partner chart.events y)))
 
   -- a table of enforced pairs
-  abbrev IsSound : (ℕ → ℕ → Bool) → Type 0
-  IsSound table = (x y : ℕ) → table x y ≡ true → Enforced chart x y
+  abbrev IsEnforcedIn : (ℕ → ℕ → Bool) → Type 0
+  IsEnforcedIn table = (x y : ℕ) → table x y ≡ true → Enforced chart x y
 
   -- a table to which no rule gives another pair
   abbrev IsClosed : (ℕ → ℕ → Bool) → Type 0
@@ -53,7 +53,7 @@ module _ (chart : WiredChart) (is_wired : IsWired chart) where
       (x y : ℕ) → x < length chart.events → y < length chart.events → is_given table x y ≡ true → table x y ≡ true
 
   -- what a rule gives from enforced pairs is enforced
-  given_sound : (table : ℕ → ℕ → Bool) → IsSound table → (x y : ℕ) → is_given table x y ≡ true
+  given_sound : (table : ℕ → ℕ → Bool) → IsEnforcedIn table → (x y : ℕ) → is_given table x y ≡ true
       → Enforced chart x y
   unfolding is_given
   given_sound table sound x y h =
@@ -79,8 +79,8 @@ module _ (chart : WiredChart) (is_wired : IsWired chart) where
       ]
 
   -- so the table stays one of enforced pairs
-  with_pair_sound : (table : ℕ → ℕ → Bool) (a b : ℕ) → IsSound table → Enforced chart a b
-      → IsSound (with_pair table a b)
+  with_pair_sound : (table : ℕ → ℕ → Bool) (a b : ℕ) → IsEnforcedIn table → Enforced chart a b
+      → IsEnforcedIn (with_pair table a b)
   unfolding with_pair
   with_pair_sound table a b sound h x y k =
       elim (or_cases _ _ k) [
@@ -143,14 +143,14 @@ module _ (chart : WiredChart) (is_wired : IsWired chart) where
       ]
 
   -- a closed table of enforced pairs is the enforced order
-  order_of : (table : ℕ → ℕ → Bool) → IsSound table → IsClosed table → (order : ℕ → ℕ → Bool) × IsEnforcedOrder chart order
+  order_of : (table : ℕ → ℕ → Bool) → IsEnforcedIn table → IsClosed table → (order : ℕ → ℕ → Bool) × IsEnforcedOrder chart order
   order_of table sound closed = (
     table,
     record { holds = λ x y x_below y_below h. sound x y h; complete = closed_complete table closed },
   )
 
   -- fill a table until it is closed
-  filled : (fuel : ℕ) (table : ℕ → ℕ → Bool) → IsSound table
+  filled : (fuel : ℕ) (table : ℕ → ℕ → Bool) → IsEnforcedIn table
       → missing table (length chart.events) ≤ fuel
       → (order : ℕ → ℕ → Bool) × IsEnforcedOrder chart order
   filled zero table sound enough =

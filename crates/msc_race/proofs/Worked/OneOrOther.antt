@@ -62,6 +62,7 @@ crossing_one queues events run first second =
     (kept (crossed queues) is_wired events run 2 1 (sent refl refl) first.0)
     (kept (crossed queues) is_wired events run 0 3 (sent refl refl) second.0)
   where
+    -- the chart is wired under each architecture
     crossing_wired : (queues : Queues) → IsWired (crossed queues)
     crossing_wired Pair = wired_from _ refl
     crossing_wired Mailbox = wired_from _ refl
