@@ -1,7 +1,7 @@
 #!/usr/bin/env python3
-"""Looks whether what docs/PROMISES.md names is there: source files, definitions and lemmas in the files
-that it names for them, laws, edits, and tests. Prints what is not, with its line; the exit status is 1
-then.
+"""Looks whether what docs/PROMISES.md names is there: source files, calls and their clauses, definitions
+and lemmas in the files that it names for them, laws, edits, and tests. Prints what is not, with its line;
+the exit status is 1 then.
 """
 import pathlib
 import re
@@ -38,6 +38,29 @@ def missing_words(crate, cell):
             waiting = []
 
 
+def contracts(crate, call):
+    """What stands from a function's name to its body, of each function of this name."""
+    name = re.escape(call.split("::")[-1])
+    for file in sorted((CRATES / crate / "src").rglob("*.rt")):
+        yield from re.findall(rf"(?ms)\bfn {name}\b.*?^\s*\{{", file.read_text())
+
+
+def missing_calls(crate, cell):
+    """The calls of a cell, parted by `;`, of which the crate says nothing, and the clauses behind `:`
+    that none of these calls has; of a type a method or a trait may stand there."""
+    sources = "".join(it.read_text() for it in sorted((CRATES / crate / "src").rglob("*.rt")))
+    for part in cell.split(";"):
+        lists = [re.findall(r"`([^`/]+)`", it) for it in re.split(r":(?=\s)", part)]
+        calls, *clauses = [names for names in lists if names] or [[]]
+        calls = [it for it in calls if "laws::" not in it]
+        yield from (it for it in calls if not re.search(rf"\b{it.split('::')[-1]}\b", sources))
+        said = "".join(text for it in calls for text in contracts(crate, it))
+        for name in map(re.escape, clauses[0] if calls and clauses else []):
+            if not re.search(rf"\b(ensures|ghost) {name}\b", said or sources):
+                if not re.search(rf"\b(fn {name}\b|impl ([\w:]*::)?{name}(<\w+>)? for\b)", sources):
+                    yield f"clause {name} of {', '.join(calls)}"
+
+
 def missing_edits(crate, cell):
     """The edits of a cell that are not there; behind one may stand the crate that has it."""
     for name, other in EDIT.findall(cell):
@@ -71,6 +94,8 @@ def missing(text):
         cells = line.strip("| ").split(" | ")
         found = list(missing_laws(crate, line))
         if crate and line.startswith("| ") and len(cells) == 5:
+            if cells[1] != "Call, clause":
+                found += missing_calls(crate, cells[1])
             for cell in cells[2:4]:
                 found += missing_words(crate, cell)
             found += missing_edits(crate, cells[4])
