@@ -1,5 +1,5 @@
 -- Rows of bits: sets of numbers, with a word for each 64.
-use Rattle.std.specs.Prelude.{◌≡◌, ℕ, ◌*◌, ◌/◌, ◌%◌, ◌<◌, Bool, false, not, ◌&&◌, ◌||◌, List, length, get_or, nat_eq, IsTrue}
+use Rattle.std.specs.Prelude.{◌≡◌, ℕ, ◌+◌, ◌^◌, ◌*◌, ◌/◌, ◌%◌, ◌<◌, Bool, false, not, ◌&&◌, ◌||◌, List, length, get_or, nat_eq, IsTrue}
 use Rattle.std.specs.Int.{bit_at, div_ceil}
 
 -- bit i of a word
@@ -13,6 +13,14 @@ word_count n = div_ceil n 64
 -- the row has number y: bit y % 64 of word y / 64
 unfoldable pub has : List ℕ → ℕ → Bool
 has row y = bit_of (get_or row (y / 64) 0) (y % 64)
+
+-- the numbers of word k of a row, and the number past them, have 32 bits
+abbrev pub HasNumbersOf32Bits : ℕ → Type 0
+HasNumbersOf32Bits k = 64 * k + 64 < 2 ^ 32
+
+-- the word that has every bit
+abbrev pub all_ones : ℕ
+all_ones = 18446744073709551615
 
 -- the row has lost x, and nothing else
 abbrev pub IsWithout : List ℕ → List ℕ → ℕ → Type 0

@@ -6,6 +6,10 @@
 //! Numbers start at 0. Contracts say of a row which numbers it has, and of a table which pairs.
 #![tactic(auto)]
 
+pub mod laws;
 pub mod row;
 pub mod set;
 pub mod table;
+
+/// The numbers of a set are below this: one word has a bit for each word of its row.
+pub const SET_LIMIT: u32 = 4096;

@@ -3,7 +3,7 @@
 ghost use Rattle.std.specs.Prelude.{◌≡◌, ◌≢◌, ℕ, ◌+◌, ◌*◌, ◌/◌, ◌%◌, ◌<◌, ◌≤◌, ◌||◌, false, length};
 ghost use Rattle.std.specs.Prelude.{◌&&◌, not, nat_eq, nat_lt, replicate, IsTrue, IfOk};
 ghost use Rattle.bit_rows.specs.Rows.{bit_of, has, word_count, AreApartTo, IsFirstCommon};
-ghost use Rattle.bit_rows.specs.Rows.{IsWithout};
+ghost use Rattle.bit_rows.specs.Rows.{all_ones, HasNumbersOf32Bits, IsWithout};
 
 use std::alloc::{AllocError, Global};
 
@@ -25,7 +25,7 @@ pub(crate) fn zeros(alloc: Global, count: usize) -> Result<Vec<u64>, AllocError>
 
 /// So many words whose bits are all 1.
 fn ones(alloc: Global, count: usize) -> Result<Vec<u64>, AllocError>
-    ensures { IfOk result (λ words. words.items ≡ replicate count 18446744073709551615) }
+    ensures { IfOk result (λ words. words.items ≡ replicate count all_ones) }
 {
     vec![in alloc; u64::MAX; count]
 }
@@ -111,7 +111,7 @@ pub(crate) fn join(row: &mut [u64], other: &[u64])
 
 /// The lowest number that `word` has as word `k` of a row.
 pub fn lowest_in(word: u64, k: u32) -> u32
-    requires few { 64 * k < 4294967232 }
+    requires few { HasNumbersOf32Bits k }
     requires some { word ≢ 0 }
     ensures place { result / 64 ≡ k }
     ensures itself { IsTrue (bit_of word (result % 64)) }

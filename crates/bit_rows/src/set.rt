@@ -4,7 +4,7 @@ ghost use Rattle.std.specs.Prelude.{◌≡◌, ℕ, ◌*◌, ◌/◌, ◌<◌, �
 ghost use Rattle.std.specs.Prelude.{IsTrue, IfOk};
 ghost use Rattle.bit_rows.specs.Rows.{bit_of, has, word_count, IsWith, IsWithout};
 
-use crate::row;
+use crate::{SET_LIMIT, row};
 use std::alloc::{AllocError, Global};
 use std::marker::Model;
 
@@ -32,7 +32,7 @@ impl Set {
     /// A set without numbers, with room for those below `n`. An error is a growth of memory that
     /// was refused.
     pub fn blank(alloc: Global, n: u32) -> Result<Set, AllocError>
-        requires { n ≤ 4096 }
+        requires { n ≤ SET_LIMIT }
         ensures words { IfOk result (λ set. length set ≡ word_count n) }
         ensures none { IfOk result (λ set. (y : ℕ) → has set y ≡ false) }
     {

@@ -8,7 +8,7 @@ use std::fmt::Write;
 use std::test::Fail;
 
 /// The chart of a text that has one.
-pub(crate) fn chart_of(alloc: Global, text: &[u8]) -> Result<Chart, Fail> {
+pub(crate) fn read_chart(alloc: Global, text: &[u8]) -> Result<Chart, Fail> {
     Ok(Chart::build(alloc, &parse(alloc, text)?)?)
 }
 
@@ -181,7 +181,7 @@ fn drawn(chart: &Chart, e: Event, f: Event) -> Option<Drawn> {
 
 /// Whether this is drawn of two events of a text's chart.
 fn is_drawn(alloc: Global, text: &[u8], e: Event, f: Event, wanted: Drawn) -> Result<bool, Fail> {
-    Ok(drawn(&chart_of(alloc, text)?, e, f) == Some(wanted))
+    Ok(drawn(&read_chart(alloc, text)?, e, f) == Some(wanted))
 }
 
 /// A chart in which a coregion without events stands between two events.
@@ -217,7 +217,7 @@ fn has_names(chart: &Chart, [name, instance, message]: [&[u8]; 3]) -> bool {
 
 /// Whether the chart of a text has these names.
 fn is_named(alloc: Global, text: &[u8], names: [&[u8]; 3]) -> Result<bool, Fail> {
-    Ok(has_names(&chart_of(alloc, text)?, names))
+    Ok(has_names(&read_chart(alloc, text)?, names))
 }
 
 #[test]
@@ -242,7 +242,7 @@ fn is_line(
     i: u32,
     wanted: Option<(Event, Event)>,
 ) -> Result<bool, Fail> {
-    Ok(line(&chart_of(alloc, text)?, i) == wanted)
+    Ok(line(&read_chart(alloc, text)?, i) == wanted)
 }
 
 /// The instances of `relay` and their lines, and the number past the last instance.
@@ -275,7 +275,7 @@ fn shown(chart: &Chart, e: Event) -> Option<Shown> {
 
 /// Whether a text's chart has an event of which this is shown.
 fn is_event(alloc: Global, text: &[u8], e: Event, wanted: Shown) -> Result<bool, Fail> {
-    Ok(shown(&chart_of(alloc, text)?, e) == Some(wanted))
+    Ok(shown(&read_chart(alloc, text)?, e) == Some(wanted))
 }
 
 /// Texts, an event, and what is shown of it.
@@ -303,7 +303,7 @@ fn has_label(chart: &Chart, e: Event, label: Option<&[u8]>) -> bool {
 
 /// Whether an event of a text's chart has this label.
 fn is_label(alloc: Global, text: &[u8], e: Event, label: Option<&[u8]>) -> Result<bool, Fail> {
-    Ok(has_label(&chart_of(alloc, text)?, e, label))
+    Ok(has_label(&read_chart(alloc, text)?, e, label))
 }
 
 /// A chart with actions: one with apostrophes, one without a text.
@@ -345,7 +345,7 @@ fn sent(chart: &Chart, m: u32) -> Option<Sent> {
 
 /// Whether this is shown of a message of a text's chart.
 fn is_sent(alloc: Global, text: &[u8], m: u32, wanted: Option<Sent>) -> Result<bool, Fail> {
-    Ok(sent(&chart_of(alloc, text)?, m) == wanted)
+    Ok(sent(&read_chart(alloc, text)?, m) == wanted)
 }
 
 /// The messages of `relay`, and the number past the last one.

@@ -1,6 +1,6 @@
 //! Logs that are gathered into the least run that has them as its lines, and logs of no run.
 
-use crate::charts::chart_of;
+use crate::charts::read_chart;
 use example_charts::{CROSSING, RELAY, TWO_SENDERS};
 use msc_chart::{Event, Queues};
 use msc_gather::{GatherFault, gather};
@@ -94,7 +94,7 @@ fn is_gathered(
     logs: &[&[Event]],
     wanted: Option<&[Event]>,
 ) -> Result<bool, Fail> {
-    let chart = chart_of(alloc, text)?;
+    let chart = read_chart(alloc, text)?;
     Ok(match gather(alloc, &chart, queues, &owned(alloc, logs)?) {
         Ok(run) => Some(run.as_slice()) == wanted,
         Err(GatherFault::NoMerge) => wanted.is_none(),

@@ -4,6 +4,8 @@
 #[cfg(test)]
 mod charts;
 #[cfg(test)]
+mod closest;
+#[cfg(test)]
 mod gathering;
 #[cfg(test)]
 mod orders;

@@ -2,7 +2,7 @@
 
 ghost use Rattle.std.specs.Prelude.{◌≡◌, ◌<◌, length};
 
-use crate::charts::chart_of;
+use crate::charts::read_chart;
 use example_charts::{LOCAL_EVENTS, OVERTAKING, RELAY, TWO_MAILBOXES, TWO_SENDERS, WAITS};
 use msc_chart::{Event, Queues};
 use msc_order::Order;
@@ -25,7 +25,7 @@ fn is_held(order: &Order, events: u32, e: Event, f: Event, wanted: Held) -> bool
 
 /// Whether this is held by the visual order of a text's chart.
 fn is_seen(alloc: Global, text: &[u8], e: Event, f: Event, wanted: Held) -> Result<bool, Fail> {
-    let chart = chart_of(alloc, text)?;
+    let chart = read_chart(alloc, text)?;
     let order = Order::visual(alloc, &chart)?;
     Ok(is_held(&order, chart.events(), e, f, wanted))
 }
@@ -39,7 +39,7 @@ fn is_enforced(
     f: Event,
     wanted: Held,
 ) -> Result<bool, Fail> {
-    let chart = chart_of(alloc, text)?;
+    let chart = read_chart(alloc, text)?;
     let order = Order::enforced(alloc, &chart, queues)?;
     Ok(is_held(&order, chart.events(), e, f, wanted))
 }
@@ -123,7 +123,7 @@ fn are_enforced(
     queues: Queues,
     wanted: &[(Event, Event)],
 ) -> Result<bool, Fail> {
-    let chart = chart_of(alloc, text)?;
+    let chart = read_chart(alloc, text)?;
     let order = Order::enforced(alloc, &chart, queues)?;
     Ok(are_pairs(&order, chart.events(), wanted))
 }
@@ -156,7 +156,7 @@ fn has_row(order: &Order, events: u32, e: Event, wanted: u64) -> bool
 
 /// Whether an event's row of the enforced order of a text's chart under `Pair` is this word.
 fn is_row(alloc: Global, text: &[u8], e: Event, wanted: u64) -> Result<bool, Fail> {
-    let chart = chart_of(alloc, text)?;
+    let chart = read_chart(alloc, text)?;
     let order = Order::enforced(alloc, &chart, Queues::Pair)?;
     Ok(has_row(&order, chart.events(), e, wanted))
 }

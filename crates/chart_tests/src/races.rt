@@ -1,7 +1,7 @@
 //! Races of charts, and verdicts. Those of the worked charts are tested as they are printed, in
 //! `program_tests`.
 
-use crate::charts::chart_of;
+use crate::charts::read_chart;
 use msc_chart::{Event, Queues};
 use msc_race::{Verdict, check};
 use std::alloc::{AllocError, Global};
@@ -28,7 +28,7 @@ fn are_races(
     queues: Queues,
     wanted: &[(Event, Event)],
 ) -> Result<bool, Fail> {
-    let chart = chart_of(alloc, text)?;
+    let chart = read_chart(alloc, text)?;
     Ok(are_listed(&check(alloc, &chart, queues)?, wanted))
 }
 
@@ -69,7 +69,7 @@ fn summary_of(verdict: &Verdict) -> Summary {
 
 /// How many races there are of a text's chart under an architecture, the first and the last.
 fn summary(alloc: Global, text: &[u8], queues: Queues) -> Result<Summary, Fail> {
-    let chart = chart_of(alloc, text)?;
+    let chart = read_chart(alloc, text)?;
     Ok(summary_of(&check(alloc, &chart, queues)?))
 }
 

@@ -1,124 +1,16 @@
-//! Closest races, why races are races, and why pairs are enforced. The expected values are read off
-//! the charts by hand, from the definitions in `docs/MODEL.md`.
+//! Why races are races, and why pairs are enforced. The expected values are read off the charts by
+//! hand, from the definitions in `docs/MODEL.md`.
 
-use crate::charts::{Part, chart_of, text_of};
+use crate::charts::read_chart;
+use crate::closest::OUTPUT_BETWEEN;
 use example_charts::{
-    BELOW_COREGION, CROSSING, LOCAL_EVENTS, OVERTAKING, RELAY, TWO_MAILBOXES, TWO_SENDERS, WAITS,
+    CROSSING, LOCAL_EVENTS, OVERTAKING, RELAY, TWO_MAILBOXES, TWO_SENDERS, WAITS,
 };
 use msc_chart::{Chart, Event, Queues};
 use msc_order::Order;
-use msc_race::races;
-use msc_reason::{Lack, RaceKind, Reason, Why, closest, explain, is_race, lack_of};
+use msc_reason::{Lack, RaceKind, Reason, Why, explain, is_race, lack_of};
 use std::alloc::Global;
 use std::test::Fail;
-
-/// An output between two inputs of one queue, which are taken in the order in which they were not
-/// sent: the later input always comes first, and before the output.
-const OUTPUT_BETWEEN: &[u8] = b"msc t; instance a; out m1 to b; out m2 to b; endinstance; \
-instance b; in m2 from a; out k to c; in m1 from a; endinstance; \
-instance c; in k from b; endinstance; endmsc;";
-
-/// Charts, architectures, and the closest races.
-const CLOSEST: &[(&[u8], Queues, &[(Event, Event)])] = &[
-    (TWO_SENDERS, Queues::Pair, &[(1, 2)]),
-    (RELAY, Queues::Mailbox, &[]),
-    (OVERTAKING, Queues::Single, &[(2, 3)]),
-    (CROSSING, Queues::Pair, &[(0, 1), (2, 3)]),
-    (WAITS, Queues::Pair, &[(1, 2)]),
-    (TWO_MAILBOXES, Queues::Mailbox, &[(4, 5), (6, 7)]),
-    // The events of a coregion are next to what is drawn above it and below it.
-    (
-        BELOW_COREGION,
-        Queues::Pair,
-        &[(1, 2), (1, 3), (2, 4), (3, 4)],
-    ),
-    // The race (2, 4) spans (3, 4).
-    (OUTPUT_BETWEEN, Queues::Pair, &[(3, 4)]),
-    (OUTPUT_BETWEEN, Queues::Single, &[(3, 4)]),
-];
-
-/// Whether these are the closest races of a chart under an architecture.
-fn are_near(
-    alloc: Global,
-    chart: &Chart,
-    queues: Queues,
-    wanted: &[(Event, Event)],
-) -> Result<bool, Fail> {
-    let order = Order::enforced(alloc, chart, queues)?;
-    Ok(closest(alloc, chart, queues, &order)?.as_slice() == wanted)
-}
-
-/// The same of a text's chart.
-fn are_closest(
-    alloc: Global,
-    text: &[u8],
-    queues: Queues,
-    wanted: &[(Event, Event)],
-) -> Result<bool, Fail> {
-    are_near(alloc, &chart_of(alloc, text)?, queues, wanted)
-}
-
-#[test]
-fn closest_races(rt: HostRuntime) -> Result<(), Fail> {
-    for &(text, queues, wanted) in CLOSEST {
-        let are = are_closest(rt.alloc(), text, queues, wanted)?;
-        assert!(rt; are, "{wanted:?}, {queues:?}");
-    }
-    Ok(())
-}
-
-/// Texts with as many messages from each of two senders, drawn one stream below the other; how many
-/// races their charts have, and the one closest race.
-const STREAMS: &[(&[Part], usize, (Event, Event))] = &[
-    (
-        &[
-            ("msc t;instance a;", 20, "out m", " to b;"),
-            ("endinstance;instance b;", 20, "in m", " from a;"),
-            ("", 20, "in n", " from c;"),
-            ("endinstance;instance c;", 20, "out n", " to b;"),
-            ("endinstance;endmsc;", 0, "", ""),
-        ],
-        400,
-        (39, 40),
-    ),
-    (
-        &[
-            ("msc t;instance a;", 512, "out m", " to b;"),
-            ("endinstance;instance b;", 512, "in m", " from a;"),
-            ("", 512, "in n", " from c;"),
-            ("endinstance;instance c;", 512, "out n", " to b;"),
-            ("endinstance;endmsc;", 0, "", ""),
-        ],
-        262_144,
-        (1_023, 1_024),
-    ),
-];
-
-/// How many races and how many closest races there are, and the first of these.
-type Counted = (usize, usize, Option<(Event, Event)>);
-
-/// How many races and how many closest races a chart has, and the first of these.
-fn counted(alloc: Global, chart: &Chart) -> Result<Counted, Fail> {
-    let order = Order::enforced(alloc, chart, Queues::Pair)?;
-    let near = closest(alloc, chart, Queues::Pair, &order)?;
-    let all = races(alloc, chart, &order)?.len();
-    Ok((all, near.len(), near.first().copied()))
-}
-
-/// The same of the chart of a text of these parts.
-fn of_streams(alloc: Global, parts: &[Part]) -> Result<Counted, Fail> {
-    let text = text_of(alloc, parts)?;
-    counted(alloc, &chart_of(alloc, text.as_bytes())?)
-}
-
-#[test]
-fn two_streams_have_one_closest_race(rt: HostRuntime) -> Result<(), Fail> {
-    for &(parts, all, pair) in STREAMS {
-        let is = of_streams(rt.alloc(), parts)? == (all, 1, Some(pair));
-        assert!(rt; is, "{all} races");
-    }
-    Ok(())
-}
 
 /// The kind of a race, what it needs before which output, and whether it is reversed always.
 type Cause = (RaceKind, Event, Event, bool);
@@ -246,7 +138,7 @@ fn reason_of(
     queues: Queues,
     pair: (Event, Event),
 ) -> Result<Option<Cause>, Fail> {
-    reason_in(alloc, &chart_of(alloc, text)?, queues, pair)
+    reason_in(alloc, &read_chart(alloc, text)?, queues, pair)
 }
 
 #[test]
@@ -344,7 +236,7 @@ fn said(
     queues: Queues,
     pair: (Event, Event),
 ) -> Result<Option<Reason>, Fail> {
-    said_of(alloc, &chart_of(alloc, text)?, queues, pair)
+    said_of(alloc, &read_chart(alloc, text)?, queues, pair)
 }
 
 /// Whether it is said that the pair is enforced for this reason, or not enforced where none is

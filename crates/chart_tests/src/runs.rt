@@ -3,7 +3,7 @@
 
 ghost use Rattle.std.specs.Prelude.{◌<◌, length};
 
-use crate::charts::chart_of;
+use crate::charts::read_chart;
 use example_charts::{COREGION, TWO_SENDERS};
 use msc_chart::{Chart, Event, Queues};
 use msc_order::Order;
@@ -51,7 +51,7 @@ fn is_reversing_run(
     f: Event,
     wanted: &[Event],
 ) -> Result<bool, Fail> {
-    let chart = chart_of(alloc, text)?;
+    let chart = read_chart(alloc, text)?;
     if e >= chart.events() || f >= chart.events() {
         return Ok(false);
     }

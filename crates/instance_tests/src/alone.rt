@@ -1,6 +1,6 @@
 //! Instances run one by one in the thread of the test.
 
-use crate::together::chart_of;
+use crate::together::read_chart;
 use example_charts::{ONE_MESSAGE, RELAY};
 use msc_chart::{Chart, Event, Queues};
 use msc_instance::{AlwaysOpen, End, Gate, InstanceEnds, run_instance, wire};
@@ -99,7 +99,7 @@ fn is_received_in(
 
 /// Whether the receiver of `one_message` ends so after that.
 fn is_received(alloc: Global, before: Before, wanted: Left) -> Result<bool, Fail> {
-    is_received_in(alloc, &chart_of(alloc, ONE_MESSAGE)?, before, wanted)
+    is_received_in(alloc, &read_chart(alloc, ONE_MESSAGE)?, before, wanted)
 }
 
 /// What the sender of `one_message` does, and how its receiver ends then.
@@ -141,7 +141,7 @@ fn is_spent_in(alloc: Global, chart: &Chart) -> Result<bool, Fail> {
 
 /// Whether that of `relay` does.
 fn is_spent(alloc: Global) -> Result<bool, Fail> {
-    is_spent_in(alloc, &chart_of(alloc, RELAY)?)
+    is_spent_in(alloc, &read_chart(alloc, RELAY)?)
 }
 
 #[test]

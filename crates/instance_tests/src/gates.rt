@@ -1,7 +1,7 @@
 //! Gates that make instances wait for each other, so that an execution shows which of them ran at
 //! the same time, and gates that stop them.
 
-use crate::together::{PATIENCE, Wanted, chart_of, is_execution};
+use crate::together::{PATIENCE, Wanted, is_execution, read_chart};
 use example_charts::{RELAY, TWO_SENDERS};
 use msc_chart::{Chart, Event, Queues};
 use msc_fifo::Account;
@@ -88,7 +88,7 @@ fn meet_in<R: Threads + Wait + Sync>(
 
 /// Whether the instances of `two_senders` do.
 fn meet<R: Threads + Wait + Sync>(rt: &R, alloc: Global, queues: Queues) -> Result<bool, Fail> {
-    meet_in(rt, alloc, &chart_of(alloc, TWO_SENDERS)?, queues)
+    meet_in(rt, alloc, &read_chart(alloc, TWO_SENDERS)?, queues)
 }
 
 #[test]
@@ -143,7 +143,7 @@ fn stopped_at<R: Threads + Wait + Sync>(
     queues: Queues,
     event: Event,
 ) -> Result<Execution, Fail> {
-    stopped_in(rt, alloc, &chart_of(alloc, RELAY)?, queues, event)
+    stopped_in(rt, alloc, &read_chart(alloc, RELAY)?, queues, event)
 }
 
 /// An event of `relay` at which the gate says no, and how the three instances end.

@@ -6,7 +6,11 @@ mod alone;
 #[cfg(test)]
 mod gates;
 #[cfg(test)]
+mod gone;
+#[cfg(test)]
 mod queues;
+#[cfg(test)]
+mod sizes;
 #[cfg(test)]
 mod together;
 #[cfg(test)]

@@ -13,7 +13,7 @@ use std::thread::Threads;
 pub const PATIENCE: u32 = u32::MAX;
 
 /// The chart of a text.
-pub fn chart_of(alloc: Global, text: &[u8]) -> Result<Chart, Fail> {
+pub fn read_chart(alloc: Global, text: &[u8]) -> Result<Chart, Fail> {
     let draft = parse(alloc, text)?;
     Ok(Chart::build(alloc, &draft)?)
 }
@@ -57,7 +57,7 @@ fn is_run<R: Threads + Wait + Sync>(
     wanted: Wanted,
     count: usize,
 ) -> Result<bool, Fail> {
-    is_run_of(rt, alloc, &chart_of(alloc, text)?, queues, wanted, count)
+    is_run_of(rt, alloc, &read_chart(alloc, text)?, queues, wanted, count)
 }
 
 #[test]

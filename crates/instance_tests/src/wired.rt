@@ -1,7 +1,7 @@
 //! Fresh ends of instances, and ends that do not fit.
 
 use crate::alone::is_put;
-use crate::together::chart_of;
+use crate::together::read_chart;
 use example_charts::RELAY;
 use msc_chart::{Chart, Queues};
 use msc_instance::{InstanceEnds, wire};
@@ -73,7 +73,7 @@ fn are_wired_in(
 
 /// Whether the instances of `relay` have these ends.
 fn are_wired(alloc: Global, queues: Queues, wanted: [Wired; 3]) -> Result<bool, Fail> {
-    are_wired_in(alloc, &chart_of(alloc, RELAY)?, queues, wanted)
+    are_wired_in(alloc, &read_chart(alloc, RELAY)?, queues, wanted)
 }
 
 #[test]
@@ -137,7 +137,7 @@ fn fit_in(alloc: Global, chart: &Chart, change: Change, i: u32) -> Result<Option
 
 /// The same of `relay`.
 fn fit(alloc: Global, change: Change, i: u32) -> Result<Option<bool>, Fail> {
-    fit_in(alloc, &chart_of(alloc, RELAY)?, change, i)
+    fit_in(alloc, &read_chart(alloc, RELAY)?, change, i)
 }
 
 /// Changes of the ends of the first instance of `relay`, an instance, and whether they fit it.

@@ -79,7 +79,7 @@ fn races_often(alloc: Global, chart: &Chart, queues: Queues, count: u32) -> Resu
 }
 
 /// The chart of a text.
-fn chart_of(alloc: Global, text: &[u8]) -> Result<Chart> {
+fn read_chart(alloc: Global, text: &[u8]) -> Result<Chart> {
     Ok(Chart::build(alloc, &parse(alloc, text)?)?)
 }
 
@@ -94,7 +94,7 @@ fn take_step(alloc: Global, chart: &Chart, step: Step, count: u32) -> Result<u64
 
 /// The same from the chart of a text.
 fn take_step_of_text(alloc: Global, text: &[u8], step: Step, count: u32) -> Result<u64> {
-    take_step(alloc, &chart_of(alloc, text)?, step, count)
+    take_step(alloc, &read_chart(alloc, text)?, step, count)
 }
 
 /// Goes through a phase, and answers the number of its answer.

@@ -6,7 +6,7 @@ use Rattle.msc_parser.specs.Grammar.{Tree}
 use Rattle.msc_chart.specs.declared.event.EventKind.TheVariants.{Output, Input}
 use Rattle.msc_chart.specs.declared.event.ChartEvent.{ChartEvent}
 use Rattle.msc_chart.specs.Events.{Act, DraftEvent, is_action, acts_of, events_of}
-use Rattle.msc_chart.specs.Events.Act.{End, Action}
+use Rattle.msc_chart.specs.Events.Act.{OfMessage, Action}
 use Rattle.msc_chart.specs.Charts.{kind, action, acts}
 use Rattle.msc_chart.specs.Drawings.{chart_events, HasActions, chart_of}
 use Rattle.msc_chart.specs.Charting.{act_kind, subject_of, event_of, actions_before, events_from, texts_of}
@@ -25,8 +25,8 @@ one_event x xs = sum_by-cons (λ (y : ChartEvent). cond (acts y.kind) 1 0) x xs
 -- as many texts as actions
 pub texts_count : (xs : List Act) → length (texts_of xs) ≡ count_by is_action xs
 texts_count [] = refl
-texts_count (End x ∷ xs) =
-    let here : count_by is_action (End x ∷ xs) ≡ 0 + count_by is_action xs = one_more (End x) xs in
+texts_count (OfMessage x ∷ xs) =
+    let here : count_by is_action (OfMessage x ∷ xs) ≡ 0 + count_by is_action xs = one_more (OfMessage x) xs in
     omega (arith, texts_count xs, here)
 texts_count (Action text ∷ xs) =
     let here : count_by is_action (Action text ∷ xs) ≡ 1 + count_by is_action xs = one_more (Action text) xs in
@@ -34,7 +34,7 @@ texts_count (Action text ∷ xs) =
 
 -- an event is local where its act is an action
 local_kind : (a : Act) → acts (act_kind a) ≡ is_action a
-local_kind (End x) = by x.sends
+local_kind (OfMessage x) = by x.sends
   where
     -- neither an output nor an input acts
     by : (b : Bool) → acts (cond b Output Input) ≡ false
@@ -77,7 +77,7 @@ before_less (x ∷ xs) (suc j) text h =
 module _ (d : Tree) where
   -- a local event is an action, numbered by the actions before it
   local_at : (e : ℕ) (a : Act) → StandsAt (acts_of d) e a → acts (act_kind a) ≡ true → (subject_of (acts_of d) e a ≡ actions_before (acts_of d) e) × (actions_before (acts_of d) e < count_by is_action (acts_of d))
-  local_at e (End x) here local = absurd (true≢false (sym local ∙ local_kind (End x)))
+  local_at e (OfMessage x) here local = absurd (true≢false (sym local ∙ local_kind (OfMessage x)))
   local_at e (Action text) here local = (refl, before_less (acts_of d) e text here)
 
   -- so is a local event of the chart

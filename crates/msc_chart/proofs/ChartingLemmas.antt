@@ -14,7 +14,7 @@ use Rattle.msc_chart.proofs.ListLemmas.{by_test}
 use Rattle.msc_chart.proofs.MatchingLemmas.{mark_same, mark_same-view}
 
 -- the first place at which the code finds an equal end is the place of that end
-pub place-view : (keys : List coded.Mark) (e : code.MessageEnd) → position_or_len (mark_same (marks.End e)) keys ≡ end_place (map mark_view keys) (end_view e)
+pub place-view : (keys : List coded.Mark) (e : code.MessageEnd) → position_or_len (mark_same (marks.OfMessage e)) keys ≡ end_place (map mark_view keys) (end_view e)
 place-view [] e = refl
 place-view (k ∷ ks) e = rw mark_same-view (ap (λ n. cond (not (is_end (end_view e) (mark_view k))) (1 + n) 0) (place-view ks e))
 

@@ -26,6 +26,12 @@ joined_at [] ys i x h = inr (i, omega arith, h)
 joined_at (y ∷ xs) ys zero x h = inl h
 joined_at (y ∷ xs) ys (suc i) x h = elim (joined_at xs ys i x h) [ inl l ↦ inl l | inr r ↦ inr (r.0, omega (arith, r.1), r.2) ]
 
+-- segments do not fall from item to item
+pub next_up : (segment : ℕ) (i : Item) → segment ≤ next_segment segment i
+next_up segment (Single s) = omega arith
+next_up segment (Coregion []) = omega arith
+next_up segment (Coregion (s ∷ ss)) = omega arith
+
 module _ (line : ℕ) (own : List ℕ) where
   -- the events of an item share a segment
   of_item : (segment : ℕ) (i : Item) (x : DraftEvent) → Occurs (events_of_item line own segment i) x → (x.line ≡ line) × (x.segment ≡ segment) × (0 < length (events_of_item line own segment i))
@@ -35,12 +41,6 @@ module _ (line : ℕ) (own : List ℕ) where
       let r = map-place (drawn line own segment) ss j x h in
       let within : j < length ss = slice_get_within ss j r.0 r.1 in
       (ap (λ y. y.line) (sym r.2), ap (λ y. y.segment) (sym r.2), simp length-map (omega arith))
-
-  -- segments do not fall from item to item
-  next_up : (segment : ℕ) (i : Item) → segment ≤ next_segment segment i
-  next_up segment (Single s) = omega arith
-  next_up segment (Coregion []) = omega arith
-  next_up segment (Coregion (s ∷ ss)) = omega arith
 
   -- the events of a line are on it, and take no more segments than they are
   of_items : (segment : ℕ) (is : List Item) (x : DraftEvent) → Occurs (events_of_items line own segment is) x
@@ -123,7 +123,7 @@ items_in_order line own segment (item ∷ is) =
     (λ x y h k.
     let a = of_item line own segment item x h in
     let b = of_items line own (next_segment segment item) is y k in
-    (omega (arith, a.0, b.0), λ _. omega (arith, a.1, b.2, next_up line own segment item)))
+    (omega (arith, a.0, b.0), λ _. omega (arith, a.1, b.2, next_up segment item)))
 
 -- the events of the sections stand in order: each section has a line of its own
 sections_in_order : (line : ℕ) (ss : List Section) → AreInOrder (events_of_sections line ss)

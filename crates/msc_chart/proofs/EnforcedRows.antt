@@ -16,21 +16,21 @@ use Rattle.msc_chart.proofs.Places.{any-place}
 use Rattle.msc_chart.proofs.Numbers.{any_below, none_of_any}
 use Rattle.msc_chart.proofs.Drawn.{before_parts, output_parts}
 
--- the pair is in the list
-abbrev has : List (ℕ × ℕ) → ℕ → ℕ → ℕ → Bool
-has pairs n x y = (ltb x n && ltb y n) && list_any (λ p. eqb p.0 x && eqb p.1 y) pairs
+-- the pair is in the list, and both numbers are below n
+abbrev has_pair_below : List (ℕ × ℕ) → ℕ → ℕ → ℕ → Bool
+has_pair_below pairs n x y = (ltb x n && ltb y n) && list_any (λ p. eqb p.0 x && eqb p.1 y) pairs
 
 -- a rule of one or two events leads out of the list
 abbrev leads_out : WiredChart → List (ℕ × ℕ) → ℕ → ℕ → ℕ → Bool
 leads_out chart pairs n x y =
-    ((before chart.events x y && is_controlled chart.events y) && not (has pairs n x y))
-    || ((is_output chart.events x && not (has pairs n x (partner chart.events x)))
-    || (((is_output chart.events x && is_output chart.events y) && (eqb (queue chart x) (queue chart y) && has pairs n x y))
-    && not (has pairs n (partner chart.events x) (partner chart.events y))))
+    ((before chart.events x y && is_controlled chart.events y) && not (has_pair_below pairs n x y))
+    || ((is_output chart.events x && not (has_pair_below pairs n x (partner chart.events x)))
+    || (((is_output chart.events x && is_output chart.events y) && (eqb (queue chart x) (queue chart y) && has_pair_below pairs n x y))
+    && not (has_pair_below pairs n (partner chart.events x) (partner chart.events y))))
 
 -- transitivity does
 abbrev joins_out : List (ℕ × ℕ) → ℕ → ℕ → ℕ → ℕ → Bool
-joins_out pairs n x y z = (has pairs n x y && has pairs n y z) && not (has pairs n x z)
+joins_out pairs n x y z = (has_pair_below pairs n x y && has_pair_below pairs n y z) && not (has_pair_below pairs n x z)
 
 -- what must not fail holds
 holds_from : (a b : Bool) → (a && not b) ≡ false → a ≡ true → b ≡ true
@@ -48,17 +48,17 @@ module _ (chart : WiredChart) (pairs : List (ℕ × ℕ)) (n : ℕ) (size : n �
   within x below = subst (λ (k : ℕ). x < k) (sym size) below
 
   -- a pair of the list is a pair of events
-  known : (x y : ℕ) → has pairs n x y ≡ true → (x < n) × (y < n)
+  known : (x y : ℕ) → has_pair_below pairs n x y ≡ true → (x < n) × (y < n)
   known x y h = let p = and_parts _ _ (and_parts _ _ h).0 in (ltb-true _ _ p.0, ltb-true _ _ p.1)
 
   -- whatever the rules lead to is in the list
-  pub enforced_in : {x y : ℕ} → Enforced chart x y → has pairs n x y ≡ true
+  pub enforced_in : {x y : ℕ} → Enforced chart x y → has_pair_below pairs n x y ≡ true
   enforced_in {x} {y} (drawn h o) =
       let p = before_parts chart.events x y h in
       holds_from _ _ (or_parts _ _ (at x y (within x p.0) (within y p.1))).0 (and_from _ _ h o)
   enforced_in {x} {y} (sent o same) =
       let p = within x (output_parts chart.events x o).0 in
-      subst (λ (r : ℕ). has pairs n x r ≡ true) same
+      subst (λ (r : ℕ). has_pair_below pairs n x r ≡ true) same
       (holds_from _ _ (or_parts _ _ (or_parts _ _ (at x x p p)).1).0 o)
   enforced_in {x} {y} (joined {y = m} h k) =
       let a = enforced_in h in
@@ -67,8 +67,8 @@ module _ (chart : WiredChart) (pairs : List (ℕ × ℕ)) (n : ℕ) (size : n �
   enforced_in (queued {s} {t} {r} {u} o q same h back forth) =
       let p = within s (output_parts chart.events s o).0 in
       let l = within t (output_parts chart.events t q).0 in
-      subst (λ (i : ℕ). has pairs n i u ≡ true) back
-      (subst (λ (j : ℕ). has pairs n (partner chart.events s) j ≡ true) forth
+      subst (λ (i : ℕ). has_pair_below pairs n i u ≡ true) back
+      (subst (λ (j : ℕ). has_pair_below pairs n (partner chart.events s) j ≡ true) forth
       (holds_from _ _ (or_parts _ _ (or_parts _ _ (at s t p l)).1).1 (and_from _ _ (and_from _ _ o q) (and_from _ _ (eq-eqb _ _ same) (enforced_in h)))))
 
 -- each pair of the list is enforced
@@ -83,7 +83,7 @@ enforced_from chart (p ∷ ps) all e f (zero, h) = let same : p ≡ (e, f) = cc 
 enforced_from chart (p ∷ ps) all e f (suc j, h) = enforced_from chart ps all.1 e f (j, h)
 
 -- a pair that the test finds occurs in the list
-occurs_from : (pairs : List (ℕ × ℕ)) (n e f : ℕ) → has pairs n e f ≡ true → Occurs pairs (e, f)
+occurs_from : (pairs : List (ℕ × ℕ)) (n e f : ℕ) → has_pair_below pairs n e f ≡ true → Occurs pairs (e, f)
 occurs_from pairs n e f h =
     let r = any-place (λ p. eqb p.0 e && eqb p.1 f) pairs (and_parts _ _ h).1 in
     let p = and_parts _ _ r.3 in

@@ -7,32 +7,32 @@ use Rattle.msc_chart.specs.declared.fault.ChartFault.TheVariants.{TooManyInstanc
 use Rattle.msc_chart.specs.Faults.{Stands, rank, place, IsFirstFault, IsFaultless, IsClearBelow}
 
 -- the fault of a rank at a place
-abbrev pub fault_at : ℕ → ℕ → ChartFault
-fault_at k p =
+abbrev pub ranked_fault : ℕ → ℕ → ChartFault
+ranked_fault k p =
     get_or (Memory ∷ TooManyInstances ∷ TwiceInstance p ∷ HeaderWithoutBody p ∷ UnknownAddress p ∷ TooManyMessages ∷ TooManyActions
     ∷ TwiceEvent p ∷ UnmatchedOut p ∷ UnmatchedIn p ∷ Cyclic p ∷ []) k Memory
 
 -- a fault is the one of its rank at its place
-fault_at-rank : (f : ChartFault) → fault_at (rank f) (place f) ≡ f
-fault_at-rank TooManyInstances = refl
-fault_at-rank (TwiceInstance i) = refl
-fault_at-rank (HeaderWithoutBody k) = refl
-fault_at-rank (UnknownAddress e) = refl
-fault_at-rank TooManyMessages = refl
-fault_at-rank TooManyActions = refl
-fault_at-rank (TwiceEvent e) = refl
-fault_at-rank (UnmatchedOut e) = refl
-fault_at-rank (UnmatchedIn e) = refl
-fault_at-rank (Cyclic e) = refl
-fault_at-rank Memory = refl
+ranked_fault-rank : (f : ChartFault) → ranked_fault (rank f) (place f) ≡ f
+ranked_fault-rank TooManyInstances = refl
+ranked_fault-rank (TwiceInstance i) = refl
+ranked_fault-rank (HeaderWithoutBody k) = refl
+ranked_fault-rank (UnknownAddress e) = refl
+ranked_fault-rank TooManyMessages = refl
+ranked_fault-rank TooManyActions = refl
+ranked_fault-rank (TwiceEvent e) = refl
+ranked_fault-rank (UnmatchedOut e) = refl
+ranked_fault-rank (UnmatchedIn e) = refl
+ranked_fault-rank (Cyclic e) = refl
+ranked_fault-rank Memory = refl
 
 module _ (d : Tree) where
   -- a fault that stands is one of its rank that stands
-  of_rank : (k : ℕ) (f : ChartFault) → rank f ≡ k → Stands d f → Stands d (fault_at k (place f))
-  of_rank k f same h = subst (λ (n : ℕ). Stands d (fault_at n (place f))) same (subst (Stands d) (sym (fault_at-rank f)) h)
+  of_rank : (k : ℕ) (f : ChartFault) → rank f ≡ k → Stands d f → Stands d (ranked_fault k (place f))
+  of_rank k f same h = subst (λ (n : ℕ). Stands d (ranked_fault n (place f))) same (subst (Stands d) (sym (ranked_fault-rank f)) h)
 
   -- where no fault of the next rank stands either
-  pub clear_next : (k : ℕ) → IsClearBelow d k → ((p : ℕ) → Stands d (fault_at k p) → ⊥) → IsClearBelow d (k + 1)
+  pub clear_next : (k : ℕ) → IsClearBelow d k → ((p : ℕ) → Stands d (ranked_fault k p) → ⊥) → IsClearBelow d (k + 1)
   clear_next k clear none f h =
       elim (cases_eq (rank f) k) [
         | inl same ↦ absurd (none (place f) (of_rank k f same h))
@@ -41,7 +41,7 @@ module _ (d : Tree) where
 
   -- the least fault of the next rank
   pub first_of : (k i : ℕ) → IsClearBelow d k → (f : ChartFault) → rank f ≡ k → place f ≡ i → Stands d f
-      → ((p : ℕ) → Stands d (fault_at k p) → i ≤ p) → IsFirstFault d f
+      → ((p : ℕ) → Stands d (ranked_fault k p) → i ≤ p) → IsFirstFault d f
   first_of k i clear f ranked placed stands least = record {
     stands = stands;
     first = λ g h.

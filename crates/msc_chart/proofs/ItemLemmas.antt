@@ -14,7 +14,7 @@ use Rattle.msc_chart.specs.Drawings.{chart_events}
 use Rattle.msc_chart.specs.Charting.{event_of}
 use Rattle.msc_chart.specs.Items.{ItemPlace, item_place, draft_places, places_of_item, places_of_items, places_of_sections, ItemsAreDrawnInOrder}
 use Rattle.msc_chart.proofs.Places.{map-place, place-map}
-use Rattle.msc_chart.proofs.DraftEvents.{joined}
+use Rattle.msc_chart.proofs.DraftEvents.{joined, next_up}
 use Rattle.msc_chart.proofs.Matched.{chart_count, chart-place}
 use Rattle.msc_chart.proofs.Drawn.{before_from, before_parts}
 
@@ -93,12 +93,6 @@ module _ (i : ℕ) (own : List ℕ) where
     pub in_section : b.1.section ≡ i
     pub from_item : k ≤ b.1.item
 
-  -- segments do not fall from item to item
-  rises : (seg : ℕ) (x : Item) → seg ≤ next_segment seg x
-  rises seg (Single s) = omega arith
-  rises seg (Coregion []) = omega arith
-  rises seg (Coregion (s ∷ ss)) = omega arith
-
   -- each event of some items stands so
   of_items : (seg k : ℕ) (xs : List Item) (b : Placed) → Occurs (placed_of_items i own seg k xs) b → OfItems seg k b
   of_items seg k [] b (j, h) = cc
@@ -109,7 +103,7 @@ module _ (i : ℕ) (own : List ℕ) where
             record { on_line = r.on_line; from_segment = omega (arith, r.in_segment); in_section = r.in_section; from_item = omega (arith, r.in_item) }
         | inr there ↦
             let r = of_items (next_segment seg x) (k + 1) xs b there in
-            record { on_line = r.on_line; from_segment = omega (arith, rises seg x, r.from_segment); in_section = r.in_section; from_item = omega (arith, r.from_item) }
+            record { on_line = r.on_line; from_segment = omega (arith, next_up seg x, r.from_segment); in_section = r.in_section; from_item = omega (arith, r.from_item) }
       ]
 
   -- of two events of a section the one in an earlier item is in a smaller segment, and back

@@ -12,7 +12,7 @@ use Rattle.msc_chart.specs.declared.fault.ChartFault.TheVariants.{TooManyInstanc
 use Rattle.msc_chart.specs.declared.event.ChartEvent.{ChartEvent}
 use Rattle.msc_chart.specs.declared.message.Message.{Message}
 use Rattle.msc_chart.specs.Events.{Act, DraftEvent, is_sent, is_taken, is_action, acts_of, events_of, instances_of}
-use Rattle.msc_chart.specs.Events.Act.{End, Action}
+use Rattle.msc_chart.specs.Events.Act.{OfMessage, Action}
 use Rattle.msc_chart.specs.Charts.{IsAcyclic, IsLeastCyclic, IsLinearOrder}
 use Rattle.msc_chart.specs.Drawings.{IsAccepted, drawing, chart_events, chart_of}
 use Rattle.msc_chart.specs.Charting.{events_from}
@@ -94,7 +94,7 @@ each_way (x ∷ xs) =
 
     -- an act is exactly one of the three
     one_way : (a : Act) → cond (is_sent a) 1 0 + cond (is_taken a) 1 0 + cond (is_action a) 1 0 ≡ 1
-    one_way (End e) = by e.sends
+    one_way (OfMessage e) = by e.sends
     one_way (Action text) = refl
 
 -- what is not above a limit is at most that

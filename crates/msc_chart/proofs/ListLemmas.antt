@@ -14,6 +14,11 @@ by_test false f g = g refl
 pub clash : {X : Type 0} {b : Bool} → b ≡ true → b ≡ false → X
 clash p q = cc
 
+-- no number stands in the list twice, told from its head
+abbrev pub IsDistinct : List ℕ → Type 0
+IsDistinct [] = Unit {0}
+IsDistinct (x ∷ xs) = (occurs xs x ≡ false) × IsDistinct xs
+
 -- the head of a list occurs in it
 pub occurs-head : (x : ℕ) (xs : List ℕ) → occurs (x ∷ xs) x ≡ true
 unfolding occurs
@@ -169,3 +174,28 @@ unfolding occurs
 occurs_at [] k lt = absurd (omega arith)
 occurs_at (x ∷ xs) zero lt = or_left (eqb x x) (occurs xs x) (eq-eqb x x refl)
 occurs_at (x ∷ xs) (suc k) lt = or_right (eqb x (get_or xs k 0)) (occurs xs (get_or xs k 0)) (occurs_at xs k (omega arith))
+
+-- what occurs in a filter passes
+pub filter-passes : (p : ℕ → Bool) (xs : List ℕ) (e : ℕ) → occurs (filter p xs) e ≡ true
+    → p e ≡ true
+unfolding occurs
+filter-passes p [] e h = clash h refl
+filter-passes p (x ∷ xs) e h =
+    (elim (p x) as (λ b. p x ≡ b → occurs (cond b (x ∷ filter p xs) (filter p xs)) e ≡ true
+    → p e ≡ true) [
+      | true ↦ λ passes k. elim (or_cases (eqb x e) (occurs (filter p xs) e) k) [
+        | inl same ↦ subst (λ (z : ℕ). p z ≡ true) (eqb-true x e same) passes
+        | inr later ↦ filter-passes p xs e later
+      ]
+      | false ↦ λ fails k. filter-passes p xs e k
+    ]) refl h
+
+-- an event does not stand before itself
+pub until-self : (xs : List ℕ) (e : ℕ) → occurs (until xs e) e ≡ false
+unfolding occurs until
+until-self [] e = refl
+until-self (x ∷ xs) e =
+    (elim (eqb x e) as (λ b. eqb x e ≡ b → occurs (cond b [] (x ∷ until xs e)) e ≡ false) [
+      | true ↦ λ same. refl
+      | false ↦ λ other. rw other (until-self xs e)
+    ]) refl

@@ -11,7 +11,7 @@ use Rattle.msc_chart.specs.declared.fault.ChartFault.TheVariants.{TwiceEvent, Un
 use Rattle.msc_chart.specs.declared.event.EventKind.TheVariants.{Output, Input}
 use Rattle.msc_chart.specs.declared.event.ChartEvent.{ChartEvent}
 use Rattle.msc_chart.specs.Events.{MessageEnd, Act, DraftEvent, acts_of, events_of, other_end, is_end}
-use Rattle.msc_chart.specs.Events.Act.{End, Action}
+use Rattle.msc_chart.specs.Events.Act.{OfMessage, Action}
 use Rattle.msc_chart.specs.Charts.{at, no_event, line, segment, kind, partner, sends, takes, acts, is_output, is_input, IsMatched, IsInTextOrder, AreOnLines}
 use Rattle.msc_chart.specs.Drawings.{chart_events}
 use Rattle.msc_chart.specs.Charting.{end_place, act_kind, partner_of, event_of, events_from}
@@ -131,45 +131,45 @@ module _ (d : Tree) (clear : IsClearBelow d 10) where
   none-twice e h = let low : 10 ≤ 7 = clear (TwiceEvent e) h in omega arith
 
   -- so each stands at its place
-  pub place-own : (e : ℕ) (x : MessageEnd) → StandsAt (acts_of d) e (End x) → end_place (acts_of d) x ≡ e
+  pub place-own : (e : ℕ) (x : MessageEnd) → StandsAt (acts_of d) e (OfMessage x) → end_place (acts_of d) x ≡ e
   place-own = place-once (acts_of d) none-twice
 
   -- no end is alone
-  other-occurs : (e : ℕ) (x : MessageEnd) → StandsAt (acts_of d) e (End x) → Occurs (acts_of d) (End (other_end x))
+  other-occurs : (e : ℕ) (x : MessageEnd) → StandsAt (acts_of d) e (OfMessage x) → Occurs (acts_of d) (OfMessage (other_end x))
   unfolding Stands
   other-occurs e x h =
       by_test (list_any (is_end (other_end x)) (acts_of d))
       (λ some. let r = any-place (is_end (other_end x)) (acts_of d) some in (r.0, subst (StandsAt (acts_of d) r.0) (is_end-true (other_end x) r.1 r.3) r.2))
       (λ none.
-      let alone : Occurs (acts_of d) (End (other_end x)) → ⊥ = λ o. clash (place-any (is_end (other_end x)) (acts_of d) o.0 (End (other_end x)) o.1 (same_end-refl (other_end x))) none in
+      let alone : Occurs (acts_of d) (OfMessage (other_end x)) → ⊥ = λ o. clash (place-any (is_end (other_end x)) (acts_of d) o.0 (OfMessage (other_end x)) o.1 (same_end-refl (other_end x))) none in
       by_test x.sends
-      (λ sent. let low : 10 ≤ 8 = clear (UnmatchedOut e) (End x, h, record { kind = sent; alone = alone }) in absurd (omega arith))
-      (λ taken. let low : 10 ≤ 9 = clear (UnmatchedIn e) (End x, h, record { kind = taken; alone = alone }) in absurd (omega arith)))
+      (λ sent. let low : 10 ≤ 8 = clear (UnmatchedOut e) (OfMessage x, h, record { kind = sent; alone = alone }) in absurd (omega arith))
+      (λ taken. let low : 10 ≤ 9 = clear (UnmatchedIn e) (OfMessage x, h, record { kind = taken; alone = alone }) in absurd (omega arith)))
 
   -- the other end of an end, at its place
-  pub partner_at : (e : ℕ) (x : MessageEnd) → StandsAt (acts_of d) e (End x)
+  pub partner_at : (e : ℕ) (x : MessageEnd) → StandsAt (acts_of d) e (OfMessage x)
       → (end_place (acts_of d) (other_end x) < length (chart_events d))
-      × ((y : DraftEvent) × (at (chart_events d) (end_place (acts_of d) (other_end x)) ≡ event_of (acts_of d) (end_place (acts_of d) (other_end x)) y) × (y.act ≡ End (other_end x)))
+      × ((y : DraftEvent) × (at (chart_events d) (end_place (acts_of d) (other_end x)) ≡ event_of (acts_of d) (end_place (acts_of d) (other_end x)) y) × (y.act ≡ OfMessage (other_end x)))
   partner_at e x here =
       let p : ℕ = end_place (acts_of d) (other_end x) in
       let o = other-occurs e x here in
-      let stands : StandsAt (acts_of d) p (End (other_end x)) = (place-stands (acts_of d) (other_end x) o.0 o.1).0 in
+      let stands : StandsAt (acts_of d) p (OfMessage (other_end x)) = (place-stands (acts_of d) (other_end x) o.0 o.1).0 in
       let n = chart_count d in
       let m = acts_count d in
-      let below : p < length (acts_of d) = slice_get_within (acts_of d) p (End (other_end x)) stands in
+      let below : p < length (acts_of d) = slice_get_within (acts_of d) p (OfMessage (other_end x)) stands in
       let within : p < length (chart_events d) = omega arith in
       let y = drawn_at d p within in
-      (within, (y.0, y.3, one_at (acts_of d) p y.0.act (End (other_end x)) y.2 stands))
+      (within, (y.0, y.3, one_at (acts_of d) p y.0.act (OfMessage (other_end x)) y.2 stands))
 
   -- the partner of an event is an event
   partner_in : (e : ℕ) (a : Act) → StandsAt (acts_of d) e a → e < length (chart_events d) → partner_of (acts_of d) e a < length (chart_events d)
-  partner_in e (End x) here within = (partner_at e x here).0
+  partner_in e (OfMessage x) here within = (partner_at e x here).0
   partner_in e (Action text) here within = within
 
   -- and its partner is that event
   back_to : (e : ℕ) (a : Act) → StandsAt (acts_of d) e a → (at (chart_events d) e).partner ≡ partner_of (acts_of d) e a
       → (at (chart_events d) (partner_of (acts_of d) e a)).partner ≡ e
-  back_to e (End x) here same =
+  back_to e (OfMessage x) here same =
       let p : ℕ = end_place (acts_of d) (other_end x) in
       let y = (partner_at e x here).1 in
       ap (λ (v : ChartEvent). v.partner) y.1
@@ -182,7 +182,7 @@ module _ (d : Tree) (clear : IsClearBelow d 10) where
   crosswise : (e : ℕ) (a : Act) → StandsAt (acts_of d) e a → e < length (chart_events d) → (at (chart_events d) e).kind ≡ act_kind a
       → is_output (chart_events d) (partner_of (acts_of d) e a) ≡ is_input (chart_events d) e
   unfolding is_output is_input kind
-  crosswise e (End x) here within same =
+  crosswise e (OfMessage x) here within same =
       let p = partner_at e x here in
       let y = p.1 in
       rw (lt-ltb _ _ p.0, lt-ltb _ _ within)
@@ -194,7 +194,7 @@ module _ (d : Tree) (clear : IsClearBelow d 10) where
 
   -- and of a local event it is that event itself
   alone : (e : ℕ) (a : Act) → (at (chart_events d) e).partner ≡ partner_of (acts_of d) e a → acts (act_kind a) ≡ true → (at (chart_events d) e).partner ≡ e
-  alone e (End x) same local = absurd (none_acts x.sends local)
+  alone e (OfMessage x) same local = absurd (none_acts x.sends local)
   alone e (Action text) same local = same
 
   -- partners lead to and fro: no end stands twice, and none is alone

@@ -16,7 +16,7 @@ use Rattle.msc_chart.specs.declared.end.Mark as coded
 use Rattle.msc_chart.specs.declared.end.Mark.TheVariants as marks
 use Rattle.msc_chart.specs.contracts.end.MarkPartialEq.TheImpl as derived
 use Rattle.msc_chart.specs.Events.{MessageEnd, Act, same_end, same_name, same_number, is_end}
-use Rattle.msc_chart.specs.Events.Act.{End, Action}
+use Rattle.msc_chart.specs.Events.Act.{OfMessage, Action}
 use Rattle.msc_chart.specs.Hashing.{equal_ends}
 use Rattle.msc_chart.specs.Views.{end_view, mark_view}
 
@@ -90,8 +90,8 @@ pub equal_ends-from : (a b : code.MessageEnd) → end_view a ≡ end_view b → 
 equal_ends-from a b h = equal_ends-view a b ∙ ap (same_end (end_view a)) (sym h) ∙ same_end-refl (end_view a)
 
 -- an act that is an end is that end
-pub is_end-true : (x : MessageEnd) (a : Act) → is_end x a ≡ true → a ≡ End x
-is_end-true x (End y) h = ap End (sym (same_end-true x y h))
+pub is_end-true : (x : MessageEnd) (a : Act) → is_end x a ≡ true → a ≡ OfMessage x
+is_end-true x (OfMessage y) h = ap OfMessage (sym (same_end-true x y h))
 is_end-true x (Action text) h = absurd (true≢false (sym h))
 
 -- what the code computes for `==` of two marks
@@ -99,17 +99,17 @@ abbrev pub mark_same : coded.Mark → coded.Mark → Bool
 mark_same = derived.eq-value.it
 
 -- the code finds the mark of an end where the definition finds the end
-pub mark_same-view : (e : code.MessageEnd) (m : coded.Mark) → mark_same (marks.End e) m ≡ is_end (end_view e) (mark_view m)
-mark_same-view e (marks.End x) = equal_ends-view e x
+pub mark_same-view : (e : code.MessageEnd) (m : coded.Mark) → mark_same (marks.OfMessage e) m ≡ is_end (end_view e) (mark_view m)
+mark_same-view e (marks.OfMessage x) = equal_ends-view e x
 mark_same-view e (marks.Action n t) = refl
 
 -- marks that show one end are found equal
-pub mark_same-from : (a b : coded.Mark) (x : MessageEnd) → mark_view a ≡ End x → mark_view b ≡ End x → mark_same a b ≡ true
-mark_same-from (marks.End a) (marks.End b) x p q =
+pub mark_same-from : (a b : coded.Mark) (x : MessageEnd) → mark_view a ≡ OfMessage x → mark_view b ≡ OfMessage x → mark_same a b ≡ true
+mark_same-from (marks.OfMessage a) (marks.OfMessage b) x p q =
     let here : end_view a ≡ x = cc in
     let there : end_view b ≡ x = cc in
     equal_ends-from a b (here ∙ sym there)
-mark_same-from (marks.End a) (marks.Action n t) x p q = cc
+mark_same-from (marks.OfMessage a) (marks.Action n t) x p q = cc
 mark_same-from (marks.Action n t) b x p q = cc
 
 -- the tests of the two look-ups: a name is not found exactly where it does not occur

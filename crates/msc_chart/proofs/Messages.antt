@@ -8,7 +8,7 @@ use Rattle.msc_chart.specs.declared.event.EventKind.TheVariants.{Output, Input}
 use Rattle.msc_chart.specs.declared.event.ChartEvent.{ChartEvent}
 use Rattle.msc_chart.specs.declared.message.Message.{Message}
 use Rattle.msc_chart.specs.Events.{MessageEnd, Act, is_sent, other_end, acts_of}
-use Rattle.msc_chart.specs.Events.Act.{End, Action}
+use Rattle.msc_chart.specs.Events.Act.{OfMessage, Action}
 use Rattle.msc_chart.specs.Charts.{at, kind, partner, message, sends, is_output}
 use Rattle.msc_chart.specs.Drawings.{chart_events, Drawing, no_message, output_of, HasMessages, chart_of}
 use Rattle.msc_chart.specs.Charting.{end_place, output_end, outputs_before, act_kind, partner_of, subject_of, messages_from}
@@ -32,70 +32,70 @@ count-no : (x : Act) (xs : List Act) → is_sent x ≡ false → sent_of (x ∷ 
 count-no x xs h = sum_by-cons (λ (y : Act). cond (is_sent y) 1 0) x xs ∙ ap (λ (b : Bool). cond b 1 0 + sent_of xs) h ∙ omega arith
 
 -- the message of an output at place k
-abbrev message_of : ℕ → MessageEnd → Message
-message_of k x = record { name = x.key.name; number = x.key.number; output = k }
+abbrev message_sent : ℕ → MessageEnd → Message
+message_sent k x = record { name = x.key.name; number = x.key.number; output = k }
 
 -- an output in front gives its message first
-messages-yes : (k : ℕ) (x : MessageEnd) (xs : List Act) → x.sends ≡ true → messages_from k (End x ∷ xs) ≡ message_of k x ∷ messages_from (k + 1) xs
-messages-yes k x xs h = ap (λ (b : Bool). cond b (message_of k x ∷ messages_from (k + 1) xs) (messages_from (k + 1) xs)) h
+messages-yes : (k : ℕ) (x : MessageEnd) (xs : List Act) → x.sends ≡ true → messages_from k (OfMessage x ∷ xs) ≡ message_sent k x ∷ messages_from (k + 1) xs
+messages-yes k x xs h = ap (λ (b : Bool). cond b (message_sent k x ∷ messages_from (k + 1) xs) (messages_from (k + 1) xs)) h
 
 -- what is none in front gives no message
 messages-no : (k : ℕ) (x : Act) (xs : List Act) → is_sent x ≡ false → messages_from k (x ∷ xs) ≡ messages_from (k + 1) xs
-messages-no k (End x) xs h = ap (λ (b : Bool). cond b (message_of k x ∷ messages_from (k + 1) xs) (messages_from (k + 1) xs)) h
+messages-no k (OfMessage x) xs h = ap (λ (b : Bool). cond b (message_sent k x ∷ messages_from (k + 1) xs) (messages_from (k + 1) xs)) h
 messages-no k (Action text) xs h = refl
 
 -- the messages are as many as the outputs
 pub messages_count : (k : ℕ) (xs : List Act) → length (messages_from k xs) ≡ count_by is_sent xs
 messages_count k [] = refl
-messages_count k (End x ∷ xs) =
+messages_count k (OfMessage x ∷ xs) =
     by_test x.sends
-    (λ sent. ap length (messages-yes k x xs sent) ∙ ap suc (messages_count (k + 1) xs) ∙ sym (count-yes (End x) xs sent))
-    (λ taken. ap length (messages-no k (End x) xs taken) ∙ messages_count (k + 1) xs ∙ sym (count-no (End x) xs taken))
+    (λ sent. ap length (messages-yes k x xs sent) ∙ ap suc (messages_count (k + 1) xs) ∙ sym (count-yes (OfMessage x) xs sent))
+    (λ taken. ap length (messages-no k (OfMessage x) xs taken) ∙ messages_count (k + 1) xs ∙ sym (count-no (OfMessage x) xs taken))
 messages_count k (Action text ∷ xs) = messages_count (k + 1) xs ∙ sym (count-no (Action text) xs refl)
 
 -- message m has its output at place j
-pub record HasOutput (messages : List Message) (m j : ℕ) : Type 0 where
+pub record HasOutputAt (messages : List Message) (m j : ℕ) : Type 0 where
   pub within : m < length messages
   pub output : (get_or messages m no_message).output ≡ j
 
 -- one message more in front
-later : (messages : List Message) (x : Message) (m j : ℕ) → HasOutput messages m j → HasOutput (x ∷ messages) (suc m) j
+later : (messages : List Message) (x : Message) (m j : ℕ) → HasOutputAt messages m j → HasOutputAt (x ∷ messages) (suc m) j
 later messages x m j h = record { within = omega (arith, h.within); output = h.output }
 
 -- what is none in front leaves message m where it is
-none_more : (k : ℕ) (y : Act) (ys : List Act) (j : ℕ) → is_sent y ≡ false → HasOutput (messages_from (k + 1) ys) (outputs_before ys j) (k + suc j)
-    → HasOutput (messages_from k (y ∷ ys)) (outputs_before (y ∷ ys) (suc j)) (k + suc j)
+none_more : (k : ℕ) (y : Act) (ys : List Act) (j : ℕ) → is_sent y ≡ false → HasOutputAt (messages_from (k + 1) ys) (outputs_before ys j) (k + suc j)
+    → HasOutputAt (messages_from k (y ∷ ys)) (outputs_before (y ∷ ys) (suc j)) (k + suc j)
 none_more k y ys j none here =
-    subst (λ (n : ℕ). HasOutput (messages_from k (y ∷ ys)) n (k + suc j)) (sym (count-no y (take j ys) none))
-    (subst (λ (l : List Message). HasOutput l (outputs_before ys j) (k + suc j)) (sym (messages-no k y ys none)) here)
+    subst (λ (n : ℕ). HasOutputAt (messages_from k (y ∷ ys)) n (k + suc j)) (sym (count-no y (take j ys) none))
+    (subst (λ (l : List Message). HasOutputAt l (outputs_before ys j) (k + suc j)) (sym (messages-no k y ys none)) here)
 
 -- an output has its message, at the number of outputs before it
-pub message_back : (k : ℕ) (xs : List Act) (j : ℕ) (x : MessageEnd) → StandsAt xs j (End x) → x.sends ≡ true → HasOutput (messages_from k xs) (outputs_before xs j) (k + j)
+pub message_back : (k : ℕ) (xs : List Act) (j : ℕ) (x : MessageEnd) → StandsAt xs j (OfMessage x) → x.sends ≡ true → HasOutputAt (messages_from k xs) (outputs_before xs j) (k + j)
 message_back k [] j x h sent = cc
-message_back k (End y ∷ ys) zero x h sent =
-    let same : End y ≡ End x = cc in
+message_back k (OfMessage y ∷ ys) zero x h sent =
+    let same : OfMessage y ≡ OfMessage x = cc in
     let first : y.sends ≡ true = ap is_sent same ∙ sent in
-    subst (λ (l : List Message). HasOutput l 0 (k + 0)) (sym (messages-yes k y ys first)) (record { within = omega arith; output = omega arith })
+    subst (λ (l : List Message). HasOutputAt l 0 (k + 0)) (sym (messages-yes k y ys first)) (record { within = omega arith; output = omega arith })
 message_back k (Action text ∷ ys) zero x h sent = cc
-message_back k (End y ∷ ys) (suc j) x h sent =
+message_back k (OfMessage y ∷ ys) (suc j) x h sent =
     let rest = message_back (k + 1) ys j x h sent in
     let place : (k + 1) + j ≡ k + suc j = omega arith in
-    let here : HasOutput (messages_from (k + 1) ys) (outputs_before ys j) (k + suc j) = subst (λ (p : ℕ). HasOutput (messages_from (k + 1) ys) (outputs_before ys j) p) place rest in
+    let here : HasOutputAt (messages_from (k + 1) ys) (outputs_before ys j) (k + suc j) = subst (λ (p : ℕ). HasOutputAt (messages_from (k + 1) ys) (outputs_before ys j) p) place rest in
     by_test y.sends
     (λ first.
-    subst (λ (n : ℕ). HasOutput (messages_from k (End y ∷ ys)) n (k + suc j)) (sym (count-yes (End y) (take j ys) first))
-    (subst (λ (l : List Message). HasOutput l (suc (outputs_before ys j)) (k + suc j)) (sym (messages-yes k y ys first)) (later _ _ _ _ here)))
-    (λ first. none_more k (End y) ys j first here)
+    subst (λ (n : ℕ). HasOutputAt (messages_from k (OfMessage y ∷ ys)) n (k + suc j)) (sym (count-yes (OfMessage y) (take j ys) first))
+    (subst (λ (l : List Message). HasOutputAt l (suc (outputs_before ys j)) (k + suc j)) (sym (messages-yes k y ys first)) (later _ _ _ _ here)))
+    (λ first. none_more k (OfMessage y) ys j first here)
 message_back k (Action text ∷ ys) (suc j) x h sent =
     let rest = message_back (k + 1) ys j x h sent in
     let place : (k + 1) + j ≡ k + suc j = omega arith in
-    none_more k (Action text) ys j refl (subst (λ (p : ℕ). HasOutput (messages_from (k + 1) ys) (outputs_before ys j) p) place rest)
+    none_more k (Action text) ys j refl (subst (λ (p : ℕ). HasOutputAt (messages_from (k + 1) ys) (outputs_before ys j) p) place rest)
 
 -- message m is that of the output at a place
 pub record IsMessageOf (k : ℕ) (xs : List Act) (messages : List Message) (m : ℕ) : Type 0 where
   pub place : ℕ
   pub end : MessageEnd
-  pub stands : StandsAt xs place (End end)
+  pub stands : StandsAt xs place (OfMessage end)
   pub sent : end.sends ≡ true
   pub count : outputs_before xs place ≡ m
   pub output : (get_or messages m no_message).output ≡ k + place
@@ -111,20 +111,20 @@ moved k y ys m none r =
 pub message_own : (k : ℕ) (xs : List Act) (m : ℕ) → m < length (messages_from k xs) → IsMessageOf k xs (messages_from k xs) m
 message_own k [] m below = absurd (omega arith)
 message_own k (Action text ∷ ys) m below = moved k (Action text) ys m refl (message_own (k + 1) ys m below)
-message_own k (End y ∷ ys) m below =
+message_own k (OfMessage y ∷ ys) m below =
     by_test y.sends
     (λ sent.
-    subst (λ (l : List Message). IsMessageOf k (End y ∷ ys) l m) (sym (messages-yes k y ys sent))
+    subst (λ (l : List Message). IsMessageOf k (OfMessage y ∷ ys) l m) (sym (messages-yes k y ys sent))
     (first k y ys (λ n lt. message_own (k + 1) ys n lt) m sent (subst (λ (l : List Message). m < length l) (messages-yes k y ys sent) below)))
-    (λ taken. moved k (End y) ys m taken (message_own (k + 1) ys m (subst (λ (l : List Message). m < length l) (messages-no k (End y) ys taken) below)))
+    (λ taken. moved k (OfMessage y) ys m taken (message_own (k + 1) ys m (subst (λ (l : List Message). m < length l) (messages-no k (OfMessage y) ys taken) below)))
   where
     -- the first message is that of the output in front, and the others come behind it
     first : (k : ℕ) (y : MessageEnd) (ys : List Act) → ((n : ℕ) → n < length (messages_from (k + 1) ys) → IsMessageOf (k + 1) ys (messages_from (k + 1) ys) n)
-        → (m : ℕ) → y.sends ≡ true → m < suc (length (messages_from (k + 1) ys)) → IsMessageOf k (End y ∷ ys) (message_of k y ∷ messages_from (k + 1) ys) m
+        → (m : ℕ) → y.sends ≡ true → m < suc (length (messages_from (k + 1) ys)) → IsMessageOf k (OfMessage y ∷ ys) (message_sent k y ∷ messages_from (k + 1) ys) m
     first k y ys rest zero sent lt = record { place = 0; end = y; stands = refl; sent = sent; count = refl; output = omega arith }
     first k y ys rest (suc m) sent lt =
         let r = rest m (omega arith) in
-        record { place = suc r.place; end = r.end; stands = r.stands; sent = r.sent; count = count-yes (End y) (take r.place ys) sent ∙ ap suc r.count; output = r.output ∙ omega arith }
+        record { place = suc r.place; end = r.end; stands = r.stands; sent = r.sent; count = count-yes (OfMessage y) (take r.place ys) sent ∙ ap suc r.count; output = r.output ∙ omega arith }
 
 -- the output of an output's message is itself
 output_same : (x : MessageEnd) → x.sends ≡ true → output_end x ≡ x
@@ -136,8 +136,8 @@ module _ (d : Tree) (clear : IsClearBelow d 10) where
   chart = chart_of d
 
   -- the end of an output
-  sent_end : (e : ℕ) (a : Act) → StandsAt (acts_of d) e a → sends (act_kind a) ≡ true → (x : MessageEnd) × StandsAt (acts_of d) e (End x) × (x.sends ≡ true) × (a ≡ End x)
-  sent_end e (End x) here sent = (x, here, by x.sends sent, refl)
+  sent_end : (e : ℕ) (a : Act) → StandsAt (acts_of d) e a → sends (act_kind a) ≡ true → (x : MessageEnd) × StandsAt (acts_of d) e (OfMessage x) × (x.sends ≡ true) × (a ≡ OfMessage x)
+  sent_end e (OfMessage x) here sent = (x, here, by x.sends sent, refl)
     where
       -- of the two kinds of end only an output sends
       by : (b : Bool) → sends (cond b Output Input) ≡ true → b ≡ true
@@ -147,7 +147,7 @@ module _ (d : Tree) (clear : IsClearBelow d 10) where
 
   -- the event at a place, as an end
   sent_at : (e : ℕ) → is_output (chart_events d) e ≡ true
-      → (x : MessageEnd) × StandsAt (acts_of d) e (End x) × (x.sends ≡ true) × ((at (chart_events d) e).subject ≡ subject_of (acts_of d) e (End x))
+      → (x : MessageEnd) × StandsAt (acts_of d) e (OfMessage x) × (x.sends ≡ true) × ((at (chart_events d) e).subject ≡ subject_of (acts_of d) e (OfMessage x))
   unfolding kind
   sent_at e o =
       let p = output_parts (chart_events d) e o in
@@ -167,7 +167,7 @@ module _ (d : Tree) (clear : IsClearBelow d 10) where
   -- both ends of a message are about it, and a local event is its own partner
   shared_by : (e : ℕ) (a : Act) → StandsAt (acts_of d) e a → (at (chart_events d) e).subject ≡ subject_of (acts_of d) e a
       → (at (chart_events d) (partner_of (acts_of d) e a)).subject ≡ (at (chart_events d) e).subject
-  shared_by e (End x) here same =
+  shared_by e (OfMessage x) here same =
       let y = (partner_at d clear e x here).1 in
       ap (λ (v : ChartEvent). v.subject) y.1
       ∙ ap (subject_of (acts_of d) (end_place (acts_of d) (other_end x))) y.2
@@ -199,10 +199,10 @@ module _ (d : Tree) (clear : IsClearBelow d 10) where
       let r = message_own 0 (acts_of d) m below in
       let n = chart_count d in
       let k = acts_count d in
-      let lt : r.place < length (acts_of d) = slice_get_within (acts_of d) r.place (End r.end) r.stands in
+      let lt : r.place < length (acts_of d) = slice_get_within (acts_of d) r.place (OfMessage r.end) r.stands in
       let within : r.place < length (chart_events d) = omega arith in
       let x = drawn_at d r.place within in
-      let same : x.0.act ≡ End r.end = one_at (acts_of d) r.place x.0.act (End r.end) x.2 r.stands in
+      let same : x.0.act ≡ OfMessage r.end = one_at (acts_of d) r.place x.0.act (OfMessage r.end) x.2 r.stands in
       let output : output_of chart m ≡ r.place = r.output ∙ omega arith in
       rw output (
         output_from (chart_events d) r.place within

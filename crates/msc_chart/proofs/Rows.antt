@@ -9,16 +9,6 @@ use Rattle.msc_chart.specs.Orders.{queue_number, queue_of}
 use Rattle.msc_chart.specs.Lists.{pairs_of, pairs_to}
 use Rattle.msc_chart.specs.Samples.{actions, go, done, below_coregion, two_senders, coregion, relay, empty_coregion, event, drawn_pairs, queue_numbers}
 
--- of two senders: two lines with one event, and one with two
-pub two_senders_events : chart_events two_senders ≡ event 0 0 kinds.Output 1 0 ∷ event 1 0 kinds.Input 0 0 ∷ event 1 1 kinds.Input 3 1 ∷ event 2 0 kinds.Output 2 1 ∷ []
-unfolding chart_events events_of acts_of
-two_senders_events = refl
-
--- with the inputs in a coregion: they share a segment
-pub coregion_events : chart_events coregion ≡ event 0 0 kinds.Output 1 0 ∷ event 1 0 kinds.Input 0 0 ∷ event 1 0 kinds.Input 3 1 ∷ event 2 0 kinds.Output 2 1 ∷ []
-unfolding chart_events events_of acts_of
-coregion_events = refl
-
 -- an empty coregion takes no segment
 pub empty_coregion_events : chart_events empty_coregion ≡ event 0 0 kinds.Output 1 0 ∷ event 0 1 kinds.Input 0 0 ∷ []
 unfolding chart_events events_of acts_of

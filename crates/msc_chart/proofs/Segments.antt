@@ -16,11 +16,3 @@ module _ (events : List ChartEvent) (text : IsInTextOrder events) where
       let b : segment events f ≤ segment events y = text.rising f y f_y y_in (sym on_line ∙ same) in
       let apart : segment events e ≡ segment events f → ⊥ = λ s. other (on_line, s) in
       before_from events e y (omega arith) y_in same (omega (arith, a, b, apart))
-
-  -- after the first event that is not of its line, none is
-  pub line_past : (e f : ℕ) → e < f → f < length events → (line events f ≡ line events e → ⊥)
-      → (y : ℕ) → f ≤ y → y < length events → line events e ≡ line events y → ⊥
-  line_past e f e_f f_in other y f_y y_in same =
-      let up : line events e ≤ line events f = text.lines e f (omega arith) f_in in
-      let down : line events f ≤ line events y = text.lines f y f_y y_in in
-      other (omega (arith, up, down, same))

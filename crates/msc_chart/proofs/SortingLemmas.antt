@@ -1,14 +1,14 @@
 -- The sorting of the events into a linear order: what may be put next, and what is kept.
-use Rattle.std.proofs.Common.{◌≡◌, ℕ, zero, suc, ◌+◌, ◌-◌, ◌<◌, ◌≤◌, ◌⊎◌, Bool, true, false, not, cond, List, [], ◌∷◌, ◌++◌, length, get_or, set, inl, inr, refl, sym, ap, subst, ◌∙◌, arith, get_or-set_other, get_or-set_same, length-set}
+use Rattle.std.proofs.Common.{◌≡◌, ℕ, ◌+◌, ◌-◌, ◌<◌, ◌≤◌, ◌⊎◌, Bool, true, false, not, cond, List, [], ◌∷◌, ◌++◌, length, get_or, set, inl, inr, refl, sym, ap, subst, ◌∙◌, arith, get_or-set_other, get_or-set_same, length-set}
 use Rattle.std.specs.Prelude.{count_by}
 use Rattle.std.proofs.Math.ListN.{replicate}
 use Rattle.std.proofs.lemmas.Bool.{cases_lt, cases_eq}
 use Rattle.std.proofs.lemmas.List.{get_or-replicate, length-replicate, length-append, get_or_past}
 use Rattle.std.proofs.lemmas.List.Folds.{sum_by-replicate}
-use Rattle.std.proofs.lemmas.List.Sums.{sum_by-set, sum_by-cons}
+use Rattle.std.proofs.lemmas.List.Sums.{sum_by-set}
 use Rattle.msc_chart.specs.declared.event.ChartEvent.{ChartEvent}
 use Rattle.msc_chart.specs.Lists.{occurs, Steps}
-use Rattle.msc_chart.specs.Charts.{line, segment, partner, is_input, is_controlled, before, Visual, Follows, IsLinearOrder}
+use Rattle.msc_chart.specs.Charts.{line, segment, partner, is_input, is_controlled, before, Visual, Follows}
 use Rattle.msc_chart.specs.Charts.Visual.{seen, passed, linked}
 use Rattle.msc_chart.specs.Sortings.{IsDirectly, is_put, NoneLeftBelow, IsLeftOn, IsUnbarred, IsBarred, AreReady, IsSortingOf}
 use Rattle.msc_chart.proofs.ListLemmas.{by_test, clash, occurs-push, occurs_other, occurs_at, until-within, Steps-push, step_at}
@@ -97,13 +97,6 @@ count_less marks e left within out count =
     let one : cond (not (get_or marks e false)) 1 0 ≡ 1 + 0 = ap (λ (b : Bool). cond (not b) 1 0) out in
     omega (arith, s, one, count)
 
--- where none is left, each was put
-pub all_put : (marks : List Bool) → count_by not marks ≡ 0 → (e : ℕ) → e < length marks → is_put marks e ≡ true
-all_put [] none e within = absurd (omega arith)
-all_put (true ∷ bs) none zero within = refl
-all_put (true ∷ bs) none (suc e) within = all_put bs none e (omega arith)
-all_put (false ∷ bs) none e within = let s = sum_by-cons (λ (b : Bool). cond (not b) 1 0) false bs in absurd (omega arith)
-
 module _ (events : List ChartEvent) (order : List ℕ) (marks : List Bool) (first : List ℕ) (left : ℕ) (kept : IsSortingOf events order marks first left) where
   -- where an event was not put, some are left
   pub some_left : (e : ℕ) → e < length events → is_put marks e ≡ false → 0 < left
@@ -148,13 +141,6 @@ module _ (events : List ChartEvent) (order : List ℕ) (marks : List Bool) (firs
   -- the events of the order are events of the chart
   pub order_within : (k : ℕ) → k < length order → get_or order k 0 < length events
   order_within k below = (step_at (Follows events) order (get_or order k 0) kept.steps (occurs_at order k below)).1.event
-
-  -- where none is left, the order is linear
-  pub whole : left ≡ 0 → IsLinearOrder events order
-  whole none = record {
-    steps = kept.steps;
-    whole = λ e within. let n = kept.marks_len in sym (kept.marked e within) ∙ all_put marks (sym kept.left_count ∙ none) e (omega arith);
-  }
 
 -- what a list of equal elements has at a place, or past its end, is that element
 zeros_at : (n i z : ℕ) → get_or (replicate n z) i z ≡ z

@@ -14,7 +14,7 @@ use Rattle.msc_chart.specs.declared.end.DraftEvent as coded
 use Rattle.msc_chart.specs.declared.end.Act as code_act
 use Rattle.msc_chart.specs.declared.end.Act.TheVariants as code_acts
 use Rattle.msc_chart.specs.Events.{Act, instances_of, header_of, acts_of, events_of, address_of, is_action}
-use Rattle.msc_chart.specs.Events.Act.{End}
+use Rattle.msc_chart.specs.Events.Act.{OfMessage}
 use Rattle.msc_chart.specs.Hashing.{equal_names}
 use Rattle.msc_chart.specs.Views.{act_view, event_view, mark_view, mark_at, marks_from}
 use Rattle.msc_chart.specs.Numbering.{AreNewBelow, IsFirstRepeat}
@@ -167,7 +167,7 @@ module _ (d : Tree) where
         clear_next d 7 clear (λ p h.
         let here : IsTwice (map mark_view marks) p = subst (λ ys. IsTwice ys p) (sym drawn) h in
         let past : length marks ≤ p = none_twice marks (length marks) p new here in
-        let within : p < length (map mark_view marks) = slice_get_within (map mark_view marks) p (End here.0) here.1 in
+        let within : p < length (map mark_view marks) = slice_get_within (map mark_view marks) p (OfMessage here.0) here.1 in
         omega (arith, length-map marks mark_view))
 
     -- the end at place k is alone
@@ -203,7 +203,7 @@ marks_seen d events marks same seen = ap (map mark_view) same ∙ by 0 events �
   where
     -- the mark of an act shows the act, wherever it stands
     one : (k : ℕ) (a : code_act.Act) → mark_view (mark_at k a) ≡ act_view a
-    one k (code_acts.End e) = refl
+    one k (code_acts.OfMessage e) = refl
     one k (code_acts.Action text) = refl
 
     -- and so it is of the marks from any number on

@@ -7,7 +7,7 @@ use Rattle.std.proofs.lemmas.Bool.{cases_lt, eqb-true, eq-eqb}
 use Rattle.std.proofs.lemmas.List.Sums.{sum_by-cons}
 use Rattle.std.proofs.lemmas.Option.{slice_get_within, slice_get-get_or}
 use Rattle.msc_chart.specs.Events.{MessageEnd, Act, is_sent, is_action, is_end, other_end}
-use Rattle.msc_chart.specs.Events.Act.{End, Action}
+use Rattle.msc_chart.specs.Events.Act.{OfMessage, Action}
 use Rattle.msc_chart.specs.Charting.{end_place, act_kind, event_of, partner_of, subject_of, output_end, outputs_before, actions_before}
 use Rattle.msc_chart.specs.Faults.{HoldsAt, IsTwice, IsUnmatched, OfEnd}
 use Rattle.msc_chart.specs.Lists.{StandsAt, Occurs}
@@ -21,11 +21,11 @@ use Rattle.msc_chart.proofs.MatchingLemmas.{is_end-true, same_end-refl}
 use Rattle.msc_chart.proofs.Places.{one_at, place-map}
 
 -- an end that stands somewhere stands at its place
-pub place-stands : (acts : List Act) (x : MessageEnd) (j : ℕ) → StandsAt acts j (End x)
-    → StandsAt acts (end_place acts x) (End x) × (end_place acts x ≤ j)
+pub place-stands : (acts : List Act) (x : MessageEnd) (j : ℕ) → StandsAt acts j (OfMessage x)
+    → StandsAt acts (end_place acts x) (OfMessage x) × (end_place acts x ≤ j)
 place-stands [] x j h = cc
 place-stands (y ∷ ys) x zero h =
-    let same : y ≡ End x = cc in
+    let same : y ≡ OfMessage x = cc in
     let found : is_end x y ≡ true = ap (is_end x) same ∙ same_end-refl x in
     rw found (h, omega arith)
 place-stands (y ∷ ys) x (suc j) h =
@@ -34,11 +34,11 @@ place-stands (y ∷ ys) x (suc j) h =
     (λ other.
     let r = place-stands ys x j h in
     let step : end_place (y ∷ ys) x ≡ suc (end_place ys x) = rw other (omega arith) in
-    (subst (λ (n : ℕ). StandsAt (y ∷ ys) n (End x)) (sym step) r.0, omega (arith, r.1, step)))
+    (subst (λ (n : ℕ). StandsAt (y ∷ ys) n (OfMessage x)) (sym step) r.0, omega (arith, r.1, step)))
 
 -- at a place within the list the end stands
 pub place-found : (acts : List Act) (x : MessageEnd) → end_place acts x < length acts
-    → StandsAt acts (end_place acts x) (End x)
+    → StandsAt acts (end_place acts x) (OfMessage x)
 place-found [] x h = absurd (omega (arith, h))
 place-found (y ∷ ys) x h =
     by_test (is_end x y)
@@ -46,7 +46,7 @@ place-found (y ∷ ys) x h =
     (λ other.
     let step : end_place (y ∷ ys) x ≡ suc (end_place ys x) = rw other (omega arith) in
     let rest = place-found ys x (omega (arith, step, h)) in
-    subst (λ (n : ℕ). StandsAt (y ∷ ys) n (End x)) (sym step) rest)
+    subst (λ (n : ℕ). StandsAt (y ∷ ys) n (OfMessage x)) (sym step) rest)
 
 -- a place is at most the number of acts
 pub place-few : (acts : List Act) (x : MessageEnd) → end_place acts x ≤ length acts
@@ -59,7 +59,7 @@ place-few (y ∷ ys) x =
 
 -- where no end stands twice, each stands at its place
 pub place-once : (acts : List Act) → ((k : ℕ) → IsTwice acts k → ⊥) → (e : ℕ) (x : MessageEnd)
-    → StandsAt acts e (End x) → end_place acts x ≡ e
+    → StandsAt acts e (OfMessage x) → end_place acts x ≡ e
 place-once acts once e x h =
     let p = place-stands acts x e h in
     elim (cases_lt (end_place acts x) e) [
@@ -69,14 +69,14 @@ place-once acts once e x h =
 
 -- an end whose place is the number of acts occurs nowhere
 pub place-none : (acts : List Act) (x : MessageEnd) → end_place acts x ≡ length acts
-    → Occurs acts (End x) → ⊥
+    → Occurs acts (OfMessage x) → ⊥
 place-none acts x past o =
     let p = place-stands acts x o.0 o.1 in
-    let within = slice_get_within acts (end_place acts x) (End x) p.0 in
+    let within = slice_get_within acts (end_place acts x) (OfMessage x) p.0 in
     omega (arith, past, within)
 
 -- and an end that occurs nowhere has that place
-pub none-place : (acts : List Act) (x : MessageEnd) → (Occurs acts (End x) → ⊥)
+pub none-place : (acts : List Act) (x : MessageEnd) → (Occurs acts (OfMessage x) → ⊥)
     → end_place acts x ≡ length acts
 none-place acts x none =
     elim (cases_lt (end_place acts x) (length acts)) [
@@ -90,7 +90,7 @@ pub place-no_action : (acts : List Act) (x : MessageEnd) (text : List ℕ)
 place-no_action acts x text h =
     let within = slice_get_within acts (end_place acts x) (Action text) h in
     let found = place-found acts x within in
-    let one : Action text ≡ End x = one_at acts (end_place acts x) (Action text) (End x) h found in
+    let one : Action text ≡ OfMessage x = one_at acts (end_place acts x) (Action text) (OfMessage x) h found in
     cc
 
 -- as many partners as acts
@@ -125,7 +125,7 @@ partner-at acts k x h =
 -- a number more than acts
 numbers-length : (o a : ℕ) (xs : List Act) → length (numbers_from o a xs) ≡ length xs + 1
 numbers-length o a [] = refl
-numbers-length o a (End x ∷ xs) =
+numbers-length o a (OfMessage x ∷ xs) =
     let rest = numbers-length (cond x.sends (o + 1) o) a xs in omega (arith, rest)
 numbers-length o a (Action text ∷ xs) =
     let rest = numbers-length o (a + 1) xs in omega (arith, rest)
@@ -150,11 +150,11 @@ outputs-at : (o a : ℕ) (xs : List Act) (k : ℕ) → k ≤ length xs
     → get_or (numbers_from o a xs) k 0 ≡ o + outputs_before xs k
 outputs-at o a [] zero le none = omega arith
 outputs-at o a [] (suc k) le none = absurd (omega (arith, le))
-outputs-at o a (End x ∷ xs) zero le none = omega arith
-outputs-at o a (End x ∷ xs) (suc k) le none =
+outputs-at o a (OfMessage x ∷ xs) zero le none = omega arith
+outputs-at o a (OfMessage x ∷ xs) (suc k) le none =
     let rest = outputs-at (cond x.sends (o + 1) o) a xs k (omega (arith, le)) none in
-    let front : outputs_before (End x ∷ xs) (suc k) ≡ cond x.sends 1 0 + outputs_before xs k =
-    more is_sent (End x) (take k xs) in
+    let front : outputs_before (OfMessage x ∷ xs) (suc k) ≡ cond x.sends 1 0 + outputs_before xs k =
+    more is_sent (OfMessage x) (take k xs) in
     let step : cond x.sends (o + 1) o ≡ o + cond x.sends 1 0 = one_more o x.sends in
     omega (arith, rest, front, step)
 outputs-at o a (Action text ∷ xs) zero le none = absurd (none text refl)
@@ -167,10 +167,10 @@ outputs-at o a (Action text ∷ xs) (suc k) le none =
 actions-at : (o a : ℕ) (xs : List Act) (k : ℕ) (text : List ℕ) → StandsAt xs k (Action text)
     → get_or (numbers_from o a xs) k 0 ≡ a + actions_before xs k
 actions-at o a [] k text h = cc
-actions-at o a (End x ∷ xs) zero text h = cc
-actions-at o a (End x ∷ xs) (suc k) text h =
+actions-at o a (OfMessage x ∷ xs) zero text h = cc
+actions-at o a (OfMessage x ∷ xs) (suc k) text h =
     let rest = actions-at (cond x.sends (o + 1) o) a xs k text h in
-    let front = more is_action (End x) (take k xs) in
+    let front = more is_action (OfMessage x) (take k xs) in
     omega (arith, rest, front)
 actions-at o a (Action other ∷ xs) zero text h = omega arith
 actions-at o a (Action other ∷ xs) (suc k) text h =
@@ -192,7 +192,7 @@ number-of_action acts e text h = let r = actions-at 0 0 acts e text h in omega (
 
 -- the output of a message stands at the place of an output, or at the partner of an input
 pub output-place : (acts : List Act) → ((k : ℕ) → IsTwice acts k → ⊥) → (e : ℕ) (x : MessageEnd)
-    → StandsAt acts e (End x)
+    → StandsAt acts e (OfMessage x)
     → cond x.sends e (end_place acts (other_end x)) ≡ end_place acts (output_end x)
 output-place acts once e x h =
     by_test x.sends
@@ -220,10 +220,10 @@ act-at events e d within =
 
 -- an end at a place, and what is unmatched there
 module _ (acts : List Act) (sends : Bool) (e : ℕ) (x : MessageEnd)
-    (here : StandsAt acts e (End x)) where
+    (here : StandsAt acts e (OfMessage x)) where
   -- what is unmatched at the place is this end
   unmatched-one : HoldsAt (OfEnd (IsUnmatched sends acts)) acts e → IsUnmatched sends acts x
-  unmatched-one u = subst (OfEnd (IsUnmatched sends acts)) (one_at acts e u.0 (End x) u.1 here) u.2
+  unmatched-one u = subst (OfEnd (IsUnmatched sends acts)) (one_at acts e u.0 (OfMessage x) u.1 here) u.2
 
   -- an end of the other kind is not
   pub other-kind : beq x.sends sends ≡ false → HoldsAt (OfEnd (IsUnmatched sends acts)) acts e → ⊥
@@ -234,11 +234,11 @@ module _ (acts : List Act) (sends : Bool) (e : ℕ) (x : MessageEnd)
       → beq x.sends sends ≡ true
       → IsTrue (nat_eq p n) ↔ HoldsAt (OfEnd (IsUnmatched sends acts)) acts e
   unmatched-test p n read count kind =
-      let at : p ≡ end_place acts (other_end x) = read ∙ partner-at acts e (End x) here in (
+      let at : p ≡ end_place acts (other_end x) = read ∙ partner-at acts e (OfMessage x) here in (
         λ t.
             let past = sym at ∙ eqb-true p n t ∙ count in
             let same = (booleans_Decides x.sends sends).0 kind in
-            (End x, here, record { kind = same; alone = place-none acts (other_end x) past }),
+            (OfMessage x, here, record { kind = same; alone = place-none acts (other_end x) past }),
         λ u. eq-eqb p n (at ∙ none-place acts (other_end x) (unmatched-one u).alone ∙ sym count),
       )
 
@@ -250,12 +250,12 @@ action-matched acts sends e text here u =
 
 -- the number of the output of an end of a message is the subject of that end
 module _ (acts : List Act) (once : (k : ℕ) → IsTwice acts k → ⊥) (e : ℕ) (x : MessageEnd)
-    (here : StandsAt acts e (End x)) (k : ℕ)
+    (here : StandsAt acts e (OfMessage x)) (k : ℕ)
     (output : k ≡ cond x.sends e (get_or (partners_of acts) e 0)) where
   -- k is the place of that output
   output-here : k ≡ end_place acts (output_end x)
   output-here =
-      output ∙ ap (cond x.sends e) (partner-at acts e (End x) here)
+      output ∙ ap (cond x.sends e) (partner-at acts e (OfMessage x) here)
       ∙ output-place acts once e x here
 
   -- it has one
@@ -265,7 +265,7 @@ module _ (acts : List Act) (once : (k : ℕ) → IsTwice acts k → ⊥) (e : �
       omega (arith, output-here, few, numbers-many acts)
 
   -- and it is the subject of the end
-  pub subject-of_end : get_or (numbers_of acts) k 0 ≡ subject_of acts e (End x)
+  pub subject-of_end : get_or (numbers_of acts) k 0 ≡ subject_of acts e (OfMessage x)
   subject-of_end =
       ap (λ (n : ℕ). get_or (numbers_of acts) n 0) output-here ∙ number-of_end acts (output_end x)
 

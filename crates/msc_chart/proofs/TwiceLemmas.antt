@@ -6,7 +6,7 @@ use Rattle.msc_chart.specs.declared.end.Mark.TheVariants as marks
 use Rattle.msc_chart.specs.declared.end.DraftEvent as coded
 use Rattle.msc_chart.specs.declared.end.Act as code_act
 use Rattle.msc_chart.specs.declared.end.Act.TheVariants as code_acts
-use Rattle.msc_chart.specs.Events.Act.{End}
+use Rattle.msc_chart.specs.Events.Act.{OfMessage}
 use Rattle.msc_chart.specs.Views.{end_view, mark_view, mark_at, marks_from}
 use Rattle.msc_chart.specs.Lists.{StandsAt}
 use Rattle.msc_chart.specs.Numbering.{AreNewBelow, IsFirstRepeat}
@@ -16,7 +16,7 @@ use Rattle.msc_chart.proofs.MatchingLemmas.{equal_ends-true, mark_same, mark_sam
 
 -- the mark of an action has this number
 abbrev pub HasNumber : ℕ → code.Mark → Type 0
-HasNumber e (marks.End x) = Unit {0}
+HasNumber e (marks.OfMessage x) = Unit {0}
 HasNumber e (marks.Action n text) = n ≡ e
 
 -- the mark of each action has the number of its place
@@ -25,7 +25,7 @@ AreOwn ms = (e : ℕ) (m : code.Mark) → StandsAt ms e m → HasNumber e m
 
 -- a mark that is made for a place has its number
 made_for : (k : ℕ) (a : code_act.Act) → HasNumber k (mark_at k a)
-made_for k (code_acts.End x) = tt
+made_for k (code_acts.OfMessage x) = tt
 made_for k (code_acts.Action text) = refl
 
 -- so have the marks of events
@@ -48,10 +48,10 @@ marks_own events ms same e m h =
 module _ (ms : List code.Mark) where
   -- equal marks at two places are two ends
   two_ends : (i j : ℕ) → j < i → (a b : code.Mark) → StandsAt ms i a → StandsAt ms j b → HasNumber i a → HasNumber j b → mark_same a b ≡ true → IsTwice (map mark_view ms) i
-  two_ends i j below (marks.End a) (marks.End b) p q h k same =
-      (end_view a, place-map mark_view ms i (marks.End a) p, (j, below, subst (StandsAt (map mark_view ms) j) (ap End (sym (equal_ends-true a b same))) (place-map mark_view ms j (marks.End b) q)))
-  two_ends i j below (marks.End a) (marks.Action n t) p q h k same = absurd (true≢false (sym same))
-  two_ends i j below (marks.Action n t) (marks.End b) p q h k same = absurd (true≢false (sym same))
+  two_ends i j below (marks.OfMessage a) (marks.OfMessage b) p q h k same =
+      (end_view a, place-map mark_view ms i (marks.OfMessage a) p, (j, below, subst (StandsAt (map mark_view ms) j) (ap OfMessage (sym (equal_ends-true a b same))) (place-map mark_view ms j (marks.OfMessage b) q)))
+  two_ends i j below (marks.OfMessage a) (marks.Action n t) p q h k same = absurd (true≢false (sym same))
+  two_ends i j below (marks.Action n t) (marks.OfMessage b) p q h k same = absurd (true≢false (sym same))
   two_ends i j below (marks.Action n t) (marks.Action l u) p q h k same =
       let one : n ≡ l = eqb-true n l (and_parts _ _ same).0 in absurd (omega (arith, one, h, k, below))
 
@@ -67,8 +67,8 @@ module _ (ms : List code.Mark) where
   none_twice i k new h =
       elim (cases_lt k i) [
         | inl below ↦
-            let x = map-place mark_view ms k (End h.0) h.1 in
-            let y = map-place mark_view ms h.2.0 (End h.0) h.2.2 in
+            let x = map-place mark_view ms k (OfMessage h.0) h.1 in
+            let y = map-place mark_view ms h.2.0 (OfMessage h.0) h.2.2 in
             absurd (true≢false (sym (place-any (mark_same x.0) (take k ms) h.2.0 y.0 (place-take ms k h.2.0 y.0 h.2.1 y.1) (mark_same-from x.0 y.0 h.0 x.2 y.2)) ∙ new k x.0 below x.1))
         | inr ge ↦ ge
       ]

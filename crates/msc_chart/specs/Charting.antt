@@ -6,7 +6,7 @@ use Rattle.msc_chart.specs.declared.event.EventKind.TheVariants.{Output, Input, 
 use Rattle.msc_chart.specs.declared.event.ChartEvent.{ChartEvent}
 use Rattle.msc_chart.specs.declared.message.Message.{Message}
 use Rattle.msc_chart.specs.Events.{DraftEvent, MessageEnd, Act, other_end, is_end, is_sent, is_taken, is_action}
-use Rattle.msc_chart.specs.Events.Act.{End, Action}
+use Rattle.msc_chart.specs.Events.Act.{OfMessage, Action}
 
 -- the place of the first act that is this end, or the number of acts
 abbrev pub end_place : List Act → MessageEnd → ℕ
@@ -26,7 +26,7 @@ actions_before acts e = count_by is_action (take e acts)
 
 -- an end of a message is an output or an input, an action a local event
 abbrev pub act_kind : Act → EventKind
-act_kind (End x) = cond x.sends Output Input
+act_kind (OfMessage x) = cond x.sends Output Input
 act_kind (Action text) = Local
 
 -- whether an act becomes an event of this kind
@@ -37,12 +37,12 @@ is_of Local = is_action
 
 -- the event at the other end of its message; an action is its own
 abbrev pub partner_of : List Act → ℕ → Act → ℕ
-partner_of acts e (End x) = end_place acts (other_end x)
+partner_of acts e (OfMessage x) = end_place acts (other_end x)
 partner_of acts e (Action text) = e
 
 -- Messages are numbered by their outputs, and actions by themselves, in the order of the text.
 abbrev pub subject_of : List Act → ℕ → Act → ℕ
-subject_of acts e (End x) = outputs_before acts (end_place acts (output_end x))
+subject_of acts e (OfMessage x) = outputs_before acts (end_place acts (output_end x))
 subject_of acts e (Action text) = actions_before acts e
 
 -- event e of a chart, of a draft with these acts
@@ -63,7 +63,7 @@ events_from acts e (x ∷ xs) = event_of acts e x ∷ events_from acts (e + 1) x
 -- the messages of the acts from this place on, by their outputs
 abbrev pub messages_from : ℕ → List Act → List Message
 messages_from e [] = []
-messages_from e (End x ∷ xs) =
+messages_from e (OfMessage x ∷ xs) =
     cond x.sends
     (record { name = x.key.name; number = x.key.number; output = e } ∷ messages_from (e + 1) xs)
     (messages_from (e + 1) xs)
@@ -72,5 +72,5 @@ messages_from e (Action text ∷ xs) = messages_from (e + 1) xs
 -- the texts of the actions
 abbrev pub texts_of : List Act → List (List ℕ)
 texts_of [] = []
-texts_of (End x ∷ xs) = texts_of xs
+texts_of (OfMessage x ∷ xs) = texts_of xs
 texts_of (Action text ∷ xs) = text ∷ texts_of xs

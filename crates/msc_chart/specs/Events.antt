@@ -26,7 +26,7 @@ pub record MessageEnd : Type 0 where
 
 -- what an event does: it is an end of a message, or an action (Z.120) with its text
 pub data Act : Type 0 where
-  End : MessageEnd → Act
+  OfMessage : MessageEnd → Act
   Action : List ℕ → Act
 
 -- an event of a draft: its line, its segment there, and what it does
@@ -48,7 +48,7 @@ end_of own s = end_by s.way own s
 
 -- what a statement of an instance of this name does
 abbrev pub act_of : List ℕ → Statement → Act
-act_of own (statements.Message s) = End (end_of own s)
+act_of own (statements.Message s) = OfMessage (end_of own s)
 act_of own (statements.Action text) = Action text
 
 -- the event that a statement draws
@@ -104,17 +104,17 @@ acts_of draft = map (λ e. e.act) (events_of draft)
 
 -- it is an output
 abbrev pub is_sent : Act → Bool
-is_sent (End e) = e.sends
+is_sent (OfMessage e) = e.sends
 is_sent (Action text) = false
 
 -- it is an input
 abbrev pub is_taken : Act → Bool
-is_taken (End e) = not e.sends
+is_taken (OfMessage e) = not e.sends
 is_taken (Action text) = false
 
 -- it is an action
 abbrev pub is_action : Act → Bool
-is_action (End e) = false
+is_action (OfMessage e) = false
 is_action (Action text) = true
 
 -- names are compared byte by byte
@@ -138,5 +138,5 @@ same_end a b =
 
 -- whether an act is this end
 abbrev pub is_end : MessageEnd → Act → Bool
-is_end e (End x) = same_end e x
+is_end e (OfMessage x) = same_end e x
 is_end e (Action text) = false

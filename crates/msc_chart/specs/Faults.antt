@@ -6,7 +6,7 @@ use Rattle.msc_chart.specs.Lists.{StandsAt, Occurs, IsLeast}
 use Rattle.msc_chart.specs.declared.fault.ChartFault.{ChartFault}
 use Rattle.msc_chart.specs.declared.fault.ChartFault.TheVariants.{TooManyInstances, TwiceInstance, HeaderWithoutBody, UnknownAddress, TooManyMessages, TooManyActions, TwiceEvent, UnmatchedOut, UnmatchedIn, Cyclic, Memory}
 use Rattle.msc_chart.specs.Events.{MessageEnd, Act, instances_of, header_of, acts_of, address_of, other_end, is_sent, is_taken, is_action}
-use Rattle.msc_chart.specs.Events.Act.{End, Action}
+use Rattle.msc_chart.specs.Events.Act.{OfMessage, Action}
 use Rattle.msc_chart.specs.Charts.{Visual}
 use Rattle.msc_chart.specs.Drawings.{chart_events}
 
@@ -28,17 +28,17 @@ IsUnknown names name = Occurs names name → ⊥
 
 -- the act is an end of a message, and such
 abbrev pub OfEnd : (MessageEnd → Type 0) → Act → Type 0
-OfEnd P (End x) = P x
+OfEnd P (OfMessage x) = P x
 OfEnd P (Action text) = ⊥
 
 -- the act at place e is an end of a message that stands earlier too
 abbrev pub IsTwice : List Act → ℕ → Type 0
-IsTwice acts e = (x : MessageEnd) × StandsAt acts e (End x) × ((j : ℕ) × (j < e) × StandsAt acts j (End x))
+IsTwice acts e = (x : MessageEnd) × StandsAt acts e (OfMessage x) × ((j : ℕ) × (j < e) × StandsAt acts j (OfMessage x))
 
 -- an output, or an input, has no other end
 pub record IsUnmatched (sends : Bool) (acts : List Act) (end : MessageEnd) : Type 0 where
   pub kind : end.sends ≡ sends
-  pub alone : Occurs acts (End (other_end end)) → ⊥
+  pub alone : Occurs acts (OfMessage (other_end end)) → ⊥
 
 -- the messages are too many: their outputs, or their inputs
 abbrev pub AreTooMany : List Act → Type 0

@@ -140,6 +140,12 @@ below_coregion =
     ∷ instance_of c (Single (out_to m2 b) ∷ Single (out_to m3 b) ∷ [])
     ∷ instance_of d (Single (out_to m4 b) ∷ []) ∷ [])
 
+-- a: out m1 to itself, in m1, in m2; b: action go, out m2
+abbrev pub own_message : Tree
+own_message =
+    draft_of (instance_of a (Single (out_to m1 a) ∷ Single (in_from m1 a) ∷ Single (in_from m2 b) ∷ [])
+    ∷ instance_of b (Single (does go) ∷ Single (out_to m2 a) ∷ []) ∷ [])
+
 -- the pairs of which the first is drawn before the second
 abbrev pub drawn_pairs : Drawing → List (ℕ × ℕ)
 drawn_pairs d = pairs_of (before d.events) (length d.events)

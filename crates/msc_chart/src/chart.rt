@@ -105,6 +105,7 @@ impl Chart {
     pub fn accepted(&self)
         ensures { IsAccepted self.now }
     {
+        // A look at a field makes known what every chart keeps.
         let _events = &self.events;
     }
 
@@ -113,6 +114,7 @@ impl Chart {
         ensures number { result ≡ length self.now.messages }
         ensures few { length self.now.messages ≤ MESSAGE_LIMIT }
     {
+        // A look at a field makes known what every chart keeps.
         let _events = &self.events;
         self.messages.as_slice().len() as u32
     }
@@ -142,6 +144,7 @@ impl Chart {
         // The numbers between them are those of the events of the line, and of no other.
         ensures range { IsLine self.now i result.0 result.1 }
     {
+        // A look at a field makes known what every chart keeps.
         let _instances = &self.instances;
         (self.line_start(i), self.line_start(i + 1))
     }

@@ -25,7 +25,9 @@ fn place<'d>(places: &IndexSet<Mark<'d>>, end: MessageEnd<'d>) -> usize
     ensures place { result ≡ end_place (map mark_view places.now.keys) (end_view end.entry) }
     ensures within { result ≤ length places.now.keys }
 {
-    places.get_index_of(&Mark::End(end)).unwrap_or(places.len())
+    places
+        .get_index_of(&Mark::OfMessage(end))
+        .unwrap_or(places.len())
 }
 
 /// The event at the other end of the message of event `e`, which has this mark, or the number of
@@ -35,7 +37,7 @@ fn partner<'d>(places: &IndexSet<Mark<'d>>, e: u32, mark: &Mark<'d>) -> u32
     ensures { result ≡ partner_of (map mark_view places.now.keys) e (mark_view mark.entry.now) }
 {
     match mark {
-        Mark::End(end) => place(places, end.other()) as u32,
+        Mark::OfMessage(end) => place(places, end.other()) as u32,
         Mark::Action(_, _) => e,
     }
 }
@@ -68,7 +70,7 @@ fn numbers(alloc: Global, marks: &[Mark]) -> Result<Vec<u32>, AllocError>
     let mut actions = 0;
     for mark in marks {
         match mark {
-            Mark::End(end) => {
+            Mark::OfMessage(end) => {
                 numbers.push(outputs)?;
                 if end.sends {
                     outputs += 1;
@@ -119,7 +121,7 @@ fn charted<'d>(
 {
     let partner = partners[e as usize];
     let (kind, subject) = match marks[e as usize] {
-        Mark::End(end) => (
+        Mark::OfMessage(end) => (
             kind_of(end.sends),
             numbers[output_of(end.sends, e, partner) as usize],
         ),
@@ -195,7 +197,7 @@ fn messages<'d>(alloc: Global, marks: &[Mark<'d>]) -> Result<Listed<Message>, Al
 {
     let mut messages = Vec::new(alloc);
     for (e, mark) in marks.iter().enumerate() {
-        if let Mark::End(end) = mark {
+        if let Mark::OfMessage(end) = mark {
             if end.sends {
                 messages.push(Message {
                     name: Name::from_slice(alloc, end.name)?,

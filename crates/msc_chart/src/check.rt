@@ -28,7 +28,7 @@ fn is_away<'d>(instances: &IndexSet<&'d [u8]>, mark: &Mark<'d>) -> bool
         (λ x. IsUnknown (map deref instances.now.keys) (address_of x)) (mark_view mark.now) }
 {
     match mark {
-        Mark::End(end) => is_unknown(instances, end.address()),
+        Mark::OfMessage(end) => is_unknown(instances, end.address()),
         Mark::Action(_, _) => false,
     }
 }
@@ -41,7 +41,7 @@ fn is_unmatched(marks: &[Mark], partners: &[u32], e: usize, sends: bool) -> bool
         (OfEnd (IsUnmatched sends (map mark_view marks.now))) (map mark_view marks.now) e }
 {
     match marks[e] {
-        Mark::End(end) => end.sends == sends && partners[e] as usize == marks.len(),
+        Mark::OfMessage(end) => end.sends == sends && partners[e] as usize == marks.len(),
         Mark::Action(_, _) => false,
     }
 }

@@ -7,6 +7,7 @@ ghost use Rattle.msc_chart.specs.Events.{act_of, drawn, end_of, other_end, addre
 ghost use Rattle.msc_chart.specs.Charting.{is_of};
 ghost use Rattle.msc_chart.specs.Hashing.{fed_end, ends_alike};
 ghost use Rattle.msc_chart.specs.Views.{act_view, end_view, event_view, mark_at, mark_view};
+ghost use Rattle.msc_chart.specs.Views.{HasNext};
 
 use crate::INSTANCE_LIMIT;
 use crate::event::EventKind;
@@ -68,7 +69,7 @@ impl Hash for MessageEnd<'_> {
 /// What an event of a draft does: it is an end of a message, or an action with its text.
 #[derive(Clone, Copy)]
 pub(crate) enum Act<'d> {
-    End(MessageEnd<'d>),
+    OfMessage(MessageEnd<'d>),
     Action(&'d [u8]),
 }
 
@@ -78,7 +79,7 @@ impl<'d> Act<'d> {
         ensures { result ≡ mark_at e self.entry }
     {
         match self {
-            Act::End(end) => Mark::End(end),
+            Act::OfMessage(end) => Mark::OfMessage(end),
             Act::Action(bytes) => Mark::Action(e, ActionText { bytes }),
         }
     }
@@ -110,7 +111,7 @@ impl Hash for ActionText<'_> {
 /// number of its event. So no two actions are equal.
 #[derive(Clone, Copy, PartialEq, Eq, Hash)]
 pub(crate) enum Mark<'d> {
-    End(MessageEnd<'d>),
+    OfMessage(MessageEnd<'d>),
     Action(u32, ActionText<'d>),
 }
 
@@ -120,8 +121,8 @@ impl<'d> Mark<'d> {
         ensures { result ≡ is_of kind (mark_view self.entry.now) }
     {
         match (self, kind) {
-            (Mark::End(end), EventKind::Output) => end.sends,
-            (Mark::End(end), EventKind::Input) => !end.sends,
+            (Mark::OfMessage(end), EventKind::Output) => end.sends,
+            (Mark::OfMessage(end), EventKind::Input) => !end.sends,
             (Mark::Action(_, _), EventKind::Local) => true,
             _ => false,
         }
@@ -161,7 +162,7 @@ fn act_of<'d>(own: &'d [u8], statement: &'d Statement) -> Act<'d>
     ensures { act_view result ≡ act_of own.entry.now statement.entry.now }
 {
     match statement {
-        Statement::Message(signal) => Act::End(end_of(own, signal)),
+        Statement::Message(signal) => Act::OfMessage(end_of(own, signal)),
         Statement::Action(text) => Act::Action(text.as_slice()),
     }
 }
@@ -196,7 +197,7 @@ fn push_item<'d>(
     segment: u32,
     item: &'d Item,
 ) -> Result<u32, AllocError>
-    requires { segment < 4294967295 }
+    requires { HasNext segment }
     ensures pushed { OnOk result (map event_view events.new.items
         ≡ map event_view events.old.items
         ++ events_of_item line own.entry.now segment item.entry.now) }
@@ -229,8 +230,8 @@ fn push_section<'d>(
     line: u32,
     section: &'d Section,
 ) -> Result<(), AllocError>
-    requires { length (events_of_items line section.now.decl.name 0 section.now.items)
-        < 4294967295 }
+    requires { HasNext (length
+        (events_of_items line section.now.decl.name 0 section.now.items)) }
     ensures { OnOk result (map event_view events.new.items
         ≡ map event_view events.old.items
         ++ events_of_items line section.entry.now.decl.name 0 section.entry.now.items) }

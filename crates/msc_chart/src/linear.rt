@@ -108,6 +108,7 @@ fn push(events: &[ChartEvent], sorting: &mut Sorting, e: usize) -> Result<(), Al
     ensures sorting { OnOk result (IsSorting events.now sorting.new) }
     ensures left { OnOk result (sorting.new.left + 1 ≡ sorting.old.left) }
 {
+    // A look at the slice makes known how long it can be.
     let _events = events;
     sorting.order.push(e as u32)?;
     sorting.is_put[e] = true;

@@ -24,8 +24,8 @@ clash : Refused ≡ Failed → ⊥
 clash same = cc
 
 -- what an answer says of the texts that it refuses for a task
-abbrev pub Refuses : {A : Type 0} → Task → List ℕ → Result A Fault → Type 0
-Refuses task text answer =
+abbrev pub RefusesRightly : {A : Type 0} → Task → List ℕ → Result A Fault → Type 0
+RefusesRightly task text answer =
     RefusesText text answer
     × ((f : ChartFault) → answer ≡ Err (Chart f) → RefusesTask task text (refusals.Fault (Chart f)))
     × ((i : ℕ) → answer ≡ Err (NotStarted i) → RefusesTask task text (refusals.Fault (NotStarted i)))
@@ -125,7 +125,7 @@ told_refused Failed before after told two = absurd cc
 -- Why a task has no answer, by what an answer says of the bytes that were read: which texts it refuses,
 -- which drafts, and which instances it could not start.
 unanswered_by : (task : Task) (rest left : Option (List ℕ)) {A : Type 0} (answer : Result A Fault) (e : Fault) (said : List ℕ → Type 0) (before after : Option (List ℕ))
-    → answer ≡ Err e → OnRead rest left answer said → ((text : List ℕ) → said text → Refuses task text answer)
+    → answer ≡ Err e → OnRead rest left answer said → ((text : List ℕ) → said text → RefusesRightly task text answer)
     → (e ≢ Memory → e ≢ Device → after ≡ before) → IsUnanswered task (IsReadFrom rest left) (refusals.Fault e) before after
 unanswered_by task rest left answer e said before after is (inr (inl memory)) refuses kept = inl (let same : e ≡ Memory = cc in ap refusals.Fault same)
 unanswered_by task rest left answer e said before after is (inr (inr device)) refuses kept = inr (inl (let same : e ≡ Device = cc in ap refusals.Fault same))
@@ -140,7 +140,7 @@ unanswered_by task rest left answer (NotStarted i) said before after is (inl rea
 
 -- the same of a task that is known
 pub unanswered : (task known : Task) (rest left : Option (List ℕ)) {A : Type 0} (answer : Result A Fault) (e : Fault) (said : List ℕ → Type 0) (before after : Option (List ℕ))
-    → task ≡ known → answer ≡ Err e → OnRead rest left answer said → ((text : List ℕ) → said text → Refuses known text answer)
+    → task ≡ known → answer ≡ Err e → OnRead rest left answer said → ((text : List ℕ) → said text → RefusesRightly known text answer)
     → (e ≢ Memory → e ≢ Device → after ≡ before) → IsUnanswered task (IsReadFrom rest left) (refusals.Fault e) before after
 unanswered task known rest left answer e said before after same is read refuses kept =
     subst (λ (t : Task). IsUnanswered t (IsReadFrom rest left) (refusals.Fault e) before after) (sym same)

@@ -58,17 +58,25 @@ names_kind words kind = list_any (λ word. bytes_eq word (kind_word kind)) words
 abbrev pub AreAllowed : Found → KindSet → Type 0
 AreAllowed found set = (kind : RaceKind) → has_kind set kind ≡ names_kind (words_of found (codes "allow")) kind
 
+-- how many races are listed and shown where no option says: more than any chart has
+abbrev pub unlimited : ℕ
+unlimited = 4294967295
+
+-- after how many rounds of takes in a row without a find an instance gives up, where no option says
+abbrev pub default_patience : ℕ
+default_patience = 1000000000
+
 -- what the words want to see of a chart's races
 pub record IsView (found : Found) (view : View) : Type 0 where
   pub closest : IsFlag found (codes "closest") view.closest
   pub why : IsFlag found (codes "why") view.why
   pub allowed : AreAllowed found view.allowed
-  pub most : IsOptionNumber found (codes "most") 4294967295 view.most
-  pub show : IsOptionNumber found (codes "show") 4294967295 view.show
+  pub most : IsOptionNumber found (codes "most") unlimited view.most
+  pub show : IsOptionNumber found (codes "show") unlimited view.show
 
 -- more or less is to be seen than a verdict and its races with runs
 abbrev pub is_study : View → Bool
-is_study view = ((view.closest || view.why) || not (is_empty view.allowed)) || nat_lt view.most 4294967295
+is_study view = ((view.closest || view.why) || not (is_empty view.allowed)) || nat_lt view.most unlimited
 
 -- what the words of `msc check` ask for
 abbrev pub AsksToCheck : Found → Task → Type 0
@@ -89,7 +97,7 @@ AsksFor command found (Explain queues e f) =
     (command ≡ codes "explain") × IsEventWord found (codes "E") e × IsEventWord found (codes "F") f
     × (architecture found ≡ Some queues)
 AsksFor command found (Run queues patience) =
-    (command ≡ codes "run") × IsOptionNumber found (codes "patience") 1000000000 patience
+    (command ≡ codes "run") × IsOptionNumber found (codes "patience") default_patience patience
     × (architecture found ≡ Some queues)
 AsksFor command found task = (command ≡ codes "check") × AsksToCheck found task
 

@@ -9,7 +9,7 @@ ghost use Rattle.msc_command.specs.Program.{ObeysMatches, TellsAnswer, PrintsUnf
 ghost use Rattle.msc_command.specs.Program.{TellsRaces, WritesAnswer};
 ghost use Rattle.msc_text.specs.Reading.{IsReadFrom};
 
-use crate::words::{Choice, Task, architectures, grammar, joined, kinds, task_of};
+use crate::words::{Alternatives, Task, architectures, grammar, joined, kinds, task_of};
 use clap::{ArgMatches, Error};
 use msc_instance::AlwaysOpen;
 use msc_report::{Fault, PairFault, write_fault, write_pair_fault};
@@ -272,11 +272,11 @@ fn run<R: Files + Threads + Wait + Sync, I: Read, O: Write, E: Write>(
     let shown_kinds = joined(alloc, kinds.as_slice())?;
     let command = grammar(
         alloc,
-        Choice {
+        Alternatives {
             words: architectures.as_slice(),
             shown: shown_architectures.as_str(),
         },
-        Choice {
+        Alternatives {
             words: kinds.as_slice(),
             shown: shown_kinds.as_str(),
         },

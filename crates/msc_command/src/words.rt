@@ -32,7 +32,7 @@ pub enum Task {
 
 /// The words of which an argument takes one, and what the help shows for it.
 #[derive(Clone, Copy)]
-pub struct Choice<'a> {
+pub struct Alternatives<'a> {
     pub words: &'a [&'a str],
     pub shown: &'a str,
 }
@@ -71,7 +71,7 @@ pub fn joined(alloc: Global, words: &[&str]) -> Result<String, AllocError> {
 const VERSION: &str = "0.1.0";
 
 /// How many rounds in a row an instance looks for messages in vain, where the words do not say.
-const PATIENCE: u32 = 1_000_000_000;
+const DEFAULT_PATIENCE: u32 = 1_000_000_000;
 
 /// What stands below the help of all commands.
 const NOTES: &str = "\
@@ -153,7 +153,7 @@ fn file<'a>(alloc: Global) -> Arg<'a> {
 }
 
 /// The architecture.
-fn queues<'a>(alloc: Global, choice: Choice<'a>) -> Arg<'a> {
+fn queues<'a>(alloc: Global, choice: Alternatives<'a>) -> Arg<'a> {
     Arg::new(alloc, "queues")
         .long("queues")
         .value_name(choice.shown)
@@ -163,7 +163,7 @@ fn queues<'a>(alloc: Global, choice: Choice<'a>) -> Arg<'a> {
 }
 
 /// A kind of races that does not count.
-fn allow<'a>(alloc: Global, choice: Choice<'a>) -> Arg<'a> {
+fn allow<'a>(alloc: Global, choice: Alternatives<'a>) -> Arg<'a> {
     Arg::new(alloc, "allow")
         .long("allow")
         .value_name(choice.shown)
@@ -213,8 +213,8 @@ fn list_words<'a>(alloc: Global, command: Command<'a>) -> Result<Command<'a>, Al
 /// The words of `msc check`.
 fn check_words<'a>(
     alloc: Global,
-    architectures: Choice<'a>,
-    kinds: Choice<'a>,
+    architectures: Alternatives<'a>,
+    kinds: Alternatives<'a>,
 ) -> Result<Command<'a>, AllocError> {
     let command = Command::new(alloc, "check")
         .about("Print whether the chart has races, and for each a run that shows it")
@@ -235,7 +235,10 @@ fn event<'a>(alloc: Global, name: &'static str, help: &'static str) -> Arg<'a> {
 }
 
 /// The words of `msc explain`.
-fn explain_words<'a>(alloc: Global, architectures: Choice<'a>) -> Result<Command<'a>, AllocError> {
+fn explain_words<'a>(
+    alloc: Global,
+    architectures: Alternatives<'a>,
+) -> Result<Command<'a>, AllocError> {
     Command::new(alloc, "explain")
         .about("Print why an event comes before another, or a run in which it does not")
         .after_help(EXPLAIN_NOTES)
@@ -246,7 +249,10 @@ fn explain_words<'a>(alloc: Global, architectures: Choice<'a>) -> Result<Command
 }
 
 /// The words of `msc run`.
-fn run_words<'a>(alloc: Global, architectures: Choice<'a>) -> Result<Command<'a>, AllocError> {
+fn run_words<'a>(
+    alloc: Global,
+    architectures: Alternatives<'a>,
+) -> Result<Command<'a>, AllocError> {
     let patience = "End an instance that looked in vain N times in a row; without it, 1000000000";
     Command::new(alloc, "run")
         .about("Run the chart on threads, and print how each instance ended and the trace")
@@ -267,8 +273,8 @@ fn with<'a>(
 /// The words that the program takes.
 pub fn grammar<'a>(
     alloc: Global,
-    architectures: Choice<'a>,
-    kinds: Choice<'a>,
+    architectures: Alternatives<'a>,
+    kinds: Alternatives<'a>,
 ) -> Result<Command<'a>, AllocError> {
     let command = Command::new(alloc, "msc")
         .bin_name("msc")?
@@ -387,7 +393,7 @@ pub fn task_of(command: &str, words: &ArgMatches) -> Option<Task>
     }
     let queues = queues_of(words)?;
     if command == "run" {
-        return Some(Task::Run(queues, number_of(words, "patience", PATIENCE)));
+        return Some(Task::Run(queues, number_of(words, "patience", DEFAULT_PATIENCE)));
     }
     if command == "explain" {
         let e = event_of(words, "E")?;

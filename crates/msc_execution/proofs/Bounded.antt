@@ -13,7 +13,7 @@ use Rattle.msc_gather.proofs.Once.{occurs-cases, ne_occurs}
 use Rattle.msc_gather.proofs.Filters.{occurs-filter}
 use Rattle.msc_execution.specs.Clocks.{Places, messages, place_clock, put_clock, clock_step, clock_from, clock_after, clock_before, offer_of}
 use Rattle.msc_execution.specs.Timed.{IsTimed, all_puts}
-use Rattle.msc_gather.proofs.Apart.{in_concat}
+use Rattle.msc_gather.proofs.Distinct.{in_concat}
 use Rattle.msc_execution.proofs.Rising.{step_output, step_input, step_local}
 use Rattle.msc_execution.proofs.Timed.{logs_of_timed}
 

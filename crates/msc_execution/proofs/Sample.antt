@@ -1,3 +1,4 @@
+pub mod Back
 pub mod Accepted
 pub mod Ran
 pub mod Placed

@@ -2,9 +2,8 @@
 use Rattle.std.proofs.Common.{◌≡◌, ℕ, ◌<◌, ◌≤◌, Bool, true, false, cond, ◌||◌, inl, inr, eqb, List, [], ◌∷◌, refl, sym, ap, subst, ◌∙◌, arith}
 use Rattle.std.proofs.lemmas.Bool.{eqb-true, eq-eqb, ltb-true, lt-ltb, cases_lt, and_parts, and_from, or_cases, or_left, or_right, or_parts, or_from, false_from_ne_true}
 use Rattle.msc_chart.specs.Lists.{occurs, until}
-use Rattle.msc_chart.proofs.ListLemmas.{clash}
+use Rattle.msc_chart.proofs.ListLemmas.{clash, IsDistinct}
 use Rattle.msc_execution.specs.Clocks.{is_below, put_in, sorted}
-use Rattle.msc_gather.proofs.Apart.{Apart}
 
 -- comparing keys
 pub below_first : (x y : ℕ) (xs ys : List ℕ) → x < y → is_below (x ∷ xs) (y ∷ ys) ≡ true
@@ -88,27 +87,27 @@ occurs-sorted less (x ∷ xs) e = occurs-put_in less x (sorted less xs) e
     ∙ ap (λ b. eqb x e || b) (occurs-sorted less xs e)
 
 -- a new number put in stands there once
-Apart-put_in : (less : ℕ → ℕ → Bool) (x : ℕ) (ys : List ℕ) → Apart ys → occurs ys x ≡ false
-    → Apart (put_in less x ys)
+IsDistinct-put_in : (less : ℕ → ℕ → Bool) (x : ℕ) (ys : List ℕ) → IsDistinct ys → occurs ys x ≡ false
+    → IsDistinct (put_in less x ys)
 unfolding occurs put_in
-Apart-put_in less x [] h new = (refl, tt)
-Apart-put_in less x (y ∷ ys) h new =
+IsDistinct-put_in less x [] h new = (refl, tt)
+IsDistinct-put_in less x (y ∷ ys) h new =
     let new_parts = or_parts (eqb y x) (occurs ys x) new in
-    (elim (less x y) as (λ b. Apart (cond b (x ∷ y ∷ ys) (y ∷ put_in less x ys))) [
+    (elim (less x y) as (λ b. IsDistinct (cond b (x ∷ y ∷ ys) (y ∷ put_in less x ys))) [
       | true ↦ (new, h)
       | false ↦ (
         occurs-put_in less x ys y ∙ or_from (eqb x y) (occurs ys y)
             (false_from_ne_true _
             (λ same. clash (eq-eqb y x (sym (eqb-true x y same))) new_parts.0)) h.0,
-        Apart-put_in less x ys h.1 new_parts.1,
+        IsDistinct-put_in less x ys h.1 new_parts.1,
       )
     ])
 
 -- so a sorted list holds nothing twice where the list does not
-pub Apart-sorted : (less : ℕ → ℕ → Bool) (xs : List ℕ) → Apart xs → Apart (sorted less xs)
+pub IsDistinct-sorted : (less : ℕ → ℕ → Bool) (xs : List ℕ) → IsDistinct xs → IsDistinct (sorted less xs)
 unfolding sorted
-Apart-sorted less [] h = tt
-Apart-sorted less (x ∷ xs) h = Apart-put_in less x (sorted less xs) (Apart-sorted less xs h.1)
+IsDistinct-sorted less [] h = tt
+IsDistinct-sorted less (x ∷ xs) h = IsDistinct-put_in less x (sorted less xs) (IsDistinct-sorted less xs h.1)
     (occurs-sorted less xs x ∙ h.0)
 
 -- nothing later is below what stands before it

@@ -5,17 +5,17 @@ use Rattle.msc_chart.specs.Orders.{WiredChart, queue}
 use Rattle.msc_chart.specs.Charts.{line, partner, is_input}
 use Rattle.msc_chart.specs.Runs.{Run, HasLines}
 use Rattle.msc_chart.specs.Lists.{occurs, until}
-use Rattle.msc_chart.proofs.ListLemmas.{by_test, clash, until-within, occurs-left}
+use Rattle.msc_chart.proofs.ListLemmas.{by_test, clash, until-within, occurs-left, IsDistinct, until-self}
 use Rattle.msc_chart.proofs.KindTests.{output_below}
 use Rattle.msc_chart.proofs.Drawn.{partner_of_output}
 use Rattle.msc_gather.specs.Schedule.{log_of, is_logged, AreLogs, goes_first, MayFollow, IsSchedule, IsSeated}
-use Rattle.msc_gather.proofs.Once.{until-self, until-total, steps_from}
+use Rattle.msc_gather.proofs.Once.{until-total, steps_from}
 use Rattle.msc_gather.proofs.ScheduleLemmas.{run_of_schedule, lines_of_schedule}
 use Rattle.msc_gather.proofs.ComesFirst.{first_cases}
 use Rattle.msc_execution.specs.Clocks.{Places, messages, key_of, comes_sooner, is_below, sorted, trace_of}
 use Rattle.msc_execution.specs.Timed.{IsTimed, taken_from}
-use Rattle.msc_gather.proofs.Apart.{Apart, apart_of_once, once_of_apart, Apart-concat, in_concat, of_concat}
-use Rattle.msc_execution.proofs.Sorting.{below_self, below_trans, occurs-sorted, Apart-sorted, Rises-sorted, rises_at}
+use Rattle.msc_gather.proofs.Distinct.{distinct_of_once, once_of_distinct, IsDistinct-concat, in_concat, of_concat}
+use Rattle.msc_execution.proofs.Sorting.{below_self, below_trans, occurs-sorted, IsDistinct-sorted, Rises-sorted, rises_at}
 use Rattle.msc_execution.proofs.Queued.{taken_has}
 use Rattle.msc_execution.proofs.Rising.{log_known, logged_there}
 use Rattle.msc_execution.proofs.Keys.{keys_in_log, key_of_input, keys_in_queue}
@@ -100,13 +100,13 @@ module _ {chart : WiredChart} {instances : ℕ} {logs : List (List ℕ)} {places
       (k.0, ap (λ (j : ℕ). occurs (get_or logs j []) e) k.1 ∙ found.2)
 
   -- it holds nothing twice, since no two logs share an event
-  trace_apart : Apart (trace_of chart logs places)
+  trace_apart : IsDistinct (trace_of chart logs places)
   unfolding trace_of
   trace_apart =
       let many = timed.lines.as_many in
-      Apart-sorted (comes_sooner chart logs places) (concat logs)
-      (Apart-concat logs (λ i below.
-      (apart_of_once [] (get_or logs i []) (timed.lines.once i (omega arith))).0)
+      IsDistinct-sorted (comes_sooner chart logs places) (concat logs)
+      (IsDistinct-concat logs (λ i below.
+      (distinct_of_once [] (get_or logs i []) (timed.lines.once i (omega arith))).0)
       (λ i j e bi bj hi hj. sym (timed.lines.known i e (omega arith) hi).1
       ∙ (timed.lines.known j e (omega arith) hj).1))
 
@@ -128,7 +128,7 @@ module _ {chart : WiredChart} {instances : ℕ} {logs : List (List ℕ)} {places
   unfolding occurs
   trace_schedule = (
     steps_from (MayFollow chart logs) [] (trace_of chart logs places)
-        (once_of_apart [] (trace_of chart logs places) trace_apart (λ e h. refl))
+        (once_of_distinct [] (trace_of chart logs places) trace_apart (λ e h. refl))
         (λ e there.
         let k = of_trace e there in
         record {

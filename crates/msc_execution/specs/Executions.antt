@@ -7,7 +7,7 @@ use Rattle.msc_chart.specs.Drawings.{Drawing}
 use Rattle.msc_chart.specs.Laws.{senders_in}
 use Rattle.msc_fifo.specs.Identity.{QueueId}
 use Rattle.msc_fifo.specs.Ends.{OutletState, InletState, AreOutletsOf}
-use Rattle.msc_fifo.specs.Settlement.{IsAmong, IsSettled}
+use Rattle.msc_fifo.specs.Settlement.{IsSettled}
 use Rattle.msc_fifo.specs.declared.accounts.Account.{Account}
 use Rattle.msc_fifo.specs.declared.accounts.Settled.{Settled}
 use Rattle.msc_fifo.specs.declared.places.Place.{Place}
@@ -68,11 +68,11 @@ pub record IsSettledFrom (n : ℕ) (back : ℕ → EndLists) (q : ℕ) (places :
   pub outlets : List OutletState
   pub receiver : ℕ
   pub is_instance : receiver < n
-  pub own : IsAmong (q, inlet) (back receiver).inlets
-  pub all_there : (i : ℕ) (x : OutletState) → i < n → IsAmong (q, x) (back i).outlets
-      → IsAmong x outlets
-  pub no_others : (x : OutletState) → IsAmong x outlets
-      → (i : ℕ) × (i < n) × IsAmong (q, x) (back i).outlets
+  pub own : Occurs (back receiver).inlets (q, inlet)
+  pub all_there : (i : ℕ) (x : OutletState) → i < n → Occurs (back i).outlets (q, x)
+      → Occurs outlets x
+  pub no_others : (x : OutletState) → Occurs outlets x
+      → (i : ℕ) × (i < n) × Occurs (back i).outlets (q, x)
   pub are_outlets : AreOutletsOf inlet outlets
   pub is_settled : IsSettled inlet outlets places
 

@@ -32,10 +32,6 @@ pub record EndLists : Type 0 where
   pub outlets : List NumberedOutlet
   pub inlets : List NumberedInlet
 
--- the ends that are these outlets and inlets
-abbrev pub ends_from : List NumberedOutlet → List NumberedInlet → EndLists
-ends_from outlets inlets = record { outlets = outlets; inlets = inlets }
-
 -- the numbers below n of the queues that have a message, ascending
 unfoldable pub queues_below : Queues → Drawing → ℕ → List ℕ
 queues_below queues d n =

@@ -4,7 +4,7 @@ use Rattle.std.specs.List.{AllZip}
 use Rattle.msc_chart.specs.Lists.{occurs}
 use Rattle.msc_chart.specs.Charts.{line, is_controlled, before}
 use Rattle.msc_chart.specs.Drawings.{Drawing}
-use Rattle.msc_fifo.specs.Ends.{unended_in}
+use Rattle.msc_fifo.specs.Ends.{IsSpentClock, unended_in}
 use Rattle.msc_execution.specs.declared.end.End.{End}
 use Rattle.msc_execution.specs.declared.end.End.TheVariants.{Finished, Starved, Impatient, Stopped, Foreign}
 use Rattle.msc_execution.specs.Roles.{Role, EndLists, NumberedInlet}
@@ -48,10 +48,6 @@ pub record IsStrangeAlone (r : Role) (left : Left) (strange : ℕ → List ℕ) 
   pub others : (q : ℕ) → q ≢ queue → strange q ≡ []
   pub is_strange : IsStrange r queue left.log m
 
--- a clock from which nothing can be offered any more
-abbrev pub IsSpentClock : ℕ → Type 0
-IsSpentClock clock = clock ≡ 18446744073709551615
-
 -- What each way to end says. With a gate that is known to be open only a spent clock stops an
 -- instance.
 abbrev pub EndsAs : Role → Bool → ℕ → Reading → Left → (ℕ → List ℕ) → End → Type 0
@@ -67,7 +63,8 @@ EndsAs r open' patience reading left strange Stopped =
     × (open' ≡ true → IsSpentClock (clock_along r.chart reading.read_at left.log))
 EndsAs r open' patience reading left strange (Foreign m) = IsStrangeAlone r left strange m
 
--- The run of an instance from these ends, that read these clocks and places.
+-- The run of an instance from these ends, that read these clocks and places. Without patience it
+-- takes nothing.
 pub record IsRunBy (r : Role) (open' : Bool) (patience : ℕ) (reading : Reading) (before : EndLists)
     (left : Left) : Type 0 where
   pub log : IsLogOf r.chart r.number left.log
@@ -75,6 +72,7 @@ pub record IsRunBy (r : Role) (open' : Bool) (patience : ℕ) (reading : Reading
   pub strange : ℕ → List ℕ
   pub got : AllZip (HasTaken r left.log reading strange) before.inlets left.ends.inlets
   pub ended : EndsAs r open' patience reading left strange left.end
+  pub untaken : patience ≡ 0 → left.ends.inlets ≡ before.inlets
 
 -- The run of an instance from these ends, with a gate that is known to be open or is not.
 pub record HasRun (r : Role) (open' : Bool) (patience : ℕ) (before : EndLists)

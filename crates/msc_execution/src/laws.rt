@@ -7,7 +7,8 @@ ghost use Rattle.msc_execution.specs.ClockLaws.{ClocksAreBounded, EveryExecution
 ghost use Rattle.msc_execution.specs.ClockLaws.{EveryExecutionIsARun, PlaceClocksAreBounded};
 ghost use Rattle.msc_execution.specs.Fits.{InletsBringOwn, LogsKeepQuotas, OutputsHaveOutlets};
 ghost use Rattle.msc_execution.specs.Fits.{SendersAreRanked, WiringGrows, WiringsFit};
-ghost use Rattle.msc_execution.specs.Samples.{TheSampleIsAnExecution, TheSampleIsSorted, two};
+ghost use Rattle.msc_execution.specs.Samples.{TheSampleIsAnExecution, TheSampleIsDrawn};
+ghost use Rattle.msc_execution.specs.Samples.{TheSampleIsSorted, own_chart};
 ghost use Rattle.msc_execution.specs.Settling.{FinishedExecutionsLeaveNothing, RunsHoldQueues};
 ghost use Rattle.msc_execution.specs.Settling.{SettledRunsAreExecutions};
 ghost use Rattle.msc_execution.specs.Shown.{ExecutionsAreRuns, ExecutionsAreTimed};
@@ -105,10 +106,12 @@ pub fn no_clock_is_spent()
     charts_are_seated();
 }
 
-/// What an execution has to meet can be met: a small chart with a message to oneself, an action and
-/// a mailbox of two senders, whose messages are put and taken against the drawn order.
+/// What an execution has to meet can be met: the chart `charts/own_message.msc`, with a message to
+/// oneself, an action and a mailbox of two senders, has one in which messages are put and taken
+/// against the drawn order.
 pub fn a_sample_is_an_execution()
-    ensures accepted { IsAccepted two }
+    ensures drawn { TheSampleIsDrawn }
+    ensures accepted { IsAccepted own_chart }
     ensures execution { TheSampleIsAnExecution }
     ensures trace { TheSampleIsSorted }
 {}

@@ -4,18 +4,19 @@ use Rattle.std.proofs.lemmas.List.Elements.{All-cons, All-nil}
 use Rattle.msc_fifo.specs.declared.entry.Entry.{Entry}
 use Rattle.msc_fifo.specs.declared.claim.Claim.{Claim}
 use Rattle.msc_fifo.specs.declared.rule.Sender.{Sender}
-use Rattle.msc_fifo.specs.declared.rule.View.{View}
+use Rattle.msc_fifo.specs.declared.rule.TicketView.{TicketView}
 use Rattle.msc_fifo.specs.declared.accounts.Account.{Account}
 use Rattle.msc_fifo.specs.declared.places.Place.{Place}
 use Rattle.msc_fifo.specs.declared.parts.Part.{Part}
 use Rattle.msc_fifo.specs.Claims.{is_message}
 use Rattle.msc_fifo.specs.Entries.{sender_of, messages_of, has_ended, IsOrderly}
 use Rattle.msc_fifo.specs.Ends.{OutletState, InletState, AreOutletsOf}
-use Rattle.msc_fifo.specs.Settlement.{IsAccountOf, HasAccount, entries_at, claims_of, place_of, IsAmong, IsPlaced}
-use Rattle.msc_fifo.specs.World.{Each, Slot, spot_of, entries, own, Covers}
+use Rattle.msc_fifo.specs.Settlement.{IsAccountOf, HasAccount, entries_at, claims_of, place_of, IsPlaced}
+use Rattle.msc_fifo.specs.Lists.{Occurs, Each}
+use Rattle.msc_fifo.specs.World.{Slot, spot_of, entries, own, Covers}
 use Rattle.msc_fifo.specs.Views.{offers_of, IsProper}
 use Rattle.msc_fifo.specs.Moves.{Told}
-use Rattle.msc_fifo.specs.Settling.{Shows, IsSenderOf, AreSendersOf}
+use Rattle.msc_fifo.specs.Settling.{AreShownIn, IsSenderOf, AreSendersOf}
 use Rattle.msc_fifo.specs.Parts.{IsPartOf, ArePartsOf}
 use Rattle.msc_fifo.proofs.LogLemmas.{get_inside, member}
 use Rattle.msc_fifo.proofs.PlaceLemmas.{build, dress, entries-build, length-build, get-build, claims-build, dressed, among_own, own_among, offer_among, outlet_of}
@@ -78,21 +79,21 @@ pub record IsAnswered (inlet : InletState) (outlets : List OutletState) (count :
   pub known : Each (IsKnown inlet.senders log offered) outlets
 
 -- what the claim word told, said of the outlets: the claims by places, with the clocks that the words hold
-pub answered : (inlet : InletState) (outlets : List OutletState) (v : View) (n : ℕ) → AreOutletsOf inlet outlets → Told v n → AreSendersOf outlets v.senders → v.made ≡ inlet.senders → v.got ≡ inlet.got → v.clocks ≡ inlet.clocks
+pub answered : (inlet : InletState) (outlets : List OutletState) (v : TicketView) (n : ℕ) → AreOutletsOf inlet outlets → Told v n → AreSendersOf outlets v.senders → v.made ≡ inlet.senders → v.got ≡ inlet.got → v.clocks ≡ inlet.clocks
     → Each (λ (o : OutletState). Each IsProper o.claims) outlets → IsAnswered inlet outlets n
 answered inlet outlets v n are t senders made got clocks proper =
     let log : List Claim = build 0 t.clk t.log in
     let es : entries_at log ≡ entries t.log = entries-build 0 t.clk t.log in
     let known : Each (IsKnown inlet.senders log t.offered) outlets = subst (λ (m : ℕ). Each (IsKnown m log t.offered) outlets) made (known_each v.made t.log t.clk t.offered outlets v.senders senders t.senders) in
     let orderly : IsOrderly inlet.senders (entries_at log) = subst (λ (m : ℕ). IsOrderly m (entries_at log)) made (subst (IsOrderly v.made) (sym es) t.orderly) in
-    let mine : (c : Claim) → IsAmong c log → (o : OutletState) × IsAmong o outlets × (o.sender ≡ sender_of c.entry) =
+    let mine : (c : Claim) → Occurs log c → (o : OutletState) × Occurs outlets o × (o.sender ≡ sender_of c.entry) =
     λ c a. outlet_of (sender_of c.entry) outlets (are.once (sender_of c.entry) (sender_within inlet.senders a.0 (entries_at log) c.entry orderly (entry_at log a.0 c a.1))) in
-    let positive : (c : Claim) → IsAmong c log → is_message c.entry ≡ true → 0 < c.clock = λ c a message.
+    let positive : (c : Claim) → Occurs log c → is_message c.entry ≡ true → 0 < c.clock = λ c a message.
     let o = mine c a in let k = member (IsKnown inlet.senders log t.offered) outlets o.1.0 o.0 o.1.1 known in
     let p = member (λ (x : OutletState). Each IsProper x.claims) outlets o.1.0 o.0 o.1.1 proper in
-    let b : IsAmong c o.0.claims = subst (IsAmong c) (sym k.claims) (subst (λ (i : ℕ). IsAmong c (claims_of i log)) (sym o.2) (among_own (sender_of c.entry) a.0 log c a.1 refl)) in
+    let b : Occurs o.0.claims c = subst (λ (l : List Claim). Occurs l c) (sym k.claims) (subst (λ (i : ℕ). Occurs (claims_of i log) c) (sym o.2) (among_own (sender_of c.entry) a.0 log c a.1 refl)) in
     let q = member IsProper o.0.claims b.0 c b.1 p message in omega arith in
-    let dated : (c : Claim) → IsAmong c log → is_message c.entry ≡ true → (x : Slot) × (slice_get t.log c.place ≡ Some x) × Covers t.log c.place c.clock × ((i : ℕ) × (i < v.made) × ((j : ℕ) × (slice_get (t.offered i) j ≡ Some c.clock))) = λ c a message.
+    let dated : (c : Claim) → Occurs log c → is_message c.entry ≡ true → (x : Slot) × (slice_get t.log c.place ≡ Some x) × Covers t.log c.place c.clock × ((i : ℕ) × (i < v.made) × ((j : ℕ) × (slice_get (t.offered i) j ≡ Some c.clock))) = λ c a message.
     let g = get-build 0 a.0 a.0 t.clk t.log c (omega arith) a.1 in
     let place : a.0 ≡ c.place = ap (λ (x : Claim). x.place) g.2 in
     let clk : t.clk a.0 ≡ c.clock = ap (λ (x : Claim). x.clock) g.2 in
@@ -123,7 +124,7 @@ answered inlet outlets v n are t senders made got clocks proper =
             let o = outlet_of i outlets (are.once i (subst (λ (m : ℕ). i < m) made q.3.1)) in
             let k = member (IsKnown inlet.senders log t.offered) outlets o.1.0 o.0 o.1.1 known in
             let f = offer_among o.0.claims q.3.2.0 c.clock (subst (λ (l : List ℕ). slice_get l q.3.2.0 ≡ Some c.clock) (sym (k.offers ∙ ap t.offered o.2)) q.3.2.1) in
-            let w = subst (IsAmong f.0) k.claims f.1 in
+            let w = subst (λ (l : List Claim). Occurs l f.0) k.claims f.1 in
             (f.0, (own_among o.0.sender w.0 log f.0 w.1).0, f.2, f.3));
       };
     }
@@ -143,16 +144,16 @@ sender_at (p ∷ os) (y ∷ xs) zero o are at = let same : p ≡ o = cc in (y, r
 sender_at (p ∷ os) (y ∷ xs) (suc k) o are at = sender_at os xs k o are.1 at
 
 -- the places that were read are those of the claims
-pub shown : (inlet : InletState) (outlets : List OutletState) (xs : List Sender) (log : List Claim) (ps : List Place) → AreOutletsOf inlet outlets → AreSendersOf outlets xs → IsPlaced inlet outlets log → length ps ≡ length log → Shows xs ps → ps ≡ map place_of log
+pub shown : (inlet : InletState) (outlets : List OutletState) (xs : List Sender) (log : List Claim) (ps : List Place) → AreOutletsOf inlet outlets → AreSendersOf outlets xs → IsPlaced inlet outlets log → length ps ≡ length log → AreShownIn xs ps → ps ≡ map place_of log
 shown inlet outlets xs log ps are senders is size shows = same_list ps log size (λ k c at.
     let i = sender_of c.entry in
     let o = outlet_of i outlets (are.once i (sender_within inlet.senders k (entries_at log) c.entry is.orderly (entry_at log k c at))) in
     let mine = is.claims o.0 o.1 in
-    let b = subst (IsAmong c) (sym (mine ∙ (λ j. claims_of (o.2 j) log))) (among_own i k log c at refl) in
+    let b = subst (λ (l : List Claim). Occurs l c) (sym (mine ∙ (λ j. claims_of (o.2 j) log))) (among_own i k log c at refl) in
     let x = sender_at outlets xs o.1.0 o.0 senders o.1.1 in
     let here = is.numbered k c at in
     let inside = get_inside log k c at in
-    subst (λ (n : ℕ). slice_get ps n ≡ Some (place_of c)) here (shows c (x.0, (o.1.0, x.1), subst (IsAmong c) (sym x.2.claims) b) (omega arith)))
+    subst (λ (n : ℕ). slice_get ps n ≡ Some (place_of c)) here (shows c (x.0, (o.1.0, x.1), subst (λ (l : List Claim). Occurs l c) (sym x.2.claims) b) (omega arith)))
 
 -- some of the parts are still there, and the others have their accounts
 pub record IsAnswering (inlet : InletState) (outlets : List OutletState) (count : ℕ) (parts : List Part) (senders : List Account) : Type 0 where

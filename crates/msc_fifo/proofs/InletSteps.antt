@@ -8,11 +8,12 @@ use Rattle.msc_fifo.specs.declared.entry.Entry.{Entry}
 use Rattle.msc_fifo.specs.declared.entry.Entry.TheVariants.{Message, Ended}
 use Rattle.msc_fifo.specs.declared.claim.Claim.{Claim}
 use Rattle.msc_fifo.specs.declared.rule.Sender.{Sender}
-use Rattle.msc_fifo.specs.declared.rule.View.{View}
+use Rattle.msc_fifo.specs.declared.rule.TicketView.{TicketView}
 use Rattle.msc_fifo.specs.Claims.{is_message}
 use Rattle.msc_fifo.specs.Entries.{sender_of, IsOrderly}
-use Rattle.msc_fifo.specs.World.{most_places, Each, Slot, entries, code, World, world, Holds, IsDated, IsStored, slot, IsSmall}
-use Rattle.msc_fifo.specs.Views.{IsSender, IsReceiver, Agrees, Sound, Kept, receives, new_sender, outlet_view, beside, nobody}
+use Rattle.msc_fifo.specs.World.{most_places, Slot, entries, code, World, world, Holds, IsDated, IsStored, slot, IsSmall}
+use Rattle.msc_fifo.specs.Lists.{Each}
+use Rattle.msc_fifo.specs.Views.{IsSender, IsReader, Agrees, Sound, Kept, receives, new_sender, outlet_view, beside, nobody}
 use Rattle.msc_fifo.specs.Moves.{Seated, LooksAt, LearnsIt, SettlesIt, Told, clocks_at_once, IsClaimOf, ReadsItsEntry, ReadsItsClock}
 use Rattle.msc_fifo.proofs.EntryLemmas.{messages_of-nothing, has_ended-nothing, nothing_past, orderly_wider, orderly-at, code_full}
 use Rattle.msc_fifo.proofs.LogLemmas.{cond-true, cond-false, own-nothing, each-map, each-append, get_inside, member, claim_get}
@@ -50,8 +51,8 @@ mark_clock w k i x at is (inl z) = z
 mark_clock w k i x at is (inr d) = let both : Some x ≡ Some d.0 = sym at ∙ d.1 in let same : x ≡ d.0 = cc in absurd (true≢false (sym d.2 ∙ ap (λ (y : Slot). is_message y.entry) (sym same) ∙ ap is_message is))
 
 -- what the inlet knows once it has got one entry more
-taken : (places id : ℕ) (w : World) (v : View) (e : Entry) (x : Slot) (more : List Entry) → IsReceiver places w id v → Sound places w → length v.got < places → length v.clocks ≡ length v.got → entries w.log ≡ v.got ++ e ∷ more
-    → slice_get w.log (length v.got) ≡ Some x → x.entry ≡ e → w.item (length v.got) ≢ 0 → IsReceiver places w id (record v { got = v.got ++ e ∷ []; clocks = v.clocks ++ clocks_at_once e })
+taken : (places id : ℕ) (w : World) (v : TicketView) (e : Entry) (x : Slot) (more : List Entry) → IsReader places w id v → Sound places w → length v.got < places → length v.clocks ≡ length v.got → entries w.log ≡ v.got ++ e ∷ more
+    → slice_get w.log (length v.got) ≡ Some x → x.entry ≡ e → w.item (length v.got) ≢ 0 → IsReader places w id (record v { got = v.got ++ e ∷ []; clocks = v.clocks ++ clocks_at_once e })
 taken places id w v (Message i m) x more h sound fits even whole at is full = let one : length (v.got ++ Message i m ∷ []) ≡ length v.got + 1 = length-append v.got (Message i m ∷ []) in record {
   reader = h.reader;
   made = h.made;
@@ -74,12 +75,12 @@ taken places id w v (Ended i) x more h sound fits even whole at is full = let on
     }
 
 -- the two cases of the next place
-looks : (places slots id i : ℕ) (me : Seated) → me.0.gets ≡ true → i ≡ length me.0.got + length me.0.got + 2 → length me.0.clocks ≡ length me.0.got → length me.0.got < places → (s : State (Unit {0}) View) (h : Kept places s) (at : get_elem? s.views id ≡ some me.0)
+looks : (places slots id i : ℕ) (me : Seated) → me.0.gets ≡ true → i ≡ length me.0.got + length me.0.got + 2 → length me.0.clocks ≡ length me.0.got → length me.0.got < places → (s : State (Unit {0}) TicketView) (h : Kept places s) (at : get_elem? s.views id ≡ some me.0)
     → Holds h.log (length me.0.got) (slice_index s.words i)
-    → (w : View) × Kept places (stepped s i (slice_index s.words i) id me.1 w keeps) × LooksAt (step slots i 0 0 none) me (slice_index s.words i) (w, me.1)
+    → (w : TicketView) × Kept places (stepped s i (slice_index s.words i) id me.1 w keeps) × LooksAt (step slots i 0 0 none) me (slice_index s.words i) (w, me.1)
 looks places slots id i me gets word even fits s h at (inl z) = (me.0, read_keeps places i id s me.1 me.0 me.0 h at refl (h.each id me.0 at), (inl (z, refl), refl))
 looks places slots id i me gets word even fits s h at (inr x) =
-    let v : View = me.0 in let e : Entry = x.0.entry in let w : View = record v { got = v.got ++ e ∷ []; clocks = v.clocks ++ clocks_at_once e } in
+    let v : TicketView = me.0 in let e : Entry = x.0.entry in let w : TicketView = record v { got = v.got ++ e ∷ []; clocks = v.clocks ++ clocks_at_once e } in
     let old = now h in
     let mine = (h.each id v at).0 gets in
     let split : entries h.log ≡ v.got ++ mine.got.0 = mine.got.1 in
@@ -103,12 +104,12 @@ looks_keep places slots id i me gets word even fits s h same at lt = let mine = 
 pub learns_keep : (places slots id i : ℕ) (me : Seated) → me.0.gets ≡ true → i ≡ length me.0.clocks + length me.0.clocks + 3 → length me.0.clocks < length me.0.got
     → Allows (Kept places) slots id me i (λ n. n) (LearnsIt (step slots i 0 0 none) me)
 learns_keep places slots id i me gets word behind s h same at lt =
-    let v : View = me.0 in let n = slice_index s.words i in let w : View = record v { clocks = v.clocks ++ n ∷ [] } in
+    let v : TicketView = me.0 in let n = slice_index s.words i in let w : TicketView = record v { clocks = v.clocks ++ n ∷ [] } in
     let old = now h in
     let mine = (h.each id v at).0 gets in
     let two : length (v.clocks ++ n ∷ []) ≡ length v.clocks + 1 = length-append v.clocks (n ∷ []) in
     let here : old.clk (length v.clocks) ≡ n = ap (λ (j : ℕ). slice_index s.words j) (sym word) in
-    let known : IsReceiver places old id w = record {
+    let known : IsReader places old id w = record {
       reader = mine.reader;
       made = mine.made;
       places_are = mine.places_are;
@@ -122,7 +123,7 @@ learns_keep places slots id i me gets word behind s h same at lt =
 -- reading the claim word keeps the rule, and tells all that was claimed
 pub settles_keep : (places slots id : ℕ) (me : Seated) → me.0.gets ≡ true → Allows (Kept places) slots id me 0 (λ n. n) (SettlesIt (step slots 0 0 0 none) me)
 settles_keep places slots id me gets s h same at lt =
-    let v : View = me.0 in let old = now h in
+    let v : TicketView = me.0 in let old = now h in
     let mine = (h.each id v at).0 gets in
     let total = h.rooms in
     let told : Told v (slice_index s.words 0) = record {
@@ -159,7 +160,7 @@ kept_at places id k w x c sound few h at =
     (sound.cells c.place (omega arith))
 
 -- the words of a claim that the inlet's seat knows
-written : (places id : ℕ) (s : State (Unit {0}) View) (h : Kept places s) (v : View) (c : Claim) → get_elem? s.views id ≡ some v → IsClaimOf c v.senders → IsWritten places (now h) c
+written : (places id : ℕ) (s : State (Unit {0}) TicketView) (h : Kept places s) (v : TicketView) (c : Claim) → get_elem? s.views id ≡ some v → IsClaimOf c v.senders → IsWritten places (now h) c
 written places id s h v c at of =
     let total = h.rooms in
     let x = member (IsSender places (now h) id) v.senders of.1.0 of.0 of.1.1 (h.each id v at).1 in
@@ -191,17 +192,17 @@ reads_clock places slots id i me gets s h same at lt = (
 )
 
 -- what stands in a list that is one longer
-snoc_cases : (l : List View) (a b : View) (j : ℕ) → get_elem? (l ++ a ∷ []) j ≡ some b → (get_elem? l j ≡ some b) ⊎ ((j ≡ length l) × (a ≡ b))
+snoc_cases : (l : List TicketView) (a b : TicketView) (j : ℕ) → get_elem? (l ++ a ∷ []) j ≡ some b → (get_elem? l j ≡ some b) ⊎ ((j ≡ length l) × (a ≡ b))
 snoc_cases [] a b zero e = inr (refl, some-injective a b e)
 snoc_cases [] a b (suc j) e = absurd (some-ne-none b (sym e))
 snoc_cases (x ∷ xs) a b zero e = inl e
 snoc_cases (x ∷ xs) a b (suc j) e = ⊎_elim (λ h. inl h) (λ (h : (j ≡ length xs) × (a ≡ b)). inr (ap suc h.0, h.1)) (snoc_cases xs a b j e)
 
 -- making the next sender keeps the rule: nothing of it stands anywhere
-pub splits_keep : (places id room : ℕ) (v : View) → v.gets ≡ true → v.senders ≡ [] → room ≤ v.room → Splits (Kept places) id v (receives v.places (v.room - room) (v.made + 1) v.got v.clocks) (outlet_view room (new_sender v.places v.made))
+pub splits_keep : (places id room : ℕ) (v : TicketView) → v.gets ≡ true → v.senders ≡ [] → room ≤ v.room → Splits (Kept places) id v (receives v.places (v.room - room) (v.made + 1) v.got v.clocks) (outlet_view room (new_sender v.places v.made))
 splits_keep places id room v gets alone enough s h at =
     let x : Sender = new_sender v.places v.made in
-    let l : View = receives v.places (v.room - room) (v.made + 1) v.got v.clocks in let r : View = outlet_view room x in let vs : List View = set s.views id l in
+    let l : TicketView = receives v.places (v.room - room) (v.made + 1) v.got v.clocks in let r : TicketView = outlet_view room x in let vs : List TicketView = set s.views id l in
     let old = now h in
     let mine = (h.each id v at).0 gets in
     let here : v.made ≡ h.made = mine.made in
@@ -223,9 +224,9 @@ splits_keep places id room v gets alone enough s h at =
       offers = cond-false (j == h.made) [] (h.offered j) (ne_eqb j h.made (λ e. omega arith));
       places = λ k z at' is. (refl, refl);
     } in
-    let kept : (j : ℕ) (u : View) → Each (IsSender places old j) u.senders → Each (IsSender places new j) u.senders = λ j u hs. each-map (IsSender places old j) (IsSender places new j) u.senders
+    let kept : (j : ℕ) (u : TicketView) → Each (IsSender places old j) u.senders → Each (IsSender places new j) u.senders = λ j u hs. each-map (IsSender places old j) (IsSender places new j) u.senders
     (λ z hz. sender_stays places old new j j z grows (spares z.from hz.made) (cond-false (z.from == h.made) (length vs) (h.seat z.from) (ne_eqb z.from h.made (λ e. let lt = hz.made in omega arith)) ∙ hz.seat) hz) hs in
-    let receiver : IsReceiver places new id l = record {
+    let receiver : IsReader places new id l = record {
       reader = mine.reader;
       made = ap (λ (k : ℕ). k + 1) here;
       places_are = mine.places_are;
@@ -234,8 +235,8 @@ splits_keep places id room v gets alone enough s h at =
       few = mine.few;
       clocks = mine.clocks;
     } in
-    let F : ℕ → View → Type 0 = Agrees places new in
-    let olds : (j : ℕ) (u : View) → get_elem? vs j ≡ some u → F j u =
+    let F : ℕ → TicketView → Type 0 = Agrees places new in
+    let olds : (j : ℕ) (u : TicketView) → get_elem? vs j ≡ some u → F j u =
     all_set F s.views id l ((λ _. receiver), tt)
     (λ j u other e. ((λ g. absurd (other (sym ((h.each j u e).0 g).reader ∙ mine.reader))), kept j u (h.each j u e).1)) in
     let first : (j : ℕ) → j ≡ length vs → IsSender places new j x = λ j is. record {
@@ -265,9 +266,9 @@ splits_keep places id room v gets alone enough s h at =
     }
 
 -- taking in an outlet's ticket keeps the rule: the inlet's seat is now also that of its sender
-pub joins_keep : (places id : ℕ) (v : View) (other : ℕ) (w : View) (x : Sender) → v.gets ≡ true → w.senders ≡ x ∷ [] → Joins (Kept places) id v other w (beside v w) nobody
+pub joins_keep : (places id : ℕ) (v : TicketView) (other : ℕ) (w : TicketView) (x : Sender) → v.gets ≡ true → w.senders ≡ x ∷ [] → Joins (Kept places) id v other w (beside v w) nobody
 joins_keep places id v other w x gets only s h at two at' =
-    let both : View = beside v w in let vs : List View = set s.views id both in
+    let both : TicketView = beside v w in let vs : List TicketView = set s.views id both in
     let old = now h in
     let mine = (h.each id v at).0 gets in
     let was : get_elem? s.views other ≡ some w = ⊎_elim (λ y. absurd (two y.0)) (λ y. y.1) (at_set s.views id other both w at') in
@@ -278,7 +279,7 @@ joins_keep places id v other w x gets only s h at two at' =
     let spares : (j : ℕ) → Spares old new j = λ j. record { put = refl; closed = refl; claims = refl; offers = refl; places = λ k z at' is. (refl, refl) } in
     let moved : (j : ℕ) (z : Sender) → j ≢ other → IsSender places old j z → IsSender places new j z = λ j z away hz.
     sender_stays places old new j j z grows (spares z.from) (cond-false (z.from == x.from) id (h.seat z.from) (ne_eqb z.from x.from (λ e. away (sym hz.seat ∙ ap h.seat e ∙ theirs.seat))) ∙ hz.seat) hz in
-    let stays : (j : ℕ) (u : View) → j ≢ other → Agrees places old j u → Agrees places new j u = λ j u away f. (
+    let stays : (j : ℕ) (u : TicketView) → j ≢ other → Agrees places old j u → Agrees places new j u = λ j u away f. (
       (λ g. receiver_stays places old new j u grows refl refl (f.0 g)),
       each-map (IsSender places old j) (IsSender places new j) u.senders (λ z hz. moved j z away hz) f.1,
     ) in
@@ -286,9 +287,9 @@ joins_keep places id v other w x gets only s h at two at' =
       (λ g. let k = f.0 gets in record { reader = k.reader; made = k.made; places_are = k.places_are; got = k.got; stored = k.stored; few = k.few; clocks = k.clocks }),
       each-append (IsSender places new id) v.senders w.senders f.1 (subst (Each (IsSender places new id)) (sym only) (sender_stays places old new other id x grows (spares x.from) (cond-true (x.from == x.from) id (h.seat x.from) (eq-eqb x.from x.from refl)) theirs, tt)),
     ) in
-    let F : ℕ → View → Type 0 = Agrees places new in
-    let G : ℕ → View → Type 0 = λ j u. j ≢ other → F j u in
-    let now' : (j : ℕ) (u : View) → get_elem? vs j ≡ some u → G j u = all_set G s.views id both (λ _. joined) (λ j u _ e away. stays j u away (h.each j u e)) in
+    let F : ℕ → TicketView → Type 0 = Agrees places new in
+    let G : ℕ → TicketView → Type 0 = λ j u. j ≢ other → F j u in
+    let now' : (j : ℕ) (u : TicketView) → get_elem? vs j ≡ some u → G j u = all_set G s.views id both (λ _. joined) (λ j u _ e away. stays j u away (h.each j u e)) in
     record {
       reader = h.reader;
       made = h.made;
@@ -340,7 +341,7 @@ begins places count words small size are =
     }
   where
     -- what the one seat, the inlet's, knows is so
-    first : (id : ℕ) (v : View) → get_elem? (receives places places 0 [] [] ∷ []) id ≡ some v → Agrees places (world 0 0 (λ _. 0) (λ _. []) [] words) id v
-    first zero v e = subst (λ (u : View). Agrees places (world 0 0 (λ _. 0) (λ _. []) [] words) 0 u) (some-injective (receives places places 0 [] []) v e)
+    first : (id : ℕ) (v : TicketView) → get_elem? (receives places places 0 [] [] ∷ []) id ≡ some v → Agrees places (world 0 0 (λ _. 0) (λ _. []) [] words) id v
+    first zero v e = subst (λ (u : TicketView). Agrees places (world 0 0 (λ _. 0) (λ _. []) [] words) 0 u) (some-injective (receives places places 0 [] []) v e)
         ((λ _. record { reader = refl; made = refl; places_are = refl; got = ([], refl); stored = λ k lt. absurd (omega arith); few = omega arith; clocks = λ k lt. absurd (omega arith) }), tt)
     first (suc id) v e = absurd (some-ne-none v (sym e))

@@ -1,3 +1,4 @@
+pub mod NoQueue
 pub mod EntryLemmas
 pub mod LogLemmas
 pub mod Worlds

@@ -2,7 +2,8 @@
 use Rattle.std.proofs.Common.{◌≡◌, ◌≢◌, ◌⊎◌, inl, inr, ⊎_elim, map, ℕ, zero, suc, ◌+◌, ◌<◌, ◌==◌, Bool, true, false, cond, true≢false, List, [], ◌∷◌, ◌++◌, length, Some, slice_get, sym, refl, ap, ◌∙◌, subst, arith, eq-eqb, ne_eqb, append-nil}
 use Rattle.msc_fifo.specs.declared.claim.Claim.{Claim}
 use Rattle.msc_fifo.specs.Entries.{sender_of, HasNothingOf}
-use Rattle.msc_fifo.specs.World.{Each, Slot, Spot, slot, spot, spot_of, entries, own, Covers}
+use Rattle.msc_fifo.specs.World.{Slot, Spot, slot, spot, spot_of, entries, own, Covers}
+use Rattle.msc_fifo.specs.Lists.{Each}
 
 -- the entries of two lists, one after the other
 pub entries-append : (log more : List Slot) → entries (log ++ more) ≡ entries log ++ entries more

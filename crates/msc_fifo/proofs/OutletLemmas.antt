@@ -2,9 +2,9 @@
 use Rattle.std.proofs.Common.{◌≡◌, ℕ, ◌+◌, ◌-◌, ◌<◌, ◌≤◌, Bool, true, false, true≢false, cond, List, [], ◌∷◌, ◌++◌, length, sym, refl, ap, ◌∙◌, subst, arith, length-append}
 use Rattle.msc_fifo.specs.declared.entry.Entry.TheVariants.{Message, Ended}
 use Rattle.msc_fifo.specs.declared.claim.Claim.{Claim}
-use Rattle.msc_fifo.specs.declared.rule.View.{View}
+use Rattle.msc_fifo.specs.declared.rule.TicketView.{TicketView}
 use Rattle.msc_fifo.specs.Claims.{claim, is_message}
-use Rattle.msc_fifo.specs.World.{Each}
+use Rattle.msc_fifo.specs.Lists.{Each}
 use Rattle.msc_fifo.specs.Views.{outlet_view, resting, offers_of, left_of, IsProper}
 use Rattle.msc_fifo.specs.Moves.{after_offer, after_claim, after_date, after_show, after_store}
 use Rattle.msc_fifo.proofs.LogLemmas.{each-append}
@@ -29,7 +29,7 @@ offers-mark [] k i = refl
 offers-mark (c ∷ claims) k i = cond-both (is_message c.entry) c.offer (offers_of claims) (offers_of (claims ++ claim k (Ended i) 0 0 ∷ [])) (offers-mark claims k i)
 
 -- after a message the outlet is at rest again, with one message, one claim and one offer more
-pub sent : (p quota i m k o n : ℕ) (put after : List ℕ) (claims more : List Claim) (w : View) → length put < quota → after ≡ put ++ m ∷ [] → more ≡ claims ++ claim k (Message i m) o n ∷ []
+pub sent : (p quota i m k o n : ℕ) (put after : List ℕ) (claims more : List Claim) (w : TicketView) → length put < quota → after ≡ put ++ m ∷ [] → more ≡ claims ++ claim k (Message i m) o n ∷ []
     → w ≡ outlet_view (left_of quota put false - 1) (after_store (after_show n (after_date n (after_claim k (Message i m) (after_offer o (resting p i put false claims))))))
     → w ≡ outlet_view (left_of quota after false) (resting p i after false more)
 sent p quota i m k o n put after claims more w lt push push' now =
@@ -40,7 +40,7 @@ sent p quota i m k o n put after claims more w lt push push' now =
     ∙ (λ j. outlet_view (left_of quota (sym push j) false) (resting p i (sym push j) false (sym push' j)))
 
 -- after the end mark the outlet is at rest again, closed, with one claim more
-pub ended : (p quota i k : ℕ) (put : List ℕ) (claims more : List Claim) (w : View) → more ≡ claims ++ claim k (Ended i) 0 0 ∷ []
+pub ended : (p quota i k : ℕ) (put : List ℕ) (claims more : List Claim) (w : TicketView) → more ≡ claims ++ claim k (Ended i) 0 0 ∷ []
     → w ≡ outlet_view (left_of quota put false - 1) (after_store (after_claim k (Ended i) (resting p i put false claims)))
     → w ≡ outlet_view (left_of quota put true) (resting p i put true more)
 ended p quota i k put claims more w push' now =

@@ -8,16 +8,17 @@ use Rattle.msc_fifo.specs.declared.entry.Entry.{Entry}
 use Rattle.msc_fifo.specs.declared.entry.Entry.TheVariants.{Message, Ended}
 use Rattle.msc_fifo.specs.declared.claim.Claim.{Claim}
 use Rattle.msc_fifo.specs.declared.rule.Sender.{Sender}
-use Rattle.msc_fifo.specs.declared.rule.View.{View}
+use Rattle.msc_fifo.specs.declared.rule.TicketView.{TicketView}
 use Rattle.msc_fifo.specs.Claims.{claim, is_message}
 use Rattle.msc_fifo.specs.Entries.{sender_of, messages_of, has_ended, IsOrderly}
-use Rattle.msc_fifo.specs.World.{Each, Slot, slot, spot_of, entries, own, code, IsSmall, World, Offered, Holds, IsDated, IsStored}
+use Rattle.msc_fifo.specs.World.{Slot, slot, spot_of, entries, own, code, IsSmall, World, Offered, Holds, IsDated, IsStored}
+use Rattle.msc_fifo.specs.Lists.{Each}
 use Rattle.msc_fifo.specs.Views.{IsPending, IsSender, Sound, Kept}
 use Rattle.msc_fifo.specs.Moves.{Seated, OffersIt, ClaimsIt, DatesIt, ShowsIt, StoresIt, with_senders, after_offer, after_claim, after_date, after_show, after_store}
 use Rattle.msc_fifo.proofs.EntryLemmas.{orderly-push, has_ended-message, has_ended-ended, messages_of-message, messages_of-ended, untouched, code_full}
 use Rattle.msc_fifo.proofs.LogLemmas.{entries-append, cond-true, cond-false, get_front, get_last, get_inside, own-mine, own-other, each-append}
 use Rattle.msc_fifo.proofs.Worlds.{Grows, Spares, dated_stays, sound_stays, stored_stay}
-use Rattle.msc_fifo.proofs.Frames.{outlet_keeps, read_keeps, room_within, this_word, other_word, now, next}
+use Rattle.msc_fifo.proofs.Frames.{outlet_keeps, read_keeps, room_within, this_word, other_word, now, next_world}
 
 -- what is known of a sender that only a claim of its own changes
 abbrev Standing : ℕ → World → ℕ → Sender → Type 0
@@ -52,12 +53,12 @@ offered_more offered i o p k n at = both (p == i)
 -- an offer keeps the rule: the clock word is as before, or is the offer
 pub offers_keep : (places slots id o : ℕ) (me : Seated) (x : Sender) → me.0.gets ≡ false → me.0.senders ≡ x ∷ [] → x.pending ≡ [] → Allows (Kept places) slots id me 1 (λ n. max n o) (OffersIt (step slots 1 o 0 none) me)
 offers_keep places slots id o me x quiet only rest s h same at lt =
-    let v : View = me.0 in let y : Sender = after_offer o x in let w : View = with_senders (after_offer o) v in
+    let v : TicketView = me.0 in let y : Sender = after_offer o x in let w : TicketView = with_senders (after_offer o) v in
     let n : ℕ = slice_index s.words 1 in let n' : ℕ = max n o in
     let i : ℕ = x.from in
     let offered : ℕ → List ℕ = more_offers h.offered i o in
     let words : List ℕ = set s.words 1 n' in
-    let old = now h in let new = next h offered h.log words in
+    let old = now h in let new = next_world h offered h.log words in
     let mine = (subst (Each (IsSender places old id)) only (h.each id v at).1).0 in
     let wide = h.wide in
     let inside : 1 < length s.words = omega arith in
@@ -86,8 +87,20 @@ offers_keep places slots id o me x quiet only rest s h same at lt =
       w,
       keeps,
       tt,
-      outlet_keeps places 1 n' id s me.1 v w x y h offered h.log at only quiet (ap (map (after_offer o)) only) grows spares sender
-          (sound_stays places old new grows h.sound.orderly (λ k. inl (item k)) (λ k. inl (clk k)) tt topped h.sound) (other_word s.words 1 0 n' (λ e. omega arith) ∙ h.claimed) refl,
+      outlet_keeps places s me.1 v x h
+          (record { seat = id; word = 1; value = n'; view = w; sender = y; offered = offered; log = h.log })
+          (record {
+            at = at;
+            only = only;
+            quiet = quiet;
+            only_then = ap (map (after_offer o)) only;
+            grows = grows;
+            spares = spares;
+            mine = sender;
+            sound = sound_stays places old new grows h.sound.orderly (λ k. inl (item k)) (λ k. inl (clk k)) tt topped h.sound;
+            claimed = other_word s.words 1 0 n' (λ e. omega arith) ∙ h.claimed;
+            rooms = refl;
+          }),
       (refl, refl),
     )
 
@@ -125,51 +138,62 @@ claims_more : (x : Sender) (c : Claim) (log : List Slot) → x.pending ≡ [] �
 claims_more x c log rest was mine at = map-append x.claims c ∙ ap (λ l. l ++ spot_of c ∷ []) (ap (map spot_of) (sym (append-nil x.claims) ∙ ap (λ l. x.claims ++ l) (sym rest)) ∙ was)
     ∙ sym (own-mine x.from 0 c.place log (slot c.entry c.offer) mine (omega arith))
 
+-- place k, the next one, is claimed for the entry of a sender at rest, and nothing stands there yet
+record HasClaimed (places k : ℕ) (old new : World) (x : Sender) (e : Entry) : Type 0 where
+  rest : x.pending ≡ []
+  own : sender_of e ≡ x.from
+  last : k ≡ length old.log
+  fits : k < places
+  log : new.log ≡ old.log ++ slot e (offer_for x e) ∷ []
+  item : new.item k ≡ 0
+  clk : new.clk k ≡ 0
+  seat : new.seat x.from ≡ old.seat x.from
+  offered : new.offered x.from ≡ old.offered x.from
+
 -- the claim that was just made is not stored
-pending_claim : (places k : ℕ) (old new : World) (x y : Sender) (e : Entry) (o : ℕ) → k ≡ length old.log → k < places → x.places ≡ places → y.places ≡ x.places → y.from ≡ x.from → y.shown ≡ 0 → sender_of e ≡ x.from
-    → new.log ≡ old.log ++ slot e o ∷ [] → new.item k ≡ 0 → new.clk k ≡ 0 → IsPending new y (claim k e o 0)
-pending_claim places k old new x y e o last fits places_are same_places same_from shown mine log item clk = record {
-  at = subst (λ (l : List Slot). slice_get l k ≡ Some (slot e o)) (sym log) (get_last old.log (slot e o) k last);
-  mine = mine ∙ sym same_from;
-  inside = (let a : y.places ≡ places = same_places ∙ places_are in omega arith);
-  empty = item;
-  shown = clk ∙ sym shown;
+pending_claim : (places k : ℕ) (old new : World) (x y : Sender) (e : Entry) → HasClaimed places k old new x e → x.places ≡ places → y.places ≡ x.places → y.from ≡ x.from → y.shown ≡ 0
+    → IsPending new y (claim k e (offer_for x e) 0)
+pending_claim places k old new x y e c places_are same_places same_from shown = record {
+  at = subst (λ (l : List Slot). slice_get l k ≡ Some (slot e (offer_for x e))) (sym c.log) (get_last old.log (slot e (offer_for x e)) k c.last);
+  mine = c.own ∙ sym same_from;
+  inside = (let a : y.places ≡ places = same_places ∙ places_are in let b = c.fits in omega arith);
+  empty = c.item;
+  shown = c.clk ∙ sym shown;
   dated = inl refl;
 }
 
 -- what a sender knows after its claim is so
-grown : (places id k : ℕ) (old new : World) (x : Sender) (e : Entry) → x.pending ≡ [] → sender_of e ≡ x.from → k ≡ length old.log → k < places
-    → new.log ≡ old.log ++ slot e (offer_for x e) ∷ [] → new.item k ≡ 0 → new.clk k ≡ 0 → new.seat x.from ≡ old.seat x.from → new.offered x.from ≡ old.offered x.from → Grows old new
+grown : (places id k : ℕ) (old new : World) (x : Sender) (e : Entry) → HasClaimed places k old new x e → Grows old new
     → IsSender places old id x → IsSender places new id (after_claim k e x)
-grown places id k old new x (Message i m) rest is last fits log item clk seat offered g h =
+grown places id k old new x (Message i m) c g h =
     let es : List Entry = entries old.log in
-    let more : entries new.log ≡ es ++ Message i m ∷ [] = ap entries log ∙ entries-append old.log (slot (Message i m) x.ready ∷ []) in
+    let more : entries new.log ≡ es ++ Message i m ∷ [] = ap entries c.log ∙ entries-append old.log (slot (Message i m) x.ready ∷ []) in
     record {
-      seat = seat ∙ h.seat;
+      seat = c.seat ∙ h.seat;
       made = (let a = h.made in let b = g.made in omega arith);
       places_are = h.places_are;
-      put = ap (λ l. l ++ m ∷ []) h.put ∙ subst (λ (j : ℕ). messages_of x.from es ++ m ∷ [] ≡ messages_of x.from (es ++ Message j m ∷ [])) (sym is) (sym (messages_of-message x.from m es)) ∙ ap (messages_of x.from) (sym more);
+      put = ap (λ l. l ++ m ∷ []) h.put ∙ subst (λ (j : ℕ). messages_of x.from es ++ m ∷ [] ≡ messages_of x.from (es ++ Message j m ∷ [])) (sym c.own) (sym (messages_of-message x.from m es)) ∙ ap (messages_of x.from) (sym more);
       closed = h.closed ∙ sym (has_ended-message x.from i m es) ∙ ap (has_ended x.from) (sym more);
-      claims = claims_more x (claim k (Message i m) x.ready 0) old.log rest h.claims is last ∙ ap (own x.from 0) (sym log);
-      offers = h.offers ∙ sym offered;
+      claims = claims_more x (claim k (Message i m) x.ready 0) old.log c.rest h.claims c.own c.last ∙ ap (own x.from 0) (sym c.log);
+      offers = h.offers ∙ sym c.offered;
       ready = (let a = h.ready in let b = g.clock in omega arith);
       stored = stored_stay old new x.claims g h.stored;
-      pending = (pending_claim places k old new x (after_claim k (Message i m) x) (Message i m) x.ready last fits h.places_are refl refl refl is log item clk, tt);
+      pending = (pending_claim places k old new x (after_claim k (Message i m) x) (Message i m) c h.places_are refl refl refl, tt);
     }
-grown places id k old new x (Ended i) rest is last fits log item clk seat offered g h =
+grown places id k old new x (Ended i) c g h =
     let es : List Entry = entries old.log in
-    let more : entries new.log ≡ es ++ Ended i ∷ [] = ap entries log ∙ entries-append old.log (slot (Ended i) 0 ∷ []) in
+    let more : entries new.log ≡ es ++ Ended i ∷ [] = ap entries c.log ∙ entries-append old.log (slot (Ended i) 0 ∷ []) in
     record {
-      seat = seat ∙ h.seat;
+      seat = c.seat ∙ h.seat;
       made = (let a = h.made in let b = g.made in omega arith);
       places_are = h.places_are;
       put = h.put ∙ sym (messages_of-ended x.from i es) ∙ ap (messages_of x.from) (sym more);
-      closed = subst (λ (j : ℕ). true ≡ has_ended x.from (es ++ Ended j ∷ [])) (sym is) (sym (has_ended-ended x.from es)) ∙ ap (has_ended x.from) (sym more);
-      claims = claims_more x (claim k (Ended i) 0 0) old.log rest h.claims is last ∙ ap (own x.from 0) (sym log);
-      offers = h.offers ∙ sym offered;
+      closed = subst (λ (j : ℕ). true ≡ has_ended x.from (es ++ Ended j ∷ [])) (sym c.own) (sym (has_ended-ended x.from es)) ∙ ap (has_ended x.from) (sym more);
+      claims = claims_more x (claim k (Ended i) 0 0) old.log c.rest h.claims c.own c.last ∙ ap (own x.from 0) (sym c.log);
+      offers = h.offers ∙ sym c.offered;
       ready = (let a = h.ready in let b = g.clock in omega arith);
       stored = stored_stay old new x.claims g h.stored;
-      pending = (pending_claim places k old new x (after_claim k (Ended i) x) (Ended i) 0 last fits h.places_are refl refl refl is log item clk, tt);
+      pending = (pending_claim places k old new x (after_claim k (Ended i) x) (Ended i) c h.places_are refl refl refl, tt);
     }
 
 -- the offer for an entry is at most the clock word
@@ -181,12 +205,12 @@ offer_below x (Ended i) n le = omega arith
 pub claims_keep : (places slots id : ℕ) (me : Seated) (x : Sender) (e : Entry) → me.0.gets ≡ false → me.0.senders ≡ x ∷ [] → x.pending ≡ [] → x.closed ≡ false → sender_of e ≡ x.from → 0 < me.0.room
     → Allows (Kept places) slots id me 0 (λ n. (n + 1) % 2 ^ 64) (ClaimsIt e (step slots 0 1 0 none) me)
 claims_keep places slots id me x e quiet only rest opened is room s h same at lt =
-    let v : View = me.0 in let n : ℕ = slice_index s.words 0 in let n' : ℕ = (n + 1) % 2 ^ 64 in
-    let y : Sender = after_claim n e x in let w : View = record (with_senders (after_claim n e) v) { room = v.room - 1 } in
+    let v : TicketView = me.0 in let n : ℕ = slice_index s.words 0 in let n' : ℕ = (n + 1) % 2 ^ 64 in
+    let y : Sender = after_claim n e x in let w : TicketView = record (with_senders (after_claim n e) v) { room = v.room - 1 } in
     let o : ℕ = offer_for x e in
     let log : List Slot = h.log ++ slot e o ∷ [] in
     let words : List ℕ = set s.words 0 n' in
-    let old = now h in let new = next h h.offered log words in
+    let old = now h in let new = next_world h h.offered log words in
     let mine = (subst (Each (IsSender places old id)) only (h.each id v at).1).0 in
     let count : n ≡ length h.log = h.claimed in
     let within = room_within s.views id v at in
@@ -225,9 +249,20 @@ claims_keep places slots id me x e quiet only rest opened is room s h same at lt
       w,
       keeps,
       tt,
-      outlet_keeps places 0 n' id s me.1 v w x y h h.offered log at only quiet (ap (map (after_claim n e)) only) grows spares
-          (grown places id n old new x e rest is count fits refl blank blank' refl refl grows mine) sound
-          (this_word s.words 0 n' inside ∙ next_is ∙ ap (λ (k : ℕ). k + 1) count ∙ sym one) (omega arith),
+      outlet_keeps places s me.1 v x h
+          (record { seat = id; word = 0; value = n'; view = w; sender = y; offered = h.offered; log = log })
+          (record {
+            at = at;
+            only = only;
+            quiet = quiet;
+            only_then = ap (map (after_claim n e)) only;
+            grows = grows;
+            spares = spares;
+            mine = grown places id n old new x e (record { rest = rest; own = is; last = count; fits = fits; log = refl; item = blank; clk = blank'; seat = refl; offered = refl }) grows mine;
+            sound = sound;
+            claimed = this_word s.words 0 n' inside ∙ next_is ∙ ap (λ (k : ℕ). k + 1) count ∙ sym one;
+            rooms = omega arith;
+          }),
       (refl, refl, subst (Each (λ (z : Sender). n < z.places)) (sym only) ((let p = mine.places_are in omega arith), tt)),
     )
 
@@ -235,8 +270,8 @@ claims_keep places slots id me x e quiet only rest opened is room s h same at lt
 pub dates_keep : (places slots id : ℕ) (me : Seated) (x : Sender) (c : Claim) → me.0.gets ≡ false → me.0.senders ≡ x ∷ [] → x.pending ≡ c ∷ [] → is_message c.entry ≡ true
     → Allows (Kept places) slots id me 1 (λ n. n) (DatesIt (step slots 1 0 0 none) me)
 dates_keep places slots id me x c quiet only waits message s h same at lt =
-    let v : View = me.0 in let n : ℕ = slice_index s.words 1 in
-    let y : Sender = after_date n x in let w : View = with_senders (after_date n) v in
+    let v : TicketView = me.0 in let n : ℕ = slice_index s.words 1 in
+    let y : Sender = after_date n x in let w : TicketView = with_senders (after_date n) v in
     let old = now h in
     let mine = (subst (Each (IsSender places old id)) only (h.each id v at).1).0 in
     let p = (subst (Each (IsPending old x)) waits mine.pending).0 in
@@ -265,11 +300,11 @@ apart w x c j k z p other at is same = let both : Some z ≡ Some (slot c.entry 
     let z_is : z ≡ slot c.entry c.offer = cc in other (sym is ∙ ap (λ (t : Slot). sender_of t.entry) z_is ∙ p.mine)
 
 -- the world after a word is written
-abbrev with_word : {places : ℕ} {s : State (Unit {0}) View} → Kept places s → ℕ → ℕ → World
-with_word {s = s} h i n = next h h.offered h.log (set s.words i n)
+abbrev with_word : {places : ℕ} {s : State (Unit {0}) TicketView} → Kept places s → ℕ → ℕ → World
+with_word {s = s} h i n = next_world h h.offered h.log (set s.words i n)
 
 -- writing a word of the place of a pending claim keeps the rule where the place is then lawful and has the claim's clock, and what its sender knows fits
-writes_keep : (places i n id : ℕ) (s : State (Unit {0}) View) (me : Seated) (f : Sender → Sender) (x : Sender) (c : Claim) (h : Kept places s)
+writes_keep : (places i n id : ℕ) (s : State (Unit {0}) TicketView) (me : Seated) (f : Sender → Sender) (x : Sender) (c : Claim) (h : Kept places s)
     → get_elem? s.views id ≡ some me.0 → me.0.gets ≡ false → me.0.senders ≡ x ∷ [] → IsPending (now h) x c → c.place + c.place + 2 ≤ i → i ≤ c.place + c.place + 3
     → Holds h.log c.place ((with_word h i n).item c.place) → (with_word h i n).clk c.place ≡ c.clock → (Grows (now h) (with_word h i n) → IsSender places (with_word h i n) id (f x))
     → Kept places (stepped s i n id me.1 (with_senders f me.0) keeps)
@@ -297,14 +332,26 @@ writes_keep places i n id s me f x c h at quiet only p low high holds dated fits
     let here : IsDated new c.place (new.clk c.place) = subst (IsDated new c.place) (sym dated) (dated_stays old new c.place c.clock grows p.dated) in
     let clk : (k : ℕ) → (new.clk k ≡ old.clk k) ⊎ IsDated new k (new.clk k) = λ k.
     ⊎_elim (λ (is : k ≡ c.place). inr (subst (λ (j : ℕ). IsDated new j (new.clk j)) (sym is) here)) (λ other. inl (others k other).1) (cases_eq k c.place) in
-    outlet_keeps places i n id s me.1 me.0 (with_senders f me.0) x (f x) h h.offered h.log at only quiet (ap (map f) only) grows spares (fits grows)
-    (sound_stays places old new grows h.sound.orderly item clk tt (inl clock) h.sound) (other_word s.words i 0 n (λ e. omega arith) ∙ h.claimed) refl
+    outlet_keeps places s me.1 me.0 x h
+    (record { seat = id; word = i; value = n; view = with_senders f me.0; sender = f x; offered = h.offered; log = h.log })
+    (record {
+      at = at;
+      only = only;
+      quiet = quiet;
+      only_then = ap (map f) only;
+      grows = grows;
+      spares = spares;
+      mine = fits grows;
+      sound = sound_stays places old new grows h.sound.orderly item clk tt (inl clock) h.sound;
+      claimed = other_word s.words i 0 n (λ e. omega arith) ∙ h.claimed;
+      rooms = refl;
+    })
 
 -- storing the clock of the place keeps the rule
 pub shows_keep : (places slots id i n : ℕ) (me : Seated) (x : Sender) (c : Claim) → me.0.gets ≡ false → me.0.senders ≡ x ∷ [] → x.pending ≡ c ∷ [] → i ≡ c.place + c.place + 3 → n ≡ c.clock
     → Allows (Kept places) slots id me i (λ _. n) (λ _. ShowsIt (step slots i n 0 none) me n)
 shows_keep places slots id i n me x c quiet only waits word value s h same at lt =
-    let v : View = me.0 in let y : Sender = after_show n x in
+    let v : TicketView = me.0 in let y : Sender = after_show n x in
     let old = now h in let new = with_word h i n in
     let mine = (subst (Each (IsSender places old id)) only (h.each id v at).1).0 in
     let p = (subst (Each (IsPending old x)) waits mine.pending).0 in
@@ -334,7 +381,7 @@ shows_keep places slots id i n me x c quiet only waits word value s h same at lt
 pub stores_keep : (places slots id i n : ℕ) (me : Seated) (x : Sender) (c : Claim) → me.0.gets ≡ false → me.0.senders ≡ x ∷ [] → x.pending ≡ c ∷ [] → i ≡ c.place + c.place + 2 → n ≡ code c.entry → IsSmall c.entry → x.shown ≡ c.clock
     → Allows (Kept places) slots id me i (λ _. n) (λ _. StoresIt (step slots i n 0 none) me n)
 stores_keep places slots id i n me x c quiet only waits word value small shown s h same at lt =
-    let v : View = me.0 in let y : Sender = after_store x in
+    let v : TicketView = me.0 in let y : Sender = after_store x in
     let old = now h in let new = with_word h i n in
     let mine = (subst (Each (IsSender places old id)) only (h.each id v at).1).0 in
     let p = (subst (Each (IsPending old x)) waits mine.pending).0 in

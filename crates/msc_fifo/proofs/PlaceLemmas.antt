@@ -7,15 +7,16 @@ use Rattle.msc_fifo.specs.declared.rule.Sender.{Sender}
 use Rattle.msc_fifo.specs.Claims.{claim, is_message}
 use Rattle.msc_fifo.specs.Entries.{sender_of}
 use Rattle.msc_fifo.specs.Ends.{OutletState}
-use Rattle.msc_fifo.specs.Settlement.{entries_at, claims_of, place_of, IsAmong}
-use Rattle.msc_fifo.specs.World.{Each, Slot, Spot, spot, spot_of, entries, own}
+use Rattle.msc_fifo.specs.Settlement.{entries_at, claims_of, place_of}
+use Rattle.msc_fifo.specs.Lists.{Occurs, Each}
+use Rattle.msc_fifo.specs.World.{Slot, Spot, spot, spot_of, entries, own}
 use Rattle.msc_fifo.specs.Views.{offers_of}
 use Rattle.msc_fifo.specs.Moves.{IsClaimOf}
-use Rattle.msc_fifo.specs.Settling.{Shows}
+use Rattle.msc_fifo.specs.Settling.{AreShownIn}
 use Rattle.msc_fifo.proofs.LogLemmas.{cond-true, get_front, get_last}
 
 -- a place more that was read is that of its claim
-pub shown_more : (xs : List Sender) (ps : List Place) (p : Place) (k : ℕ) → k ≡ length ps → Shows xs ps → ((c : Claim) → IsClaimOf c xs → c.place ≡ k → p ≡ place_of c) → Shows xs (ps ++ p ∷ [])
+pub shown_more : (xs : List Sender) (ps : List Place) (p : Place) (k : ℕ) → k ≡ length ps → AreShownIn xs ps → ((c : Claim) → IsClaimOf c xs → c.place ≡ k → p ≡ place_of c) → AreShownIn xs (ps ++ p ∷ [])
 shown_more xs ps p k at was is c of lt = ⊎_elim
     (λ (here : c.place ≡ length ps). get_last ps p c.place here ∙ ap Some (is c of (here ∙ sym at)))
     (λ (before : c.place < length ps). get_front ps (p ∷ []) c.place (place_of c) (was c of before)) (eq-or-lt_of_le (let n = length-append ps (p ∷ []) in omega arith))
@@ -62,18 +63,18 @@ dressed clk (c ∷ cs) h = λ j. claim c.place c.entry c.offer (h.0 j) ∷ dress
 
 module _ {A : Type 0} where
   -- what is in a list is in a longer one
-  among_more : (y x : A) (xs : List A) → IsAmong x xs → IsAmong x (y ∷ xs)
+  pub among_more : (y x : A) (xs : List A) → Occurs xs x → Occurs (y ∷ xs) x
   among_more y x xs h = (suc h.0, h.1)
 
   -- the same behind a choice
-  cond-among : (b : Bool) (y x : A) (xs : List A) → IsAmong x xs → IsAmong x (cond b (y ∷ xs) xs)
+  cond-among : (b : Bool) (y x : A) (xs : List A) → Occurs xs x → Occurs (cond b (y ∷ xs) xs) x
   cond-among true y x xs h = among_more y x xs h
   cond-among false y x xs h = h
 
 -- a claim stands among its sender's claims
-pub among_own : (i k : ℕ) (log : List Claim) (c : Claim) → slice_get log k ≡ Some c → sender_of c.entry ≡ i → IsAmong c (claims_of i log)
+pub among_own : (i k : ℕ) (log : List Claim) (c : Claim) → slice_get log k ≡ Some c → sender_of c.entry ≡ i → Occurs (claims_of i log) c
 among_own i k [] c at is = cc
-among_own i zero (d ∷ log) c at is = let same : d ≡ c = cc in subst (IsAmong c) (sym (cond-true (sender_of d.entry == i) (d ∷ claims_of i log) (claims_of i log) (eq-eqb (sender_of d.entry) i (ap (λ (x : Claim). sender_of x.entry) same ∙ is)))) (0, at)
+among_own i zero (d ∷ log) c at is = let same : d ≡ c = cc in subst (λ (l : List Claim). Occurs l c) (sym (cond-true (sender_of d.entry == i) (d ∷ claims_of i log) (claims_of i log) (eq-eqb (sender_of d.entry) i (ap (λ (x : Claim). sender_of x.entry) same ∙ is)))) (0, at)
 among_own i (suc k) (d ∷ log) c at is = cond-among (sender_of d.entry == i) d c (claims_of i log) (among_own i k log c at is)
 
 -- a member behind a choice is the first or one of the rest
@@ -83,7 +84,7 @@ cond-get true d c cs (suc k) h = inr (k, h)
 cond-get false d c cs k h = inr (k, h)
 
 -- a sender's claims stand among all, and are its own
-pub own_among : (i k : ℕ) (log : List Claim) (c : Claim) → slice_get (claims_of i log) k ≡ Some c → IsAmong c log × (sender_of c.entry ≡ i)
+pub own_among : (i k : ℕ) (log : List Claim) (c : Claim) → slice_get (claims_of i log) k ≡ Some c → Occurs log c × (sender_of c.entry ≡ i)
 own_among i k [] c at = cc
 own_among i k (d ∷ log) c at = ⊎_elim
     (λ (h : ((sender_of d.entry == i) ≡ true) × (d ≡ c)). ((0, ap (λ (x : Claim). Some x) h.1), ap (λ (x : Claim). sender_of x.entry) (sym h.1) ∙ eqb-true (sender_of d.entry) i h.0))
@@ -91,17 +92,17 @@ own_among i k (d ∷ log) c at = ⊎_elim
     (cond-get (sender_of d.entry == i) d c (claims_of i log) k at)
 
 -- an offer of a list of claims is that of some message
-pub offer_among : (cs : List Claim) (k n : ℕ) → slice_get (offers_of cs) k ≡ Some n → (c : Claim) × IsAmong c cs × (is_message c.entry ≡ true) × (c.offer ≡ n)
+pub offer_among : (cs : List Claim) (k n : ℕ) → slice_get (offers_of cs) k ≡ Some n → (c : Claim) × Occurs cs c × (is_message c.entry ≡ true) × (c.offer ≡ n)
 offer_among [] k n at = cc
 offer_among (c ∷ cs) k n at = both (is_message c.entry) refl at (λ j h. let r = offer_among cs j n h in (r.0, among_more c r.0 cs r.1, r.2, r.3))
   where
     -- the first claim has an offer where it is of a message
-    both : (b : Bool) → is_message c.entry ≡ b → slice_get (cond b (c.offer ∷ offers_of cs) (offers_of cs)) k ≡ Some n → ((j : ℕ) → slice_get (offers_of cs) j ≡ Some n → (d : Claim) × IsAmong d (c ∷ cs) × (is_message d.entry ≡ true) × (d.offer ≡ n))
-        → (d : Claim) × IsAmong d (c ∷ cs) × (is_message d.entry ≡ true) × (d.offer ≡ n)
+    both : (b : Bool) → is_message c.entry ≡ b → slice_get (cond b (c.offer ∷ offers_of cs) (offers_of cs)) k ≡ Some n → ((j : ℕ) → slice_get (offers_of cs) j ≡ Some n → (d : Claim) × Occurs (c ∷ cs) d × (is_message d.entry ≡ true) × (d.offer ≡ n))
+        → (d : Claim) × Occurs (c ∷ cs) d × (is_message d.entry ≡ true) × (d.offer ≡ n)
     both true e h more = hit k h more
       where
         -- the offer is that one, or one of the other claims
-        hit : (k : ℕ) → slice_get (c.offer ∷ offers_of cs) k ≡ Some n → ((j : ℕ) → slice_get (offers_of cs) j ≡ Some n → (d : Claim) × IsAmong d (c ∷ cs) × (is_message d.entry ≡ true) × (d.offer ≡ n)) → (d : Claim) × IsAmong d (c ∷ cs) × (is_message d.entry ≡ true) × (d.offer ≡ n)
+        hit : (k : ℕ) → slice_get (c.offer ∷ offers_of cs) k ≡ Some n → ((j : ℕ) → slice_get (offers_of cs) j ≡ Some n → (d : Claim) × Occurs (c ∷ cs) d × (is_message d.entry ≡ true) × (d.offer ≡ n)) → (d : Claim) × Occurs (c ∷ cs) d × (is_message d.entry ≡ true) × (d.offer ≡ n)
         hit zero h more = let same : c.offer ≡ n = cc in (c, (0, refl), e, same)
         hit (suc k) h more = more k h
     both false e h more = more k h
@@ -112,12 +113,12 @@ cond-zero true n e = absurd (true≢false e)
 cond-zero false n e = omega arith
 
 -- each sender has its outlet
-pub outlet_of : (i : ℕ) (os : List OutletState) → count_by (λ o. o.sender == i) os ≡ 1 → (o : OutletState) × IsAmong o os × (o.sender ≡ i)
+pub outlet_of : (i : ℕ) (os : List OutletState) → count_by (λ o. o.sender == i) os ≡ 1 → (o : OutletState) × Occurs os o × (o.sender ≡ i)
 outlet_of i [] e = absurd (omega arith)
 outlet_of i (o ∷ os) e = both (o.sender == i) refl (λ no. let one = cond-zero (o.sender == i) (count_by (λ (x : OutletState). x.sender == i) os) no in
     let r = outlet_of i os (sym one ∙ sym (sum_by-cons (λ (x : OutletState). cond {A = ℕ} (x.sender == i) 1 0) o os) ∙ e) in (r.0, among_more o r.0 os r.1, r.2))
   where
     -- the first outlet is that sender's, or it is among the others
-    both : (b : Bool) → (o.sender == i) ≡ b → ((o.sender == i) ≡ false → (x : OutletState) × IsAmong x (o ∷ os) × (x.sender ≡ i)) → (x : OutletState) × IsAmong x (o ∷ os) × (x.sender ≡ i)
+    both : (b : Bool) → (o.sender == i) ≡ b → ((o.sender == i) ≡ false → (x : OutletState) × Occurs (o ∷ os) x × (x.sender ≡ i)) → (x : OutletState) × Occurs (o ∷ os) x × (x.sender ≡ i)
     both true h more = (o, (0, refl), eqb-true o.sender i h)
     both false h more = more h

@@ -4,26 +4,26 @@ use Rattle.msc_fifo.specs.declared.entry.Entry.{Entry}
 use Rattle.msc_fifo.specs.declared.entry.Entry.TheVariants.{Message, Ended}
 use Rattle.msc_fifo.specs.declared.claim.Claim.{Claim}
 use Rattle.msc_fifo.specs.declared.rule.Sender.{Sender}
-use Rattle.msc_fifo.specs.declared.rule.View.{View}
+use Rattle.msc_fifo.specs.declared.rule.TicketView.{TicketView}
 use Rattle.msc_fifo.specs.Claims.{claim, is_message}
 use Rattle.msc_fifo.specs.Views.{outlet_view}
 use Rattle.msc_fifo.specs.Moves.{with_senders, after_claim, after_date}
 
 -- an outlet's view is not the inlet's
-pub quiet_of : (r : ℕ) (x : Sender) (v : View) → v ≡ outlet_view r x → v.gets ≡ false
-quiet_of r x v is = ap (λ (u : View). u.gets) is
+pub quiet_of : (r : ℕ) (x : Sender) (v : TicketView) → v ≡ outlet_view r x → v.gets ≡ false
+quiet_of r x v is = ap (λ (u : TicketView). u.gets) is
 
 -- it has one sender
-pub only_of : (r : ℕ) (x : Sender) (v : View) → v ≡ outlet_view r x → v.senders ≡ x ∷ []
-only_of r x v is = ap (λ (u : View). u.senders) is
+pub only_of : (r : ℕ) (x : Sender) (v : TicketView) → v ≡ outlet_view r x → v.senders ≡ x ∷ []
+only_of r x v is = ap (λ (u : TicketView). u.senders) is
 
 -- what a step changes of the sender
-pub step_of : (f : Sender → Sender) (r : ℕ) (x : Sender) (v w : View) → v ≡ outlet_view r x → w ≡ with_senders f v → w ≡ outlet_view r (f x)
+pub step_of : (f : Sender → Sender) (r : ℕ) (x : Sender) (v w : TicketView) → v ≡ outlet_view r x → w ≡ with_senders f v → w ≡ outlet_view r (f x)
 step_of f r x v w is to = to ∙ ap (with_senders f) is
 
 -- what a claim changes of the view
-pub claim_of : (r k : ℕ) (e : Entry) (x : Sender) (v w : View) → v ≡ outlet_view r x → w ≡ record (with_senders (after_claim k e) v) { room = v.room - 1 } → w ≡ outlet_view (r - 1) (after_claim k e x)
-claim_of r k e x v w is to = to ∙ ap (λ (u : View). record (with_senders (after_claim k e) u) { room = u.room - 1 }) is
+pub claim_of : (r k : ℕ) (e : Entry) (x : Sender) (v w : TicketView) → v ≡ outlet_view r x → w ≡ record (with_senders (after_claim k e) v) { room = v.room - 1 } → w ≡ outlet_view (r - 1) (after_claim k e x)
+claim_of r k e x v w is to = to ∙ ap (λ (u : TicketView). record (with_senders (after_claim k e) u) { room = u.room - 1 }) is
 
 -- the claim that isn't stored yet
 pub waits : (k : ℕ) (e : Entry) (x : Sender) → is_message e ≡ true → (after_claim k e x).pending ≡ claim k e x.ready 0 ∷ []

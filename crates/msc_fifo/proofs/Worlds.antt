@@ -2,10 +2,11 @@
 use Rattle.std.proofs.Common.{◌≡◌, ◌≢◌, ◌⊎◌, ℕ, ◌<◌, ◌≤◌, List, ◌++◌, length, Some, slice_get, sym, ap, ◌∙◌, subst, inl, inr, ⊎_elim, append_assoc, arith}
 use Rattle.msc_fifo.specs.declared.claim.Claim.{Claim}
 use Rattle.msc_fifo.specs.declared.rule.Sender.{Sender}
-use Rattle.msc_fifo.specs.declared.rule.View.{View}
+use Rattle.msc_fifo.specs.declared.rule.TicketView.{TicketView}
 use Rattle.msc_fifo.specs.Entries.{sender_of, messages_of, has_ended, IsOrderly}
-use Rattle.msc_fifo.specs.World.{Each, Slot, slot, entries, own, World, Covers, Offered, Holds, IsDated, IsStored}
-use Rattle.msc_fifo.specs.Views.{IsPending, IsSender, IsReceiver, Sound}
+use Rattle.msc_fifo.specs.World.{Slot, slot, entries, own, World, Covers, Offered, Holds, IsDated, IsStored}
+use Rattle.msc_fifo.specs.Lists.{Each}
+use Rattle.msc_fifo.specs.Views.{IsPending, IsSender, IsReader, Sound}
 use Rattle.msc_fifo.proofs.LogLemmas.{entries-append, get_front, get_either, member, covers_longer, each-map}
 
 -- what a step leaves, whoever makes it: stored places are frozen, and nothing that was claimed or offered goes away
@@ -87,7 +88,7 @@ sender_stays places w w' id id' x g s seat h = record {
 }
 
 -- the sender's knowledge in a world that differs elsewhere alone
-pub receiver_stays : (places : ℕ) (w w' : World) (id : ℕ) (v : View) → Grows w w' → w'.reader ≡ w.reader → w'.made ≡ w.made → IsReceiver places w id v → IsReceiver places w' id v
+pub receiver_stays : (places : ℕ) (w w' : World) (id : ℕ) (v : TicketView) → Grows w w' → w'.reader ≡ w.reader → w'.made ≡ w.made → IsReader places w id v → IsReader places w' id v
 receiver_stays places w w' id v g reader made h = record {
   reader = reader ∙ h.reader;
   made = h.made ∙ sym made;

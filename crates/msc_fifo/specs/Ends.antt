@@ -52,6 +52,14 @@ HasRoom o = (o.closed ≡ false) × (length o.put < o.quota)
 abbrev pub IsSpent : OutletState → Type 0
 IsSpent o = (o.closed ≡ false) × (length o.put ≡ o.quota)
 
+-- the greatest clock: clocks have 64 bits
+abbrev pub greatest_clock : ℕ
+greatest_clock = 18446744073709551615
+
+-- a clock from which nothing can be offered any more
+abbrev pub IsSpentClock : ℕ → Type 0
+IsSpentClock clock = clock ≡ greatest_clock
+
 -- what no call changes of an outlet
 abbrev pub IsSameOutlet : OutletState → OutletState → Type 0
 IsSameOutlet old new = (new.queue ≡ old.queue) × (new.sender ≡ old.sender) × (new.quota ≡ old.quota)

@@ -48,11 +48,15 @@ entries_of (took.Message i m place clock) = Message i m ∷ []
 entries_of (took.Ended i) = Ended i ∷ []
 entries_of took.Nothing = []
 
--- how many takes in a row have found nothing, after one more take; counted up to 4,294,967,295
+-- the greatest count of takes that found nothing: counts have 32 bits
+abbrev pub greatest_idle : ℕ
+greatest_idle = 4294967295
+
+-- how many takes in a row have found nothing, after one more take
 abbrev pub idle_after : ℕ → Taken → ℕ
 idle_after idle (took.Message i m place clock) = 0
 idle_after idle (took.Ended i) = 0
-idle_after idle took.Nothing = min (idle + 1) 4294967295
+idle_after idle took.Nothing = min (idle + 1) greatest_idle
 
 -- how many senders end with a take
 abbrev pub ends_in : Taken → ℕ

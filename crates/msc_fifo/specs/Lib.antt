@@ -1,7 +1,7 @@
 -- what is promised
+pub mod Lists
 pub mod Entries
 pub mod Identity
-pub mod NoQueue
 pub mod Claims
 pub mod Ends
 pub mod Settlement

@@ -5,19 +5,19 @@ use Rattle.msc_fifo.specs.declared.entry.Entry.{Entry}
 use Rattle.msc_fifo.specs.declared.entry.Entry.TheVariants.{Message, Ended}
 use Rattle.msc_fifo.specs.declared.claim.Claim.{Claim}
 use Rattle.msc_fifo.specs.declared.rule.Sender.{Sender}
-use Rattle.msc_fifo.specs.declared.rule.View.{View}
+use Rattle.msc_fifo.specs.declared.rule.TicketView.{TicketView}
 use Rattle.msc_fifo.specs.Claims.{claim}
 use Rattle.msc_fifo.specs.Entries.{sender_of, messages_of, has_ended, IsOrderly}
-use Rattle.msc_fifo.specs.Settlement.{IsAmong}
-use Rattle.msc_fifo.specs.World.{Each, Slot, spot_of, entries, own, code, IsSmall, Covers}
+use Rattle.msc_fifo.specs.Lists.{Occurs, Each}
+use Rattle.msc_fifo.specs.World.{Slot, spot_of, entries, own, code, IsSmall, Covers}
 use Rattle.msc_fifo.specs.Views.{outlet_view, resting}
 
 -- what a seat knows and holds; it never holds a slot
 abbrev pub Seated : Type 0
-Seated = Me (Unit {0}) View
+Seated = Me (Unit {0}) TicketView
 
 -- the view with a change of its senders
-abbrev pub with_senders : (Sender → Sender) → View → View
+abbrev pub with_senders : (Sender → Sender) → TicketView → TicketView
 with_senders f v = record v { senders = map f v.senders }
 
 -- what is known of a sender after it made an offer
@@ -67,7 +67,7 @@ clocks_at_once (Message i m) = []
 clocks_at_once (Ended i) = 0 ∷ []
 
 -- the inlet takes the entry
-abbrev pub Takes : View → Entry → View → Type 0
+abbrev pub Takes : TicketView → Entry → TicketView → Type 0
 Takes v e w = (w ≡ record v { got = v.got ++ e ∷ []; clocks = v.clocks ++ clocks_at_once e }) × (sender_of e < v.made) × (has_ended (sender_of e) v.got ≡ false)
 
 -- the next place holds nothing yet, or the entry that is taken
@@ -79,7 +79,7 @@ abbrev pub LearnsIt : Step (Unit {0}) → Seated → ℕ → Seated → Type 0
 LearnsIt st m found m' = (m'.0 ≡ record m.0 { clocks = m.0.clocks ++ found ∷ [] }) × (m'.1 ≡ m.1)
 
 -- what the claim word tells once the seats are joined: all that was claimed, and the clocks of the places
-pub record Told (v : View) (count : ℕ) : Type 0 where
+pub record Told (v : TicketView) (count : ℕ) : Type 0 where
   pub log : List Slot
   pub clk : ℕ → ℕ
   pub offered : ℕ → List ℕ
@@ -93,7 +93,7 @@ pub record Told (v : View) (count : ℕ) : Type 0 where
 
 -- the claim is one that is known of some sender
 abbrev pub IsClaimOf : Claim → List Sender → Type 0
-IsClaimOf c xs = (x : Sender) × IsAmong x xs × IsAmong c x.claims
+IsClaimOf c xs = (x : Sender) × Occurs xs x × Occurs x.claims c
 
 -- the entry of a place was read: it is that of the claim that is known of it
 abbrev pub ReadsItsEntry : Step (Unit {0}) → Seated → ℕ → Seated → Type 0
@@ -108,7 +108,7 @@ abbrev pub SettlesIt : Step (Unit {0}) → Seated → ℕ → Seated → Type 0
 SettlesIt st m found m' = (m' ≡ m) × Told m.0 found
 
 -- the view of an open outlet at rest, which may still claim a place, and the entry is its sender's
-abbrev pub MayClaim : ℕ → View → Entry → Type 0
+abbrev pub MayClaim : ℕ → TicketView → Entry → Type 0
 MayClaim places v e = (room : ℕ) × (i : ℕ) × (put : List ℕ) × (claims : List Claim) × (v ≡ outlet_view room (resting places i put false claims)) × (0 < room) × (sender_of e ≡ i)
 
 -- what is known of a sender once it has put a message with its offer, at a place with a clock
@@ -120,5 +120,5 @@ abbrev pub after_mark : Entry → ℕ → Sender → Sender
 after_mark e place x = after_store (after_claim place e x)
 
 -- the view of an open outlet before and after a claim that makes this of its sender
-abbrev pub Makes : ℕ → (Sender → Sender) → View → View → Type 0
+abbrev pub Makes : ℕ → (Sender → Sender) → TicketView → TicketView → Type 0
 Makes places f v w = (room : ℕ) (i : ℕ) (put : List ℕ) (claims : List Claim) → v ≡ outlet_view room (resting places i put false claims) → w ≡ outlet_view (room - 1) (f (resting places i put false claims))

@@ -2,7 +2,7 @@
 use Rattle.std.specs.Prelude.{◌≡◌, ◌≤◌, List, [], ◌∷◌, length}
 use Rattle.msc_fifo.specs.declared.parts.Part.{Part}
 use Rattle.msc_fifo.specs.Ends.{OutletState}
-use Rattle.msc_fifo.specs.World.{Each}
+use Rattle.msc_fifo.specs.Lists.{Each}
 use Rattle.msc_fifo.specs.Views.{IsProper}
 
 -- what is left of an outlet

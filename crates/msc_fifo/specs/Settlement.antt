@@ -8,6 +8,7 @@ use Rattle.msc_fifo.specs.declared.places.Place.{Place}
 use Rattle.msc_fifo.specs.Claims.{is_message}
 use Rattle.msc_fifo.specs.Entries.{sender_of, messages_of, has_ended, IsOrderly}
 use Rattle.msc_fifo.specs.Ends.{OutletState, InletState}
+use Rattle.msc_fifo.specs.Lists.{Occurs}
 
 -- The account of an outlet, where the inlet got these entries: what was put is what was taken and
 -- then what is left. Where the sender's end mark was taken, it had closed and nothing is left
@@ -44,10 +45,6 @@ message_of (Ended i) = None
 abbrev pub place_of : Claim → Place
 place_of c = record { sender = sender_of c.entry; message = message_of c.entry; clock = c.clock }
 
--- x stands in a list
-abbrev pub IsAmong : {A : Type 0} → A → List A → Type 0
-IsAmong x xs = (k : ℕ) × (slice_get xs k ≡ Some x)
-
 -- The places of a queue that were claimed, in order and without gaps. Each outlet's claims are its
 -- part of them, for what it put and then its end mark; what was got is the items of the first places,
 -- and the clocks that were read are theirs. The clock of a message's place is at least each offer
@@ -55,13 +52,13 @@ IsAmong x xs = (k : ℕ) × (slice_get xs k ≡ Some x)
 pub record IsPlaced (inlet : InletState) (outlets : List OutletState) (log : List Claim) : Type 0 where
   pub numbered : (k : ℕ) (c : Claim) → slice_get log k ≡ Some c → c.place ≡ k
   pub orderly : IsOrderly inlet.senders (entries_at log)
-  pub claims : (o : OutletState) → IsAmong o outlets → o.claims ≡ claims_of o.sender log
-  pub items : (o : OutletState) → IsAmong o outlets → entries_at o.claims ≡ items_of o
+  pub claims : (o : OutletState) → Occurs outlets o → o.claims ≡ claims_of o.sender log
+  pub items : (o : OutletState) → Occurs outlets o → entries_at o.claims ≡ items_of o
   pub got : (rest : List Entry) × (entries_at log ≡ inlet.got ++ rest)
   pub clocks : (k : ℕ) (c : Claim) → k < length inlet.clocks → slice_get log k ≡ Some c → c.clock ≡ slice_index inlet.clocks k
-  pub covers : (c d : Claim) → IsAmong c log → is_message c.entry ≡ true → IsAmong d log → d.place ≤ c.place → d.offer ≤ c.clock
-  pub offered : (c : Claim) → IsAmong c log → is_message c.entry ≡ true
-      → (d : Claim) × IsAmong d log × (is_message d.entry ≡ true) × (d.offer ≡ c.clock)
+  pub covers : (c d : Claim) → Occurs log c → is_message c.entry ≡ true → Occurs log d → d.place ≤ c.place → d.offer ≤ c.clock
+  pub offered : (c : Claim) → Occurs log c → is_message c.entry ≡ true
+      → (d : Claim) × Occurs log d × (is_message d.entry ≡ true) × (d.offer ≡ c.clock)
 
 -- these are the places of the queue whose ends were these
 pub record IsSettled (inlet : InletState) (outlets : List OutletState) (places : List Place) : Type 0 where

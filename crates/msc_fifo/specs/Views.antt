@@ -9,11 +9,12 @@ use Rattle.atomic_table.specs.declared.owned.Table.{Table}
 use Rattle.msc_fifo.specs.declared.entry.Entry.{Entry}
 use Rattle.msc_fifo.specs.declared.claim.Claim.{Claim}
 use Rattle.msc_fifo.specs.declared.rule.Sender.{Sender}
-use Rattle.msc_fifo.specs.declared.rule.View.{View}
+use Rattle.msc_fifo.specs.declared.rule.TicketView.{TicketView}
 use Rattle.msc_fifo.specs.Claims.{is_message}
 use Rattle.msc_fifo.specs.Entries.{sender_of, messages_of, has_ended, IsOrderly}
 use Rattle.msc_fifo.specs.Identity.{QueueId}
-use Rattle.msc_fifo.specs.World.{most_places, Each, Slot, slot, spot_of, entries, own, World, world, Offered, Holds, IsDated, IsStored}
+use Rattle.msc_fifo.specs.World.{most_places, Slot, slot, spot_of, entries, own, World, world, Offered, Holds, IsDated, IsStored}
+use Rattle.msc_fifo.specs.Lists.{Each}
 
 -- the claim isn't stored yet
 pub record IsPending (w : World) (x : Sender) (c : Claim) : Type 0 where
@@ -38,7 +39,7 @@ pub record IsSender (places : ℕ) (w : World) (id : ℕ) (x : Sender) : Type 0 
   pub pending : Each (IsPending w x) x.pending
 
 -- what the inlet knows is so
-pub record IsReceiver (places : ℕ) (w : World) (id : ℕ) (v : View) : Type 0 where
+pub record IsReader (places : ℕ) (w : World) (id : ℕ) (v : TicketView) : Type 0 where
   pub reader : w.reader ≡ id
   pub made : v.made ≡ w.made
   pub places_are : v.places ≡ places
@@ -48,8 +49,8 @@ pub record IsReceiver (places : ℕ) (w : World) (id : ℕ) (v : View) : Type 0 
   pub clocks : (k : ℕ) → k < length v.clocks → w.clk k ≡ slice_index v.clocks k
 
 -- what a seat knows is so
-abbrev pub Agrees : ℕ → World → ℕ → View → Type 0
-Agrees places w id v = (v.gets ≡ true → IsReceiver places w id v) × Each (IsSender places w id) v.senders
+abbrev pub Agrees : ℕ → World → ℕ → TicketView → Type 0
+Agrees places w id v = (v.gets ≡ true → IsReader places w id v) × Each (IsSender places w id) v.senders
 
 -- what holds whatever the seats know
 pub record Sound (places : ℕ) (w : World) : Type 0 where
@@ -60,12 +61,12 @@ pub record Sound (places : ℕ) (w : World) : Type 0 where
   pub clock : (w.clock ≡ 0) ⊎ Offered w w.clock
 
 -- the places that the seats may still claim
-abbrev pub rooms_of : List View → ℕ
+abbrev pub rooms_of : List TicketView → ℕ
 rooms_of [] = 0
 rooms_of (v ∷ vs) = v.room + rooms_of vs
 
 -- One seat receives, and each sender that was made has one seat
-pub record Kept (places : ℕ) (s : State (Unit {0}) View) : Type 0 where
+pub record Kept (places : ℕ) (s : State (Unit {0}) TicketView) : Type 0 where
   pub reader : ℕ
   pub made : ℕ
   pub seat : ℕ → ℕ
@@ -76,10 +77,10 @@ pub record Kept (places : ℕ) (s : State (Unit {0}) View) : Type 0 where
   pub claimed : slice_index s.words 0 ≡ length log
   pub rooms : rooms_of s.views + length log ≡ places
   pub sound : Sound places (world reader made seat offered log s.words)
-  pub each : (id : ℕ) (v : View) → get_elem? s.views id ≡ some v → Agrees places (world reader made seat offered log s.words) id v
+  pub each : (id : ℕ) (v : TicketView) → get_elem? s.views id ≡ some v → Agrees places (world reader made seat offered log s.words) id v
 
 -- the inlet has made some senders, has got these entries and clocks, and has places to give away
-abbrev pub receives : ℕ → ℕ → ℕ → List Entry → List ℕ → View
+abbrev pub receives : ℕ → ℕ → ℕ → List Entry → List ℕ → TicketView
 receives places room made got clocks = record { gets = true; made = made; places = places; got = got; clocks = clocks; room = room; senders = [] }
 
 -- a sender that has put nothing
@@ -87,15 +88,15 @@ abbrev pub new_sender : ℕ → ℕ → Sender
 new_sender places i = record { from = i; places = places; put = []; closed = false; claims = []; pending = []; offers = []; ready = 0; shown = 0 }
 
 -- an outlet that may claim so many places more
-abbrev pub outlet_view : ℕ → Sender → View
+abbrev pub outlet_view : ℕ → Sender → TicketView
 outlet_view room x = record { gets = false; made = 0; places = 0; got = []; clocks = []; room = room; senders = x ∷ [] }
 
 -- the inlet has learned of an outlet
-abbrev pub beside : View → View → View
+abbrev pub beside : TicketView → TicketView → TicketView
 beside v w = record v { room = v.room + w.room; senders = v.senders ++ w.senders }
 
 -- the view of a ticket that was taken in
-abbrev pub nobody : View
+abbrev pub nobody : TicketView
 nobody = record { gets = false; made = 0; places = 0; got = []; clocks = []; room = 0; senders = [] }
 
 -- the offers of a list of claims: an end mark makes none
@@ -112,7 +113,7 @@ abbrev pub left_of : ℕ → List ℕ → Bool → ℕ
 left_of quota put closed = (quota - length put) + (if closed then 0 else 1)
 
 -- the view is the inlet's, between two calls
-abbrev pub Receives : View → ℕ → ℕ → List Entry → Type 0
+abbrev pub Receives : TicketView → ℕ → ℕ → List Entry → Type 0
 Receives v places made got = (v.gets ≡ true) × (v.made ≡ made) × (v.got ≡ got) × (v.senders ≡ []) × (length v.clocks ≡ length got) × (v.places ≡ places)
 
 -- the claims of the first sender: of an outlet's view its own
@@ -126,16 +127,16 @@ IsProper c = is_message c.entry ≡ true → (0 < c.offer) × (c.offer ≤ c.clo
 
 -- what an end holds of the rule
 abbrev pub Ticket : Type 0
-Ticket = Seat (Unit {0}) View
+Ticket = Seat (Unit {0}) TicketView
 
 -- what the ticket knows
-abbrev pub knows : Ticket → View
+abbrev pub knows : Ticket → TicketView
 knows t = t.me.0
 
 -- the ticket is of this row, whose key is the number of its places
-abbrev pub IsTicketOf : {P A : Type 0} → Table (Unit {0}) View ℕ P A → Ticket → Type 0
+abbrev pub IsTicketOf : {P A : Type 0} → Table (Unit {0}) TicketView ℕ P A → Ticket → Type 0
 IsTicketOf row t = (t.table_id ≡ row.shared.table_id) × (t.me.1 ≡ []) × (row.shared.table_id.words ≡ row.shared.key + row.shared.key + 2) × (row.shared.key ≤ most_places)
 
 -- the queue of a row
-abbrev pub queue_id : {P A : Type 0} → Table (Unit {0}) View ℕ P A → QueueId
+abbrev pub queue_id : {P A : Type 0} → Table (Unit {0}) TicketView ℕ P A → QueueId
 queue_id row = record { table = row.shared.table_id }

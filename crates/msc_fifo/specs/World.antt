@@ -9,11 +9,6 @@ use Rattle.msc_fifo.specs.declared.claim.Claim.{Claim}
 use Rattle.msc_fifo.specs.Claims.{is_message}
 use Rattle.msc_fifo.specs.Entries.{sender_of}
 
--- all members of a list, one by one
-abbrev pub Each : {A : Type 0} → (A → Type 0) → List A → Type 0
-Each P [] = Unit {0}
-Each P (x ∷ xs) = P x × Each P xs
-
 -- what was claimed at a place: the entry, and the offer that was made for it, 0 for an end mark
 pub record Slot : Type 0 where
   pub entry : Entry
@@ -49,14 +44,18 @@ own i k (x ∷ xs) = if sender_of x.entry == i then (spot k x ∷ own i (k + 1) 
 abbrev pub most_places : ℕ
 most_places = QUOTA_LIMIT + SENDER_LIMIT
 
+-- messages have numbers below this: they have 32 bits
+abbrev pub message_numbers : ℕ
+message_numbers = 4294967296
+
 -- the word of an entry
 abbrev pub code : Entry → ℕ
-code (Message i m) = 1 + 2 * (i * 4294967296 + m)
+code (Message i m) = 1 + 2 * (i * message_numbers + m)
 code (Ended i) = 2 * (i + 1)
 
 -- the entry of a sender within the limit, with a message of 32 bits
 abbrev pub IsSmall : Entry → Type 0
-IsSmall (Message i m) = (i < SENDER_LIMIT) × (m < 4294967296)
+IsSmall (Message i m) = (i < SENDER_LIMIT) × (m < message_numbers)
 IsSmall (Ended i) = i < SENDER_LIMIT
 
 -- All that the rule speaks of: the inlet's seat, the senders that were made with their seats and all

@@ -13,7 +13,7 @@ pub enum QueueFault {
     #[error("a queue has too many senders or messages")]
     TooLarge,
     /// A growth of memory was refused.
-    #[error("out of memory")]
+    #[error("memory fault")]
     Memory,
 }
 

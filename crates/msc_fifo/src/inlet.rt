@@ -14,8 +14,8 @@ ghost use Rattle.msc_fifo.specs.Views.{receives, IsTicketOf, knows};
 use crate::accounts::{Account, Room, Settled};
 use crate::entry::{Entry, Taken};
 use crate::outlet::Outlet;
-use crate::parts::{Part, gather};
-use crate::places::{Place, read_all};
+use crate::parts::{Part, gather_parts};
+use crate::places::{Place, read_places};
 use crate::rule::{Shelf, Ticket};
 use crate::steps::{count, learn, look};
 use std::marker::Model;
@@ -109,9 +109,9 @@ impl Inlet {
             got,
             ..
         } = self;
-        gather(&row, &mut ticket, outlets, rooms, &mut parts);
+        gather_parts(&row, &mut ticket, outlets, rooms, &mut parts);
         let claimed = count(&row, &mut ticket);
-        let places = read_all(&row, &mut ticket, claimed, places);
+        let places = read_places(&row, &mut ticket, claimed, places);
         while let Some(part) = parts.pop() {
             let Part {
                 sender,

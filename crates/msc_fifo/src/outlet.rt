@@ -9,7 +9,8 @@ ghost use Rattle.std.specs.Prelude.{Err, OnOk, OnErr, IfOk, IsOk, IsTrue, vec_ca
 ghost use Rattle.std.specs.Arc.{arc_value};
 ghost use Rattle.msc_fifo.specs.declared.entry.Entry.TheVariants as entry;
 ghost use Rattle.msc_fifo.specs.Claims.{claim};
-ghost use Rattle.msc_fifo.specs.Ends.{new_outlet, HasRoom, IsSameOutlet, IsSpent};
+ghost use Rattle.msc_fifo.specs.Ends.{greatest_clock, new_outlet, HasRoom, IsSameOutlet, IsSpent};
+ghost use Rattle.msc_fifo.specs.Ends.{IsSpentClock};
 ghost use Rattle.msc_fifo.specs.Views.{outlet_view, new_sender, IsTicketOf, knows};
 ghost use Rattle.msc_fifo.specs.Settling.{HandsOver};
 ghost use Rattle.msc_fifo.specs.Parts.{IsPartOf};
@@ -50,7 +51,7 @@ pub struct Outlet {
 impl Model for Outlet {
     ghost use Rattle.std.specs.Prelude.{◌≡◌, ◌<◌, ◌≤◌, vec_len, vec_capacity};
     ghost use Rattle.std.specs.Arc.{arc_value};
-    ghost use Rattle.msc_fifo.specs.World.{Each};
+    ghost use Rattle.msc_fifo.specs.Lists.{Each};
     ghost use Rattle.msc_fifo.specs.declared.TheConstants.{SENDER_LIMIT};
     ghost use Rattle.msc_fifo.specs.Views.{claims_in, outlet_view, resting, IsProper, IsTicketOf};
     ghost use Rattle.msc_fifo.specs.Views.{knows, left_of};
@@ -139,13 +140,13 @@ impl Outlet {
     /// back and changes nothing. It takes no memory.
     pub fn send(&mut self, m: u32, clock: u64) -> Result<Sent, SendFault>
         ensures accepted { IsOk result → HasRoom self.old }
-        ensures going { IsOk result → clock < 18446744073709551615 }
-        ensures room { HasRoom self.old → clock < 18446744073709551615 → IsOk result }
+        ensures going { IsOk result → clock < greatest_clock }
+        ensures room { HasRoom self.old → clock < greatest_clock → IsOk result }
         // A closed outlet is reported as such, even where its quota or the clock is spent.
         ensures closed { (result ≡ Err (SendFault.Closed m)) ↔ IsTrue self.old.closed }
         ensures full { (result ≡ Err (SendFault.Full m)) ↔ IsSpent self.old }
         ensures spent { (result ≡ Err (SendFault.ClockSpent m))
-            ↔ (HasRoom self.old × (clock ≡ 18446744073709551615)) }
+            ↔ (HasRoom self.old × IsSpentClock clock) }
         ensures put { OnOk result (self.new.put ≡ self.old.put ++ m ∷ []) }
         ensures claims { IfOk result (λ s. self.new.claims ≡ self.old.claims
             ++ claim s.place (entry.Message self.old.sender m) (clock + 1) s.clock ∷ []) }

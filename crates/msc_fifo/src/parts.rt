@@ -20,7 +20,7 @@ pub(crate) struct Part {
 
 /// Takes in the outlets' tickets from the last to the first, and keeps the rest of the outlets in
 /// their order.
-pub(crate) fn gather(
+pub(crate) fn gather_parts(
     row: &Row,
     ticket: &mut Ticket,
     mut outlets: Vec<Outlet>,
@@ -43,7 +43,7 @@ pub(crate) fn gather(
 {
     if let Some(outlet) = outlets.pop() {
         let room = rooms.pop().unwrap();
-        gather(row, ticket, outlets, rooms, parts);
+        gather_parts(row, ticket, outlets, rooms, parts);
         parts.push_reserved(outlet.part(row, ticket, room));
     }
 }

@@ -3,7 +3,7 @@
 ghost use Rattle.std.specs.Prelude.{◌≡◌, ◌≤◌, [], Some, true, vec_len, vec_capacity};
 ghost use Rattle.msc_fifo.specs.Entries.{sender_of};
 ghost use Rattle.msc_fifo.specs.Settlement.{message_of};
-ghost use Rattle.msc_fifo.specs.Settling.{Shows};
+ghost use Rattle.msc_fifo.specs.Settling.{AreShownIn};
 ghost use Rattle.msc_fifo.specs.Views.{IsTicketOf, knows};
 
 use crate::entry::Entry;
@@ -48,7 +48,7 @@ impl Place {
 }
 
 /// The places that were claimed, in the room that was made for them.
-pub(crate) fn read_all(
+pub(crate) fn read_places(
     row: &Row,
     ticket: &mut Ticket,
     claimed: u64,
@@ -60,7 +60,7 @@ pub(crate) fn read_all(
     requires empty { places.items ≡ [] }
     requires room { claimed ≤ vec_capacity places }
     ensures count { vec_len result ≡ claimed }
-    ensures places { Shows (knows ticket.old).senders result.items }
+    ensures places { AreShownIn (knows ticket.old).senders result.items }
 {
     for k in 0..claimed as usize {
         places.push_reserved(read(row, ticket, k));

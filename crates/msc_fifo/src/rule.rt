@@ -41,7 +41,7 @@ pub struct Sender {
 }
 
 /// What a ticket knows. No value of it is made: it is seen by the rule alone.
-pub struct View {
+pub struct TicketView {
     /// Whether it is the inlet's.
     pub gets: bool,
     /// The inlet: how many senders it has made.
@@ -61,7 +61,7 @@ pub struct View {
 /// The rule of the row, for so many places.
 pub struct InOrder;
 
-impl TableRule<(), View, usize> for InOrder {
+impl TableRule<(), TicketView, usize> for InOrder {
     ghost use Rattle.std.specs.Prelude.{[]};
     ghost use Rattle.msc_fifo.specs.Views.{Kept, receives};
 
@@ -95,7 +95,7 @@ impl Due for Brand {
 /// An outlet raises the clock word to its offer.
 pub struct Offers;
 
-impl Play<(), View> for Offers {
+impl Play<(), TicketView> for Offers {
     ghost use Rattle.msc_fifo.specs.Moves.{OffersIt};
 
     ghost then = { OffersIt };
@@ -106,7 +106,7 @@ pub struct Claims<W> {
     said: PhantomData<W>,
 }
 
-impl<W: Said> Play<(), View> for Claims<W> {
+impl<W: Said> Play<(), TicketView> for Claims<W> {
     ghost use Rattle.msc_fifo.specs.Moves.{ClaimsIt};
 
     ghost then = { ClaimsIt W.item };
@@ -115,7 +115,7 @@ impl<W: Said> Play<(), View> for Claims<W> {
 /// An outlet reads the clock word for the place that it claimed.
 pub struct Dates;
 
-impl Play<(), View> for Dates {
+impl Play<(), TicketView> for Dates {
     ghost use Rattle.msc_fifo.specs.Moves.{DatesIt};
 
     ghost then = { DatesIt };
@@ -124,7 +124,7 @@ impl Play<(), View> for Dates {
 /// An outlet stores the clock of its place.
 pub struct Shows;
 
-impl Play<(), View> for Shows {
+impl Play<(), TicketView> for Shows {
     ghost use Rattle.msc_fifo.specs.Moves.{ShowsIt};
 
     ghost then = { ShowsIt };
@@ -133,7 +133,7 @@ impl Play<(), View> for Shows {
 /// An outlet stores the entry of its place.
 pub struct Stores;
 
-impl Play<(), View> for Stores {
+impl Play<(), TicketView> for Stores {
     ghost use Rattle.msc_fifo.specs.Moves.{StoresIt};
 
     ghost then = { StoresIt };
@@ -142,7 +142,7 @@ impl Play<(), View> for Stores {
 /// The inlet reads the next place.
 pub struct Looks;
 
-impl Play<(), View> for Looks {
+impl Play<(), TicketView> for Looks {
     ghost use Rattle.msc_fifo.specs.Moves.{LooksAt};
 
     ghost then = { LooksAt };
@@ -151,7 +151,7 @@ impl Play<(), View> for Looks {
 /// The inlet reads the clock of the place whose message it took.
 pub struct Learns;
 
-impl Play<(), View> for Learns {
+impl Play<(), TicketView> for Learns {
     ghost use Rattle.msc_fifo.specs.Moves.{LearnsIt};
 
     ghost then = { LearnsIt };
@@ -160,7 +160,7 @@ impl Play<(), View> for Learns {
 /// The inlet reads the entry of a place, once it has taken in the outlets' tickets.
 pub struct ReadsEntry;
 
-impl Play<(), View> for ReadsEntry {
+impl Play<(), TicketView> for ReadsEntry {
     ghost use Rattle.msc_fifo.specs.Moves.{ReadsItsEntry};
 
     ghost then = { ReadsItsEntry };
@@ -169,7 +169,7 @@ impl Play<(), View> for ReadsEntry {
 /// The inlet reads the clock of a place, once it has taken in the outlets' tickets.
 pub struct ReadsClock;
 
-impl Play<(), View> for ReadsClock {
+impl Play<(), TicketView> for ReadsClock {
     ghost use Rattle.msc_fifo.specs.Moves.{ReadsItsClock};
 
     ghost then = { ReadsItsClock };
@@ -178,7 +178,7 @@ impl Play<(), View> for ReadsClock {
 /// The inlet reads the claim word, once it has taken in the outlets' tickets.
 pub struct Settles;
 
-impl Play<(), View> for Settles {
+impl Play<(), TicketView> for Settles {
     ghost use Rattle.msc_fifo.specs.Moves.{SettlesIt};
 
     ghost then = { SettlesIt };
@@ -189,7 +189,7 @@ pub struct NextSender<D> {
     due: PhantomData<D>,
 }
 
-impl<D: Due> Split<View> for NextSender<D> {
+impl<D: Due> Split<TicketView> for NextSender<D> {
     ghost use Rattle.std.specs.Prelude.{◌+◌, ◌-◌};
     ghost use Rattle.msc_fifo.specs.Views.{outlet_view, new_sender, receives};
 
@@ -201,7 +201,7 @@ impl<D: Due> Split<View> for NextSender<D> {
 /// The inlet takes in what an outlet knows.
 pub struct TakesIn;
 
-impl Join<View> for TakesIn {
+impl Join<TicketView> for TakesIn {
     ghost use Rattle.msc_fifo.specs.Views.{beside, nobody};
 
     ghost both = { beside };
@@ -210,10 +210,10 @@ impl Join<View> for TakesIn {
 }
 
 /// What an end of a queue holds of the rule.
-pub type Ticket = Seat<(), View>;
+pub type Ticket = Seat<(), TicketView>;
 
 /// The words of a queue.
-pub type Row = Table<(), View, usize, InOrder, Global>;
+pub type Row = Table<(), TicketView, usize, InOrder, Global>;
 
 /// The words, as each end holds them.
 pub type Shelf = Arc<Row, Global>;

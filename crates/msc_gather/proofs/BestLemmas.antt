@@ -1,9 +1,9 @@
 -- The least of the events that may follow, line by line.
-use Rattle.std.proofs.Common.{◌≡◌, ℕ, ◌+◌, ◌<◌, ◌≤◌, inl, inr, List, Option, Some, None, IfSome, IfNone, min, refl, sym, subst, arith}
+use Rattle.std.proofs.Common.{◌≡◌, ℕ, ◌+◌, ◌≤◌, inl, inr, List, Option, Some, None, IfSome, min, refl, sym, subst, arith}
 use Rattle.std.proofs.lemmas.Bool.{cases_lt}
 use Rattle.msc_chart.specs.Charts.{line}
 use Rattle.msc_chart.specs.Orders.{WiredChart}
-use Rattle.msc_gather.specs.Schedule.{IsSeated, MayFollow, FollowsLeast}
+use Rattle.msc_gather.specs.Schedule.{MayFollow}
 use Rattle.msc_gather.specs.Merges.{MayFollowOn, IsBest}
 
 -- of no line there is none
@@ -67,24 +67,3 @@ best_more chart logs past n (Some z) (Some y) next b some least none other both 
             least x (may, on) in let same : y ≡ x = cc in omega arith
       ];
     })
-
--- of all lines it is the least of all
-pub best_some : (chart : WiredChart) (logs : List (List ℕ)) (past : List ℕ) (n m : ℕ)
-    (best : Option ℕ) → m ≤ n → IsSeated chart m → IsBest chart logs past n best
-    → IfSome best (λ x. FollowsLeast chart logs past x)
-best_some chart logs past n m None enough seated b = tt
-best_some chart logs past n m (Some x) enough seated b = record {
-  itself = b.itself x refl;
-  none_below = λ y lt may.
-      let on : line chart.events y < m = seated.on_lines y may.event in
-      let up : x ≤ y = b.least y may (omega arith) in omega arith;
-}
-
--- and where there is none, none may follow
-pub best_none : (chart : WiredChart) (logs : List (List ℕ)) (past : List ℕ) (n m : ℕ)
-    (best : Option ℕ) → m ≤ n → IsSeated chart m → IsBest chart logs past n best
-    → IfNone best ((x : ℕ) → MayFollow chart logs past x → ⊥)
-best_none chart logs past n m None enough seated b = λ x may.
-    let on : line chart.events x < m = seated.on_lines x may.event in
-    b.least x may (omega arith)
-best_none chart logs past n m (Some y) enough seated b = tt

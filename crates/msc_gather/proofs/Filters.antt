@@ -1,10 +1,10 @@
 -- The filters of a list of events.
 use Rattle.std.proofs.Common.{◌≡◌, ℕ, Bool, true, false, cond, ◌||◌, inl, inr, eqb, List, [], ◌∷◌, ◌++◌, filter, refl, sym, ap, subst, ◌∙◌}
-use Rattle.std.proofs.lemmas.Bool.{eqb-true, or_cases, cases_eq}
+use Rattle.std.proofs.lemmas.Bool.{eqb-true, cases_eq}
 use Rattle.std.proofs.lemmas.List.{append-nil}
 use Rattle.std.proofs.lemmas.List.Elements.{filter-append}
 use Rattle.msc_chart.specs.Lists.{occurs, until, Steps, IsFirst}
-use Rattle.msc_chart.proofs.ListLemmas.{clash, by_test}
+use Rattle.msc_chart.proofs.ListLemmas.{clash, by_test, filter-passes}
 use Rattle.msc_gather.proofs.Once.{until_passes, until_deeper, ne_occurs, occurs-cases}
 
 -- what passes occurs in the filter where it occurs in the list
@@ -20,21 +20,6 @@ occurs-filter p (x ∷ xs) e h =
           (λ same. clash (rw (eqb-true x e same) h) fails)
           (λ other. rw other (occurs-filter p xs e h))
     ]) refl
-
--- what occurs in a filter passes
-pub filter-passes : (p : ℕ → Bool) (xs : List ℕ) (e : ℕ) → occurs (filter p xs) e ≡ true
-    → p e ≡ true
-unfolding occurs
-filter-passes p [] e h = clash h refl
-filter-passes p (x ∷ xs) e h =
-    (elim (p x) as (λ b. p x ≡ b → occurs (cond b (x ∷ filter p xs) (filter p xs)) e ≡ true
-    → p e ≡ true) [
-      | true ↦ λ passes k. elim (or_cases (eqb x e) (occurs (filter p xs) e) k) [
-        | inl same ↦ subst (λ (z : ℕ). p z ≡ true) (eqb-true x e same) passes
-        | inr later ↦ filter-passes p xs e later
-      ]
-      | false ↦ λ fails k. filter-passes p xs e k
-    ]) refl h
 
 -- what stands in a filter before something that passes is what stands before it and passes
 pub until-filter : (p : ℕ → Bool) (xs : List ℕ) (e : ℕ) → p e ≡ true

@@ -4,7 +4,7 @@ use Rattle.std.proofs.lemmas.Bool.{eqb-true, or_cases, or_left, or_right, cases_
 use Rattle.msc_chart.specs.Orders.{WiredChart}
 use Rattle.msc_chart.specs.Charts.{line}
 use Rattle.msc_chart.specs.Lists.{Steps, occurs, until}
-use Rattle.msc_chart.proofs.ListLemmas.{clash, step_at, until-within, occurs-left, occurs-push, occurs-head, occurs-tail}
+use Rattle.msc_chart.proofs.ListLemmas.{clash, step_at, until-within, occurs-left, occurs-push, occurs_at}
 use Rattle.msc_gather.specs.Schedule.{log_of, AreLogs, goes_first, crosses, MayFollow}
 use Rattle.msc_gather.specs.Heads.{IsLink, IsLinkBehind, IsLogFront}
 use Rattle.msc_gather.proofs.Once.{IsNew, until-head, until_passes, until_deeper}
@@ -87,12 +87,6 @@ before_at past (x ∷ xs) (suc k) (suc j) once below less =
     (fresh_at (past ++ x ∷ []) xs k once.1 (omega arith))))
     (before_at (past ++ x ∷ []) xs k j once.1 (omega arith) (omega arith))
 
--- what stands at a place of a list is in the list
-pub item_there : (xs : List ℕ) (i : ℕ) → i < length xs → occurs xs (get_or xs i 0) ≡ true
-item_there [] i h = let f : ⊥ = omega arith in absurd f
-item_there (x ∷ xs) zero h = occurs-head x xs
-item_there (x ∷ xs) (suc i) h = occurs-tail x xs (get_or xs i 0) (item_there xs i (omega arith))
-
 -- what stands before another event is the head, or stands before it behind the head
 until_inner : (z : ℕ) (zs : List ℕ) (x y : ℕ) → occurs (until (z ∷ zs) x) y ≡ true
     → (eqb z y || occurs (until zs x) y) ≡ true
@@ -156,7 +150,7 @@ module _ (chart : WiredChart) (instances : ℕ) (logs : List (List ℕ))
   head_follows i k link seat front below is_link =
       let log : List ℕ = get_or logs i [] in
       let x : ℕ = get_or log k 0 in
-      let there = item_there log k below in
+      let there = occurs_at log k below in
       let known = sound.lines.known i x seat there in
       let log_same : log_of chart logs x ≡ log = ap (λ (j : ℕ). get_or logs j []) known.1 in (
         λ done. record {

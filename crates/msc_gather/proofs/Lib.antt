@@ -6,7 +6,7 @@ pub mod Gathers
 pub mod HeadLemmas
 pub mod Wholes
 pub mod MarkLemmas
-pub mod Apart
+pub mod Distinct
 pub mod TakenLemmas
 pub mod LinkLemmas
 pub mod Tables

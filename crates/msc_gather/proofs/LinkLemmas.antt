@@ -17,7 +17,7 @@ use Rattle.msc_chart.proofs.KindTests.{output_below, input_below}
 use Rattle.msc_gather.proofs.Once.{until-until, until-append-new}
 use Rattle.msc_gather.proofs.ComesFirst.{crosses_sent, crosses_queued, crosses_cases}
 use Rattle.msc_gather.proofs.Filters.{until-filter}
-use Rattle.msc_gather.proofs.Apart.{apart_of_once, once_of_apart, Apart-concat, of_concat, in_concat}
+use Rattle.msc_gather.proofs.Distinct.{distinct_of_once, once_of_distinct, IsDistinct-concat, of_concat, in_concat}
 use Rattle.msc_gather.proofs.TakenLemmas.{taken_filtered}
 
 -- a list of which all pass is its filter
@@ -94,9 +94,9 @@ module _ {chart : WiredChart} {n : ℕ} {logs : List (List ℕ)} (sound : AreLog
   unfolding occurs
   joined_once =
       let many = sound.lines.as_many in
-      once_of_apart [] (concat logs)
-      (Apart-concat logs (λ i below.
-      (apart_of_once [] (get_or logs i []) (sound.lines.once i (omega arith))).0)
+      once_of_distinct [] (concat logs)
+      (IsDistinct-concat logs (λ i below.
+      (distinct_of_once [] (get_or logs i []) (sound.lines.once i (omega arith))).0)
       (λ i j e bi bj hi hj. sym (sound.lines.known i e (omega arith) hi).1
       ∙ (sound.lines.known j e (omega arith) hj).1))
       (λ e h. refl)

@@ -1,16 +1,16 @@
 -- The marks of logged events, and what they tell of logs.
-use Rattle.std.proofs.Common.{◌≡◌, ℕ, zero, suc, ◌+◌, ◌<◌, ◌≤◌, Bool, true, false, ◌||◌, inl, inr, List, [], ◌∷◌, ◌++◌, length, get_or, take, set, replicate, refl, sym, ap, subst, ◌∙◌, arith}
+use Rattle.std.proofs.Common.{◌≡◌, ℕ, zero, suc, ◌+◌, ◌<◌, Bool, true, false, ◌||◌, inl, inr, List, [], ◌∷◌, ◌++◌, length, get_or, take, set, refl, sym, ap, subst, ◌∙◌, arith}
 use Rattle.std.proofs.Math.Bool.{or-false}
 use Rattle.std.proofs.lemmas.Bool.{cases_lt, cases_eq, false_from_ne_true}
-use Rattle.std.proofs.lemmas.List.{take_more, take_all, length-set, get_or-set_same, get_or-set_other, length-replicate, get_or-replicate}
+use Rattle.std.proofs.lemmas.List.{take_more, length-set, get_or-set_same, get_or-set_other}
 use Rattle.msc_chart.specs.Charts.{line, partner, is_controlled, before, IsInTextOrder}
 use Rattle.msc_chart.specs.Lists.{Steps, occurs, until, IsOnce}
 use Rattle.msc_chart.specs.Orders.{WiredChart}
-use Rattle.msc_chart.proofs.ListLemmas.{clash, occurs-push, occurs_other, step_at, Steps-map, Steps-push, Steps-parts}
+use Rattle.msc_chart.proofs.ListLemmas.{clash, occurs-push, occurs_other, step_at, Steps-map, Steps-push, Steps-parts, until-self}
 use Rattle.msc_chart.proofs.Drawn.{before_from, before_parts}
 use Rattle.msc_gather.specs.Schedule.{log_of, AreLogs, IsSeated}
 use Rattle.msc_gather.specs.Marks.{MayComeOnLine, IsLineLog, AreLineLogs, is_marked, MayBeMarked, IsFirstOpen, AreMarkedBeside, IsLineFrom, IsUnmarked, AreMarkedTo, AreMarks, HasOutput}
-use Rattle.msc_gather.proofs.Once.{IsNew, until-self, steps_from}
+use Rattle.msc_gather.proofs.Once.{IsNew, steps_from}
 
 -- where the first event of a line that is not marked is not drawn before e, all that is drawn before e
 -- is marked: along a line segments do not fall
@@ -163,26 +163,6 @@ module _ {chart : WiredChart} {i start : ℕ} {log : List ℕ} {old now : List B
         };
       }
 
--- after all events the log is one of its line
-pub marking_ends : {chart : WiredChart} {i start : ℕ} {log : List ℕ} {old now : List Bool}
-    {k front : ℕ}
-    → length log ≤ k → IsMarking chart i start log old now k front
-    → IsLineLog chart i log × AreMarkedBeside old now log
-marking_ends {chart} {i} {start} {log} {old} {now} {k} {front} enough m =
-    subst (λ (l : List ℕ). IsLineLog chart i l × AreMarkedBeside old now l) (take_all k log enough)
-    (m.steps, m.marked)
-
--- before any log nothing is marked
-pub marks_begin : (chart : WiredChart) (logs : List (List ℕ)) (marks : List Bool)
-    → marks ≡ replicate (length chart.events) false → AreMarkedTo chart logs 0 marks
-marks_begin chart logs marks fresh = record {
-  long = ap (λ (l : List Bool). length l) fresh ∙ length-replicate (length chart.events) false;
-  done = λ e below early. absurd (omega arith);
-  later = λ i late e below here.
-      ap (λ (l : List Bool). get_or l e false) fresh
-      ∙ get_or-replicate (length chart.events) e false false below;
-}
-
 -- what is in a log of a line is on the line
 line_log_known : (chart : WiredChart) (i : ℕ) (log : List ℕ) (e : ℕ) → IsLineLog chart i log
     → occurs log e ≡ true → line chart.events e ≡ i
@@ -217,14 +197,6 @@ marks_more {chart} {logs} {n} {old} {new} m steps beside =
           told ∙ ap (λ b. is_marked old e || b) (away e other) ∙ or-false (is_marked old e)
           ∙ m.later i (omega (arith, late)) e below here;
     }
-
--- after all logs the logged events are marked
-pub marks_end : {chart : WiredChart} {logs : List (List ℕ)} {lines n : ℕ} {marks : List Bool}
-    → IsSeated chart lines → lines ≤ n → AreMarkedTo chart logs n marks → AreMarks chart logs marks
-marks_end seated enough m = record {
-  long = m.long;
-  told = λ e below. m.done e below (omega (arith, seated.on_lines e below, enough));
-}
 
 -- logs of the lines, of which each input has its output, are logs of the chart
 pub logs_from : {chart : WiredChart} {n : ℕ} {logs : List (List ℕ)} {marks : List Bool}
@@ -264,14 +236,6 @@ line_logs_of {chart} {n} {logs} sound i below =
           ap (λ l. occurs (until l e) x) (sym same)
           ∙ sound.lines.drawn e x known.0 (ap (λ l. occurs l e) same ∙ there) controlled b;
     })
-
--- and each of their inputs has its output
-pub outputs_of : {chart : WiredChart} {n : ℕ} {logs : List (List ℕ)} {marks : List Bool}
-    → IsSeated chart n → AreLogs chart n logs → AreMarks chart logs marks
-    → (r : ℕ) → r < length chart.events → HasOutput chart marks r
-outputs_of {chart} {n} {logs} {marks} seated sound m r below marked i =
-    m.told (partner chart.events r) (seated.is_wired.matched.in_range r below)
-    ∙ sound.sent r below (sym (m.told r below) ∙ marked) i
 
 -- what stands at a place of a list that holds nothing twice is not among what stands before
 pub once_at : (xs : List ℕ) (k : ℕ) → IsOnce xs → k < length xs

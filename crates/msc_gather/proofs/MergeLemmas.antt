@@ -5,14 +5,14 @@ use Rattle.std.proofs.lemmas.List.{length-replicate, get_or-replicate, length-se
 use Rattle.msc_chart.specs.Charts.{line}
 use Rattle.msc_chart.specs.Lists.{Steps, occurs, until, IsOnce}
 use Rattle.msc_chart.specs.Orders.{WiredChart}
-use Rattle.msc_chart.proofs.ListLemmas.{by_test, clash, occurs-left, occurs-push, Steps-push}
+use Rattle.msc_chart.proofs.ListLemmas.{by_test, clash, occurs-left, occurs-push, Steps-push, occurs_at, until-self}
 use Rattle.msc_chart.proofs.Numbers.{count_below}
 use Rattle.msc_gather.specs.Schedule.{log_of, is_logged, AreLogs, IsSeated, FollowsLeast}
 use Rattle.msc_gather.specs.Heads.{IsLogFront}
 use Rattle.msc_gather.specs.Merges.{IsMerging}
 use Rattle.msc_chart.proofs.Left.{is_left, left_less}
-use Rattle.msc_gather.proofs.Once.{until-self, occurs-cases}
-use Rattle.msc_gather.proofs.HeadLemmas.{head_of_follower, item_there, before_at}
+use Rattle.msc_gather.proofs.Once.{occurs-cases}
+use Rattle.msc_gather.proofs.HeadLemmas.{head_of_follower, before_at}
 use Rattle.msc_gather.proofs.TakenLemmas.{single}
 use Rattle.msc_gather.proofs.ReadyLemmas.{schedule_steps}
 
@@ -126,7 +126,7 @@ module _ {chart : WiredChart} {n : ℕ} {logs : List (List ℕ)} {past heads : L
               (λ p inside is_x.
               let there : occurs (get_or logs j []) x ≡ true =
               subst (λ (w : ℕ). occurs (get_or logs j []) w ≡ true) (sym is_x)
-              (item_there (get_or logs j []) p inside) in
+              (occurs_at (get_or logs j []) p inside) in
               other (sym (sound.lines.known j x (omega arith) there).1)))
         ];
         long = length-set done x true ∙ m.long;

@@ -4,13 +4,13 @@ use Rattle.std.proofs.lemmas.List.{get_or_default}
 use Rattle.msc_chart.specs.Charts.{line}
 use Rattle.msc_chart.specs.Lists.{Steps, occurs}
 use Rattle.msc_chart.specs.Orders.{WiredChart}
-use Rattle.msc_chart.proofs.ListLemmas.{Steps-map}
+use Rattle.msc_chart.proofs.ListLemmas.{Steps-map, occurs_at}
 use Rattle.msc_gather.specs.Schedule.{log_of, AreLogs, MayFollow, FollowsLeast, crosses}
 use Rattle.msc_gather.specs.Heads.{IsLink, IsLinkBehind, IsLogFront}
 use Rattle.msc_gather.specs.Links.{AreLinks}
 use Rattle.msc_gather.specs.Merges.{IsMerging, MayFollowOn}
 use Rattle.msc_chart.proofs.KindTests.{output_below}
-use Rattle.msc_gather.proofs.HeadLemmas.{head_of_follower, head_follows, item_there}
+use Rattle.msc_gather.proofs.HeadLemmas.{head_of_follower, head_follows}
 use Rattle.msc_gather.proofs.ComesFirst.{crosses_cases}
 
 -- what crosses is an event
@@ -48,7 +48,7 @@ module _ {chart : WiredChart} {logs : List (List ℕ)} {links : List (Option ℕ
       × (line chart.events (get_or log k 0) ≡ i)
   head_known below =
       sound.lines.known i (get_or log k 0) seat
-      (ap (λ l. occurs l (get_or log k 0)) (sym log_is) ∙ item_there log k below)
+      (ap (λ l. occurs l (get_or log k 0)) (sym log_is) ∙ occurs_at log k below)
 
   -- it may follow exactly where its link is behind
   told_by_link : k < length log → IsLinkBehind past (get_or links (get_or log k 0) None)

@@ -5,13 +5,14 @@ use Rattle.msc_chart.specs.Orders.{WiredChart, queue}
 use Rattle.msc_chart.specs.Charts.{line, partner, is_output, is_input, before}
 use Rattle.msc_chart.specs.Runs.{Run, MayCome, is_waiting, state, on_line, HasLines}
 use Rattle.msc_chart.specs.Lists.{Steps, occurs, until, IsFirst}
-use Rattle.msc_chart.proofs.ListLemmas.{by_test, clash, step_at, until-within, first_occurs, before_first_fails, Steps-map, until-other}
+use Rattle.msc_chart.proofs.ListLemmas.{by_test, clash, step_at, until-within, first_occurs, before_first_fails, Steps-map, until-other, filter-passes, until-self}
 use Rattle.msc_chart.proofs.KindTests.{output_below}
 use Rattle.msc_chart.proofs.Waiting.{taken, waiting_from, waiting_parts}
 use Rattle.msc_chart.proofs.Drawn.{partner_of_output, partner_of_input}
 use Rattle.msc_gather.specs.Schedule.{log_of, is_logged, AreLogs, MayFollow, IsSchedule, IsSeated}
-use Rattle.msc_gather.proofs.Once.{IsNew, until-self, until-until, until-total, steps_from, Steps-map_with, Follows, same_list}
-use Rattle.msc_gather.proofs.Filters.{Steps-filter, occurs-filter, filter-passes, filter-within, until-filter, first_from}
+use Rattle.msc_gather.proofs.Once.{IsNew, until-until, until-total, steps_from, Steps-map_with, FollowsAsNew, same_list}
+use Rattle.msc_gather.proofs.Filters.{Steps-filter, occurs-filter, filter-within, until-filter, first_from}
+use Rattle.msc_gather.proofs.LinkLemmas.{on}
 use Rattle.msc_gather.proofs.ComesFirst.{first_in_log, first_sent, first_queued, first_cases}
 
 -- what is drawn before an event is on its line
@@ -19,10 +20,6 @@ same_line : (chart : WiredChart) (x y : ℕ) → before chart.events x y ≡ tru
     → line chart.events x ≡ line chart.events y
 unfolding before
 same_line chart x y h = eqb-true _ _ (and_parts _ _ (and_parts _ _ h).1).0
-
--- the test of a line
-abbrev on : WiredChart → ℕ → ℕ → Bool
-on chart i e = eqb (line chart.events e) i
 
 -- A run with these lines is a schedule of them.
 module _ {chart : WiredChart} {instances : ℕ} {logs : List (List ℕ)} {events : List ℕ}
@@ -230,7 +227,7 @@ module _ {chart : WiredChart} {instances : ℕ} {logs : List (List ℕ)}
         let p : ℕ → Bool = on chart i in
         let log : List ℕ = get_or logs i [] in
         same_list [] log (filter p events) (sound.lines.once i below)
-        (Steps-filter (MayFollow chart logs) (Follows log) p (λ past x passes may.
+        (Steps-filter (MayFollow chart logs) (FollowsAsNew log) p (λ past x passes may.
         let x_line : line chart.events x ≡ i = eqb-true _ _ passes in
         let log_same : log_of chart logs x ≡ log = ap (λ (z : ℕ). get_or logs z []) x_line in
         record {

@@ -3,7 +3,7 @@ use Rattle.std.specs.Prelude.{ℕ, Bool, List, Option, length, map}
 use Rattle.std.specs.Global.{Vec}
 use Rattle.msc_chart.specs.declared.wiring.Wiring.{Wiring}
 use Rattle.msc_chart.specs.Wirings.{wired_by}
-use Rattle.msc_gather.specs.declared.linking.Taken.{Taken}
+use Rattle.msc_gather.specs.declared.linking.TakenSoFar.{TakenSoFar}
 use Rattle.msc_gather.specs.declared.merging.Merge.{Merge}
 use Rattle.msc_gather.specs.Schedule.{AreLogs, MayFollow, FollowsLeast}
 use Rattle.msc_gather.specs.Marks.{AreLineLogs, AreMarks}
@@ -31,7 +31,7 @@ abbrev pub HasLinks : Wiring → List (Vec ℕ) → List (Option ℕ) → Type 0
 HasLinks w logs links = AreLinks (wired_by w) (log_lists logs) links
 
 -- what was taken from the queues in the list
-abbrev pub TookFrom : Wiring → List ℕ → Taken → Type 0
+abbrev pub TookFrom : Wiring → List ℕ → TakenSoFar → Type 0
 TookFrom w list t = HoldsTaken (wired_by w) list t.before.items t.last.items
 
 -- a part of the least run of the logs

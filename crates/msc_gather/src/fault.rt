@@ -13,7 +13,7 @@ pub enum GatherFault {
     #[error("no run has these logs")]
     NoMerge,
     /// A growth of memory was refused.
-    #[error("out of memory")]
+    #[error("memory fault")]
     Memory,
 }
 

@@ -30,17 +30,17 @@ fn joined(alloc: Global, logs: &[Vec<Event>]) -> Result<Vec<Event>, AllocError>
 /// What was taken from the queues: of each queue the last output, and for each output whose input
 /// was met the output that was taken from its queue before it.
 #[derive(Drop)]
-struct Taken {
+struct TakenSoFar {
     last: Vec<Option<Event>>,
     before: Vec<Option<Event>>,
 }
 
-impl Taken {
+impl TakenSoFar {
     /// Before any event.
-    fn start(alloc: Global, w: &Wiring) -> Result<Taken, AllocError>
+    fn start(alloc: Global, w: &Wiring) -> Result<TakenSoFar, AllocError>
         ensures { IfOk result (λ t. TookFrom w.now [] t) }
     {
-        Ok(Taken {
+        Ok(TakenSoFar {
             last: vec![in alloc; None; w.queue_count() as usize]?,
             before: vec![in alloc; None; w.chart.events() as usize]?,
         })
@@ -67,12 +67,12 @@ impl Taken {
     }
 
     /// What was taken after these events.
-    fn of(alloc: Global, w: &Wiring, events: &[Event]) -> Result<Taken, AllocError>
+    fn of(alloc: Global, w: &Wiring, events: &[Event]) -> Result<TakenSoFar, AllocError>
         requires known { (e : ℕ) → IsTrue (occurs events.now e) → e < size w.now }
         requires once { IsOnce events.now }
         ensures { IfOk result (λ t. TookFrom w.now events.now t) }
     {
-        let mut taken = Taken::start(alloc, w)?;
+        let mut taken = TakenSoFar::start(alloc, w)?;
         for r in events {
             taken.meet(w, *r);
         }
@@ -118,7 +118,7 @@ pub fn links_of(
     ensures { IfOk result (λ links. HasLinks w.now logs.now links.items) }
 {
     let events = joined(alloc, logs)?;
-    let taken = Taken::of(alloc, w, &events)?;
+    let taken = TakenSoFar::of(alloc, w, &events)?;
     let mut links = Vec::new(alloc);
     for x in 0..w.chart.events() {
         links.push(taken.link(w, marks, x))?;

@@ -14,12 +14,7 @@ use Rattle.msc_instance.specs.declared.threads.Gathered.{Gathered}
 use Rattle.msc_instance.specs.Threads.{AnswersRun, HasNotRun, HaveAnswered, HaveRun, HaveStopped, IsClosedJob, IsReady, IsRefused}
 use Rattle.msc_instance.proofs.Runs.{paired_more, paired_back}
 
--- beside nothing stands nothing
-none_beside : {A B : Type 0} (R : A → B → Type 0) (ys : List B) → AllZip R [] ys → ys ≡ []
-none_beside R [] h = refl
-none_beside R (y ∷ ys) h = absurd h
-
--- nor before it
+-- nothing stands before nothing
 none_before : {A B : Type 0} (R : A → B → Type 0) (xs : List A) → AllZip R xs [] → xs ≡ []
 none_before R [] h = refl
 none_before R (x ∷ xs) h = absurd h
@@ -78,18 +73,6 @@ if_err P Q (Ok x) f h = tt
 if_err P Q (Err e) f h = f e h
 
 module _ (d : Drawing) (open' : Bool) (patience : ℕ) where
-  -- no instance
-  pub none_answered : (jobs : List Job) (g : Gathered)
-      → jobs ≡ [] → g.answers.items ≡ [] → g.unstarted.items ≡ []
-      → HaveAnswered d open' patience jobs g
-  none_answered jobs g none answers unstarted = record {
-    others = [];
-    started = [];
-    whole = none;
-    answers = rw answers tt;
-    closed = rw unstarted tt;
-  }
-
   -- the first of them was refused, and so the others are closed
   pub stopped : (jobs rest : List Job) (j : Job) (answers : List Answer) (a : Answer) (g : Gathered)
       → jobs ≡ rest ++ j ∷ [] → answers ≡ [] → AnswersRun d open' patience j a

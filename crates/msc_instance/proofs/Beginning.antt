@@ -15,7 +15,7 @@ use Rattle.msc_instance.proofs.Growing.{clock_nil}
 use Rattle.msc_instance.proofs.Stepped as stepped
 use Rattle.msc_instance.proofs.Zipped.{zip_self}
 use Rattle.msc_instance.proofs.Logs.{none_below}
-use Rattle.msc_instance.proofs.Begun.{state}
+use Rattle.msc_instance.proofs.Begun.{state_with}
 
 -- the outlets are open, and nothing is put
 all_begun : (r : Role) (reading : Reading) (outs : List NumberedOutlet)
@@ -37,7 +37,7 @@ empty_log d i = record {
 
 -- an instance has begun with the ends that it begins with
 pub begun_first : (r : Role) (first : EndLists) → IsFit r first
-    → HasBegun r first (state false first.outlets first.inlets [] 0)
+    → HasBegun r first (state_with false first.outlets first.inlets [] 0)
 begun_first r first fit =
     let reading : Reading = record { read_at = λ e. 0; place_at = λ e. 0 } in
     record {

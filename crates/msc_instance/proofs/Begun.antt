@@ -5,7 +5,7 @@ use Rattle.std.proofs.lemmas.List.{append-nil}
 use Rattle.msc_chart.specs.Lists.{occurs}
 use Rattle.msc_chart.specs.Charts.{message, is_output, is_input, is_local}
 use Rattle.msc_chart.specs.Orders.{queue_of}
-use Rattle.msc_chart.proofs.ListLemmas.{clash}
+use Rattle.msc_chart.proofs.ListLemmas.{clash, IsDistinct}
 use Rattle.msc_chart.proofs.Drawn.{not_both, output_not_local, input_not_local}
 use Rattle.msc_fifo.specs.declared.entry.Taken.TheVariants as took
 use Rattle.msc_fifo.specs.declared.entry.Entry.TheVariants.{Message}
@@ -13,18 +13,17 @@ use Rattle.msc_fifo.specs.Claims.{claim}
 use Rattle.msc_execution.specs.Roles.{Role, EndLists, NumberedOutlet, NumberedInlet, IsFit}
 use Rattle.msc_execution.specs.Logs.{Reading, IsLogOf, clock_along}
 use Rattle.msc_execution.specs.Growth.{IsLeftBy, all_messages, clocks_at}
-use Rattle.msc_gather.proofs.Apart.{Apart}
 use Rattle.msc_execution.proofs.Lists.Words.{fails}
-use Rattle.msc_instance.specs.Steps.{State, IsPutBy, IsGotBy, ArePutBy, HasBegun, with_event}
+use Rattle.msc_instance.specs.Steps.{State, IsPutBy, IsGotBy, ArePutBy, HasBegun}
 use Rattle.msc_instance.specs.Active.{HasPut, HasGot}
-use Rattle.msc_instance.proofs.Growing.{clock_pushed}
+use Rattle.msc_instance.proofs.Growing.{clock_pushed, with_event}
 use Rattle.msc_instance.proofs.Stepped as stepped
 use Rattle.msc_instance.proofs.Zipped.{zip_map, zip_one, zip_set}
 use Rattle.msc_instance.proofs.Numbered.{outlet_number, inlet_number, sent_once, taken_once}
 
 -- an instance between two steps, by its parts
-abbrev pub state : Bool → List NumberedOutlet → List NumberedInlet → List ℕ → ℕ → State
-state shut outs ins log clock =
+abbrev pub state_with : Bool → List NumberedOutlet → List NumberedInlet → List ℕ → ℕ → State
+state_with shut outs ins log clock =
     record { shut = shut; ends = record { outlets = outs; inlets = ins }; log = log; clock = clock }
 
 -- events that are no outputs leave the outlets as they are
@@ -49,14 +48,14 @@ got_stays r log reading e k n olds news new none h =
     (λ x y own. stepped.stayed_in r log reading x y own e k n new (λ input _. clash input none)) h
 
 module _ {r : Role} {first : EndLists} {outs : List NumberedOutlet} {ins : List NumberedInlet} {log : List ℕ} {clock : ℕ}
-    (begun : HasBegun r first (state false outs ins log clock)) where
+    (begun : HasBegun r first (state_with false outs ins log clock)) where
   -- an output more
   pub begun_sent : (k now e : ℕ) (o new : NumberedOutlet)
       → IsFit r first → is_output r.chart.events e ≡ true → occurs log e ≡ false
       → IsLogOf r.chart r.number (log ++ e ∷ [])
       → k < length outs → queue_of r.queues r.chart (message r.chart.events e) ≡ (get_or outs k o).0
       → HasPut (message r.chart.events e) clock now (get_or outs k o) new
-      → HasBegun r first (state false (set outs k new) ins (log ++ e ∷ []) now)
+      → HasBegun r first (state_with false (set outs k new) ins (log ++ e ∷ []) now)
   begun_sent k now e o new fit output is_new is_log lt here put =
       let reading = begun.reading in
       let kept = begun.kept in
@@ -69,7 +68,7 @@ module _ {r : Role} {first : EndLists} {outs : List NumberedOutlet} {ins : List 
           log = is_log;
           put = zip_one (IsPutBy r log reading) (IsPutBy r (log ++ e ∷ []) after) outlet_number
               (get_or outs k o).0 first.outlets outs k o new lt
-              (subst Apart (sym fit.outlets) (sent_once r))
+              (subst IsDistinct (sym fit.outlets) (sent_once r))
               (λ x own. sym own.number)
               (λ x own. subst (λ (q : ℕ). IsPutBy r (log ++ e ∷ []) after x (q, new.1)) (sym put.number)
               (stepped.sent r log reading x (get_or outs k o) own e put.place now is_new output (here
@@ -89,11 +88,11 @@ module _ {r : Role} {first : EndLists} {outs : List NumberedOutlet} {ins : List 
       }
 
 module _ {r : Role} {first : EndLists} {shut : Bool} {outs : List NumberedOutlet} {ins : List NumberedInlet} {log : List ℕ}
-    {clock : ℕ} (begun : HasBegun r first (state shut outs ins log clock)) where
+    {clock : ℕ} (begun : HasBegun r first (state_with shut outs ins log clock)) where
   -- a local event more
   pub begun_acted : (e : ℕ)
       → is_local r.chart.events e ≡ true → occurs log e ≡ false → IsLogOf r.chart r.number (log ++ e ∷ [])
-      → HasBegun r first (state shut outs ins (log ++ e ∷ []) clock)
+      → HasBegun r first (state_with shut outs ins (log ++ e ∷ []) clock)
   begun_acted e local is_new is_log =
       let reading = begun.reading in
       let kept = begun.kept in
@@ -120,7 +119,7 @@ module _ {r : Role} {first : EndLists} {shut : Bool} {outs : List NumberedOutlet
       → IsLogOf r.chart r.number (log ++ e ∷ [])
       → k < length ins → queue_of r.queues r.chart (message r.chart.events e) ≡ (get_or ins k n).0
       → HasGot clock (took.Message i (message r.chart.events e) place now) (get_or ins k n) new
-      → HasBegun r first (state shut outs (set ins k new) (log ++ e ∷ []) now)
+      → HasBegun r first (state_with shut outs (set ins k new) (log ++ e ∷ []) now)
   begun_took k e i place now n new fit input is_new is_log lt here got =
       let reading = begun.reading in
       let kept = begun.kept in
@@ -136,7 +135,7 @@ module _ {r : Role} {first : EndLists} {shut : Bool} {outs : List NumberedOutlet
           put = put_stays r log reading e place read shut first.outlets outs is_new no_output kept.put;
           got = zip_one (IsGotBy r log reading) (IsGotBy r (log ++ e ∷ []) after) inlet_number
               (get_or ins k n).0 first.inlets ins k n new lt
-              (subst Apart (sym fit.inlets) (taken_once r))
+              (subst IsDistinct (sym fit.inlets) (taken_once r))
               (λ x own. sym own.number)
               (λ x own. subst (λ (q : ℕ). IsGotBy r (log ++ e ∷ []) after x (q, new.1)) (sym got.number)
               (stepped.took r log reading x (get_or ins k n) own got.even e place read i is_new input
@@ -154,7 +153,7 @@ module _ {r : Role} {first : EndLists} {shut : Bool} {outs : List NumberedOutlet
   -- an inlet that brought no message
   begun_kept : (k : ℕ) (n new : NumberedInlet) → k < length ins
       → ((x : NumberedInlet) → IsGotBy r log begun.reading x (get_or ins k n) → IsGotBy r log begun.reading x new)
-      → HasBegun r first (state shut outs (set ins k new) log clock)
+      → HasBegun r first (state_with shut outs (set ins k new) log clock)
   begun_kept k n new lt own =
       let kept = begun.kept in
       record {
@@ -170,7 +169,7 @@ module _ {r : Role} {first : EndLists} {shut : Bool} {outs : List NumberedOutlet
   -- an end mark more
   pub begun_ended : (k i : ℕ) (n new : NumberedInlet)
       → k < length ins → HasGot clock (took.Ended i) (get_or ins k n) new
-      → HasBegun r first (state shut outs (set ins k new) log clock)
+      → HasBegun r first (state_with shut outs (set ins k new) log clock)
   begun_ended k i n new lt got =
       let reading = begun.reading in
       begun_kept k n new lt
@@ -181,7 +180,7 @@ module _ {r : Role} {first : EndLists} {shut : Bool} {outs : List NumberedOutlet
   -- a take that found nothing
   pub begun_nothing : (k : ℕ) (n new : NumberedInlet)
       → k < length ins → HasGot clock took.Nothing (get_or ins k n) new
-      → HasBegun r first (state shut outs (set ins k new) log clock)
+      → HasBegun r first (state_with shut outs (set ins k new) log clock)
   begun_nothing k n new lt got =
       let same : new.1.got ≡ (get_or ins k n).1.got = got.got ∙ append-nil (get_or ins k n).1.got in
       begun_kept k n new lt

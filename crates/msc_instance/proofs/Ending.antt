@@ -4,7 +4,7 @@ use Rattle.std.specs.List.{sum_by}
 use Rattle.msc_chart.specs.Lists.{occurs}
 use Rattle.msc_chart.specs.Drawings.{Drawing}
 use Rattle.msc_chart.proofs.ListLemmas.{clash}
-use Rattle.msc_fifo.specs.Ends.{unended_in}
+use Rattle.msc_fifo.specs.Ends.{IsSpentClock, unended_in}
 use Rattle.msc_execution.specs.declared.end.End.TheVariants as end
 use Rattle.msc_execution.specs.Roles.{NumberedInlet}
 use Rattle.msc_execution.specs.Running.{IsHungry, AllHaveEnded}
@@ -50,7 +50,7 @@ module _ (d : Drawing) (post : Post) (a b c : Active) (patience empty : ℕ) (se
 
 module _ (d : Drawing) (p : Post) (a : Active) (s : IsSound d p a) (open' : Bool) (patience : ℕ) where
   -- the gate or the clock has stopped it
-  pub ends_stopped : (open' ≡ true → a.clock ≡ 18446744073709551615) → EndsSo d p open' patience a end.Stopped
+  pub ends_stopped : (open' ≡ true → IsSpentClock a.clock) → EndsSo d p open' patience a end.Stopped
   ends_stopped spent =
       comes s.begun open' patience end.Stopped
       (λ reading is. (λ q. refl, λ known. sym is ∙ spent known))

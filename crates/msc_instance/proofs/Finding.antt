@@ -32,12 +32,12 @@ sent_ascends r =
 
 module _ {X : Type 0} (num : X → ℕ) where
   -- a number that occurs has a place
-  pub place_of : (xs : List X) (q : ℕ) → occurs (map num xs) q ≡ true
+  pub place_with : (xs : List X) (q : ℕ) → occurs (map num xs) q ≡ true
       → (j : ℕ) × (j < length xs) × ((d : X) → num (get_or xs j d) ≡ q)
-  place_of [] q h = in_none q h
-  place_of (x ∷ xs) q h = elim (head_or_tail (num x) (map num xs) q h) [
+  place_with [] q h = in_none q h
+  place_with (x ∷ xs) q h = elim (head_or_tail (num x) (map num xs) q h) [
     | inl here ↦ (0, omega arith, λ d. here)
-    | inr later ↦ let r = place_of xs q later in (suc r.0, omega (arith, r.1), r.2)
+    | inr later ↦ let r = place_with xs q later in (suc r.0, omega (arith, r.1), r.2)
   ]
 
   -- the number at a place occurs
@@ -56,7 +56,7 @@ module _ {X : Type 0} (num : X → ℕ) where
   rises (x ∷ xs) (suc i) (suc j) d h less lt = rises xs i j d h.1 (omega arith) (omega arith)
 
   -- the number is at a place from low on, below high
-  pub record IsBetween (xs : List X) (q low high : ℕ) : Type 0 where
+  pub record IsInRange (xs : List X) (q low high : ℕ) : Type 0 where
     pub place : ℕ
     pub from : low ≤ place
     pub to : place < high
@@ -64,16 +64,16 @@ module _ {X : Type 0} (num : X → ℕ) where
     pub is : (d : X) → num (get_or xs place d) ≡ q
 
   -- a number that occurs is at a place from 0 on, below the length
-  pub between_all : (xs : List X) (q : ℕ) → occurs (map num xs) q ≡ true → IsBetween xs q 0 (length xs)
-  between_all xs q h =
-      let r = place_of xs q h in
+  pub in_range_all : (xs : List X) (q : ℕ) → occurs (map num xs) q ≡ true → IsInRange xs q 0 (length xs)
+  in_range_all xs q h =
+      let r = place_with xs q h in
       record { place = r.0; from = omega arith; to = r.1; within = omega arith; is = r.2 }
 
-  module _ (xs : List X) (q low middle high : ℕ) (d : X) (h : IsBetween xs q low high)
+  module _ (xs : List X) (q low middle high : ℕ) (d : X) (h : IsInRange xs q low high)
       (up : IsAscending (map num xs)) where
     -- it is in the upper half where the middle is not above it
-    pub between_up : middle < high → num (get_or xs middle d) ≤ q → IsBetween xs q middle high
-    between_up lt le = record {
+    pub in_range_up : middle < high → num (get_or xs middle d) ≤ q → IsInRange xs q middle high
+    in_range_up lt le = record {
       place = h.place;
       from = (elim (cases_lt h.place middle) [
         | inl low' ↦ let r = rises xs h.place middle d up low' (omega (arith, h.within)) in
@@ -86,8 +86,8 @@ module _ {X : Type 0} (num : X → ℕ) where
     }
 
     -- and in the lower half where the middle is above it
-    pub between_down : middle < high → q < num (get_or xs middle d) → IsBetween xs q low middle
-    between_down lt gt = record {
+    pub in_range_down : middle < high → q < num (get_or xs middle d) → IsInRange xs q low middle
+    in_range_down lt gt = record {
       place = h.place;
       from = h.from;
       to = (elim (cases_lt h.place middle) [

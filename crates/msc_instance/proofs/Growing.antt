@@ -18,7 +18,13 @@ use Rattle.msc_execution.specs.Logs.{Reading, clock_next, along_from, clock_alon
 use Rattle.msc_execution.specs.Growth.{clocks_at, claim_at}
 use Rattle.msc_execution.proofs.Lists.Words.{passes, fails}
 use Rattle.msc_execution.proofs.Wiring.Growing.{agree}
-use Rattle.msc_instance.specs.Steps.{with_event}
+
+-- the same reading, but that clock n and place k are read at event e
+abbrev pub with_event : ℕ → ℕ → ℕ → Reading → Reading
+with_event e k n r = record {
+  read_at = λ x. cond (nat_eq x e) n (r.read_at x);
+  place_at = λ x. cond (nat_eq x e) k (r.place_at x);
+}
 
 -- two functions of clocks that agree on a list give one clock along it
 pub one_clock : (d : Drawing) (f g : ℕ → ℕ) (c : ℕ) (log : List ℕ)

@@ -11,13 +11,13 @@ use Rattle.msc_execution.specs.Roles.{Role, EndLists, NumberedOutlet, NumberedIn
 use Rattle.msc_execution.specs.Logs.{Reading, clock_along}
 use Rattle.msc_execution.specs.Growth.{HasTaken, IsLeftBy, IsStrange}
 use Rattle.msc_execution.specs.Running.{EndsAs, HasRun}
-use Rattle.msc_gather.proofs.Apart.{Apart}
 use Rattle.msc_instance.specs.Steps.{IsPutBy, IsGotBy, ArePutBy, HasBegun}
 use Rattle.msc_instance.specs.Active.{HasGot, HasCome, IsClosedFrom}
 use Rattle.msc_instance.proofs.Stepped as stepped
 use Rattle.msc_instance.proofs.Zipped.{zip_map, zip_after, zip_one}
 use Rattle.msc_instance.proofs.Numbered.{inlet_number, taken_once, number_there}
-use Rattle.msc_instance.proofs.Begun.{state}
+use Rattle.msc_instance.proofs.Begun.{state_with}
+use Rattle.msc_chart.proofs.ListLemmas.{IsDistinct}
 
 -- how an instance ended does not depend on its outlets
 same_end : (r : Role) (open' : Bool) (patience : ℕ) (reading : Reading)
@@ -52,8 +52,8 @@ closes r log reading true first outs news closed h =
 
 -- all outlets are closed
 pub begun_closed : {r : Role} {first : EndLists} {outs : List NumberedOutlet} {ins : List NumberedInlet} {log : List ℕ} {clock : ℕ}
-    (begun : HasBegun r first (state false outs ins log clock)) (news : List NumberedOutlet)
-    → AllZip IsClosedFrom outs news → HasBegun r first (state true news ins log clock)
+    (begun : HasBegun r first (state_with false outs ins log clock)) (news : List NumberedOutlet)
+    → AllZip IsClosedFrom outs news → HasBegun r first (state_with true news ins log clock)
 begun_closed {r} {first} {outs} {ins} {log} {clock} begun news closed = record {
   reading = begun.reading;
   kept = record {
@@ -65,7 +65,7 @@ begun_closed {r} {first} {outs} {ins} {log} {clock} begun news closed = record {
 }
 
 module _ {r : Role} {first : EndLists} {shut : Bool} {outs : List NumberedOutlet} {ins : List NumberedInlet} {log : List ℕ}
-    {clock : ℕ} (begun : HasBegun r first (state shut outs ins log clock)) where
+    {clock : ℕ} (begun : HasBegun r first (state_with shut outs ins log clock)) where
   -- an instance that ends with nothing strange
   pub comes : (open' : Bool) (patience : ℕ) (end : End)
       → ((reading : Reading) → clock ≡ clock_along r.chart reading.read_at log
@@ -110,7 +110,7 @@ module _ {r : Role} {first : EndLists} {shut : Bool} {outs : List NumberedOutlet
         strange = strange;
         got = zip_one (IsGotBy r log reading) (HasTaken r log reading strange) inlet_number q
             first.inlets ins k n new lt
-            (subst Apart (sym fit.inlets) (taken_once r))
+            (subst IsDistinct (sym fit.inlets) (taken_once r))
             (λ x own. sym own.number)
             (λ x own. subst (λ (p : ℕ). HasTaken r log reading strange x (p, new.1)) (sym got.number)
             (stepped.done_strange r log reading x (get_or ins k n) own got.even strange i m
@@ -130,12 +130,12 @@ module _ {r : Role} {first : EndLists} {shut : Bool} {outs : List NumberedOutlet
 -- what an instance leaves once all outlets are closed
 pub leaves : (r : Role) (open' : Bool) (patience : ℕ) (first : EndLists) (shut : Bool)
     (outs news : List NumberedOutlet) (ins : List NumberedInlet) (log : List ℕ) (end : End)
-    → AllZip IsClosedFrom outs news
+    → AllZip IsClosedFrom outs news → (patience ≡ 0 → ins ≡ first.inlets)
     → HasCome r open' patience first shut
     (record { log = log; ends = record { outlets = outs; inlets = ins }; end = end })
     → HasRun r open' patience first
     (record { log = log; ends = record { outlets = news; inlets = ins }; end = end })
-leaves r open' patience first shut outs news ins log end closed come = record {
+leaves r open' patience first shut outs news ins log end closed untaken come = record {
   reading = come.reading;
   run = record {
     log = come.log;
@@ -143,5 +143,6 @@ leaves r open' patience first shut outs news ins log end closed come = record {
     strange = come.strange;
     got = come.got;
     ended = same_end r open' patience come.reading outs news ins log end come.strange end come.ended;
+    untaken = untaken;
   };
 }

@@ -6,12 +6,11 @@ use Rattle.msc_chart.specs.Lists.{occurs}
 use Rattle.msc_chart.specs.Charts.{message, is_output}
 use Rattle.msc_chart.specs.Drawings.{IsAccepted}
 use Rattle.msc_chart.specs.Orders.{queue_of, queue_bound}
-use Rattle.msc_chart.proofs.ListLemmas.{occurs-head, occurs-tail}
+use Rattle.msc_chart.proofs.ListLemmas.{occurs-head, occurs-tail, IsDistinct}
 use Rattle.msc_fifo.specs.Ends.{HasRoom}
 use Rattle.msc_execution.specs.Roles.{Role, EndLists, NumberedOutlet, NumberedInlet, IsFit, sent_queues, taken_queues, queues_below}
 use Rattle.msc_execution.specs.Logs.{Reading, IsLogOf, sent, outputs_at}
 use Rattle.msc_execution.specs.Fits.{LogsKeepQuotas}
-use Rattle.msc_gather.proofs.Apart.{Apart}
 use Rattle.msc_execution.proofs.Lists.Words.{once_filter, fails}
 use Rattle.msc_execution.proofs.Lists.Ranges.{in_range}
 use Rattle.msc_instance.specs.Steps.{IsPutBy, IsGotBy}
@@ -27,7 +26,7 @@ abbrev pub inlet_number : NumberedInlet → ℕ
 inlet_number n = n.0
 
 -- the numbers of queues below n ascend, so none stands twice
-range_once : (a n : ℕ) → Apart (range_with_len a n)
+range_once : (a n : ℕ) → IsDistinct (range_with_len a n)
 range_once a zero = tt
 range_once a (suc n) = (
   fails (occurs (range_with_len (a + 1) n) a) (λ there. let r = in_range (a + 1) n a there in
@@ -36,14 +35,14 @@ range_once a (suc n) = (
 )
 
 -- an instance sends to each of its queues by one outlet
-pub sent_once : (r : Role) → Apart (sent_queues r)
+pub sent_once : (r : Role) → IsDistinct (sent_queues r)
 unfolding sent_queues queues_below
 sent_once r = once_filter _ _
     (once_filter _ (range_with_len 0 (queue_bound r.queues r.chart))
     (range_once 0 (queue_bound r.queues r.chart)))
 
 -- and takes from each by one inlet
-pub taken_once : (r : Role) → Apart (taken_queues r)
+pub taken_once : (r : Role) → IsDistinct (taken_queues r)
 unfolding taken_queues queues_below
 taken_once r = once_filter _ _
     (once_filter _ (range_with_len 0 (queue_bound r.queues r.chart))

@@ -1,5 +1,5 @@
 -- The quotas of a queue, as a table counts them.
-use Rattle.std.proofs.Common.{◌≡◌, ℕ, zero, suc, ◌+◌, ◌*◌, ◌<◌, ◌≤◌, ◌&&◌, Bool, true, false, cond, List, [], ◌∷◌, length, get_or, filter, take, refl, sym, ap, ◌∙◌, arith, rules, nat_eq, nat_lt}
+use Rattle.std.proofs.Common.{◌≡◌, ℕ, zero, suc, ◌+◌, ◌*◌, ◌<◌, ◌≤◌, ◌&&◌, Bool, true, false, cond, List, [], ◌∷◌, length, get_or, filter, map, take, refl, sym, ap, ◌∙◌, arith, rules, nat_eq, nat_lt}
 use Rattle.std.specs.Prelude.{count_by, sum, slice_range}
 use Rattle.std.specs.List.{range_with_len, list_any}
 use Rattle.std.proofs.lemmas.Bool.{eq-eqb, eqb-true, eqb-false, ne_eqb, lt-ltb, and_left}
@@ -15,8 +15,12 @@ use Rattle.msc_chart.proofs.ListLemmas.{by_test}
 use Rattle.msc_chart.proofs.Readers.{sender_in, receiver_in}
 use Rattle.msc_fifo.specs.declared.TheConstants.{QUOTA_LIMIT}
 use Rattle.msc_execution.specs.Roles.{quota_of, rank_of, takes_from}
-use Rattle.msc_instance.specs.Handing.{table_place, quotas_of, senders_among, AreCounted, AreReceivers}
+use Rattle.msc_instance.specs.Handing.{table_place, senders_among, AreCounted, AreReceivers}
 use Rattle.msc_instance.proofs.ListCounts.{both_tests, any_counts, count_mapped, first_passes, count_none, same_number, parts_add_up}
+
+-- how many messages each instance sends to the queue
+abbrev pub quotas_of : Queues → Drawing → ℕ → List ℕ
+quotas_of queues d q = map (quota_of queues d q) (range_with_len 0 (length d.instances))
 
 module _ (queues : Queues) (d : Drawing) where
   -- a place in the table is that of one queue and one sender

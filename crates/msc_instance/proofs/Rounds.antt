@@ -3,6 +3,7 @@ use Rattle.std.proofs.Common.{◌≡◌, ℕ, ◌+◌, ◌<◌, ◌≤◌, Bool,
 use Rattle.std.proofs.lemmas.Bool.{cases_eq}
 use Rattle.msc_chart.specs.Drawings.{Drawing}
 use Rattle.msc_chart.proofs.ListLemmas.{by_test, clash}
+use Rattle.msc_fifo.specs.Entries.{greatest_idle}
 use Rattle.msc_execution.specs.Roles.{NumberedInlet}
 use Rattle.msc_instance.specs.declared.active.Active.{Active}
 use Rattle.msc_instance.specs.declared.active.Post.{Post}
@@ -12,7 +13,7 @@ use Rattle.msc_instance.specs.Active.{IsSound, IsQuiet, IsIdle, logged_by, weigh
 pub record HasFoundNothing (d : Drawing) (p : Post) (k : ℕ) (a b : Active) : Type 0 where
   pub kept : logged_by b ≡ logged_by a
   pub same : weight d p b ≡ weight d p a
-  pub idle : (n : ℕ) → n < 4294967295 → All (λ (i : NumberedInlet). n ≤ i.1.idle) a.inlets.items
+  pub idle : (n : ℕ) → n < greatest_idle → All (λ (i : NumberedInlet). n ≤ i.1.idle) a.inlets.items
       → (j : ℕ) (i : NumberedInlet)
       → j < length a.inlets.items
       → (n ≤ (get_or b.inlets.items j i).1.idle)
@@ -26,20 +27,6 @@ pub record IsTurn (d : Drawing) (p : Post) (k : ℕ) (found : Bool) (a b : Activ
   pub quiet : found ≡ false → HasFoundNothing d p k a b
 
 module _ (d : Drawing) (p : Post) where
-  -- before the first take
-  pub turn_first : (a : Active) → IsSound d p a → IsTurn d p 0 false a a
-  turn_first a s = record {
-    sound = s;
-    inlets = refl;
-    busy = λ h. clash h refl;
-    quiet = λ _. record {
-      kept = refl;
-      same = refl;
-      idle = λ n few all j i lt.
-          (all j i lt, λ low. absurd (omega arith));
-    };
-  }
-
   module _ (k : ℕ) (found : Bool) (a b c : Active) (turn : IsTurn d p k found a b)
       (many : length c.inlets.items ≡ length b.inlets.items) where
     -- a take that found nothing
@@ -56,9 +43,9 @@ module _ (d : Drawing) (p : Post) where
             elim (cases_eq j k) [
               | inl here ↦
                   let now : (get_or c.inlets.items j i).1.idle
-                  ≡ min ((get_or b.inlets.items j i).1.idle + 1) 4294967295 =
+                  ≡ min ((get_or b.inlets.items j i).1.idle + 1) greatest_idle =
                   ap (λ x. (get_or c.inlets.items x i).1.idle) here ∙ quiet.idle i
-                  ∙ ap (λ x. min ((get_or b.inlets.items x i).1.idle + 1) 4294967295) (sym here) in
+                  ∙ ap (λ x. min ((get_or b.inlets.items x i).1.idle + 1) greatest_idle) (sym here) in
                   (omega (arith, now, low.0), λ _. omega (arith, now, low.0))
               | inr other ↦
                   let now = ap (λ (x : NumberedInlet). x.1.idle) (quiet.others j i other) in

@@ -1,8 +1,8 @@
 -- Runs of instances beside what they began with, and the room of their logs.
-use Rattle.std.proofs.Common.{◌≡◌, ℕ, zero, suc, ◌+◌, ◌-◌, ◌<◌, ◌≤◌, Bool, true, List, [], ◌∷◌, ◌++◌, length, filter, map, reverse, Some, slice_get, refl, ap, ◌∙◌, arith, subst, nat_eq}
+use Rattle.std.proofs.Common.{◌≡◌, ℕ, zero, suc, ◌+◌, ◌-◌, ◌<◌, ◌≤◌, Bool, true, List, [], ◌∷◌, ◌++◌, length, filter, map, reverse, Some, slice_get, refl, arith, subst, nat_eq}
 use Rattle.std.specs.List.{AllZip, range_with_len}
 use Rattle.std.proofs.lemmas.Bool.{eqb-true}
-use Rattle.std.proofs.lemmas.List.{length-append, length-map, reverse-append, reverse-reverse}
+use Rattle.std.proofs.lemmas.List.{length-map, reverse-append}
 use Rattle.std.proofs.lemmas.Slice.Zip.{AllZip-long}
 use Rattle.std.proofs.lemmas.Option.{get_or_from_slice_get, slice_get_within}
 use Rattle.msc_chart.proofs.ListLemmas.{by_test}
@@ -47,27 +47,6 @@ paired_at R f g (x ∷ xs) (y ∷ ys) h zero c d at back = let a : f x ≡ c = c
 paired_at R f g (x ∷ xs) (y ∷ ys) h (suc i) c d at back = paired_at R f g xs ys h.1 i c d at back
 
 module _ (d : Drawing) (open' : Bool) (patience : ℕ) where
-  -- the run of the first instance, which is the last of the list, beside those of the others
-  pub put_first : (jobs rest : List Job) (j : Job) (rs ss : List InstanceEnd) (r : InstanceEnd) → jobs ≡ rest ++ j ∷ []
-      → HaveRun d open' patience rest rs → RunsFrom d j.number open' patience j.ends r → ss ≡ rs ++ r ∷ []
-      → HaveRun d open' patience jobs ss
-  put_first jobs rest j rs ss r is have run same =
-      rw (is, same) (paired_more (λ (k : Job) (s : InstanceEnd). RunsFrom d k.number open' patience k.ends s) rest rs j r have run)
-
-  -- there is room for it
-  pub shorter : (jobs rest : List Job) (j : Job) (rs : List InstanceEnd) → jobs ≡ rest ++ j ∷ []
-      → HaveRun d open' patience rest rs → length rs < length jobs
-  shorter jobs rest j rs is have =
-      let same = AllZip-long (λ (k : Job) (s : InstanceEnd). RunsFrom d k.number open' patience k.ends s) rest rs have in
-      rw is (omega (arith, length-append rest (j ∷ []), same))
-
-  -- the runs in the order of the instances
-  pub in_order : (jobs turn : List Job) (rs ss : List InstanceEnd) → turn ≡ reverse jobs
-      → HaveRun d open' patience turn rs → ss ≡ reverse rs → HaveRun d open' patience jobs ss
-  in_order jobs turn rs ss is have same =
-      let back : reverse turn ≡ jobs = ap reverse is ∙ reverse-reverse jobs in
-      rw (same, ← back) (paired_back (λ (k : Job) (s : InstanceEnd). RunsFrom d k.number open' patience k.ends s) turn rs have)
-
   -- what the jobs of a chart leave are runs from fresh ends
   pub runs_from_fresh : (queues : Queues) (jobs : List Job) (ran : List InstanceEnd) → AreJobs queues d jobs → HaveRun d open' patience jobs ran
       → HaveRunFrom queues d open' patience (map (λ (j : Job). ends_of j.ends) jobs) (map left_by ran)

@@ -20,7 +20,7 @@ use Rattle.msc_instance.specs.Active.{IsSound, IsNext, HasPut, IsAscending, IsCl
 use Rattle.msc_instance.proofs.Finding.{sent_ascends}
 use Rattle.msc_instance.proofs.Logs.{on_post, not_logged, next_moves, log_due, log_shorter, upto_push}
 use Rattle.msc_instance.proofs.Numbered.{outlet_number, outlet_numbers, has_room}
-use Rattle.msc_instance.proofs.Begun.{state, begun_sent, begun_acted}
+use Rattle.msc_instance.proofs.Begun.{state_with, begun_sent, begun_acted}
 use Rattle.msc_instance.proofs.Kept.{begun_closed}
 
 module _ (d : Drawing) (p : Post) (a : Active) (s : IsSound d p a) where
@@ -139,14 +139,14 @@ module _ (d : Drawing) (p : Post) (a : Active) (s : IsSound d p a) where
             -- after the send the ends are as they are after the longer log
             begun_out : HasPut (message d.events a.next) a.clock now (get_or a.outlets.items k o) new
                 → HasBegun (post_role d p) (first_ends p)
-                (state a.shut (set a.outlets.items k new) a.inlets.items (logged_by a ++ a.next ∷ [])
+                (state_with a.shut (set a.outlets.items k new) a.inlets.items (logged_by a ++ a.next ∷ [])
                 now)
             begun_out put =
                 subst (λ b. HasBegun (post_role d p) (first_ends p)
-                (state b (set a.outlets.items k new) a.inlets.items (logged_by a ++ a.next ∷ []) now))
+                (state_with b (set a.outlets.items k new) a.inlets.items (logged_by a ++ a.next ∷ []) now))
                 (sym not_shut)
                 (begun_sent (subst (λ b. HasBegun (post_role d p) (first_ends p)
-                (state b a.outlets.items a.inlets.items (logged_by a) a.clock)) not_shut s.begun)
+                (state_with b a.outlets.items a.inlets.items (logged_by a) a.clock)) not_shut s.begun)
                 k now a.next o new s.post.fit output due_new due_log.0 lt (sym here) put)
 
 -- a local event is controlled
@@ -176,7 +176,7 @@ pub has_closed : (d : Drawing) (p : Post) (a : Active) (outs : Vec NumberedOutle
 has_closed d p a outs s opened done closed = record {
   post = s.post;
   begun = begun_closed (subst (λ b. HasBegun (post_role d p) (first_ends p)
-      (state b a.outlets.items a.inlets.items (logged_by a) a.clock)) opened s.begun) outs.items closed;
+      (state_with b a.outlets.items a.inlets.items (logged_by a) a.clock)) opened s.begun) outs.items closed;
   next = s.next;
   first = s.first;
   closed = λ _. done;

@@ -5,16 +5,15 @@ use Rattle.msc_chart.specs.Lists.{occurs}
 use Rattle.msc_chart.specs.Charts.{message, is_output, is_input}
 use Rattle.msc_chart.specs.Orders.{queue_of}
 use Rattle.msc_fifo.specs.declared.claim.Claim.{Claim}
-use Rattle.msc_fifo.specs.declared.entry.Entry.{Entry}
 use Rattle.msc_fifo.specs.declared.entry.Entry.TheVariants.{Message, Ended}
 use Rattle.msc_fifo.specs.Claims.{claim}
 use Rattle.msc_fifo.specs.Ends.{OutletState, InletState, IsSameOutlet, IsSameInlet}
 use Rattle.msc_execution.specs.Roles.{Role, NumberedOutlet, NumberedInlet}
 use Rattle.msc_execution.specs.Logs.{Reading, clock_along, outputs_at, inputs_at}
 use Rattle.msc_execution.specs.Growth.{all_messages, clocks_at, claim_at, IsLeftBy, HasTaken}
-use Rattle.msc_instance.specs.Steps.{with_event, IsPutBy, IsGotBy}
+use Rattle.msc_instance.specs.Steps.{IsPutBy, IsGotBy}
 use Rattle.msc_execution.proofs.Settling.Placed.{all_messages-append}
-use Rattle.msc_instance.proofs.Growing.{sent_more, sent_same, read_more, read_same, outputs_more, outputs_same, inputs_more, inputs_same, map_push, clocks_message, clocks_ended}
+use Rattle.msc_instance.proofs.Growing.{sent_more, sent_same, read_more, read_same, outputs_more, outputs_same, inputs_more, inputs_same, map_push, clocks_message, clocks_ended, with_event}
 
 module _ (r : Role) (log : List ℕ) (reading : Reading) (old new : NumberedOutlet) where
   -- an open outlet, before anything is logged

@@ -1,8 +1,8 @@
 -- What tables of counts tell of the ends that fit an instance.
-use Rattle.std.proofs.Common.{◌≡◌, ℕ, zero, suc, ◌+◌, ◌<◌, Bool, true, false, cond, List, [], ◌∷◌, length, get_or, filter, take, replicate, refl, sym, ap, ◌∙◌, inl, inr, arith, nat_eq, nat_lt, true≢false}
+use Rattle.std.proofs.Common.{◌≡◌, ℕ, zero, suc, ◌+◌, ◌<◌, Bool, true, false, cond, List, [], ◌∷◌, length, get_or, filter, replicate, refl, sym, ap, ◌∙◌, inl, inr, arith, nat_eq, nat_lt}
 use Rattle.std.specs.Prelude.{count_by}
-use Rattle.std.specs.List.{range_with_len, list_any}
-use Rattle.std.proofs.lemmas.Bool.{cases_lt, lt-ltb, ne_eqb}
+use Rattle.std.specs.List.{range_with_len}
+use Rattle.std.proofs.lemmas.Bool.{cases_lt, ne_eqb}
 use Rattle.std.proofs.lemmas.List.{get_or_past}
 use Rattle.msc_chart.specs.declared.queue.Queues.{Queues}
 use Rattle.msc_chart.specs.Drawings.{Drawing, IsAccepted, sender_of, receiver_of}
@@ -118,11 +118,3 @@ pub zero_everywhere : (n q : ℕ) → get_or {A = ℕ} (replicate n 0) q 0 ≡ 0
 zero_everywhere zero q = refl
 zero_everywhere (suc n) zero = refl
 zero_everywhere (suc n) (suc q) = zero_everywhere n q
-
--- a part of it is nothing, too
-pub zero_in_part : (b : ℕ) (xs : List ℕ) → ((q : ℕ) → get_or xs q 0 ≡ 0) → (q : ℕ)
-    → get_or (take b xs) q 0 ≡ 0
-zero_in_part zero xs h q = refl
-zero_in_part (suc b) [] h q = refl
-zero_in_part (suc b) (x ∷ xs) h zero = h 0
-zero_in_part (suc b) (x ∷ xs) h (suc q) = zero_in_part b xs (λ k. h (suc k)) q

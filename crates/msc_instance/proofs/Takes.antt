@@ -10,6 +10,7 @@ use Rattle.msc_chart.specs.Charts.{line, message, is_controlled}
 use Rattle.msc_chart.specs.Drawings.{Drawing, input_of, receiver_of}
 use Rattle.msc_chart.specs.Orders.{queue_of}
 use Rattle.msc_chart.proofs.Drawn.{input_parts, controlled_no_input}
+use Rattle.msc_fifo.specs.Entries.{greatest_idle}
 use Rattle.msc_fifo.specs.declared.entry.Taken.TheVariants as took
 use Rattle.msc_fifo.specs.Ends.{unended_in}
 use Rattle.msc_execution.specs.declared.end.End.TheVariants as end
@@ -61,7 +62,7 @@ module _ (d : Drawing) (p : Post) (a : Active) (s : IsSound d p a) (k : ℕ) (n 
     record {
       kept = refl;
       idle = λ m. ap (λ (x : NumberedInlet). x.1.idle) (get_or-set_same a.inlets.items k new m lt) ∙ got.idle
-          ∙ ap (λ (x : NumberedInlet). min (x.1.idle + 1) 4294967295)
+          ∙ ap (λ (x : NumberedInlet). min (x.1.idle + 1) greatest_idle)
           (get_or_default a.inlets.items k n m lt);
       others = λ j m other. get_or-set_other a.inlets.items k j new m other;
     },

@@ -10,14 +10,15 @@ use Rattle.msc_chart.specs.Drawings.{Drawing}
 use Rattle.msc_chart.specs.Orders.{queue_bound}
 use Rattle.msc_chart.specs.Laws.{sends_to}
 use Rattle.msc_fifo.specs.Identity.{QueueId}
-use Rattle.msc_fifo.specs.NoQueue.{no_queue}
+use Rattle.msc_fifo.proofs.NoQueue.{no_queue}
 use Rattle.msc_fifo.specs.Ends.{new_outlet, new_inlet}
-use Rattle.msc_execution.specs.Roles.{Role, EndLists, ends_from, NumberedOutlet, NumberedInlet, role, quota_of, rank_of, takes_from, fresh_outlet, fresh_inlet, IsWiring, IsFit}
+use Rattle.msc_execution.specs.Roles.{Role, NumberedOutlet, NumberedInlet, role, quota_of, rank_of, takes_from, fresh_outlet, fresh_inlet, IsWiring, IsFit}
 use Rattle.msc_execution.specs.Fits.{no_ends, wired_below, WiringsFit, WiringGrows}
 use Rattle.msc_instance.specs.declared.ends.InstanceEnds.{InstanceEnds}
 use Rattle.msc_instance.specs.Views.{ends_of}
-use Rattle.msc_instance.specs.Handing.{AreUnder, AreHandedOut, AreWiredBelow, ends_at, inlet_for, outlet_for, quotas_of, senders_among}
-use Rattle.msc_instance.proofs.Quotas.{sender_has, ranks, all_senders}
+use Rattle.msc_instance.specs.Handing.{AreUnder, AreHandedOut, AreWiredBelow, ends_at, inlet_for, outlet_for, senders_among}
+use Rattle.msc_instance.proofs.Quotas.{sender_has, ranks, all_senders, quotas_of}
+use Rattle.msc_execution.proofs.Wiring.Growing.{ends_from}
 
 -- the same queues, and one more
 with_queue : (ℕ → QueueId) → ℕ → QueueId → ℕ → QueueId

@@ -2,8 +2,7 @@
 use Rattle.std.proofs.Common.{◌≡◌, ◌≢◌, ℕ, zero, suc, ◌<◌, true, false, List, [], ◌∷◌, map, length, set, get_or, drop, ◌≤◌, refl, sym, ap, subst, arith}
 use Rattle.std.specs.List.{AllZip}
 use Rattle.msc_chart.specs.Lists.{occurs}
-use Rattle.msc_chart.proofs.ListLemmas.{clash, occurs-head, occurs-tail}
-use Rattle.msc_gather.proofs.Apart.{Apart}
+use Rattle.msc_chart.proofs.ListLemmas.{clash, occurs-head, occurs-tail, IsDistinct}
 use Rattle.msc_execution.proofs.Lists.Words.{fails}
 
 -- a wider relation holds too
@@ -69,7 +68,7 @@ zip_number R num q (x ∷ xs) (z ∷ ys) (suc k) y f lt h =
 
 -- One place changes, that of number q, and the others are looked at anew.
 pub zip_one : {X : Type 0} (R S : X → X → Type 0) (num : X → ℕ) (q : ℕ) (xs ys : List X) (k : ℕ) (y new : X)
-    → k < length ys → Apart (map num xs)
+    → k < length ys → IsDistinct (map num xs)
     → ((x : X) → R x (get_or ys k y) → num x ≡ q)
     → ((x : X) → R x (get_or ys k y) → S x new)
     → ((x z : X) → R x z → num x ≢ q → S x z)
@@ -105,15 +104,6 @@ ZipsUpTo R (suc i) [] [] = Unit {0}
 ZipsUpTo R (suc i) [] (y ∷ ys) = ⊥
 ZipsUpTo R (suc i) (x ∷ xs) [] = ⊥
 ZipsUpTo R (suc i) (x ∷ xs) (y ∷ ys) = R x y × ZipsUpTo R i xs ys
-
--- the place behind them is as it was
-pub upto_at : {X : Type 0} (R : X → X → Type 0) (i : ℕ) (xs ys : List X) (d : X) → ZipsUpTo R i xs ys
-    → get_or ys i d ≡ get_or xs i d
-upto_at R zero xs ys d h = ap (λ l. get_or l 0 d) (sym h)
-upto_at R (suc i) [] [] d h = refl
-upto_at R (suc i) [] (y ∷ ys) d h = absurd h
-upto_at R (suc i) (x ∷ xs) [] d h = absurd h
-upto_at R (suc i) (x ∷ xs) (y ∷ ys) d h = upto_at R i xs ys d h.1
 
 -- one place more
 pub upto_more : {X : Type 0} (R : X → X → Type 0) (i : ℕ) (xs ys : List X) (d new : X) → i < length ys

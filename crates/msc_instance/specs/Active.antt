@@ -8,7 +8,7 @@ use Rattle.msc_chart.specs.Laws.{SegmentsRise}
 use Rattle.msc_fifo.specs.declared.entry.Entry.TheVariants.{Message, Ended}
 use Rattle.msc_fifo.specs.Claims.{claim}
 use Rattle.msc_fifo.specs.declared.entry.Taken.{Taken}
-use Rattle.msc_fifo.specs.Entries.{entries_of, idle_after, ends_in}
+use Rattle.msc_fifo.specs.Entries.{entries_of, idle_after, ends_in, greatest_idle}
 use Rattle.msc_fifo.specs.Ends.{IsSameOutlet, IsSameInlet, Clocked, unended_in}
 use Rattle.msc_execution.specs.declared.end.End.{End}
 use Rattle.msc_execution.specs.declared.end.End.TheVariants as end
@@ -19,8 +19,8 @@ use Rattle.msc_execution.specs.Growth.{HasTaken}
 use Rattle.msc_execution.specs.Running.{Left, IsFirstDue, EndsAs}
 use Rattle.msc_instance.specs.declared.active.Active.{Active}
 use Rattle.msc_instance.specs.declared.active.Post.{Post}
-use Rattle.msc_instance.specs.declared.taking.Step.{Step}
-use Rattle.msc_instance.specs.declared.taking.Step.TheVariants as step
+use Rattle.msc_instance.specs.declared.taking.TakeStep.{TakeStep}
+use Rattle.msc_instance.specs.declared.taking.TakeStep.TheVariants as step
 use Rattle.msc_instance.specs.declared.round.Round.{Round}
 use Rattle.msc_instance.specs.declared.round.Round.TheVariants as round
 use Rattle.msc_instance.specs.Views.{ends_of}
@@ -159,11 +159,11 @@ EndsSo d p open' patience a end = HasCome (post_role d p) open' patience (first_
 pub record IsQuiet (k : ℕ) (a b : Active) : Type 0 where
   pub kept : logged_by b ≡ logged_by a
   pub idle : (n : NumberedInlet)
-      → (get_or b.inlets.items k n).1.idle ≡ min ((get_or a.inlets.items k n).1.idle + 1) 4294967295
+      → (get_or b.inlets.items k n).1.idle ≡ min ((get_or a.inlets.items k n).1.idle + 1) greatest_idle
   pub others : (j : ℕ) (n : NumberedInlet) → j ≢ k → get_or b.inlets.items j n ≡ get_or a.inlets.items j n
 
 -- after a take on inlet k
-abbrev pub TookOne : Drawing → Post → ℕ → Active → Active → Step → Type 0
+abbrev pub TookOne : Drawing → Post → ℕ → Active → Active → TakeStep → Type 0
 TookOne d p k a b step.Nothing = IsSound d p b × IsQuiet k a b × (weight d p b ≡ weight d p a)
 TookOne d p k a b step.Ended = IsSound d p b × (weight d p b < weight d p a)
 TookOne d p k a b step.Logged = IsSound d p b × (weight d p b < weight d p a)
@@ -174,7 +174,7 @@ TookOne d p k a b (step.Foreign m) = (open' : Bool) (patience : ℕ)
 -- no take of a round found anything
 pub record IsIdle (a b : Active) : Type 0 where
   pub kept : logged_by b ≡ logged_by a
-  pub idle : (n : ℕ) → n < 4294967295 → All (λ (i : NumberedInlet). n ≤ i.1.idle) a.inlets.items
+  pub idle : (n : ℕ) → n < greatest_idle → All (λ (i : NumberedInlet). n ≤ i.1.idle) a.inlets.items
       → All (λ (i : NumberedInlet). n + 1 ≤ i.1.idle) b.inlets.items
 
 -- after a round of takes

@@ -8,8 +8,7 @@ use Rattle.msc_fifo.specs.Ends.{OutletState}
 use Rattle.msc_execution.specs.Roles.{NumberedOutlet}
 
 -- The table has, for each queue, how many of its messages below n are of instance i. `instance`
--- tells
--- of which instance a message is: of its sender, or of its receiver.
+-- tells of which instance a message is: of its sender, or of its receiver.
 abbrev pub AreCountsOf : (ℕ → ℕ) → Queues → Drawing → ℕ → ℕ → List ℕ → Type 0
 AreCountsOf instance queues d i n counts =
     (q : ℕ) → q < length counts → get_or counts q 0

@@ -6,7 +6,7 @@ use Rattle.msc_chart.specs.Drawings.{Drawing, sender_of, receiver_of}
 use Rattle.msc_chart.specs.Orders.{queue_of}
 use Rattle.msc_fifo.specs.Identity.{QueueId}
 use Rattle.msc_fifo.specs.Ends.{OutletState, new_outlet, new_outlets, new_inlet}
-use Rattle.msc_execution.specs.Roles.{EndLists, NumberedOutlet, NumberedInlet, role, quota_of}
+use Rattle.msc_execution.specs.Roles.{EndLists, NumberedOutlet, NumberedInlet, role}
 use Rattle.msc_execution.specs.Fits.{no_ends, wired_below}
 use Rattle.msc_instance.specs.declared.ends.InstanceEnds.{InstanceEnds}
 use Rattle.msc_instance.specs.Views.{ends_of}
@@ -25,10 +25,6 @@ AreCounted queues d n counts =
 abbrev pub AreReceivers : Queues → Drawing → ℕ → List ℕ → Type 0
 AreReceivers queues d n receivers = (m : ℕ) → m < n
     → get_or receivers (queue_of queues d m) 0 ≡ receiver_of d m
-
--- how many messages each instance sends to the queue
-abbrev pub quotas_of : Queues → Drawing → ℕ → List ℕ
-quotas_of queues d q = map (quota_of queues d q) (range_with_len 0 (length d.instances))
 
 -- how many of these quotas are of senders
 abbrev pub senders_among : List ℕ → ℕ
@@ -58,8 +54,7 @@ abbrev pub AreUnder : Queues → List InstanceEnds → Type 0
 AreUnder queues all = All (λ e. e.queues ≡ queues) all
 
 -- The outlets of queue q are being handed out, and the instances below n have theirs. Those that
--- are
--- left are for the others.
+-- are left are for the others.
 pub record IsHandingOut (id : QueueId) (q : ℕ) (quotas : List ℕ) (old new : List InstanceEnds)
     (left : List OutletState) (n : ℕ) : Type 0 where
   pub next : left ≡ new_outlets id (senders_among (take n quotas))

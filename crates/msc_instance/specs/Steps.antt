@@ -1,17 +1,10 @@
 -- What an instance keeps while it runs.
-use Rattle.std.specs.Prelude.{◌≡◌, ℕ, Bool, true, false, cond, List, ◌++◌, map, nat_eq}
+use Rattle.std.specs.Prelude.{◌≡◌, ℕ, Bool, true, false, List, ◌++◌, map}
 use Rattle.std.specs.List.{AllZip}
 use Rattle.msc_fifo.specs.Ends.{IsSameOutlet, IsSameInlet}
 use Rattle.msc_execution.specs.Roles.{Role, EndLists, NumberedOutlet, NumberedInlet}
 use Rattle.msc_execution.specs.Logs.{Reading, IsLogOf, clock_along, outputs_at, inputs_at, sent, received}
 use Rattle.msc_execution.specs.Growth.{all_messages, clocks_at, claim_at, IsLeftBy}
-
--- the same reading, but that clock n and place k are read at event e
-abbrev pub with_event : ℕ → ℕ → ℕ → Reading → Reading
-with_event e k n r = record {
-  read_at = λ x. cond (nat_eq x e) n (r.read_at x);
-  place_at = λ x. cond (nat_eq x e) k (r.place_at x);
-}
 
 -- an open outlet after the outputs of a log
 pub record IsPutBy (r : Role) (log : List ℕ) (reading : Reading) (old new : NumberedOutlet) : Type 0 where
@@ -53,7 +46,3 @@ pub record IsKept (r : Role) (reading : Reading) (first : EndLists) (s : State) 
 pub record HasBegun (r : Role) (first : EndLists) (s : State) : Type 0 where
   pub reading : Reading
   pub kept : IsKept r reading first s
-
--- whatever ends an instance began with, it goes on from the one to the other
-abbrev pub GoesOn : Role → State → State → Type 0
-GoesOn r s t = (first : EndLists) → HasBegun r first s → HasBegun r first t

@@ -3,6 +3,7 @@
 ghost use Rattle.std.specs.Prelude.{◌≡◌, ◌<◌, ◌≤◌, ◌+◌, false, ℕ, IsTrue};
 ghost use Rattle.msc_chart.specs.Lists.{occurs};
 ghost use Rattle.msc_chart.specs.Charts.{before, is_controlled, is_local, is_output};
+ghost use Rattle.msc_fifo.specs.Ends.{IsSpentClock};
 ghost use Rattle.msc_instance.specs.Active.{HasSent, IsSound, logged_by};
 
 use crate::ends::InstanceEnds;
@@ -65,7 +66,7 @@ impl Active {
         ensures sound { IsSound chart.now post.now self.new }
         ensures sent { HasSent self.old self.new }
         ensures next { IsTrue result → self.new.next ≡ self.old.next + 1 }
-        ensures spent { result ≡ false → self.new.clock ≡ 18446744073709551615 }
+        ensures spent { result ≡ false → IsSpentClock self.new.clock }
         ensures kept { result ≡ false → logged_by self.new ≡ logged_by self.old }
         ensures shut { self.new.shut ≡ self.old.shut }
     {

@@ -7,6 +7,7 @@ ghost use Rattle.msc_chart.specs.declared.TheConstants.{EVENT_LIMIT};
 
 use msc_chart::{EVENT_LIMIT, Event};
 
+/// How many events a journal can mark: those of the largest chart.
 const MARKS: usize = EVENT_LIMIT as usize;
 
 /// What an instance has logged. Whether an event is in it costs no walk.

@@ -1,9 +1,9 @@
 //! The outlets of an instance.
 
-ghost use Rattle.std.specs.Prelude.{◌≡◌, ◌<◌, ◌↔◌, length, map, get_or, IfSome, IsTrue, None};
+ghost use Rattle.std.specs.Prelude.{◌≡◌, ◌<◌, length, map, get_or, IfSome, IsTrue, None};
 ghost use Rattle.std.specs.List.{AllZip};
 ghost use Rattle.msc_chart.specs.Lists.{occurs};
-ghost use Rattle.msc_fifo.specs.Ends.{HasRoom};
+ghost use Rattle.msc_fifo.specs.Ends.{HasRoom, IsSpentClock};
 ghost use Rattle.msc_execution.specs.Roles.{NumberedOutlet};
 ghost use Rattle.msc_instance.specs.Active.{HasPut, IsAscending, IsClosedFrom};
 
@@ -33,7 +33,7 @@ pub(crate) fn outlet_at(outlets: &[(u32, Outlet)], queue: u32) -> usize
 pub(crate) fn put_one(outlet: &mut (u32, Outlet), m: u32, clock: u64) -> Option<u64>
     requires { HasRoom outlet.old.1 }
     ensures put { IfSome result (λ now. HasPut m clock now outlet.old outlet.new) }
-    ensures spent { result ≡ None → clock ≡ 18446744073709551615 }
+    ensures spent { result ≡ None → IsSpentClock clock }
     ensures kept { result ≡ None → outlet.new ≡ outlet.old }
 {
     match outlet.1.send(m, clock) {
@@ -51,6 +51,7 @@ pub(crate) fn close_all(outlets: &mut [(u32, Outlet)])
     }
 }
 
+/// Closes one.
 fn close_one(outlet: &mut (u32, Outlet))
     ensures { IsClosedFrom outlet.old outlet.new }
 {

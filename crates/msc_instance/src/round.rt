@@ -5,7 +5,7 @@ ghost use Rattle.msc_instance.specs.Active.{IsSound, TookEach};
 
 use crate::active::{Active, Post};
 use crate::gate::Gate;
-use crate::taking::Step;
+use crate::taking::TakeStep;
 use msc_chart::Chart;
 
 /// How a round of takes went.
@@ -27,11 +27,11 @@ impl Active {
         let mut found = false;
         for k in 0..self.inlets.len() {
             match self.take(chart, post, gate, k) {
-                Step::Nothing => {}
-                Step::Ended => found = true,
-                Step::Logged => found = true,
-                Step::Stopped => return Round::Stopped,
-                Step::Foreign(m) => return Round::Foreign(m),
+                TakeStep::Nothing => {}
+                TakeStep::Ended => found = true,
+                TakeStep::Logged => found = true,
+                TakeStep::Stopped => return Round::Stopped,
+                TakeStep::Foreign(m) => return Round::Foreign(m),
             }
         }
         if found { Round::Busy } else { Round::Empty }

@@ -37,7 +37,8 @@ impl Active {
     /// Runs to an end. The outlets may be left open.
     fn run<G: Gate>(&mut self, chart: &Chart, post: &Post, gate: &G, patience: u32) -> End
         requires { IsSound chart.now post.now self.old }
-        ensures { EndsSo chart.now post.now G.is_open patience self.new result }
+        ensures ends { EndsSo chart.now post.now G.is_open patience self.new result }
+        ensures untaken { patience ≡ 0 → self.new.inlets.items ≡ self.old.inlets.items }
     {
         let mut empty = 0;
         'rounds: loop {

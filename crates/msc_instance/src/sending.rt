@@ -3,6 +3,7 @@
 ghost use Rattle.std.specs.Prelude.{◌≡◌, ◌<◌, ◌+◌, ℕ, false, true, IsTrue};
 ghost use Rattle.msc_chart.specs.Lists.{occurs};
 ghost use Rattle.msc_chart.specs.Charts.{before, is_controlled};
+ghost use Rattle.msc_fifo.specs.Ends.{IsSpentClock};
 ghost use Rattle.msc_instance.specs.Active.{HasSent, IsBlocked, IsSound, logged_by};
 
 use crate::active::{Active, Post};
@@ -31,7 +32,7 @@ impl Active {
         ensures sent { HasSent self.old self.new }
         ensures next { IsTrue result → self.new.next ≡ self.old.next + 1 }
         ensures stopped { G.is_open ≡ true → result ≡ false
-            → self.new.clock ≡ 18446744073709551615 }
+            → IsSpentClock self.new.clock }
         ensures kept { result ≡ false → logged_by self.new ≡ logged_by self.old }
         ensures shut { self.new.shut ≡ self.old.shut }
     {
@@ -54,7 +55,7 @@ impl Active {
         ensures waits { result ≡ Sending.Waits
             → IsBlocked chart.now post.now.instance (logged_by self.new) }
         ensures stopped { G.is_open ≡ true → result ≡ Sending.Stopped
-            → self.new.clock ≡ 18446744073709551615 }
+            → IsSpentClock self.new.clock }
         ensures first { (result ≡ Sending.Stopped → ⊥) → self.new.first < post.now.end
             → occurs (logged_by self.new) self.new.first ≡ false }
         ensures shut { self.new.shut ≡ self.old.shut }
@@ -84,7 +85,7 @@ impl Active {
         ensures first { IsTrue result → self.new.first < post.now.end
             → occurs (logged_by self.new) self.new.first ≡ false }
         ensures stopped { G.is_open ≡ true → result ≡ false
-            → self.new.clock ≡ 18446744073709551615 }
+            → IsSpentClock self.new.clock }
     {
         match self.do_ready(chart, post, gate) {
             Sending::Stopped => return false,

@@ -11,7 +11,7 @@ use msc_fifo::{Inlet, Taken};
 
 /// What a take of an instance came to.
 #[derive(Clone, Copy)]
-pub(crate) enum Step {
+pub(crate) enum TakeStep {
     Nothing,
     Ended,
     Logged,
@@ -36,32 +36,32 @@ fn is_of(chart: &Chart, queues: Queues, queue: u32, m: u32) -> bool
 
 impl Active {
     /// Takes from inlet `k`. A message is logged as its input, and then the gate is asked.
-    pub fn take<G: Gate>(&mut self, chart: &Chart, post: &Post, gate: &G, k: usize) -> Step
+    pub fn take<G: Gate>(&mut self, chart: &Chart, post: &Post, gate: &G, k: usize) -> TakeStep
         requires sound { IsSound chart.now post.now self.old }
         requires inlet { k < length self.old.inlets.items }
         ensures took { TookOne chart.now post.now k self.old self.new result }
-        ensures open { G.is_open ≡ true → result ≡ Step.Stopped → ⊥ }
+        ensures open { G.is_open ≡ true → result ≡ TakeStep.Stopped → ⊥ }
         ensures inlets { length self.new.inlets.items ≡ length self.old.inlets.items }
     {
         let queue = self.inlets[k].0;
         let (m, clock) = match take_one(&mut self.inlets[k], self.clock) {
-            Taken::Nothing => return Step::Nothing,
-            Taken::Ended(_) => return Step::Ended,
+            Taken::Nothing => return TakeStep::Nothing,
+            Taken::Ended(_) => return TakeStep::Ended,
             Taken::Message(_, m, _, clock) => (m, clock),
         };
         if !is_of(chart, post.queues, queue, m) {
-            return Step::Foreign(m);
+            return TakeStep::Foreign(m);
         }
         let e = chart.input_of(m);
         if self.journal.has(e) {
-            return Step::Foreign(m);
+            return TakeStep::Foreign(m);
         }
         self.clock = clock;
         self.journal.note(e);
         if gate.at(post.instance, e) {
-            Step::Logged
+            TakeStep::Logged
         } else {
-            Step::Stopped
+            TakeStep::Stopped
         }
     }
 }

@@ -1,7 +1,7 @@
 -- How far a text has been cut into pieces.
-use Rattle.std.proofs.Common.{◌≡◌, ◌≢◌, ℕ, ◌+◌, ◌≤◌, List, [], ◌∷◌, ◌++◌, length, drop, Option, Some, None, Result, Ok, Err, refl, sym, ap, subst, ◌∙◌, append_assoc, zero-add, arith}
+use Rattle.std.proofs.Common.{◌≡◌, ◌≢◌, ℕ, ◌+◌, ◌≤◌, List, [], ◌∷◌, ◌++◌, length, drop, Option, Some, None, Result, Ok, Err, sym, ap, subst, ◌∙◌, append_assoc, zero-add, arith}
 use Rattle.std.specs.Result.{IfErr, IsErrAnd}
-use Rattle.std.proofs.lemmas.List.{length-append, drop_at, drop_all, drop-drop, append-nil}
+use Rattle.std.proofs.lemmas.List.{length-append, drop_at, drop-drop, append-nil}
 use Rattle.std.proofs.lemmas.List.Concat.{flat_map-append}
 use Rattle.msc_lexer.specs.declared.TheConstants.{TEXT_LIMIT}
 use Rattle.msc_lexer.specs.declared.token.Kind.{Kind}
@@ -10,7 +10,7 @@ use Rattle.msc_lexer.specs.declared.fault.LexFault.{LexFault}
 use Rattle.msc_lexer.specs.declared.fault.LexFault.TheVariants.{TooLong, BadByte, OpenNote, OpenText, LongName, Memory}
 use Rattle.msc_lexer.specs.Pieces.{Piece, spelled, kind_of, Fits, text_of, AreCut, token_of, tokens_of}
 use Rattle.msc_lexer.specs.Scanning.{StartsWith}
-use Rattle.msc_lexer.specs.Lexing.{HasTokens, HasFault, IsFirstFlaw, IsFlaw}
+use Rattle.msc_lexer.specs.Lexing.{HasFault, IsFirstFlaw, IsFlaw}
 
 -- the text of pieces joined is their texts joined
 text_of-append : (ps qs : List Piece) → text_of (ps ++ qs) ≡ text_of ps ++ text_of qs
@@ -47,11 +47,6 @@ pub record IsReadTo (text : List ℕ) (at : ℕ) (tokens : List Token) : Type 0 
   pub place : at ≡ length (text_of pieces)
   pub made : tokens ≡ tokens_of 0 pieces
 
--- at the start nothing has been read
-pub reads_none : (text : List ℕ) → IsReadTo text 0 []
-reads_none text =
-    record { pieces = []; inside = omega arith; whole = refl; cut = tt; place = refl; made = refl }
-
 -- one piece more at the place
 pub reads_one : (text : List ℕ) (at : ℕ) (tokens : List Token) (kind : Option Kind) (len : ℕ)
     → IsReadTo text at tokens → StartsWith (drop at text) kind len
@@ -71,19 +66,6 @@ reads_one text at tokens kind len so_far next =
       cut = rw rest (AreCut-append ps (p ∷ []) next.rest cut (next.fits, tt));
       place = sym long;
       made = rw (so_far.made, next.kind_is, next.len_is, tokens_of-append, so_far.place, zero-add) (ap (λ (ts : List Token). tokens_of 0 ps ++ ts) (sym (append-nil _)));
-    }
-
--- at the end of a short text its tokens have been read
-pub reads_all : (text : List ℕ) (at : ℕ) (tokens : List Token) → length text ≤ TEXT_LIMIT
-    → length text ≤ at → IsReadTo text at tokens → HasTokens text tokens
-reads_all text at tokens short all so_far =
-    let nothing : drop at text ≡ [] = drop_all at text all in
-    record {
-      pieces = so_far.pieces;
-      short = short;
-      whole = so_far.whole ∙ ap (λ (t : List ℕ). text_of so_far.pieces ++ t) nothing ∙ append-nil (text_of so_far.pieces);
-      cut = subst (AreCut so_far.pieces) nothing so_far.cut;
-      made = so_far.made;
     }
 
 -- a flaw where reading stands is the first one

@@ -1,8 +1,8 @@
 -- Where a note, a text and a run end.
-use Rattle.std.proofs.Common.{◌≡◌, ◌≢◌, ℕ, ◌+◌, ◌-◌, ◌<◌, ◌≤◌, true, false, nat_eq, ◌==◌, List, [], ◌∷◌, ◌++◌, length, get_or, take, drop, refl, sym, ap, ◌∙◌, append_assoc, one-add, inl, inr, arith}
+use Rattle.std.proofs.Common.{◌≡◌, ◌≢◌, ℕ, ◌+◌, ◌-◌, ◌<◌, ◌≤◌, true, ◌==◌, List, [], ◌∷◌, ◌++◌, length, get_or, take, drop, refl, sym, ap, ◌∙◌, append_assoc, one-add, inl, inr, arith}
 use Rattle.std.specs.List.{prefix_len}
 use Rattle.std.proofs.lemmas.Bool.{cases_lt, eqb-true, ne_eqb}
-use Rattle.std.proofs.lemmas.List.{take-append-drop, get_or-take, get_or_past, get_or-drop, length-take, length-drop, take_all, take_more, drop_more, drop_all}
+use Rattle.std.proofs.lemmas.List.{take-append-drop, get_or-take, get_or_past, get_or-drop, length-take, length-drop, take_all, take_more}
 use Rattle.memchr.specs.Find.{Nowhere, Passes, is_byte}
 use Rattle.msc_lexer.specs.Bytes.{begins, is_run_byte}
 use Rattle.msc_lexer.specs.Pieces.{NeverCloses, doubled, IsRun}
@@ -115,15 +115,6 @@ doubled-twice bytes at lt first second d =
     let two : at + 1 + 1 ≡ at + 2 = omega arith in
     let e : take (at + 2) bytes ≡ (doubled d.0 ++ 39 ∷ []) ++ 39 ∷ [] = rw (← two) (take_more bytes (at + 1) 0 lt ∙ rw (take_more bytes at 0 (omega arith), first, second, d.1) refl) in
     (d.0 ++ 39 ∷ [], e ∙ append_assoc (doubled d.0) (39 ∷ []) (39 ∷ []) ∙ sym (doubled-append d.0 (39 ∷ [])))
-
--- a byte that is no apostrophe, or the end, is no second apostrophe
-pub lone_at : (bytes : List ℕ) (at : ℕ) → (get_or bytes at 0 ≡ 39 → ⊥)
-    → begins (nat_eq 39) (drop at bytes) ≡ false
-lone_at bytes at other =
-    elim (cases_lt at (length bytes)) [
-      | inl lt ↦ rw (drop_more bytes at 0 lt) (ne_eqb 39 (get_or bytes at 0) (λ e. other (sym e)))
-      | inr le ↦ rw (drop_all at bytes le) refl
-    ]
 
 -- ---- runs
 

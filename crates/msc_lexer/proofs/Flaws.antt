@@ -28,10 +28,6 @@ nil_stops (Quoted body) rest f e = cc
 nil_stops (Note body) rest f e = cc
 nil_stops (Mark b) rest f e = cc
 
--- what a flaw says of the class of the text
-pub flaw_class : (fault : LexFault) (at : ℕ) (text : List ℕ) → IsFlaw fault at text → ℕ
-flaw_class fault at text flaw = class_at text
-
 -- none stands at a byte that begins none
 pub bad_stops : (text : List ℕ) → BeginsNothing text → NoPieceStands text
 unfolding NoPieceStands

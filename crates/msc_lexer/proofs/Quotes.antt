@@ -1,8 +1,8 @@
 -- What a text between apostrophes holds: each doubled apostrophe halved.
-use Rattle.std.proofs.Common.{◌≡◌, ◌≢◌, ℕ, ◌+◌, ◌-◌, ◌<◌, ◌≤◌, true, false, cond, eqb, List, [], ◌∷◌, ◌++◌, length, get_or, refl, sym, ap, ◌∙◌, append_assoc, inl, inr, arith}
+use Rattle.std.proofs.Common.{◌≡◌, ◌≢◌, ℕ, ◌+◌, ◌-◌, ◌<◌, true, false, cond, eqb, List, [], ◌∷◌, ◌++◌, length, get_or, refl, sym, ap, ◌∙◌, append_assoc, inl, inr, arith}
 use Rattle.std.proofs.lemmas.Bool.{cases_Bool, eqb-true, eq-eqb, ne_eqb}
 use Rattle.std.specs.List.{slice_range}
-use Rattle.std.proofs.lemmas.List.{length-append, append-nil, take_at, get_or-append_right}
+use Rattle.std.proofs.lemmas.List.{length-append, take_at, get_or-append_right}
 use Rattle.msc_lexer.specs.Pieces.{doubled, quoted}
 use Rattle.msc_lexer.specs.Lexemes.{halved, unquoted}
 
@@ -51,10 +51,6 @@ pub record IsHalvedTo (bytes : List ℕ) (at : ℕ) (out : List ℕ) : Type 0 wh
   pub whole : bytes ≡ doubled out ++ doubled rest
   pub reached : at ≡ length (doubled out)
 
--- nothing was read yet
-pub none_halved : (bytes body : List ℕ) → bytes ≡ doubled body → IsHalvedTo bytes 0 []
-none_halved bytes body e = record { rest = body; whole = e; reached = refl }
-
 -- the first byte of what is doubled
 first_doubled : (b : ℕ) (bs : List ℕ) → get_or (doubled (b ∷ bs)) 0 0 ≡ b
 first_doubled b bs = elim (cases_Bool (eqb b 39)) [
@@ -65,13 +61,6 @@ first_doubled b bs = elim (cases_Bool (eqb b 39)) [
 -- a number less itself
 sub_self : (n : ℕ) → n - n ≡ 0
 sub_self n = omega arith
-
--- something that is doubled is something
-first_some : (b : ℕ) (bs : List ℕ) → 0 < length (doubled (b ∷ bs))
-first_some b bs = elim (cases_Bool (eqb b 39)) [
-  | inl e ↦ rw e (omega arith)
-  | inr e ↦ rw e (omega arith)
-]
 
 -- an apostrophe takes two bytes
 pub mark_step : (b step : ℕ) → b ≡ 39 → step ≡ 2 → step ≡ length (doubled (b ∷ []))
@@ -101,20 +90,6 @@ halved_more bytes at step out lt h e = more h.rest h.whole
           whole = w ∙ ap (λ (l : List ℕ). doubled out ++ l) (doubled-append (b ∷ []) bs) ∙ sym (append_assoc (doubled out) (doubled (b ∷ [])) (doubled bs)) ∙ ap (λ (l : List ℕ). l ++ doubled bs) (sym (doubled-append out (b ∷ []))) ∙ ap (λ (c : ℕ). doubled (out ++ c ∷ []) ++ doubled bs) (sym first);
           reached = let r = h.reached in rw (doubled-append out (get_or bytes at 0 ∷ [])) (omega (arith, e, r, length-append (doubled out) (doubled (get_or bytes at 0 ∷ []))));
         }
-
--- all was read
-pub all_halved : (bytes : List ℕ) (at : ℕ) (out : List ℕ) → length bytes ≤ at
-    → IsHalvedTo bytes at out → doubled out ≡ bytes
-all_halved bytes at out past h = none h.rest h.whole
-  where
-    -- nothing is left, since all bytes were reached
-    none : (rest : List ℕ) → bytes ≡ doubled out ++ doubled rest → doubled out ≡ bytes
-    none [] w = sym (w ∙ append-nil (doubled out))
-    none (b ∷ bs) w =
-        let n = ap length w in
-        let m = h.reached in
-        let some : 0 < length (doubled (b ∷ bs)) = first_some b bs in
-        absurd (omega (arith, past, n, m, some, length-append (doubled out) (doubled (b ∷ bs))))
 
 -- ---- the bytes of a token
 

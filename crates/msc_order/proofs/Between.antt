@@ -7,8 +7,9 @@ use Rattle.msc_chart.specs.Charts.Visual.{seen, passed, linked}
 use Rattle.msc_chart.specs.Orders.{WiredChart, queue, IsWired, Enforced, IsEnforcedOrder}
 use Rattle.msc_chart.specs.Orders.Enforced.{drawn, sent, joined, queued}
 use Rattle.msc_chart.proofs.Drawn.{before_parts, output_parts, input_parts, partner_of_output, partner_of_input}
-use Rattle.msc_order.specs.Causes.{Led, Caused, InQueueOrder, IsTestOf, IsBetween, Keeps, HasQueueOf, HasSeen, IsOutputOf}
-use Rattle.msc_order.specs.Causes.Led.{led, carried, chained}
+use Rattle.msc_order.specs.Caused.{Led, Caused, InQueueOrder}
+use Rattle.msc_order.specs.Closing.{IsTestOf, IsBetween, Keeps, HasQueueOf, HasSeen, IsOutputOf}
+use Rattle.msc_order.specs.Caused.Led.{led, carried, chained}
 use Rattle.msc_order.proofs.Once.{caused_enforced, once}
 
 -- the visual order is what leads on to any event

@@ -4,7 +4,7 @@ use Rattle.std.proofs.lemmas.Bool.{cases_lt}
 use Rattle.msc_chart.specs.declared.event.ChartEvent.{ChartEvent}
 use Rattle.msc_chart.specs.Charts.{line, segment, before, IsInTextOrder, IsSegmentEnd}
 use Rattle.msc_chart.proofs.Drawn.{before_from, before_parts}
-use Rattle.msc_order.specs.Causes.{IsNextSegment}
+use Rattle.msc_order.specs.Closing.{IsNextSegment}
 
 module _ (events : List ChartEvent) (text : IsInTextOrder events) where
   -- what is drawn before has a smaller number

@@ -9,8 +9,9 @@ use Rattle.msc_chart.specs.Charts.Visual.{seen, passed, linked}
 use Rattle.msc_chart.proofs.ListLemmas.{occurs-append, Steps-parts, step_at, until-append, until-within}
 use Rattle.msc_chart.proofs.Drawn.{before_parts, output_parts}
 use Rattle.bit_rows.specs.Tables.{with_row}
-use Rattle.msc_order.specs.Causes.{Led, IsBehind}
-use Rattle.msc_order.specs.Causes.Led.{led, carried, chained}
+use Rattle.msc_order.specs.Caused.{Led}
+use Rattle.msc_order.specs.Closing.{IsBehind}
+use Rattle.msc_order.specs.Caused.Led.{led, carried, chained}
 use Rattle.std.proofs.Math.Bool.{or-false}
 use Rattle.bit_rows.proofs.Bits.{by_test, clash}
 

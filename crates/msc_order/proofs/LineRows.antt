@@ -6,8 +6,9 @@ use Rattle.msc_chart.specs.declared.event.ChartEvent.{ChartEvent}
 use Rattle.msc_chart.specs.Charts.{partner, is_output, is_controlled, before, ShareSegment}
 use Rattle.msc_chart.proofs.Drawn.{before_from, before_parts, output_controlled}
 use Rattle.bit_rows.specs.Tables.{with_row}
-use Rattle.msc_order.specs.Causes.{Led, LedByLine, HoldsOnly, HasRowOf, KeepsOthers, IsBegun, IsNextSegment}
-use Rattle.msc_order.specs.Causes.Led.{led, carried, chained}
+use Rattle.msc_order.specs.Caused.{Led}
+use Rattle.msc_order.specs.Closing.{LedByLine, HoldsOnly, HasRowOf, KeepsOthers, IsBegun, IsNextSegment}
+use Rattle.msc_order.specs.Caused.Led.{led, carried, chained}
 use Rattle.bit_rows.proofs.Bits.{clash}
 use Rattle.msc_order.proofs.Leading.{row_cases, row_kept, row_there, row_after, row_others}
 

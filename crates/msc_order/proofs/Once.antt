@@ -4,8 +4,8 @@ use Rattle.msc_chart.specs.Charts.{partner, is_input}
 use Rattle.msc_chart.specs.Orders.{WiredChart, queue, IsWired, Enforced}
 use Rattle.msc_chart.specs.Orders.Enforced.{drawn, sent, joined, queued}
 use Rattle.msc_chart.proofs.Drawn.{output_parts, input_parts, not_both, controlled_no_input, partner_of_output, partner_of_input}
-use Rattle.msc_order.specs.Causes.{Caused, InQueueOrder}
-use Rattle.msc_order.specs.Causes.Led.{led, carried, chained}
+use Rattle.msc_order.specs.Caused.{Caused, InQueueOrder, IsFollowedBy}
+use Rattle.msc_order.specs.Caused.Led.{led, carried, chained}
 
 -- what is caused is enforced
 pub caused_enforced : (chart : WiredChart) (x y : ℕ) → Caused chart.events x y → Enforced chart x y
@@ -31,10 +31,6 @@ enters chart wired x r (chained {y = m} h k) input =
       | inr more ↦ inr (chained h more)
     ]
 
--- y is u or caused after it
-abbrev pub Follows : WiredChart → ℕ → ℕ → Type 0
-Follows chart u y = (u ≡ y) ⊎ Caused chart.events u y
-
 -- what is caused before the first of two inputs in queue order is caused before the second
 led_on : (chart : WiredChart) → IsWired chart → (x r u : ℕ) → Caused chart.events x r → InQueueOrder chart r u → Caused chart.events x u
 led_on chart wired x r u h q =
@@ -45,20 +41,20 @@ led_on chart wired x r u h q =
     ]
 
 -- what is caused before u is caused before what follows u
-caused_follows : (chart : WiredChart) (x u y : ℕ) → Caused chart.events x u → Follows chart u y → Caused chart.events x y
+caused_follows : (chart : WiredChart) (x u y : ℕ) → Caused chart.events x u → IsFollowedBy chart.events u y → Caused chart.events x y
 caused_follows chart x u y h (inl same) = subst (λ (z : ℕ). Caused chart.events x z) same h
 caused_follows chart x u y h (inr more) = chained h more
 
 -- caused, or caused after an input that follows in queue order
-abbrev pub IsOnce : WiredChart → ℕ → ℕ → Type 0
-IsOnce chart x y = Caused chart.events x y ⊎ ((u : ℕ) × InQueueOrder chart x u × Follows chart u y)
+abbrev pub UsesOneQueue : WiredChart → ℕ → ℕ → Type 0
+UsesOneQueue chart x y = Caused chart.events x y ⊎ ((u : ℕ) × InQueueOrder chart x u × IsFollowedBy chart.events u y)
 
 -- the order of the inputs of a queue is transitive, as that of their outputs
 queue_trans : (chart : WiredChart) (x m v : ℕ) → InQueueOrder chart x m → InQueueOrder chart m v → InQueueOrder chart x v
 queue_trans chart x m v h k = record { first = h.first; second = k.second; one_queue = h.one_queue ∙ k.one_queue; outputs = chained h.outputs k.outputs }
 
 -- two pairs of the form join to one: the second cannot begin at an input that the caused order leads into
-once_joined : (chart : WiredChart) → IsWired chart → (x m y : ℕ) → IsOnce chart x m → IsOnce chart m y → IsOnce chart x y
+once_joined : (chart : WiredChart) → IsWired chart → (x m y : ℕ) → UsesOneQueue chart x m → UsesOneQueue chart m y → UsesOneQueue chart x y
 once_joined chart wired x m y (inl h) (inl k) = inl (chained h k)
 once_joined chart wired x m y (inl h) (inr k) = inl (caused_follows chart x k.0 y (led_on chart wired x m k.0 h k.1) k.2)
 once_joined chart wired x m y (inr h) (inl k) =
@@ -73,7 +69,7 @@ once_joined chart wired x m y (inr h) (inr k) =
     ]
 
 -- The enforced order is the caused order, the inputs in queue order, and what is caused after the second of these.
-pub once : (chart : WiredChart) → IsWired chart → (x y : ℕ) → Enforced chart x y → IsOnce chart x y
+pub once : (chart : WiredChart) → IsWired chart → (x y : ℕ) → Enforced chart x y → UsesOneQueue chart x y
 once chart wired x y (drawn b o) = inl (led b o)
 once chart wired x y (sent o p) = inl (carried o p)
 once chart wired x y (joined {y = m} h k) = once_joined chart wired x m y (once chart wired x m h) (once chart wired m y k)

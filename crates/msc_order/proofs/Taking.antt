@@ -5,7 +5,8 @@ use Rattle.msc_chart.specs.Charts.{partner, is_output, is_input}
 use Rattle.msc_chart.specs.Orders.{WiredChart, queue, IsWired, Enforced}
 use Rattle.msc_chart.specs.Orders.Enforced.{joined}
 use Rattle.msc_chart.proofs.Drawn.{not_both, partner_of_output}
-use Rattle.msc_order.specs.Causes.{Caused, IsBetween, Keeps, HasQueueOf, HasSeen, IsOutputOf, AreSeen, IsAfterOne, IsTaken, AreMoved}
+use Rattle.msc_order.specs.Caused.{Caused}
+use Rattle.msc_order.specs.Closing.{IsBetween, Keeps, HasQueueOf, HasSeen, IsOutputOf, AreSeen, IsAfterOne, IsTaken, AreMoved}
 use Rattle.bit_rows.proofs.Bits.{by_test, clash}
 use Rattle.msc_order.proofs.Once.{queue_enforced}
 use Rattle.msc_order.proofs.Between.{in_order}

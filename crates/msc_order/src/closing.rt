@@ -10,8 +10,9 @@ ghost use Rattle.std.specs.Prelude.{IsTrue, OnOk, false};
 ghost use Rattle.msc_chart.specs.Charts.{before, is_controlled, Visual};
 ghost use Rattle.bit_rows.specs.Rows.{has, word_count};
 ghost use Rattle.bit_rows.specs.Tables.{cell, HasRow};
-ghost use Rattle.msc_order.specs.Causes.{Led, LedByLine, IsNextSegment, HoldsOnly, IsTestOf};
-ghost use Rattle.msc_order.specs.Causes.{AreBegun, HasRowOf, Keeps, KeepsOthers};
+ghost use Rattle.msc_order.specs.Caused.{Led};
+ghost use Rattle.msc_order.specs.Closing.{LedByLine, IsNextSegment, HoldsOnly, IsTestOf};
+ghost use Rattle.msc_order.specs.Closing.{AreBegun, HasRowOf, Keeps, KeepsOthers};
 
 use crate::segments::next_segment;
 use bit_rows::row;

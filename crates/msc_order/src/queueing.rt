@@ -4,15 +4,16 @@
 //! outputs of its queue that are caused after it are known by then; its input takes in the inputs
 //! of these. Whatever is caused after one of them needs no look: its input's row has been taken in.
 
-ghost use Rattle.std.specs.Prelude.{◌≡◌, ℕ, ◌+◌, ◌*◌, ◌<◌, ◌≤◌, ◌||◌, length, nat_eq, IsTrue};
+ghost use Rattle.std.specs.Prelude.{◌≡◌, ℕ, ◌+◌, ◌*◌, ◌<◌, ◌||◌, length, nat_eq, IsTrue};
 ghost use Rattle.std.specs.Prelude.{false, OnOk};
 ghost use Rattle.msc_chart.specs.Charts.{is_output, partner};
 ghost use Rattle.msc_chart.specs.Orders.{queue, IsEnforcedOrder};
 ghost use Rattle.msc_chart.specs.Wirings.{size, wired_by};
 ghost use Rattle.bit_rows.specs.Rows.{has, word_count};
 ghost use Rattle.bit_rows.specs.Tables.{cell, HasRow};
-ghost use Rattle.msc_order.specs.Causes.{Caused, IsTestOf, IsBetween, Keeps, HasSeen, IsAbove};
-ghost use Rattle.msc_order.specs.Causes.{IsOutputOf, AreSeen, IsTaken, AreMoved};
+ghost use Rattle.msc_order.specs.Caused.{Caused};
+ghost use Rattle.msc_order.specs.Closing.{IsTestOf, IsBetween, Keeps, HasSeen, IsAbove};
+ghost use Rattle.msc_order.specs.Closing.{IsOutputOf, AreSeen, IsTaken, AreMoved};
 
 use crate::closing::close;
 use bit_rows::row;

@@ -1,7 +1,7 @@
 //! The segments of a chart's lines, by the numbers of their events.
 
 ghost use Rattle.std.specs.Prelude.{◌<◌, length};
-ghost use Rattle.msc_order.specs.Causes.{IsNextSegment};
+ghost use Rattle.msc_order.specs.Closing.{IsNextSegment};
 
 use msc_chart::{Chart, Event};
 

@@ -46,12 +46,6 @@ same_pieces IsPart x ps qs rest e h =
 mark_fits : (k : Kind) → Some k ≢ None
 mark_fits k e = cc
 
--- `;`
-pub a_semicolon : (rest : List Piece) → IsPrintedAs (IsOnly Semicolon) tt (Mark 59 ∷ rest) rest
-unfolding lexemes_of lexeme_at
-a_semicolon rest =
-    record { reads = λ at. (at + 1, (at, refl)); cut = λ c. (mark_fits kinds.Semicolon, c) }
-
 -- `,`
 pub a_comma : (rest : List Piece) → IsPrintedAs (IsOnly Comma) tt (Mark 44 ∷ rest) rest
 unfolding lexemes_of lexeme_at

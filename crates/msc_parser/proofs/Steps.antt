@@ -81,16 +81,16 @@ abbrev pub GoAlike : List ℕ → Place → Place → List Token → Type 0
 GoAlike text p q [] = Unit {0}
 GoAlike text p q (t ∷ ts) = next p (lexeme_of text t).symbol ≡ next q (lexeme_of text t).symbol
 
+-- a fault as that of a walk
+abbrev pub some_fault : ParseFault → Option ParseFault
+some_fault e = Some e
+
 -- one step of two places that go on alike
 alike_step : (len : ℕ) (p q : Place) (l : Lexeme) (ls : List Lexeme) (o : Option Place)
     → what p ≡ what q → IsInside p → IsInside q
     → fault_of len (option_map_or (λ a. walk a ls) o (p, l ∷ ls)) ≡ fault_of len (option_map_or (λ a. walk a ls) o (q, l ∷ ls))
 alike_step len p q l ls None same in_p in_q =
-    sym (in_p len (l ∷ ls)) ∙ ap (λ (w : What). Some_fault (fault_at len w (l ∷ ls))) same ∙ in_q len (l ∷ ls)
-  where
-    -- a fault as that of a walk
-    Some_fault : ParseFault → Option ParseFault
-    Some_fault e = Some e
+    sym (in_p len (l ∷ ls)) ∙ ap (λ (w : What). some_fault (fault_at len w (l ∷ ls))) same ∙ in_q len (l ∷ ls)
 alike_step len p q l ls (Some a) same in_p in_q = refl
 
 -- places that go on alike and expect the same have the same fault
@@ -99,11 +99,7 @@ pub same_fault : (text : List ℕ) (p q : Place) (tokens : List Token) → GoAli
     → fault_from text p tokens ≡ fault_from text q tokens
 unfolding fault_from
 same_fault text p q [] alike same in_p in_q =
-    sym (in_p (length text) []) ∙ ap (λ (w : What). Some_fault (fault_at (length text) w [])) same ∙ in_q (length text) []
-  where
-    -- a fault as that of a walk
-    Some_fault : ParseFault → Option ParseFault
-    Some_fault e = Some e
+    sym (in_p (length text) []) ∙ ap (λ (w : What). some_fault (fault_at (length text) w [])) same ∙ in_q (length text) []
 same_fault text p q (t ∷ ts) alike same in_p in_q =
     let l = lexeme_of text t in
     let ls = lexemes text ts in

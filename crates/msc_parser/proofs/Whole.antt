@@ -1,5 +1,5 @@
 -- The whole chart is read.
-use Rattle.std.proofs.Common.{◌≡◌, ℕ, ◌<◌, ◌≤◌, List, [], ◌∷◌, length, Option, Some, None, Result, Ok, Err, refl, sym, ap, subst, ◌∙◌, arith}
+use Rattle.std.proofs.Common.{◌≡◌, ℕ, ◌<◌, ◌≤◌, List, [], ◌∷◌, length, None, Result, Ok, Err, refl, sym, ap, subst, ◌∙◌, arith}
 use Rattle.std.specs.Prelude.{IsErrAnd}
 use Rattle.std.proofs.lemmas.List.{length-map}
 use Rattle.msc_lexer.specs.declared.TheConstants.{TEXT_LIMIT}
@@ -14,7 +14,7 @@ use Rattle.msc_parser.specs.Places.{Start, ChartName, Header, Sections, Statemen
 use Rattle.msc_parser.specs.Parsing.{fault_at}
 use Rattle.msc_parser.specs.Reading.{fault_from, Stops, DidTake, fault_of, Refuses, TakesName, DidEnd, DidRead, AreUpTo, ReadsChart}
 use Rattle.msc_parser.proofs.FirstFault.{stuck}
-use Rattle.msc_parser.proofs.Steps.{leads_on, OnlyTakes, Stops-from, refuses_kind, refuses_name, Stops-back}
+use Rattle.msc_parser.proofs.Steps.{leads_on, OnlyTakes, Stops-from, refuses_kind, refuses_name, Stops-back, some_fault}
 
 -- at the start only `msc` may stand
 only-Start : OnlyTakes Start (kinds.Word words.Msc)
@@ -54,10 +54,6 @@ more_refused text [] e some fault = absurd (omega arith)
 more_refused text (t ∷ ts) e some fault =
     Stops-from text Done (t ∷ ts) e (ap some_fault fault ∙ sym (ap (fault_of (length text)) (stuck Done (lexeme_of text t) (lexemes text ts) (nothing (lexeme_of text t).symbol))))
   where
-    -- a fault as that of a walk
-    some_fault : ParseFault → Option ParseFault
-    some_fault x = Some x
-
     -- behind a whole chart no symbol may stand
     nothing : (x : Symbol) → next Done x ≡ None
     nothing x = refl

@@ -56,6 +56,7 @@ impl Draft {
     fn known(&self)
         ensures { IsDraft self.now }
     {
+        // A look at a field makes known what every draft keeps.
         let _name = &self.name;
     }
 

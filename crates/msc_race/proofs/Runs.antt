@@ -13,6 +13,6 @@ pub mod Tables
 pub mod Reversal
 pub mod RaceLaws
 pub mod ChosenRuns
-pub mod Telling
+pub mod Deciding
 pub mod FreeRuns
 pub mod ChosenExists

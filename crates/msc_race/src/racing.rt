@@ -10,7 +10,7 @@ ghost use Rattle.msc_chart.specs.declared.event.ChartEvent.{ChartEvent};
 ghost use Rattle.msc_chart.specs.Lists.{pairs_to};
 ghost use Rattle.msc_chart.specs.Charts.{IsLineEnd, IsSegmentEnd};
 ghost use Rattle.msc_chart.specs.Orders.{wired, IsEnforcedOrder};
-ghost use Rattle.bit_rows.specs.Rows.{bit_of};
+ghost use Rattle.bit_rows.specs.Rows.{bit_of, HasNumbersOf32Bits};
 ghost use Rattle.msc_order.specs.Tables.{orders};
 ghost use Rattle.msc_race.specs.Gaps.{is_gap, is_open};
 ghost use Rattle.msc_race.specs.Races.{all_races, is_raced, IsVerdict, TellsRuns};
@@ -27,7 +27,7 @@ use std::alloc::{AllocError, Global};
 /// The bits of word `k` of a row that are 0 and stand for numbers from `start` up to `end`, which
 /// the word has some of.
 fn gaps_of(word: u64, k: u32, start: u32, end: u32) -> u64
-    requires few { 64 * k < 4294967232 }
+    requires few { HasNumbersOf32Bits k }
     requires start { start < 64 * k + 64 }
     requires end { 64 * k < end }
     ensures { (f : ℕ) → f / 64 ≡ k
@@ -44,7 +44,7 @@ fn gaps_of(word: u64, k: u32, start: u32, end: u32) -> u64
 
 /// Appends the pairs of `e` with the numbers that `word` has as word `k` of a row.
 fn push_word(list: &mut Vec<(Event, Event)>, word: u64, e: Event, k: u32) -> Result<(), AllocError>
-    requires few { 64 * k < 4294967232 }
+    requires few { HasNumbersOf32Bits k }
     ensures { OnOk result
         (list.new.items ≡ list.old.items ++ pairs_to (is_in_word word k) e (64 * k + 64)) }
 {
@@ -66,7 +66,7 @@ fn push_gaps(
     end: u32,
 ) -> Result<(), AllocError>
     requires reach { end ≤ 64 * length row.now }
-    requires few { 64 * length row.now < 4294967232 }
+    requires few { HasNumbersOf32Bits (length row.now) }
     ensures { OnOk result
         (list.new.items ≡ list.old.items ++ pairs_to (is_gap row.now start) e end) }
 {
@@ -124,7 +124,7 @@ fn line_end(chart: &Chart, e: Event, known: Event) -> Event
 /// How many numbers from `start` up to `end` have a 0 as their bit in a row ([`bit_rows`]).
 fn count_gaps(row: &[u64], start: u32, end: u32) -> u32
     requires reach { end ≤ 64 * length row.now }
-    requires few { 64 * length row.now < 4294967232 }
+    requires few { HasNumbersOf32Bits (length row.now) }
     ensures { (e : ℕ) → result ≡ length (pairs_to (is_gap row.now start) e end) }
 {
     if start >= end {
@@ -235,11 +235,11 @@ pub fn races(alloc: Global, chart: &Chart, order: &Order) -> Result<Vec<(Event, 
 
 /// How many pairs of events are drawn in an order which `order` does not hold: as many as
 /// [`races`] lists. The order was made of a chart with as many events. It takes no memory.
-// A pair is of two events, so there are fewer than the square of `EVENT_LIMIT`, which fits.
 pub fn count_races(chart: &Chart, order: &Order) -> u32
     requires events { length order.now ≡ length chart.now.events }
     ensures { result ≡ length (all_races chart.now.events order.now) }
 {
+    // A pair is of two events, so there are fewer than the square of `EVENT_LIMIT`, which fits.
     let mut total = 0;
     let mut walk = Walk::new();
     for e in 0..chart.events() {

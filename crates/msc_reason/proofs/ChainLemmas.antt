@@ -4,9 +4,9 @@ use Rattle.msc_chart.specs.declared.event.ChartEvent.{ChartEvent}
 use Rattle.msc_chart.specs.Charts.{partner}
 use Rattle.msc_chart.specs.Orders.{WiredChart, IsWired, Enforced}
 use Rattle.msc_chart.specs.Orders.Enforced.{drawn, sent, joined}
-use Rattle.msc_order.specs.Causes.{Caused}
-use Rattle.msc_order.specs.Causes.Led.{led, carried, chained}
-use Rattle.msc_order.proofs.Once.{Follows, once}
+use Rattle.msc_order.specs.Caused.{Caused, IsFollowedBy}
+use Rattle.msc_order.specs.Caused.Led.{led, carried, chained}
+use Rattle.msc_order.proofs.Once.{once}
 use Rattle.msc_reason.specs.declared.why.Why.{Why}
 use Rattle.msc_reason.specs.declared.why.Why.TheVariants.{Straight, ByQueue}
 use Rattle.msc_reason.specs.Chains.{Step, LeadsTo, IsChain, IsWhy}
@@ -68,7 +68,7 @@ module _ (chart : WiredChart) where
         ]
 
     -- what an input leads on to, itself or what is caused after it
-    follows_leads : (u f : ℕ) → Follows chart u f → (steps : List ℕ) × LeadsTo chart.events u steps f
+    follows_leads : (u f : ℕ) → IsFollowedBy chart.events u f → (steps : List ℕ) × LeadsTo chart.events u steps f
     follows_leads u f (inl same) = ([], same)
     follows_leads u f (inr more) = let chain = caused_chain chart.events u f more in (chain.0, chain.1.1)
 

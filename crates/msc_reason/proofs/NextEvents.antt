@@ -10,7 +10,7 @@ use Rattle.msc_chart.proofs.Drawn.{before_from, before_parts}
 use Rattle.msc_chart.proofs.Numbers.{any_below, none_of_any, some_of_any}
 use Rattle.msc_chart.proofs.ListLemmas.{clash}
 use Rattle.msc_order.specs.Tables.{Table, orders}
-use Rattle.msc_order.specs.Causes.{IsNextSegment}
+use Rattle.msc_order.specs.Closing.{IsNextSegment}
 use Rattle.msc_race.specs.Gaps.{is_open}
 use Rattle.msc_race.specs.Races.{AreAscending}
 use Rattle.msc_race.proofs.Listing.Ascending.{of_ascends}

@@ -60,8 +60,8 @@ module _ (chart : WiredChart) where
 
   module _ (is_wired : IsWired chart) where
     -- p is the output of f, or is enforced before it
-    abbrev pub Reaches : ℕ → ℕ → Type 0
-    Reaches p f = (p ≡ partner chart.events f) ⊎ Enforced chart p (partner chart.events f)
+    abbrev pub ReachesOutput : ℕ → ℕ → Type 0
+    ReachesOutput p f = (p ≡ partner chart.events f) ⊎ Enforced chart p (partner chart.events f)
 
     -- an input is enforced after its output
     pub sent_before : (r : ℕ) → is_input chart.events r ≡ true → Enforced chart (partner chart.events r) r
@@ -79,7 +79,7 @@ module _ (chart : WiredChart) where
         (is_wired.matched.to_and_fro r r_below) (is_wired.matched.to_and_fro u u_below)
 
     -- what is enforced before an input of its queue has its output before that of the other
-    output_reaches : (e f : ℕ) → share_queue chart e f ≡ true → Enforced chart e f → Reaches (partner chart.events e) f
+    output_reaches : (e f : ℕ) → share_queue chart e f ≡ true → Enforced chart e f → ReachesOutput (partner chart.events e) f
     output_reaches e f share h =
         let p = share_parts e f share in
         elim (into_input chart is_wired e f h p.1) [
@@ -91,7 +91,7 @@ module _ (chart : WiredChart) where
         ]
 
     -- any other event that is enforced before an input is its output or comes before that
-    itself_reaches : (e f : ℕ) → is_input chart.events f ≡ true → share_queue chart e f ≡ false → Enforced chart e f → Reaches e f
+    itself_reaches : (e f : ℕ) → is_input chart.events f ≡ true → share_queue chart e f ≡ false → Enforced chart e f → ReachesOutput e f
     itself_reaches e f input apart h =
         elim (into_input chart is_wired e f h input) [
           | inl same ↦ inl same
@@ -109,13 +109,13 @@ module _ (chart : WiredChart) where
         (sym (is_wired.matched.to_and_fro e p.0) ∙ ap (partner chart.events) same ∙ is_wired.matched.to_and_fro f p.1)
 
     -- an event is enforced before an input below it exactly where what is needed reaches the input
-    pub one_pair : (e f : ℕ) → before chart.events e f ≡ true → is_input chart.events f ≡ true → Enforced chart e f ↔ Reaches (needed chart e f) f
+    pub one_pair : (e f : ℕ) → before chart.events e f ≡ true → is_input chart.events f ≡ true → Enforced chart e f ↔ ReachesOutput (needed chart e f) f
     one_pair e f b input = by_test (share_queue chart e f)
-        (λ share. subst (λ (p : ℕ). Enforced chart e f ↔ Reaches p f) (sym (needed_output e f share)) (
+        (λ share. subst (λ (p : ℕ). Enforced chart e f ↔ ReachesOutput p f) (sym (needed_output e f share)) (
           output_reaches e f share,
           λ reaches. elim reaches [ inl same ↦ absurd (inputs_differ e f b same) | inr h ↦ queued_before e f share h ],
         ))
-        (λ apart. subst (λ (p : ℕ). Enforced chart e f ↔ Reaches p f) (sym (needed_itself e f apart)) (
+        (λ apart. subst (λ (p : ℕ). Enforced chart e f ↔ ReachesOutput p f) (sym (needed_itself e f apart)) (
           itself_reaches e f input apart,
           λ reaches. elim reaches [
             | inl same ↦ rw same (sent_before f input)

@@ -7,13 +7,13 @@ use Rattle.msc_chart.specs.Orders.{WiredChart, IsWired, Enforced, IsEnforcedOrde
 use Rattle.msc_chart.specs.Orders.Enforced.{joined}
 use Rattle.msc_chart.proofs.Numbers.{count_below, count-less}
 use Rattle.msc_chart.proofs.Drawn.{before_parts, controlled_no_input}
-use Rattle.msc_order.specs.Causes.{Caused}
-use Rattle.msc_order.specs.Causes.Led.{led, carried, chained}
+use Rattle.msc_order.specs.Caused.{Caused, IsFollowedBy}
+use Rattle.msc_order.specs.Caused.Led.{led, carried, chained}
 use Rattle.msc_order.proofs.Drawing.{before_later}
 use Rattle.msc_order.proofs.Once.{caused_enforced, once}
 use Rattle.msc_reason.specs.Chains.{IsChain, LeadsTo, Step}
 use Rattle.msc_reason.specs.Chains.Step.{below, over}
-use Rattle.msc_reason.specs.Links.{IsFollowedBy, HasNoLink, IsNextStep, IsMate}
+use Rattle.msc_reason.specs.Links.{HasNoLink, IsNextStep, IsMate}
 
 -- what is drawn below an event stands from the end of its segment up to the end of its line
 pub drawn_range : (events : List ChartEvent) → IsInTextOrder events → (e start end f : ℕ) → IsSegmentEnd events e start → IsLineEnd events e end

@@ -4,13 +4,13 @@
 //! and where there is none from an output to its input. What the enforced order holds beyond
 //! chains begins at an input of a queue, and the rule of queues is needed once.
 
-ghost use Rattle.std.specs.Prelude.{◌≡◌, ◌<◌, ◌⊎◌, ◌↔◌, ℕ, length, IsTrue, IfOk, MatchOption};
+ghost use Rattle.std.specs.Prelude.{◌≡◌, ◌<◌, ◌↔◌, ℕ, length, IsTrue, IfOk, MatchOption};
 ghost use Rattle.msc_chart.specs.Charts.{is_input};
 ghost use Rattle.msc_chart.specs.Orders.{wired, Enforced, IsEnforcedOrder};
-ghost use Rattle.msc_order.specs.Causes.{Caused, InQueueOrder};
+ghost use Rattle.msc_order.specs.Caused.{Caused, InQueueOrder, IsFollowedBy};
 ghost use Rattle.msc_order.specs.Tables.{orders};
 ghost use Rattle.msc_reason.specs.Chains.{IsWhy, LeadsTo, Step};
-ghost use Rattle.msc_reason.specs.Links.{IsFollowedBy, HasNoLink, IsNextStep, IsMate, Reaches};
+ghost use Rattle.msc_reason.specs.Links.{HasNoLink, IsNextStep, IsMate, Reaches};
 
 use crate::why::Why;
 use listed::Listed;

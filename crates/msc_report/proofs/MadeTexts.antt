@@ -43,14 +43,6 @@ within_kept old rest s within = record {
   end = let size = length-append old rest in let end = within.end in omega (arith, size, end);
 }
 
--- no text is made at first
-pub made_none : (d : Drawing) → AreMade d [] [] 0
-made_none d = record {
-  size = refl;
-  within = λ k s below. absurd (omega (arith, below));
-  each = λ k below. absurd (omega (arith, below));
-}
-
 -- one text more is made
 pub made_more : (d : Drawing) (old new : List ℕ) (spans : List Span) (e : ℕ) (s : Span)
     → AreMade d old spans e → HasPutText d e old new s → AreMade d new (spans ++ s ∷ []) (e + 1)

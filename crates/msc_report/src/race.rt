@@ -80,7 +80,7 @@ fn write_signal<W: Write>(
 }
 
 /// Writes an output or an input in the words of its statement.
-fn write_end<W: Write>(writer: &mut W, chart: &Chart, e: Event) -> io::Result<()>
+fn write_message_end<W: Write>(writer: &mut W, chart: &Chart, e: Event) -> io::Result<()>
     requires known { e < length chart.now.events }
     requires message { is_local chart.now.events e ≡ false }
     ensures { OnOk result (Appends (W.contents writer.old) (W.contents writer.new)
@@ -137,7 +137,7 @@ pub(crate) fn write_event<W: Write>(writer: &mut W, chart: &Chart, e: Event) -> 
 {
     match chart.label(e) {
         Some(label) => write_action(writer, label),
-        None => write_end(writer, chart, e),
+        None => write_message_end(writer, chart, e),
     }
 }
 
@@ -177,7 +177,7 @@ pub fn write_run<W: Write>(writer: &mut W, run: &[Event]) -> io::Result<()>
 }
 
 /// Writes which events race, and on which line.
-fn write_place<W: Write>(writer: &mut W, chart: &Chart, e: Event, f: Event) -> io::Result<()>
+fn write_race_place<W: Write>(writer: &mut W, chart: &Chart, e: Event, f: Event) -> io::Result<()>
     requires { e < length chart.now.events }
     ensures { OnOk result (Appends (W.contents writer.old) (W.contents writer.new)
         (race_place chart.now e f)) }
@@ -208,7 +208,7 @@ pub fn write_race<W: Write>(writer: &mut W, chart: &Chart, e: Event, f: Event) -
     ensures { OnOk result (Appends (W.contents writer.old) (W.contents writer.new)
         (race_text chart.now e f None)) }
 {
-    write_place(writer, chart, e, f)?;
+    write_race_place(writer, chart, e, f)?;
     writer.write_all(b": ")?;
     write_pair(writer, chart, e, f)
 }

@@ -10,7 +10,7 @@ use Rattle.msc_race.specs.declared.verdict.Verdict.TheVariants.{Pass, Races}
 use Rattle.msc_reason.specs.Closest.{IsClosestList}
 use Rattle.msc_study.proofs.Splitting.{both_count, in_one, kept_ascends, left_ascends, of_kept, of_left}
 use Rattle.msc_study.specs.declared.view.View.{View}
-use Rattle.msc_study.specs.Counting.{Allowed, AreRacesOf, Counts, IsListing, Splits}
+use Rattle.msc_study.specs.Counting.{IsAllowedPair, AreRacesOf, Counts, IsListing, Splits}
 use Rattle.msc_study.specs.Listing.{AreAllAllowed, AreLeftOut, AreAllWanted}
 use Rattle.msc_text.specs.Checking.{races_of}
 
@@ -34,13 +34,9 @@ module _ (chart : WiredChart) where
   pub are_races : (v : Verdict) → IsVerdict chart v → AreRacesOf chart (races_of v)
   are_races v said e f there = (verdict_races v said e f).1 there
 
-  -- and so is each closest race
-  pub are_closest : (pairs : List (ℕ × ℕ)) → IsClosestList chart pairs → AreRacesOf chart pairs
-  are_closest pairs said e f there = ((said.closest e f).1 there).race
-
   -- the kept ones of the closest races are what is wanted, where these alone are
   pub near_wanted : (view : View) (near more rest : List (ℕ × ℕ)) → IsClosestList chart near
-      → Splits (Counts chart view.allowed) (Allowed chart view.allowed) near more rest → view.closest ≡ true → AreAllWanted chart view more
+      → Splits (Counts chart view.allowed) (IsAllowedPair chart view.allowed) near more rest → view.closest ≡ true → AreAllWanted chart view more
   near_wanted view near more rest are close only = record {
     each = λ e f. (
       λ wanted. elim (in_one _ _ (e, f) close ((are.closest e f).0 (wanted.closest only))) [
@@ -57,10 +53,10 @@ module _ (chart : WiredChart) where
   }
 
   module _ (view : View) (v : Verdict) (said : IsVerdict chart v) {races some others : List (ℕ × ℕ)} (of_verdict : races ≡ races_of v)
-      (parted : Splits (Counts chart view.allowed) (Allowed chart view.allowed) races some others) where
+      (parted : Splits (Counts chart view.allowed) (IsAllowedPair chart view.allowed) races some others) where
     -- the races of the verdict are split so
-    split : Splits (Counts chart view.allowed) (Allowed chart view.allowed) (races_of v) some others
-    split = subst (λ (all : List (ℕ × ℕ)). Splits (Counts chart view.allowed) (Allowed chart view.allowed) all some others) of_verdict parted
+    split : Splits (Counts chart view.allowed) (IsAllowedPair chart view.allowed) (races_of v) some others
+    split = subst (λ (all : List (ℕ × ℕ)). Splits (Counts chart view.allowed) (IsAllowedPair chart view.allowed) all some others) of_verdict parted
 
     -- the others are those of the kinds that are left out
     left_out : AreLeftOut chart view.allowed others

@@ -20,12 +20,12 @@ pub data Splits (P Q : ℕ × ℕ → Type 0) : List (ℕ × ℕ) → List (ℕ 
       → Splits P Q (p ∷ all) some (p ∷ others)
 
 -- the pair is of one of the kinds
-abbrev pub Allowed : WiredChart → KindSet → ℕ × ℕ → Type 0
-Allowed chart allowed p = IsAllowed chart allowed p.0 p.1
+abbrev pub IsAllowedPair : WiredChart → KindSet → ℕ × ℕ → Type 0
+IsAllowedPair chart allowed p = IsAllowed chart allowed p.0 p.1
 
 -- the pair is of none of them
 abbrev pub Counts : WiredChart → KindSet → ℕ × ℕ → Type 0
-Counts chart allowed p = Allowed chart allowed p → ⊥
+Counts chart allowed p = IsAllowedPair chart allowed p → ⊥
 
 -- each pair of the list is a race
 abbrev pub AreRacesOf : WiredChart → List (ℕ × ℕ) → Type 0

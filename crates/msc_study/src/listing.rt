@@ -5,7 +5,7 @@ ghost use Rattle.msc_chart.specs.Orders.{wired, IsEnforcedOrder, IsRace};
 ghost use Rattle.msc_order.specs.Tables.{orders};
 ghost use Rattle.msc_race.specs.Races.{IsVerdict};
 ghost use Rattle.msc_reason.specs.Closest.{IsClosestList};
-ghost use Rattle.msc_study.specs.Counting.{Allowed, AreRacesOf, Counts, IsListing, Splits};
+ghost use Rattle.msc_study.specs.Counting.{IsAllowedPair, AreRacesOf, Counts, IsListing, Splits};
 ghost use Rattle.msc_text.specs.Checking.{races_of};
 
 use crate::view::{KindSet, View};
@@ -41,7 +41,7 @@ fn counts(
     requires square { length order.now ≡ length chart.now.events }
     requires race { IsRace (wired queues chart.now) race.0 race.1 }
     ensures kept { IsTrue result → Counts (wired queues chart.now) allowed race }
-    ensures left { result ≡ false → Allowed (wired queues chart.now) allowed race }
+    ensures left { result ≡ false → IsAllowedPair (wired queues chart.now) allowed race }
 {
     if allowed.is_empty() {
         return true;
@@ -66,7 +66,7 @@ fn counted(
     requires races { AreRacesOf (wired queues chart.now) races.now }
     ensures { IfOk result (λ some. (others : List (ℕ × ℕ))
         × Splits (Counts (wired queues chart.now) allowed)
-        (Allowed (wired queues chart.now) allowed) races.now some.items others) }
+        (IsAllowedPair (wired queues chart.now) allowed) races.now some.items others) }
 {
     let mut some = Vec::new(alloc);
     for race in races {
@@ -90,7 +90,7 @@ fn near_races(
     ensures { IfOk result (λ more. (near others : List (ℕ × ℕ))
         × IsClosestList (wired queues chart.now) near
         × Splits (Counts (wired queues chart.now) view.allowed)
-        (Allowed (wired queues chart.now) view.allowed) near more.items others) }
+        (IsAllowedPair (wired queues chart.now) view.allowed) near more.items others) }
 {
     let near = closest(alloc, chart, queues, order)?;
     counted(alloc, chart, queues, order, view.allowed, near.as_slice())

@@ -30,7 +30,7 @@ use std::io::{Read, Write};
 
 /// Writes the head of a study: that of the verdict, how many races are left out and how many are
 /// listed.
-fn write_head<W: Write>(
+fn write_study_head<W: Write>(
     writer: &mut W,
     chart: &Chart,
     queues: Queues,
@@ -60,7 +60,7 @@ fn head_of(
         made.now.allowed (length made.now.listed.items)) }
 {
     let mut page = Page::new(alloc);
-    match write_head(&mut page, chart, queues, verdict, view, made) {
+    match write_study_head(&mut page, chart, queues, verdict, view, made) {
         Ok(()) => Ok(page),
         Err(_) => Err(AllocError),
     }

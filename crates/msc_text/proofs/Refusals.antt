@@ -43,8 +43,8 @@ refuses {A} text (grammar.Unsupported at w) said = refuses_with text (grammar.Un
 refuses {A} text (grammar.Expected at w) said = refuses_with text (grammar.Expected at w) (λ e. cc) said
 
 -- the text's draft, of which there is one
-abbrev pub IsDraft : List ℕ → Tree → Type 0
-IsDraft text d = HasDraft text d × ((t : Tree) → HasDraft text t → d ≡ t)
+abbrev pub IsOnlyDraft : List ℕ → Tree → Type 0
+IsOnlyDraft text d = HasDraft text d × ((t : Tree) → HasDraft text t → d ≡ t)
 
 -- where a text has a draft, no fault of a text is answered
 pub text_stands : {A : Type 0} (text : List ℕ) (answer : Result A Fault) → ((f : ParseFault) → HasParseFault text f → ⊥)
@@ -79,14 +79,14 @@ no_draft {A} text (grammar.Expected at w) said = record {
 }
 
 -- the first fault of the text's draft is answered
-first_fault : {A : Type 0} (text : List ℕ) (d : Tree) (f : ChartFault) → IsDraft text d → IsFirstFault d f → RefusesDraft {A = A} text (Err (Chart f))
+first_fault : {A : Type 0} (text : List ℕ) (d : Tree) (f : ChartFault) → IsOnlyDraft text d → IsFirstFault d f → RefusesDraft {A = A} text (Err (Chart f))
 first_fault {A} text d f is first = record {
   stands = λ g e. (d, is.0, let same : f ≡ g = cc in subst (IsFirstFault d) same first);
   comes = λ t has g stands. (Chart f, refl, subst (λ t. IsFirstFault t f) (is.1 t has) first);
 }
 
 -- a draft that is no chart is refused with its first fault, unless memory runs out
-pub no_chart : {A : Type 0} (text : List ℕ) (d : Tree) (f : ChartFault) → IsDraft text d → (f ≢ charts.Memory → IsFirstFault d f)
+pub no_chart : {A : Type 0} (text : List ℕ) (d : Tree) (f : ChartFault) → IsOnlyDraft text d → (f ≢ charts.Memory → IsFirstFault d f)
     → RefusesDraft {A = A} text (Err (chart_refusal_of f))
 no_chart {A} text d charts.Memory is first = memory_of_draft text
 no_chart {A} text d charts.TooManyInstances is first = first_fault text d _ is (first (λ e. cc))
@@ -101,7 +101,7 @@ no_chart {A} text d (charts.UnmatchedIn e) is first = first_fault text d _ is (f
 no_chart {A} text d (charts.Cyclic e) is first = first_fault text d _ is (first (λ e. cc))
 
 -- where no fault stands in the text's draft, no fault of a draft is answered
-pub chart_stands : {A : Type 0} (text : List ℕ) (d : Tree) (answer : Result A Fault) → IsDraft text d → IsFaultless d
+pub chart_stands : {A : Type 0} (text : List ℕ) (d : Tree) (answer : Result A Fault) → IsOnlyDraft text d → IsFaultless d
     → ((f : ChartFault) → answer ≢ Err (Chart f)) → RefusesDraft text answer
 chart_stands {A} text d answer is faultless other = record {
   stands = λ f e. absurd (other f e);
@@ -127,12 +127,12 @@ pub no_draft_no_chart : (text : List ℕ) (f : ParseFault) → ParserRefuses tex
 no_draft_no_chart text f said d is = rw (said.1 is.draft is.has) refl
 
 -- and where the draft is refused
-pub no_chart_of : (text : List ℕ) (t : Tree) (f : ChartFault) → IsDraft text t → (f ≢ charts.Memory → IsFirstFault t f)
+pub no_chart_of : (text : List ℕ) (t : Tree) (f : ChartFault) → IsOnlyDraft text t → (f ≢ charts.Memory → IsFirstFault t f)
     → (d : Drawing) → IsChartOf text d → chart_refusal_of f ≡ Memory
 no_chart_of text t f own first d is = only_memory t f (subst IsFaultless (sym (own.1 is.draft is.has)) is.faultless) first
 
 -- a chart of the text's draft is the text's chart
-pub one_chart : (text : List ℕ) (t : Tree) (c : Drawing) → IsDraft text t → c ≡ chart_of t → (d : Drawing) → IsChartOf text d → c ≡ d
+pub one_chart : (text : List ℕ) (t : Tree) (c : Drawing) → IsOnlyDraft text t → c ≡ chart_of t → (d : Drawing) → IsChartOf text d → c ≡ d
 one_chart text t c own same d is = same ∙ ap chart_of (own.1 is.draft is.has) ∙ sym is.chart
 
 -- where a text's chart is refused, what is made of it is refused alike: the text

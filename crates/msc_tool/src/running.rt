@@ -104,7 +104,7 @@ fn page_of(
 
 /// Runs a chart, and writes how its instances ended and the trace; answers whether all have
 /// finished. Nothing is written before all of that is known.
-fn write_run<R: Threads + Wait + Sync, G: Gate + Sync, W: Write>(
+fn write_execution<R: Threads + Wait + Sync, G: Gate + Sync, W: Write>(
     rt: &R,
     alloc: Global,
     chart: &Chart,
@@ -159,7 +159,7 @@ pub fn run_text<R: Threads + Wait + Sync, G: Gate + Sync, W: Write>(
     ensures untouched { IfErr result (λ e. e ≢ Fault.Device → writer.new ≡ writer.old) }
 {
     let chart = chart_of_text(alloc, text)?;
-    write_run(rt, alloc, &chart, queues, gate, patience, writer)
+    write_execution(rt, alloc, &chart, queues, gate, patience, writer)
 }
 
 /// Reads an input to its end, runs its chart, and writes how each instance ended and the trace, as

@@ -2,7 +2,7 @@
 
 use crate::devices::{Narrow, byte_writer};
 use crate::program::{Host, answers, run};
-use crate::traces::chart_of;
+use crate::traces::read_chart;
 use example_charts::{
     COREGION, CROSSING, EMPTY, LOCAL_EVENTS, NUMBERED, ONE_MESSAGE, OVERTAKING, RELAY,
     TEXTS_OF_ACTIONS, TWO_MAILBOXES, TWO_SENDERS, WAITS,
@@ -235,7 +235,7 @@ fn is_race_written(writer: &mut Narrow, chart: &Chart) -> bool {
 
 /// Whether that race of `two_senders` is written as `wanted`.
 fn writes_race(alloc: Global, wanted: &[u8]) -> Result<bool, Fail> {
-    let chart = chart_of(alloc, TWO_SENDERS)?;
+    let chart = read_chart(alloc, TWO_SENDERS)?;
     let mut writer = byte_writer(alloc, 0);
     let is = is_race_written(&mut writer, &chart);
     Ok((is, writer.written.as_slice()) == (true, wanted))

@@ -97,7 +97,7 @@ fn are_events(chart: &Chart, events: &[Event]) -> bool
 }
 
 /// The chart of a text that has one.
-pub(crate) fn chart_of(alloc: Global, text: &[u8]) -> Result<Chart, Fail> {
+pub(crate) fn read_chart(alloc: Global, text: &[u8]) -> Result<Chart, Fail> {
     Ok(Chart::build(alloc, &parse(alloc, text)?)?)
 }
 
@@ -119,7 +119,7 @@ fn is_written(writer: &mut Narrow, chart: &Chart, printed: &Printed) -> bool {
 
 /// Whether this is what is written through a writer that takes a byte at a time.
 fn writes(alloc: Global, printed: &Printed) -> Result<bool, Fail> {
-    let chart = chart_of(alloc, printed.0)?;
+    let chart = read_chart(alloc, printed.0)?;
     let mut writer = byte_writer(alloc, 0);
     let is = is_written(&mut writer, &chart, printed);
     Ok((is, writer.written.as_slice()) == (true, printed.4))
@@ -127,7 +127,7 @@ fn writes(alloc: Global, printed: &Printed) -> Result<bool, Fail> {
 
 /// Whether a writer that fails at this call, from 1, is an error.
 fn fails(alloc: Global, printed: &Printed, call: u32) -> Result<bool, Fail> {
-    let chart = chart_of(alloc, printed.0)?;
+    let chart = read_chart(alloc, printed.0)?;
     Ok(!is_written(&mut byte_writer(alloc, call), &chart, printed))
 }
 

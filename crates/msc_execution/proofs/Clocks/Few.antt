@@ -14,17 +14,18 @@ use Rattle.msc_execution.specs.Timed.{IsTimed, all_puts}
 use Rattle.msc_execution.proofs.Lists.Words.{passes, unmapped, once_filter, once_map}
 use Rattle.msc_execution.proofs.Lists.Ranges.{range_has}
 use Rattle.msc_execution.proofs.Wiring.Fitted.{pigeons}
-use Rattle.msc_gather.proofs.Apart.{Apart, apart_of_once, Apart-concat, of_concat}
+use Rattle.msc_gather.proofs.Distinct.{distinct_of_once, IsDistinct-concat, of_concat}
+use Rattle.msc_chart.proofs.ListLemmas.{IsDistinct}
 
 module _ (queues : Queues) (d : Drawing) (accepted : IsAccepted d) (logs : List (List ℕ))
     (places : Places)
     (timed : IsTimed (wired queues d) (length d.instances) logs places) where
   -- the logs hold no event twice
-  logs_apart : Apart (concat logs)
+  logs_apart : IsDistinct (concat logs)
   logs_apart =
       let many = timed.lines.as_many in
-      Apart-concat logs (λ i below.
-      (apart_of_once [] (get_or logs i []) (timed.lines.once i (omega arith))).0)
+      IsDistinct-concat logs (λ i below.
+      (distinct_of_once [] (get_or logs i []) (timed.lines.once i (omega arith))).0)
       (λ i j e bi bj hi hj. sym (timed.lines.known i e (omega arith) hi).1
       ∙ (timed.lines.known j e (omega arith) hj).1)
 
@@ -42,7 +43,7 @@ module _ (queues : Queues) (d : Drawing) (accepted : IsAccepted d) (logs : List 
       (p.1, accepted.has_messages.known s within (output_not_local d.events s p.1))
 
   -- each is put once
-  puts_apart : Apart (all_puts (wired queues d) logs)
+  puts_apart : IsDistinct (all_puts (wired queues d) logs)
   unfolding all_puts
   puts_apart = once_filter (is_output d.events) (concat logs) logs_apart
 
@@ -50,7 +51,7 @@ module _ (queues : Queues) (d : Drawing) (accepted : IsAccepted d) (logs : List 
   pub few_puts : length (all_puts (wired queues d) logs) ≤ length d.messages
   few_puts =
       let puts : List ℕ = all_puts (wired queues d) logs in
-      let apart : Apart (map (message d.events) puts) =
+      let apart : IsDistinct (map (message d.events) puts) =
       once_map (message d.events) puts (λ x y a b same.
       sym (accepted.has_messages.back x (put_output x a).0) ∙ ap (output_of d) same
       ∙ accepted.has_messages.back y (put_output y b).0) puts_apart in

@@ -22,14 +22,14 @@ use Rattle.msc_execution.proofs.Lists.Among.{among_front, map_at, at_map, occurs
 use Rattle.msc_execution.proofs.Wiring.Receivers.{queues_have}
 use Rattle.msc_execution.proofs.Wiring.Logged.{output_there}
 use Rattle.msc_execution.proofs.Clocks.Standing.{message_at, at_message, place_clock_is}
-use Rattle.msc_execution.proofs.Clocks.Shown.{place_of, places_are, place_entry}
+use Rattle.msc_execution.proofs.Clocks.Shown.{queue_place_of, places_are, place_entry}
 use Rattle.msc_execution.proofs.Clocks.Sources.{IsRead, Source, settled, nothing, known_out, queue_out, outlet_at, claims_are, source}
 
 module _ {queues : Queues} {d : Drawing} {open' : Bool} {patience : ℕ} {o : Outcome}
     (told : IsRead queues d open' patience o) where
   -- the places of a queue that has messages
   pub shown : (q : ℕ) (there : occurs (queues_in queues d) q ≡ true)
-      → shown_places d o q ≡ map (place_of d) (settled told q there).is_settled.log
+      → shown_places d o q ≡ map (queue_place_of d) (settled told q there).is_settled.log
   shown q there =
       let st : IsSettledFrom (length d.instances) told.exec.back q (places_at o.settled q) =
       settled told q there in
@@ -53,7 +53,7 @@ module _ {queues : Queues} {d : Drawing} {open' : Bool} {patience : ℕ} {o : Ou
   stands q there k i s n at =
       let log : List Claim = (settled told q there).is_settled.log in
       let here =
-      map_at (place_of d) log (Message i s n) k
+      map_at (queue_place_of d) log (Message i s n) k
       (subst (λ (l : List QueuePlace). slice_get l k ≡ Some (Message i s n)) (shown q there) at) in
       let c : Claim = here.0 in
       let entry = place_entry d c.entry c.clock i s n here.2 in
@@ -116,14 +116,14 @@ module _ {queues : Queues} {d : Drawing} {open' : Bool} {patience : ℕ} {o : Ou
       let among =
       (own_among out.sender at.0 log c
       (ap (λ (l : List Claim). slice_get l at.0) (sym own) ∙ front)).0 in
-      let here = at_map (place_of d) log c among.0 among.1 in
-      let message_there : occurs (messages (map (place_of d) log))
+      let here = at_map (queue_place_of d) log c among.0 among.1 in
+      let message_there : occurs (messages (map (queue_place_of d) log))
       (output_of d (message d.events s)) ≡ true =
-      at_message (map (place_of d) log)
+      at_message (map (queue_place_of d) log)
       (output_of d (message d.events s)) out.sender c.clock among.0 here in
       let back : occurs (messages (shown_places d o q)) s ≡ true =
       ap (λ (l : List QueuePlace). occurs (messages l) s) (shown q there)
-      ∙ subst (λ (z : ℕ). occurs (messages (map (place_of d) log)) z ≡ true)
+      ∙ subst (λ (z : ℕ). occurs (messages (map (queue_place_of d) log)) z ≡ true)
       (told.accepted.has_messages.back s output) message_there in
       subst (λ (z : ℕ). occurs (messages (shown_places d o z)) s ≡ true)
       (sym (queue_out told s below output)) back

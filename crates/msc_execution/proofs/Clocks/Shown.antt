@@ -17,7 +17,7 @@ use Rattle.msc_fifo.specs.declared.entry.Entry.TheVariants.{Message as Sent, End
 use Rattle.msc_fifo.specs.declared.claim.Claim.{Claim}
 use Rattle.msc_fifo.specs.declared.accounts.Settled.{Settled}
 use Rattle.msc_fifo.specs.Entries.{sender_of as from_of}
-use Rattle.msc_fifo.specs.Settlement.{message_of, entries_at, place_of as spot_of}
+use Rattle.msc_fifo.specs.Settlement.{message_of, entries_at, place_of}
 use Rattle.msc_execution.specs.Roles.{role, queues_in, taken_queues, takes_from}
 use Rattle.msc_execution.specs.Logs.{inputs_at}
 use Rattle.msc_execution.specs.Growth.{all_messages}
@@ -30,14 +30,14 @@ use Rattle.msc_execution.proofs.Lists.Among.{any_parts}
 use Rattle.msc_execution.proofs.Wiring.Receivers.{in_messages}
 
 -- a claim as a place
-abbrev pub place_of : Drawing → Claim → QueuePlace
-place_of d c = as_place d (spot_of c)
+abbrev pub queue_place_of : Drawing → Claim → QueuePlace
+queue_place_of d c = as_place d (place_of c)
 
 -- the places that are answered, by their outputs
 pub places_are : (d : Drawing) (log : List Claim)
-    → map (as_place d) (map spot_of log) ≡ map (place_of d) log
+    → map (as_place d) (map place_of log) ≡ map (queue_place_of d) log
 places_are d [] = refl
-places_are d (c ∷ log) = ap (λ l. place_of d c ∷ l) (places_are d log)
+places_are d (c ∷ log) = ap (λ l. queue_place_of d c ∷ l) (places_are d log)
 
 -- what stands as a message at a place is a message's entry
 pub place_entry : (d : Drawing) (e : Entry) (n i s m : ℕ)
@@ -61,11 +61,11 @@ messages_more d (Ended j) n ps es h = h
 
 -- the messages at the places, by their outputs
 pub messages_are : (d : Drawing) (log : List Claim)
-    → messages (map (place_of d) log) ≡ map (output_of d) (all_messages (entries_at log))
+    → messages (map (queue_place_of d) log) ≡ map (output_of d) (all_messages (entries_at log))
 unfolding messages
 messages_are d [] = refl
 messages_are d (c ∷ log) =
-    messages_more d c.entry c.clock (map (place_of d) log) (entries_at log) (messages_are d log)
+    messages_more d c.entry c.clock (map (queue_place_of d) log) (entries_at log) (messages_are d log)
 
 -- a mapped joined list
 pub map-join : (f : ℕ → ℕ) (xs ys : List ℕ) → map f (xs ++ ys) ≡ map f xs ++ map f ys

@@ -1,7 +1,7 @@
 -- From the clauses of calls to logged outputs: each message at a place was put by one.
 use Rattle.std.proofs.Common.{◌≡◌, ℕ, zero, suc, ◌+◌, ◌<◌, Bool, true, false, List, [], ◌∷◌, ◌++◌, map, length, Some, slice_get, inl, inr, sym, ap, ◌∙◌, subst, refl}
 use Rattle.msc_chart.specs.declared.queue.Queues.{Queues}
-use Rattle.msc_chart.specs.Lists.{occurs, until}
+use Rattle.msc_chart.specs.Lists.{occurs, until, Occurs}
 use Rattle.msc_chart.specs.Charts.{line, message, is_output}
 use Rattle.msc_chart.specs.Drawings.{Drawing, IsAccepted}
 use Rattle.msc_chart.specs.Orders.{wired, queue, queue_of}
@@ -14,7 +14,7 @@ use Rattle.msc_fifo.specs.declared.places.Place.{Place}
 use Rattle.msc_fifo.specs.Claims.{claim, is_message}
 use Rattle.msc_fifo.specs.Ends.{OutletState}
 use Rattle.msc_fifo.specs.Entries.{sender_of as from_of, IsOrderly}
-use Rattle.msc_fifo.specs.Settlement.{claims_of, entries_at, IsAmong}
+use Rattle.msc_fifo.specs.Settlement.{claims_of, entries_at}
 use Rattle.msc_fifo.proofs.PlaceLemmas.{among_own, outlet_of}
 use Rattle.msc_execution.specs.Roles.{NumberedOutlet, role, wired_ends, fresh_outlet, sent_queues, queues_in}
 use Rattle.msc_execution.specs.Logs.{Reading, outputs_at, clock_along}
@@ -90,8 +90,8 @@ module _ {queues : Queues} {d : Drawing} {open' : Bool} {patience : ℕ} {o : Ou
 
   -- a logged output has its outlet
   pub outlet_at : (s : ℕ) → s < length d.events → is_output d.events s ≡ true
-      → (out : OutletState) × IsAmong (queue_of queues d (message d.events s), out)
-      (told.exec.back (line d.events s)).outlets
+      → (out : OutletState) × Occurs (told.exec.back (line d.events s)).outlets
+      (queue_of queues d (message d.events s), out)
   outlet_at s below output =
       let i : ℕ = line d.events s in
       let q : ℕ = queue_of queues d (message d.events s) in
@@ -161,17 +161,17 @@ module _ {queues : Queues} {d : Drawing} {open' : Bool} {patience : ℕ} {o : Ou
       (st.are_outlets.once (from_of c.entry)
       (sender_small st.inlet.senders log c k st.is_settled.is_log.orderly at)) in
       let own : OutletState = out.0 in
-      let among : IsAmong c (claims_of own.sender log) =
+      let among : Occurs (claims_of own.sender log) c =
       among_own own.sender k log c at (sym out.2) in
-      let mine : IsAmong c own.claims =
-      subst (λ (l : List Claim). IsAmong c l)
+      let mine : Occurs own.claims c =
+      subst (λ (l : List Claim). Occurs l c)
       (sym (st.is_settled.is_log.claims own out.1)) among in
       let from = st.no_others own out.1 in
       let i : ℕ = from.0 in
       let claims = claims_are i q own from.2.0 from.1 from.2.1 in
-      let here : IsAmong c (map (claim_at (role queues d i) (log_at o i) (told.read i) own.sender)
-      (outputs_at queues d q (log_at o i)) ++ claim claims.0 (Ended own.sender) 0 0 ∷ []) =
-      subst (λ (l : List Claim). IsAmong c l) claims.1 mine in
+      let here : Occurs (map (claim_at (role queues d i) (log_at o i) (told.read i) own.sender)
+      (outputs_at queues d q (log_at o i)) ++ claim claims.0 (Ended own.sender) 0 0 ∷ []) c =
+      subst (λ (l : List Claim). Occurs l c) claims.1 mine in
       elim (among_cases (map (claim_at (role queues d i) (log_at o i) (told.read i) own.sender)
       (outputs_at queues d q (log_at o i)))
       (claim claims.0 (Ended own.sender) 0 0 ∷ []) c here.0 here.1) [

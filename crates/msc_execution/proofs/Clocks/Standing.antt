@@ -1,16 +1,16 @@
 -- The places of a queue: their clocks and offers, and what an inlet took of them.
 use Rattle.std.proofs.Common.{◌≡◌, ℕ, zero, suc, ◌<◌, ◌≤◌, max, true, false, cond, ◌||◌, eqb, List, [], ◌∷◌, ◌++◌, map, length, get_or, Some, slice_get, inl, inr, refl, ap, ◌∙◌, arith}
 use Rattle.std.proofs.lemmas.Bool.{eqb-true, eq-eqb, or_cases, or_left, or_right}
-use Rattle.msc_chart.specs.Lists.{occurs}
+use Rattle.msc_chart.specs.Lists.{occurs, Occurs}
 use Rattle.msc_chart.proofs.ListLemmas.{clash}
 use Rattle.msc_fifo.specs.declared.entry.Entry.{Entry}
 use Rattle.msc_fifo.specs.declared.entry.Entry.TheVariants.{Message as Sent, Ended}
 use Rattle.msc_fifo.specs.declared.claim.Claim.{Claim}
-use Rattle.msc_fifo.specs.Settlement.{entries_at, IsAmong}
+use Rattle.msc_fifo.specs.Settlement.{entries_at}
 use Rattle.msc_execution.specs.Growth.{all_messages, clocks_at}
 use Rattle.msc_execution.specs.Clocks.{QueuePlace, messages, place_clock, greatest_offer}
 use Rattle.msc_execution.specs.Clocks.QueuePlace.{Message, EndMark}
-use Rattle.msc_execution.proofs.Lists.Among.{among_more}
+use Rattle.msc_fifo.proofs.PlaceLemmas.{among_more}
 
 -- a message stands at a place
 pub message_at : (ps : List QueuePlace) (s : ℕ) → occurs (messages ps) s ≡ true
@@ -85,7 +85,7 @@ pub taken_claims : (log : List Claim) (got : List Entry) (clocks : List ℕ) (re
     → c.clock ≡ get_or clocks k 0)
     → all_messages got ≡ map f rs ++ ms → clocks_at got clocks ≡ map g rs ++ ns
     → (r : ℕ) → occurs rs r ≡ true
-    → (c : Claim) × IsAmong c log × ((i : ℕ) × (c.entry ≡ Sent i (f r))) × (c.clock ≡ g r)
+    → (c : Claim) × Occurs log c × ((i : ℕ) × (c.entry ≡ Sent i (f r))) × (c.clock ≡ g r)
 unfolding occurs
 taken_claims log got clocks rest [] f g ms ns es cs p q r h = clash h refl
 taken_claims log [] clocks rest (x ∷ rs) f g ms ns es cs p q r h = cc

@@ -2,15 +2,12 @@
 use Rattle.std.proofs.Common.{◌≡◌, ◌⊎◌, ℕ, zero, suc, Bool, true, eqb, List, [], ◌∷◌, ◌++◌, map, filter, Some, slice_get, inl, inr, ⊎_elim, refl, ap, subst}
 use Rattle.std.specs.List.{AllZip, list_any}
 use Rattle.std.proofs.lemmas.Bool.{eqb-true, eq-eqb, or_cases, or_left, or_right}
-use Rattle.msc_chart.specs.Lists.{occurs}
+use Rattle.msc_chart.specs.Lists.{occurs, Occurs}
+use Rattle.msc_fifo.specs.Lists.{Each}
+use Rattle.msc_fifo.proofs.PlaceLemmas.{among_more}
 use Rattle.msc_chart.proofs.ListLemmas.{clash, by_test, occurs-head, occurs-tail}
-use Rattle.msc_fifo.specs.Settlement.{IsAmong}
 
 module _ {A : Type 0} where
-  -- what is among a list is among a longer one
-  pub among_more : (y x : A) (xs : List A) → IsAmong x xs → IsAmong x (y ∷ xs)
-  among_more y x xs h = (suc h.0, h.1)
-
   -- what is among the front is among the whole
   pub among_front : (xs ys : List A) (x : A) (k : ℕ) → slice_get xs k ≡ Some x
       → slice_get (xs ++ ys) k ≡ Some x
@@ -20,11 +17,11 @@ module _ {A : Type 0} where
 
   -- what is among two joined lists is among one of them
   pub among_cases : (xs ys : List A) (x : A) (k : ℕ) → slice_get (xs ++ ys) k ≡ Some x
-      → IsAmong x xs ⊎ IsAmong x ys
+      → Occurs xs x ⊎ Occurs ys x
   among_cases [] ys x k h = inr (k, h)
   among_cases (y ∷ xs) ys x zero h = inl (0, h)
   among_cases (y ∷ xs) ys x (suc k) h =
-      ⊎_elim (λ (a : IsAmong x xs). inl (among_more y x xs a)) (λ (b : IsAmong x ys). inr b)
+      ⊎_elim (λ (a : Occurs xs x). inl (among_more y x xs a)) (λ (b : Occurs ys x). inr b)
       (among_cases xs ys x k h)
 
   -- what stands in a list of one
@@ -49,7 +46,7 @@ module _ {A B : Type 0} where
 
   -- place by place, from either side
   pub zip_right : (R : A → B → Type 0) (xs : List A) (ys : List B) (y : B) (k : ℕ) → AllZip R xs ys
-      → slice_get ys k ≡ Some y → (x : A) × IsAmong x xs × R x y
+      → slice_get ys k ≡ Some y → (x : A) × Occurs xs x × R x y
   zip_right R [] [] y k h at = cc
   zip_right R [] (b ∷ ys) y k h at = absurd h
   zip_right R (a ∷ xs) [] y k h at = absurd h
@@ -60,7 +57,7 @@ module _ {A B : Type 0} where
 
   -- and the other way round
   pub zip_left : (R : A → B → Type 0) (xs : List A) (ys : List B) (x : A) (k : ℕ) → AllZip R xs ys
-      → slice_get xs k ≡ Some x → (y : B) × IsAmong y ys × R x y
+      → slice_get xs k ≡ Some x → (y : B) × Occurs ys y × R x y
   zip_left R [] [] x k h at = cc
   zip_left R [] (b ∷ ys) x k h at = absurd h
   zip_left R (a ∷ xs) [] x k h at = absurd h
@@ -78,7 +75,7 @@ among_occurs (y ∷ xs) x zero h = let same : y ≡ x = cc in
 among_occurs (y ∷ xs) x (suc k) h = or_right (eqb y x) (occurs xs x) (among_occurs xs x k h)
 
 -- and the other way round
-pub occurs_among : (xs : List ℕ) (x : ℕ) → occurs xs x ≡ true → IsAmong x xs
+pub occurs_among : (xs : List ℕ) (x : ℕ) → occurs xs x ≡ true → Occurs xs x
 unfolding occurs
 occurs_among [] x h = clash h refl
 occurs_among (y ∷ xs) x h =
@@ -109,22 +106,16 @@ none_or_some p (y ∷ xs) =
       | inr some ↦ inr (some.0, occurs-tail y xs some.0 some.1, some.2)
     ])
 
--- what holds of each element
-unfoldable pub EachOf : {A : Type 0} → (A → Type 0) → List A → Type 0
-EachOf P [] = Unit {0}
-EachOf P (x ∷ xs) = P x × EachOf P xs
-
--- so of what stands at a place
-pub each_at : {A : Type 0} (P : A → Type 0) (xs : List A) (x : A) (k : ℕ) → EachOf P xs
+-- what holds of each element holds of what stands at a place
+pub each_at : {A : Type 0} (P : A → Type 0) (xs : List A) (x : A) (k : ℕ) → Each P xs
     → slice_get xs k ≡ Some x → P x
-unfolding EachOf
 each_at P [] x k h at = cc
 each_at P (y ∷ xs) x zero h at = let same : y ≡ x = cc in subst P same h.0
 each_at P (y ∷ xs) x (suc k) h at = each_at P xs x k h.1 at
 
 -- and of a number that occurs
-pub each_occurs : (P : ℕ → Type 0) (xs : List ℕ) (e : ℕ) → EachOf P xs → occurs xs e ≡ true → P e
-unfolding occurs EachOf
+pub each_occurs : (P : ℕ → Type 0) (xs : List ℕ) (e : ℕ) → Each P xs → occurs xs e ≡ true → P e
+unfolding occurs
 each_occurs P [] e h there = clash there refl
 each_occurs P (x ∷ xs) e h there =
     elim (or_cases (eqb x e) (occurs xs e) there) [

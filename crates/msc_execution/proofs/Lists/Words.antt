@@ -3,9 +3,9 @@ use Rattle.std.proofs.Common.{◌≡◌, ◌⊎◌, ℕ, Bool, true, false, cond
 use Rattle.std.proofs.lemmas.Bool.{eqb-true, or_cases}
 use Rattle.msc_chart.specs.Lists.{occurs, Steps}
 use Rattle.msc_chart.specs.Drawings.{Drawing}
-use Rattle.msc_chart.proofs.ListLemmas.{by_test, clash, occurs-left, occurs-push, occurs-head, occurs-tail, occurs-right}
-use Rattle.msc_gather.proofs.Apart.{Apart}
+use Rattle.msc_chart.proofs.ListLemmas.{by_test, clash, occurs-left, occurs-push, occurs-head, occurs-tail, occurs-right, IsDistinct, filter-passes}
 use Rattle.msc_execution.specs.Logs.{MayBeLogged}
+use Rattle.msc_gather.proofs.Filters.{filter-within}
 
 -- what occurs is the head or in the tail
 pub head_or_tail : (x : ℕ) (xs : List ℕ) (e : ℕ) → occurs (x ∷ xs) e ≡ true
@@ -32,25 +32,7 @@ filter_no p x xs h = ap (λ (b : Bool). cond b (x ∷ filter p xs) (filter p xs)
 -- what passes a filter occurred, and passes
 pub passes : (p : ℕ → Bool) (xs : List ℕ) (e : ℕ) → occurs (filter p xs) e ≡ true
     → (occurs xs e ≡ true) × (p e ≡ true)
-passes p [] e h = in_none e h
-passes p (x ∷ xs) e h =
-    by_test (p x)
-    (λ yes.
-    let k : occurs (x ∷ filter p xs) e ≡ true =
-    ap (λ (l : List ℕ). occurs l e) (sym (filter_yes p x xs yes)) ∙ h in
-    elim (head_or_tail x (filter p xs) e k) [
-      | inl is ↦ (
-        subst (λ (y : ℕ). occurs (x ∷ xs) y ≡ true) is (occurs-head x xs),
-        subst
-            (λ (y : ℕ). p y ≡ true) is yes,
-      )
-      | inr later ↦ (let r = passes p xs e later in (occurs-tail x xs e r.0, r.1))
-    ])
-    (λ no.
-    let k : occurs (filter p xs) e ≡ true =
-    ap (λ (l : List ℕ). occurs l e) (sym (filter_no p x xs no)) ∙ h in
-    let r = passes p xs e k in
-    (occurs-tail x xs e r.0, r.1))
+passes p xs e h = (filter-within p xs e h, filter-passes p xs e h)
 
 -- what occurs and passes is kept
 pub kept : (p : ℕ → Bool) (xs : List ℕ) (e : ℕ) → occurs xs e ≡ true → p e ≡ true
@@ -91,7 +73,7 @@ fails true f = absurd (f refl)
 fails false f = refl
 
 -- what stands once stands at most once among what passes
-pub once_filter : (p : ℕ → Bool) (xs : List ℕ) → Apart xs → Apart (filter p xs)
+pub once_filter : (p : ℕ → Bool) (xs : List ℕ) → IsDistinct xs → IsDistinct (filter p xs)
 once_filter p [] h = tt
 once_filter p (x ∷ xs) h =
     let r = once_filter p xs h.1 in
@@ -99,13 +81,13 @@ once_filter p (x ∷ xs) h =
     (λ yes.
     let new : occurs (filter p xs) x ≡ false =
     fails (occurs (filter p xs) x) (λ there. clash (passes p xs x there).0 h.0) in
-    subst Apart (sym (filter_yes p x xs yes)) (new, r))
-    (λ no. subst Apart (sym (filter_no p x xs no)) r)
+    subst IsDistinct (sym (filter_yes p x xs yes)) (new, r))
+    (λ no. subst IsDistinct (sym (filter_no p x xs no)) r)
 
 -- values that tell their elements apart stand once
 pub once_map : (f : ℕ → ℕ) (xs : List ℕ)
-    → ((e g : ℕ) → occurs xs e ≡ true → occurs xs g ≡ true → f e ≡ f g → e ≡ g) → Apart xs
-    → Apart (map f xs)
+    → ((e g : ℕ) → occurs xs e ≡ true → occurs xs g ≡ true → f e ≡ f g → e ≡ g) → IsDistinct xs
+    → IsDistinct (map f xs)
 once_map f [] apart h = tt
 once_map f (x ∷ xs) apart h = (
   fails (occurs (map f xs) (f x)) (λ there.
@@ -116,13 +98,13 @@ once_map f (x ∷ xs) apart h = (
 )
 
 -- the first of two joined lists has each of its elements once
-pub once_left : (xs ys : List ℕ) → Apart (xs ++ ys) → Apart xs
+pub once_left : (xs ys : List ℕ) → IsDistinct (xs ++ ys) → IsDistinct xs
 once_left [] ys h = tt
 once_left (x ∷ xs) ys h =
     (fails (occurs xs x) (λ there. clash (occurs-left xs ys x there) h.0), once_left xs ys h.1)
 
 -- what stands once in two joined lists stands in one of them alone
-pub once_apart : (xs ys : List ℕ) (e : ℕ) → Apart (xs ++ ys) → occurs xs e ≡ true
+pub once_apart : (xs ys : List ℕ) (e : ℕ) → IsDistinct (xs ++ ys) → occurs xs e ≡ true
     → occurs ys e ≡ true → ⊥
 once_apart [] ys e h a b = in_none e a
 once_apart (x ∷ xs) ys e h a b = elim (head_or_tail x xs e a) [
@@ -132,7 +114,7 @@ once_apart (x ∷ xs) ys e h a b = elim (head_or_tail x xs e a) [
 
 -- a log has each event once
 pub steps_once : (d : Drawing) (past xs : List ℕ) → Steps (MayBeLogged d) past xs
-    → Apart xs × ((e : ℕ) → occurs past e ≡ true → occurs xs e ≡ true → ⊥)
+    → IsDistinct xs × ((e : ℕ) → occurs past e ≡ true → occurs xs e ≡ true → ⊥)
 steps_once d past [] h = (tt, λ e a b. in_none e b)
 steps_once d past (x ∷ xs) h =
     let r = steps_once d (past ++ x ∷ []) xs h.1 in (

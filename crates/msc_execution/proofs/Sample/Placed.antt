@@ -7,13 +7,13 @@ use Rattle.msc_fifo.specs.declared.claim.Claim.{Claim}
 use Rattle.msc_fifo.specs.Claims.{is_message}
 use Rattle.msc_fifo.specs.Ends.{OutletState, AreOutletsOf}
 use Rattle.msc_fifo.specs.Settlement.{IsPlaced, claims_of, entries_at, items_of}
-use Rattle.msc_execution.specs.Samples.{own_outlet, other_outlet, mailbox, all_claims}
-use Rattle.msc_execution.proofs.Lists.Among.{EachOf, each_at, among_single}
+use Rattle.msc_execution.specs.Samples.{all_claims}
+use Rattle.msc_execution.proofs.Lists.Among.{each_at, among_single}
+use Rattle.msc_execution.proofs.Sample.Back.{own_outlet, other_outlet, mailbox}
 
 module _ (id : QueueId) where
   -- the claims are the places of the queue
   pub is_placed : IsPlaced (mailbox id) (own_outlet id ∷ other_outlet id ∷ []) all_claims
-  unfolding EachOf
   is_placed = record {
     numbered = numbers;
     orderly = (

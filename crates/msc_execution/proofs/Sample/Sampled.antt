@@ -13,23 +13,22 @@ use Rattle.msc_fifo.specs.declared.accounts.Account.{Account}
 use Rattle.msc_fifo.specs.declared.accounts.Settled.{Settled}
 use Rattle.msc_fifo.specs.declared.places.Place.{Place}
 use Rattle.msc_fifo.specs.Ends.{OutletState}
-use Rattle.msc_fifo.specs.Settlement.{IsAmong}
 use Rattle.msc_execution.specs.declared.end.End.TheVariants.{Foreign}
 use Rattle.msc_execution.specs.Roles.{takes_from}
 use Rattle.msc_execution.specs.Logs.{Begins, received, received_from}
 use Rattle.msc_execution.specs.Executions.{log_at, end_at, placed_messages, AreAccounts, IsTrafficOf, IsSettledFrom, IsExecution}
 use Rattle.msc_execution.specs.Clocks.{trace_of, sorted, put_in, is_below, key_of, clock_step, clock_from, greatest_offer, place_clock, place_number, messages}
 use Rattle.msc_execution.specs.Shown.{trace_in, as_place}
-use Rattle.msc_execution.specs.Samples.{two, own_outlet, other_outlet, mailbox, both_back, all_claims, account_of, IsSampled, sample}
-use Rattle.msc_execution.proofs.Lists.Among.{any_parts, EachOf, each_at, each_occurs, among_single}
+use Rattle.msc_execution.specs.Samples.{own_chart, all_claims, account_of, IsSampled, sample}
+use Rattle.msc_execution.proofs.Lists.Among.{any_parts, each_at, each_occurs, among_single}
 use Rattle.msc_execution.proofs.Sample.Ran.{queues_are, both_send, ids, runs}
 use Rattle.msc_execution.proofs.Sample.Placed.{is_placed, are_outlets}
+use Rattle.msc_execution.proofs.Sample.Back.{own_outlet, other_outlet, mailbox, both_back}
 
 module _ (id : QueueId) where
   module _ (s : Settled) (sampled : IsSampled s) where
     -- the queue was settled from these ends
     from_ends : IsSettledFrom 2 (both_back id) 0 s.places.items
-    unfolding EachOf
     from_ends = record {
       inlet = mailbox id;
       outlets = own_outlet id ∷ other_outlet id ∷ [];
@@ -39,7 +38,7 @@ module _ (id : QueueId) where
       all_there = there;
       no_others =
           λ o among. each_at (λ (o : OutletState). (i : ℕ) × (i < 2)
-          × IsAmong (0, o) (both_back id i).outlets)
+          × Occurs (both_back id i).outlets (0, o))
           (own_outlet id ∷ other_outlet id ∷ []) o among.0
           ((0, omega arith, (0, refl)), ((1, omega arith, (0, refl)), tt)) among.1;
       are_outlets = are_outlets id;
@@ -47,8 +46,8 @@ module _ (id : QueueId) where
     }
       where
         -- an outlet of the queue that an instance gave back is one of the two
-        there : (i : ℕ) (o : OutletState) → i < 2 → IsAmong (0, o) (both_back id i).outlets
-            → IsAmong o (own_outlet id ∷ other_outlet id ∷ [])
+        there : (i : ℕ) (o : OutletState) → i < 2 → Occurs (both_back id i).outlets (0, o)
+            → Occurs (own_outlet id ∷ other_outlet id ∷ []) o
         there zero o below among = (
           0,
           ap (λ (p : ℕ × OutletState). Some p.1)
@@ -61,35 +60,35 @@ module _ (id : QueueId) where
         )
 
     -- instance 0 alone takes from it
-    taker : (r : ℕ) → takes_from Mailbox two 0 r ≡ true → 0 ≡ r
+    taker : (r : ℕ) → takes_from Mailbox own_chart 0 r ≡ true → 0 ≡ r
     unfolding takes_from messages_in queue_of queue_number receiver_of sender_of input_of output_of
-        line partner EachOf
+        line partner
     taker r h =
-        let (m, m_in, is) = any_parts (λ m. nat_eq (receiver_of two m) r) (0 ∷ 1 ∷ []) h in
-        sym (each_occurs (λ (k : ℕ). receiver_of two k ≡ 0) (0 ∷ 1 ∷ []) m (refl, (refl, tt)) m_in)
-        ∙ eqb-true (receiver_of two m) r is
+        let (m, m_in, is) = any_parts (λ m. nat_eq (receiver_of own_chart m) r) (0 ∷ 1 ∷ []) h in
+        sym (each_occurs (λ (k : ℕ). receiver_of own_chart k ≡ 0) (0 ∷ 1 ∷ []) m (refl, (refl, tt)) m_in)
+        ∙ eqb-true (receiver_of own_chart m) r is
 
     -- what it took of instance i
-    taken_by : (i r : ℕ) → takes_from Mailbox two 0 r ≡ true
-        → i ∷ [] ≡ received_from Mailbox two 0 i (0 ∷ 2 ∷ 1 ∷ [])
-        → i ∷ [] ≡ received_from Mailbox two 0 i (log_at (sample s) r)
+    taken_by : (i r : ℕ) → takes_from Mailbox own_chart 0 r ≡ true
+        → i ∷ [] ≡ received_from Mailbox own_chart 0 i (0 ∷ 2 ∷ 1 ∷ [])
+        → i ∷ [] ≡ received_from Mailbox own_chart 0 i (log_at (sample s) r)
     taken_by i r takes here =
-        subst (λ (j : ℕ). i ∷ [] ≡ received_from Mailbox two 0 i (log_at (sample s) j))
+        subst (λ (j : ℕ). i ∷ [] ≡ received_from Mailbox own_chart 0 i (log_at (sample s) j))
         (taker r takes) here
 
     -- the account of each is its traffic
-    abbrev Stands : ℕ → ℕ → Type 0
-    Stands k i =
+    abbrev HasTraffic : ℕ → ℕ → Type 0
+    HasTraffic k i =
         (a : Account) × (slice_get s.senders.items k ≡ Some a)
-        × IsTrafficOf Mailbox two (sample s) 0 i a
+        × IsTrafficOf Mailbox own_chart (sample s) 0 i a
 
     -- so it does for each sender
-    traffic : (k i : ℕ) → slice_get (0 ∷ 1 ∷ []) k ≡ Some i → Stands k i
+    traffic : (k i : ℕ) → slice_get (0 ∷ 1 ∷ []) k ≡ Some i → HasTraffic k i
     unfolding queue_of queue_number receiver_of sender_of input_of output_of line partner message
         kind is_output is_input
     traffic zero i at =
         let same : 0 ≡ i = cc in
-        subst (λ (j : ℕ). Stands 0 j) same (
+        subst (λ (j : ℕ). HasTraffic 0 j) same (
           account_of 0,
           ap (λ (l : List Account). slice_get l 0) sampled.senders,
           record {
@@ -102,7 +101,7 @@ module _ (id : QueueId) where
         )
     traffic (suc zero) i at =
         let same : 1 ≡ i = cc in
-        subst (λ (j : ℕ). Stands 1 j) same (
+        subst (λ (j : ℕ). HasTraffic 1 j) same (
           account_of 1,
           ap (λ (l : List Account). slice_get l 1) sampled.senders,
           record {
@@ -116,7 +115,7 @@ module _ (id : QueueId) where
     traffic (suc (suc k)) i at = cc
 
     -- so they are the accounts of both
-    accounts : AreAccounts Mailbox two (sample s) 0 s
+    accounts : AreAccounts Mailbox own_chart (sample s) 0 s
     unfolding queue_of queue_number receiver_of sender_of input_of output_of line partner message
         kind is_output is_input
     accounts = record {
@@ -125,7 +124,7 @@ module _ (id : QueueId) where
           ∙ ap (λ (l : List ℕ). length l) (sym both_send);
       each = λ k i at. traffic k i (ap (λ (l : List ℕ). slice_get l k) (sym both_send) ∙ at);
       first = λ r takes.
-          subst (λ (j : ℕ). Begins (received Mailbox two 0 (log_at (sample s) j))
+          subst (λ (j : ℕ). Begins (received Mailbox own_chart 0 (log_at (sample s) j))
           (placed_messages s.places.items)) (taker r takes)
           ([], ap (λ (l : List Place). placed_messages l) sampled.places);
     }
@@ -140,7 +139,7 @@ module _ (id : QueueId) where
     the_one q t there = among_single (pair 0 s) (pair q t) there.0 there.1
 
     -- so the sample is an execution
-    pub is_execution : IsExecution Mailbox two true 1 (sample s)
+    pub is_execution : IsExecution Mailbox own_chart true 1 (sample s)
     is_execution = record {
       logs = refl;
       ends = refl;
@@ -149,7 +148,7 @@ module _ (id : QueueId) where
       runs = runs id s;
       numbers = sym queues_are;
       accounts =
-          λ q t there. subst (λ (p : ℕ × Settled). AreAccounts Mailbox two (sample s) p.0 p.1)
+          λ q t there. subst (λ (p : ℕ × Settled). AreAccounts Mailbox own_chart (sample s) p.0 p.1)
           (the_one q t there) accounts;
       places =
           λ q t there. subst (λ (p : ℕ × Settled).
@@ -165,11 +164,11 @@ module _ (id : QueueId) where
 
 -- sorted, its events begin with the action, and the second message is put first
 pub trace_is : (s : Settled) → IsSampled s
-    → trace_in Mailbox two (sample s) ≡ 3 ∷ 4 ∷ 0 ∷ 2 ∷ 1 ∷ []
+    → trace_in Mailbox own_chart (sample s) ≡ 3 ∷ 4 ∷ 0 ∷ 2 ∷ 1 ∷ []
 unfolding trace_of sorted put_in is_below key_of clock_step clock_from greatest_offer place_clock
     place_number messages queue queue_number sender_at receiver_at output_of line partner message
     is_output is_input kind until occurs
 trace_is s sampled =
     ap (λ (l : List Place).
-    trace_of (wired Mailbox two) (sample s).logs
-    (λ q. map (as_place two) (cond (nat_eq 0 q) l []))) sampled.places
+    trace_of (wired Mailbox own_chart) (sample s).logs
+    (λ q. map (as_place own_chart) (cond (nat_eq 0 q) l []))) sampled.places

@@ -2,33 +2,33 @@
 use Rattle.std.proofs.Common.{map, ◌≡◌, ℕ, zero, suc, ◌<◌, true, eqb, List, [], ◌∷◌, ◌++◌, Some, slice_get, inl, inr, ap, subst, arith}
 use Rattle.std.proofs.lemmas.Bool.{eqb-true, eq-eqb, cases_eq}
 use Rattle.msc_chart.proofs.ListLemmas.{by_test, occurs-head, occurs-tail}
-use Rattle.msc_fifo.specs.Settlement.{IsAmong}
 use Rattle.msc_chart.specs.Lists.{occurs, Occurs}
 use Rattle.msc_fifo.specs.declared.accounts.Settled.{Settled}
 use Rattle.msc_execution.proofs.Lists.Words.{head_or_tail, in_none}
 use Rattle.msc_execution.specs.Settling.{of_queue}
-use Rattle.msc_execution.proofs.Lists.Among.{among_more, among_front, among_cases}
+use Rattle.msc_fifo.proofs.PlaceLemmas.{among_more}
+use Rattle.msc_execution.proofs.Lists.Among.{among_front, among_cases}
 use Rattle.msc_execution.proofs.Settling.Came.{together}
 
 -- what is among the rest is among the whole
-among_back : {A : Type 0} (xs ys : List A) (y : A) → IsAmong y ys → IsAmong y (xs ++ ys)
+among_back : {A : Type 0} (xs ys : List A) (y : A) → Occurs ys y → Occurs (xs ++ ys) y
 among_back [] ys y h = h
 among_back (x ∷ xs) ys y h = among_more x y (xs ++ ys) (among_back xs ys y h)
 
 -- what is in the list of an instance is in all of them together
-in_all : {A : Type 0} (f : ℕ → List A) (n i : ℕ) (x : A) → i < n → IsAmong x (f i)
-    → IsAmong x (together f n)
+in_all : {A : Type 0} (f : ℕ → List A) (n i : ℕ) (x : A) → i < n → Occurs (f i) x
+    → Occurs (together f n) x
 in_all f zero i x below h = absurd (omega arith)
 in_all {A} f (suc n) i x below h =
     elim (cases_eq i n) [
-      | inl same ↦ among_back (together f n) (f n) x (subst (λ (j : ℕ). IsAmong x (f j)) same h)
+      | inl same ↦ among_back (together f n) (f n) x (subst (λ (j : ℕ). Occurs (f j) x) same h)
       | inr other ↦ let r = in_all f n i x (omega arith) h in
           (r.0, among_front (together f n) (f n) x r.0 r.1)
     ]
 
 -- and what is in all of them is in the list of one
 of_all : {A : Type 0} (f : ℕ → List A) (n : ℕ) (x : A) (k : ℕ) → slice_get (together f n) k ≡ Some x
-    → (i : ℕ) × (i < n) × IsAmong x (f i)
+    → (i : ℕ) × (i < n) × Occurs (f i) x
 of_all f zero x k h = cc
 of_all f (suc n) x k h =
     elim (among_cases (together f n) (f n) x k h) [
@@ -38,7 +38,7 @@ of_all f (suc n) x k h =
 
 -- what has number q is of queue q
 in_queue : {A : Type 0} (q : ℕ) (xs : List (ℕ × A)) (o : A) (k : ℕ) → slice_get xs k ≡ Some (q, o)
-    → IsAmong o (of_queue q xs)
+    → Occurs (of_queue q xs) o
 in_queue q [] o k h = cc
 in_queue {A} q (x ∷ xs) o zero h =
     let same : x ≡ (q, o) = cc in
@@ -51,14 +51,14 @@ in_queue q (x ∷ xs) o (suc k) h =
 -- what is of queue q is the head or later
 head_or_later : {A : Type 0} (q : ℕ) (x : ℕ × A) (xs : List (ℕ × A)) (o : A) (k : ℕ)
     → slice_get (x.1 ∷ of_queue q xs) k ≡ Some o → x.0 ≡ q
-    → ((j : ℕ) → slice_get (of_queue q xs) j ≡ Some o → IsAmong (q, o) xs) → IsAmong (q, o) (x ∷ xs)
+    → ((j : ℕ) → slice_get (of_queue q xs) j ≡ Some o → Occurs xs (q, o)) → Occurs (x ∷ xs) (q, o)
 head_or_later q x xs o zero at number later = let same : x.1 ≡ o = cc in
     (0, (λ j. Some (number j, same j)))
 head_or_later q x xs o (suc k) at number later = among_more x (q, o) xs (later k at)
 
 -- what is of queue q has number q
 of_of_queue : {A : Type 0} (q : ℕ) (xs : List (ℕ × A)) (o : A) (k : ℕ)
-    → slice_get (of_queue q xs) k ≡ Some o → IsAmong (q, o) xs
+    → slice_get (of_queue q xs) k ≡ Some o → Occurs xs (q, o)
 of_of_queue q [] o k h = cc
 of_of_queue q (x ∷ xs) o k h =
     by_test (eqb x.0 q)
@@ -68,13 +68,13 @@ of_of_queue q (x ∷ xs) o k h =
 
 -- what came back of an instance is among the ends of its queue
 pub bucket_has : {A : Type 0} (f : ℕ → List (ℕ × A)) (n q i : ℕ) (o : A)
-    → i < n → IsAmong (q, o) (f i) → IsAmong o (of_queue q (together f n))
+    → i < n → Occurs (f i) (q, o) → Occurs (of_queue q (together f n)) o
 bucket_has f n q i o below h = let r = in_all f n i (q, o) below h in
     in_queue q (together f n) o r.0 r.1
 
 -- and what is among them came back of an instance
 pub bucket_of : {A : Type 0} (f : ℕ → List (ℕ × A)) (n q : ℕ) (o : A)
-    → IsAmong o (of_queue q (together f n)) → (i : ℕ) × (i < n) × IsAmong (q, o) (f i)
+    → Occurs (of_queue q (together f n)) o → (i : ℕ) × (i < n) × Occurs (f i) (q, o)
 bucket_of f n q o h = let r = of_of_queue q (together f n) o h.0 h.1 in of_all f n (q, o) r.0 r.1
 
 -- the settled queue with a number

@@ -32,8 +32,8 @@ pub record Came : Type 0 where
   pub ends : ℕ → End
 
 -- what instance i left
-abbrev pub left_of : Came → ℕ → Left
-left_of c i = record { log = c.logs i; ends = c.back i; end = c.ends i }
+abbrev pub left_at : Came → ℕ → Left
+left_at c i = record { log = c.logs i; ends = c.back i; end = c.ends i }
 
 -- what came back, with the logs and ends of an outcome
 abbrev pub came_of : Outcome → (ℕ → EndLists) → Came
@@ -89,10 +89,10 @@ pub record AreEndsOf (queues : Queues) (d : Drawing) (id : ℕ → QueueId) (c :
   pub whole : AreOutletsOf inlet (of_queue q (all_outlets c (length d.instances)))
 
 -- each instance ran from its fresh ends
-abbrev pub HaveRun : Queues → Drawing → Bool → ℕ → (ℕ → QueueId) → Came → Type 0
-HaveRun queues d open' patience id c =
+abbrev pub HaveRunFresh : Queues → Drawing → Bool → ℕ → (ℕ → QueueId) → Came → Type 0
+HaveRunFresh queues d open' patience id c =
     (i : ℕ) → i < length d.instances
-    → HasRun (role queues d i) open' patience (wired_ends id (role queues d i)) (left_of c i)
+    → HasRun (role queues d i) open' patience (wired_ends id (role queues d i)) (left_at c i)
 
 -- the same, with what is strange and what was read told for all instances at once
 pub record HaveEnded (queues : Queues) (d : Drawing) (open' : Bool) (patience : ℕ)
@@ -100,7 +100,7 @@ pub record HaveEnded (queues : Queues) (d : Drawing) (open' : Bool) (patience : 
   pub grown : HaveGrown queues d id c
   pub logs : (i : ℕ) → i < length d.instances → IsLogOf d i (c.logs i)
   pub ended : (i : ℕ) → i < length d.instances
-      → EndsAs (role queues d i) open' patience (grown.readings i) (left_of c i) (grown.strange i)
+      → EndsAs (role queues d i) open' patience (grown.readings i) (left_at c i) (grown.strange i)
       (c.ends i)
 
 -- the account of the instance as a sender of the queue, where the inlet got these entries

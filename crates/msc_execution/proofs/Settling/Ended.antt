@@ -9,11 +9,11 @@ use Rattle.msc_execution.specs.Roles.{role, wired_ends}
 use Rattle.msc_execution.specs.Logs.{Reading}
 use Rattle.msc_execution.specs.Growth.{IsLeftBy, HasTaken}
 use Rattle.msc_execution.specs.Running.{EndsAs}
-use Rattle.msc_execution.proofs.Settling.Came.{Came, left_of, HaveRun, HaveEnded}
+use Rattle.msc_execution.proofs.Settling.Came.{Came, left_at, HaveRunFresh, HaveEnded}
 
 -- what is strange, told for all instances at once
 module _ (queues : Queues) (d : Drawing) (open' : Bool) (patience : ℕ) (id : ℕ → QueueId) (c : Came)
-    (runs : HaveRun queues d open' patience id c) where
+    (runs : HaveRunFresh queues d open' patience id c) where
   -- what an instance read, nothing past the last one
   reading_by : (i : ℕ) → (i < length d.instances) ⊎ (length d.instances ≤ i) → Reading
   reading_by i (inl lt) = (runs i lt).reading
@@ -45,7 +45,7 @@ module _ (queues : Queues) (d : Drawing) (open' : Bool) (patience : ℕ) (id : �
   -- how it ended
   ended_by : (i : ℕ) (w : (i < length d.instances) ⊎ (length d.instances ≤ i))
       → i < length d.instances
-      → EndsAs (role queues d i) open' patience (reading_by i w) (left_of c i) (strange_by i w)
+      → EndsAs (role queues d i) open' patience (reading_by i w) (left_at c i) (strange_by i w)
       (c.ends i)
   unfolding reading_by strange_by
   ended_by i (inl lt) within = (runs i lt).run.ended
@@ -67,5 +67,5 @@ module _ (queues : Queues) (d : Drawing) (open' : Bool) (patience : ℕ) (id : �
 -- so runs of all instances are grown ends with one telling of what is strange
 pub runs_ended : (queues : Queues) (d : Drawing) (open' : Bool) (patience : ℕ) (id : ℕ → QueueId)
     (c : Came)
-    → HaveRun queues d open' patience id c → HaveEnded queues d open' patience id c
+    → HaveRunFresh queues d open' patience id c → HaveEnded queues d open' patience id c
 runs_ended queues d open' patience id c runs = all_ended queues d open' patience id c runs

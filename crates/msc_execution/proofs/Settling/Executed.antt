@@ -9,13 +9,12 @@ use Rattle.msc_chart.specs.Lists.{occurs, Occurs}
 use Rattle.msc_chart.specs.Charts.{line}
 use Rattle.msc_chart.specs.Drawings.{Drawing, IsAccepted, input_of, sender_of, receiver_of}
 use Rattle.msc_chart.specs.Laws.{senders_in}
-use Rattle.msc_chart.proofs.ListLemmas.{occurs_at, occurs-head, occurs-right}
+use Rattle.msc_chart.proofs.ListLemmas.{occurs_at, occurs-head, occurs-right, IsDistinct}
 use Rattle.msc_chart.proofs.Readers.{input_in}
 use Rattle.msc_fifo.specs.Identity.{QueueId}
 use Rattle.msc_fifo.specs.declared.accounts.Account.{Account}
 use Rattle.msc_fifo.specs.declared.accounts.Settled.{Settled}
 use Rattle.msc_fifo.specs.Ends.{OutletState, InletState}
-use Rattle.msc_fifo.specs.Settlement.{IsAmong}
 use Rattle.msc_execution.specs.declared.end.End.{End}
 use Rattle.msc_execution.specs.declared.end.End.TheVariants.{Finished, Foreign}
 use Rattle.msc_execution.specs.Roles.{EndLists, role, queues_in}
@@ -23,11 +22,10 @@ use Rattle.msc_execution.specs.Logs.{Begins, IsWholeLog, sent, received, receive
 use Rattle.msc_execution.specs.Running.{EndsAs}
 use Rattle.msc_execution.specs.Executions.{Outcome, log_at, end_at, placed_messages, AreAccounts, IsSettledFrom, IsExecution, AreFinished, IsFinished}
 use Rattle.msc_execution.specs.Settling.{of_queue, FinishedExecutionsLeaveNothing}
-use Rattle.msc_gather.proofs.Apart.{Apart}
 use Rattle.msc_execution.proofs.Lists.Words.{kept, once_apart}
 use Rattle.msc_execution.proofs.Wiring.Receivers.{the_receiver}
 use Rattle.msc_execution.proofs.Wiring.Logged.{sent_is, sent_once, taken_by}
-use Rattle.msc_execution.proofs.Settling.Came.{came_of, all_outlets, all_inlets, HaveRun, HaveEnded, AreSettled}
+use Rattle.msc_execution.proofs.Settling.Came.{came_of, all_outlets, all_inlets, HaveRunFresh, HaveEnded, AreSettled}
 use Rattle.msc_execution.proofs.Settling.FlatLists.{flat_lists}
 use Rattle.msc_execution.proofs.Settling.Accounts.{accounts}
 use Rattle.msc_execution.proofs.Settling.Ended.{runs_ended}
@@ -57,9 +55,9 @@ module _ {queues : Queues} {d : Drawing} {open' : Bool} {patience : ℕ} {id : �
       let is =
       same_inlet ends
       (all.each q s there) in
-      let among : IsAmong ends.inlet
-      (of_queue q (all_inlets (came_of o back) (length d.instances))) =
-      subst (λ (l : List InletState). IsAmong ends.inlet l) (sym ends.alone) (0, refl) in
+      let among : Occurs (of_queue q (all_inlets (came_of o back) (length d.instances)))
+      ends.inlet =
+      subst (λ (l : List InletState). Occurs l ends.inlet) (sym ends.alone) (0, refl) in
       let (r, within, own) =
       bucket_of (λ i. (back i).inlets) (length d.instances) q ends.inlet among in
       record {
@@ -135,7 +133,7 @@ module _ {queues : Queues} {d : Drawing} {open' : Bool} {patience : ℕ} {id : �
 pub executed : (queues : Queues) (d : Drawing) (open' : Bool) (patience : ℕ) (id : ℕ → QueueId)
     (o : Outcome) (back : ℕ → EndLists)
     → IsAccepted d → length o.logs ≡ length d.instances → length o.ends ≡ length d.instances
-    → HaveRun queues d open' patience id (came_of o back)
+    → HaveRunFresh queues d open' patience id (came_of o back)
     → AreSettled queues d (came_of o back) o.settled
     → IsExecution queues d open' patience o
 executed queues d open' patience id o back accepted logs ends runs all =
@@ -199,8 +197,8 @@ module _ {queues : Queues} {d : Drawing} {open' : Bool} {patience : ℕ} {o : Ou
       let (r, receiver) = the_receiver queues d q accepted here in
       let parts : sent queues d q (log_at o i) ≡ b.taken ++ b.left =
       sym traffic.put ∙ traffic.left in
-      let once : Apart (b.taken ++ b.left) =
-      subst Apart parts (sent_once queues d accepted q i (log_at o i) log) in
+      let once : IsDistinct (b.taken ++ b.left) =
+      subst IsDistinct parts (sent_once queues d accepted q i (log_at o i) log) in
       let none : b.left ≡ [] = no_member b.left (λ m m_left.
       let m_sent : occurs (sent queues d q (log_at o i)) m ≡ true =
       ap (λ (l : List ℕ). occurs l m) parts ∙ occurs-right b.taken b.left m m_left in

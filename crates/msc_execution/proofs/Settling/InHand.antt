@@ -13,7 +13,7 @@ use Rattle.msc_execution.specs.Running.{Left, HasRun}
 use Rattle.msc_execution.specs.Executions.{Outcome, log_at, IsExecution}
 use Rattle.msc_execution.specs.Fits.{no_ends}
 use Rattle.msc_execution.specs.Settling.{of_queue, IsSettledOf, HaveRunFrom, outlets_back, inlets_back, AreSettledBack, RunsHoldQueues, SettledRunsAreExecutions}
-use Rattle.msc_execution.proofs.Settling.Came.{together, left_of, came_of, all_outlets, all_inlets, HaveRun, AreSettled}
+use Rattle.msc_execution.proofs.Settling.Came.{together, left_at, came_of, all_outlets, all_inlets, HaveRunFresh, AreSettled}
 use Rattle.msc_execution.proofs.Settling.FlatLists.{flat_lists}
 use Rattle.msc_execution.proofs.Settling.Ended.{runs_ended}
 use Rattle.msc_execution.proofs.Settling.Executed.{executed}
@@ -84,7 +84,7 @@ module _ {queues : Queues} {d : Drawing} {open' : Bool} {patience : ℕ} {fresh 
       (ends : o.ends ≡ map (λ (r : Left). r.end) ran) where
     -- what came back at a place is what the instance of that number left
     left_is : (i : ℕ) (r : Left) → slice_get ran i ≡ Some r
-        → r ≡ left_of (came_of o (back_of ran)) i
+        → r ≡ left_at (came_of o (back_of ran)) i
     unfolding back_of
     left_is i r at =
         let a : r.log ≡ log_at o i =
@@ -97,7 +97,7 @@ module _ {queues : Queues} {d : Drawing} {open' : Bool} {patience : ℕ} {fresh 
         same_left r.log (log_at o i) (r.ends) (back_of ran i) r.end (get_or o.ends i Finished) a b c
 
     -- each instance ran from its fresh ends
-    have_run : HaveRun queues d open' patience wiring.id (came_of o (back_of ran))
+    have_run : HaveRunFresh queues d open' patience wiring.id (came_of o (back_of ran))
     have_run i lt =
         let (e, e_at) = stands fresh i (let m = wiring.many in omega arith) in
         let (r, r_at) = stands ran i (let m = many in omega arith) in

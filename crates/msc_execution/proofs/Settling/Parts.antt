@@ -4,12 +4,11 @@ use Rattle.std.specs.Prelude.{count_by}
 use Rattle.std.specs.List.{range_with_len}
 use Rattle.std.proofs.lemmas.Bool.{eq-eqb, cases_lt}
 use Rattle.msc_chart.specs.Lists.{occurs}
-use Rattle.msc_chart.proofs.ListLemmas.{by_test, clash, occurs-head, occurs-tail}
+use Rattle.msc_chart.proofs.ListLemmas.{by_test, clash, occurs-head, occurs-tail, IsDistinct}
 use Rattle.msc_fifo.specs.declared.entry.Entry.{Entry}
 use Rattle.msc_fifo.specs.declared.entry.Entry.TheVariants.{Message, Ended}
 use Rattle.msc_fifo.specs.Entries.{messages_of}
 use Rattle.msc_execution.specs.Growth.{all_messages}
-use Rattle.msc_gather.proofs.Apart.{Apart}
 use Rattle.msc_execution.proofs.Lists.Words.{head_or_tail, in_none, fails}
 use Rattle.msc_execution.proofs.Lists.Ranges.{count_more}
 
@@ -53,24 +52,24 @@ in_a_part (Message i n ∷ es) m h = elim (head_or_tail n (all_messages es) m h)
 in_a_part (Ended i ∷ es) m h = in_a_part es m h
 
 -- later messages of a sender stand once
-part_once : (i n s : ℕ) (es : List Entry) → Apart (messages_of s (Message i n ∷ es))
-    → Apart (messages_of s es)
+part_once : (i n s : ℕ) (es : List Entry) → IsDistinct (messages_of s (Message i n ∷ es))
+    → IsDistinct (messages_of s es)
 part_once i n s es h =
     by_test (eqb i s)
-    (λ yes. (let k : Apart (n ∷ messages_of s es) = subst Apart (part_yes i n s es yes) h in k.1))
-    (λ no. subst Apart (part_no i n s es no) h)
+    (λ yes. (let k : IsDistinct (n ∷ messages_of s es) = subst IsDistinct (part_yes i n s es yes) h in k.1))
+    (λ no. subst IsDistinct (part_no i n s es no) h)
 
 -- where each sender's messages stand once, and no two senders share one, all stand once
-pub once_of_parts : (es : List Entry) → ((s : ℕ) → Apart (messages_of s es))
+pub once_of_parts : (es : List Entry) → ((s : ℕ) → IsDistinct (messages_of s es))
     → ((m s t : ℕ) → occurs (messages_of s es) m ≡ true → occurs (messages_of t es) m ≡ true
     → s ≡ t)
-    → Apart (all_messages es)
+    → IsDistinct (all_messages es)
 once_of_parts [] once apart = tt
 once_of_parts (Message i n ∷ es) once apart =
     let rest = once_of_parts es (λ s. part_once i n s es (once s))
     (λ m s t a b. apart m s t (part_later i n s es m a) (part_later i n t es m b)) in
-    let mine : Apart (n ∷ messages_of i es) =
-    subst Apart (part_yes i n i es (eq-eqb i i refl)) (once i) in (
+    let mine : IsDistinct (n ∷ messages_of i es) =
+    subst IsDistinct (part_yes i n i es (eq-eqb i i refl)) (once i) in (
       fails (occurs (all_messages es) n) (λ there.
           let p = in_a_part es n there in
           let same : p.0 ≡ i = apart n p.0 i (part_later i n p.0 es n p.1) (part_here i n es) in

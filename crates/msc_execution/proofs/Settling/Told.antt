@@ -9,7 +9,7 @@ use Rattle.msc_chart.specs.declared.queue.Queues.{Queues}
 use Rattle.msc_chart.specs.Lists.{occurs}
 use Rattle.msc_chart.specs.Drawings.{Drawing, IsAccepted, input_of, sender_of}
 use Rattle.msc_chart.specs.Laws.{senders_in, sends_to}
-use Rattle.msc_chart.proofs.ListLemmas.{by_test, clash, occurs-left, occurs-push, occurs_at, occurs-head}
+use Rattle.msc_chart.proofs.ListLemmas.{by_test, clash, occurs-left, occurs-push, occurs_at, occurs-head, IsDistinct}
 use Rattle.msc_fifo.specs.Identity.{QueueId}
 use Rattle.msc_fifo.specs.declared.entry.Entry.{Entry}
 use Rattle.msc_fifo.specs.declared.accounts.Settled.{Settled}
@@ -22,11 +22,10 @@ use Rattle.msc_execution.specs.Logs.{IsLogOf, Reading, sent, received}
 use Rattle.msc_execution.specs.Growth.{HasTaken, all_messages}
 use Rattle.msc_execution.specs.Running.{Left, EndsAs, IsNothingStrange, IsStrangeAlone}
 use Rattle.msc_execution.specs.Settling.{of_queue, IsSettledOf}
-use Rattle.msc_gather.proofs.Apart.{Apart}
 use Rattle.msc_execution.proofs.Lists.Words.{in_none, passes, fails, once_left, once_apart}
 use Rattle.msc_execution.proofs.Lists.Ranges.{in_range}
 use Rattle.msc_execution.proofs.Wiring.Logged.{IsOf, sent_is, sent_once, taken_by}
-use Rattle.msc_execution.proofs.Settling.Came.{Came, left_of, all_outlets, all_inlets, HaveEnded, AreEndsOf, AreAccountsOfLogs, AreSettled, IsTold}
+use Rattle.msc_execution.proofs.Settling.Came.{Came, left_at, all_outlets, all_inlets, HaveEnded, AreEndsOf, AreAccountsOfLogs, AreSettled, IsTold}
 use Rattle.msc_execution.proofs.Settling.Buckets.{numbers_stay}
 use Rattle.msc_execution.proofs.Settling.FlatLists.{flat_lists}
 use Rattle.msc_execution.proofs.Settling.Accounts.{accounts}
@@ -109,7 +108,7 @@ module _ {queues : Queues} {d : Drawing} {id : ℕ → QueueId} {c : Came} {stra
   ]
 
   -- each message once
-  part_once : (j : ℕ) → Apart (messages_of j got)
+  part_once : (j : ℕ) → IsDistinct (messages_of j got)
   part_once j = elim (cases_lt j (length (senders_in queues d q))) [
     | inl lt ↦
         let i : ℕ = get_or (senders_in queues d q) j 0 in
@@ -117,12 +116,12 @@ module _ {queues : Queues} {d : Drawing} {id : ℕ → QueueId} {c : Came} {stra
         let w = in_senders queues d q i (occurs_at (senders_in queues d q) j lt) in
         let b = begins j i at in
         once_left (messages_of j got) b.0
-        (subst Apart b.1 (sent_once queues d accepted q i (c.logs i) (logs i w.0)))
-    | inr le ↦ subst Apart (sym (told.none j le)) tt
+        (subst IsDistinct b.1 (sent_once queues d accepted q i (c.logs i) (logs i w.0)))
+    | inr le ↦ subst IsDistinct (sym (told.none j le)) tt
   ]
 
   -- so all that was got stands once
-  pub got_once : Apart (all_messages got)
+  pub got_once : IsDistinct (all_messages got)
   got_once = once_of_parts got part_once (λ m s' t a b.
       let x = part s' m a in
       let y = part t m b in
@@ -176,7 +175,7 @@ module _ {queues : Queues} {d : Drawing} {open' : Bool} {patience : ℕ} {id : �
 
   -- a strange message would be one of the queue whose input is logged: then it was got twice
   alone_is_absurd : (i m : ℕ) → i < length d.instances
-      → IsStrangeAlone (role queues d i) (left_of c i) (ended.grown.strange i) m → ⊥
+      → IsStrangeAlone (role queues d i) (left_at c i) (ended.grown.strange i) m → ⊥
   alone_is_absurd i m lt st =
       let q : ℕ = st.queue in
       let f : ℕ → InletState = λ k. new_inlet (id k) (length (senders_in queues d k)) in
@@ -193,8 +192,8 @@ module _ {queues : Queues} {d : Drawing} {open' : Bool} {patience : ℕ} {id : �
       ends.is_inlet.got
       ∙ ap (λ (r : ℕ). received queues d q (c.logs r) ++ ended.grown.strange r q) (sym same)
       ∙ ap (λ (l : List ℕ). mine ++ l) st.last in
-      let once : Apart (mine ++ m ∷ []) =
-      subst Apart is (got_once accepted ended.logs ends
+      let once : IsDistinct (mine ++ m ∷ []) =
+      subst IsDistinct is (got_once accepted ended.logs ends
       t.1) in
       let p =
       in_a_part ends.inlet.got m (ap (λ (l : List ℕ). occurs l m) is ∙ occurs-push mine m) in
@@ -209,7 +208,7 @@ module _ {queues : Queues} {d : Drawing} {open' : Bool} {patience : ℕ} {id : �
   nobody i m lt is =
       alone_is_absurd i m lt
       (subst (λ (e : End). EndsAs (role queues d i) open' patience (ended.grown.readings i)
-      (left_of c i) (ended.grown.strange i) e) is (ended.ended i lt))
+      (left_at c i) (ended.grown.strange i) e) is (ended.ended i lt))
 
   -- and what a queue's inlet got is what its receiver logged
   pub told : (q : ℕ) (ends : AreEndsOf queues d id c ended.grown.strange q)
@@ -219,7 +218,7 @@ module _ {queues : Queues} {d : Drawing} {open' : Bool} {patience : ℕ} {id : �
       let r : ℕ = ends.receiver in
       let t = told_of q here ends in
       let none : ended.grown.strange r q ≡ [] =
-      nothing (role queues d r) open' patience (ended.grown.readings r) (left_of c r)
+      nothing (role queues d r) open' patience (ended.grown.readings r) (left_at c r)
       (ended.grown.strange r) (c.ends r) (ended.ended r ends.within)
       (λ m. nobody r m ends.within) q in
       let whole : all_messages ends.inlet.got ≡ received queues d q (c.logs r) =

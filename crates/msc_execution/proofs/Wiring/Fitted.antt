@@ -8,14 +8,13 @@ use Rattle.msc_chart.specs.Lists.{occurs, until}
 use Rattle.msc_chart.specs.Charts.{line, message}
 use Rattle.msc_chart.specs.Drawings.{Drawing, sender_of}
 use Rattle.msc_chart.specs.Laws.{messages_in, senders_in}
-use Rattle.msc_chart.proofs.ListLemmas.{by_test, clash, parts, occurs-append, occurs-left, occurs-head, occurs-tail, occurs-right}
+use Rattle.msc_chart.proofs.ListLemmas.{by_test, clash, parts, occurs-append, occurs-left, occurs-head, occurs-tail, occurs-right, IsDistinct}
 use Rattle.msc_chart.proofs.Drawn.{output_parts, output_not_local}
 use Rattle.msc_fifo.specs.Identity.{QueueId}
 use Rattle.msc_fifo.specs.Ends.{new_outlet, new_inlet}
 use Rattle.msc_execution.specs.Roles.{NumberedOutlet, EndLists, role, wired_ends, queues_in, takes_from, sent_queues, taken_queues, rank_of, quota_of, IsFit}
 use Rattle.msc_execution.specs.Logs.{sent}
 use Rattle.msc_execution.specs.Fits.{WiringsFit, OutputsHaveOutlets, LogsKeepQuotas, InletsBringOwn}
-use Rattle.msc_gather.proofs.Apart.{Apart}
 use Rattle.msc_execution.proofs.Lists.Words.{head_or_tail, passes, kept}
 use Rattle.msc_execution.proofs.Wiring.Receivers.{messages_has, sent_has, the_receiver}
 use Rattle.msc_execution.proofs.Wiring.Logged.{sent_is, sent_once}
@@ -70,7 +69,7 @@ have_outlets queues d i e accepted output on =
     (ap (line d.events) (accepted.has_messages.back e output) ∙ on)
 
 -- a list without repetition whose members are in another list is no longer
-pub pigeons : (xs ys : List ℕ) → Apart xs → ((x : ℕ) → occurs xs x ≡ true → occurs ys x ≡ true)
+pub pigeons : (xs ys : List ℕ) → IsDistinct xs → ((x : ℕ) → occurs xs x ≡ true → occurs ys x ≡ true)
     → length xs ≤ length ys
 pigeons [] ys once h = omega arith
 pigeons (x ∷ xs) ys once h =

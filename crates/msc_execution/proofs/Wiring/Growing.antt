@@ -13,11 +13,15 @@ use Rattle.msc_chart.specs.Laws.{messages_in, sends_to, senders_in}
 use Rattle.msc_chart.proofs.ListLemmas.{by_test, clash, occurs-head, occurs-tail}
 use Rattle.msc_fifo.specs.Identity.{QueueId}
 use Rattle.msc_fifo.specs.Ends.{new_outlet, new_inlet}
-use Rattle.msc_execution.specs.Roles.{Role, NumberedOutlet, NumberedInlet, ends_from, fresh_outlet, fresh_inlet, wired_ends, queues_below, takes_from, sent_queues, taken_queues, rank_of, quota_of}
+use Rattle.msc_execution.specs.Roles.{Role, NumberedOutlet, NumberedInlet, fresh_outlet, fresh_inlet, wired_ends, queues_below, takes_from, sent_queues, taken_queues, rank_of, quota_of, EndLists}
 use Rattle.msc_execution.specs.Fits.{sent_below, taken_below, no_ends, wired_below, IsWiringStep, WiringGrows}
 use Rattle.msc_execution.proofs.Lists.Words.{passes}
 use Rattle.msc_execution.proofs.Lists.Ranges.{filter_more}
 use Rattle.msc_execution.proofs.Wiring.Receivers.{in_below}
+
+-- the ends that are these outlets and inlets
+abbrev pub ends_from : List NumberedOutlet → List NumberedInlet → EndLists
+ends_from outlets inlets = record { outlets = outlets; inlets = inlets }
 
 -- where some element passes there is an element
 pub any_has : (g : ℕ → Bool) (ms : List ℕ) → list_any g ms ≡ true → nat_lt 0 (length ms) ≡ true

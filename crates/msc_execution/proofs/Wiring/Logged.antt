@@ -9,8 +9,8 @@ use Rattle.msc_chart.specs.Orders.{queue_of}
 use Rattle.msc_chart.proofs.Drawn.{output_not_local, partner_of_output}
 use Rattle.msc_chart.proofs.Readers.{output_in}
 use Rattle.msc_execution.specs.Logs.{IsLogOf, outputs, inputs, outputs_at, inputs_at, sent, received}
-use Rattle.msc_gather.proofs.Apart.{Apart}
 use Rattle.msc_execution.proofs.Lists.Words.{passes, kept, mapped, unmapped, once_filter, once_map, steps_once}
+use Rattle.msc_chart.proofs.ListLemmas.{IsDistinct}
 
 -- a message of the chart, in a queue, from a sender
 pub record IsOf (queues : Queues) (d : Drawing) (q i m : ℕ) : Type 0 where
@@ -66,7 +66,7 @@ module _ (queues : Queues) (d : Drawing) (accepted : IsAccepted d) where
       }
 
   -- each message once
-  pub sent_once : (q i : ℕ) (log : List ℕ) → IsLogOf d i log → Apart (sent queues d q log)
+  pub sent_once : (q i : ℕ) (log : List ℕ) → IsLogOf d i log → IsDistinct (sent queues d q log)
   sent_once q i log is =
       let once = (steps_once d [] log is.steps).0 in
       once_map (message d.events) (outputs_at queues d q log)

@@ -1,7 +1,7 @@
 -- What an order leaves open of an event's row.
-use Rattle.std.proofs.Common.{◌≡◌, ℕ, ◌*◌, ◌<◌, ◌≤◌, Bool, ◌&&◌, not, List, ap, arith}
+use Rattle.std.proofs.Common.{◌≡◌, ℕ, ◌*◌, ◌≤◌, Bool, ◌&&◌, not, List, ap, arith}
 use Rattle.std.specs.Prelude.{nat_le}
-use Rattle.bit_rows.specs.Rows.{has, word_count}
+use Rattle.bit_rows.specs.Rows.{has, word_count, HasNumbersOf32Bits}
 use Rattle.bit_rows.proofs.Bits.{words_enough, words_few}
 use Rattle.msc_chart.specs.declared.TheConstants.{EVENT_LIMIT}
 use Rattle.msc_chart.specs.Lists.{pairs_to}
@@ -14,7 +14,7 @@ pub row_reaches : {n words events end : ℕ} → n ≡ events → words ≡ word
 row_reaches {n} same size within = omega (arith, words_enough n, size, same, within)
 
 -- and have few bits
-pub row_is_few : {n words events : ℕ} → n ≡ events → words ≡ word_count n → events ≤ EVENT_LIMIT → 64 * words < 4294967232
+pub row_is_few : {n words events : ℕ} → n ≡ events → words ≡ word_count n → events ≤ EVENT_LIMIT → HasNumbersOf32Bits words
 row_is_few {n} same size few = omega (arith, words_few n, size, same, few)
 
 -- an event is left open where the row has a zero

@@ -1,6 +1,5 @@
 -- What stands in a queue, and which inputs have arrived, when an event of another queue occurs.
-use Rattle.std.proofs.Common.{◌≡◌, ◌≢◌, ℕ, ◌<◌, Bool, true, false, cond, inl, inr, List, [], ◌∷◌, ◌++◌, filter, length, get_or, eqb, refl, sym, subst}
-use Rattle.std.proofs.lemmas.Bool.{eqb-true, or_cases}
+use Rattle.std.proofs.Common.{◌≡◌, ◌≢◌, ℕ, ◌<◌, true, List, [], ◌∷◌, ◌++◌, filter, length, get_or, sym, subst}
 use Rattle.msc_chart.specs.Lists.{occurs, IsFirst}
 use Rattle.msc_chart.specs.Charts.{partner, is_output}
 use Rattle.msc_chart.specs.Orders.{WiredChart, queue}
@@ -8,26 +7,14 @@ use Rattle.msc_chart.specs.Runs.{Run, is_waiting, state}
 use Rattle.msc_race.specs.QueuedRuns.{IsQueue, IsArrived}
 use Rattle.msc_race.proofs.Runs.EventLemmas.{output_below}
 use Rattle.msc_chart.proofs.Waiting.{waiting_parts}
-use Rattle.msc_race.proofs.Making.StateLemmas.{IsDistinct, distinct, distinct_filter}
-
--- what occurs in a filter passes it
-passes : (p : ℕ → Bool) (xs : List ℕ) (y : ℕ) → occurs (filter p xs) y ≡ true → p y ≡ true
-unfolding occurs
-passes p [] y h = cc
-passes p (x ∷ xs) y h =
-    (elim (p x) as (λ b. p x ≡ b → occurs (cond b (x ∷ filter p xs) (filter p xs)) y ≡ true → p y ≡ true) [
-      | true ↦ λ there k. elim (or_cases (eqb x y) (occurs (filter p xs) y) k) [
-        | inl same ↦ subst (λ (z : ℕ). p z ≡ true) (eqb-true x y same) there
-        | inr later ↦ passes p xs y later
-      ]
-      | false ↦ λ out k. passes p xs y k
-    ]) refl h
+use Rattle.msc_race.proofs.Making.StateLemmas.{distinct, distinct_filter}
+use Rattle.msc_chart.proofs.ListLemmas.{IsDistinct, filter-passes}
 
 module _ (chart : WiredChart) (past : List ℕ) where
   -- what is in a queue is an output of it
   pub member : (p y : ℕ) → occurs (state chart p past) y ≡ true → (is_output chart.events y ≡ true) × (y < length chart.events) × (queue chart y ≡ p)
   member p y there =
-      let w = waiting_parts chart p past y (passes (is_waiting chart p past) past y there) in
+      let w = waiting_parts chart p past y (filter-passes (is_waiting chart p past) past y there) in
       (w.0, output_below chart.events y w.0, w.1)
 
   -- a queue holds no output twice

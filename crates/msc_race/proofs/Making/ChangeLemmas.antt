@@ -11,11 +11,12 @@ use Rattle.msc_race.specs.declared.queued_run.QueuedRun.{QueuedRun}
 use Rattle.msc_race.specs.QueuedRuns.{IsArrived, AreQueues, IsQueue, IsComing}
 use Rattle.msc_race.proofs.Making.RowLemmas.{row_same}
 use Rattle.msc_race.proofs.Runs.EventLemmas.{input_below, partner_of_output}
-use Rattle.msc_race.proofs.Making.StateLemmas.{state_sent, state_sent_elsewhere, IsDistinct, state_taken, state_taken_elsewhere}
+use Rattle.msc_race.proofs.Making.StateLemmas.{state_sent, state_sent_elsewhere, state_taken, state_taken_elsewhere}
 use Rattle.msc_race.proofs.Making.LinkLemmas.{empty_queue, last_in, queue_same, queue_push, queue_ends, queue_goes_on, first_parts, first_append, first_unique, first_later}
 use Rattle.msc_race.proofs.Making.ComingLemmas.{has_head, has_last}
 use Rattle.msc_race.proofs.Making.ArrivedLemmas.{member, once, still_arrived, had_arrived, linked_elsewhere}
 use Rattle.msc_race.proofs.Making.FrontLemmas.{still_in, was_in}
+use Rattle.msc_chart.proofs.ListLemmas.{IsDistinct}
 
 module _ {chart : WiredChart} {c : QueuedRun} {x : ℕ} (here : IsComing chart c x) where
   open here use {is_wired, run, may, were}

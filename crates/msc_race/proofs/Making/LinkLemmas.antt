@@ -4,7 +4,7 @@ use Rattle.std.proofs.lemmas.Bool.{eq-eqb, or_left, or_right}
 use Rattle.msc_chart.specs.Lists.{occurs, IsFirst}
 use Rattle.msc_race.specs.QueuedRuns.{IsLinked, IsQueue}
 use Rattle.msc_race.proofs.Shared.{clash}
-use Rattle.msc_race.proofs.Making.StateLemmas.{IsDistinct}
+use Rattle.msc_chart.proofs.ListLemmas.{IsDistinct}
 
 -- the last number is one of the list
 linked_last : (next : List ℕ) (last a : ℕ) (xs : List ℕ) → IsLinked next last a xs → occurs (a ∷ xs) last ≡ true

@@ -1,10 +1,9 @@
 -- What the rows of a chosen run hold, word by word.
-use Rattle.std.proofs.Common.{◌≡◌, ℕ, ◌+◌, ◌*◌, ◌/◌, ◌%◌, ◌<◌, ◌≤◌, ◌↔◌, Bool, true, false, not, ◌&&◌, ◌||◌, inl, inr, eqb, ltb, List, length, get_or, sym, ap, ◌∙◌, arith, bit_or, bit_and}
+use Rattle.std.proofs.Common.{◌≡◌, ℕ, ◌*◌, ◌/◌, ◌%◌, ◌<◌, ◌≤◌, ◌↔◌, Bool, true, false, not, ◌&&◌, inl, inr, eqb, ltb, List, length, get_or, sym, ap, ◌∙◌, arith, bit_or, bit_and}
 use Rattle.std.proofs.lemmas.Bool.{lt-ltb, ltb-true, cases_lt}
-use Rattle.std.proofs.Math.Bool.{and-false}
 use Rattle.std.specs.Prelude.{IsTrue}
 use Rattle.bit_rows.specs.Rows.{bit_of, has, word_count, AreApartTo, IsFirstCommon, IsWithout}
-use Rattle.bit_rows.proofs.Bits.{bit_join, bit_meet, bit_zero, words_enough, words_few}
+use Rattle.bit_rows.proofs.Bits.{bit_join, bit_meet, words_enough, words_few}
 use Rattle.bit_rows.proofs.Rows.{has_past}
 use Rattle.msc_chart.specs.declared.TheConstants.{EVENT_LIMIT}
 use Rattle.msc_chart.specs.Lists.{IsLeast}
@@ -29,16 +28,6 @@ module _ (p : ℕ → Bool) (word : ℕ → ℕ) (reads : (y : ℕ) → p y ≡ 
               clash passes (reads z ∙ rw same (lower (z % 64) low))
         ];
   }
-
-  -- and where word k is empty too, no number below its end passes
-  pub none_further : word k ≡ 0 → (y : ℕ) → y < 64 * (k + 1) → p y ≡ false
-  none_further empty y below =
-      elim (cases_lt y (64 * k)) [
-        | inl before ↦ none y before
-        | inr after ↦
-            let same : y / 64 ≡ k = omega (arith, after, below) in
-            reads y ∙ rw (same, empty) (bit_zero (y % 64))
-      ]
 
 -- two rows have a number in common where they have a first word of such
 pub has_common : (one other : List ℕ) (k : ℕ) → IsFirstCommon one other k → IsTrue (ltb k (length one)) ↔ HaveCommon one other
@@ -65,11 +54,6 @@ picks_word a b mask y =
     let joined = bit_join (get_or a (y / 64) 0) (get_or b (y / 64) 0) (y % 64) in
     sym (bit_meet (bit_or (get_or a (y / 64) 0) (get_or b (y / 64) 0)) (get_or mask (y / 64) 0) (y % 64)
     ∙ ap (λ c. c && bit_of (get_or mask (y / 64) 0) (y % 64)) joined)
-
--- nothing is picked that is not in the mask
-pub picks_none : (a b mask : List ℕ) (y : ℕ) → has mask y ≡ false → is_masked a b mask y ≡ false
-unfolding is_masked
-picks_none a b mask y out = rw out (and-false (has a y || has b y))
 
 -- so many words are a row of few numbers
 pub row_from : (n : ℕ) (row : List ℕ) → length row ≡ word_count n → n ≤ EVENT_LIMIT → IsRow n row

@@ -7,15 +7,10 @@ use Rattle.msc_chart.specs.Lists.{occurs, until, Steps}
 use Rattle.msc_chart.specs.Charts.{partner, is_output, is_input, is_local}
 use Rattle.msc_chart.specs.Orders.{WiredChart, IsWired, queue}
 use Rattle.msc_chart.specs.Runs.{Run, MayCome, is_waiting, state}
-use Rattle.msc_chart.proofs.ListLemmas.{occurs-append}
+use Rattle.msc_chart.proofs.ListLemmas.{occurs-append, IsDistinct}
 use Rattle.msc_race.proofs.Shared.{by_test, clash, occurs-left, occurs-push, until-within, step_at, first_occurs}
 use Rattle.msc_race.proofs.Runs.EventLemmas.{input_not_local, output_below, output_not_local, not_both, partner_of_output}
 use Rattle.msc_chart.proofs.Waiting.{waiting_from, waiting_parts}
-
--- no number stands in the list twice
-abbrev pub IsDistinct : List ℕ → Type 0
-IsDistinct [] = Unit {0}
-IsDistinct (x ∷ xs) = (occurs xs x ≡ false) × IsDistinct xs
 
 -- what occurs in a filter occurs in the list
 filter_within : (p : ℕ → Bool) (xs : List ℕ) (e : ℕ) → occurs xs e ≡ false → occurs (filter p xs) e ≡ false

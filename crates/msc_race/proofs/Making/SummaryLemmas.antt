@@ -11,12 +11,12 @@ use Rattle.msc_race.proofs.Shared.{by_test, clash}
 use Rattle.msc_race.proofs.Listing.Words.{one_less}
 
 -- each number that passes has a bit for its word
-abbrev pub IsTold : (ℕ → Bool) → ℕ → Type 0
-IsTold p left = (y : ℕ) → p y ≡ true → bit_of left (y / 64) ≡ true
+abbrev pub HasItsWords : (ℕ → Bool) → ℕ → Type 0
+HasItsWords p left = (y : ℕ) → p y ≡ true → bit_of left (y / 64) ≡ true
 
 -- what one of two sets has in the row has a bit in one of their words
-pub told_first : (a b mask : List ℕ) (one other : ℕ) → IsTold (has a) one → IsTold (has b) other
-    → IsTold (is_masked a b mask) (bit_or one other)
+pub told_first : (a b mask : List ℕ) (one other : ℕ) → HasItsWords (has a) one → HasItsWords (has b) other
+    → HasItsWords (is_masked a b mask) (bit_or one other)
 unfolding is_masked
 told_first a b mask one other of_a of_b y h =
     bit_join one other (y / 64) ∙ elim (or_cases (has a y) (has b y) (and_parts (has a y || has b y) (has mask y) h).0) [
@@ -49,7 +49,7 @@ module _ (left : ℕ) (some : 0 < left) (fits : left < 2 ^ 64) where
   none_under i below = rw ((bit_at-trailing_zeros w64 left some fits).2 i below) refl
 
   -- so nothing passes in the words below
-  pub none_before : (p : ℕ → Bool) → IsTold p left → (y : ℕ) → y < 64 * low → p y ≡ false
+  pub none_before : (p : ℕ → Bool) → HasItsWords p left → (y : ℕ) → y < 64 * low → p y ≡ false
   none_before p told y below =
       by_test (p y) (λ h. clash (told y h) (none_under (y / 64) (omega arith))) (λ out. out)
 
@@ -65,7 +65,7 @@ module _ (left : ℕ) (some : 0 < left) (fits : left < 2 ^ 64) where
 
   -- where its word has nothing that passes, each number that passes has one of the others
   pub told_further : (p : ℕ → Bool) (word : ℕ → ℕ) → ((y : ℕ) → p y ≡ bit_of (word (y / 64)) (y % 64)) → word low ≡ 0
-      → IsTold p left → IsTold p (bit_and left (left - 1))
+      → HasItsWords p left → HasItsWords p (bit_and left (left - 1))
   told_further p word reads empty told y h =
       elim (cases_eq (y / 64) low) [
         | inl here ↦ clash h (reads y ∙ rw (here, empty) (bit_zero (y % 64)))

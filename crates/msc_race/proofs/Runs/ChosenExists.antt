@@ -17,12 +17,12 @@ use Rattle.msc_race.proofs.Runs.WholeRuns.{everything, never_stuck}
 use Rattle.msc_race.proofs.Runs.FreeEvents.{is_free_of}
 use Rattle.msc_race.proofs.Runs.FreeFirst.{free_first}
 use Rattle.msc_race.proofs.Runs.Tables.{enforced_order}
-use Rattle.msc_race.proofs.Runs.Telling.{least_of, may_told, inside_told}
+use Rattle.msc_race.proofs.Runs.Deciding.{least_of, may_decided, inside_decided}
 use Rattle.msc_race.proofs.Runs.FreeRuns.{free_of_inside, inside_of_free, least_free, left_of_free, free_of_left}
 
 -- the run goes on as the chosen run of e, to a whole one
-abbrev GoesOn : WiredChart → ℕ → List ℕ → Type 0
-GoesOn chart e past = (rest : List ℕ) × Steps (IsChosenNext chart e) past rest × IsWhole chart (past ++ rest)
+abbrev CanBeCompleted : WiredChart → ℕ → List ℕ → Type 0
+CanBeCompleted chart e past = (rest : List ℕ) × Steps (IsChosenNext chart e) past rest × IsWhole chart (past ++ rest)
 
 -- where no free event is left, none is left after a further event
 still_none : (chart : WiredChart) (e : ℕ) (past xs : List ℕ) → (SomeFreeLeft chart e past → ⊥)
@@ -34,7 +34,7 @@ module _ (chart : WiredChart) (is_wired : IsWired chart) (acyclic : IsAcyclic ch
   -- the second part, when no free event is left: the least event that may come, again and again
   chosen_rest : (fuel : ℕ) (past : List ℕ)
       → count_below (is_left everything past) (length chart.events) ≤ fuel
-      → Run chart past → (SomeFreeLeft chart e past → ⊥) → GoesOn chart e past
+      → Run chart past → (SomeFreeLeft chart e past → ⊥) → CanBeCompleted chart e past
   chosen_rest zero past enough run none =
       elim (never_stuck chart is_wired acyclic past run) [
         | inl whole ↦ ([], tt, rw append-nil whole)
@@ -46,7 +46,7 @@ module _ (chart : WiredChart) (is_wired : IsWired chart) (acyclic : IsAcyclic ch
       elim (never_stuck chart is_wired acyclic past run) [
         | inl whole ↦ ([], tt, rw append-nil whole)
         | inr next ↦
-            let best = least_of (MayCome chart past) (may_told chart past) next.0 next.1 in
+            let best = least_of (MayCome chart past) (may_decided chart past) next.0 next.1 in
             let x : ℕ = best.0 in
             let may = best.1.itself in
             let less = left_less everything past (length chart.events) x may.event refl may.new in
@@ -58,7 +58,7 @@ module _ (chart : WiredChart) (is_wired : IsWired chart) (acyclic : IsAcyclic ch
 
   -- the same, however many events are left
   chosen_end : (past : List ℕ) → Run chart past → (SomeFreeLeft chart e past → ⊥)
-      → GoesOn chart e past
+      → CanBeCompleted chart e past
   chosen_end past run none =
       chosen_rest (count_below (is_left everything past) (length chart.events)) past (le_refl _) run none
 
@@ -70,7 +70,7 @@ module _ (chart : WiredChart) (is_wired : IsWired chart) (acyclic : IsAcyclic ch
     -- the first part, while free events are left: the least of them that may come, again and again
     chosen_from : (fuel : ℕ) (past : List ℕ)
         → count_below (is_left free past) (length chart.events) ≤ fuel
-        → Steps (MayComeInside chart free) [] past → GoesOn chart e past
+        → Steps (MayComeInside chart free) [] past → CanBeCompleted chart e past
     chosen_from zero past enough steps =
         chosen_end past (run_inside chart free past steps)
         (λ some_free.
@@ -88,7 +88,7 @@ module _ (chart : WiredChart) (is_wired : IsWired chart) (acyclic : IsAcyclic ch
               let some : SomeLeft chart free past = (found.0, found.1, left.0, left.1) in
               let can_go = free_first chart is_wired order told e below acyclic in
               let next = progress chart is_wired free (Enforced chart) can_go past steps some in
-              let best = least_of (MayComeInside chart free past) (inside_told chart past free) next.0 next.1 in
+              let best = least_of (MayComeInside chart free past) (inside_decided chart past free) next.0 next.1 in
               let x : ℕ = best.0 in
               let one = best.1.itself in
               let less = left_less free past (length chart.events) x one.may.event one.member one.may.new in

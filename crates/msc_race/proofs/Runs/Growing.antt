@@ -20,8 +20,8 @@ left_counted inside past n x below member out =
     omega arith
 
 -- all events of the set are in the list
-abbrev pub HasAll : WiredChart → (ℕ → Bool) → List ℕ → Type 0
-HasAll chart inside events = (x : ℕ) → x < length chart.events → inside x ≡ true → occurs events x ≡ true
+abbrev pub HasEachOf : WiredChart → (ℕ → Bool) → List ℕ → Type 0
+HasEachOf chart inside events = (x : ℕ) → x < length chart.events → inside x ≡ true → occurs events x ≡ true
 
 module _ (chart : WiredChart) (is_wired : IsWired chart) (inside : ℕ → Bool) (R : ℕ → ℕ → Type 0)
     (first : CanGoFirst chart inside R) where
@@ -29,7 +29,7 @@ module _ (chart : WiredChart) (is_wired : IsWired chart) (inside : ℕ → Bool)
   pub all_of : (fuel : ℕ) (past : List ℕ)
       → count_below (is_left inside past) (length chart.events) ≤ fuel
       → Steps (MayComeInside chart inside) [] past
-      → (rest : List ℕ) × Steps (MayComeInside chart inside) [] (past ++ rest) × HasAll chart inside (past ++ rest)
+      → (rest : List ℕ) × Steps (MayComeInside chart inside) [] (past ++ rest) × HasEachOf chart inside (past ++ rest)
   all_of zero past enough steps = (
     [],
     rw append-nil steps,
@@ -52,7 +52,7 @@ module _ (chart : WiredChart) (is_wired : IsWired chart) (inside : ℕ → Bool)
             let less = left_less inside past (length chart.events) x next.1.may.event next.1.member next.1.may.new in
             let further = Steps-push (MayComeInside chart inside) past x steps next.1 in
             let more = all_of fuel (past ++ x ∷ []) (omega arith) further in
-            let both = subst (λ (l : List ℕ). Steps (MayComeInside chart inside) [] l × HasAll chart inside l)
+            let both = subst (λ (l : List ℕ). Steps (MayComeInside chart inside) [] l × HasEachOf chart inside l)
             (append_assoc past (x ∷ []) more.0) (more.1, more.2) in
             (x ∷ more.0, both.0, both.1)
       ]

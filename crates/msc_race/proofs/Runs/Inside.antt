@@ -65,10 +65,10 @@ module _ (chart : WiredChart) (inside : ℕ → Bool) where
   run_inside past steps = Steps-map MayComeInside (MayCome chart) (λ before x h. h.may) [] past steps
 
   -- some output of x's queue that is passed on has not occurred, or all of them have
-  pub passed_on_told : (past : List ℕ) (x : ℕ)
+  pub passed_on_decided : (past : List ℕ) (x : ℕ)
       → ((t : ℕ) × (is_passed_on t ≡ true) × (queue chart t ≡ queue chart x) × (occurs past t ≡ false))
       ⊎ ((t : ℕ) → is_passed_on t ≡ true → queue chart t ≡ queue chart x → occurs past t ≡ true)
-  passed_on_told past x =
+  passed_on_decided past x =
       let waits_for : ℕ → Bool = λ t. (is_passed_on t && eqb (queue chart t) (queue chart x)) && not (occurs past t) in
       elim (find_below waits_for (length chart.events)) [
         | inl found ↦

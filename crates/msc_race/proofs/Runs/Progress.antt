@@ -11,7 +11,7 @@ use Rattle.msc_race.proofs.Shared.{by_test, clash, count_below, find_below, desc
 use Rattle.msc_race.proofs.Runs.EventLemmas.{output_below, input_below, controlled_or_input, controlled_no_input, not_both, before_parts, partner_of_output, partner_of_input}
 use Rattle.msc_chart.proofs.Waiting.{waiting_from, waiting_parts}
 use Rattle.msc_chart.proofs.Left.{is_left, left_from, left_parts}
-use Rattle.msc_race.proofs.Runs.Inside.{is_held, is_passed_on, held_from, held_parts, passed_on_from, passed_on_parts, passed_on_told, MayComeInside, SomeLeft}
+use Rattle.msc_race.proofs.Runs.Inside.{is_held, is_passed_on, held_from, held_parts, passed_on_from, passed_on_parts, passed_on_decided, MayComeInside, SomeLeft}
 
 module _ (events : List ChartEvent) (x y : ℕ) where
   -- x has to come before y by a rule of a run: it is drawn before y, which is controlled, or is the
@@ -57,8 +57,8 @@ pub record CanGoFirst (chart : WiredChart) (inside : ℕ → Bool) (R : ℕ → 
       → queue chart s ≡ queue chart t
 
 -- the messages of the set that were sent are taken: no input of the set is left whose output occurred
-abbrev IsQuiet : WiredChart → (ℕ → Bool) → List ℕ → Type 0
-IsQuiet chart inside past =
+abbrev HasNoneInFlight : WiredChart → (ℕ → Bool) → List ℕ → Type 0
+HasNoneInFlight chart inside past =
     (r : ℕ) → is_input chart.events r ≡ true → inside r ≡ true → occurs past r ≡ false
     → occurs past (partner chart.events r) ≡ false
 
@@ -110,7 +110,7 @@ module _ (chart : WiredChart) (is_wired : IsWired chart) (inside : ℕ → Bool)
       clash waits (before_first_fails (is_waiting chart q past) past s0 s found.1 earlier))
 
   -- Where the set is quiet, what is left and has nothing left that it needs is controlled, and may come.
-  ready : IsQuiet chart inside past
+  ready : HasNoneInFlight chart inside past
       → (x : ℕ) → x < length chart.events → is_left inside past x ≡ true
       → ((y : ℕ) → y < length chart.events → is_left inside past y ≡ true → is_needed chart.events y x ≡ false)
       → MayCome chart past x
@@ -145,7 +145,7 @@ module _ (chart : WiredChart) (is_wired : IsWired chart) (inside : ℕ → Bool)
 
   -- Where the set is quiet, some event of it that is left may come: if the earliest before g is held
   -- and waits for t, then the earliest before t is not held.
-  go_on : IsQuiet chart inside past → (g : ℕ) → g < length chart.events
+  go_on : HasNoneInFlight chart inside past → (g : ℕ) → g < length chart.events
       → is_left inside past g ≡ true → (x : ℕ) × MayComeInside chart inside past x
   go_on quiet g below left =
       let d = earliest g below left in
@@ -154,7 +154,7 @@ module _ (chart : WiredChart) (is_wired : IsWired chart) (inside : ℕ → Bool)
       let x_member = (left_parts inside past x d.2).0 in
       by_test (is_held chart inside x)
       (λ held.
-      elim (passed_on_told chart inside past x) [
+      elim (passed_on_decided chart inside past x) [
         | inr all ↦ (x, record { may = x_may; member = x_member; patient = λ again. all })
         | inl found ↦
             let t : ℕ = found.0 in

@@ -45,13 +45,3 @@ pub stands_trans : (xs : List ℕ) (x y z : ℕ) → occurs (until xs y) x ≡ t
     → occurs (until xs z) y ≡ true → occurs (until xs z) x ≡ true
 stands_trans xs x y z h k =
     until-within (until xs z) y x (subst (λ (l : List ℕ). occurs l x ≡ true) (until_until xs y z k) h)
-
--- nothing stands before itself
-pub until_own : (xs : List ℕ) (x : ℕ) → occurs (until xs x) x ≡ false
-unfolding occurs until
-until_own [] x = refl
-until_own (y ∷ ys) x =
-    (elim (eqb y x) as (λ b. eqb y x ≡ b → occurs (cond b [] (y ∷ until ys x)) x ≡ false) [
-      | true ↦ λ same. refl
-      | false ↦ λ other. rw other (until_own ys x)
-    ]) refl

@@ -12,11 +12,12 @@ use Rattle.msc_chart.specs.Orders.Enforced.{drawn, sent}
 use Rattle.msc_chart.specs.Runs.{Run, MayCome, Reverses, is_waiting, state}
 use Rattle.msc_race.specs.Samples.{crossed, mailboxes, NoRunReversesBoth}
 use Rattle.msc_race.proofs.Shared.{clash, step_at, until-within, first_occurs, before_first_fails}
-use Rattle.msc_race.proofs.Runs.Standing.{until_swapped, until_until, stands_trans, until_own}
+use Rattle.msc_race.proofs.Runs.Standing.{until_swapped, until_until, stands_trans}
 use Rattle.msc_race.proofs.Runs.EventLemmas.{output_below, partner_of_output}
 use Rattle.msc_chart.proofs.Waiting.{waiting_from}
 use Rattle.msc_race.proofs.Runs.Respects.{kept}
 use Rattle.msc_race.proofs.Worked.RunTests.{wired_from}
+use Rattle.msc_chart.proofs.ListLemmas.{until-self}
 
 -- Two pairs of which the earlier of each stands before the later of the other are not reversed
 -- together: in the list the four would stand in a ring.
@@ -27,7 +28,7 @@ no_ring xs a b c d ba dc first second cb ad =
     let d_c = until_swapped xs c d dc second.0 second.1 in
     let c_a = stands_trans xs c b a cb b_a in
     let a_c = stands_trans xs a d c ad d_c in
-    clash (stands_trans xs c a c c_a a_c) (until_own xs c)
+    clash (stands_trans xs c a c c_a a_c) (until-self xs c)
 
 module _ (chart : WiredChart) (is_wired : IsWired chart) (events : List ℕ) (run : Run chart events) where
   -- A run that reverses the inputs of two messages of a queue reverses their outputs, since what stands

@@ -11,12 +11,12 @@ use Rattle.msc_race.proofs.Runs.EventLemmas.{before_parts}
 use Rattle.msc_race.proofs.Runs.RaceLaws.{race_from_run}
 
 -- the pair is in the list
-abbrev has : List (ℕ × ℕ) → ℕ → ℕ → Bool
-has [] e f = false
-has (p ∷ ps) e f = (eqb p.0 e && eqb p.1 f) || has ps e f
+abbrev has_pair : List (ℕ × ℕ) → ℕ → ℕ → Bool
+has_pair [] e f = false
+has_pair (p ∷ ps) e f = (eqb p.0 e && eqb p.1 f) || has_pair ps e f
 
 -- the test says so
-occurs_from : (pairs : List (ℕ × ℕ)) (e f : ℕ) → has pairs e f ≡ true → Occurs pairs (e, f)
+occurs_from : (pairs : List (ℕ × ℕ)) (e f : ℕ) → has_pair pairs e f ≡ true → Occurs pairs (e, f)
 occurs_from [] e f h = cc
 occurs_from (p ∷ ps) e f h =
     elim (or_cases _ _ h) [
@@ -50,7 +50,7 @@ module _ (chart : WiredChart) where
   abbrev pub is_left_out : List (ℕ × ℕ) → List (ℕ × ℕ) → Bool
   is_left_out races enforced =
       let n : ℕ = length chart.events in
-      any_below (λ e. any_below (λ f. before chart.events e f && not (has races e f || has enforced e f)) n) n
+      any_below (λ e. any_below (λ f. before chart.events e f && not (has_pair races e f || has_pair enforced e f)) n) n
 
   -- Where runs show each pair of one list, the pairs of another are enforced, and each drawn pair is
   -- in one of them, the first has all races.

@@ -26,14 +26,14 @@ module _ (chart : WiredChart) where
 
   -- a controlled event has all that is drawn before it behind it, and the message of an input is the
   -- first of its queue
-  abbrev is_open : List ℕ → ℕ → Bool → Bool
-  is_open past x controlled =
+  abbrev is_due : List ℕ → ℕ → Bool → Bool
+  is_due past x controlled =
       cond controlled (not (is_missing past x)) (is_first (state chart (queue chart x) past) (partner chart.events x))
 
   -- x may come next
   abbrev may_come : List ℕ → ℕ → Bool
   may_come past x =
-      (ltb x (length chart.events) && not (occurs past x)) && is_open past x (is_controlled chart.events x)
+      (ltb x (length chart.events) && not (occurs past x)) && is_due past x (is_controlled chart.events x)
 
   -- each event of the list may come after those before it
   abbrev pub is_run : List ℕ → List ℕ → Bool
@@ -49,14 +49,14 @@ module _ (chart : WiredChart) where
         event = ltb-true _ _ own.0;
         new = not-true _ own.1;
         controlled = λ o y drawn.
-            let none = not-true _ (subst (λ (controlled : Bool). is_open past x controlled ≡ true) o both.1) in
+            let none = not-true _ (subst (λ (controlled : Bool). is_due past x controlled ≡ true) o both.1) in
             by_test (occurs past y) (λ there. there)
             (λ out.
             let fails = none_of_any _ _ none y (before_parts chart.events y x drawn).0 in
             clash (and_from _ _ drawn (not_from_false _ out)) fails);
         input = λ i.
             let takes : is_controlled chart.events x ≡ false = false_from_ne_true _ (λ o. controlled_no_input chart.events x o i) in
-            first_from _ _ (subst (λ (controlled : Bool). is_open past x controlled ≡ true) takes both.1);
+            first_from _ _ (subst (λ (controlled : Bool). is_due past x controlled ≡ true) takes both.1);
       }
 
   -- so does the test of a run

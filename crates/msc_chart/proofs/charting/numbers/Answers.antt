@@ -5,7 +5,7 @@ use Rattle.msc_chart.specs.Events.{Act}
 use Rattle.msc_chart.specs.Tables.{numbers_from}
 use Rattle.msc_chart.specs.Views.{mark_view}
 use Rattle.msc_chart.proofs.charting.numbers.Goals as goal
-use Rattle.msc_chart.proofs.charting.numbers.Goals.{in-End+in_ok-push-in-End+then-end, in-End+in_ok-push-in-End+else-end, in-Action+in_ok-push-in-Action}
+use Rattle.msc_chart.proofs.charting.numbers.Goals.{in-OfMessage+in_ok-push-in-OfMessage+then-end, in-OfMessage+in_ok-push-in-OfMessage+else-end, in-Action+in_ok-push-in-Action}
 
 -- what is told at a mark, where these are the numbers told before it and from it on
 module _ (xs ys : List ℕ) (o a : ℕ) (marks : List Mark) (k : ℕ) (d m : Mark) (within : k < length marks)
@@ -32,12 +32,12 @@ pub loop-mark-preserved : goal.loop-mark-preserved
 loop-mark-preserved c =
     let counted = λ (b : Bool). cond b (c.loop-mark.outputs + 1) c.loop-mark.outputs in
     elim c.match-mark.branch [
-      | in-End+in_ok-push-in-End+then-end w ↦
-          let put = ap (λ v. v.items) w.numbers-is ∙ w.in_ok-push-in-End.ensures.items in
-          record { told = told-next _ _ _ _ _ _ _ _ c.loop-mark-test.true w.in-End.is c.loop-mark.invariant.told _ _ _ _ put (same-counts _ _ _ _ _ _ (w.outputs-is ∙ sym (ap counted w.if-end.true)) (omega arith)); outputs = omega arith; actions = omega arith }
-      | in-End+in_ok-push-in-End+else-end w ↦
-          let put = ap (λ v. v.items) w.numbers-is ∙ w.in_ok-push-in-End.ensures.items in
-          record { told = told-next _ _ _ _ _ _ _ _ c.loop-mark-test.true w.in-End.is c.loop-mark.invariant.told _ _ _ _ put (same-counts _ _ _ _ _ _ (w.outputs-is ∙ sym (ap counted w.if-end.false)) (omega arith)); outputs = omega arith; actions = omega arith }
+      | in-OfMessage+in_ok-push-in-OfMessage+then-end w ↦
+          let put = ap (λ v. v.items) w.numbers-is ∙ w.in_ok-push-in-OfMessage.ensures.items in
+          record { told = told-next _ _ _ _ _ _ _ _ c.loop-mark-test.true w.in-OfMessage.is c.loop-mark.invariant.told _ _ _ _ put (same-counts _ _ _ _ _ _ (w.outputs-is ∙ sym (ap counted w.if-end.true)) (omega arith)); outputs = omega arith; actions = omega arith }
+      | in-OfMessage+in_ok-push-in-OfMessage+else-end w ↦
+          let put = ap (λ v. v.items) w.numbers-is ∙ w.in_ok-push-in-OfMessage.ensures.items in
+          record { told = told-next _ _ _ _ _ _ _ _ c.loop-mark-test.true w.in-OfMessage.is c.loop-mark.invariant.told _ _ _ _ put (same-counts _ _ _ _ _ _ (w.outputs-is ∙ sym (ap counted w.if-end.false)) (omega arith)); outputs = omega arith; actions = omega arith }
       | in-Action+in_ok-push-in-Action w ↦
           let put = ap (λ v. v.items) w.numbers-is ∙ w.in_ok-push-in-Action.ensures.items in
           record { told = told-next _ _ _ _ _ _ _ _ c.loop-mark-test.true w.in-Action.is c.loop-mark.invariant.told _ _ _ _ put (same-counts _ _ _ _ _ _ w.outputs-is (omega arith)); outputs = omega arith; actions = omega arith }

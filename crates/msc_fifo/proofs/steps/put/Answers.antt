@@ -3,7 +3,8 @@ use Rattle.msc_fifo.specs.declared.entry.Entry.{Entry}
 use Rattle.msc_fifo.specs.declared.rule.Sender.{Sender}
 use Rattle.msc_fifo.specs.Claims.{is_message}
 use Rattle.msc_fifo.specs.Entries.{sender_of}
-use Rattle.msc_fifo.specs.World.{Each, IsSmall, code}
+use Rattle.msc_fifo.specs.World.{IsSmall, code}
+use Rattle.msc_fifo.specs.Lists.{Each}
 use Rattle.msc_fifo.specs.Views.{outlet_view, resting}
 use Rattle.msc_fifo.specs.Moves.{after_offer, after_claim, after_date, after_show, after_store}
 use Rattle.msc_fifo.proofs.OutletSteps.{offers_keep, claims_keep, dates_keep, shows_keep, stores_keep}

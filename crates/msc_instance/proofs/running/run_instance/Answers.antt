@@ -60,4 +60,7 @@ returns-clause-run g c =
     (leaves (role c.args.ends.queues c.args.chart.now c.args.i) g.G.Gate.is_open c.args.patience
     (ends_of c.of-began.result.value) a.shut a.outlets.items
     (with_items a.outlets c.close_all.new.outlets).items a.inlets.items a.journal.log.items c.run-last.result
-    (rw (same, ← c.as_mut_slice.ensures.value) c.close_all.ensures) c.run-last.ensures)
+    (rw (same, ← c.as_mut_slice.ensures.value) c.close_all.ensures)
+    (λ zero. c.run-last.ensures.untaken zero
+    ∙ ap (λ (first : EndLists). first.inlets) (ap ends_of (sym c.of-began.ensures)))
+    c.run-last.ensures.ends)

@@ -2,7 +2,7 @@ use Rattle.std.proofs.Common.{◌≡◌, length, arith, ◌∙◌, sym, ap, vec_
 use Rattle.std.proofs.lemmas.Bool.{eqb-true, eqb-false}
 use Rattle.std.proofs.lemmas.List.{nil_from_length}
 use Rattle.std.proofs.lemmas.List.Sums.{length-filter}
-use Rattle.msc_fifo.specs.NoQueue.{no_queue}
+use Rattle.msc_fifo.proofs.NoQueue.{no_queue}
 use Rattle.msc_instance.specs.Handing.{senders_among}
 use Rattle.msc_fifo.specs.Ends.{new_inlet}
 use Rattle.msc_instance.proofs.Senders.{none_handed, not_large}

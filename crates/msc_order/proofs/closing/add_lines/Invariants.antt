@@ -1,6 +1,6 @@
 use Rattle.std.proofs.Common.{length, ◌≡◌, ℕ, ◌<◌, ◌≤◌, ◌||◌, true}
 use Rattle.msc_chart.specs.Charts.{is_controlled}
-use Rattle.msc_order.specs.Causes.{KeepsOthers, LedByLine}
+use Rattle.msc_order.specs.Closing.{KeepsOthers, LedByLine}
 use Rattle.bit_rows.specs.Tables.{cell}
 use Rattle.msc_order.proofs.closing.add_lines.Given as goal
 

@@ -1,6 +1,7 @@
 use Rattle.std.proofs.Common.{◌≡◌, ℕ, ◌+◌, ◌-◌, true, inl, inr, length, get_or, sym, subst, arith}
 use Rattle.std.proofs.lemmas.Bool.{cases_eq}
-use Rattle.msc_order.specs.Causes.{Led, IsBehind}
+use Rattle.msc_order.specs.Caused.{Led}
+use Rattle.msc_order.specs.Closing.{IsBehind}
 use Rattle.bit_rows.specs.Tables.{cell}
 use Rattle.bit_rows.proofs.Bits.{clash}
 use Rattle.msc_order.proofs.Leading.{all_stand, at_place, behind, behind_cases, led_below, nothing_behind, visual_below}

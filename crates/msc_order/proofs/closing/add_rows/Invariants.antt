@@ -1,5 +1,6 @@
 use Rattle.std.proofs.Common.{ℕ, ◌-◌, ◌<◌, length}
-use Rattle.msc_order.specs.Causes.{AreBegun, Led, HasRowOf, IsBehind}
+use Rattle.msc_order.specs.Caused.{Led}
+use Rattle.msc_order.specs.Closing.{AreBegun, HasRowOf, IsBehind}
 use Rattle.bit_rows.specs.Tables.{cell}
 use Rattle.msc_order.proofs.closing.add_rows.Given as goal
 

@@ -1,5 +1,5 @@
 use Rattle.std.proofs.Common.{length, ◌≡◌, ℕ, true}
-use Rattle.msc_order.specs.Causes.{AreBegun, Keeps, LedByLine}
+use Rattle.msc_order.specs.Closing.{AreBegun, Keeps, LedByLine}
 use Rattle.bit_rows.specs.Rows.{has}
 use Rattle.bit_rows.specs.Tables.{cell}
 use Rattle.msc_order.proofs.closing.begin_segment.Given as goal

@@ -6,7 +6,7 @@ use Rattle.msc_chart.proofs.Drawn.{output_parts}
 use Rattle.msc_chart.specs.Wirings.{size, wired_by}
 use Rattle.bit_rows.specs.Rows.{has}
 use Rattle.bit_rows.specs.Tables.{cell}
-use Rattle.msc_order.specs.Causes.{IsBehind}
+use Rattle.msc_order.specs.Closing.{IsBehind}
 use Rattle.bit_rows.proofs.Bits.{clash}
 use Rattle.msc_order.proofs.Leading.{all_stand, at_place, behind, behind_cases, nothing_behind}
 use Rattle.msc_order.proofs.Between.{between_start, enforced_all, enforced_below, led_visual}

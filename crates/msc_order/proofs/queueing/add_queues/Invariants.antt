@@ -4,7 +4,7 @@ use Rattle.msc_chart.specs.Orders.{queue}
 use Rattle.msc_chart.specs.Wirings.{size, wired_by}
 use Rattle.bit_rows.specs.Rows.{has}
 use Rattle.bit_rows.specs.Tables.{cell}
-use Rattle.msc_order.specs.Causes.{IsBetween, HasSeen, IsBehind, IsTaken}
+use Rattle.msc_order.specs.Closing.{IsBetween, HasSeen, IsBehind, IsTaken}
 use Rattle.msc_order.proofs.queueing.add_queues.Given as goal
 
 abbrev pub invariant-loop-done : goal.invariant-loop-done

@@ -1,7 +1,7 @@
 use Rattle.std.proofs.Common.{◌*◌}
 use Rattle.msc_chart.specs.Wirings.{wired_by}
 use Rattle.bit_rows.specs.Rows.{has}
-use Rattle.msc_order.specs.Causes.{AreMoved, IsAbove}
+use Rattle.msc_order.specs.Closing.{AreMoved, IsAbove}
 use Rattle.msc_order.proofs.queueing.take_left.Given as goal
 
 abbrev pub invariant-loop-k : goal.invariant-loop-k

@@ -2,7 +2,7 @@ use Rattle.std.proofs.Common.{◌*◌}
 use Rattle.msc_chart.proofs.Numbers.{count_below}
 use Rattle.msc_chart.specs.Wirings.{size, wired_by}
 use Rattle.bit_rows.specs.Rows.{has}
-use Rattle.msc_order.specs.Causes.{AreMoved, IsAbove}
+use Rattle.msc_order.specs.Closing.{AreMoved, IsAbove}
 use Rattle.msc_order.proofs.queueing.take_word.Given as goal
 
 abbrev pub invariant-loop-left : goal.invariant-loop-left

@@ -5,7 +5,7 @@ use Rattle.msc_chart.specs.Charts.{is_controlled}
 use Rattle.msc_chart.specs.Orders.{wired, WiredChart, IsWired}
 use Rattle.msc_chart.proofs.Drawn.{output_controlled}
 use Rattle.msc_chart.proofs.ListLemmas.{clash}
-use Rattle.msc_order.specs.Causes.{Caused}
+use Rattle.msc_order.specs.Caused.{Caused}
 use Rattle.msc_order.proofs.Once.{caused_enforced}
 use Rattle.msc_reason.specs.Links.{HasNoLink, IsNextStep}
 use Rattle.msc_reason.proofs.Walking.{controlled_caused, link_caused, over_step}

@@ -1,9 +1,9 @@
+use Rattle.msc_order.specs.Caused.{IsFollowedBy}
 use Rattle.std.proofs.Common.{ℕ, sym, subst}
 use Rattle.msc_chart.specs.Orders.{wired}
 use Rattle.msc_order.proofs.Once.{caused_enforced}
 use Rattle.msc_race.proofs.Runs.EnforcedPairs.{enforced_below}
 use Rattle.msc_reason.specs.Chains.Step.{over}
-use Rattle.msc_reason.specs.Links.{IsFollowedBy}
 use Rattle.msc_reason.proofs.Walking.{link_step, over_step}
 use Rattle.msc_reason.proofs.chaining.next_step.Goals as goal
 

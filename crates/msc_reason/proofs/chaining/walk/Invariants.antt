@@ -1,8 +1,8 @@
+use Rattle.msc_order.specs.Caused.{IsFollowedBy}
 use Rattle.std.proofs.Common.{length}
 use Rattle.msc_chart.proofs.Numbers.{count_below}
 use Rattle.msc_order.specs.Tables.{orders}
 use Rattle.msc_reason.specs.Chains.{LeadsTo}
-use Rattle.msc_reason.specs.Links.{IsFollowedBy}
 use Rattle.msc_reason.proofs.chaining.walk.Given as goal
 
 -- the chain so far, and that it can go on

@@ -3,7 +3,7 @@ use Rattle.std.proofs.Common.{ℕ, ◌+◌, List, [], ◌∷◌, ◌++◌, Vec, 
 use Rattle.std.proofs.lemmas.Option.{slice_get-get_or}
 use Rattle.msc_chart.specs.Orders.{wired}
 use Rattle.msc_study.proofs.Splitting.{kept_more, left_more}
-use Rattle.msc_study.specs.Counting.{Allowed, Counts, Splits}
+use Rattle.msc_study.specs.Counting.{IsAllowedPair, Counts, Splits}
 use Rattle.msc_study.proofs.listing.counted.Goals as goal
 use Rattle.msc_study.proofs.listing.counted.Goals.{then-counts+in_ok-push, else-counts}
 
@@ -11,7 +11,7 @@ pub loop-race-init : goal.loop-race-init
 loop-race-init c =
     let chart = wired c.args.queues c.args.chart.now in (
       [],
-      subst (λ (some : List (ℕ × ℕ)). Splits (Counts chart c.args.allowed) (Allowed chart c.args.allowed) [] some [])
+      subst (λ (some : List (ℕ × ℕ)). Splits (Counts chart c.args.allowed) (IsAllowedPair chart c.args.allowed) [] some [])
           (sym c.new-some.ensures.items) Splits.done,
     )
 
@@ -32,16 +32,16 @@ loop-race-preserved c =
     elim c.if-counts.branch [
       | then-counts+in_ok-push w ↦ (
         so_far.0,
-        subst (λ (some : List (ℕ × ℕ)). Splits (Counts chart allowed) (Allowed chart allowed) (take (i + 1) races) some so_far.0)
+        subst (λ (some : List (ℕ × ℕ)). Splits (Counts chart allowed) (IsAllowedPair chart allowed) (take (i + 1) races) some so_far.0)
             (sym (ap (λ (v : Vec (ℕ × ℕ) Global). v.items) w.some-is ∙ w.in_ok-push.ensures.items))
-            (kept_more (Counts chart allowed) (Allowed chart allowed) races c.loop-race.some.items so_far.0 i c.loop-race-test.true so_far.1
+            (kept_more (Counts chart allowed) (IsAllowedPair chart allowed) races c.loop-race.some.items so_far.0 i c.loop-race-test.true so_far.1
             (c.counts.ensures.kept w.if-counts.true)),
       )
       | else-counts w ↦ (
         so_far.0 ++ race ∷ [],
-        subst (λ (some : List (ℕ × ℕ)). Splits (Counts chart allowed) (Allowed chart allowed) (take (i + 1) races) some (so_far.0 ++ race ∷ []))
+        subst (λ (some : List (ℕ × ℕ)). Splits (Counts chart allowed) (IsAllowedPair chart allowed) (take (i + 1) races) some (so_far.0 ++ race ∷ []))
             (sym (ap (λ (v : Vec (ℕ × ℕ) Global). v.items) w.some-is))
-            (left_more (Counts chart allowed) (Allowed chart allowed) races c.loop-race.some.items so_far.0 i c.loop-race-test.true so_far.1
+            (left_more (Counts chart allowed) (IsAllowedPair chart allowed) races c.loop-race.some.items so_far.0 i c.loop-race-test.true so_far.1
             (c.counts.ensures.left w.if-counts.false)),
       )
     ]

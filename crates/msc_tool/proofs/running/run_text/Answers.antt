@@ -15,17 +15,17 @@ returns-in_err-chart-clause-no_chart g c =
 
 pub returns-clause-written : goal.returns-clause-written
 returns-clause-written g c =
-    writes_trace c.write_run.result c.args.text.now c.args.queues g.G.Gate.is_open c.args.patience c.in_ok-chart.chart _ _
-    c.in_ok-chart.ensures.chart c.write_run.ensures.written
+    writes_trace c.write_execution.result c.args.text.now c.args.queues g.G.Gate.is_open c.args.patience c.in_ok-chart.chart _ _
+    c.in_ok-chart.ensures.chart c.write_execution.ensures.written
 
 pub returns-clause-refused : goal.returns-clause-refused
 returns-clause-refused g c =
-    text_passes c.args.text.now _ _ c.in_ok-chart.ensures.refused (ran_no_parse c.write_run.result c.in_ok-chart.chart c.write_run.ensures.fault)
+    text_passes c.args.text.now _ _ c.in_ok-chart.ensures.refused (ran_no_parse c.write_execution.result c.in_ok-chart.chart c.write_execution.ensures.fault)
 
 pub returns-clause-no_chart : goal.returns-clause-no_chart
 returns-clause-no_chart g c =
-    draft_passes c.args.text.now _ _ c.in_ok-chart.ensures.no_chart (ran_no_chart c.write_run.result c.in_ok-chart.chart c.write_run.ensures.fault)
+    draft_passes c.args.text.now _ _ c.in_ok-chart.ensures.no_chart (ran_no_chart c.write_execution.result c.in_ok-chart.chart c.write_execution.ensures.fault)
 
 pub returns-clause-started : goal.returns-clause-started
 returns-clause-started g c =
-    ran_names_of c.write_run.result c.args.text.now c.in_ok-chart.chart c.in_ok-chart.ensures.chart c.write_run.ensures.fault
+    ran_names_of c.write_execution.result c.args.text.now c.in_ok-chart.chart c.in_ok-chart.ensures.chart c.write_execution.ensures.fault

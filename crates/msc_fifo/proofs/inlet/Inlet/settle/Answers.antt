@@ -1,20 +1,20 @@
 use Rattle.std.proofs.Common.{◌≤◌, ℕ, List, length, sym, ap, ◌∙◌, subst, arith}
-use Rattle.msc_fifo.specs.declared.rule.View.{View}
+use Rattle.msc_fifo.specs.declared.rule.TicketView.{TicketView}
 use Rattle.msc_fifo.specs.Views.{knows}
-use Rattle.msc_fifo.specs.Settling.{Shows}
+use Rattle.msc_fifo.specs.Settling.{AreShownIn}
 use Rattle.msc_fifo.specs.Ends.{InletState}
 use Rattle.msc_fifo.proofs.AnswerLemmas.{starts, answered, shown, next_part, part_answered, all_answered, parts_proper, part_prefix, part_account, parts_none}
 use Rattle.msc_fifo.proofs.inlet.Inlet.settle.Goals as goal
 
 pub loop-part-init : goal.loop-part-init
-loop-part-init c = let e = c.self.inside in let i = c.self.invariant in let is = c.self.view_is in let view = c.gather.ensures.view in
-    let told = answered c.args.self c.args.outlets.items (knows c.gather.new.ticket) c.count-claimed.result c.requires.outlets c.count-claimed.ensures.told c.gather.ensures.senders
-    (ap (λ (v : View). v.made) view ∙ i.1.1 ∙ ap (λ (s : InletState). s.senders) is)
-    (ap (λ (v : View). v.got) view ∙ i.1.2 ∙ ap (λ (s : InletState). s.got) is)
-    (ap (λ (v : View). v.clocks) view ∙ ap (λ (s : InletState). s.clocks) is)
-    (parts_proper c.args.outlets.items c.gather.new.parts.items c.gather.ensures.parts) in (
+loop-part-init c = let e = c.self.inside in let i = c.self.invariant in let is = c.self.view_is in let view = c.gather_parts.ensures.view in
+    let told = answered c.args.self c.args.outlets.items (knows c.gather_parts.new.ticket) c.count-claimed.result c.requires.outlets c.count-claimed.ensures.told c.gather_parts.ensures.senders
+    (ap (λ (v : TicketView). v.made) view ∙ i.1.1 ∙ ap (λ (s : InletState). s.senders) is)
+    (ap (λ (v : TicketView). v.got) view ∙ i.1.2 ∙ ap (λ (s : InletState). s.got) is)
+    (ap (λ (v : TicketView). v.clocks) view ∙ ap (λ (s : InletState). s.clocks) is)
+    (parts_proper c.args.outlets.items c.gather_parts.new.parts.items c.gather_parts.ensures.parts) in (
       ap (λ (s : InletState). s.got) is,
-      starts c.args.self c.args.outlets.items c.count-claimed.result c.gather.new.parts.items c.args.senders.items c.gather.ensures.parts told
+      starts c.args.self c.args.outlets.items c.count-claimed.result c.gather_parts.new.parts.items c.args.senders.items c.gather_parts.ensures.parts told
           (omega (arith, c.args.senders.ok.0, c.requires.senders, c.requires.outlets.count)),
     )
 
@@ -41,16 +41,16 @@ pub returns-clause-accounts : goal.returns-clause-accounts
 returns-clause-accounts c = all_answered c.args.self c.args.outlets.items c.count-claimed.result c.loop-part.parts.items c.loop-part.senders.items c.loop-part.invariant.1 (parts_none c.loop-part.parts.items (omega (arith, c.loop-part.parts.ok.0, c.in_default.ensures.cases.0)))
 
 pub returns-clause-places : goal.returns-clause-places
-returns-clause-places c = let i = c.self.invariant in let is = c.self.view_is in let view = c.gather.ensures.view in
-    let told = answered c.args.self c.args.outlets.items (knows c.gather.new.ticket) c.count-claimed.result c.requires.outlets c.count-claimed.ensures.told c.gather.ensures.senders
-    (ap (λ (v : View). v.made) view ∙ i.1.1 ∙ ap (λ (s : InletState). s.senders) is)
-    (ap (λ (v : View). v.got) view ∙ i.1.2 ∙ ap (λ (s : InletState). s.got) is)
-    (ap (λ (v : View). v.clocks) view ∙ ap (λ (s : InletState). s.clocks) is)
-    (parts_proper c.args.outlets.items c.gather.new.parts.items c.gather.ensures.parts) in
+returns-clause-places c = let i = c.self.invariant in let is = c.self.view_is in let view = c.gather_parts.ensures.view in
+    let told = answered c.args.self c.args.outlets.items (knows c.gather_parts.new.ticket) c.count-claimed.result c.requires.outlets c.count-claimed.ensures.told c.gather_parts.ensures.senders
+    (ap (λ (v : TicketView). v.made) view ∙ i.1.1 ∙ ap (λ (s : InletState). s.senders) is)
+    (ap (λ (v : TicketView). v.got) view ∙ i.1.2 ∙ ap (λ (s : InletState). s.got) is)
+    (ap (λ (v : TicketView). v.clocks) view ∙ ap (λ (s : InletState). s.clocks) is)
+    (parts_proper c.args.outlets.items c.gather_parts.new.parts.items c.gather_parts.ensures.parts) in
     record {
       log = told.log;
       is_log = told.is_log;
-      places_are = shown c.args.self c.args.outlets.items (knows c.gather.new.ticket).senders told.log c.read_all-places.result.items c.requires.outlets c.gather.ensures.senders told.is_log
-          (let size = told.size in omega (arith, c.read_all-places.result.ok.0, c.read_all-places.ensures.count))
-          (subst (λ (v : View). Shows v.senders c.read_all-places.result.items) c.count-claimed.ensures.same c.read_all-places.ensures.places);
+      places_are = shown c.args.self c.args.outlets.items (knows c.gather_parts.new.ticket).senders told.log c.read_places-places.result.items c.requires.outlets c.gather_parts.ensures.senders told.is_log
+          (let size = told.size in omega (arith, c.read_places-places.result.ok.0, c.read_places-places.ensures.count))
+          (subst (λ (v : TicketView). AreShownIn v.senders c.read_places-places.result.items) c.count-claimed.ensures.same c.read_places-places.ensures.places);
     }

@@ -1,29 +1,29 @@
-use Rattle.std.proofs.Common.{◌<◌, arith}
+use Rattle.std.proofs.Common.{◌<◌, ◌∙◌, arith}
 use Rattle.msc_chart.proofs.ListLemmas.{clash}
 use Rattle.msc_instance.proofs.Ending.{ends_stopped, ends_finished, ends_starved, ends_impatient, smaller_empty, smaller_busy}
 use Rattle.msc_instance.proofs.active.Active.run.Goals as goal
 
-pub returns-then-not-go_on : goal.returns-then-not-go_on
-returns-then-not-go_on g c =
+pub returns-then-not-go_on-clause-ends : goal.returns-then-not-go_on-clause-ends
+returns-then-not-go_on-clause-ends g c =
     ends_stopped c.args.chart.now c.args.post.now c.go_on.new.self c.go_on.ensures.sound
     g.G.Gate.is_open c.args.patience
     (λ known. c.go_on.ensures.stopped known c.if-not-go_on.true)
 
-pub returns-then-self-post : goal.returns-then-self-post
-returns-then-self-post g c =
+pub returns-then-self-post-clause-ends : goal.returns-then-self-post-clause-ends
+returns-then-self-post-clause-ends g c =
     ends_finished c.args.chart.now c.args.post.now c.go_on.new.self c.go_on.ensures.sound
     g.G.Gate.is_open c.args.patience c.if-self-post.true
 
-pub returns-then-all_ended : goal.returns-then-all_ended
-returns-then-all_ended g c =
+pub returns-then-all_ended-clause-ends : goal.returns-then-all_ended-clause-ends
+returns-then-all_ended-clause-ends g c =
     let s = c.go_on.ensures.sound in
     let part : c.go_on.new.self.first < c.args.post.now.end = omega (arith, s.first.to) in
     ends_starved c.args.chart.now c.args.post.now c.go_on.new.self s g.G.Gate.is_open c.args.patience part
     (c.go_on.ensures.first c.if-not-go_on.false) (c.go_on.ensures.blocked c.if-not-go_on.false)
     (rw (← c.as_slice.ensures.value) (c.all_ended.ensures.0 c.if-all_ended.true))
 
-pub returns-then-empty-patience : goal.returns-then-empty-patience
-returns-then-empty-patience g c =
+pub returns-then-empty-patience-clause-ends : goal.returns-then-empty-patience-clause-ends
+returns-then-empty-patience-clause-ends g c =
     let s = c.go_on.ensures.sound in
     let part : c.go_on.new.self.first < c.args.post.now.end = omega (arith, s.first.to) in
     ends_impatient c.args.chart.now c.args.post.now c.go_on.new.self s g.G.Gate.is_open c.args.patience part
@@ -46,6 +46,7 @@ rounds-preserved-in-Empty g c =
       idle = took.1.idle c.rounds.empty (omega (arith, c.rounds.invariant.patient))
           (rw c.go_on.ensures.sent.inlets c.rounds.invariant.idle);
       patient = omega (arith, c.rounds.invariant.patient);
+      untaken = λ zero. absurd (omega (arith, c.rounds.invariant.patient, zero));
     }
 
 pub rounds-smaller : goal.rounds-smaller
@@ -54,8 +55,34 @@ rounds-smaller g c =
     c.args.patience c.rounds.empty c.go_on.ensures.sent
     c.in-Busy.ensures.took.1
 
-pub returns-in-Stopped : goal.returns-in-Stopped
-returns-in-Stopped g c =
+pub returns-in-Stopped-clause-ends : goal.returns-in-Stopped-clause-ends
+returns-in-Stopped-clause-ends g c =
     ends_stopped c.args.chart.now c.args.post.now c.take_each.new.self c.in-Stopped.ensures.took
     g.G.Gate.is_open c.args.patience
     (λ known. absurd (c.take_each.ensures.open known c.in-Stopped.is))
+
+pub returns-then-not-go_on-clause-untaken : goal.returns-then-not-go_on-clause-untaken
+returns-then-not-go_on-clause-untaken g c zero = c.go_on.ensures.sent.inlets ∙ c.rounds.invariant.untaken zero
+
+pub returns-then-self-post-clause-untaken : goal.returns-then-self-post-clause-untaken
+returns-then-self-post-clause-untaken g c zero = c.go_on.ensures.sent.inlets ∙ c.rounds.invariant.untaken zero
+
+pub returns-then-all_ended-clause-untaken : goal.returns-then-all_ended-clause-untaken
+returns-then-all_ended-clause-untaken g c zero = c.go_on.ensures.sent.inlets ∙ c.rounds.invariant.untaken zero
+
+pub returns-then-empty-patience-clause-untaken : goal.returns-then-empty-patience-clause-untaken
+returns-then-empty-patience-clause-untaken g c zero = c.go_on.ensures.sent.inlets ∙ c.rounds.invariant.untaken zero
+
+pub rounds-preserved : goal.rounds-preserved
+rounds-preserved g c = record {
+  sound = c.in-Busy.ensures.took.0;
+  idle = λ k d lt. omega arith;
+  patient = omega arith;
+  untaken = λ zero. absurd (omega (arith, c.rounds.invariant.patient, zero));
+}
+
+pub returns-in-Stopped-clause-untaken : goal.returns-in-Stopped-clause-untaken
+returns-in-Stopped-clause-untaken g c zero = absurd (omega (arith, c.rounds.invariant.patient, zero))
+
+pub returns-in-Foreign-clause-untaken : goal.returns-in-Foreign-clause-untaken
+returns-in-Foreign-clause-untaken g c zero = absurd (omega (arith, c.rounds.invariant.patient, zero))

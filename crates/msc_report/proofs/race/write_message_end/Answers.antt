@@ -3,7 +3,7 @@ use Rattle.msc_chart.specs.Charts.{kind}
 use Rattle.msc_chart.proofs.Drawn.{input_parts, output_or_input, output_parts}
 use Rattle.msc_chart.proofs.ListLemmas.{clash}
 use Rattle.msc_report.proofs.KindLemmas.{kind_sends, kind_takes}
-use Rattle.msc_report.proofs.race.write_end.Goals as goal
+use Rattle.msc_report.proofs.race.write_message_end.Goals as goal
 
 pub returns-then-is_output : goal.returns-then-is_output
 returns-then-is_output g c =

@@ -1,23 +1,12 @@
--- The orders that a chart's lines and messages give without the rule of queues, and what a table
--- keeps while it is closed.
+-- What a table keeps while it is closed.
 use Rattle.std.specs.Prelude.{◌≡◌, ◌≢◌, ℕ, ◌<◌, ◌≤◌, Bool, false, ◌||◌, ◌⊎◌, List, length, take, IsTrue}
 use Rattle.msc_chart.specs.declared.event.ChartEvent.{ChartEvent}
 use Rattle.msc_chart.specs.Lists.{occurs}
-use Rattle.msc_chart.specs.Charts.{partner, is_output, is_input, is_controlled, before}
+use Rattle.msc_chart.specs.Charts.{partner, is_output, is_controlled, before}
 use Rattle.msc_chart.specs.Orders.{WiredChart, queue, Enforced}
+use Rattle.msc_order.specs.Caused.{Led, Caused}
 use Rattle.bit_rows.specs.Rows.{has}
 use Rattle.bit_rows.specs.Tables.{cell}
-
--- The least transitive relation that puts each output before its input, and what is drawn before an
--- event before it: where `inputs` says so before each event, otherwise before each controlled one.
-pub data Led (events : List ChartEvent) (inputs : Bool) : ℕ → ℕ → Type 0 where
-  led : {x y : ℕ} → IsTrue (before events x y) → IsTrue (inputs || is_controlled events y) → Led events inputs x y
-  carried : {s r : ℕ} → IsTrue (is_output events s) → partner events s ≡ r → Led events inputs s r
-  chained : {x y z : ℕ} → Led events inputs x y → Led events inputs y z → Led events inputs x z
-
--- the order that lines and messages enforce: the enforced order without the rule of queues
-abbrev pub Caused : List ChartEvent → ℕ → ℕ → Type 0
-Caused events = Led events false
 
 -- What the line of e leads to: an event that is drawn after e and led to, and what comes after such
 -- an event.
@@ -70,13 +59,6 @@ AreBegun events inputs words begun = IsBegun events inputs (cell (length events)
 -- event x does not stand among the first k of the order
 abbrev pub IsBehind : List ℕ → ℕ → ℕ → Type 0
 IsBehind order k x = occurs (take k order) x ≡ false
-
--- two inputs of one queue whose outputs are caused in an order
-pub record InQueueOrder (chart : WiredChart) (r u : ℕ) : Type 0 where
-  pub first : IsTrue (is_input chart.events r)
-  pub second : IsTrue (is_input chart.events u)
-  pub one_queue : queue chart r ≡ queue chart u
-  pub outputs : Caused chart.events (partner chart.events r) (partner chart.events u)
 
 -- A test between the caused and the enforced order: from an output it is the caused order, and what
 -- is caused after what it holds it holds too.

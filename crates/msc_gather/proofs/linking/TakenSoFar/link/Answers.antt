@@ -7,7 +7,7 @@ use Rattle.msc_chart.proofs.Drawn.{output_or_input, output_not_local}
 use Rattle.msc_gather.specs.Heads.{IsLink}
 use Rattle.msc_gather.specs.Marks.{is_marked}
 use Rattle.msc_gather.proofs.LinkLemmas.{link_local, link_input, link_marked, link_left}
-use Rattle.msc_gather.proofs.linking.Taken.link.Goals as goal
+use Rattle.msc_gather.proofs.linking.TakenSoFar.link.Goals as goal
 
 pub returns-then-is_local : goal.returns-then-is_local
 returns-then-is_local c = λ logs seated sound marks holds.

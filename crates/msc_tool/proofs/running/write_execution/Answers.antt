@@ -5,7 +5,7 @@ use Rattle.msc_chart.specs.Orders.{wired}
 use Rattle.msc_gather.specs.Gathering.{IsGathered}
 use Rattle.msc_instance.specs.Views.{outcome_of}
 use Rattle.msc_tool.proofs.Ran.{prints_execution, trace_events}
-use Rattle.msc_tool.proofs.running.write_run.Goals as goal
+use Rattle.msc_tool.proofs.running.write_execution.Goals as goal
 
 pub page_of-requires-clause-events : goal.page_of-requires-clause-events
 page_of-requires-clause-events g c =

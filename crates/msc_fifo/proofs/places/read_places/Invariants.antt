@@ -1,11 +1,11 @@
 use Rattle.std.proofs.Common.{◌≡◌, vec_len, vec_capacity}
 use Rattle.msc_fifo.specs.Views.{IsTicketOf, knows}
-use Rattle.msc_fifo.specs.Settling.{Shows}
-use Rattle.msc_fifo.proofs.places.read_all.Given as goal
+use Rattle.msc_fifo.specs.Settling.{AreShownIn}
+use Rattle.msc_fifo.proofs.places.read_places.Given as goal
 
 abbrev pub invariant-loop-k : goal.invariant-loop-k
 invariant-loop-k l = IsTicketOf l.row l.ticket
     × (knows l.ticket ≡ knows l.initial.ticket)
     × (vec_len l.places ≡ l.k)
     × (vec_capacity l.places ≡ vec_capacity l.initial.places)
-    × Shows (knows l.initial.ticket).senders l.places.items
+    × AreShownIn (knows l.initial.ticket).senders l.places.items

@@ -2,7 +2,7 @@ use Rattle.std.proofs.Common.{take}
 use Rattle.std.proofs.lemmas.List.{take_more}
 use Rattle.msc_chart.proofs.ListLemmas.{occurs_at}
 use Rattle.msc_gather.proofs.MarkLemmas.{once_at}
-use Rattle.msc_gather.proofs.linking.Taken.of.Goals as goal
+use Rattle.msc_gather.proofs.linking.TakenSoFar.of.Goals as goal
 
 pub meet-requires-clause-known : goal.meet-requires-clause-known
 meet-requires-clause-known c = c.requires.known _

@@ -1,7 +1,7 @@
 use Rattle.std.proofs.Common.{rules}
 use Rattle.msc_chart.specs.Wirings.{wired_by}
 use Rattle.msc_gather.proofs.TakenLemmas.{taken_begins}
-use Rattle.msc_gather.proofs.linking.Taken.start.Goals as goal
+use Rattle.msc_gather.proofs.linking.TakenSoFar.start.Goals as goal
 
 pub returns : goal.returns
 returns c =

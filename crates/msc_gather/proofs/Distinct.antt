@@ -3,21 +3,16 @@ use Rattle.std.proofs.Common.{◌≡◌, ℕ, ◌<◌, true, false, inl, inr, eq
 use Rattle.std.proofs.lemmas.Bool.{eqb-true, or_cases, false_from_ne_true}
 use Rattle.std.specs.List.{concat}
 use Rattle.msc_chart.specs.Lists.{occurs, Steps}
-use Rattle.msc_chart.proofs.ListLemmas.{clash, occurs-append, occurs-left, occurs-push, occurs-head, occurs-tail, occurs-right}
+use Rattle.msc_chart.proofs.ListLemmas.{clash, occurs-append, occurs-left, occurs-push, occurs-head, occurs-tail, occurs-right, IsDistinct}
 use Rattle.msc_gather.proofs.Once.{IsNew, occurs-cases}
 
--- nothing in the list is there twice, from its head
-abbrev pub Apart : List ℕ → Type 0
-Apart [] = Unit {0}
-Apart (x ∷ xs) = (occurs xs x ≡ false) × Apart xs
-
 -- a list that holds nothing twice, told from its front, holds nothing twice from its head
-pub apart_of_once : (past xs : List ℕ) → Steps IsNew past xs
-    → Apart xs × ((e : ℕ) → occurs xs e ≡ true → occurs past e ≡ false)
+pub distinct_of_once : (past xs : List ℕ) → Steps IsNew past xs
+    → IsDistinct xs × ((e : ℕ) → occurs xs e ≡ true → occurs past e ≡ false)
 unfolding occurs
-apart_of_once past [] once = (tt, λ e h. clash h refl)
-apart_of_once past (x ∷ xs) once =
-    let rest = apart_of_once (past ++ x ∷ []) xs once.1 in (
+distinct_of_once past [] once = (tt, λ e h. clash h refl)
+distinct_of_once past (x ∷ xs) once =
+    let rest = distinct_of_once (past ++ x ∷ []) xs once.1 in (
       (false_from_ne_true _ (λ h. clash (occurs-push past x) (rest.1 x h)), rest.0),
       λ e h. elim (or_cases (eqb x e) (occurs xs e) h) [
         | inl same ↦ subst (λ (z : ℕ). occurs past z ≡ false) (eqb-true x e same) once.0
@@ -27,13 +22,13 @@ apart_of_once past (x ∷ xs) once =
     )
 
 -- and the other way round
-pub once_of_apart : (past xs : List ℕ) → Apart xs
+pub once_of_distinct : (past xs : List ℕ) → IsDistinct xs
     → ((e : ℕ) → occurs xs e ≡ true → occurs past e ≡ false) → Steps IsNew past xs
 unfolding occurs
-once_of_apart past [] apart h = tt
-once_of_apart past (x ∷ xs) apart h = (
+once_of_distinct past [] apart h = tt
+once_of_distinct past (x ∷ xs) apart h = (
   h x (occurs-head x xs),
-  once_of_apart (past ++ x ∷ []) xs apart.1 (λ e there. false_from_ne_true _ (λ old.
+  once_of_distinct (past ++ x ∷ []) xs apart.1 (λ e there. false_from_ne_true _ (λ old.
       elim (or_cases (eqb x e) false
       (occurs-cases past (x ∷ []) e old (h e (occurs-tail x xs e there)))) [
         | inl same ↦ clash (subst (λ (z : ℕ). occurs xs z ≡ true) (sym (eqb-true x e same)) there)
@@ -43,16 +38,16 @@ once_of_apart past (x ∷ xs) apart h = (
 )
 
 -- two lists that share nothing, joined
-pub Apart-append : (xs ys : List ℕ) → Apart xs → Apart ys
-    → ((e : ℕ) → occurs xs e ≡ true → occurs ys e ≡ true → ⊥) → Apart (xs ++ ys)
-Apart-append [] ys h k other = k
-Apart-append (x ∷ xs) ys h k other = (
+pub IsDistinct-append : (xs ys : List ℕ) → IsDistinct xs → IsDistinct ys
+    → ((e : ℕ) → occurs xs e ≡ true → occurs ys e ≡ true → ⊥) → IsDistinct (xs ++ ys)
+IsDistinct-append [] ys h k other = k
+IsDistinct-append (x ∷ xs) ys h k other = (
   false_from_ne_true _
       (λ there. elim (or_cases (occurs xs x) (occurs ys x) (sym (occurs-append xs ys x) ∙ there)) [
         | inl a ↦ clash a h.0
         | inr b ↦ other x (occurs-head x xs) b
       ]),
-  Apart-append xs ys h.1 k (λ e a b. other e (occurs-tail x xs e a) b),
+  IsDistinct-append xs ys h.1 k (λ e a b. other e (occurs-tail x xs e a) b),
 )
 
 -- joined logs
@@ -77,13 +72,13 @@ of_concat (log ∷ logs) e h =
     ]
 
 -- logs that share nothing, joined
-pub Apart-concat : (logs : List (List ℕ)) → ((i : ℕ) → i < length logs → Apart (get_or logs i []))
+pub IsDistinct-concat : (logs : List (List ℕ)) → ((i : ℕ) → i < length logs → IsDistinct (get_or logs i []))
     → ((i j e : ℕ) → i < length logs → j < length logs → occurs (get_or logs i []) e ≡ true
-    → occurs (get_or logs j []) e ≡ true → i ≡ j) → Apart (concat logs)
-Apart-concat [] each other = tt
-Apart-concat (log ∷ logs) each other =
-    Apart-append log (concat logs) (each zero (omega arith))
-    (Apart-concat logs (λ i below. each (suc i) (omega arith)) (λ i j e bi bj hi hj.
+    → occurs (get_or logs j []) e ≡ true → i ≡ j) → IsDistinct (concat logs)
+IsDistinct-concat [] each other = tt
+IsDistinct-concat (log ∷ logs) each other =
+    IsDistinct-append log (concat logs) (each zero (omega arith))
+    (IsDistinct-concat logs (λ i below. each (suc i) (omega arith)) (λ i j e bi bj hi hj.
     let same : suc i ≡ suc j = other (suc i) (suc j) e (omega arith) (omega arith) hi hj in omega
     arith))
     (λ e here later.

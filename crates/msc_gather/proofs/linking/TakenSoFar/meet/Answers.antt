@@ -4,7 +4,7 @@ use Rattle.msc_chart.specs.Wirings.{wired_by}
 use Rattle.msc_chart.proofs.Drawn.{input_not_local}
 use Rattle.msc_chart.proofs.KindTests.{input_from_rest}
 use Rattle.msc_gather.proofs.TakenLemmas.{taken_other, taken_input}
-use Rattle.msc_gather.proofs.linking.Taken.meet.Goals as goal
+use Rattle.msc_gather.proofs.linking.TakenSoFar.meet.Goals as goal
 
 pub returns-then-is_controlled : goal.returns-then-is_controlled
 returns-then-is_controlled c = λ list new holds.

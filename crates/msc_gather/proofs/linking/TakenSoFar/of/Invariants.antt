@@ -1,7 +1,7 @@
 use Rattle.std.proofs.Common.{take}
 use Rattle.msc_chart.specs.Wirings.{wired_by}
 use Rattle.msc_gather.specs.Links.{HoldsTaken}
-use Rattle.msc_gather.proofs.linking.Taken.of.Given as goal
+use Rattle.msc_gather.proofs.linking.TakenSoFar.of.Given as goal
 
 abbrev pub invariant-loop-r : goal.invariant-loop-r
 invariant-loop-r l =

@@ -8,14 +8,14 @@ use Rattle.msc_chart.specs.Orders.{WiredChart, queue}
 use Rattle.msc_chart.specs.Runs.{MayCome, state}
 use Rattle.msc_race.proofs.Shared.{by_test, clash, find_below}
 use Rattle.msc_race.proofs.Runs.EventLemmas.{controlled_or_input, controlled_no_input, before_parts}
-use Rattle.msc_race.proofs.Runs.Inside.{is_held, MayComeInside, passed_on_told}
+use Rattle.msc_race.proofs.Runs.Inside.{is_held, MayComeInside, passed_on_decided}
 
 -- each number has a property, or does not have it
-abbrev IsTold : (ℕ → Type 0) → Type 0
-IsTold P = (x : ℕ) → P x ⊎ (P x → ⊥)
+abbrev IsDecided : (ℕ → Type 0) → Type 0
+IsDecided P = (x : ℕ) → P x ⊎ (P x → ⊥)
 
 -- there is a least number with a property that can be told, or no number below a bound has it
-least_below : (P : ℕ → Type 0) → IsTold P → (n : ℕ)
+least_below : (P : ℕ → Type 0) → IsDecided P → (n : ℕ)
     → ((x : ℕ) × IsLeast P x) ⊎ ((x : ℕ) → x < n → P x → ⊥)
 least_below P told zero = inr (λ x below h. omega arith)
 least_below P told (suc n) =
@@ -31,20 +31,20 @@ least_below P told (suc n) =
     ]
 
 -- so there is a least where there is one
-pub least_of : (P : ℕ → Type 0) → IsTold P → (x : ℕ) → P x → (y : ℕ) × IsLeast P y
+pub least_of : (P : ℕ → Type 0) → IsDecided P → (x : ℕ) → P x → (y : ℕ) × IsLeast P y
 least_of P told x h =
     elim (least_below P told (suc x)) [ inl found ↦ found | inr none ↦ absurd (none x (le_refl (suc x)) h) ]
 
 -- a number is the first of a list, or is not
-first_told : (xs : List ℕ) → IsTold (IsFirst xs)
-first_told [] s = inr (λ h. h)
-first_told (x ∷ xs) s = cases_eq x s
+first_decided : (xs : List ℕ) → IsDecided (IsFirst xs)
+first_decided [] s = inr (λ h. h)
+first_decided (x ∷ xs) s = cases_eq x s
 
 module _ (chart : WiredChart) (past : List ℕ) where
   -- what is drawn before an event has occurred, or something has not
-  drawn_told : (x : ℕ) → ((y : ℕ) → before chart.events y x ≡ true → occurs past y ≡ true)
+  drawn_decided : (x : ℕ) → ((y : ℕ) → before chart.events y x ≡ true → occurs past y ≡ true)
       ⊎ ((y : ℕ) × (before chart.events y x ≡ true) × (occurs past y ≡ false))
-  drawn_told x =
+  drawn_decided x =
       elim (find_below (λ y. before chart.events y x && not (occurs past y)) (length chart.events)) [
         | inl found ↦ let both = and_parts _ _ found.2 in inr (found.0, both.0, not-true _ both.1)
         | inr none ↦ inl (λ y drawn. by_test (occurs past y) (λ there. there)
@@ -53,20 +53,20 @@ module _ (chart : WiredChart) (past : List ℕ) where
       ]
 
   -- an event may come next, or may not
-  pub may_told : IsTold (MayCome chart past)
-  may_told x =
+  pub may_decided : IsDecided (MayCome chart past)
+  may_decided x =
       elim (cases_lt x (length chart.events)) [
         | inr ge ↦ inr (λ may. let h : x < length chart.events = may.event in omega arith)
         | inl below ↦ by_test (occurs past x)
             (λ old. inr (λ may. clash old may.new))
             (λ new. elim (controlled_or_input chart.events x below) [
-              | inl o ↦ elim (drawn_told x) [
+              | inl o ↦ elim (drawn_decided x) [
                 | inl all ↦
                     let no_input = λ (i : is_input chart.events x ≡ true). absurd (controlled_no_input chart.events x o i) in
                     inl (record { event = below; new = new; controlled = λ again. all; input = no_input })
                 | inr some ↦ inr (λ may. clash (may.controlled o some.0 some.1) some.2)
               ]
-              | inr i ↦ elim (first_told (state chart (queue chart x) past) (partner chart.events x)) [
+              | inr i ↦ elim (first_decided (state chart (queue chart x) past) (partner chart.events x)) [
                 | inl first ↦
                     let free = λ (o : is_controlled chart.events x ≡ true). absurd (controlled_no_input chart.events x o i) in
                     inl (record { event = below; new = new; controlled = free; input = λ again. first })
@@ -76,13 +76,13 @@ module _ (chart : WiredChart) (past : List ℕ) where
       ]
 
   -- an event of a set may come next inside it, or may not
-  pub inside_told : (inside : ℕ → Bool) → IsTold (MayComeInside chart inside past)
-  inside_told inside x =
-      elim (may_told x) [
+  pub inside_decided : (inside : ℕ → Bool) → IsDecided (MayComeInside chart inside past)
+  inside_decided inside x =
+      elim (may_decided x) [
         | inr never ↦ inr (λ h. never h.may)
         | inl may ↦ by_test (inside x)
             (λ member. by_test (is_held chart inside x)
-            (λ held. elim (passed_on_told chart inside past x) [
+            (λ held. elim (passed_on_decided chart inside past x) [
               | inl some ↦ inr (λ h. clash (h.patient held some.0 some.1 some.2) some.3)
               | inr all ↦ inl (record { may = may; member = member; patient = λ again. all })
             ])

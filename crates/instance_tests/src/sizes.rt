@@ -1,0 +1,100 @@
+//! How large a queue can be: what is refused, and that the largest is filled and emptied.
+
+ghost use Rattle.std.specs.Prelude.{◌≤◌};
+
+use msc_fifo::{Inlet, Outlet, QueueFault, SendFault, Taken, queue, settle};
+use std::alloc::Global;
+use std::test::Fail;
+
+/// Quotas, and why no queue has them, or none where a queue has them.
+const LIMITS: &[(&[u32], Option<QueueFault>)] = &[
+    (&[], Some(QueueFault::NoSender)),
+    (&[1024, 1], Some(QueueFault::TooLarge)),
+    (&[1025], Some(QueueFault::TooLarge)),
+    (&[u32::MAX, u32::MAX], Some(QueueFault::TooLarge)),
+    (&[0; 33], Some(QueueFault::TooLarge)),
+    (&[0], None),
+    (&[1], None),
+    (&[1024], None),
+    (&[1023, 1], None),
+    (&[32; 32], None),
+];
+
+/// Whether these outlets are open and have these quotas left.
+fn are_open(outlets: &[Outlet], quotas: &[u32]) -> bool {
+    for (outlet, quota) in outlets.iter().zip(quotas) {
+        if outlet.left() != *quota || outlet.is_closed() {
+            return false;
+        }
+    }
+    outlets.len() == quotas.len()
+}
+
+/// Whether there is a queue with these quotas, and a new one is open, empty and can be settled.
+fn is_new(alloc: Global, quotas: &[u32]) -> Result<bool, QueueFault> {
+    let (outlets, inlet) = queue(alloc, quotas)?;
+    let known = are_open(&outlets, quotas) && inlet.unended() as usize == quotas.len();
+    match settle(alloc, inlet, outlets) {
+        Ok(settled) => {
+            Ok(known && settled.senders.len() == quotas.len() && settled.places.is_empty())
+        }
+        Err(_) => Err(QueueFault::Memory),
+    }
+}
+
+/// Whether a queue with these quotas is new, or is refused so.
+fn is_made(alloc: Global, quotas: &[u32], refusal: Option<QueueFault>) -> bool {
+    match is_new(alloc, quotas) {
+        Ok(is_new) => is_new && refusal.is_none(),
+        Err(fault) => refusal == Some(fault),
+    }
+}
+
+#[test]
+fn limits(rt: HostRuntime) {
+    for &(quotas, refusal) in LIMITS {
+        assert!(rt; is_made(rt.alloc(), quotas, refusal), "{quotas:?}");
+    }
+}
+
+/// Puts the messages 0 to 31 of a sender and closes; whether each was sent, and no more.
+fn fills(outlet: &mut Outlet) -> bool {
+    let mut all = true;
+    for m in 0..32 {
+        all &= outlet.send(m, 0).is_ok();
+    }
+    all &= outlet.send(32, 0) == Err(SendFault::Full(32));
+    outlet.close();
+    all
+}
+
+/// Takes the messages 0 to 31 of a sender, and its end mark; whether each was found.
+fn empties(inlet: &mut Inlet, sender: u32) -> bool
+    requires { sender ≤ 31 }
+{
+    let mut all = true;
+    for m in 0..32 {
+        all &= inlet.take(0) == Taken::Message(sender, m, sender * 33 + m, 1);
+    }
+    all & (inlet.take(0) == Taken::Ended(sender))
+}
+
+/// Whether the largest queue takes all that may be put into it, and gives it back.
+fn is_filled_and_emptied(alloc: Global) -> Result<bool, QueueFault> {
+    let (mut outlets, mut inlet) = queue(alloc, &[32; 32])?;
+    let mut all = true;
+    for outlet in outlets.iter_mut() {
+        all &= fills(outlet);
+    }
+    for sender in 0..32 {
+        all &= inlet.unended() == 32 - sender;
+        all &= empties(&mut inlet, sender);
+    }
+    Ok(all && inlet.unended() == 0 && inlet.take(0) == Taken::Nothing)
+}
+
+#[test]
+fn the_largest_queue_is_filled_and_emptied(rt: HostRuntime) -> Result<(), Fail> {
+    assert!(rt; is_filled_and_emptied(rt.alloc())?);
+    Ok(())
+}
