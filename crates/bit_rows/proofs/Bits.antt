@@ -1,11 +1,11 @@
 -- Truth values, and the bits of words.
-use Rattle.std.proofs.Common.{◌≡◌, ℕ, ◌+◌, ◌-◌, ◌*◌, ◌/◌, ◌%◌, ◌^◌, ◌<◌, ◌≤◌, ◌⊎◌, min, max, Bool, true, false, not, ◌&&◌, ◌||◌, inl, inr, eqb, ltb, refl, sym, ◌∙◌, arith, bit_or, bit_and, w64}
+use Rattle.std.proofs.Common.{◌≡◌, ℕ, ◌+◌, ◌-◌, ◌*◌, ◌/◌, ◌%◌, ◌^◌, ◌<◌, ◌≤◌, ◌⊎◌, min, max, Bool, true, false, not, ◌&&◌, ◌||◌, inl, inr, eqb, leb, ltb, refl, sym, ◌∙◌, arith, bit_or, bit_and, w64}
 use Rattle.std.specs.Int.{bit_at, bit_not}
 use Rattle.std.proofs.Math.Bool.{or-false, or-true}
-use Rattle.std.proofs.lemmas.Bool.{lt-ltb, le-ltb, eq-eqb, ne_eqb, cases_lt, cases_eq}
-use Rattle.std.proofs.lemmas.Nat.Bits.{bit_at-lt, bit_at-zero, bit_at_or, bit_at_and, bit_at_not, shr_and_one, bit_at_set_same, bit_at_set_other, bit_at_ones, bit_at_ones_above, ones_shr}
+use Rattle.std.proofs.lemmas.Bool.{le-leb, lt-leb, lt-ltb, le-ltb, eq-eqb, ne_eqb, cases_lt, cases_eq}
+use Rattle.std.proofs.lemmas.Nat.Bits.{bit_at-lt, bit_at-zero, bit_at_or, bit_at_and, bit_at_not, shr_and_one, bit_at_set_same, bit_at_set_other, bit_at_mask_below, bit_at_mask_inside, bit_at_ones, bit_at_ones_above, ones_shl, ones_shr}
 use Rattle.std.proofs.lemmas.Grind.{div_ceil_times}
-use Rattle.bit_rows.specs.Rows.{bit_of, word_count}
+use Rattle.bit_rows.specs.Rows.{all_ones, bit_of, word_count}
 
 -- a test is true or false
 pub by_test : {X : Type 0} (b : Bool) → (b ≡ true → X) → (b ≡ false → X) → X
@@ -108,10 +108,19 @@ unfolding word_count
 words_few n = let h = div_ceil_times n 64 (omega arith) in omega (arith, h.1)
 
 -- the ones of a word below bit 64 - s
-pub low_ones : (s i : ℕ) → s ≤ 64 → bit_of (18446744073709551615 / 2 ^ s) i ≡ ltb i (64 - s)
+pub low_ones : (s i : ℕ) → s ≤ 64 → bit_of (all_ones / 2 ^ s) i ≡ ltb i (64 - s)
 unfolding bit_of
 low_ones s i fits =
     rw (ones_shr 64 s fits) (elim (cases_lt i (64 - s)) [
       | inl below ↦ rw (bit_at_ones (64 - s) i below, lt-ltb i (64 - s) below) refl
       | inr past ↦ rw (bit_at_ones_above (64 - s) i past, le-ltb i (64 - s) past) refl
+    ])
+
+-- the ones of a word from bit s on
+pub high_ones : (s i : ℕ) → s ≤ 64 → i < 64 → bit_of (all_ones * 2 ^ s % 2 ^ 64) i ≡ leb s i
+unfolding bit_of
+high_ones s i fits inside =
+    rw (ones_shl 64 s fits) (elim (cases_lt i s) [
+      | inl below ↦ rw (bit_at_mask_below s 64 i below, lt-leb s i below) refl
+      | inr from ↦ rw (bit_at_mask_inside s 64 i from inside, le-leb s i from) refl
     ])

@@ -3,3 +3,4 @@ pub mod Rows
 pub mod Sets
 pub mod Cells
 pub mod Writes
+pub mod Zeros

@@ -6,7 +6,7 @@ use Rattle.std.proofs.lemmas.Bool.Decides.{nat_tests}
 use Rattle.std.proofs.lemmas.List.{get_or_past, get_or-replicate, length-replicate}
 use Rattle.std.proofs.lemmas.Nat.Bits.{bit_at-trailing_zeros}
 use Rattle.std.proofs.Math.Bool.{or-false, and-true}
-use Rattle.bit_rows.specs.Rows.{bit_of, has, AreApartTo}
+use Rattle.bit_rows.specs.Rows.{all_ones, bit_of, has, AreApartTo}
 use Rattle.bit_rows.proofs.Bits.{clash, bit_put, bit_meet, bit_other, bit_alone, bit_zero, low_ones}
 
 -- numbers of one word differ as their bits do
@@ -118,25 +118,25 @@ some_common one other k some fits =
     (64 * k + t, here, has_at one (64 * k + t) k here ∙ rw rest both.0, has_at other (64 * k + t) k here ∙ rw rest both.1)
 
 -- words of ones have all numbers up to the last word
-pub has_ones : (count y : ℕ) → has (replicate count 18446744073709551615) y ≡ ltb y (64 * count)
+pub has_ones : (count y : ℕ) → has (replicate count all_ones) y ≡ ltb y (64 * count)
 unfolding has
 has_ones count y =
     elim (cases_lt y (64 * count)) [
       | inl inside ↦
-          rw (get_or-replicate {A = ℕ} count (y / 64) 18446744073709551615 0 (omega (arith, inside)), lt-ltb y (64 * count) inside)
+          rw (get_or-replicate {A = ℕ} count (y / 64) all_ones 0 (omega (arith, inside)), lt-ltb y (64 * count) inside)
           (low_ones 0 (y % 64) (omega arith) ∙ lt-ltb (y % 64) 64 (omega arith))
       | inr past ↦
           rw (le-ltb y (64 * count) past)
-          (has_past (replicate count 18446744073709551615) y (let l = length-replicate {A = ℕ} count 18446744073709551615 in omega (arith, l, past)))
+          (has_past (replicate count all_ones) y (let l = length-replicate {A = ℕ} count all_ones in omega (arith, l, past)))
     ]
 
 -- with the last word cut they have those below n
 pub has_cut : (count n rest y : ℕ) → count ≡ (n + 63) / 64 → rest ≡ n % 64 → 0 < rest
-    → has (set (replicate count 18446744073709551615) (n / 64) (18446744073709551615 / 2 ^ (64 - rest))) y ≡ ltb y n
+    → has (set (replicate count all_ones) (n / 64) (all_ones / 2 ^ (64 - rest))) y ≡ ltb y n
 has_cut count n rest y size is some =
-    let row : List ℕ = replicate count 18446744073709551615 in
-    let len = length-replicate {A = ℕ} count 18446744073709551615 in
-    let word : ℕ = 18446744073709551615 / 2 ^ (64 - rest) in
+    let row : List ℕ = replicate count all_ones in
+    let len = length-replicate {A = ℕ} count all_ones in
+    let word : ℕ = all_ones / 2 ^ (64 - rest) in
     let inside : n / 64 < length row = omega (arith, len, size, is, some) in
     elim (cases_eq (y / 64) (n / 64)) [
       | inl same ↦

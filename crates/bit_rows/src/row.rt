@@ -1,7 +1,7 @@
 //! One row of bits.
 
 ghost use Rattle.std.specs.Prelude.{◌≡◌, ◌≢◌, ℕ, ◌+◌, ◌*◌, ◌/◌, ◌%◌, ◌<◌, ◌≤◌, ◌||◌, false, length};
-ghost use Rattle.std.specs.Prelude.{◌&&◌, not, nat_eq, nat_lt, replicate, IsTrue, IfOk};
+ghost use Rattle.std.specs.Prelude.{◌&&◌, not, nat_eq, nat_le, nat_lt, replicate, IsTrue, IfOk};
 ghost use Rattle.bit_rows.specs.Rows.{bit_of, has, word_count, AreApartTo, IsFirstCommon};
 ghost use Rattle.bit_rows.specs.Rows.{all_ones, HasNumbersOf32Bits, IsWithout};
 
@@ -118,6 +118,24 @@ pub fn lowest_in(word: u64, k: u32) -> u32
     ensures lowest { (i : ℕ) → i < result % 64 → bit_of word i ≡ false }
 {
     64 * k + word.trailing_zeros()
+}
+
+/// The bits of word `k` of a row that are 0 and stand for numbers from `start` up to `end`, which
+/// the word has some of.
+pub fn zeros_in(word: u64, k: u32, start: u32, end: u32) -> u64
+    requires few { HasNumbersOf32Bits k }
+    requires start { start < 64 * k + 64 }
+    requires end { 64 * k < end }
+    ensures { (f : ℕ) → f / 64 ≡ k
+        → bit_of result (f % 64) ≡ (not (bit_of word (f % 64)) && nat_le start f && nat_lt f end) }
+{
+    let zeros = !word;
+    if zeros == 0 {
+        return 0;
+    }
+    let from = start.saturating_sub(64 * k);
+    let past = (64 * k + 64).saturating_sub(end);
+    zeros & (u64::MAX << from) & (u64::MAX >> past)
 }
 
 /// The first word in which two rows of one length have a number in common, where the words below

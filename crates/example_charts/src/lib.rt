@@ -42,8 +42,9 @@ instance z; in m4 from b; in m3 from a; endinstance; endmsc;";
 
 /// A coregion between two inputs of its line.
 pub const BELOW_COREGION: &[u8] = b"msc t; instance a; out m1 to b; endinstance; \
-instance b; in m1 from a; concurrent; in m2 from c; in m3 from c; endconcurrent; in m4 from d; endinstance; \
-instance c; out m2 to b; out m3 to b; endinstance; instance d; out m4 to b; endinstance; endmsc;";
+instance b; in m1 from a; concurrent; in m2 from c; in m3 from c; endconcurrent; in m4 from d; \
+endinstance; instance c; out m2 to b; out m3 to b; endinstance; \
+instance d; out m4 to b; endinstance; endmsc;";
 
 /// Kinds, a comment, a note, a message instance name and parameters.
 pub const KINDS_AND_COMMENTS: &[u8] = b"msc t; inst a, b; instance a : process p comment 'it''s'; \

@@ -2,9 +2,10 @@
 use Rattle.std.proofs.Common.{◌≡◌, ℕ, ◌+◌, ◌≤◌, inl, inr, refl, sym, ◌∙◌, subst, arith, [], ◌∷◌, get_or}
 use Rattle.std.proofs.lemmas.Bool.{cases_eq}
 use Rattle.msc_parser.specs.Grammar.{Tree}
+use Rattle.msc_chart.specs.Building.{IsClearBelow}
 use Rattle.msc_chart.specs.declared.fault.ChartFault.{ChartFault}
 use Rattle.msc_chart.specs.declared.fault.ChartFault.TheVariants.{TooManyInstances, TwiceInstance, HeaderWithoutBody, UnknownAddress, TooManyMessages, TooManyActions, TwiceEvent, UnmatchedOut, UnmatchedIn, Cyclic, Memory}
-use Rattle.msc_chart.specs.Faults.{Stands, rank, place, IsFirstFault, IsFaultless, IsClearBelow}
+use Rattle.msc_chart.specs.Faults.{Stands, rank, place, IsFirstFault, IsFaultless}
 
 -- the fault of a rank at a place
 abbrev pub ranked_fault : ℕ → ℕ → ChartFault

@@ -6,6 +6,7 @@ use Rattle.std.proofs.lemmas.Bool.{cases_lt}
 use Rattle.std.proofs.lemmas.List.{length-map}
 use Rattle.std.proofs.lemmas.List.Sums.{sum_by-cons}
 use Rattle.msc_parser.specs.Grammar.{Tree}
+use Rattle.msc_chart.specs.Building.{IsClearBelow, IsFirstOrMemory, IsLeastCyclic}
 use Rattle.msc_chart.specs.declared.TheConstants.{ACTION_LIMIT, EVENT_LIMIT, INSTANCE_LIMIT, MESSAGE_LIMIT}
 use Rattle.msc_chart.specs.declared.fault.ChartFault.{ChartFault}
 use Rattle.msc_chart.specs.declared.fault.ChartFault.TheVariants.{TooManyInstances, TwiceInstance, HeaderWithoutBody, UnknownAddress, TooManyMessages, TooManyActions, TwiceEvent, UnmatchedOut, UnmatchedIn, Cyclic, Memory}
@@ -13,10 +14,10 @@ use Rattle.msc_chart.specs.declared.event.ChartEvent.{ChartEvent}
 use Rattle.msc_chart.specs.declared.message.Message.{Message}
 use Rattle.msc_chart.specs.Events.{Act, DraftEvent, is_sent, is_taken, is_action, acts_of, events_of, instances_of}
 use Rattle.msc_chart.specs.Events.Act.{OfMessage, Action}
-use Rattle.msc_chart.specs.Charts.{IsAcyclic, IsLeastCyclic, IsLinearOrder}
+use Rattle.msc_chart.specs.Charts.{IsAcyclic, IsLinearOrder}
 use Rattle.msc_chart.specs.Drawings.{IsAccepted, drawing, chart_events, chart_of}
 use Rattle.msc_chart.specs.Charting.{events_from}
-use Rattle.msc_chart.specs.Faults.{Stands, AreTooMany, IsFirstFault, IsFirstOrMemory, IsFaultless, IsClearBelow}
+use Rattle.msc_chart.specs.Faults.{Stands, AreTooMany, IsFirstFault, IsFaultless}
 use Rattle.msc_chart.specs.Sortings.{IsCycleOrMemory}
 use Rattle.msc_chart.proofs.FaultLemmas.{first_of, clear_next, faultless}
 use Rattle.msc_chart.proofs.Matched.{chart_count, acts_count, chart_on_lines, chart_in_text_order, chart_matched}

@@ -6,6 +6,7 @@ use Rattle.std.proofs.lemmas.Bool.{lt-ltb}
 use Rattle.std.proofs.lemmas.Option.{slice_get_within, slice_get-get_or, get_or_from_slice_get}
 use Rattle.std.proofs.lemmas.List.{length-map}
 use Rattle.msc_parser.specs.Grammar.{Tree}
+use Rattle.msc_chart.specs.Building.{IsClearBelow}
 use Rattle.msc_chart.specs.declared.TheConstants.{EVENT_LIMIT}
 use Rattle.msc_chart.specs.declared.fault.ChartFault.TheVariants.{TwiceEvent, UnmatchedOut, UnmatchedIn}
 use Rattle.msc_chart.specs.declared.event.EventKind.TheVariants.{Output, Input}
@@ -17,7 +18,7 @@ use Rattle.msc_chart.specs.Drawings.{chart_events}
 use Rattle.msc_chart.specs.Charting.{end_place, act_kind, partner_of, event_of, events_from}
 use Rattle.msc_chart.specs.Sortings.{AreReady}
 use Rattle.msc_chart.specs.Lists.{StandsAt, Occurs}
-use Rattle.msc_chart.specs.Faults.{Stands, IsClearBelow, IsTwice}
+use Rattle.msc_chart.specs.Faults.{Stands, IsTwice}
 use Rattle.msc_chart.proofs.ListLemmas.{by_test, clash}
 use Rattle.msc_chart.proofs.Places.{one_at, any-place, place-any, place-map}
 use Rattle.msc_chart.proofs.MatchingLemmas.{is_end-true, same_end-refl}

@@ -4,6 +4,7 @@ use Rattle.std.specs.Prelude.{count_by}
 use Rattle.std.proofs.lemmas.List.Sums.{sum_by-cons}
 use Rattle.std.proofs.lemmas.Option.{slice_get_within}
 use Rattle.msc_parser.specs.Grammar.{Tree}
+use Rattle.msc_chart.specs.Building.{IsClearBelow}
 use Rattle.msc_chart.specs.declared.event.EventKind.TheVariants.{Output, Input}
 use Rattle.msc_chart.specs.declared.event.ChartEvent.{ChartEvent}
 use Rattle.msc_chart.specs.declared.message.Message.{Message}
@@ -13,7 +14,6 @@ use Rattle.msc_chart.specs.Charts.{at, kind, partner, message, sends, is_output}
 use Rattle.msc_chart.specs.Drawings.{chart_events, Drawing, no_message, output_of, HasMessages, chart_of}
 use Rattle.msc_chart.specs.Charting.{end_place, output_end, outputs_before, act_kind, partner_of, subject_of, messages_from}
 use Rattle.msc_chart.specs.Lists.{StandsAt}
-use Rattle.msc_chart.specs.Faults.{IsClearBelow}
 use Rattle.msc_chart.proofs.ListLemmas.{by_test}
 use Rattle.msc_chart.proofs.Places.{one_at}
 use Rattle.msc_chart.proofs.Matched.{drawn_at, partner_at, place-own, chart_count, acts_count, chart_matched}

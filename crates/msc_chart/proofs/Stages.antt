@@ -7,6 +7,7 @@ use Rattle.std.specs.Prelude.{count_by}
 use Rattle.std.proofs.lemmas.List.{length-map}
 use Rattle.std.proofs.lemmas.Option.{slice_get_within}
 use Rattle.msc_parser.specs.Grammar.{Tree}
+use Rattle.msc_chart.specs.Building.{IsClearBelow}
 use Rattle.msc_chart.specs.declared.TheConstants.{ACTION_LIMIT, INSTANCE_LIMIT}
 use Rattle.msc_chart.specs.declared.fault.ChartFault.TheVariants.{TooManyInstances, TwiceInstance, HeaderWithoutBody, UnknownAddress, TooManyMessages, TooManyActions, TwiceEvent, UnmatchedOut, UnmatchedIn}
 use Rattle.msc_chart.specs.declared.end.Mark as code
@@ -19,7 +20,7 @@ use Rattle.msc_chart.specs.Hashing.{equal_names}
 use Rattle.msc_chart.specs.Views.{act_view, event_view, mark_view, mark_at, marks_from}
 use Rattle.msc_chart.specs.Numbering.{AreNewBelow, IsFirstRepeat}
 use Rattle.msc_chart.specs.Lists.{IsLeast}
-use Rattle.msc_chart.specs.Faults.{Stands, HoldsAt, IsRepeat, IsTwice, IsUnknown, IsUnmatched, OfEnd, AreTooMany, IsFirstFault, IsClearBelow}
+use Rattle.msc_chart.specs.Faults.{Stands, HoldsAt, IsRepeat, IsTwice, IsUnknown, IsUnmatched, OfEnd, AreTooMany, IsFirstFault}
 use Rattle.msc_chart.proofs.FaultLemmas.{first_of, clear_next, clear_first}
 use Rattle.msc_chart.proofs.Places.{repeat_from, no_repeat}
 use Rattle.msc_chart.proofs.MatchingLemmas.{mark_same}

@@ -95,12 +95,6 @@ pub data Visual (events : List ChartEvent) : ℕ → ℕ → Type 0 where
 abbrev pub IsAcyclic : List ChartEvent → Type 0
 IsAcyclic events = (e : ℕ) → e < length events → Visual events e e → ⊥
 
--- the least event that precedes itself
-pub record IsLeastCyclic (events : List ChartEvent) (e : ℕ) : Type 0 where
-  pub within : e < length events
-  pub precedes_itself : Visual events e e
-  pub least : (d : ℕ) → d < e → Visual events d d → ⊥
-
 -- partners lead to and fro between the outputs and the inputs; a local event is its own partner
 pub record IsMatched (events : List ChartEvent) : Type 0 where
   pub in_range : (e : ℕ) → e < length events → partner events e < length events

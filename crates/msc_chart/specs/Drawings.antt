@@ -5,7 +5,7 @@ use Rattle.msc_chart.specs.declared.event.ChartEvent.{ChartEvent}
 use Rattle.msc_chart.specs.declared.message.Message.{Message}
 use Rattle.msc_chart.specs.Events.{instances_of, acts_of, events_of}
 use Rattle.msc_chart.specs.Charting.{events_from, messages_from, texts_of}
-use Rattle.msc_chart.specs.Charts.{line, partner, message, action, acts, is_output, is_local, IsMatched, IsInTextOrder, AreOnLines, IsAcyclic, IsLinearOrder}
+use Rattle.msc_chart.specs.Charts.{line, partner, message, action, acts, is_output, is_local, IsMatched, IsInTextOrder, AreOnLines, IsAcyclic}
 use Rattle.msc_parser.specs.Grammar.{Tree}
 
 -- the events of the chart of a draft, in the order of the text
@@ -90,11 +90,6 @@ pub record IsAccepted (d : Drawing) : Type 0 where
   pub acyclic : IsAcyclic d.events
   pub has_messages : HasMessages d
   pub has_actions : HasActions d
-
--- the same, with a linear order of the events
-pub record IsBuilt (d : Drawing) (order : List ℕ) : Type 0 where
-  pub accepted : IsAccepted d
-  pub linear : IsLinearOrder d.events order
 
 -- the events of line i are those from this number to that, which is past the last
 abbrev pub IsLine : Drawing → ℕ → ℕ → ℕ → Type 0

@@ -1,8 +1,8 @@
 -- What makes a draft no chart, and which of several faults is answered.
-use Rattle.std.specs.Prelude.{◌≡◌, ℕ, ◌<◌, ◌≤◌, ◌⊎◌, Bool, true, false, List, length, Option, count_by, MatchOption}
+use Rattle.std.specs.Prelude.{◌≡◌, ℕ, ◌<◌, ◌≤◌, ◌⊎◌, Bool, true, false, List, length, count_by}
 use Rattle.msc_chart.specs.declared.TheConstants.{ACTION_LIMIT, INSTANCE_LIMIT, MESSAGE_LIMIT}
 use Rattle.msc_parser.specs.Grammar.{Tree}
-use Rattle.msc_chart.specs.Lists.{StandsAt, Occurs, IsLeast}
+use Rattle.msc_chart.specs.Lists.{StandsAt, Occurs}
 use Rattle.msc_chart.specs.declared.fault.ChartFault.{ChartFault}
 use Rattle.msc_chart.specs.declared.fault.ChartFault.TheVariants.{TooManyInstances, TwiceInstance, HeaderWithoutBody, UnknownAddress, TooManyMessages, TooManyActions, TwiceEvent, UnmatchedOut, UnmatchedIn, Cyclic, Memory}
 use Rattle.msc_chart.specs.Events.{MessageEnd, Act, instances_of, header_of, acts_of, address_of, other_end, is_sent, is_taken, is_action}
@@ -17,10 +17,6 @@ IsRepeat {T} xs i = (x : T) × StandsAt xs i x × ((j : ℕ) × (j < i) × Stand
 -- the element at place i is such
 abbrev pub HoldsAt : {T : Type 0} → (T → Type 0) → List T → ℕ → Type 0
 HoldsAt {T} P xs i = (x : T) × StandsAt xs i x × P x
-
--- the least place of such, where there is one
-abbrev pub AnswersLeast : (ℕ → Type 0) → Option ℕ → Type 0
-AnswersLeast P r = MatchOption r ((k : ℕ) → P k → ⊥) (IsLeast P)
 
 -- the name is that of no section
 abbrev pub IsUnknown : List (List ℕ) → List ℕ → Type 0
@@ -94,11 +90,3 @@ pub record IsFirstFault (d : Tree) (f : ChartFault) : Type 0 where
 -- no fault stands
 abbrev pub IsFaultless : Tree → Type 0
 IsFaultless d = (f : ChartFault) → Stands d f → ⊥
-
--- no fault of a lower rank stands
-abbrev pub IsClearBelow : Tree → ℕ → Type 0
-IsClearBelow d k = (f : ChartFault) → Stands d f → k ≤ rank f
-
--- a refusal is the first fault, or want of memory
-abbrev pub IsFirstOrMemory : Tree → ChartFault → Type 0
-IsFirstOrMemory d f = (f ≡ Memory → ⊥) → IsFirstFault d f

@@ -14,6 +14,7 @@ pub mod Faults
 pub mod Laws
 pub mod Samples
 -- what the code keeps
+pub mod Building
 pub mod Views
 pub mod Hashing
 pub mod Numbering

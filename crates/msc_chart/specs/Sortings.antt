@@ -1,12 +1,13 @@
 -- What the sorting of the events into a linear order keeps.
 use Rattle.std.specs.Prelude.{◌≡◌, ℕ, ◌+◌, ◌<◌, ◌≤◌, ◌⊎◌, Bool, false, not, List, [], length, get_or, count_by, vec_len, IsTrue}
+use Rattle.msc_chart.specs.Building.{IsLeastCyclic}
 use Rattle.msc_chart.specs.declared.TheConstants.{EVENT_LIMIT}
 use Rattle.msc_chart.specs.declared.event.ChartEvent.{ChartEvent}
 use Rattle.msc_chart.specs.declared.linear.Sorting.{Sorting}
 use Rattle.msc_chart.specs.declared.fault.ChartFault.{ChartFault}
 use Rattle.msc_chart.specs.declared.fault.ChartFault.TheVariants.{Cyclic, Memory}
 use Rattle.msc_chart.specs.Lists.{occurs, Steps}
-use Rattle.msc_chart.specs.Charts.{line, partner, is_output, before, IsMatched, IsInTextOrder, AreOnLines, Follows, IsLeastCyclic}
+use Rattle.msc_chart.specs.Charts.{line, partner, is_output, before, IsMatched, IsInTextOrder, AreOnLines, Follows}
 
 -- x comes directly before y: it is drawn before it, or is the output of its message
 abbrev pub IsDirectly : List ChartEvent → ℕ → ℕ → Type 0

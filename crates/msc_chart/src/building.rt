@@ -2,12 +2,13 @@
 
 ghost use Rattle.std.specs.Prelude.{◌≡◌, ◌≤◌, map, length, IfOk, IfErr, OnOk};
 ghost use Rattle.std.specs.Map.Iter.{deref};
+ghost use Rattle.msc_chart.specs.Building.{IsClearBelow, IsFirstOrMemory};
 ghost use Rattle.msc_chart.specs.Events.{instances_of, acts_of, events_of};
 ghost use Rattle.msc_chart.specs.Charts.{IsLinearOrder};
 ghost use Rattle.msc_chart.specs.Drawings.{chart_events};
 ghost use Rattle.msc_chart.specs.Tables.{partners_of};
 ghost use Rattle.msc_chart.specs.Views.{event_view, mark_view, marks_from};
-ghost use Rattle.msc_chart.specs.Faults.{IsClearBelow, IsFaultless, IsFirstFault, IsFirstOrMemory};
+ghost use Rattle.msc_chart.specs.Faults.{IsFaultless, IsFirstFault};
 
 use crate::charting::{chart_events, partners};
 use crate::check::{

@@ -8,10 +8,11 @@
 ghost use Rattle.std.specs.Prelude.{◌≡◌, ◌≢◌, ◌<◌, ◌≤◌, ◌+◌, ◌↔◌, IsTrue, false, cond, None, Some};
 ghost use Rattle.std.specs.Prelude.{length, IfOk, IfErr, OnOk, slice_get};
 ghost use Rattle.std.specs.Option.{option_copied};
+ghost use Rattle.msc_chart.specs.Building.{IsBuilt};
 ghost use Rattle.msc_chart.specs.Charts.{before, IsLineEnd, IsLinearOrder, IsSegmentEnd};
 ghost use Rattle.msc_chart.specs.Charts.{ShareSegment, is_controlled, is_local, is_output, kind};
 ghost use Rattle.msc_chart.specs.Charts.{line, line_start, message, partner, segment};
-ghost use Rattle.msc_chart.specs.Drawings.{Drawing, IsAccepted, IsBuilt, IsLine, chart_of, drawing};
+ghost use Rattle.msc_chart.specs.Drawings.{Drawing, IsAccepted, IsLine, chart_of, drawing};
 ghost use Rattle.msc_chart.specs.Drawings.{input_of, label_of, message_at, output_of, receiver_of};
 ghost use Rattle.msc_chart.specs.Drawings.{sender_of};
 ghost use Rattle.msc_chart.specs.Orders.{queue_of};

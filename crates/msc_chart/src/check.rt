@@ -2,11 +2,12 @@
 
 ghost use Rattle.std.specs.Prelude.{◌≡◌, ◌<◌, ◌↔◌, IsTrue, map, length, count_by};
 ghost use Rattle.std.specs.Map.Iter.{deref};
+ghost use Rattle.msc_chart.specs.Building.{AnswersLeast};
 ghost use Rattle.msc_chart.specs.Events.{address_of, is_action};
 ghost use Rattle.msc_chart.specs.Charting.{is_of};
 ghost use Rattle.msc_chart.specs.Tables.{partners_of};
 ghost use Rattle.msc_chart.specs.Views.{mark_view};
-ghost use Rattle.msc_chart.specs.Faults.{AnswersLeast, AreTooMany, HoldsAt, IsUnknown, IsUnmatched};
+ghost use Rattle.msc_chart.specs.Faults.{AreTooMany, HoldsAt, IsUnknown, IsUnmatched};
 ghost use Rattle.msc_chart.specs.Faults.{OfEnd};
 
 use crate::end::Mark;

@@ -7,7 +7,8 @@
 
 ghost use Rattle.std.specs.Prelude.{◌≡◌, ◌<◌, ◌≤◌, ◌↔◌, IsTrue, length, sum, IfOk, MatchOption};
 ghost use Rattle.std.specs.Bool.{OnTrue, OnFalse};
-ghost use Rattle.msc_chart.specs.Charts.{AreOnLines, IsMatched, IsAcyclic, IsLeastCyclic, Visual};
+ghost use Rattle.msc_chart.specs.Building.{IsLeastCyclic};
+ghost use Rattle.msc_chart.specs.Charts.{AreOnLines, IsMatched, IsAcyclic, Visual};
 ghost use Rattle.msc_chart.specs.Charts.{at};
 ghost use Rattle.msc_chart.specs.Reach.{IsPassed, AreReached, IsClosedAt, AreClosedBelow};
 

@@ -1,7 +1,9 @@
 -- What the program answers, and its exit statuses.
-use Rattle.std.specs.Prelude.{◌≡◌, ◌⊎◌, ℕ, Bool, List, MatchOption, Option, Some, codes, option_map, true, false}
+use Rattle.std.specs.Prelude.{◌≡◌, ◌⊎◌, ℕ, Bool, List, MatchOption, Option, Some, codes, true, false}
 use Rattle.std.specs.Io.KnownBytes.{Keeps}
-use Rattle.clap.specs.Words.{first_value, rows_of, subcommand_name_of, subcommand_rows_of}
+use Rattle.clap.specs.Words.{Row, Text, first_value, rows_of, subcommand_rows_of}
+use Rattle.clap.specs.declared.error.kind.ErrorKind.{ErrorKind}
+use Rattle.clap.specs.declared.error.kind.ErrorKind.TheVariants.{DisplayHelp, DisplayVersion, OutOfMemory}
 use Rattle.clap.specs.declared.parser.matches.ArgMatches.{ArgMatches}
 use Rattle.clap.specs.declared.parser.matches.Found.{Found}
 use Rattle.msc_chart.specs.declared.queue.Queues.{Queues}
@@ -23,6 +25,7 @@ use Rattle.msc_text.specs.Answers.{WritesDraft}
 use Rattle.msc_text.specs.Checking.{WritesVerdict}
 use Rattle.msc_text.specs.Reading.{IsReadFrom}
 use Rattle.msc_tool.specs.Running.{HasInstance, WritesTrace}
+use Rattle.msc_command.specs.Commands.{AreAnswered, AreTaken}
 use Rattle.msc_command.specs.Words.{AsksFor, IsNoCommand}
 
 -- the exit status for how a run ended
@@ -108,13 +111,31 @@ Obeys command found status rest left before after =
     (task : Task) × (text : List ℕ) × AsksFor command found task × IsFileText found rest left text
     × WritesAnswer task text status before after
 
--- The words that were found are obeyed: those of the command that they name, by what was found of
--- it; words that name none are refused.
+-- A command that the words name is obeyed, by what was found of its own words.
+abbrev pub ObeysNamed : Text × List Row → Status → Option (List ℕ) → Option (List ℕ) → Option (List ℕ) → Option (List ℕ) → Type 0
+ObeysNamed named status rest left before after =
+    (found : Found) × (named.1 ≡ rows_of found) × Obeys named.0 found status rest left before after
+
+-- The words that `clap` took are obeyed; such as name no command are refused.
 abbrev pub ObeysMatches : ArgMatches → Status → Option (List ℕ) → Option (List ℕ) → Option (List ℕ) → Option (List ℕ) → Type 0
-ObeysMatches matches status rest left before after =
-    MatchOption (subcommand_name_of matches) (status ≡ Refused) (λ command. (found : Found)
-    × (option_map (λ p. p.1) (subcommand_rows_of matches) ≡ Some (rows_of found))
-    × Obeys command found status rest left before after)
+ObeysMatches matches status rest left before after = MatchOption (subcommand_rows_of matches)
+    (status ≡ Refused) (λ named. ObeysNamed named status rest left before after)
+
+-- How words end that are not taken: help or the version that they ask for goes out, where the
+-- output does not fail; of a fault nothing goes out there.
+abbrev pub EndsUsage : ErrorKind → Status → Option (List ℕ) → Option (List ℕ) → Type 0
+EndsUsage DisplayHelp status before after = (status ≡ Done) ⊎ (status ≡ Failed)
+EndsUsage DisplayVersion status before after = (status ≡ Done) ⊎ (status ≡ Failed)
+EndsUsage OutOfMemory status before after = (status ≡ Failed) × (after ≡ before)
+EndsUsage kind status before after = (status ≡ Refused) × (after ≡ before)
+
+-- A run of the program does what its words say: the command that they name is obeyed, or they are
+-- not taken, or memory runs out before they are known.
+abbrev pub FollowsWords : List Text → Status → Option (List ℕ) → Option (List ℕ) → Option (List ℕ) → Option (List ℕ) → Type 0
+FollowsWords words status rest left before after =
+    ((named : Text × List Row) × AreTaken words named × ObeysNamed named status rest left before after)
+    ⊎ (((kind : ErrorKind) × AreAnswered words kind × EndsUsage kind status before after)
+    ⊎ ((status ≡ Failed) × (after ≡ before)))
 
 -- a whole verdict with races went behind the known bytes of a writer
 abbrev pub PrintsRaces : Option (List ℕ) → Option (List ℕ) → Type 0

@@ -4,6 +4,7 @@
 //! library that reads command lines.
 #![tactic(auto)]
 
+mod commands;
 mod program;
 mod words;
 

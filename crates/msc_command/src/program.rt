@@ -1,15 +1,19 @@
 //! What the program does, and how it ends.
 
-ghost use Rattle.std.specs.Prelude.{◌≡◌, ◌≢◌, ◌⊎◌, codes, IfErr, IfOk, List, ℕ};
+ghost use Rattle.std.specs.Prelude.{◌≡◌, ◌≢◌, ◌⊎◌, codes, map, IfErr, IfOk, List, ℕ};
 ghost use Rattle.std.specs.IoError.{error_kind};
 ghost use Rattle.std.specs.declared.io.ErrorKind.TheVariants.{OutOfMemory};
-ghost use Rattle.clap.specs.Matches.{found_of};
-ghost use Rattle.msc_command.specs.Program.{ends_as, status_code, status_of, IsUnanswered, Obeys};
-ghost use Rattle.msc_command.specs.Program.{ObeysMatches, TellsAnswer, PrintsUnfinished};
-ghost use Rattle.msc_command.specs.Program.{TellsRaces, WritesAnswer};
+ghost use Rattle.std.specs.String.{string_bytes};
+ghost use Rattle.clap.specs.Words.{found_of, kind_of};
+ghost use Rattle.msc_command.specs.Program.{ends_as, status_code, status_of, EndsUsage};
+ghost use Rattle.msc_command.specs.Program.{FollowsWords, IsUnanswered, Obeys, ObeysMatches};
+ghost use Rattle.msc_command.specs.Program.{PrintsUnfinished, TellsAnswer, TellsRaces};
+ghost use Rattle.msc_command.specs.Program.{WritesAnswer};
+ghost use Rattle.msc_command.specs.declared.program.Status.{Status};
 ghost use Rattle.msc_text.specs.Reading.{IsReadFrom};
 
-use crate::words::{Alternatives, Task, architectures, grammar, joined, kinds, task_of};
+use crate::commands::{Alternatives, architectures, grammar, joined, kinds};
+use crate::words::{Task, task_of};
 use clap::{ArgMatches, Error};
 use msc_instance::AlwaysOpen;
 use msc_report::{Fault, PairFault, write_fault, write_pair_fault};
@@ -196,7 +200,9 @@ fn perform_on<R: Files + Threads + Wait + Sync, I: Read, O: Write>(
 
 /// Writes what `clap` says of words that are no command, or the help that they ask for.
 fn tell_usage<O: Write, E: Write>(output: &mut O, faults: &mut E, error: &Error) -> Status
-    ensures { TellsAnswer result (O.contents output.old) (O.contents output.new) }
+    ensures told { TellsAnswer result (O.contents output.old) (O.contents output.new) }
+    ensures ends { EndsUsage (kind_of error.now) result
+        (O.contents output.old) (O.contents output.new) }
 {
     if error.kind() == clap::error::ErrorKind::OutOfMemory {
         return end_with(faults, Fault::Memory);
@@ -263,8 +269,12 @@ fn run<R: Files + Threads + Wait + Sync, I: Read, O: Write, E: Write>(
     output: &mut O,
     faults: &mut E,
 ) -> Result<Status, AllocError>
-    ensures { IfOk result (λ status.
+    ensures told { IfOk result (λ status.
         TellsAnswer status (O.contents output.old) (O.contents output.new)) }
+    ensures followed { IfOk result (λ status. FollowsWords (map string_bytes words.now) status
+        (I.remaining input.old) (I.remaining input.new)
+        (O.contents output.old) (O.contents output.new)) }
+    ensures unknown { IfErr result (λ _. O.contents output.new ≡ O.contents output.old) }
 {
     let architectures = architectures(alloc)?;
     let shown_architectures = joined(alloc, architectures.as_slice())?;
@@ -333,6 +343,10 @@ pub fn command<R: Files + Threads + Wait + Sync, I: Read, O: Write, E: Write>(
     ensures refused { result ≡ 2 → O.contents output.new ≡ O.contents output.old }
     ensures unfinished { result ≡ 3
         → PrintsUnfinished (O.contents output.old) (O.contents output.new) }
+    ensures followed { (status : Status) × (result ≡ status_code status)
+        × FollowsWords (map string_bytes words.items) status
+        (I.remaining input.old) (I.remaining input.new)
+        (O.contents output.old) (O.contents output.new) }
 {
     match run(rt, alloc, words.as_slice(), input, output, faults) {
         Ok(status) => status.code(),

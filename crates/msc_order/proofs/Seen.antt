@@ -9,9 +9,9 @@ use Rattle.msc_chart.specs.Charts.{IsMatched}
 use Rattle.msc_chart.specs.Orders.{WiredChart, IsEnforcedOrder, IsVisualOrder}
 use Rattle.bit_rows.specs.Rows.{has}
 use Rattle.bit_rows.specs.Tables.{cell}
-use Rattle.msc_order.specs.Tables.{table_of, orders, IsWellKept}
+use Rattle.msc_order.specs.Tables.{table_of, orders}
 use Rattle.msc_order.specs.Caused.{Led}
-use Rattle.msc_order.specs.Closing.{IsTestOf}
+use Rattle.msc_order.specs.Closing.{IsTestOf, IsWellKept}
 use Rattle.bit_rows.proofs.Bits.{by_test}
 use Rattle.msc_order.proofs.Leading.{led_below}
 use Rattle.msc_order.proofs.Between.{enforced_below, led_visual, visual_led}

@@ -1,11 +1,11 @@
 -- What a table keeps while it is closed.
-use Rattle.std.specs.Prelude.{◌≡◌, ◌≢◌, ℕ, ◌<◌, ◌≤◌, Bool, false, ◌||◌, ◌⊎◌, List, length, take, IsTrue}
+use Rattle.std.specs.Prelude.{◌≡◌, ◌≢◌, ℕ, ◌*◌, ◌<◌, ◌≤◌, Bool, false, ◌||◌, ◌⊎◌, List, length, take, IsTrue}
 use Rattle.msc_chart.specs.declared.event.ChartEvent.{ChartEvent}
 use Rattle.msc_chart.specs.Lists.{occurs}
 use Rattle.msc_chart.specs.Charts.{partner, is_output, is_controlled, before}
 use Rattle.msc_chart.specs.Orders.{WiredChart, queue, Enforced}
 use Rattle.msc_order.specs.Caused.{Led, Caused}
-use Rattle.bit_rows.specs.Rows.{has}
+use Rattle.bit_rows.specs.Rows.{has, word_count}
 use Rattle.bit_rows.specs.Tables.{cell}
 
 -- What the line of e leads to: an event that is drawn after e and led to, and what comes after such
@@ -117,3 +117,8 @@ pub record AreMoved (chart : WiredChart) (left less taken more : ℕ → Bool) :
 -- a test of numbers holds none below k
 abbrev pub IsAbove : ℕ → (ℕ → Bool) → Type 0
 IsAbove k test = (c : ℕ) → IsTrue (test c) → k ≤ c
+
+-- n rows of bits, with no bit past the last number
+pub record IsWellKept (n : ℕ) (words : List ℕ) : Type 0 where
+  pub square : length words ≡ n * word_count n
+  pub tight : (x y : ℕ) → IsTrue (cell n words x y) → y < n

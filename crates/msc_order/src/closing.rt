@@ -14,7 +14,7 @@ ghost use Rattle.msc_order.specs.Caused.{Led};
 ghost use Rattle.msc_order.specs.Closing.{LedByLine, IsNextSegment, HoldsOnly, IsTestOf};
 ghost use Rattle.msc_order.specs.Closing.{AreBegun, HasRowOf, Keeps, KeepsOthers};
 
-use crate::segments::next_segment;
+use crate::segments::next_segment_events;
 use bit_rows::row;
 use bit_rows::table::{merge, take_in};
 use msc_chart::{Chart, Event};
@@ -88,7 +88,7 @@ fn begin_segment(words: &mut [u64], begun: &mut [u64], chart: &Chart, inputs: bo
     if row::has(begun, e) {
         return;
     }
-    let (start, end) = next_segment(chart, e);
+    let (start, end) = next_segment_events(chart, e);
     add_lines(words, chart, inputs, e, start, end);
     row::put(begun, e);
     for passed in 0..start {

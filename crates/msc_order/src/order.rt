@@ -6,7 +6,8 @@ ghost use Rattle.std.specs.Prelude.{◌≡◌, ℕ, ◌<◌, length, IfOk};
 ghost use Rattle.msc_chart.specs.Orders.{IsEnforcedOrder, IsVisualOrder, wired};
 ghost use Rattle.bit_rows.specs.Rows.{has, word_count};
 ghost use Rattle.bit_rows.specs.Tables.{cell};
-ghost use Rattle.msc_order.specs.Tables.{Table, table_of, orders, IsWellKept};
+ghost use Rattle.msc_order.specs.Closing.{IsWellKept};
+ghost use Rattle.msc_order.specs.Tables.{Table, table_of, orders};
 
 use crate::closing::close;
 use crate::queueing::close_under_queues;

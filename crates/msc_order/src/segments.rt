@@ -7,7 +7,7 @@ use msc_chart::{Chart, Event};
 
 /// The events of the next segment after that of `e` on its line: from the first number up to the
 /// second. The first is the number past the segment of `e`, also where no other comes next.
-pub fn next_segment(chart: &Chart, e: Event) -> (Event, Event)
+pub fn next_segment_events(chart: &Chart, e: Event) -> (Event, Event)
     requires { e < length chart.now.events }
     ensures { IsNextSegment chart.now.events e result.0 result.1 }
 {

@@ -15,42 +15,42 @@ use Rattle.msc_parser.specs.declared.tree.Item.TheVariants.{Single, Coregion}
 use Rattle.msc_parser.specs.declared.tree.Section.{Section}
 use Rattle.msc_parser.specs.Forms.{IsToken, IsNamed, AreMany, IsLedBy, AreListed}
 use Rattle.msc_parser.specs.Grammar.{Tree, IsEnd, Plain, Commented, IsSecond, IsKind, IsDecl, IsNumber, AreParameters, Absent, Empty, Given, IsSignal, IsAction, IsEvent, IsCoregion, IsItem, IsSection, AreDecls, IsChart}
-use Rattle.msc_parser.specs.Places.{DeclStatement, InInst, InInstance, Place, Start, ChartName, Header, Sections, Items, Events, DeclName, DeclKind, KindFirst, KindSecond, DeclEnd, Message, AfterMessage, Number, AfterNumber, Parameters, Parameter, AfterParameter, AfterParameters, Address, ActionText, StatementEnd, CommentText, CommentEnd, Done, behind, next, walk}
+use Rattle.msc_parser.specs.Places.{DeclStatement, InInst, InInstance, GrammarPlace, Start, ChartName, Header, Sections, Items, Events, DeclName, DeclKind, KindFirst, KindSecond, DeclEnd, Message, AfterMessage, Number, AfterNumber, Parameters, Parameter, AfterParameter, AfterParameters, Address, ActionText, StatementEnd, CommentText, CommentEnd, Done, behind, next, walk}
 use Rattle.msc_parser.proofs.Leading.{colon_leads, second_leads, comma_leads, open_leads, word_leads, LeadsToEvents, item_leads, event_leads}
 
 -- a token that may stand at a place leads on
-pub walk_token : (p q : Place) (s : Symbol) (before after : List Lexeme) → IsToken s before after
+pub walk_token : (p q : GrammarPlace) (s : Symbol) (before after : List Lexeme) → IsToken s before after
     → next p s ≡ Some q → walk p before ≡ walk q after
 walk_token p q s before after h step =
-    ap (walk p) h.1 ∙ ap (λ (o : Option Place). option_map_or (λ n. walk n after) o (p, record { symbol = s; place = h.0 } ∷ after)) step
+    ap (walk p) h.1 ∙ ap (λ (o : Option GrammarPlace). option_map_or (λ n. walk n after) o (p, record { symbol = s; place = h.0 } ∷ after)) step
 
 -- the tokens lead from the place to the end
-abbrev pub Accepts : Place → List Lexeme → Type 0
+abbrev pub Accepts : GrammarPlace → List Lexeme → Type 0
 Accepts p ls = walk p ls ≡ (Done, [])
 
 -- a token leads from its place to the place behind it
-by_token : (p q : Place) (s : Symbol) (b a : List Lexeme) → IsToken s b a → next p s ≡ Some q
+by_token : (p q : GrammarPlace) (s : Symbol) (b a : List Lexeme) → IsToken s b a → next p s ≡ Some q
     → Accepts q a → Accepts p b
 by_token p q s b a h step rest = walk_token p q s b a h step ∙ rest
 
 -- ---- a place that takes all that another takes
 
 -- the place p takes whatever q takes, and goes on alike
-abbrev Wider : Place → Place → Type 0
+abbrev Wider : GrammarPlace → GrammarPlace → Type 0
 Wider p q = (x : Symbol) → next q x ≢ None → next p x ≡ next q x
 
 -- one step of a wider place
-wider_step : (p q : Place) (l : Lexeme) (ls : List Lexeme) (o : Option Place) → next q l.symbol ≡ o
+wider_step : (p q : GrammarPlace) (l : Lexeme) (ls : List Lexeme) (o : Option GrammarPlace) → next q l.symbol ≡ o
     → (o ≢ None → next p l.symbol ≡ o) → option_map_or (λ a. walk a ls) o (q, l ∷ ls) ≡ (Done, [])
     → Accepts p (l ∷ ls)
 wider_step p q l ls None step wide h =
-    let e : l ∷ ls ≡ [] = ap (λ (x : Place × List Lexeme). x.1) h in absurd cc
+    let e : l ∷ ls ≡ [] = ap (λ (x : GrammarPlace × List Lexeme). x.1) h in absurd cc
 wider_step p q l ls (Some r) step wide h =
-    ap (λ (o : Option Place). option_map_or (λ a. walk a ls) o (p, l ∷ ls)) (wide (λ e. cc)) ∙ h
+    ap (λ (o : Option GrammarPlace). option_map_or (λ a. walk a ls) o (p, l ∷ ls)) (wide (λ e. cc)) ∙ h
 
 -- what leads to the end from a place leads there from a wider one
-by_wider : (p q : Place) → Wider p q → q ≢ Done → (ls : List Lexeme) → Accepts q ls → Accepts p ls
-by_wider p q wide other [] h = absurd (other (ap (λ (x : Place × List Lexeme). x.0) h))
+by_wider : (p q : GrammarPlace) → Wider p q → q ≢ Done → (ls : List Lexeme) → Accepts q ls → Accepts p ls
+by_wider p q wide other [] h = absurd (other (ap (λ (x : GrammarPlace × List Lexeme). x.0) h))
 by_wider p q wide other (l ∷ ls) h = wider_step p q l ls (next q l.symbol) refl (wide l.symbol) h
 
 -- behind a name may stand what may stand behind a whole kind, and `:`
@@ -74,14 +74,14 @@ wide_decl InInst x h = refl
 wide_decl InInstance x h = refl
 
 -- behind a message name may stand what may stand behind a message instance name, and a comma
-wide_message : (w : Way) (p : Place) → Wider (AfterMessage w p) (AfterNumber w p)
+wide_message : (w : Way) (p : GrammarPlace) → Wider (AfterMessage w p) (AfterNumber w p)
 wide_message ways.Output p Comma h = absurd (h refl)
 wide_message ways.Output p x h = refl
 wide_message ways.Input p Comma h = absurd (h refl)
 wide_message ways.Input p x h = refl
 
 -- behind a message instance name may stand what may stand behind parameters, and `(`
-wide_number : (w : Way) (p : Place) → Wider (AfterNumber w p) (AfterParameters w p)
+wide_number : (w : Way) (p : GrammarPlace) → Wider (AfterNumber w p) (AfterParameters w p)
 wide_number ways.Output p LeftParen h = absurd (h refl)
 wide_number ways.Output p x h = refl
 wide_number ways.Input p LeftParen h = absurd (h refl)
@@ -95,14 +95,14 @@ wide_header x h = refl
 -- ---- parts
 
 -- many parts lead back to their place
-by_many : {X : Type 0} (IsPart : List Lexeme → X → List Lexeme → Type 0) (p : Place)
+by_many : {X : Type 0} (IsPart : List Lexeme → X → List Lexeme → Type 0) (p : GrammarPlace)
     → ((b a : List Lexeme) (x : X) → IsPart b x a → Accepts p a → Accepts p b)
     → (xs : List X) (b a : List Lexeme) → AreMany IsPart b xs a → Accepts p a → Accepts p b
 by_many IsPart p one [] b a h rest = ap (walk p) h ∙ rest
 by_many IsPart p one (x ∷ xs) b a h rest = one b h.0 x h.1 (by_many IsPart p one xs h.0 a h.2 rest)
 
 -- the end of a statement leads behind it
-by_end : (p : Place) (b a : List Lexeme) → IsEnd b a → Accepts p a → Accepts (StatementEnd p) b
+by_end : (p : GrammarPlace) (b a : List Lexeme) → IsEnd b a → Accepts p a → Accepts (StatementEnd p) b
 by_end p b a (Plain h) rest = by_token (StatementEnd p) p Semicolon b a h refl rest
 by_end p b a (Commented bytes text close h k l) rest =
     by_token (StatementEnd p) (CommentText p) (Reserved words.Comment) b text h refl (by_token (CommentText p) (CommentEnd p) (Quoted bytes) text close k refl (by_token (CommentEnd p) p Semicolon close a l refl rest))
@@ -145,7 +145,7 @@ by_inst b a (d ∷ ds) h rest =
     (by_decl_end InInst h.2.0 a h.2.2 rest)))
 
 -- a message instance name, or none, leads to what follows it
-by_number : (w : Way) (p : Place) (o : Option (List ℕ)) (b a : List Lexeme) → IsNumber b o a
+by_number : (w : Way) (p : GrammarPlace) (o : Option (List ℕ)) (b a : List Lexeme) → IsNumber b o a
     → Accepts (AfterNumber w p) a → Accepts (AfterMessage w p) b
 by_number w p None b a h rest =
     by_wider (AfterMessage w p) (AfterNumber w p) (wide_message w p) (λ e. cc) b (ap (walk (AfterNumber w p)) h ∙ rest)
@@ -153,7 +153,7 @@ by_number w p (Some n) b a h rest =
     by_token _ (Number w p) Comma b h.0 h.1 (comma_leads w p) (by_token _ _ (Named n) h.0 a h.2 refl rest)
 
 -- names with commas between them lead behind the last of them
-by_names : (w : Way) (p : Place) (ps : List (List ℕ)) (b a : List Lexeme) → AreListed IsNamed b ps a
+by_names : (w : Way) (p : GrammarPlace) (ps : List (List ℕ)) (b a : List Lexeme) → AreListed IsNamed b ps a
     → Accepts (AfterParameter w p) a → Accepts (Parameters w p) b
 by_names w p [] b a h rest = absurd h
 by_names w p (x ∷ xs) b a h rest =
@@ -161,7 +161,7 @@ by_names w p (x ∷ xs) b a h rest =
     (by_many (IsLedBy Comma IsNamed) (AfterParameter w p) (λ c e y k more. by_token _ (Parameter w p) Comma c k.0 k.1 refl (by_token _ _ (Named y) k.0 e k.2 refl more)) xs h.0 a h.2 rest)
 
 -- parameters, or none, lead to what follows them
-by_parameters : (w : Way) (p : Place) (ps : List (List ℕ)) (b a : List Lexeme)
+by_parameters : (w : Way) (p : GrammarPlace) (ps : List (List ℕ)) (b a : List Lexeme)
     → AreParameters b ps a → Accepts (AfterParameters w p) a → Accepts (AfterNumber w p) b
 by_parameters w p ps b a (Absent none h) rest =
     by_wider (AfterNumber w p) (AfterParameters w p) (wide_number w p) (λ e. cc) b (ap (walk (AfterParameters w p)) h ∙ rest)
@@ -171,7 +171,7 @@ by_parameters w p ps b a (Given names close h k l) rest =
     by_token _ (Parameters w p) LeftParen b names h (open_leads w p) (by_names w p ps names close k (by_token _ _ RightParen close a l refl rest))
 
 -- a message event behind its first word leads behind the event
-by_signal : (p : Place) (b a : List Lexeme) (e : Signal) → IsSignal b e a → Accepts p a
+by_signal : (p : GrammarPlace) (b a : List Lexeme) (e : Signal) → IsSignal b e a → Accepts p a
     → Accepts (Message e.way p) b
 by_signal p b a e h rest =
     by_token _ (AfterMessage e.way p) (Named e.name) b h.is_ident.number h.is_ident.is_name refl
@@ -181,13 +181,13 @@ by_signal p b a e h rest =
     (by_token _ (StatementEnd p) (Named e.address) h.address h.close h.is_address refl (by_end p h.close a h.is_end rest)))))
 
 -- an action behind its first word leads behind the action
-by_action : (p : Place) (b a : List Lexeme) (label : List ℕ) → IsAction b label a → Accepts p a
+by_action : (p : GrammarPlace) (b a : List Lexeme) (label : List ℕ) → IsAction b label a → Accepts p a
     → Accepts (ActionText p) b
 by_action p b a label h rest =
     by_token _ (StatementEnd p) (Quoted label) b h.close h.is_text refl (by_end p h.close a h.is_end rest)
 
 -- an event leads behind the event
-by_event : (p : Place) → LeadsToEvents p → (b a : List Lexeme) (x : Statement) → IsEvent b x a
+by_event : (p : GrammarPlace) → LeadsToEvents p → (b a : List Lexeme) (x : Statement) → IsEvent b x a
     → Accepts p a → Accepts p b
 by_event p leads b a (statements.Message e) h rest =
     by_token p (Message e.way p) _ b h.0 h.1 (leads (openings.Message e.way)) (by_signal p h.0 a e h.2 rest)

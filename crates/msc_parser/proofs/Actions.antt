@@ -16,7 +16,7 @@ use Rattle.msc_parser.specs.declared.fault.What.TheVariants as whats
 use Rattle.msc_parser.specs.declared.fault.ParseFault.{ParseFault}
 use Rattle.msc_parser.specs.declared.fault.ParseFault.TheVariants as faults
 use Rattle.msc_parser.specs.Grammar.{IsAction}
-use Rattle.msc_parser.specs.Places.{Place, Message, ActionText, StatementEnd}
+use Rattle.msc_parser.specs.Places.{GrammarPlace, Message, ActionText, StatementEnd}
 use Rattle.msc_parser.specs.Reading.{first_kind, fault_from, Stops, DidTake, TakesText, DidEnd, DidRead, IsSignalOf, IsOpened}
 use Rattle.msc_parser.proofs.Steps.{others, leads_on, OnlyTakes, refuses_kind}
 
@@ -36,13 +36,13 @@ took_text text (t ∷ ts) held d within h e =
     })
 
 -- behind `action` only a text may stand
-only-ActionText : (p : Place) → OnlyTakes (ActionText p) kinds.Text
+only-ActionText : (p : GrammarPlace) → OnlyTakes (ActionText p) kinds.Text
 only-ActionText p kinds.Text bytes a = absurd (a refl)
 only-ActionText p k bytes a = refl
 
 -- behind `action` no text stands
 pub text_refused : (text : List ℕ) (a : List Token) (e : ParseFault) → TakesText text a (Err e)
-    → (p : Place) → Stops text (ActionText p) a e
+    → (p : GrammarPlace) → Stops text (ActionText p) a e
 text_refused text a faults.Memory h p = tt
 text_refused text a (faults.Lex f) h p =
     refuses_kind text (ActionText p) kinds.Text whats.Text a _ (λ len ls. refl) (only-ActionText p) refl h
@@ -52,13 +52,13 @@ text_refused text a (faults.Expected at v) h p =
     refuses_kind text (ActionText p) kinds.Text whats.Text a _ (λ len ls. refl) (only-ActionText p) refl h
 
 -- the text leads to the end of the action
-pub text_leads : (text : List ℕ) (p : Place) (a b : List Token) (l : List ℕ)
+pub text_leads : (text : List ℕ) (p : GrammarPlace) (a b : List Token) (l : List ℕ)
     → DidTake text (Quoted l) a b
     → fault_from text (ActionText p) a ≡ fault_from text (StatementEnd p) b
 text_leads text p a b l h = leads_on text (ActionText p) (StatementEnd p) (Quoted l) a b h refl
 
 -- an action behind its first word is a text and an end
-pub action_read : (text : List ℕ) (p : Place) (a b c : List Token) (l : List ℕ)
+pub action_read : (text : List ℕ) (p : GrammarPlace) (a b c : List Token) (l : List ℕ)
     → DidTake text (Quoted l) a b → DidEnd text b c → DidRead text IsAction (ActionText p) p a c l
 action_read text p a b c l held end = record {
   part = record { close = lexemes text b; is_text = held.part; is_end = end.part };
@@ -68,14 +68,14 @@ action_read text p a b c l held end = record {
 }
 
 -- a message event behind its first word is an event that begins so
-pub message_opened : (text : List ℕ) (w : Way) (p : Place) (a b : List Token) (e : Signal)
+pub message_opened : (text : List ℕ) (w : Way) (p : GrammarPlace) (a b : List Token) (e : Signal)
     → DidRead text (IsSignalOf w) (Message w p) p a b e
     → DidRead text (IsOpened (openings.Message w)) (Message w p) p a b (statements.Message e)
 message_opened text w p a b e h =
     record { part = h.part; within = h.within; shorter = h.shorter; leads = h.leads }
 
 -- an action behind its first word is an event that begins so
-pub action_opened : (text : List ℕ) (p : Place) (a b : List Token) (l : List ℕ)
+pub action_opened : (text : List ℕ) (p : GrammarPlace) (a b : List Token) (l : List ℕ)
     → DidRead text IsAction (ActionText p) p a b l
     → DidRead text (IsOpened openings.Action) (ActionText p) p a b (statements.Action l)
 action_opened text p a b l h =

@@ -10,7 +10,7 @@ use Rattle.msc_parser.specs.declared.fault.What.{What}
 use Rattle.msc_parser.specs.declared.fault.ParseFault.{ParseFault}
 use Rattle.msc_parser.specs.declared.fault.ParseFault.TheVariants as faults
 use Rattle.msc_parser.specs.Grammar.{IsChart, Tree}
-use Rattle.msc_parser.specs.Places.{Place, Start, Done, what, walk}
+use Rattle.msc_parser.specs.Places.{GrammarPlace, Start, Done, what, walk}
 use Rattle.msc_parser.specs.Parsing.{is_refused, refused_at, fault_at, HasDraft, HasParseFault, IsGrammarFault, IsContinuable, IsEndOfGood, IsDraftOrMemory, IsFaultOrMemory, OneParsing}
 use Rattle.msc_parser.specs.Reading.{fault_of, fault_from, Stops, ReadsChart}
 use Rattle.msc_parser.proofs.OneChart.{one_chart}
@@ -37,13 +37,13 @@ no_lex len w [] f e = cc
 no_lex len w (l ∷ ls) f e = no_lex_symbol l.place w l.symbol f e
 
 -- a walk that ends elsewhere than at the end of a chart has the fault of its place
-fault_inside : (len : ℕ) (q : Place) (rest : List Lexeme) → ((q ≡ Done) → rest ≡ [] → ⊥)
+fault_inside : (len : ℕ) (q : GrammarPlace) (rest : List Lexeme) → ((q ≡ Done) → rest ≡ [] → ⊥)
     → fault_of len (q, rest) ≡ Some (fault_at len (what q) rest)
 fault_inside len Done [] h = absurd (h refl refl)
 fault_inside len q rest h = refl
 
 -- a walk with a fault doesn't reach the end of a chart
-not_done : (len : ℕ) (end : Place × List Lexeme) (e : ParseFault) → Some e ≡ fault_of len end
+not_done : (len : ℕ) (end : GrammarPlace × List Lexeme) (e : ParseFault) → Some e ≡ fault_of len end
     → end.0 ≡ Done → end.1 ≡ [] → ⊥
 not_done len end e h p q =
     let f : end ≡ (Done, []) = cc in let g : Some e ≡ fault_of len (Done, []) = h ∙ ap (fault_of len) f in some_none e g

@@ -6,12 +6,12 @@ use Rattle.msc_lexer.specs.declared.word.Word.TheVariants as words
 use Rattle.msc_lexer.specs.Lexemes.{Symbol, Reserved, Named, Quoted, Semicolon, Comma, Colon, LeftParen, RightParen, Lexeme}
 use Rattle.msc_parser.specs.declared.tree.Way.TheVariants as ways
 use Rattle.msc_parser.specs.Grammar.{Tree, Empty, Given, IsChart}
-use Rattle.msc_parser.specs.Places.{InInst, InInstance, Place, Start, ChartName, Header, Sections, Items, Events, DeclName, DeclKind, KindFirst, KindSecond, DeclEnd, Message, AfterMessage, Number, AfterNumber, Parameters, Parameter, AfterParameter, AfterParameters, Address, ActionText, StatementEnd, CommentText, CommentEnd, Done, next, walk}
+use Rattle.msc_parser.specs.Places.{InInst, InInstance, GrammarPlace, Start, ChartName, Header, Sections, Items, Events, DeclName, DeclKind, KindFirst, KindSecond, DeclEnd, Message, AfterMessage, Number, AfterNumber, Parameters, Parameter, AfterParameter, AfterParameters, Address, ActionText, StatementEnd, CommentText, CommentEnd, Done, next, walk}
 use Rattle.msc_parser.proofs.Following.{at_place, HeaderRest, ItemsRest, Rest}
 use Rattle.msc_parser.proofs.Backwards.{plain_end, commented_end, no_decls, comma_decl, no_kind, no_second, no_number, no_parameters, word_back, event_back, action_back, item_back, coregion_event, coregion_back, last_back, section_back, no_inst, inst_back, chart_back}
 
 -- one token back, a line for each that may stand at a place
-back : (p : Place) (s : Symbol) (at : ℕ) (ls : List Lexeme)
+back : (p : GrammarPlace) (s : Symbol) (at : ℕ) (ls : List Lexeme)
     → IfSome (next p s) (λ q. Rest q ls → Rest p (at_place s at ∷ ls))
 unfolding Rest
 back Start (Reserved words.Msc) at ls = λ r. chart_back at ls r
@@ -101,18 +101,18 @@ back (CommentEnd p) Semicolon at ls =
 back p s at ls = tt
 
 -- one token back, from the place behind it
-onward : (p : Place) (l : Lexeme) (ls : List Lexeme) (o : Option Place) → next p l.symbol ≡ o
-    → ((q : Place) → walk q ls ≡ (Done, []) → Rest q ls)
+onward : (p : GrammarPlace) (l : Lexeme) (ls : List Lexeme) (o : Option GrammarPlace) → next p l.symbol ≡ o
+    → ((q : GrammarPlace) → walk q ls ≡ (Done, []) → Rest q ls)
     → option_map_or (λ q. walk q ls) o (p, l ∷ ls) ≡ (Done, []) → Rest p (l ∷ ls)
 onward p l ls None step others h =
-    let t : l ∷ ls ≡ [] = ap (λ (x : Place × List Lexeme). x.1) h in absurd cc
+    let t : l ∷ ls ≡ [] = ap (λ (x : GrammarPlace × List Lexeme). x.1) h in absurd cc
 onward p l ls (Some q) step others h =
-    let r = subst (λ (o : Option Place). IfSome o (λ k. Rest k ls → Rest p (l ∷ ls))) step (back p l.symbol l.place ls) in r (others q h)
+    let r = subst (λ (o : Option GrammarPlace). IfSome o (λ k. Rest k ls → Rest p (l ∷ ls))) step (back p l.symbol l.place ls) in r (others q h)
 
 -- what leads to the end may follow its place
-sound : (ls : List Lexeme) (p : Place) → walk p ls ≡ (Done, []) → Rest p ls
+sound : (ls : List Lexeme) (p : GrammarPlace) → walk p ls ≡ (Done, []) → Rest p ls
 unfolding Rest
-sound [] p e = subst (λ (q : Place). Rest q []) (sym (ap (λ (x : Place × List Lexeme). x.0) e)) refl
+sound [] p e = subst (λ (q : GrammarPlace). Rest q []) (sym (ap (λ (x : GrammarPlace × List Lexeme). x.0) e)) refl
 sound (l ∷ ls) p e = onward p l ls (next p l.symbol) refl (λ q h. sound ls q h) e
 
 -- what leads from the start to the end is a chart

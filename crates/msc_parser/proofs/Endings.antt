@@ -12,7 +12,7 @@ use Rattle.msc_lexer.specs.Lexemes.{Reserved, Quoted, Semicolon, lexemes, symbol
 use Rattle.msc_parser.specs.declared.fault.What.TheVariants as whats
 use Rattle.msc_parser.specs.declared.fault.ParseFault.{ParseFault}
 use Rattle.msc_parser.specs.Grammar.{Plain, Commented}
-use Rattle.msc_parser.specs.Places.{Place, StatementEnd, CommentText, CommentEnd, next}
+use Rattle.msc_parser.specs.Places.{GrammarPlace, StatementEnd, CommentText, CommentEnd, next}
 use Rattle.msc_parser.specs.Reading.{first_kind, Stops, DidTake, Refuses, TakesToken, Ends}
 use Rattle.msc_parser.proofs.Steps.{others, took, leads_on, IsStuck, OnlyTakes, stops_here, refuses_kind, Stops-back}
 
@@ -22,7 +22,7 @@ pub within_others : (text : List ℕ) (tokens : List Token) → AreWithin text t
 within_others text tokens h = rw take_rest (All-drop (IsWithin text) 1 tokens h)
 
 -- tokens of two kinds alone may stand at the place, and none of them does
-pub stuck_but_two : (text : List ℕ) (p : Place) (a b : Kind) (tokens : List Token)
+pub stuck_but_two : (text : List ℕ) (p : GrammarPlace) (a b : Kind) (tokens : List Token)
     → ((k : Kind) (bytes : List ℕ) → k ≢ a → k ≢ b → next p (symbol_of k bytes) ≡ None)
     → first_kind tokens ≢ Some a → first_kind tokens ≢ Some b → IsStuck text p tokens
 stuck_but_two text p a b [] only no_a no_b = tt
@@ -34,19 +34,19 @@ stuck_but_two text p a b (t ∷ ts) only no_a no_b =
     some_kind k = Some k
 
 -- at the end of a statement only `comment` and `;` may stand
-only-StatementEnd : (p : Place) (k : Kind) (bytes : List ℕ) → k ≢ kinds.Word words.Comment
+only-StatementEnd : (p : GrammarPlace) (k : Kind) (bytes : List ℕ) → k ≢ kinds.Word words.Comment
     → k ≢ kinds.Semicolon → next (StatementEnd p) (symbol_of k bytes) ≡ None
 only-StatementEnd p (kinds.Word words.Comment) bytes a b = absurd (a refl)
 only-StatementEnd p kinds.Semicolon bytes a b = absurd (b refl)
 only-StatementEnd p k bytes a b = refl
 
 -- behind `comment` only a text may stand
-only-CommentText : (p : Place) → OnlyTakes (CommentText p) kinds.Text
+only-CommentText : (p : GrammarPlace) → OnlyTakes (CommentText p) kinds.Text
 only-CommentText p kinds.Text bytes a = absurd (a refl)
 only-CommentText p k bytes a = refl
 
 -- behind the text of a comment only `;` may stand
-only-CommentEnd : (p : Place) → OnlyTakes (CommentEnd p) kinds.Semicolon
+only-CommentEnd : (p : GrammarPlace) → OnlyTakes (CommentEnd p) kinds.Semicolon
 only-CommentEnd p kinds.Semicolon bytes a = absurd (a refl)
 only-CommentEnd p k bytes a = refl
 

@@ -7,7 +7,7 @@ use Rattle.msc_lexer.specs.Lexemes.{Symbol, Reserved, Named, Quoted, Semicolon, 
 use Rattle.msc_parser.specs.declared.tree.Way.{Way}
 use Rattle.msc_parser.specs.declared.tree.Way.TheVariants as ways
 use Rattle.msc_parser.specs.Grammar.{address_word}
-use Rattle.msc_parser.specs.Places.{DeclStatement, InInst, InInstance, Place, Start, ChartName, Header, Sections, Items, Events, DeclName, DeclKind, KindFirst, KindSecond, DeclEnd, Message, AfterMessage, Number, AfterNumber, Parameters, Parameter, AfterParameter, AfterParameters, Address, ActionText, StatementEnd, CommentText, CommentEnd, Done, next, walk}
+use Rattle.msc_parser.specs.Places.{DeclStatement, InInst, InInstance, GrammarPlace, Start, ChartName, Header, Sections, Items, Events, DeclName, DeclKind, KindFirst, KindSecond, DeclEnd, Message, AfterMessage, Number, AfterNumber, Parameters, Parameter, AfterParameter, AfterParameters, Address, ActionText, StatementEnd, CommentText, CommentEnd, Done, next, walk}
 use Rattle.msc_parser.specs.Parsing.{IsContinuable, IsEndOfGood}
 use Rattle.msc_parser.proofs.Accepting.{chart_walks}
 use Rattle.msc_parser.proofs.Continuing.{walks_chart}
@@ -15,15 +15,15 @@ use Rattle.msc_parser.proofs.Continuing.{walks_chart}
 -- ---- where a walk ends
 
 -- a walk is over at the end of the tokens, or before one that may not stand there
-pub record WalksTo (p : Place) (ls : List Lexeme) (q : Place) (rest : List Lexeme) : Type 0 where
+pub record WalksTo (p : GrammarPlace) (ls : List Lexeme) (q : GrammarPlace) (rest : List Lexeme) : Type 0 where
   pub front : List Lexeme
   pub whole : ls ≡ front ++ rest
   pub leads : (more : List Lexeme) → walk p (front ++ more) ≡ walk q more
   pub stops : (l : Lexeme) (more : List Lexeme) → rest ≡ l ∷ more → next q l.symbol ≡ None
 
 -- one step of a walk
-walk_step : (p : Place) (l : Lexeme) (ls : List Lexeme) (o : Option Place) → next p l.symbol ≡ o
-    → ((q : Place) → WalksTo q ls (walk q ls).0 (walk q ls).1)
+walk_step : (p : GrammarPlace) (l : Lexeme) (ls : List Lexeme) (o : Option GrammarPlace) → next p l.symbol ≡ o
+    → ((q : GrammarPlace) → WalksTo q ls (walk q ls).0 (walk q ls).1)
     → WalksTo p (l ∷ ls) (option_map_or (λ q. walk q ls) o (p, l ∷ ls)).0 (option_map_or (λ q. walk q ls) o (p, l ∷ ls)).1
 walk_step p l ls None step others =
     record { front = []; whole = refl; leads = λ more. refl; stops = λ k more e. let s : l ≡ k = cc in subst (λ (x : Lexeme). next p x.symbol ≡ None) s step }
@@ -32,20 +32,20 @@ walk_step p l ls (Some q) step others =
     record {
       front = l ∷ w.front;
       whole = ap (λ (x : List Lexeme). l ∷ x) w.whole;
-      leads = λ more. ap (λ (o : Option Place). option_map_or (λ k. walk k (w.front ++ more)) o (p, l ∷ (w.front ++ more))) step ∙ w.leads more;
+      leads = λ more. ap (λ (o : Option GrammarPlace). option_map_or (λ k. walk k (w.front ++ more)) o (p, l ∷ (w.front ++ more))) step ∙ w.leads more;
       stops = w.stops;
     }
 
 -- where each walk ends
-pub walks_to : (ls : List Lexeme) (p : Place) → WalksTo p ls (walk p ls).0 (walk p ls).1
+pub walks_to : (ls : List Lexeme) (p : GrammarPlace) → WalksTo p ls (walk p ls).0 (walk p ls).1
 walks_to [] p =
     record { front = []; whole = refl; leads = λ more. refl; stops = λ l more e. absurd cc }
 walks_to (l ∷ ls) p = walk_step p l ls (next p l.symbol) refl (λ q. walks_to ls q)
 
 -- a token that may not stand there ends the walk
-pub stuck : (p : Place) (l : Lexeme) (ls : List Lexeme) → next p l.symbol ≡ None
+pub stuck : (p : GrammarPlace) (l : Lexeme) (ls : List Lexeme) → next p l.symbol ≡ None
     → walk p (l ∷ ls) ≡ (p, l ∷ ls)
-stuck p l ls none = ap (λ (o : Option Place). option_map_or (λ n. walk n ls) o (p, l ∷ ls)) none
+stuck p l ls none = ap (λ (o : Option GrammarPlace). option_map_or (λ n. walk n ls) o (p, l ∷ ls)) none
 
 -- ---- each place has a way to the end
 
@@ -84,7 +84,7 @@ unfolding lexeme
 from_word w more = lexeme (Reserved (address_word w)) ∷ name ∷ from_end more
 
 -- a way to the end from each place
-pub completion : Place → List Lexeme
+pub completion : GrammarPlace → List Lexeme
 unfolding lexeme
 completion Start = lexeme (Reserved words.Msc) ∷ name ∷ from_end from_sections
 completion ChartName = name ∷ from_end from_sections
@@ -113,7 +113,7 @@ completion (CommentEnd p) = from_end (completion p)
 completion Done = []
 
 -- it leads there
-pub completed : (p : Place) → walk p (completion p) ≡ (Done, [])
+pub completed : (p : GrammarPlace) → walk p (completion p) ≡ (Done, [])
 unfolding completion lexeme name from_end from_sections from_items from_decl from_word
 completed Start = refl
 completed ChartName = refl
@@ -157,23 +157,23 @@ completed Done = refl
 -- ---- the first fault
 
 -- the tokens that were walked over can go on to a chart
-can_go_on : (ls : List Lexeme) (q : Place) (rest : List Lexeme) (w : WalksTo Start ls q rest)
+can_go_on : (ls : List Lexeme) (q : GrammarPlace) (rest : List Lexeme) (w : WalksTo Start ls q rest)
     → IsContinuable w.front
 can_go_on ls q rest w =
     let c = walks_chart (w.front ++ completion q) (w.leads (completion q) ∙ completed q) in
     (completion q, c.0, c.1)
 
 -- and they cannot go on with the next token
-cannot_go_on : (ls : List Lexeme) (q : Place) (rest : List Lexeme) (w : WalksTo Start ls q rest)
+cannot_go_on : (ls : List Lexeme) (q : GrammarPlace) (rest : List Lexeme) (w : WalksTo Start ls q rest)
     → ((q ≡ Done) → rest ≡ [] → ⊥) → IsEndOfGood w.front rest
 cannot_go_on ls q [] w failed =
     λ t c. let e : walk Start w.front ≡ (Done, []) = chart_walks w.front t c in
     let f : walk Start w.front ≡ (q, []) = ap (walk Start) (sym (append-nil w.front)) ∙ w.leads [] in
-    failed (ap (λ (x : Place × List Lexeme). x.0) (sym f ∙ e)) refl
+    failed (ap (λ (x : GrammarPlace × List Lexeme). x.0) (sym f ∙ e)) refl
 cannot_go_on ls q (l ∷ rest) w failed = λ c.
     let e : walk Start ((w.front ++ l ∷ []) ++ c.0) ≡ (Done, []) = chart_walks _ c.1 c.2 in
     let f : walk Start ((w.front ++ l ∷ []) ++ c.0) ≡ (q, l ∷ c.0) = ap (walk Start) (append_assoc w.front (l ∷ []) c.0) ∙ w.leads (l ∷ c.0) ∙ stuck q l c.0 (w.stops l rest refl) in
-    let g : l ∷ c.0 ≡ [] = ap (λ (x : Place × List Lexeme). x.1) (sym f ∙ e) in absurd cc
+    let g : l ∷ c.0 ≡ [] = ap (λ (x : GrammarPlace × List Lexeme). x.1) (sym f ∙ e) in absurd cc
 
 -- the tokens have their first fault where the walk ends
 pub record FaultAt (ls : List Lexeme) : Type 0 where
@@ -196,6 +196,6 @@ fault_at_walk ls failed =
       whole = w.whole;
       good = can_go_on ls (walk Start ls).0 (walk Start ls).1 w;
       last = cannot_go_on ls (walk Start ls).0 (walk Start ls).1 w failed;
-      place = ap (λ (x : List Lexeme). (walk Start x).0) (sym (append-nil w.front)) ∙ ap (λ (x : Place × List Lexeme). x.0) (w.leads []);
+      place = ap (λ (x : List Lexeme). (walk Start x).0) (sym (append-nil w.front)) ∙ ap (λ (x : GrammarPlace × List Lexeme). x.0) (w.leads []);
       rest_is = refl;
     }

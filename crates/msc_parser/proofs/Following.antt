@@ -9,7 +9,7 @@ use Rattle.msc_parser.specs.declared.tree.Item.{Item}
 use Rattle.msc_parser.specs.declared.tree.Section.{Section}
 use Rattle.msc_parser.specs.Forms.{IsToken, IsNamed, AreMany, IsLedBy}
 use Rattle.msc_parser.specs.Grammar.{Tree, IsEnd, IsSecond, IsKind, IsDecl, way_word, address_word, IsNumber, AreParameters, IsEvent, IsItem, IsSection, AreDecls, IsChart}
-use Rattle.msc_parser.specs.Places.{DeclStatement, InInst, InInstance, Place, Start, ChartName, Header, Sections, Items, Events, DeclName, DeclKind, KindFirst, KindSecond, DeclEnd, Message, AfterMessage, Number, AfterNumber, Parameters, Parameter, AfterParameter, AfterParameters, Address, ActionText, StatementEnd, CommentText, CommentEnd, Done}
+use Rattle.msc_parser.specs.Places.{DeclStatement, InInst, InInstance, GrammarPlace, Start, ChartName, Header, Sections, Items, Events, DeclName, DeclKind, KindFirst, KindSecond, DeclEnd, Message, AfterMessage, Number, AfterNumber, Parameters, Parameter, AfterParameter, AfterParameters, Address, ActionText, StatementEnd, CommentText, CommentEnd, Done}
 
 -- a symbol that stands at a place of the text
 abbrev pub at_place : Symbol → ℕ → Lexeme
@@ -139,7 +139,7 @@ pub record EventRest (More : List Lexeme → Type 0) (ls : List Lexeme) : Type 0
 
 -- what may follow from a place to the end of a chart; where a part began before the place, the tokens
 -- before it, which may stand anywhere, are told too
-unfoldable pub Rest : Place → List Lexeme → Type 0
+unfoldable pub Rest : GrammarPlace → List Lexeme → Type 0
 Rest Start ls = (t : Tree) × IsChart ls t
 Rest ChartName ls =
     (name : List ℕ) × (close : List Lexeme) × IsToken (Named name) ls close × EndRest HeaderRest close

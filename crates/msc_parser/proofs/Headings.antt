@@ -13,7 +13,7 @@ use Rattle.msc_parser.specs.declared.fault.What.TheVariants as whats
 use Rattle.msc_parser.specs.declared.fault.ParseFault.{ParseFault}
 use Rattle.msc_parser.specs.Forms.{IsLedBy, AreListed}
 use Rattle.msc_parser.specs.Grammar.{IsKind, IsDecl, AreDecls, IsHeader}
-use Rattle.msc_parser.specs.Places.{DeclStatement, InInst, InInstance, Place, Header, Sections, DeclName, DeclKind, KindFirst, KindSecond, DeclEnd, StatementEnd, next}
+use Rattle.msc_parser.specs.Places.{DeclStatement, InInst, InInstance, GrammarPlace, Header, Sections, DeclName, DeclKind, KindFirst, KindSecond, DeclEnd, StatementEnd, next}
 use Rattle.msc_parser.specs.Reading.{first_kind, fault_from, Stops, DidTake, TakesName, DidEnd, DidRead}
 use Rattle.msc_parser.proofs.Leading.{colon_leads, second_leads}
 use Rattle.msc_parser.proofs.Steps.{others, took, leads_on, fault_but, OnlyTakes, refuses_name, Stops-back}
@@ -160,7 +160,7 @@ inst_read text a b c ds h no_comma end = record {
 -- a fault of the end is a fault of the `inst` statement
 pub inst_end_refused : (text : List ℕ) (a b : List Token) (ds : List Decl) (e : ParseFault)
     → DidRead text (AreListed IsDecl) (DeclName InInst) (DeclEnd InInst) a b ds
-    → first_kind b ≢ Some kinds.Comma → ((p : Place) → Stops text (StatementEnd p) b e)
+    → first_kind b ≢ Some kinds.Comma → ((p : GrammarPlace) → Stops text (StatementEnd p) b e)
     → Stops text (DeclName InInst) a e
 inst_end_refused text a b ds e h no_comma stop =
     Stops-back text (DeclName InInst) (StatementEnd Header) a b e (decls_lead text a b ds h no_comma) (stop Header)

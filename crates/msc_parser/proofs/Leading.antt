@@ -7,7 +7,7 @@ use Rattle.msc_parser.specs.declared.tree.Way.TheVariants as ways
 use Rattle.msc_parser.specs.declared.opening.Opening.{Opening}
 use Rattle.msc_parser.specs.declared.opening.Opening.TheVariants as openings
 use Rattle.msc_parser.specs.Grammar.{address_word}
-use Rattle.msc_parser.specs.Places.{DeclStatement, InInst, InInstance, Place, Items, Events, DeclKind, KindFirst, KindSecond, DeclEnd, AfterMessage, Number, AfterNumber, Parameters, AfterParameters, Address, next}
+use Rattle.msc_parser.specs.Places.{DeclStatement, InInst, InInstance, GrammarPlace, Items, Events, DeclKind, KindFirst, KindSecond, DeclEnd, AfterMessage, Number, AfterNumber, Parameters, AfterParameters, Address, next}
 use Rattle.msc_parser.specs.Reading.{opening_word, behind_opening}
 
 -- `:` leads to the first name of a kind
@@ -22,23 +22,23 @@ second_leads InInst n = refl
 second_leads InInstance n = refl
 
 -- a comma leads to the message instance name
-pub comma_leads : (w : Way) (p : Place) → next (AfterMessage w p) Comma ≡ Some (Number w p)
+pub comma_leads : (w : Way) (p : GrammarPlace) → next (AfterMessage w p) Comma ≡ Some (Number w p)
 comma_leads ways.Output p = refl
 comma_leads ways.Input p = refl
 
 -- `(` leads to the parameters
-pub open_leads : (w : Way) (p : Place) → next (AfterNumber w p) LeftParen ≡ Some (Parameters w p)
+pub open_leads : (w : Way) (p : GrammarPlace) → next (AfterNumber w p) LeftParen ≡ Some (Parameters w p)
 open_leads ways.Output p = refl
 open_leads ways.Input p = refl
 
 -- the word before an address leads to the address
-pub word_leads : (w : Way) (p : Place)
+pub word_leads : (w : Way) (p : GrammarPlace)
     → next (AfterParameters w p) (Reserved (address_word w)) ≡ Some (Address p)
 word_leads ways.Output p = refl
 word_leads ways.Input p = refl
 
 -- the first word of an event leads behind it from the place
-abbrev pub LeadsToEvents : Place → Type 0
+abbrev pub LeadsToEvents : GrammarPlace → Type 0
 LeadsToEvents p =
     (o : Opening) → next p (Reserved (opening_word o)) ≡ Some (behind_opening o p)
 

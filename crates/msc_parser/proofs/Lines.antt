@@ -19,7 +19,7 @@ use Rattle.msc_parser.specs.declared.fault.What.TheVariants as whats
 use Rattle.msc_parser.specs.declared.fault.ParseFault.{ParseFault}
 use Rattle.msc_parser.specs.Forms.{IsToken, AreMany}
 use Rattle.msc_parser.specs.Grammar.{IsDecl, IsEvent, IsCoregion, IsItem, IsInstance, IsSection}
-use Rattle.msc_parser.specs.Places.{InInstance, Place, Items, Events, Sections, DeclName, DeclEnd, StatementEnd, next}
+use Rattle.msc_parser.specs.Places.{InInstance, GrammarPlace, Items, Events, Sections, DeclName, DeclEnd, StatementEnd, next}
 use Rattle.msc_parser.specs.Parsing.{fault_at}
 use Rattle.msc_parser.specs.Reading.{first_kind, fault_from, Stops, DidTake, Refuses, DidEnd, DidRead, Reads, Uses, opening_word, behind_opening, IsOpened, AreUpTo}
 use Rattle.msc_parser.proofs.Leading.{LeadsToEvents, item_leads, event_leads}
@@ -79,7 +79,7 @@ put_together openings.Action b m a (statements.Message e) t h = absurd h
 put_together openings.Action b m a (statements.Action l) t h = (m, t, h)
 
 -- an event behind its first word that was read is an event that was read
-pub event_read : (text : List ℕ) (o : Opening) (p : Place) (a b : List Token) (x : Statement)
+pub event_read : (text : List ℕ) (o : Opening) (p : GrammarPlace) (a b : List Token) (x : Statement)
     → AreWithin text a → first_kind a ≡ Some (kinds.Word (opening_word o)) → LeadsToEvents p
     → DidRead text (IsOpened o) (behind_opening o p) p (others a) b x
     → DidRead text IsEvent p p a b x
@@ -93,7 +93,7 @@ event_read text o p a b x within first leads h =
     }
 
 -- a fault of an event behind its first word is a fault of the event
-pub event_stops : (text : List ℕ) (o : Opening) (p : Place) (a : List Token) (e : ParseFault)
+pub event_stops : (text : List ℕ) (o : Opening) (p : GrammarPlace) (a : List Token) (e : ParseFault)
     → AreWithin text a → first_kind a ≡ Some (kinds.Word (opening_word o)) → LeadsToEvents p
     → Stops text (behind_opening o p) (others a) e → Stops text p a e
 event_stops text o p a e within first leads stop =
@@ -103,7 +103,7 @@ event_stops text o p a e within first leads stop =
 pub event_answer : (text : List ℕ) (o : Opening) (a : List Token)
     (r : Result (Statement × Bor (List Token)) ParseFault) → AreWithin text a
     → first_kind a ≡ Some (kinds.Word (opening_word o))
-    → ((p : Place) → Reads text (IsOpened o) (behind_opening o p) p (others a) r)
+    → ((p : GrammarPlace) → Reads text (IsOpened o) (behind_opening o p) p (others a) r)
     → Reads text IsEvent Events Events a r × Uses a r
 event_answer text o a (Ok x) within first h =
     let word = first_word text o a within first in (event_read text o Events a x.1.now x.0 within first event_leads (h Events), let s = (h Events).shorter in omega (arith, word.shorter, s))

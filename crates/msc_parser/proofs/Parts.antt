@@ -5,12 +5,12 @@ use Rattle.msc_lexer.specs.declared.token.Token.{Token}
 use Rattle.msc_lexer.specs.Lexemes.{Symbol, Named, Comma, Lexeme, lexemes}
 use Rattle.msc_parser.specs.declared.fault.ParseFault.{ParseFault}
 use Rattle.msc_parser.specs.Forms.{IsNamed, AreMany, IsLedBy, AreListed}
-use Rattle.msc_parser.specs.Places.{Place, next}
+use Rattle.msc_parser.specs.Places.{GrammarPlace, next}
 use Rattle.msc_parser.specs.Reading.{first_kind, Stops, DidTake, DidRead, AreUpTo}
 use Rattle.msc_parser.proofs.Steps.{others, took, leads_on, Stops-back}
 
 -- a name is a part
-pub named_read : (text : List ℕ) (p q : Place) (a b : List Token) (n : List ℕ)
+pub named_read : (text : List ℕ) (p q : GrammarPlace) (a b : List Token) (n : List ℕ)
     → DidTake text (Named n) a b → next p (Named n) ≡ Some q → DidRead text IsNamed p q a b n
 named_read text p q a b n h step =
     record { part = h.part; within = h.within; shorter = omega (arith, h.shorter); leads = leads_on text p q (Named n) a b h step }
@@ -39,7 +39,7 @@ AreListed-push IsPart before (y ∷ ys) mid x after h one =
 
 module _ {X : Type 0} (text : List ℕ) (IsPart : List Lexeme → X → List Lexeme → Type 0) where
   -- a token and then a part
-  pub behind_read : (p r q : Place) {s : Symbol} {a b c : List Token} {x : X}
+  pub behind_read : (p r q : GrammarPlace) {s : Symbol} {a b c : List Token} {x : X}
       → DidTake text s a b → next p s ≡ Some r → DidRead text IsPart r q b c x
       → DidRead text (IsLedBy s IsPart) p q a c x
   behind_read p r q {s} {a} {b} h step rest = record {
@@ -50,7 +50,7 @@ module _ {X : Type 0} (text : List ℕ) (IsPart : List Lexeme → X → List Lex
   }
 
   -- one more part at the same place
-  pub many_more : (p : Place) {a b c : List Token} {xs : List X} {x : X}
+  pub many_more : (p : GrammarPlace) {a b c : List Token} {xs : List X} {x : X}
       → DidRead text (AreMany IsPart) p p a b xs → DidRead text IsPart p p b c x
       → DidRead text (AreMany IsPart) p p a c (xs ++ x ∷ [])
   many_more p {a} {b} {c} {xs} {x} h one = record {
@@ -61,7 +61,7 @@ module _ {X : Type 0} (text : List ℕ) (IsPart : List Lexeme → X → List Lex
   }
 
   -- many parts, and the token behind them
-  pub many_up_to : (p q : Place) {s : Symbol} {a b c : List Token} {xs : List X}
+  pub many_up_to : (p q : GrammarPlace) {s : Symbol} {a b c : List Token} {xs : List X}
       → DidRead text (AreMany IsPart) p p a b xs → DidTake text s b c → next p s ≡ Some q
       → DidRead text (AreUpTo s IsPart) p q a c xs
   many_up_to p q {s} {a} {b} {c} h last step = record {
@@ -74,14 +74,14 @@ module _ {X : Type 0} (text : List ℕ) (IsPart : List Lexeme → X → List Lex
   -- ---- parts with commas between them
 
   -- the first of them
-  pub listed_first : (p q : Place) {a b : List Token} {x : X} {xs : List X}
+  pub listed_first : (p q : GrammarPlace) {a b : List Token} {x : X} {xs : List X}
       → DidRead text IsPart p q a b x → xs ≡ [] ++ x ∷ []
       → DidRead text (AreListed IsPart) p q a b xs
   listed_first p q {b = b} h pushed =
       rw pushed (record { part = (lexemes text b, h.part, refl); within = h.within; shorter = h.shorter; leads = h.leads })
 
   -- one more, behind a comma
-  pub listed_more : (p q r : Place) {a b c : List Token} {xs : List X} {x : X}
+  pub listed_more : (p q r : GrammarPlace) {a b c : List Token} {xs : List X} {x : X}
       → DidRead text (AreListed IsPart) p q a b xs → first_kind b ≡ Some kinds.Comma
       → next q Comma ≡ Some r → DidRead text IsPart r q (others b) c x
       → DidRead text (AreListed IsPart) p q a c (xs ++ x ∷ [])
@@ -95,7 +95,7 @@ module _ {X : Type 0} (text : List ℕ) (IsPart : List Lexeme → X → List Lex
       }
 
   -- a fault behind a comma is a fault of the whole
-  pub listed_stops : (p q r : Place) {a b : List Token} {xs : List X} (e : ParseFault)
+  pub listed_stops : (p q r : GrammarPlace) {a b : List Token} {xs : List X} (e : ParseFault)
       → DidRead text (AreListed IsPart) p q a b xs → first_kind b ≡ Some kinds.Comma
       → next q Comma ≡ Some r → Stops text r (others b) e → Stops text p a e
   listed_stops p q r {a} {b} e h comma step stop =

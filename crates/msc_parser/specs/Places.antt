@@ -16,40 +16,40 @@ pub data DeclStatement : Type 0 where
 
 -- A place between two tokens. Where a statement ends at several places, the place behind its `;` is
 -- told with it.
-pub data Place : Type 0 where
-  Start : Place  -- the start of the text
-  ChartName : Place  -- after `msc`
-  Header : Place  -- after the chart's head or an `inst` statement
-  Sections : Place  -- after a section
-  Items : Place  -- at the beginning of a statement in a section
-  Events : Place  -- at the beginning of a statement in a coregion
-  DeclName : DeclStatement → Place  -- after `inst` or a comma there, or after `instance`
-  DeclKind : DeclStatement → Place  -- after the name of a decl
-  KindFirst : DeclStatement → Place  -- after the `:` of a kind
-  KindSecond : DeclStatement → Place  -- after the first name of a kind
-  DeclEnd : DeclStatement → Place  -- after the second name of a kind
-  Message : Way → Place → Place  -- after `out` or `in`
-  AfterMessage : Way → Place → Place  -- after the message name
-  Number : Way → Place → Place  -- after the comma behind the message name
-  AfterNumber : Way → Place → Place  -- after the message instance name
-  Parameters : Way → Place → Place  -- after `(`
-  Parameter : Way → Place → Place  -- after a comma between parameters
-  AfterParameter : Way → Place → Place  -- after a parameter
-  AfterParameters : Way → Place → Place  -- after `)`
-  Address : Place → Place  -- after `to` or `from`
-  ActionText : Place → Place  -- after `action`
-  StatementEnd : Place → Place  -- at the end of a statement
-  CommentText : Place → Place  -- after `comment`
-  CommentEnd : Place → Place  -- after the text of a comment
-  Done : Place  -- after the whole chart
+pub data GrammarPlace : Type 0 where
+  Start : GrammarPlace  -- the start of the text
+  ChartName : GrammarPlace  -- after `msc`
+  Header : GrammarPlace  -- after the chart's head or an `inst` statement
+  Sections : GrammarPlace  -- after a section
+  Items : GrammarPlace  -- at the beginning of a statement in a section
+  Events : GrammarPlace  -- at the beginning of a statement in a coregion
+  DeclName : DeclStatement → GrammarPlace  -- after `inst` or a comma there, or after `instance`
+  DeclKind : DeclStatement → GrammarPlace  -- after the name of a decl
+  KindFirst : DeclStatement → GrammarPlace  -- after the `:` of a kind
+  KindSecond : DeclStatement → GrammarPlace  -- after the first name of a kind
+  DeclEnd : DeclStatement → GrammarPlace  -- after the second name of a kind
+  Message : Way → GrammarPlace → GrammarPlace  -- after `out` or `in`
+  AfterMessage : Way → GrammarPlace → GrammarPlace  -- after the message name
+  Number : Way → GrammarPlace → GrammarPlace  -- after the comma behind the message name
+  AfterNumber : Way → GrammarPlace → GrammarPlace  -- after the message instance name
+  Parameters : Way → GrammarPlace → GrammarPlace  -- after `(`
+  Parameter : Way → GrammarPlace → GrammarPlace  -- after a comma between parameters
+  AfterParameter : Way → GrammarPlace → GrammarPlace  -- after a parameter
+  AfterParameters : Way → GrammarPlace → GrammarPlace  -- after `)`
+  Address : GrammarPlace → GrammarPlace  -- after `to` or `from`
+  ActionText : GrammarPlace → GrammarPlace  -- after `action`
+  StatementEnd : GrammarPlace → GrammarPlace  -- at the end of a statement
+  CommentText : GrammarPlace → GrammarPlace  -- after `comment`
+  CommentEnd : GrammarPlace → GrammarPlace  -- after the text of a comment
+  Done : GrammarPlace  -- after the whole chart
 
 -- the place behind the `;` of a statement with decls
-abbrev pub behind : DeclStatement → Place
+abbrev pub behind : DeclStatement → GrammarPlace
 behind InInst = Header
 behind InInstance = Items
 
 -- the place behind a token that may stand at a place
-abbrev pub next : Place → Symbol → Option Place
+abbrev pub next : GrammarPlace → Symbol → Option GrammarPlace
 next Start (Reserved words.Msc) = Some ChartName
 next ChartName (Named n) = Some (StatementEnd Header)
 next Header (Reserved words.Inst) = Some (DeclName InInst)
@@ -109,7 +109,7 @@ address_what ways.Output = whats.To
 address_what ways.Input = whats.From
 
 -- what an error at a place says was expected
-abbrev pub what : Place → What
+abbrev pub what : GrammarPlace → What
 what Start = whats.Msc
 what ChartName = whats.Name
 what Header = whats.Section
@@ -137,6 +137,6 @@ what (CommentEnd p) = whats.End
 what Done = whats.Nothing
 
 -- where the tokens stop to be what may stand there: the place, and the tokens from there on
-abbrev pub walk : Place → List Lexeme → Place × List Lexeme
+abbrev pub walk : GrammarPlace → List Lexeme → GrammarPlace × List Lexeme
 walk place [] = (place, [])
 walk place (l ∷ ls) = option_map_or (λ after. walk after ls) (next place l.symbol) (place, l ∷ ls)

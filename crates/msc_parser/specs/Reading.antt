@@ -20,7 +20,7 @@ use Rattle.msc_parser.specs.declared.fault.ParseFault.{ParseFault}
 use Rattle.msc_parser.specs.declared.fault.ParseFault.TheVariants.{Memory}
 use Rattle.msc_parser.specs.Forms.{IsToken, AreMany}
 use Rattle.msc_parser.specs.Grammar.{Tree, IsEnd, way_word, address_word, IsSignal, IsAction, IsChart}
-use Rattle.msc_parser.specs.Places.{Place, Start, Message, ActionText, StatementEnd, Done, what, walk}
+use Rattle.msc_parser.specs.Places.{GrammarPlace, Start, Message, ActionText, StatementEnd, Done, what, walk}
 use Rattle.msc_parser.specs.Parsing.{fault_at}
 
 -- the kind of the first token
@@ -29,16 +29,16 @@ first_kind [] = None
 first_kind (t ∷ ts) = Some t.kind
 
 -- the fault of a walk that ended so, in a text of so many bytes: none at the end of a chart
-abbrev pub fault_of : ℕ → Place × List Lexeme → Option ParseFault
+abbrev pub fault_of : ℕ → GrammarPlace × List Lexeme → Option ParseFault
 fault_of len (Done, []) = None
 fault_of len (place, rest) = Some (fault_at len (what place) rest)
 
 -- the first fault of the tokens from a place on
-unfoldable pub fault_from : List ℕ → Place → List Token → Option ParseFault
+unfoldable pub fault_from : List ℕ → GrammarPlace → List Token → Option ParseFault
 fault_from text place tokens = fault_of (length text) (walk place (lexemes text tokens))
 
 -- want of memory, or the first fault from a place on
-abbrev pub Stops : List ℕ → Place → List Token → ParseFault → Type 0
+abbrev pub Stops : List ℕ → GrammarPlace → List Token → ParseFault → Type 0
 Stops text place before Memory = Unit {0}
 Stops text place before fault = Some fault ≡ fault_from text place before
 
@@ -78,23 +78,23 @@ pub record DidEnd (text : List ℕ) (before after : List Token) : Type 0 where
   pub part : IsEnd (lexemes text before) (lexemes text after)
   pub within : AreWithin text after
   pub shorter : length after < length before
-  pub leads : (p : Place) → fault_from text (StatementEnd p) before ≡ fault_from text p after
+  pub leads : (p : GrammarPlace) → fault_from text (StatementEnd p) before ≡ fault_from text p after
 
 -- what reading the end of a statement answers
 abbrev pub Ends : List ℕ → List Token → Result (Bor (List Token)) ParseFault → Type 0
 Ends text before (Ok after) = DidEnd text before after.now
-Ends text before (Err e) = (p : Place) → Stops text (StatementEnd p) before e
+Ends text before (Err e) = (p : GrammarPlace) → Stops text (StatementEnd p) before e
 
 -- The part x was read at the place p, and q is the place behind it: what follows has the fault there
 -- that the whole has at p.
-pub record DidRead {X : Type 0} (text : List ℕ) (IsPart : List Lexeme → X → List Lexeme → Type 0) (p q : Place) (before after : List Token) (x : X) : Type 0 where
+pub record DidRead {X : Type 0} (text : List ℕ) (IsPart : List Lexeme → X → List Lexeme → Type 0) (p q : GrammarPlace) (before after : List Token) (x : X) : Type 0 where
   pub part : IsPart (lexemes text before) x (lexemes text after)
   pub within : AreWithin text after
   pub shorter : length after ≤ length before
   pub leads : fault_from text p before ≡ fault_from text q after
 
 -- what reading a part between two places answers
-abbrev pub Reads : {X : Type 0} → List ℕ → (List Lexeme → X → List Lexeme → Type 0) → Place → Place
+abbrev pub Reads : {X : Type 0} → List ℕ → (List Lexeme → X → List Lexeme → Type 0) → GrammarPlace → GrammarPlace
     → List Token → Result (X × Bor (List Token)) ParseFault → Type 0
 Reads text IsPart p q before (Ok x) = DidRead text IsPart p q before x.1.now x.0
 Reads text IsPart p q before (Err e) = Stops text p before e
@@ -127,7 +127,7 @@ opening_word (openings.Message way) = way_word way
 opening_word openings.Action = words.Action
 
 -- the place behind that word, where the event ends at a place
-abbrev pub behind_opening : Opening → Place → Place
+abbrev pub behind_opening : Opening → GrammarPlace → GrammarPlace
 behind_opening (openings.Message way) p = Message way p
 behind_opening openings.Action p = ActionText p
 

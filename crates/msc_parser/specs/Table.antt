@@ -3,11 +3,11 @@
 use Rattle.std.specs.Prelude.{◌≡◌, ◌≢◌, ◌↔◌, List, [], ◌∷◌, ◌++◌, None}
 use Rattle.msc_lexer.specs.Lexemes.{Symbol, Lexeme}
 use Rattle.msc_parser.specs.Grammar.{Tree, IsChart}
-use Rattle.msc_parser.specs.Places.{Place, Start, Done, next, walk}
+use Rattle.msc_parser.specs.Places.{GrammarPlace, Start, Done, next, walk}
 use Rattle.msc_parser.specs.Parsing.{IsContinuable}
 
 -- the place behind tokens, by the table
-abbrev pub place_behind : List Lexeme → Place
+abbrev pub place_behind : List Lexeme → GrammarPlace
 place_behind front = (walk Start front).0
 
 -- the table allows the symbol behind the tokens

@@ -5,7 +5,7 @@
 ghost use Rattle.std.specs.Prelude.{◌≡◌, ◌≢◌, Some, IfSome, IfNone};
 ghost use Rattle.msc_lexer.specs.Lexemes.{AreWithin};
 ghost use Rattle.msc_parser.specs.Grammar.{IsAction};
-ghost use Rattle.msc_parser.specs.Places.{Place, ActionText};
+ghost use Rattle.msc_parser.specs.Places.{GrammarPlace, ActionText};
 ghost use Rattle.msc_parser.specs.Reading.{first_kind, Reads, opening_word, behind_opening};
 ghost use Rattle.msc_parser.specs.Reading.{IsOpened};
 
@@ -50,7 +50,7 @@ fn action<'a>(
     tokens: &'a [Token],
 ) -> Result<(Label, &'a [Token]), ParseFault>
     requires { AreWithin text.now tokens.now }
-    ensures { (p : Place) → Reads text.now IsAction (ActionText p) p tokens.now result }
+    ensures { (p : GrammarPlace) → Reads text.now IsAction (ActionText p) p tokens.now result }
 {
     let (label, rest) = take_text(alloc, text, tokens)?;
     let rest = take_end(text, rest)?;
@@ -65,7 +65,7 @@ pub fn opened<'a>(
     tokens: &'a [Token],
 ) -> Result<(Statement, &'a [Token]), ParseFault>
     requires { AreWithin text.now tokens.now }
-    ensures { (p : Place) →
+    ensures { (p : GrammarPlace) →
         Reads text.now (IsOpened opening) (behind_opening opening p) p tokens.now result }
 {
     match opening {

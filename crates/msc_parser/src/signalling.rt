@@ -7,7 +7,8 @@ ghost use Rattle.msc_lexer.specs.Lexemes.{AreWithin};
 ghost use Rattle.msc_parser.specs.declared.tree.Way.{Way};
 ghost use Rattle.msc_parser.specs.Forms.{IsNamed, AreListed};
 ghost use Rattle.msc_parser.specs.Grammar.{address_word, IsNumber, AreParameters};
-ghost use Rattle.msc_parser.specs.Places.{Place, Message, AfterMessage, AfterNumber, Parameters};
+ghost use Rattle.msc_parser.specs.Places.{AfterMessage, AfterNumber, GrammarPlace, Message};
+ghost use Rattle.msc_parser.specs.Places.{Parameters};
 ghost use Rattle.msc_parser.specs.Places.{AfterParameter, AfterParameters, address_what};
 ghost use Rattle.msc_parser.specs.Reading.{first_kind, Reads, Leaves, IsAddressOf, IsSignalOf};
 
@@ -46,7 +47,7 @@ fn number<'a>(
     tokens: &'a [Token],
 ) -> Result<(Option<Name>, &'a [Token]), ParseFault>
     requires { AreWithin text.now tokens.now }
-    ensures { (w : Way) (p : Place) →
+    ensures { (w : Way) (p : GrammarPlace) →
         Reads text.now IsNumber (AfterMessage w p) (AfterNumber w p) tokens.now result }
 {
     if !stands(Kind::Comma, tokens) {
@@ -64,7 +65,7 @@ fn names<'a>(
 ) -> Result<(Listed<Name>, &'a [Token]), ParseFault>
     requires within { AreWithin text.now tokens.now }
     requires some { first_kind tokens.now ≢ Some Kind.RightParen }
-    ensures reads { (w : Way) (p : Place) →
+    ensures reads { (w : Way) (p : GrammarPlace) →
         Reads text.now (AreListed IsNamed) (Parameters w p) (AfterParameter w p) tokens.now result }
     ensures stopped { Leaves Kind.Comma result }
 {
@@ -86,7 +87,7 @@ fn parameters<'a>(
     tokens: &'a [Token],
 ) -> Result<(Listed<Name>, &'a [Token]), ParseFault>
     requires { AreWithin text.now tokens.now }
-    ensures { (w : Way) (p : Place) →
+    ensures { (w : Way) (p : GrammarPlace) →
         Reads text.now AreParameters (AfterNumber w p) (AfterParameters w p) tokens.now result }
 {
     if !stands(Kind::LeftParen, tokens) {
@@ -109,7 +110,7 @@ fn address<'a>(
     tokens: &'a [Token],
 ) -> Result<(Name, &'a [Token]), ParseFault>
     requires { AreWithin text.now tokens.now }
-    ensures { (p : Place) →
+    ensures { (p : GrammarPlace) →
         Reads text.now (IsAddressOf way) (AfterParameters way p) p tokens.now result }
 {
     let rest = take(
@@ -131,7 +132,8 @@ pub fn signal<'a>(
     tokens: &'a [Token],
 ) -> Result<(Signal, &'a [Token]), ParseFault>
     requires { AreWithin text.now tokens.now }
-    ensures { (p : Place) → Reads text.now (IsSignalOf way) (Message way p) p tokens.now result }
+    ensures { (p : GrammarPlace) →
+        Reads text.now (IsSignalOf way) (Message way p) p tokens.now result }
 {
     let (name, rest) = take_name(alloc, What::Name, text, tokens)?;
     let (number, rest) = number(alloc, text, rest)?;

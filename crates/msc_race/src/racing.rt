@@ -10,7 +10,7 @@ ghost use Rattle.msc_chart.specs.declared.event.ChartEvent.{ChartEvent};
 ghost use Rattle.msc_chart.specs.Lists.{pairs_to};
 ghost use Rattle.msc_chart.specs.Charts.{IsLineEnd, IsSegmentEnd};
 ghost use Rattle.msc_chart.specs.Orders.{wired, IsEnforcedOrder};
-ghost use Rattle.bit_rows.specs.Rows.{bit_of, HasNumbersOf32Bits};
+ghost use Rattle.bit_rows.specs.Rows.{HasNumbersOf32Bits};
 ghost use Rattle.msc_order.specs.Tables.{orders};
 ghost use Rattle.msc_race.specs.Gaps.{is_gap, is_open};
 ghost use Rattle.msc_race.specs.Races.{all_races, is_raced, IsVerdict, TellsRuns};
@@ -19,28 +19,11 @@ ghost use Rattle.msc_race.specs.Words.{is_in_word};
 
 use crate::laws::races_are_what_runs_reverse;
 use crate::verdict::Verdict;
+use bit_rows::row::zeros_in;
 use listed::Listed;
 use msc_chart::{Chart, Event, Queues};
 use msc_order::Order;
 use std::alloc::{AllocError, Global};
-
-/// The bits of word `k` of a row that are 0 and stand for numbers from `start` up to `end`, which
-/// the word has some of.
-fn gaps_of(word: u64, k: u32, start: u32, end: u32) -> u64
-    requires few { HasNumbersOf32Bits k }
-    requires start { start < 64 * k + 64 }
-    requires end { 64 * k < end }
-    ensures { (f : ℕ) → f / 64 ≡ k
-        → bit_of result (f % 64) ≡ (not (bit_of word (f % 64)) && nat_le start f && nat_lt f end) }
-{
-    let zeros = !word;
-    if zeros == 0 {
-        return 0;
-    }
-    let from = start.saturating_sub(64 * k);
-    let past = (64 * k + 64).saturating_sub(end);
-    zeros & (u64::MAX << from) & (u64::MAX >> past)
-}
 
 /// Appends the pairs of `e` with the numbers that `word` has as word `k` of a row.
 fn push_word(list: &mut Vec<(Event, Event)>, word: u64, e: Event, k: u32) -> Result<(), AllocError>
@@ -74,7 +57,7 @@ fn push_gaps(
         return Ok(());
     }
     for k in start / 64..end.div_ceil(64) {
-        push_word(list, gaps_of(row[k as usize], k, start, end), e, k)?;
+        push_word(list, zeros_in(row[k as usize], k, start, end), e, k)?;
     }
     Ok(())
 }
@@ -132,7 +115,7 @@ fn count_gaps(row: &[u64], start: u32, end: u32) -> u32
     }
     let mut count = 0;
     for w in start / 64..end.div_ceil(64) {
-        count += gaps_of(row[w as usize], w, start, end).count_ones();
+        count += zeros_in(row[w as usize], w, start, end).count_ones();
     }
     count
 }

@@ -11,7 +11,7 @@ use Rattle.msc_chart.specs.Lists.{pairs_to, Occurs}
 use Rattle.msc_chart.specs.Orders.{wired}
 use Rattle.msc_race.specs.Races.{AreRaces}
 use Rattle.msc_race.proofs.Listing.Pairs.{to_parts}
-use Rattle.msc_text.specs.Pages.{AreBelow}
+use Rattle.msc_text.specs.Calls.{AreBelow}
 
 -- what is drawn before something, and what it is drawn before, are events
 drawn_events : (events : List ChartEvent) (e f : ℕ) → IsTrue (before events e f) → (e < length events) × (f < length events)

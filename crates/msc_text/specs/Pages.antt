@@ -1,8 +1,6 @@
 -- How an answer goes out in pages. A page is what has not gone out yet.
-use Rattle.std.specs.Prelude.{◌≡◌, ℕ, ◌<◌, List, ◌++◌, length, Option, Result, Ok, Err}
+use Rattle.std.specs.Prelude.{◌≡◌, ℕ, List, ◌++◌, Option, Result, Ok, Err}
 use Rattle.std.specs.Io.KnownBytes.{Appends}
-use Rattle.std.specs.List.{All}
-use Rattle.msc_chart.specs.Drawings.{Drawing}
 use Rattle.msc_report.specs.declared.fault.Fault.{Fault}
 use Rattle.msc_report.specs.declared.fault.Fault.TheVariants.{Memory, Device}
 use Rattle.msc_text.specs.Checking.{WritesBeginning}
@@ -25,11 +23,3 @@ Writes (Ok a) before after text = Appends before after text
 Writes (Err Memory) before after text = WritesBeginning before after text
 Writes (Err Device) before after text = Unit {0}
 Writes (Err fault) before after text = ⊥
-
--- both numbers of each pair are below n
-abbrev pub AreBelow : ℕ → List (ℕ × ℕ) → Type 0
-AreBelow n pairs = All (λ p. (p.0 < n) × (p.1 < n)) pairs
-
--- both numbers of each pair are those of events
-abbrev pub AreEvents : Drawing → List (ℕ × ℕ) → Type 0
-AreEvents d pairs = AreBelow (length d.events) pairs

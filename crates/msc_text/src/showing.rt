@@ -8,7 +8,8 @@ ghost use Rattle.msc_race.specs.Races.{all_races};
 ghost use Rattle.msc_report.specs.EventTexts.{AreTextsOf};
 ghost use Rattle.msc_report.specs.Verdicts.{race_text, run_line};
 ghost use Rattle.msc_text.specs.Checking.{races_text, shown_text, unshown_text, AreChosen};
-ghost use Rattle.msc_text.specs.Pages.{AreBelow, AreEvents, Puts};
+ghost use Rattle.msc_text.specs.Calls.{AreBelow, AreEvents};
+ghost use Rattle.msc_text.specs.Pages.{Puts};
 
 use crate::page::Page;
 use msc_chart::{Chart, Event, Queues};

@@ -327,7 +327,8 @@ const HELP: [(&[&str], &str); 19] = [
     (&["--help"], "  3  some instance of `run` has not finished"),
     (
         &["--help"],
-        "Examples:\n  msc check --queues pair relay.msc\n  msc explain --queues mailbox relay.msc 2 3\n",
+        "Examples:\n  msc check --queues pair relay.msc\n  msc explain --queues mailbox relay.msc \
+         2 3\n",
     ),
     (&["help"], "Usage: msc"),
     (&["read", "--help"], "Usage: msc read <FILE>\n"),

@@ -13,42 +13,6 @@ use Rattle.msc_race.specs.Words.{is_in_word}
 use Rattle.msc_race.proofs.Listing.Pairs.{pairs_between, pairs_join, pairs_none}
 use Rattle.msc_race.proofs.Listing.Words.{in_word, out_of_word}
 
--- the ones of a word from bit s on
-high_ones : (s i : ℕ) → s ≤ 64 → i < 64 → bit_of (18446744073709551615 * 2 ^ s % 2 ^ 64) i ≡ leb s i
-unfolding bit_of
-high_ones s i fits inside =
-    rw (ones_shl 64 s fits) (elim (cases_lt i s) [
-      | inl below ↦ rw (bit_at_mask_below s 64 i below, lt-leb s i below) refl
-      | inr from ↦ rw (bit_at_mask_inside s 64 i from inside, le-leb s i from) refl
-    ])
-
--- the zeros of word k within a range
-pub gap_bits : (word k start end from past f : ℕ) → word < 2 ^ 64 → start < 64 * k + 64 → 64 * k < end
-    → from ≡ start - 64 * k → past ≡ 64 * k + 64 - end → f / 64 ≡ k
-    → bit_of (bit_and (bit_and (bit_not w64 word) (18446744073709551615 * 2 ^ from % 2 ^ 64)) (18446744073709551615 / 2 ^ past)) (f % 64)
-    ≡ (not (bit_of word (f % 64)) && leb start f && ltb f end)
-gap_bits word k start end from past f fits low high is_from is_past here =
-    let i : ℕ = f % 64 in
-    let start_same : leb from i ≡ leb start f = grind (arith, nat_tests) in
-    let end_same : ltb i (64 - past) ≡ ltb f end = grind (arith, nat_tests) in
-    bit_meet (bit_and (bit_not w64 word) (18446744073709551615 * 2 ^ from % 2 ^ 64)) (18446744073709551615 / 2 ^ past) i
-    ∙ rw (
-      bit_meet (bit_not w64 word) (18446744073709551615 * 2 ^ from % 2 ^ 64) i,
-      bit_other word i fits (omega arith),
-      high_ones from i (omega (arith, is_from, low)) (omega arith),
-      low_ones past i (omega (arith, is_past, high)),
-      start_same,
-      end_same,
-    ) refl
-
--- a word without zeros has none in a range
-pub no_bits : (word start end f : ℕ) → word < 2 ^ 64 → bit_not w64 word ≡ 0
-    → bit_of 0 (f % 64) ≡ (not (bit_of word (f % 64)) && leb start f && ltb f end)
-no_bits word start end f fits none =
-    let i : ℕ = f % 64 in
-    let one : not (bit_of word i) ≡ false = sym (bit_other word i fits (omega arith)) ∙ ap (λ w. bit_of w i) none ∙ bit_zero i in
-    bit_zero i ∙ rw one refl
-
 module _ (row : List ℕ) (start end e : ℕ) where
   -- below the start is no gap
   gap_below : (f : ℕ) → f < start → is_gap row start e f ≡ false

@@ -1,4 +1,4 @@
-use Rattle.std.proofs.Common.{◌≡◌, map, ap, ◌∙◌, arith}
+use Rattle.std.proofs.Common.{◌≡◌, map, ap, ◌∙◌}
 use Rattle.msc_chart.specs.Events.{acts_of}
 use Rattle.msc_chart.specs.Views.{mark_view, marks_from}
 use Rattle.msc_chart.specs.Numbering.{AreNumbered}

@@ -1,4 +1,6 @@
-use Rattle.std.proofs.Common.{sym}
+use Rattle.std.proofs.Common.{refl}
+use Rattle.clap.specs.Words.{found_of}
+use Rattle.msc_command.proofs.Taken.{named_by}
 use Rattle.msc_command.proofs.Told.{obeyed}
 use Rattle.msc_command.proofs.program.obey_matches.Goals as goal
 
@@ -7,4 +9,5 @@ returns-in-Some-clause-told g c = obeyed _ _ c.obey.result _ _ _ _ c.obey.ensure
 
 pub returns-in-Some-clause-obeyed : goal.returns-in-Some-clause-obeyed
 returns-in-Some-clause-obeyed g c =
-    rw (sym c.in-Some.ensures.name) (_, sym c.in-Some.ensures.rows, c.obey.ensures)
+    rw (named_by _ c.in-Some.ensures.name c.in-Some.ensures.rows)
+    (found_of c.in-Some.words.now, refl, c.obey.ensures)

@@ -28,12 +28,12 @@ pub loop-passed-preserved : goal.loop-passed-preserved
 loop-passed-preserved c =
     let events = c.args.chart.now.events in
     let e = c.args.e in
-    let f : ℕ = c.next_segment-start.result.0 - 1 - c.loop-passed.passed in
+    let f : ℕ = c.next_segment_events-start.result.0 - 1 - c.loop-passed.passed in
     let test = cell (length events) c.loop-passed.words in
     let now = cell (length events) c.begin_as.new.words in
     let begun = has c.loop-passed.begun in
-    let rising = c.next_segment-start.ensures.rising in
-    let within = c.next_segment-start.ensures.within in
+    let rising = c.next_segment_events-start.ensures.rising in
+    let within = c.next_segment_events-start.ensures.within in
     let more = c.loop-passed-test.true in
     let known : f < length events = omega (arith, rising, within, more) in
     let rows = rw c.events-events.ensures.number at c.begin_as.ensures.rows in

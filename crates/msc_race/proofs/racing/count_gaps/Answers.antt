@@ -19,7 +19,7 @@ overflow_add-count c =
     let words = div_ceil_times c.args.end 64 (omega arith) in
     let test = c.loop-w-test.true in
     let count = c.div_ceil-w-end.ensures in
-    let more = gaps_counted c.args.row.now c.args.start c.args.end 0 c.loop-w.w c.gaps_of.result (omega (arith, words, test, count)) (omega arith) c.gaps_of.ensures in
+    let more = gaps_counted c.args.row.now c.args.start c.args.end 0 c.loop-w.w c.zeros_in.result (omega (arith, words, test, count)) (omega arith) c.zeros_in.ensures in
     let few = to_few gap 0 (min (64 * (c.loop-w.w + 1)) c.args.end) in
     let before = c.loop-w.invariant 0 in
     omega (arith, more, few, before)
@@ -29,7 +29,7 @@ loop-w-preserved c e =
     let words = div_ceil_times c.args.end 64 (omega arith) in
     let test = c.loop-w-test.true in
     let count = c.div_ceil-w-end.ensures in
-    let more = gaps_counted c.args.row.now c.args.start c.args.end e c.loop-w.w c.gaps_of.result (omega (arith, words, test, count)) (omega arith) c.gaps_of.ensures in
+    let more = gaps_counted c.args.row.now c.args.start c.args.end e c.loop-w.w c.zeros_in.result (omega (arith, words, test, count)) (omega arith) c.zeros_in.ensures in
     let before = c.loop-w.invariant e in
     omega (arith, more, before)
 

@@ -23,8 +23,8 @@ loop-k-preserved c =
     let words = div_ceil_times c.args.end 64 (omega arith) in
     let test = c.loop-k-test.true in
     let count = c.div_ceil-k-end.ensures in
-    let more = gaps_more c.args.row.now c.args.start c.args.end c.args.e c.loop-k.k c.gaps_of.result (omega (arith, words, test, count)) c.gaps_of.ensures in
-    c.in_ok-push_word.ensures ∙ ap (λ (l : List (ℕ × ℕ)). l ++ pairs_to (is_in_word c.gaps_of.result c.loop-k.k) c.args.e (64 * c.loop-k.k + 64)) c.loop-k.invariant
+    let more = gaps_more c.args.row.now c.args.start c.args.end c.args.e c.loop-k.k c.zeros_in.result (omega (arith, words, test, count)) c.zeros_in.ensures in
+    c.in_ok-push_word.ensures ∙ ap (λ (l : List (ℕ × ℕ)). l ++ pairs_to (is_in_word c.zeros_in.result c.loop-k.k) c.args.e (64 * c.loop-k.k + 64)) c.loop-k.invariant
     ∙ append_assoc c.args.list.now.items (pairs_to gap c.args.e (min (64 * c.loop-k.k) c.args.end)) _
     ∙ ap (λ (l : List (ℕ × ℕ)). c.args.list.now.items ++ l) (sym more)
 

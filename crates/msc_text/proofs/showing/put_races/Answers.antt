@@ -8,7 +8,8 @@ use Rattle.msc_text.proofs.EachEvent.{next_left, pages_next, puts_next, races_no
 use Rattle.msc_text.proofs.PageLemmas.{pages_in}
 use Rattle.msc_text.proofs.Races.{pairs_events}
 use Rattle.msc_text.specs.Checking.{races_text}
-use Rattle.msc_text.specs.Pages.{AreBelow, Pages, Puts}
+use Rattle.msc_text.specs.Calls.{AreBelow}
+use Rattle.msc_text.specs.Pages.{Pages, Puts}
 use Rattle.msc_text.proofs.showing.put_races.Goals as goal
 
 pub loop-e-init : goal.loop-e-init

@@ -1,7 +1,7 @@
+use Rattle.msc_order.specs.Closing.{IsWellKept}
 use Rattle.std.proofs.Common.{ap, ℕ, List, length, sym, ◌∙◌, subst}
 use Rattle.std.proofs.lemmas.List.{with_items_is}
 use Rattle.msc_chart.specs.Orders.{wired}
-use Rattle.msc_order.specs.Tables.{IsWellKept}
 use Rattle.msc_order.proofs.Seen.{length-table_of, enforced_seen}
 use Rattle.msc_order.proofs.order.Order.enforced.Goals as goal
 

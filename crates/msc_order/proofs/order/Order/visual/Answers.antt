@@ -1,6 +1,6 @@
+use Rattle.msc_order.specs.Closing.{IsWellKept}
 use Rattle.std.proofs.Common.{ap, ℕ, true, List, length, sym, ◌∙◌, subst}
 use Rattle.std.proofs.lemmas.List.{with_items_is}
-use Rattle.msc_order.specs.Tables.{IsWellKept}
 use Rattle.msc_order.proofs.Leading.{led_below}
 use Rattle.msc_order.proofs.Seen.{length-table_of, visual_seen}
 use Rattle.msc_order.proofs.order.Order.visual.Goals as goal

@@ -2,8 +2,8 @@ use Rattle.std.proofs.Common.{arith}
 use Rattle.msc_chart.specs.Charts.{before}
 use Rattle.bit_rows.proofs.Bits.{by_test, clash}
 use Rattle.msc_order.proofs.Drawing.{none_next, is_next}
-use Rattle.msc_order.proofs.segments.next_segment.Goals as goal
-use Rattle.msc_order.proofs.segments.next_segment.Goals.{then-start-events-via-then-start-events, then-start-events-via-else-start-events+then-not-before}
+use Rattle.msc_order.proofs.segments.next_segment_events.Goals as goal
+use Rattle.msc_order.proofs.segments.next_segment_events.Goals.{then-start-events-via-then-start-events, then-start-events-via-else-start-events+then-not-before}
 
 pub returns-then-start-events : goal.returns-then-start-events
 returns-then-start-events c =

@@ -1,0 +1,301 @@
+//! The commands of the program and their words, as `clap` is told of them.
+
+ghost use Rattle.std.specs.Prelude.{◌≡◌, IfOk, map};
+ghost use Rattle.clap.specs.Words.{App, with_subcommand};
+ghost use Rattle.clap.specs.declared.builder.value_parser.ValueParser.TheVariants.{Names};
+ghost use Rattle.msc_command.specs.Commands.{allow_rule, architecture_words, check_command};
+ghost use Rattle.msc_command.specs.Commands.{event_rule, explain_command, file_rule, flag_rule};
+ghost use Rattle.msc_command.specs.Commands.{kind_words, number_rule, queues_rule, read_command};
+ghost use Rattle.msc_command.specs.Commands.{run_command, whole_command, with_listing};
+ghost use Rattle.msc_command.specs.Commands.{IsArgument, IsCommand};
+
+use clap::{Arg, ArgAction, Command, value_parser};
+use msc_chart::Queues;
+use msc_reason::RaceKind;
+use std::alloc::{AllocError, Global};
+
+/// The words of which an argument takes one, and what the help shows for it.
+#[derive(Clone, Copy)]
+pub struct Alternatives<'a> {
+    pub words: &'a [&'a str],
+    pub shown: &'a str,
+}
+
+/// The words for the architectures.
+pub fn architectures(alloc: Global) -> Result<Vec<&'static str>, AllocError>
+    ensures { IfOk result (λ words. map (λ word. word.now) words.items ≡ architecture_words) }
+{
+    let mut words = Vec::new(alloc);
+    for queues in Queues::ALL {
+        words.push(queues.word())?;
+    }
+    Ok(words)
+}
+
+/// The words for the kinds of races.
+pub fn kinds(alloc: Global) -> Result<Vec<&'static str>, AllocError>
+    ensures { IfOk result (λ words. map (λ word. word.now) words.items ≡ kind_words) }
+{
+    let mut words = Vec::new(alloc);
+    for kind in RaceKind::ALL {
+        words.push(kind.word())?;
+    }
+    Ok(words)
+}
+
+/// Words with a `|` between them.
+pub fn joined(alloc: Global, words: &[&str]) -> Result<String, AllocError> {
+    let mut text = String::new(alloc);
+    for word in words {
+        if !text.is_empty() {
+            text.push('|')?;
+        }
+        text.push_str(word)?;
+    }
+    Ok(text)
+}
+
+/// What `msc --version` prints behind the program's name.
+const VERSION: &str = "0.1.0";
+
+/// What stands below the help of all commands.
+const NOTES: &str = "\
+Exit status:
+  0  the answer was written; `check` found no races that count, `explain` that E is enforced
+     before F, `run` that all instances finish
+  1  `check` found races that count, or `explain` that E is not enforced before F
+  2  the text or the pair was refused, or the words are no command
+  3  some instance of `run` has not finished
+  4  memory ran out, a thread could not be started, or a file or the output failed
+
+Examples:
+  msc check --queues pair relay.msc
+  msc explain --queues mailbox relay.msc 2 3
+  msc run --queues mailbox relay.msc";
+
+/// What stands below the help of `msc read`.
+const READ_NOTES: &str = "\
+Exit status:
+  0  the canonical text was written
+  2  the text was refused, or the words are no command
+  4  memory ran out, or a file or the output failed
+
+Example:
+  msc read relay.msc";
+
+/// What stands below the help of `msc check`.
+const CHECK_NOTES: &str = "\
+A race is closest where nothing is drawn between its two events; every race spans a closest one.
+
+Kinds of races:
+  early      the input can come before the output or action that is drawn above it
+  queues     two inputs by two queues, and nothing orders their outputs
+  unordered  two inputs by one queue, and nothing orders their outputs
+  overtaken  two inputs by one queue, whose outputs come in the other order
+
+Exit status:
+  0  the chart has no races that count
+  1  the chart has races that count
+  2  the text was refused, or the words are no command
+  4  memory ran out, or a file or the output failed
+
+Example:
+  msc check --queues pair --show 1 relay.msc
+  msc check --queues mailbox --closest --why --allow early relay.msc";
+
+/// What stands below the help of `msc explain`.
+const EXPLAIN_NOTES: &str = "\
+Events are numbered from 0, over all lines. The lines of a chain:
+  drawn X Y  Y is an output or an action that is drawn below X
+  sent X Y   Y is the input of X
+  queue X Y  two inputs of one queue, whose outputs come in this order by the chain behind blanks
+
+Exit status:
+  0  E is enforced before F, and why was written
+  1  E is not enforced before F, and a run that has F before E was written
+  2  the text or the pair was refused, or the words are no command
+  4  memory ran out, or a file or the output failed
+
+Example:
+  msc explain --queues mailbox relay.msc 2 3";
+
+/// What stands below the help of `msc run`.
+const RUN_NOTES: &str = "\
+Exit status:
+  0  all instances have finished
+  2  the text was refused, or the words are no command
+  3  some instance has not finished; how each ended was written, and the trace
+  4  memory ran out, a thread could not be started, or a file or the output failed
+
+Example:
+  msc run --queues mailbox relay.msc";
+
+/// The chart that a command reads.
+fn file<'a>(alloc: Global) -> Arg<'a>
+    ensures { IsArgument file_rule result }
+{
+    Arg::new(alloc, "FILE")
+        .help("The chart's text; - is standard input")
+        .required(true)
+}
+
+/// The architecture.
+fn queues<'a>(alloc: Global, choice: Alternatives<'a>) -> Arg<'a>
+    ensures { IsArgument (queues_rule (Names choice.entry.words)) result }
+{
+    Arg::new(alloc, "queues")
+        .long("queues")
+        .value_name(choice.shown)
+        .help("A queue for each sender and receiver, for each receiver, or for each message")
+        .value_parser(choice.words)
+        .required(true)
+}
+
+/// A kind of races that does not count.
+fn allow<'a>(alloc: Global, choice: Alternatives<'a>) -> Arg<'a>
+    ensures { IsArgument (allow_rule (Names choice.entry.words)) result }
+{
+    Arg::new(alloc, "allow")
+        .long("allow")
+        .value_name(choice.shown)
+        .help("Leave out the races of this kind, in the list and in the status; may be repeated")
+        .value_parser(choice.words)
+        .action(ArgAction::Append)
+}
+
+/// A word that stands alone, with what it is for.
+fn flag<'a>(alloc: Global, name: &'static str, help: &'static str) -> Arg<'a>
+    ensures { IsArgument (flag_rule name.now) result }
+{
+    Arg::new(alloc, name)
+        .long(name)
+        .help(help)
+        .action(ArgAction::SetTrue)
+}
+
+/// A number of 32 bits, with what it is for.
+fn number<'a>(alloc: Global, name: &'static str, help: &'static str) -> Arg<'a>
+    ensures { IsArgument (number_rule name.now) result }
+{
+    Arg::new(alloc, name)
+        .long(name)
+        .value_name("N")
+        .help(help)
+        .value_parser(value_parser!(u32))
+}
+
+/// The words of `msc read`.
+fn read_words<'a>(alloc: Global) -> Result<Command<'a>, AllocError>
+    ensures { IfOk result (IsCommand read_command) }
+{
+    Command::new(alloc, "read")
+        .about("Print the chart's canonical text")
+        .after_help(READ_NOTES)
+        .arg(file(alloc))
+}
+
+/// The words of `msc check` that say which races are listed, and with what.
+fn list_words<'a>(alloc: Global, command: Command<'a>) -> Result<Command<'a>, AllocError>
+    ensures { (app : App) → IsCommand app command.entry
+        → IfOk result (IsCommand (with_listing app)) }
+{
+    let closest = "List the closest races alone, and print how many there are";
+    let why = "Print the kind of each race, and the pair of events that would have to be enforced";
+    let most = "List the first N races alone";
+    let show = "Print a run for each of the first N races; without it, for all";
+    command
+        .arg(flag(alloc, "closest", closest))?
+        .arg(flag(alloc, "why", why))?
+        .arg(number(alloc, "most", most))?
+        .arg(number(alloc, "show", show))
+}
+
+/// The words of `msc check`.
+fn check_words<'a>(
+    alloc: Global,
+    architectures: Alternatives<'a>,
+    kinds: Alternatives<'a>,
+) -> Result<Command<'a>, AllocError>
+    ensures { IfOk result (IsCommand
+        (check_command (Names architectures.entry.words) (Names kinds.entry.words))) }
+{
+    let command = Command::new(alloc, "check")
+        .about("Print whether the chart has races, and for each a run that shows it")
+        .after_help(CHECK_NOTES)
+        .arg(queues(alloc, architectures))?;
+    list_words(alloc, command)?
+        .arg(allow(alloc, kinds))?
+        .arg(flag(alloc, "quiet", "Print nothing; the status tells").short('q'))?
+        .arg(file(alloc))
+}
+
+/// The number of an event.
+fn event<'a>(alloc: Global, name: &'static str, help: &'static str) -> Arg<'a>
+    ensures { IsArgument (event_rule name.now) result }
+{
+    Arg::new(alloc, name)
+        .help(help)
+        .value_parser(value_parser!(u32))
+        .required(true)
+}
+
+/// The words of `msc explain`.
+fn explain_words<'a>(
+    alloc: Global,
+    architectures: Alternatives<'a>,
+) -> Result<Command<'a>, AllocError>
+    ensures { IfOk result (IsCommand (explain_command (Names architectures.entry.words))) }
+{
+    Command::new(alloc, "explain")
+        .about("Print why an event comes before another, or a run in which it does not")
+        .after_help(EXPLAIN_NOTES)
+        .arg(queues(alloc, architectures))?
+        .arg(file(alloc))?
+        .arg(event(alloc, "E", "The number of the first event"))?
+        .arg(event(alloc, "F", "The number of the second event"))
+}
+
+/// The words of `msc run`.
+fn run_words<'a>(alloc: Global, architectures: Alternatives<'a>) -> Result<Command<'a>, AllocError>
+    ensures { IfOk result (IsCommand (run_command (Names architectures.entry.words))) }
+{
+    let patience = "End an instance that looked in vain N times in a row; without it, 1000000000";
+    Command::new(alloc, "run")
+        .about("Run the chart on threads, and print how each instance ended and the trace")
+        .after_help(RUN_NOTES)
+        .arg(queues(alloc, architectures))?
+        .arg(number(alloc, "patience", patience))?
+        .arg(file(alloc))
+}
+
+/// A command with a further one below it, if there is room for both.
+fn with<'a>(
+    command: Command<'a>,
+    below: Result<Command<'a>, AllocError>,
+) -> Result<Command<'a>, AllocError>
+    ensures { (app lower : App) → IsCommand app command.entry → IfOk below.entry (IsCommand lower)
+        → IfOk result (IsCommand (with_subcommand app lower.top)) }
+{
+    command.subcommand(below?)
+}
+
+/// The words that the program takes.
+pub fn grammar<'a>(
+    alloc: Global,
+    architectures: Alternatives<'a>,
+    kinds: Alternatives<'a>,
+) -> Result<Command<'a>, AllocError>
+    ensures { IfOk result (IsCommand
+        (whole_command (Names architectures.entry.words) (Names kinds.entry.words))) }
+{
+    let command = Command::new(alloc, "msc")
+        .bin_name("msc")?
+        .version(VERSION)
+        .about("Check message sequence charts for races, and run them")
+        .after_help(NOTES)
+        .subcommand_required(true);
+    let command = with(command, read_words(alloc))?;
+    let command = with(command, check_words(alloc, architectures, kinds))?;
+    let command = with(command, explain_words(alloc, architectures))?;
+    with(command, run_words(alloc, architectures))
+}
