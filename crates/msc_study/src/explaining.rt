@@ -54,10 +54,8 @@ fn page_of(
         (λ page. page.bytes.items ≡ explained_text chart.now queues e f reason.now) }
 {
     let mut page = Page::new(alloc);
-    match write_explained(&mut page, chart, queues, e, f, reason) {
-        Ok(()) => Ok(page),
-        Err(_) => Err(AllocError),
-    }
+    let written = write_explained(&mut page, chart, queues, e, f, reason);
+    page.if_written(written)
 }
 
 /// What is answered of a pair for which there is a reason.

@@ -60,10 +60,8 @@ fn head_of(
         made.now.allowed (length made.now.listed.items)) }
 {
     let mut page = Page::new(alloc);
-    match write_study_head(&mut page, chart, queues, verdict, view, made) {
-        Ok(()) => Ok(page),
-        Err(_) => Err(AllocError),
-    }
+    let written = write_study_head(&mut page, chart, queues, verdict, view, made);
+    page.if_written(written)
 }
 
 /// Writes a study of a verdict; answers whether no race is left that is not allowed.

@@ -38,10 +38,8 @@ fn head_of(alloc: Global, chart: &Chart, queues: Queues, count: u32) -> Result<P
     ensures { IfOk result (λ page. page.bytes.items ≡ head_text chart.now queues count) }
 {
     let mut page = Page::new(alloc);
-    match write_head(&mut page, chart, queues, count) {
-        Ok(()) => Ok(page),
-        Err(_) => Err(AllocError),
-    }
+    let written = write_head(&mut page, chart, queues, count);
+    page.if_written(written)
 }
 
 /// Writes the head of a chart's verdict and each race, the first `show` with the chosen run of

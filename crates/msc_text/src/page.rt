@@ -1,10 +1,10 @@
 //! A page of an answer: what has not gone out yet.
 
-ghost use Rattle.std.specs.Prelude.{◌≡◌, [], OnOk, Some};
+ghost use Rattle.std.specs.Prelude.{◌≡◌, [], IfOk, IsOk, OnOk, Some};
 ghost use Rattle.std.specs.Io.{WritesAtMost};
 ghost use Rattle.std.specs.Io.KnownBytes.{Appends, Keeps, WriteAppends};
 
-use std::alloc::Global;
+use std::alloc::{AllocError, Global};
 use std::io;
 use std::io::Write;
 
@@ -30,6 +30,16 @@ impl Page {
     /// Whether as much stands on it as goes out at once.
     pub fn is_full(&self) -> bool {
         self.bytes.len() >= PAGE_SIZE
+    }
+
+    /// The page, where the writes to it that answered `written` did not run out of memory.
+    pub fn if_written(self, written: io::Result<()>) -> Result<Page, AllocError>
+        ensures { IfOk result (λ page. IsOk written × (page.bytes.items ≡ self.bytes.items)) }
+    {
+        match written {
+            Ok(()) => Ok(self),
+            Err(_) => Err(AllocError),
+        }
     }
 }
 

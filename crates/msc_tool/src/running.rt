@@ -96,10 +96,8 @@ fn page_of(
         page.bytes.items ≡ trace_text chart.now queues ends.now (Some trace.now)) }
 {
     let mut page = Page::new(alloc);
-    match write_trace(&mut page, chart, queues, ends, Some(trace)) {
-        Ok(()) => Ok(page),
-        Err(_) => Err(AllocError),
-    }
+    let written = write_trace(&mut page, chart, queues, ends, Some(trace));
+    page.if_written(written)
 }
 
 /// Runs a chart, and writes how its instances ended and the trace; answers whether all have
