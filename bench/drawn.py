@@ -1,14 +1,18 @@
-"""The charts that are drawn for the benchmarks of building and of orders, each of so many messages."""
+"""The charts that are drawn for the benchmarks of building and of orders, each of so many
+messages."""
 import random
 
 
 def chart(lines, coregions=0):
-    """The text of a chart; `lines` has for each instance its events (way, message, address), in so many
-    coregions of one size each, or in none."""
+    """The text of a chart; `lines` has for each instance its events (way, message, address), in so
+    many coregions of one size each, or in none."""
     text = "msc t;"
     for name, events in lines.items():
         text += f"instance {name};"
-        texts = [f"{way} m{message} {'to' if way == 'out' else 'from'} {address};" for way, message, address in events]
+        texts = [
+            f"{way} m{message} {'to' if way == 'out' else 'from'} {address};"
+            for way, message, address in events
+        ]
         for k in range(coregions):
             segment = texts[k * len(texts) // coregions:(k + 1) * len(texts) // coregions]
             text += "concurrent;" + "".join(segment) + "endconcurrent;"
@@ -41,12 +45,13 @@ def in_order(messages):
 def in_reverse(messages):
     """All messages go from a to b, the inputs drawn in the reverse order of the outputs."""
     ends = range(messages)
-    return chart({"a": [("out", m, "b") for m in ends], "b": [("in", m, "a") for m in reversed(ends)]})
+    inputs = [("in", m, "a") for m in reversed(ends)]
+    return chart({"a": [("out", m, "b") for m in ends], "b": inputs})
 
 
 def one_by_one(names, ends):
-    """Messages with these senders and receivers, drawn as one run of the chart in which each message
-    is taken before the next goes out."""
+    """Messages with these senders and receivers, drawn as one run of the chart in which each
+    message is taken before the next goes out."""
     lines = {name: [] for name in names}
     for m, (sender, receiver) in enumerate(ends):
         lines[sender].append(("out", m, receiver))
@@ -64,7 +69,8 @@ def at_random(messages, instances=32):
 def relay(messages, instances=32):
     """Messages round a ring of instances, each sent once the one before it has come."""
     names = [f"i{k}" for k in range(instances)]
-    return one_by_one(names, [(names[m % instances], names[(m + 1) % instances]) for m in range(messages)])
+    ends = [(names[m % instances], names[(m + 1) % instances]) for m in range(messages)]
+    return one_by_one(names, ends)
 
 
 def to_one(messages, senders=31):
@@ -81,8 +87,8 @@ def coregions(messages):
 
 
 def coregions_in_turn(messages):
-    """On one line a coregion of outputs and then one of inputs, on the other the inputs and then outputs
-    that answer."""
+    """On one line a coregion of outputs and then one of inputs, on the other the inputs and then
+    outputs that answer."""
     first, answers = range(messages // 2), range(messages // 2, messages)
     lines = {"a": [("out", m, "b") for m in first] + [("in", m, "b") for m in reversed(answers)]}
     lines["b"] = [("in", m, "a") for m in reversed(first)] + [("out", m, "a") for m in answers]

@@ -25,7 +25,9 @@ def coregions(count):
 
 def messages(count):
     """Messages with names of 64 letters, in one order on both lines."""
-    names = ["m" * 60 + "".join(chr(97 + n // 26**k % 26) for k in (3, 2, 1, 0)) for n in range(count)]
+    names = [
+        "m" * 60 + "".join(chr(97 + n // 26**k % 26) for k in (3, 2, 1, 0)) for n in range(count)
+    ]
     outputs = "".join(f"out {name} to b;" for name in names)
     inputs = "".join(f"in {name} from a;" for name in names)
     return f"msc t;instance a;{outputs}endinstance;instance b;{inputs}endinstance;endmsc;"
@@ -45,7 +47,11 @@ def texts():
         "one text": ("msc t comment '", "''", "';endmsc;"),
         "blanks": ("msc t;", " \t\r\n", "endmsc;"),
         "statements": ("msc t;instance a;", "out m to b;", "endinstance;endmsc;"),
-        "events of a coregion": ("msc t;instance a;concurrent;", "out m to b;", "endconcurrent;endinstance;endmsc;"),
+        "events of a coregion": (
+            "msc t;instance a;concurrent;",
+            "out m to b;",
+            "endconcurrent;endinstance;endmsc;",
+        ),
         "sections": ("msc t;", "instance a;endinstance;", "endmsc;"),
         "inst statements": ("msc t;", "inst a;", "endmsc;"),
         "header names": ("msc t;inst a", ",a", ";endmsc;"),
@@ -55,7 +61,8 @@ def texts():
     for thing, pattern in patterns.items():
         for size in SIZES:
             yield thing, filled(size, *pattern)
-    # In a chart about half of the bytes are marks at most, so this text is refused, at its last byte.
+    # In a chart about half of the bytes are marks at most, so this text is refused, at its last
+    # byte.
     for size in SIZES:
         yield "marks, refused", (";,:()" * size)[: size - 1] + "?"
     for count in (10_000, 20_000, 40_000):

@@ -46,14 +46,15 @@ def reported(tool, words, file, pattern):
     if not shutil.which(tool[0]):
         return None
     with open(file, "rb") as text:
-        done = subprocess.run(tool + words, stdin=text, stdout=subprocess.DEVNULL, stderr=subprocess.PIPE)
+        nowhere = subprocess.DEVNULL
+        done = subprocess.run(tool + words, stdin=text, stdout=nowhere, stderr=subprocess.PIPE)
     found = re.search(pattern, done.stderr)
     return int(found[1]) if found else None
 
 
 def peak_memory(words, file):
-    """The peak of a run's resident memory, in bytes. A child takes over the peak of the process that
-    starts it, so it is started by a small program and not by this one."""
+    """The peak of a run's resident memory, in bytes. A child takes over the peak of the process
+    that starts it, so it is started by a small program and not by this one."""
     kilobytes = reported(["time", "-f", "peak %M"], words, file, rb"peak (\d+)")
     return kilobytes and kilobytes * 1024
 
@@ -77,8 +78,8 @@ def show(cells):
 
 
 class Compared:
-    """What msc and the plain program did with one text; each figure is the pair of msc's and the plain
-    one's."""
+    """What msc and the plain program did with one text; each figure is the pair of msc's and the
+    plain one's."""
 
     def __init__(self, name, file, programs, options):
         self.name = name

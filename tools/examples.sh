@@ -1,17 +1,17 @@
 #!/usr/bin/env bash
-# Runs the program on each chart of charts/, and compares what it writes to both streams, and its status,
-# with what stands beside the chart. A chart with nothing beside it fails.
+# Runs the program on each chart of charts/, and compares what it writes to both streams, and its
+# status, with what stands beside the chart. A chart with nothing beside it fails.
 #
 #     tools/examples.sh [PROGRAM]
 #
 # PROGRAM is ./msc where it is left out. Beside charts/NAME.msc stand NAME.read.txt, the output of
-# `msc read`, and NAME.pair.txt, NAME.mailbox.txt and NAME.single.txt, those of `msc check`, whose status is
-# 1 where there are races. NAME.run.QUEUES.txt is the output of `msc run`, where no schedule of the threads
-# gives another one, and NAME.impatient.QUEUES.txt that with a patience of 0, with which nobody takes
-# anything; the status is 3 where some instance did not finish. Beside charts/refused/NAME.msc stands
-# NAME.txt: what is written to standard error, and then the status. `msc check` and `msc run` refuse each of
-# them. `msc read` meets no fault of charts: where such a fault stands, it prints NAME.read.txt, or the chart
-# as it is where that is missing.
+# `msc read`, and NAME.pair.txt, NAME.mailbox.txt and NAME.single.txt, those of `msc check`, whose
+# status is 1 where there are races. NAME.run.QUEUES.txt is the output of `msc run`, where no
+# schedule of the threads gives another one, and NAME.impatient.QUEUES.txt that with a patience of
+# 0, with which nobody takes anything; the status is 3 where some instance did not finish. Beside
+# charts/refused/NAME.msc stands NAME.txt: what is written to standard error, and then the status.
+# `msc check` and `msc run` refuse each of them. `msc read` meets no fault of charts: where such a
+# fault stands, it prints NAME.read.txt, or the chart as it is where that is missing.
 set -u
 cd "$(dirname "$(readlink -f "${BASH_SOURCE[0]}")")/.." || exit 1
 program=${1-./msc}
@@ -19,8 +19,8 @@ passed=0 failed=0
 room=$(mktemp -d)
 trap 'rm -rf "$room"' EXIT
 
-# Compares a run with the words $4 .. : its output with the file $1, its standard error with the file $2,
-# its status with $3.
+# Compares a run with the words $4 .. : its output with the file $1, its standard error with the
+# file $2, its status with $3.
 compare() {
   local status
   "$program" "${@:4}" </dev/null >"$room/output" 2>"$room/error"

@@ -3,12 +3,12 @@
 
     tools/gate_cost.py [--table FILE] ./test
 
-For each crate the table has the processor seconds (user and system) of its proof, of its tests and of its
-must-fail edits, and how many edits it has; a second one has the dearest edits. They go to FILE, or to
-standard error, once the command has ended, whose exit status is passed on. What is counted are the
-processes `rattle` below the command, by looking at /proc twice in a second, so each of them may lack its
-last half second; the last line tells what the command took beside them. The time of edits includes the
-check of the unchanged crate with which the gate ends them.
+For each crate the table has the processor seconds (user and system) of its proof, of its tests and
+of its must-fail edits, and how many edits it has; a second one has the dearest edits. They go to
+FILE, or to standard error, once the command has ended, whose exit status is passed on. What is
+counted are the processes `rattle` below the command, by looking at /proc twice in a second, so each
+of them may lack its last half second; the last line tells what the command took beside them. The
+time of edits includes the check of the unchanged crate with which the gate ends them.
 """
 import argparse
 import collections
@@ -25,7 +25,8 @@ PARTS = ("proof", "tests", "edits")
 
 
 def processes():
-    """Of each process its parent, when it started, and its time with that of the children that ended."""
+    """Of each process its parent, when it started, and its time with that of the children that
+    ended."""
     found = {}
     for pid in filter(str.isdigit, os.listdir("/proc")):
         try:
@@ -47,8 +48,8 @@ def what(pid):
 
 
 class Cost:
-    """What was seen of each run of `rattle`, by its number and its start; copies that a run makes of
-    itself count as the run."""
+    """What was seen of each run of `rattle`, by its number and its start; copies that a run makes
+    of itself count as the run."""
 
     def __init__(self, command):
         self.command, self.whats, self.seconds = command, {}, {}
@@ -94,12 +95,17 @@ class Cost:
         yield "| edit | seconds |"
         yield "| --- | ---: |"
         # the gate tries a crate's edits in the order of their names
-        tried = [(crate, pair) for crate in rooms for pair in zip(edits[crate], rooms[crate].values())]
+        tried = [
+            (crate, pair) for crate in rooms for pair in zip(edits[crate], rooms[crate].values())
+        ]
         for crate, (edit, seconds) in sorted(tried, key=lambda it: -it[1][1])[:20]:
             yield f"| `{crate}`: {edit} | {seconds:.0f} |"
         yield ""
         seen = sum(self.seconds.values())
-        yield f"{whole:.0f} processor seconds in all, {whole - seen:.0f} of them beside the crates' checks."
+        yield (
+            f"{whole:.0f} processor seconds in all, "
+            f"{whole - seen:.0f} of them beside the crates' checks."
+        )
 
 
 def edits_of(crate):
@@ -112,7 +118,8 @@ def row(name, spent, edits):
 
 
 def main():
-    words = argparse.ArgumentParser(description=__doc__, formatter_class=argparse.RawDescriptionHelpFormatter)
+    style = argparse.RawDescriptionHelpFormatter
+    words = argparse.ArgumentParser(description=__doc__, formatter_class=style)
     words.add_argument("--table", metavar="FILE")
     words.add_argument("command", nargs=argparse.REMAINDER, metavar="COMMAND")
     options = words.parse_args()

@@ -3,11 +3,11 @@
 
     tools/pages.py PROGRAM PAGE ..
 
-In a page's blocks between lines of three backquotes a line `$ COMMAND` is run by a shell at the top of the
-repository, with PROGRAM in place of `./msc`. The lines below it, up to the next such line or the end of the
-block, are what it writes to both streams. What `msc run` prints is up to the schedule: both what the page
-says and what is printed have to be an execution's, by naive/traces.py. Prints how many commands were
-compared. The exit status is 1 where one differs, or a page has none.
+In a page's blocks between lines of three backquotes a line `$ COMMAND` is run by a shell at the top
+of the repository, with PROGRAM in place of `./msc`. The lines below it, up to the next such line or
+the end of the block, are what it writes to both streams. What `msc run` prints is up to the
+schedule: both what the page says and what is printed have to be an execution's, by naive/traces.py.
+Prints how many commands were compared. The exit status is 1 where one differs, or a page has none.
 """
 import argparse
 import pathlib
@@ -38,12 +38,15 @@ def commands(page):
 def printed(program, command):
     """What a command writes, in lines, and its exit status."""
     run = ["bash", "-c", 'msc=$1; eval "$2"', "bash", program, command.replace("./msc ", '"$msc" ')]
-    ended = subprocess.run(run, cwd=ROOT, stdin=subprocess.DEVNULL, stdout=subprocess.PIPE, stderr=subprocess.STDOUT)
+    ended = subprocess.run(
+        run, cwd=ROOT, stdin=subprocess.DEVNULL, stdout=subprocess.PIPE, stderr=subprocess.STDOUT
+    )
     return ended.stdout.decode("latin-1").splitlines(), ended.returncode
 
 
 def is_run(command, answers):
-    """Whether each answer, lines and an exit status, is that of an execution of a command's chart."""
+    """Whether each answer, lines and an exit status, is that of an execution of a command's
+    chart."""
     words = shlex.split(command)
     chart = (ROOT / words[-1]).read_bytes().decode("latin-1")
     drawn = Chart(chart, words[words.index("--queues") + 1])
@@ -57,7 +60,8 @@ def is_run(command, answers):
 
 
 def main():
-    words = argparse.ArgumentParser(description=__doc__, formatter_class=argparse.RawDescriptionHelpFormatter)
+    style = argparse.RawDescriptionHelpFormatter
+    words = argparse.ArgumentParser(description=__doc__, formatter_class=style)
     words.add_argument("program", metavar="PROGRAM")
     words.add_argument("pages", metavar="PAGE", nargs="+", type=pathlib.Path)
     options = words.parse_args()
@@ -73,7 +77,8 @@ def main():
             compared += 1
             if lines == shown:
                 continue
-            if command.startswith("./msc run ") and is_run(command, [(shown, status), (lines, status)]):
+            answers = [(shown, status), (lines, status)]
+            if command.startswith("./msc run ") and is_run(command, answers):
                 continue
             print(f"pages: {page}: $ {command}\n" + "\n".join(lines))
             failed += 1

@@ -1,7 +1,7 @@
 #!/usr/bin/env python3
-"""Looks whether what docs/PROMISES.md names is there: source files, calls and their clauses, definitions
-and lemmas in the files that it names for them, laws, edits, and tests. Prints what is not, with its line;
-the exit status is 1 then.
+"""Looks whether what docs/PROMISES.md names is there: source files, calls and their clauses,
+definitions and lemmas in the files that it names for them, laws, edits, and tests. Prints what is
+not, with its line; the exit status is 1 then.
 """
 import pathlib
 import re
@@ -46,8 +46,8 @@ def contracts(crate, call):
 
 
 def missing_calls(crate, cell):
-    """The calls of a cell, parted by `;`, of which the crate says nothing, and the clauses behind `:`
-    that none of these calls has; of a type a method or a trait may stand there."""
+    """The calls of a cell, parted by `;`, of which the crate says nothing, and the clauses behind
+    `:` that none of these calls has; of a type a method or a trait may stand there."""
     sources = "".join(it.read_text() for it in sorted((CRATES / crate / "src").rglob("*.rt")))
     for part in cell.split(";"):
         lists = [re.findall(r"`([^`/]+)`", it) for it in re.split(r":(?=\s)", part)]
@@ -114,7 +114,11 @@ def main():
     found = list(missing((TOP / "docs/PROMISES.md").read_text()))
     for number, it in found:
         print(f"docs/PROMISES.md:{number}: there is no {it}")
-    print(f"promises: {len(found)} names are of nothing" if found else "promises: all that is named is there")
+    print(
+        f"promises: {len(found)} names are of nothing"
+        if found
+        else "promises: all that is named is there"
+    )
     return int(bool(found))
 
 

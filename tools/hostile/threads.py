@@ -8,11 +8,11 @@ refused alone, and with all later ones. Each answer has to be the fault line of 
 thread was refused first, nothing on standard output, and status 4; the process has to end by itself
 at once. Two charts are run for each number: in the one each instance waits for the one before it
 and the first for the last, so each waits for the one that is missing; in the other the last
-instance sends to all others, which act when they have it. A third chart is
-run once: two instances wait for the third, and then for each other. With --limit, as root, no call is
-refused, but the system itself says no: the program runs as a user that may have 1 to 9 processes and
-threads, and in a control group that may, where one can be made; else that is said, and left out.
-Prints what differs, and last `N passed, M failed`.
+instance sends to all others, which act when they have it. A third chart is run once: two instances
+wait for the third, and then for each other. With --limit, as root, no call is refused, but the
+system itself says no: the program runs as a user that may have 1 to 9 processes and threads, and in
+a control group that may, where one can be made; else that is said, and left out. Prints what
+differs, and last `N passed, M failed`.
 """
 import os
 import pathlib
@@ -57,8 +57,10 @@ def star(count):
 
 def knot(_):
     """Two instances wait for the third, and then for each other."""
-    waiting = [section(i, [f"in p{i} from i2", f"out q{i} to i{1 - i}", f"in q{1 - i} from i{1 - i}"])
-               for i in range(2)]
+    waiting = [
+        section(i, [f"in p{i} from i2", f"out q{i} to i{1 - i}", f"in q{1 - i} from i{1 - i}"])
+        for i in range(2)
+    ]
     return text_of([*waiting, section(2, ["out p0 to i0", "out p1 to i1"])])
 
 

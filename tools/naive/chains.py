@@ -3,12 +3,12 @@
 
     chains.py [--charts N] [--messages M] [--seed S] PROGRAM
 
-The charts are those of compare.py. Each is tried under each architecture, with all pairs of numbers from 0
-up to that of its events: what is printed has to be a chain of rules of docs/MODEL.md from the first event to
-the second where the pair is enforced by the order of verdict.py, and otherwise a whole run that has the
-second first, with what studies.py says of a race. A chain is checked step by step against the drawing alone,
-and then whether it is the one of the rule there.
-Each text is checked again without one of its lines, and has to be wrong then. Prints how many texts were
+The charts are those of compare.py. Each is tried under each architecture, with all pairs of numbers
+from 0 up to that of its events: what is printed has to be a chain of rules of docs/MODEL.md from
+the first event to the second where the pair is enforced by the order of verdict.py, and otherwise a
+whole run that has the second first, with what studies.py says of a race. A chain is checked step by
+step against the drawing alone, and then whether it is the one of the rule there. Each text is
+checked again without one of its lines, and has to be wrong then. Prints how many texts were
 checked. The exit status is 1 at the first that is wrong, whose chart is printed.
 """
 import argparse
@@ -28,7 +28,8 @@ class Wrong(Exception):
 
 
 def last_link(drawn, x, y):
-    """The last controlled event below x that is y or enforced before it; none where there is none."""
+    """The last controlled event below x that is y or enforced before it; none where there is
+    none."""
     links = (z for z in drawn.all if drawn.before(x, z) and drawn.is_controlled(z))
     return max((z for z in links if z == y or is_enforced(drawn, z, y)), default=None)
 
@@ -43,12 +44,17 @@ def ruled(drawn, x, y):
 
 def is_caused(drawn, x, y):
     """Whether a chain leads from x to y."""
-    return is_enforced(drawn, x, y) if drawn.is_controlled(x) else last_link(drawn, x, y) is not None
+    return (
+        is_enforced(drawn, x, y) if drawn.is_controlled(x) else last_link(drawn, x, y) is not None
+    )
 
 
 def first_mate(drawn, e, f):
-    """The first input to which the rule of queues leads from input e, and that is f or leads to it."""
-    inputs = (u for u in drawn.all if not drawn.is_controlled(u) and drawn.queue(u) == drawn.queue(e))
+    """The first input to which the rule of queues leads from input e, and that is f or leads to
+    it."""
+    inputs = (
+        u for u in drawn.all if not drawn.is_controlled(u) and drawn.queue(u) == drawn.queue(e)
+    )
     return next(u for u in inputs if is_enforced(drawn, drawn.partner[e], drawn.partner[u])
                 and (u == f or is_caused(drawn, u, f)))
 
@@ -119,8 +125,8 @@ class Reader:
 
 
 def is_whole_run(drawn, run):
-    """Each event occurs once, an output or an action after what is drawn above it, an input while its
-    message is the first of its queue."""
+    """Each event occurs once, an output or an action after what is drawn above it, an input while
+    its message is the first of its queue."""
     past, queues = set(), {}
     for x in run:
         if drawn.is_controlled(x):
@@ -190,7 +196,8 @@ def fault(count, e, f):
 
 def check_pair(pick, drawn, e, f, done):
     """Raises Wrong where a run of the program did not end as it has to."""
-    output, errors = (stream.decode("latin-1").splitlines() for stream in (done.stdout, done.stderr))
+    streams = done.stdout, done.stderr
+    output, errors = (stream.decode("latin-1").splitlines() for stream in streams)
     line = fault(len(drawn.events), e, f)
     if line:
         if (output, errors, done.returncode) != ([], [line], 2):
@@ -204,7 +211,8 @@ def check_pair(pick, drawn, e, f, done):
 
 
 def main():
-    words = argparse.ArgumentParser(description=__doc__, formatter_class=argparse.RawDescriptionHelpFormatter)
+    style = argparse.RawDescriptionHelpFormatter
+    words = argparse.ArgumentParser(description=__doc__, formatter_class=style)
     words.add_argument("--charts", type=int, default=24, metavar="N")
     words.add_argument("--messages", type=int, default=6, metavar="M")
     words.add_argument("--seed", type=int, default=1, metavar="S")

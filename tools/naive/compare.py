@@ -3,17 +3,17 @@
 
     compare.py [--charts N] [--messages M] [--seed S] [--plain] PROGRAM WORD ..
 
-Of the words, QUEUES stands for the architecture and SHOW for the number of races that get a run; the
-chart is given on standard input. For instance
+Of the words, QUEUES stands for the architecture and SHOW for the number of races that get a run;
+the chart is given on standard input. For instance
 
     compare.py crates/msc/out/msc check --queues QUEUES --show SHOW -
     compare.py --plain bench/plain/out/release/checks QUEUES SHOW
 
-Each chart is drawn as a list of events in which an output comes before its input, with up to 8 lines, up
-to M messages, actions, and coregions; each is compared under each architecture. With --plain there are
-no actions, which the plain programs of bench/ do not know. Prints how many outputs
-were compared and how many races they had. The exit status is 1 at the first difference, whose chart is
-printed.
+Each chart is drawn as a list of events in which an output comes before its input, with up to 8
+lines, up to M messages, actions, and coregions; each is compared under each architecture. With
+--plain there are no actions, which the plain programs of bench/ do not know. Prints how many
+outputs were compared and how many races they had. The exit status is 1 at the first difference,
+whose chart is printed.
 """
 import argparse
 import random
@@ -25,16 +25,18 @@ from verdict import Chart
 
 
 def action(pick):
-    """An action whose text is of any bytes, most of them such as could be taken for something else; some
-    have a comment."""
-    some = "".join(pick.choice("';, /*\n\\~?" + chr(pick.randrange(256))) for _ in range(pick.randrange(8)))
+    """An action whose text is of any bytes, most of them such as could be taken for something else;
+    some have a comment."""
+    some = "".join(
+        pick.choice("';, /*\n\\~?" + chr(pick.randrange(256))) for _ in range(pick.randrange(8))
+    )
     comment = pick.choice(["", "", " comment 'it''s; action'"])
     return "action '" + some.replace("'", "''") + f"'{comment};"
 
 
 def events(pick, lines, messages, acting):
-    """For each line its events, from a list in which each output comes before its input; such a share of
-    them are actions."""
+    """For each line its events, from a list in which each output comes before its input; such a
+    share of them are actions."""
     drawn = [[] for _ in range(lines)]
     sent, number = [], 0
     while number < messages or sent:
@@ -68,7 +70,8 @@ def chart(pick, most, has_actions):
 
 
 def main():
-    words = argparse.ArgumentParser(description=__doc__, formatter_class=argparse.RawDescriptionHelpFormatter)
+    style = argparse.RawDescriptionHelpFormatter
+    words = argparse.ArgumentParser(description=__doc__, formatter_class=style)
     words.add_argument("--charts", type=int, default=200, metavar="N")
     words.add_argument("--messages", type=int, default=12, metavar="M")
     words.add_argument("--seed", type=int, default=1, metavar="S")
@@ -89,7 +92,10 @@ def main():
             output, status = done.stdout.decode("latin-1"), int(bool(drawn.races()))
             compared, races = compared + 1, races + len(drawn.races())
             if (output, done.returncode) != (wanted, status):
-                print(f"{text!r}\n{queues}, show {show}: wanted\n{wanted}got, with status {done.returncode},\n{output}")
+                print(
+                    f"{text!r}\n{queues}, show {show}: wanted\n{wanted}"
+                    f"got, with status {done.returncode},\n{output}"
+                )
                 return 1
     print(f"{compared} outputs are the same, with {races} races")
     return 0

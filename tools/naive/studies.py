@@ -3,11 +3,11 @@
 
     studies.py [--charts N] [--messages M] [--seed S] PROGRAM
 
-The charts are those of compare.py. Each is checked under each architecture with a random choice of the
-options --closest, --why, --most, --show, --allow and --quiet: which races are listed, of which kinds they
-are and what they lack is made pair by pair from the enforced order of verdict.py. Prints how many outputs
-were compared and how many races were listed. The exit status is 1 at the first difference, whose chart is
-printed.
+The charts are those of compare.py. Each is checked under each architecture with a random choice of
+the options --closest, --why, --most, --show, --allow and --quiet: which races are listed, of which
+kinds they are and what they lack is made pair by pair from the enforced order of verdict.py. Prints
+how many outputs were compared and how many races were listed. The exit status is 1 at the first
+difference, whose chart is printed.
 """
 import argparse
 import random
@@ -49,7 +49,8 @@ def why(drawn, e, f):
     output = drawn.partner[f]
     assert needed != output and not is_enforced(drawn, needed, output)
     yield f"kind {kind(drawn, e, f)}" + (" always" if is_enforced(drawn, f, e) else "")
-    named = "; ".join(f"{drawn.names[drawn.events[x].line]} {drawn.events[x].text}" for x in (needed, output))
+    events = (drawn.events[x] for x in (needed, output))
+    named = "; ".join(f"{drawn.names[event.line]} {event.text}" for event in events)
     yield f"needs {needed} {output}: {named}"
 
 
@@ -61,7 +62,8 @@ def study(drawn, options):
     if options["quiet"]:
         return [], status
     listed = [race for race in left if is_closest(drawn, *race)] if options["closest"] else left
-    lines = [f"chart {drawn.name}", f"queues {drawn.queues}", f"races {len(races)}" if races else "pass"]
+    verdict = f"races {len(races)}" if races else "pass"
+    lines = [f"chart {drawn.name}", f"queues {drawn.queues}", verdict]
     if options["allow"]:
         lines.append(f"allowed {len(races) - len(left)}")
     if options["closest"]:
@@ -99,7 +101,8 @@ def words_of(options):
 
 
 def main():
-    words = argparse.ArgumentParser(description=__doc__, formatter_class=argparse.RawDescriptionHelpFormatter)
+    style = argparse.RawDescriptionHelpFormatter
+    words = argparse.ArgumentParser(description=__doc__, formatter_class=style)
     words.add_argument("--charts", type=int, default=150, metavar="N")
     words.add_argument("--messages", type=int, default=10, metavar="M")
     words.add_argument("--seed", type=int, default=1, metavar="S")
@@ -115,7 +118,8 @@ def main():
             program = [given.program, "check", "--queues", queues, *words_of(options), "-"]
             done = subprocess.run(program, input=text.encode("latin-1"), capture_output=True)
             output = done.stdout.decode("latin-1").splitlines()
-            compared, listed = compared + 1, listed + sum(line.startswith("race ") for line in lines)
+            races = sum(line.startswith("race ") for line in lines)
+            compared, listed = compared + 1, listed + races
             if (output, done.stderr, done.returncode) != (lines, b"", status):
                 print(f"{text!r}\n{program}: wanted, with status {status},\n" + "\n".join(lines))
                 print(f"got, with status {done.returncode},\n" + "\n".join(output))

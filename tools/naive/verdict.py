@@ -4,9 +4,9 @@
     verdict.py [--show N] pair|mailbox|single < CHART
 
 Each definition is a function of its own, written for a reader and not for speed; sets of events are
-numbers, with a bit for each event. It shares nothing with the crates, so that expected outputs can be
-taken from it. The text has to be a chart: it names no fault. It is read as bytes, each of which is a
-character here. The exit status is 0 for `pass`, 1 for races.
+numbers, with a bit for each event. It shares nothing with the crates, so that expected outputs can
+be taken from it. The text has to be a chart: it names no fault. It is read as bytes, each of which
+is a character here. The exit status is 0 for `pass`, 1 for races.
 """
 import argparse
 import functools
@@ -18,8 +18,8 @@ SIGNAL = re.compile(r"(in|out) (\w+)(?: , (\w+))?(?: \( [^)]*\))? (?:from|to) (\
 
 
 def statements(text):
-    """The statements of a text, without notes and comments: each the list of its tokens before its `;`.
-    A quoted text is one token, so what stands in it ends no statement."""
+    """The statements of a text, without notes and comments: each the list of its tokens before its
+    `;`. A quoted text is one token, so what stands in it ends no statement."""
     statement = []
     for token in TOKEN.findall(text):
         if token == ";":
@@ -31,8 +31,8 @@ def statements(text):
 
 
 def action_text(token):
-    """What is printed of an action: what its text holds, with apostrophes doubled, and `?` for each byte
-    below 32 or above 126."""
+    """What is printed of an action: what its text holds, with apostrophes doubled, and `?` for each
+    byte below 32 or above 126."""
     held = token[1:-1].replace("''", "'")
     shown = "".join(byte if 32 <= ord(byte) <= 126 else "?" for byte in held)
     return "action '" + shown.replace("'", "''") + "'"
@@ -80,7 +80,9 @@ class Chart:
                 segment += not shared
         self.all = range(len(self.events))
         self.partner = [self.partner_of(e) for e in self.all]
-        self.drawn_before = [self.set_of(d for d in self.all if self.before(d, e)) for e in self.all]
+        self.drawn_before = [
+            self.set_of(d for d in self.all if self.before(d, e)) for e in self.all
+        ]
 
     @staticmethod
     def set_of(numbers):
@@ -90,7 +92,8 @@ class Chart:
         """The event at the other end of the message of e; a local event is its own."""
         if self.events[e].is_local:
             return e
-        ends = [x for x in self.all if not self.events[x].is_local and self.events[x].key == self.events[e].key]
+        key = self.events[e].key
+        ends = [x for x in self.all if not self.events[x].is_local and self.events[x].key == key]
         return next(x for x in ends if x != e)
 
     def is_output(self, e):
@@ -105,20 +108,26 @@ class Chart:
         return first.line == second.line and first.segment < second.segment
 
     def queue(self, e):
-        """The queue of the message of e, which is no local event: one for each sender and receiver, for
-        each receiver, or for each message."""
+        """The queue of the message of e, which is no local event: one for each sender and receiver,
+        for each receiver, or for each message."""
         event = self.events[e]
-        queues = {"pair": (event.sender, event.receiver), "mailbox": event.receiver, "single": event.key}
+        queues = {
+            "pair": (event.sender, event.receiver),
+            "mailbox": event.receiver,
+            "single": event.key,
+        }
         return queues[self.queues]
 
     @functools.cached_property
     def enforced(self):
-        """For each event the set of those that are enforced after it: the least relation of four rules,
-        made by adding what a rule asks for until none asks for more."""
+        """For each event the set of those that are enforced after it: the least relation of four
+        rules, made by adding what a rule asks for until none asks for more."""
         after = [0 for _ in self.all]
         for e in self.all:
             for f in self.all:
-                if self.before(e, f) and self.is_controlled(f) or self.is_output(e) and self.partner[e] == f:
+                is_drawn = self.before(e, f) and self.is_controlled(f)
+                is_sent = self.is_output(e) and self.partner[e] == f
+                if is_drawn or is_sent:
                     after[e] |= 1 << f
         outputs = [e for e in self.all if self.is_output(e)]
         while True:
@@ -136,17 +145,26 @@ class Chart:
 
     def races(self):
         """The pairs that are drawn in an order which is not enforced, ascending."""
-        return [(e, f) for e in self.all for f in self.all if self.before(e, f) and not self.enforced[e] >> f & 1]
+        return [
+            (e, f)
+            for e in self.all
+            for f in self.all
+            if self.before(e, f) and not self.enforced[e] >> f & 1
+        ]
 
     def is_free(self, e, x):
         """x is another event than e that is not enforced after e."""
         return x != e and not self.enforced[e] >> x & 1
 
     def chosen_run(self, e):
-        """While free events are left, the least of them that may come next and does not wait; then the
-        least event that may come next; until all events have occurred."""
+        """While free events are left, the least of them that may come next and does not wait; then
+        the least event that may come next; until all events have occurred."""
         free = self.set_of(x for x in self.all if self.is_free(e, x))
-        passed_on = [s for s in self.all if self.is_output(s) and free >> s & 1 and free >> self.partner[s] & 1]
+        passed_on = [
+            s
+            for s in self.all
+            if self.is_output(s) and free >> s & 1 and free >> self.partner[s] & 1
+        ]
         run, past, sent = [], 0, {self.queue(x): [] for x in self.all if self.is_output(x)}
 
         def may_come(x):
@@ -158,7 +176,9 @@ class Chart:
 
         def waits(x):
             is_held = self.is_output(x) and not free >> self.partner[x] & 1
-            return is_held and any(self.queue(t) == self.queue(x) and not past >> t & 1 for t in passed_on)
+            return is_held and any(
+                self.queue(t) == self.queue(x) and not past >> t & 1 for t in passed_on
+            )
 
         while len(run) < len(self.all):
             if free & ~past:
@@ -190,7 +210,8 @@ class Chart:
 
 
 def main():
-    words = argparse.ArgumentParser(description=__doc__, formatter_class=argparse.RawDescriptionHelpFormatter)
+    style = argparse.RawDescriptionHelpFormatter
+    words = argparse.ArgumentParser(description=__doc__, formatter_class=style)
     words.add_argument("--show", type=int, default=2 ** 32 - 1, metavar="N")
     words.add_argument("queues", choices=["pair", "mailbox", "single"])
     options = words.parse_args()

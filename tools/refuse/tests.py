@@ -3,13 +3,14 @@
 
     tests.py [TEST ..]
 
-A TEST is the crate, the module and the function, as `instance_tests::queues::one_thread`; where none
-is given, it is those below. The tests are those that `rt test` or the gate left in crates/CRATE/out.
-Each allocation of a test is refused alone, and with all later ones. The test has to end within a
-minute by naming the refusal, as want of memory or a thread that was not started. Where one alone is
-refused it passes, as it does in full, in two cases: the room for the items of a section was refused,
-whose list then grows, once for each section of its charts that has items; and a refused `settle` is
-called again on what it handed back. Prints what ends otherwise, and last `N passed, M failed`.
+A TEST is the crate, the module and the function, as `instance_tests::queues::one_thread`; where
+none is given, it is those below. The tests are those that `rt test` or the gate left in
+crates/CRATE/out. Each allocation of a test is refused alone, and with all later ones. The test has
+to end within a minute by naming the refusal, as want of memory or a thread that was not started.
+Where one alone is refused it passes, as it does in full, in two cases: the room for the items of a
+section was refused, whose list then grows, once for each section of its charts that has items; and
+a refused `settle` is called again on what it handed back. Prints what ends otherwise, and last
+`N passed, M failed`.
 """
 import collections
 import pathlib

@@ -1,5 +1,5 @@
-//! From a chart's text to its draft, the tree of its statements, in one pass. The tree has its names in
-//! the text.
+//! From a chart's text to its draft, the tree of its statements, in one pass. The tree has its
+//! names in the text.
 
 use std::fmt;
 use std::io;
@@ -148,7 +148,8 @@ fn words(length: usize) -> &'static [(&'static [u8], Kind)] {
     }
 }
 
-/// The reserved word that a run of letters, digits and underscores spells, in capital or small letters.
+/// The reserved word that a run of letters, digits and underscores spells, in capital or small
+/// letters.
 fn word(run: &[u8]) -> Option<Kind> {
     let first = run[0] | 0x20;
     let found = words(run.len())
@@ -275,8 +276,8 @@ struct Parser<'a> {
 }
 
 impl<'a> Parser<'a> {
-    /// The first lexical fault behind the next token, or else the fault of that token, or of the end of
-    /// the text, where `what` was expected.
+    /// The first lexical fault behind the next token, or else the fault of that token, or of the
+    /// end of the text, where `what` was expected.
     fn unexpected(&self, what: &'static str) -> Fault {
         let Some(next) = self.next else {
             return Fault::Expected(self.text.len(), what);

@@ -2,7 +2,8 @@
 
 use crate::chart::{Chart, Queues};
 
-/// An order of a chart's events: for each event a row with a bit for each event that comes after it.
+/// An order of a chart's events: for each event a row with a bit for each event that comes after
+/// it.
 pub struct Order {
     stride: usize,
     words: Vec<u64>,
@@ -75,8 +76,9 @@ impl Order {
         }
     }
 
-    /// Makes `taken` the inputs of the outputs in `later`, all of one queue, and what comes after them.
-    /// An output that comes after another of these needs no look, for that one's input has its row.
+    /// Makes `taken` the inputs of the outputs in `later`, all of one queue, and what comes after
+    /// them. An output that comes after another of these needs no look, for that one's input has
+    /// its row.
     fn gather(&self, chart: &Chart, later: &mut [u64], taken: &mut [u64]) {
         taken.fill(0);
         for k in 0..later.len() {

@@ -1,5 +1,5 @@
-//! Queues as rows of sequentially consistent words: a claim word, a clock word, and for each place an
-//! entry and a clock. No lists are kept beside the words.
+//! Queues as rows of sequentially consistent words: a claim word, a clock word, and for each place
+//! an entry and a clock. No lists are kept beside the words.
 
 use std::sync::atomic::{AtomicU64, Ordering::SeqCst};
 use std::sync::Arc;
@@ -82,7 +82,11 @@ impl Inlet {
 pub fn queue(quotas: &[u32]) -> (Vec<Outlet>, Inlet) {
     let places: u32 = quotas.iter().map(|quota| quota + 1).sum();
     let row = Arc::new(Row::new(places as usize));
-    let outlet = |(sender, left): (usize, &u32)| Outlet { row: row.clone(), sender: sender as u32, left: *left };
+    let outlet = |(sender, left): (usize, &u32)| Outlet {
+        row: row.clone(),
+        sender: sender as u32,
+        left: *left,
+    };
     let outlets = quotas.iter().enumerate().map(outlet).collect();
     (outlets, Inlet { row, next: 0, unended: quotas.len() as u32 })
 }

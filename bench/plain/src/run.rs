@@ -3,8 +3,8 @@
 use crate::chart::{Chart, Queues};
 use crate::order::Order;
 
-/// A set of events, whose least is found in a few steps: a bit for each event, of which there are at most
-/// 2,048, and a bit for each word that has some.
+/// A set of events, whose least is found in a few steps: a bit for each event, of which there are
+/// at most 2,048, and a bit for each word that has some.
 struct Ready {
     words: [u64; 32],
     some: u32,

@@ -1,9 +1,9 @@
-//! Does what `msc check` does, in plain Rust: reads a chart's text from standard input and prints its
-//! verdict and each race, the first of them with a run that shows it. It is the yardstick of
+//! Does what `msc check` does, in plain Rust: reads a chart's text from standard input and prints
+//! its verdict and each race, the first of them with a run that shows it. It is the yardstick of
 //! `bench/checks` and `bench/shown_runs`.
 //!
-//! Two words: `pair`, `mailbox` or `single`, and how many races get a run, by default all. The exit status is 0
-//! for `pass`, 1 for races, and 2 for a text that is no chart.
+//! Two words: `pair`, `mailbox` or `single`, and how many races get a run, by default all. The exit
+//! status is 0 for `pass`, 1 for races, and 2 for a text that is no chart.
 
 use plain::chart::{Chart, Queues};
 use plain::draft::{parse, Draft, Signal, TEXT_LIMIT};
@@ -67,8 +67,9 @@ impl<'a> RunLines<'a> {
 /// What is printed of each event in the line of a race, in one list of bytes.
 struct Texts {
     bytes: Vec<u8>,
-    /// Where three texts of each event begin, and where the last of them ends: its number; what stands
-    /// behind both numbers of a race of which it is the first event; what it does as the second.
+    /// Where three texts of each event begin, and where the last of them ends: its number; what
+    /// stands behind both numbers of a race of which it is the first event; what it does as the
+    /// second.
     starts: Vec<[u32; 4]>,
 }
 

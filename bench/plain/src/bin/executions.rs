@@ -1,6 +1,6 @@
-//! Does what `msc run` does, in plain Rust: reads a chart's text from standard input, runs it with a
-//! thread for each instance over queues as rows of words, settles the queues, gathers the logs, and
-//! prints how each instance ended and the trace. It is the yardstick of `bench/executions`.
+//! Does what `msc run` does, in plain Rust: reads a chart's text from standard input, runs it with
+//! a thread for each instance over queues as rows of words, settles the queues, gathers the logs,
+//! and prints how each instance ended and the trace. It is the yardstick of `bench/executions`.
 //!
 //! One word: `pair`, `mailbox` or `single`. The exit status is 0 where all instances finished, 3
 //! where one has not, and 2 for a text that is no chart.
@@ -107,7 +107,8 @@ fn run(wired: &Wired, line: Range<usize>, mut ends: Ends) -> Left {
             }
             let q = chart.queue(next, wired.queues);
             let at = ends.outlets.partition_point(|outlet| outlet.0 < q);
-            clock = ends.outlets[at].1.send(chart.events[next].message as u32, clock).expect("room").1;
+            let message = chart.events[next].message as u32;
+            clock = ends.outlets[at].1.send(message, clock).expect("room").1;
             log.push(next);
             logged[next - line.start] = true;
             next += 1;

@@ -1,7 +1,7 @@
-//! Does what `msc_bench queues` does, in plain Rust over `std::sync::mpsc::sync_channel`: senders go
-//! through queues one after the other, each in a thread of its own, and put their shares of 1,024
-//! messages; one thread takes, queue by queue, until all senders have ended. It is one yardstick of
-//! `bench/queues`.
+//! Does what `msc_bench queues` does, in plain Rust over `std::sync::mpsc::sync_channel`: senders
+//! go through queues one after the other, each in a thread of its own, and put their shares of
+//! 1,024 messages; one thread takes, queue by queue, until all senders have ended. It is one
+//! yardstick of `bench/queues`.
 
 use std::env;
 use std::sync::mpsc::{sync_channel, Receiver, SyncSender, TryRecvError};

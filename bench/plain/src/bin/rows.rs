@@ -1,6 +1,7 @@
-//! Does what `msc_bench queues` does, in plain Rust with the same atomic steps (`rows.rs`). Senders go through queues one after the other, each in a thread of its own, and put their
-//! shares of 1,024 messages and an end mark; one thread takes, queue by queue, until all senders have
-//! ended. It keeps no lists beside the words. It is one yardstick of `bench/queues`.
+//! Does what `msc_bench queues` does, in plain Rust with the same atomic steps (`rows.rs`). Senders
+//! go through queues one after the other, each in a thread of its own, and put their shares of
+//! 1,024 messages and an end mark; one thread takes, queue by queue, until all senders have ended.
+//! It keeps no lists beside the words. It is one yardstick of `bench/queues`.
 
 use plain::rows::{queue, Entry, Inlet, Outlet};
 use std::env;
