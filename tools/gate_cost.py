@@ -8,7 +8,7 @@ of its must-fail edits, and how many edits it has; a second one has the dearest 
 FILE, or to standard error, once the command has ended, whose exit status is passed on. What is
 counted are the processes `rattle` below the command, by looking at /proc twice in a second, so each
 of them may lack its last half second; the last line tells what the command took beside them. The
-time of edits includes the check of the unchanged crate with which the gate ends them.
+time of edits includes the checks of the unchanged crate with which the gate begins and ends them.
 """
 import argparse
 import collections
@@ -40,11 +40,16 @@ def processes():
 
 
 def what(pid):
-    """The crate that a process `rattle` works for, and the part of the gate."""
+    """The crate that a process `rattle` works for, the part of the gate, and the number of the
+    edit, where it tries one."""
     words = pathlib.Path("/proc", str(pid), "cmdline").read_bytes().decode().split("\0")
     room = os.path.basename(os.readlink(f"/proc/{pid}/cwd"))
     part = "edits" if room.startswith("rt-edit-") else "tests" if "--test" in words else "proof"
-    return words[words.index("--crate-name") + 1], part, room
+    # the gate tries an edit over a folder that is named by its number, and checks the unchanged
+    # crate over others
+    over = words[words.index("--incremental") + 1] if "--incremental" in words else ""
+    number = os.path.basename(over) if part == "edits" else ""
+    return words[words.index("--crate-name") + 1], part, int(number) if number.isdigit() else None
 
 
 class Cost:
@@ -78,12 +83,12 @@ class Cost:
 
     def table(self, whole):
         spent = collections.defaultdict(collections.Counter)
-        rooms = collections.defaultdict(dict)
-        for run, seconds in sorted(self.seconds.items(), key=lambda each: each[0][1]):
-            crate, part, room = self.whats[run]
+        tried = collections.Counter()
+        for run, seconds in self.seconds.items():
+            crate, part, number = self.whats[run]
             spent[crate][part] += seconds
-            if part == "edits":
-                rooms[crate][room] = rooms[crate].get(room, 0) + seconds
+            if number is not None:
+                tried[crate, number] += seconds
         yield "| crate | proof | tests | edits | all | number of edits |"
         yield "| --- | ---: | ---: | ---: | ---: | ---: |"
         edits = {crate: edits_of(crate) for crate in spent}
@@ -94,12 +99,9 @@ class Cost:
         yield ""
         yield "| edit | seconds |"
         yield "| --- | ---: |"
-        # the gate tries a crate's edits in the order of their names
-        tried = [
-            (crate, pair) for crate in rooms for pair in zip(edits[crate], rooms[crate].values())
-        ]
-        for crate, (edit, seconds) in sorted(tried, key=lambda it: -it[1][1])[:20]:
-            yield f"| `{crate}`: {edit} | {seconds:.0f} |"
+        for (crate, number), seconds in tried.most_common(20):
+            # the gate numbers a crate's edits in the order of their names, from 0
+            yield f"| `{crate}`: {edits[crate][number]} | {seconds:.0f} |"
         yield ""
         seen = sum(self.seconds.values())
         yield (

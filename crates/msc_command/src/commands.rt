@@ -1,9 +1,10 @@
 //! The commands of the program and their words, as `clap` is told of them.
 
 ghost use Rattle.std.specs.Prelude.{◌≡◌, IfOk, map};
-ghost use Rattle.clap.specs.Words.{App, with_subcommand};
+ghost use Rattle.clap.specs.Words.{App, Rule, new_app, with_rule, with_subcommand};
 ghost use Rattle.clap.specs.declared.builder.value_parser.ValueParser.TheVariants.{Names};
-ghost use Rattle.msc_command.specs.Commands.{allow_rule, architecture_words, check_command};
+ghost use Rattle.msc_command.specs.Commands.{allow_rule, architecture_words, bare_command};
+ghost use Rattle.msc_command.specs.Commands.{check_command};
 ghost use Rattle.msc_command.specs.Commands.{event_rule, explain_command, file_rule, flag_rule};
 ghost use Rattle.msc_command.specs.Commands.{kind_words, number_rule, queues_rule, read_command};
 ghost use Rattle.msc_command.specs.Commands.{run_command, whole_command, with_listing};
@@ -17,12 +18,50 @@ use std::alloc::{AllocError, Global};
 /// The words of which an argument takes one, and what the help shows for it.
 #[derive(Clone, Copy)]
 pub struct Alternatives<'a> {
-    pub words: &'a [&'a str],
-    pub shown: &'a str,
+    words: &'a [&'a str],
+    shown: &'a str,
+}
+
+/// Alternatives that own their words.
+#[derive(Drop)]
+pub struct Choice {
+    words: Vec<&'static str>,
+    shown: String,
+}
+
+impl Choice {
+    /// These words, with what the help shows for them.
+    fn of(alloc: Global, words: Vec<&'static str>) -> Result<Choice, AllocError>
+        ensures { IfOk result (λ choice. choice.words.items ≡ words.entry.items) }
+    {
+        let shown = joined(alloc, words.as_slice())?;
+        Ok(Choice { words, shown })
+    }
+
+    pub fn alternatives(&self) -> Alternatives<'_>
+        ensures { result.words.now ≡ self.now.words.items }
+    {
+        Alternatives {
+            words: self.words.as_slice(),
+            shown: self.shown.as_str(),
+        }
+    }
+}
+
+/// Words with a `|` between them.
+fn joined(alloc: Global, words: &[&str]) -> Result<String, AllocError> {
+    let mut text = String::new(alloc);
+    for word in words {
+        if !text.is_empty() {
+            text.push('|')?;
+        }
+        text.push_str(word)?;
+    }
+    Ok(text)
 }
 
 /// The words for the architectures.
-pub fn architectures(alloc: Global) -> Result<Vec<&'static str>, AllocError>
+fn architecture_words(alloc: Global) -> Result<Vec<&'static str>, AllocError>
     ensures { IfOk result (λ words. map (λ word. word.now) words.items ≡ architecture_words) }
 {
     let mut words = Vec::new(alloc);
@@ -33,7 +72,7 @@ pub fn architectures(alloc: Global) -> Result<Vec<&'static str>, AllocError>
 }
 
 /// The words for the kinds of races.
-pub fn kinds(alloc: Global) -> Result<Vec<&'static str>, AllocError>
+fn kind_words(alloc: Global) -> Result<Vec<&'static str>, AllocError>
     ensures { IfOk result (λ words. map (λ word. word.now) words.items ≡ kind_words) }
 {
     let mut words = Vec::new(alloc);
@@ -43,16 +82,19 @@ pub fn kinds(alloc: Global) -> Result<Vec<&'static str>, AllocError>
     Ok(words)
 }
 
-/// Words with a `|` between them.
-pub fn joined(alloc: Global, words: &[&str]) -> Result<String, AllocError> {
-    let mut text = String::new(alloc);
-    for word in words {
-        if !text.is_empty() {
-            text.push('|')?;
-        }
-        text.push_str(word)?;
-    }
-    Ok(text)
+/// The architectures.
+pub fn architectures(alloc: Global) -> Result<Choice, AllocError>
+    ensures { IfOk result (λ choice.
+        map (λ word. word.now) choice.words.items ≡ architecture_words) }
+{
+    Choice::of(alloc, architecture_words(alloc)?)
+}
+
+/// The kinds of races.
+pub fn kinds(alloc: Global) -> Result<Choice, AllocError>
+    ensures { IfOk result (λ choice. map (λ word. word.now) choice.words.items ≡ kind_words) }
+{
+    Choice::of(alloc, kind_words(alloc)?)
 }
 
 /// What `msc --version` prints behind the program's name.
@@ -184,30 +226,53 @@ fn number<'a>(alloc: Global, name: &'static str, help: &'static str) -> Arg<'a>
         .value_parser(value_parser!(u32))
 }
 
+/// A command without words of its own yet, with what its help says of it.
+fn named<'a>(
+    alloc: Global,
+    name: &'static str,
+    about: &'static str,
+    notes: &'static str,
+) -> Result<Command<'a>, AllocError>
+    ensures { IfOk result (IsCommand (new_app name.now)) }
+{
+    Ok(Command::new(alloc, name).about(about).after_help(notes))
+}
+
+/// A command with an argument more, if there is room for both.
+fn and<'a>(
+    command: Result<Command<'a>, AllocError>,
+    argument: Arg<'a>,
+) -> Result<Command<'a>, AllocError>
+    ensures { (app : App) (rule : Rule) → IfOk command.entry (IsCommand app)
+        → IsArgument rule argument.entry → IfOk result (IsCommand (with_rule app rule)) }
+{
+    command?.arg(argument)
+}
+
 /// The words of `msc read`.
 fn read_words<'a>(alloc: Global) -> Result<Command<'a>, AllocError>
     ensures { IfOk result (IsCommand read_command) }
 {
-    Command::new(alloc, "read")
-        .about("Print the chart's canonical text")
-        .after_help(READ_NOTES)
-        .arg(file(alloc))
+    let about = "Print the chart's canonical text";
+    and(named(alloc, "read", about, READ_NOTES), file(alloc))
 }
 
 /// The words of `msc check` that say which races are listed, and with what.
-fn list_words<'a>(alloc: Global, command: Command<'a>) -> Result<Command<'a>, AllocError>
-    ensures { (app : App) → IsCommand app command.entry
+fn list_words<'a>(
+    alloc: Global,
+    command: Result<Command<'a>, AllocError>,
+) -> Result<Command<'a>, AllocError>
+    ensures { (app : App) → IfOk command.entry (IsCommand app)
         → IfOk result (IsCommand (with_listing app)) }
 {
     let closest = "List the closest races alone, and print how many there are";
     let why = "Print the kind of each race, and the pair of events that would have to be enforced";
     let most = "List the first N races alone";
     let show = "Print a run for each of the first N races; without it, for all";
-    command
-        .arg(flag(alloc, "closest", closest))?
-        .arg(flag(alloc, "why", why))?
-        .arg(number(alloc, "most", most))?
-        .arg(number(alloc, "show", show))
+    let command = and(command, flag(alloc, "closest", closest));
+    let command = and(command, flag(alloc, "why", why));
+    let command = and(command, number(alloc, "most", most));
+    and(command, number(alloc, "show", show))
 }
 
 /// The words of `msc check`.
@@ -219,14 +284,12 @@ fn check_words<'a>(
     ensures { IfOk result (IsCommand
         (check_command (Names architectures.entry.words) (Names kinds.entry.words))) }
 {
-    let command = Command::new(alloc, "check")
-        .about("Print whether the chart has races, and for each a run that shows it")
-        .after_help(CHECK_NOTES)
-        .arg(queues(alloc, architectures))?;
-    list_words(alloc, command)?
-        .arg(allow(alloc, kinds))?
-        .arg(flag(alloc, "quiet", "Print nothing; the status tells").short('q'))?
-        .arg(file(alloc))
+    let about = "Print whether the chart has races, and for each a run that shows it";
+    let quiet = flag(alloc, "quiet", "Print nothing; the status tells").short('q');
+    let command = named(alloc, "check", about, CHECK_NOTES);
+    let command = list_words(alloc, and(command, queues(alloc, architectures)));
+    let command = and(command, allow(alloc, kinds));
+    and(and(command, quiet), file(alloc))
 }
 
 /// The number of an event.
@@ -246,37 +309,48 @@ fn explain_words<'a>(
 ) -> Result<Command<'a>, AllocError>
     ensures { IfOk result (IsCommand (explain_command (Names architectures.entry.words))) }
 {
-    Command::new(alloc, "explain")
-        .about("Print why an event comes before another, or a run in which it does not")
-        .after_help(EXPLAIN_NOTES)
-        .arg(queues(alloc, architectures))?
-        .arg(file(alloc))?
-        .arg(event(alloc, "E", "The number of the first event"))?
-        .arg(event(alloc, "F", "The number of the second event"))
+    let about = "Print why an event comes before another, or a run in which it does not";
+    let command = named(alloc, "explain", about, EXPLAIN_NOTES);
+    let command = and(command, queues(alloc, architectures));
+    let command = and(command, file(alloc));
+    let command = and(command, event(alloc, "E", "The number of the first event"));
+    and(command, event(alloc, "F", "The number of the second event"))
 }
 
 /// The words of `msc run`.
 fn run_words<'a>(alloc: Global, architectures: Alternatives<'a>) -> Result<Command<'a>, AllocError>
     ensures { IfOk result (IsCommand (run_command (Names architectures.entry.words))) }
 {
+    let about = "Run the chart on threads, and print how each instance ended and the trace";
     let patience = "End an instance that looked in vain N times in a row; without it, 1000000000";
-    Command::new(alloc, "run")
-        .about("Run the chart on threads, and print how each instance ended and the trace")
-        .after_help(RUN_NOTES)
-        .arg(queues(alloc, architectures))?
-        .arg(number(alloc, "patience", patience))?
-        .arg(file(alloc))
+    let command = named(alloc, "run", about, RUN_NOTES);
+    let command = and(command, queues(alloc, architectures));
+    let command = and(command, number(alloc, "patience", patience));
+    and(command, file(alloc))
 }
 
 /// A command with a further one below it, if there is room for both.
 fn with<'a>(
-    command: Command<'a>,
+    command: Result<Command<'a>, AllocError>,
     below: Result<Command<'a>, AllocError>,
 ) -> Result<Command<'a>, AllocError>
-    ensures { (app lower : App) → IsCommand app command.entry → IfOk below.entry (IsCommand lower)
+    ensures { (app lower : App) → IfOk command.entry (IsCommand app)
+        → IfOk below.entry (IsCommand lower)
         → IfOk result (IsCommand (with_subcommand app lower.top)) }
 {
-    command.subcommand(below?)
+    command?.subcommand(below?)
+}
+
+/// The program, without its commands.
+fn bare<'a>(alloc: Global) -> Result<Command<'a>, AllocError>
+    ensures { IfOk result (IsCommand bare_command) }
+{
+    let command = Command::new(alloc, "msc").bin_name("msc")?;
+    Ok(command
+        .version(VERSION)
+        .about("Check message sequence charts for races, and run them")
+        .after_help(NOTES)
+        .subcommand_required(true))
 }
 
 /// The words that the program takes.
@@ -288,14 +362,8 @@ pub fn grammar<'a>(
     ensures { IfOk result (IsCommand
         (whole_command (Names architectures.entry.words) (Names kinds.entry.words))) }
 {
-    let command = Command::new(alloc, "msc")
-        .bin_name("msc")?
-        .version(VERSION)
-        .about("Check message sequence charts for races, and run them")
-        .after_help(NOTES)
-        .subcommand_required(true);
-    let command = with(command, read_words(alloc))?;
-    let command = with(command, check_words(alloc, architectures, kinds))?;
-    let command = with(command, explain_words(alloc, architectures))?;
+    let command = with(bare(alloc), read_words(alloc));
+    let command = with(command, check_words(alloc, architectures, kinds));
+    let command = with(command, explain_words(alloc, architectures));
     with(command, run_words(alloc, architectures))
 }

@@ -12,7 +12,7 @@ ghost use Rattle.msc_command.specs.Program.{WritesAnswer};
 ghost use Rattle.msc_command.specs.declared.program.Status.{Status};
 ghost use Rattle.msc_text.specs.Reading.{IsReadFrom};
 
-use crate::commands::{Alternatives, architectures, grammar, joined, kinds};
+use crate::commands::{architectures, grammar, kinds};
 use crate::words::{Task, task_of};
 use clap::{ArgMatches, Error};
 use msc_instance::AlwaysOpen;
@@ -277,20 +277,8 @@ fn run<R: Files + Threads + Wait + Sync, I: Read, O: Write, E: Write>(
     ensures unknown { IfErr result (λ _. O.contents output.new ≡ O.contents output.old) }
 {
     let architectures = architectures(alloc)?;
-    let shown_architectures = joined(alloc, architectures.as_slice())?;
     let kinds = kinds(alloc)?;
-    let shown_kinds = joined(alloc, kinds.as_slice())?;
-    let command = grammar(
-        alloc,
-        Alternatives {
-            words: architectures.as_slice(),
-            shown: shown_architectures.as_str(),
-        },
-        Alternatives {
-            words: kinds.as_slice(),
-            shown: shown_kinds.as_str(),
-        },
-    )?;
+    let command = grammar(alloc, architectures.alternatives(), kinds.alternatives())?;
     match command.try_get_matches_from(words) {
         Ok(matches) => Ok(obey_matches(rt, alloc, &matches, input, output, faults)),
         Err(error) => Ok(tell_usage(output, faults, &error)),

@@ -3,7 +3,8 @@
 ghost use Rattle.std.specs.Prelude.{◌≡◌, ◌≢◌, ◌<◌, ◌⊎◌, ℕ, List, length, IfErr, IfOk, IfSome};
 ghost use Rattle.std.specs.Prelude.{MatchOption, Ok};
 ghost use Rattle.std.specs.Io.KnownBytes.{Appends};
-ghost use Rattle.msc_chart.specs.Orders.{Enforced};
+ghost use Rattle.msc_chart.specs.Orders.{wired};
+ghost use Rattle.msc_reason.specs.Reasons.{IsReason};
 ghost use Rattle.msc_study.specs.Explained.{told, NamesAll, PrintsPair};
 ghost use Rattle.msc_study.specs.Explaining.{AnswersPair, AreTwoEvents, ExplainsText, IsPairFault};
 ghost use Rattle.msc_study.specs.Explaining.{RefusesInputPair, RefusesPair};
@@ -68,6 +69,21 @@ fn told(reason: &Reason) -> Explained
     }
 }
 
+/// Why `e` is enforced before `f`, or how it need not be.
+fn reason_of(
+    alloc: Global,
+    chart: &Chart,
+    queues: Queues,
+    e: Event,
+    f: Event,
+) -> Result<Reason, AllocError>
+    requires { AreTwoEvents chart.now e f }
+    ensures { IfOk result (IsReason (wired queues chart.now) e f) }
+{
+    let order = Order::enforced(alloc, chart, queues)?;
+    explain(alloc, chart, queues, &order, e, f)
+}
+
 /// Writes why `e` is enforced before `f`, or how it need not be. Nothing is written before the
 /// whole text is known.
 fn write_pair_of<W: Write>(
@@ -87,8 +103,7 @@ fn write_pair_of<W: Write>(
 {
     a_why_is_enough();
     chart.accepted();
-    let order = Order::enforced(alloc, chart, queues)?;
-    let reason = explain(alloc, chart, queues, &order, e, f)?;
+    let reason = reason_of(alloc, chart, queues, e, f)?;
     let page = page_of(alloc, chart, queues, e, f, &reason)?;
     writer.write_all(page.bytes.as_slice())?;
     Ok(told(&reason))
@@ -123,10 +138,10 @@ pub fn explain_text<W: Write>(
         → result ≡ Ok (Explained.Refused fault) → writer.new ≡ writer.old }
 {
     let chart = chart_of_text(alloc, text)?;
-    if let Some(fault) = pair_fault(&chart, e, f) {
-        return Ok(Explained::Refused(fault));
+    match pair_fault(&chart, e, f) {
+        Some(fault) => Ok(Explained::Refused(fault)),
+        None => write_pair_of(alloc, &chart, queues, e, f, writer),
     }
-    write_pair_of(alloc, &chart, queues, e, f, writer)
 }
 
 /// Reads an input to its end, and writes why event `e` of its chart comes before event `f`, or how

@@ -1,6 +1,6 @@
 //! A page of an answer: what has not gone out yet.
 
-ghost use Rattle.std.specs.Prelude.{◌≡◌, [], IfOk, IsOk, OnOk, Some};
+ghost use Rattle.std.specs.Prelude.{◌≡◌, ◌↔◌, [], IfOk, IsOk, OnOk, Some};
 ghost use Rattle.std.specs.Io.{WritesAtMost};
 ghost use Rattle.std.specs.Io.KnownBytes.{Appends, Keeps, WriteAppends};
 
@@ -34,7 +34,8 @@ impl Page {
 
     /// The page, where the writes to it that answered `written` did not run out of memory.
     pub fn if_written(self, written: io::Result<()>) -> Result<Page, AllocError>
-        ensures { IfOk result (λ page. IsOk written × (page.bytes.items ≡ self.bytes.items)) }
+        ensures kept { IfOk result (λ page. page.bytes.items ≡ self.bytes.items) }
+        ensures accepted { IsOk result ↔ IsOk written }
     {
         match written {
             Ok(()) => Ok(self),

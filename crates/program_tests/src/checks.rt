@@ -45,7 +45,7 @@ race 2 4 on b: action 'gr??n?und?rot ~'; in m from a\nrun 0 1 4 2 3\n\
 race 3 4 on b: action ''; in m from a\nrun 0 1 2 4 3\n";
 
 /// Each chart, named `t`, with what is printed of it.
-const PRINTED: [(&[u8], Rests); 14] = [
+const PRINTED: &[(&[u8], Rests)] = &[
     (EMPTY, PASSES),
     (ONE_MESSAGE, PASSES),
     (COREGION, PASSES),
@@ -122,17 +122,17 @@ fn prints_each<R: Host>(rt: &R, text: &[u8], rests: Rests) -> Result<bool, Alloc
 
 #[test]
 fn verdicts_of_the_worked_charts(rt: HostRuntime) -> Result<(), Fail> {
-    for (text, rests) in PRINTED {
+    for &(text, rests) in PRINTED {
         assert!(rt; prints_each(&rt, text, rests)?, "{text:?}");
     }
     Ok(())
 }
 
 /// The words for the architectures.
-const ARCHITECTURES: [&str; 3] = ["pair", "mailbox", "single"];
+const ARCHITECTURES: &[&str] = &["pair", "mailbox", "single"];
 
 /// Texts without a chart, and the line of their fault.
-const REFUSED: [(&[u8], &[u8]); 3] = [
+const REFUSED: &[(&[u8], &[u8])] = &[
     (
         b"msc t; instance a; out m to b; out m to b; endinstance; \
 instance b; in m from a; in m from a; endinstance; endmsc;",
@@ -147,7 +147,7 @@ instance b; in m from a; in m from a; endinstance; endmsc;",
 
 /// Whether `msc check` refuses a text with this line under each architecture.
 fn refuses<R: Host>(rt: &R, text: &[u8], line: &[u8]) -> Result<bool, AllocError> {
-    for queues in ARCHITECTURES {
+    for &queues in ARCHITECTURES {
         let words = ["check", "--queues", queues, "-"];
         if !answers(rt, &words, text, (b"", line, 2))? {
             return Ok(false);
@@ -158,7 +158,7 @@ fn refuses<R: Host>(rt: &R, text: &[u8], line: &[u8]) -> Result<bool, AllocError
 
 #[test]
 fn texts_that_are_refused(rt: HostRuntime) -> Result<(), Fail> {
-    for (text, line) in REFUSED {
+    for &(text, line) in REFUSED {
         assert!(rt; refuses(&rt, text, line)?, "{line:?}");
     }
     Ok(())
@@ -170,7 +170,7 @@ fn passes(alloc: Global, queues: Queues) -> Option<bool> {
 }
 
 /// Whether `relay` passes under each architecture.
-const PASSED: [(Queues, bool); 3] = [
+const PASSED: &[(Queues, bool)] = &[
     (Queues::Pair, false),
     (Queues::Mailbox, true),
     (Queues::Single, false),
@@ -178,7 +178,7 @@ const PASSED: [(Queues, bool); 3] = [
 
 #[test]
 fn the_answer_is_true_for_pass(rt: HostRuntime) {
-    for (queues, passed) in PASSED {
+    for &(queues, passed) in PASSED {
         assert_eq!(rt; passes(rt.alloc(), queues), Some(passed), "{queues:?}");
     }
 }
@@ -221,7 +221,7 @@ fn calls_of_refused(alloc: Global, text: &[u8]) -> Option<u32> {
 
 #[test]
 fn a_refused_text_leaves_the_writer_with_no_call(rt: HostRuntime) {
-    for text in [b"msc t;".as_slice(), b"msc t; inst a; endmsc;"] {
+    for &text in &[b"msc t;".as_slice(), b"msc t; inst a; endmsc;"] {
         assert_eq!(rt; calls_of_refused(rt.alloc(), text), Some(0));
     }
 }

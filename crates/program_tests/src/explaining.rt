@@ -5,7 +5,7 @@ use example_charts::{ONE_MESSAGE, OVERTAKING, RELAY, TWO_SENDERS};
 use std::test::Fail;
 
 /// Charts, an architecture and two events, with what is printed and the exit status.
-const EXPLAINED: [(&[u8], &str, &str, &str, &[u8], u8); 5] = [
+const EXPLAINED: &[(&[u8], &str, &str, &str, &[u8], u8)] = &[
     (
         RELAY,
         "mailbox",
@@ -72,7 +72,7 @@ run 0 1\n",
 
 #[test]
 fn pairs_that_are_explained(rt: HostRuntime) -> Result<(), Fail> {
-    for (text, queues, e, f, printed, status) in EXPLAINED {
+    for &(text, queues, e, f, printed, status) in EXPLAINED {
         let words = ["explain", "--queues", queues, "-", e, f];
         let is = answers(&rt, &words, text, (printed, b"", status))?;
         assert!(rt; is, "{queues} {e} {f}");
@@ -81,7 +81,7 @@ fn pairs_that_are_explained(rt: HostRuntime) -> Result<(), Fail> {
 }
 
 /// Texts and two numbers that are refused, with the line of the fault.
-const REFUSED: [(&[u8], &str, &str, &[u8]); 6] = [
+const REFUSED: &[(&[u8], &str, &str, &[u8])] = &[
     (ONE_MESSAGE, "2", "0", b"pair fault 1: no event 2\n"),
     (
         ONE_MESSAGE,
@@ -107,7 +107,7 @@ const REFUSED: [(&[u8], &str, &str, &[u8]); 6] = [
 
 #[test]
 fn pairs_that_are_refused(rt: HostRuntime) -> Result<(), Fail> {
-    for (text, e, f, line) in REFUSED {
+    for &(text, e, f, line) in REFUSED {
         let words = ["explain", "--queues", "pair", "-", e, f];
         let is = answers(&rt, &words, text, (b"", line, 2))?;
         assert!(rt; is, "{e} {f}");

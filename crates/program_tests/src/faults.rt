@@ -9,7 +9,7 @@ use std::alloc::Global;
 use std::test::Fail;
 
 /// A fault of charts of each kind that has a number, the number, and its line.
-const CHART_FAULTS: [(ChartFault, u32, &str); 10] = [
+const CHART_FAULTS: &[(ChartFault, u32, &str)] = &[
     (
         ChartFault::TooManyInstances,
         1,
@@ -77,7 +77,7 @@ fn is_message(alloc: Global, fault: ChartFault, number: u32, wanted: &str) -> Re
 
 #[test]
 fn a_chart_fault_is_printed_as_its_number_and_its_message(rt: HostRuntime) -> Result<(), Fail> {
-    for (fault, number, wanted) in CHART_FAULTS {
+    for &(fault, number, wanted) in CHART_FAULTS {
         let is = is_line(rt.alloc(), Fault::Chart(fault), wanted)?;
         assert!(rt;
             is && is_message(rt.alloc(), fault, number, wanted)?,
@@ -88,7 +88,7 @@ fn a_chart_fault_is_printed_as_its_number_and_its_message(rt: HostRuntime) -> Re
 }
 
 /// A lexical fault of each kind, its number and its place, and its line.
-const LEXICAL_FAULTS: [(LexFault, &str, &str); 5] = [
+const LEXICAL_FAULTS: &[(LexFault, &str, &str)] = &[
     (
         LexFault::TooLong,
         "1",
@@ -131,7 +131,7 @@ fn is_lexical_message(
 fn a_lexical_fault_is_printed_as_its_number_its_place_and_its_message(
     rt: HostRuntime,
 ) -> Result<(), Fail> {
-    for (fault, head, wanted) in LEXICAL_FAULTS {
+    for &(fault, head, wanted) in LEXICAL_FAULTS {
         let is = is_line(rt.alloc(), Fault::Parse(ParseFault::Lex(fault)), wanted)?;
         assert!(rt;
             is && is_lexical_message(rt.alloc(), fault, head, wanted)?,
@@ -142,7 +142,7 @@ fn a_lexical_fault_is_printed_as_its_number_its_place_and_its_message(
 }
 
 /// The faults that have no number, and their lines, which are their messages.
-const OTHER_FAULTS: [(Fault, &str); 3] = [
+const OTHER_FAULTS: &[(Fault, &str)] = &[
     (Fault::Memory, "memory fault\n"),
     (Fault::Chart(ChartFault::Memory), "memory fault\n"),
     (Fault::Device, "device fault\n"),
@@ -156,7 +156,7 @@ fn is_whole_message(alloc: Global, fault: Fault, wanted: &str) -> Result<bool, F
 
 #[test]
 fn a_fault_without_a_number_is_printed_as_its_message(rt: HostRuntime) -> Result<(), Fail> {
-    for (fault, wanted) in OTHER_FAULTS {
+    for &(fault, wanted) in OTHER_FAULTS {
         let is = is_line(rt.alloc(), fault, wanted)?;
         assert!(rt;
             is && is_whole_message(rt.alloc(), fault, wanted)?,
@@ -167,7 +167,7 @@ fn a_fault_without_a_number_is_printed_as_its_message(rt: HostRuntime) -> Result
 }
 
 /// A fault of running a chart and its line: its number stands before its message.
-const RUN_FAULTS: [(Fault, u32, &str); 3] = [
+const RUN_FAULTS: &[(Fault, u32, &str)] = &[
     (
         Fault::NotStarted(0),
         1,
@@ -193,7 +193,7 @@ fn is_run_message(alloc: Global, fault: Fault, number: u32, wanted: &str) -> Res
 
 #[test]
 fn a_run_fault_is_printed_as_its_number_and_its_message(rt: HostRuntime) -> Result<(), Fail> {
-    for (fault, number, wanted) in RUN_FAULTS {
+    for &(fault, number, wanted) in RUN_FAULTS {
         let is = is_line(rt.alloc(), fault, wanted)?;
         assert!(rt;
             is && is_run_message(rt.alloc(), fault, number, wanted)?,
@@ -204,7 +204,7 @@ fn a_run_fault_is_printed_as_its_number_and_its_message(rt: HostRuntime) -> Resu
 }
 
 /// A fault of pairs of each kind, its number, and its line.
-const PAIR_FAULTS: [(PairFault, u32, &str); 2] = [
+const PAIR_FAULTS: &[(PairFault, u32, &str)] = &[
     (
         PairFault::NoEvent(4294967295),
         1,
@@ -237,7 +237,7 @@ fn is_pair_message(
 
 #[test]
 fn a_pair_fault_is_printed_as_its_number_and_its_message(rt: HostRuntime) -> Result<(), Fail> {
-    for (fault, number, wanted) in PAIR_FAULTS {
+    for &(fault, number, wanted) in PAIR_FAULTS {
         let is = is_pair_line(rt.alloc(), fault, wanted);
         assert!(rt;
             is && is_pair_message(rt.alloc(), fault, number, wanted)?,

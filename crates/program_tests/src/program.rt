@@ -81,7 +81,7 @@ fn is_wrong<R: Host>(rt: &R, words: &[&str]) -> Result<bool, AllocError> {
 }
 
 /// Texts, and what `msc read` prints of them.
-const READ: [(&[u8], &[u8]); 5] = [
+const READ: &[(&[u8], &[u8])] = &[
     (EMPTY, b"msc t;\nendmsc;\n"),
     (b"MSC t; ENDMSC;", b"msc t;\nendmsc;\n"),
     (
@@ -104,7 +104,7 @@ in m from a;\nendinstance;\nendmsc;\n",
 
 #[test]
 fn texts_that_are_read(rt: HostRuntime) -> Result<(), Fail> {
-    for (text, printed) in READ {
+    for &(text, printed) in READ {
         let is = answers(&rt, &["read", "-"], text, (printed, b"", 0))?;
         assert!(rt; is, "{printed:?}");
     }
@@ -112,7 +112,7 @@ fn texts_that_are_read(rt: HostRuntime) -> Result<(), Fail> {
 }
 
 /// The words of one run of each command and architecture.
-const RUNS: [&[&str]; 6] = [
+const RUNS: &[&[&str]] = &[
     &["read", "-"],
     &["check", "--queues", "pair", "-"],
     &["check", "--queues", "mailbox", "-"],
@@ -122,7 +122,7 @@ const RUNS: [&[&str]; 6] = [
 ];
 
 /// Texts without a draft, and the line of their fault.
-const REFUSED: [(&[u8], &[u8]); 17] = [
+const REFUSED: &[(&[u8], &[u8])] = &[
     (
         b"msc t; instance a; out m to env; endinstance; endmsc;",
         b"grammar fault 2 at 28: env is not supported\n",
@@ -177,7 +177,7 @@ const REFUSED: [(&[u8], &[u8]); 17] = [
 
 #[test]
 fn texts_that_are_refused(rt: HostRuntime) -> Result<(), Fail> {
-    for (text, line) in REFUSED {
+    for &(text, line) in REFUSED {
         let is = answers(&rt, &["read", "-"], text, (b"", line, 2))?;
         assert!(rt; is, "{line:?}");
     }
@@ -185,7 +185,7 @@ fn texts_that_are_refused(rt: HostRuntime) -> Result<(), Fail> {
 }
 
 /// Numbers of spaces, one more than a text may have bytes and as many, and the line of their fault.
-const SPACES: [(usize, &[u8]); 2] = [
+const SPACES: &[(usize, &[u8])] = &[
     (
         1_048_577,
         b"lexical fault 1: text longer than 1048576 bytes\n",
@@ -201,14 +201,14 @@ fn refuses_spaces<R: Host>(rt: &R, count: usize, line: &[u8]) -> Result<bool, Al
 
 #[test]
 fn texts_at_the_limit(rt: HostRuntime) -> Result<(), Fail> {
-    for (count, line) in SPACES {
+    for &(count, line) in SPACES {
         assert!(rt; refuses_spaces(&rt, count, line)?, "{line:?}");
     }
     Ok(())
 }
 
 /// Words that name a file that is not there.
-const NO_FILES: [&[&str]; 4] = [
+const NO_FILES: &[&[&str]] = &[
     &["read", "no/such/file.msc"],
     &["check", "--queues", "pair", "no/such/file.msc"],
     &["explain", "--queues", "pair", "no/such/file.msc", "0", "0"],
@@ -217,7 +217,7 @@ const NO_FILES: [&[&str]; 4] = [
 
 #[test]
 fn a_file_that_is_not_there(rt: HostRuntime) -> Result<(), Fail> {
-    for words in NO_FILES {
+    for &words in NO_FILES {
         let is = answers(&rt, words, ONE_MESSAGE, (b"", b"device fault\n", 4))?;
         assert!(rt; is, "{words:?}");
     }
@@ -225,7 +225,7 @@ fn a_file_that_is_not_there(rt: HostRuntime) -> Result<(), Fail> {
 }
 
 /// Words that are no command.
-const WRONG: [&[&str]; 23] = [
+const WRONG: &[&[&str]] = &[
     &[],
     &["read"],
     &["read", "-", "-"],
@@ -253,7 +253,7 @@ const WRONG: [&[&str]; 23] = [
 
 #[test]
 fn wrong_usage(rt: HostRuntime) -> Result<(), Fail> {
-    for words in WRONG {
+    for &words in WRONG {
         assert!(rt; is_wrong(&rt, words)?, "{words:?}");
     }
     Ok(())
@@ -283,7 +283,7 @@ fn fails_when_flushed<R: Host>(rt: &R, words: &[&str]) -> Result<bool, AllocErro
 
 #[test]
 fn an_output_that_fails_at_its_first_call(rt: HostRuntime) -> Result<(), Fail> {
-    for words in RUNS {
+    for &words in RUNS {
         assert!(rt; fails_at_once(&rt, words)?, "{words:?}");
     }
     Ok(())
@@ -291,7 +291,7 @@ fn an_output_that_fails_at_its_first_call(rt: HostRuntime) -> Result<(), Fail> {
 
 #[test]
 fn an_output_that_fails_when_it_is_flushed(rt: HostRuntime) -> Result<(), Fail> {
-    for words in RUNS {
+    for &words in RUNS {
         assert!(rt; fails_when_flushed(&rt, words)?, "{words:?}");
     }
     Ok(())
@@ -321,7 +321,7 @@ fn helps<R: Host>(rt: &R, words: &[&str], part: &str) -> Result<bool, AllocError
 }
 
 /// Words that ask for help, and a part of it.
-const HELP: [(&[&str], &str); 19] = [
+const HELP: &[(&[&str], &str)] = &[
     (&["--help"], "Usage: msc"),
     (&["--help"], "  1  `check` found races that count"),
     (&["--help"], "  3  some instance of `run` has not finished"),
@@ -367,7 +367,7 @@ const HELP: [(&[&str], &str); 19] = [
 
 #[test]
 fn help(rt: HostRuntime) -> Result<(), Fail> {
-    for (words, part) in HELP {
+    for &(words, part) in HELP {
         assert!(rt; helps(&rt, words, part)?, "{words:?}: {part}");
     }
     Ok(())

@@ -21,7 +21,7 @@ type Run = (
 );
 
 /// Executions that are the same whatever the schedule, and texts that are refused.
-const RUN: [Run; 6] = [
+const RUN: &[Run] = &[
     (
         &["run", "--queues", "single", "-"],
         EMPTY,
@@ -73,7 +73,7 @@ trace 4\n0 a action 'go'\n1 a out m to b\n2 b in m from a\n3 b action 'done'\n",
 
 #[test]
 fn executions_that_rest_on_no_schedule(rt: HostRuntime) -> Result<(), Fail> {
-    for (words, text, output, faults, status) in RUN {
+    for &(words, text, output, faults, status) in RUN {
         let is = answers(&rt, words, text, (output, faults, status))?;
         assert!(rt; is, "{words:?}");
     }
@@ -189,7 +189,7 @@ const AFTER_M2: Awaited = [Some(2), None, None, None];
 const MEETING: Awaited = [Some(3), None, None, Some(0)];
 
 /// What events wait for, an architecture, and the traces that may come of that.
-const FORCED: [(Awaited, Queues, [&[u8]; 2]); 9] = [
+const FORCED: &[(Awaited, Queues, [&[u8]; 2])] = &[
     (AFTER_M1, Queues::Pair, [M1_ALONE, M1_ALONE]),
     (AFTER_M1, Queues::Mailbox, [M1_ALONE, M1_ALONE]),
     (AFTER_M1, Queues::Single, [M1_ALONE, M1_ALONE]),
@@ -224,7 +224,7 @@ fn is_forced<R: Host>(rt: &R, queues: Queues, awaited: Awaited, traces: &[&[u8]]
 
 #[test]
 fn gates_force_traces(rt: HostRuntime) -> Result<(), Fail> {
-    for (awaited, queues, traces) in FORCED {
+    for &(awaited, queues, traces) in FORCED {
         let is = is_forced(&rt, queues, awaited, &traces);
         assert!(rt; is, "{queues:?}: {awaited:?}");
     }

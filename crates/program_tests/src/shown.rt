@@ -9,7 +9,7 @@ use std::test::Fail;
 
 /// Numbers of races of `crossing` that are shown with a run, with their words, and what is printed
 /// under `Mailbox`.
-const SHOWN: [(u32, &str, &[u8]); 3] = [
+const SHOWN: &[(u32, &str, &[u8])] = &[
     (
         0,
         "0",
@@ -39,7 +39,7 @@ fn writes(alloc: Global, show: u32, wanted: &[u8]) -> bool {
 
 #[test]
 fn the_first_races_of_crossing_with_their_runs(rt: HostRuntime) -> Result<(), Fail> {
-    for (show, word, wanted) in SHOWN {
+    for &(show, word, wanted) in SHOWN {
         let words = ["check", "--queues", "mailbox", "--show", word, "-"];
         let is = answers(&rt, &words, CROSSING, (wanted, b"", 1))?;
         assert!(rt; is && writes(rt.alloc(), show, wanted), "--show {word}");

@@ -22,7 +22,7 @@ type Printed = (
 );
 
 /// Executions of worked charts, whole ones and such as stopped on the way.
-const PRINTED: [Printed; 8] = [
+const PRINTED: &[Printed] = &[
     (
         EMPTY,
         Queues::Pair,
@@ -134,7 +134,7 @@ fn fails(alloc: Global, printed: &Printed, call: u32) -> Result<bool, Fail> {
 #[test]
 fn executions_of_the_worked_charts(rt: HostRuntime) -> Result<(), Fail> {
     for printed in PRINTED {
-        assert!(rt; writes(rt.alloc(), &printed)?, "{printed:?}");
+        assert!(rt; writes(rt.alloc(), printed)?, "{printed:?}");
     }
     Ok(())
 }
@@ -145,7 +145,7 @@ fn a_failing_write_is_an_error(rt: HostRuntime) -> Result<(), Fail> {
         let calls = printed.4.len() as u32;
         for before in 0..calls {
             let call = before.wrapping_add(1);
-            assert!(rt; fails(rt.alloc(), &printed, call)?, "{printed:?} {call}");
+            assert!(rt; fails(rt.alloc(), printed, call)?, "{printed:?} {call}");
         }
     }
     Ok(())

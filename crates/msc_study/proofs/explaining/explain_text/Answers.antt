@@ -38,4 +38,4 @@ returns-clause-no_chart g c =
 
 pub returns-clause-no_pair : goal.returns-clause-no_pair
 returns-clause-no_pair g c =
-    two_stand c.args.text.now c.args.queues c.args.e c.args.f _ c.in_ok-chart.chart c.in_ok-chart.ensures.only_chart c.in_default.ensures
+    two_stand c.args.text.now c.args.queues c.args.e c.args.f _ c.in_ok-chart.chart c.in_ok-chart.ensures.only_chart c.in-None.ensures
