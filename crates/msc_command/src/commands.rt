@@ -38,6 +38,7 @@ impl Choice {
         Ok(Choice { words, shown })
     }
 
+    /// These words, lent.
     pub fn alternatives(&self) -> Alternatives<'_>
         ensures { result.words.now ≡ self.now.words.items }
     {
@@ -346,11 +347,9 @@ fn bare<'a>(alloc: Global) -> Result<Command<'a>, AllocError>
     ensures { IfOk result (IsCommand bare_command) }
 {
     let command = Command::new(alloc, "msc").bin_name("msc")?;
-    Ok(command
-        .version(VERSION)
-        .about("Check message sequence charts for races, and run them")
-        .after_help(NOTES)
-        .subcommand_required(true))
+    let about = "Check message sequence charts for races, and run them";
+    let command = command.version(VERSION).about(about).after_help(NOTES);
+    Ok(command.subcommand_required(true))
 }
 
 /// The words that the program takes.
