@@ -3,7 +3,7 @@
 
     tests.py [TEST ..]
 
-A TEST is the crate, the module and the function, as `instance_tests::queues::one_thread`; where
+A TEST is the crate, the module and the function, as `program_tests::queues::one_thread`; where
 none is given, it is those below. The tests are those that `rt test` or the gate left in
 crates/CRATE/out. Each allocation of a test is refused alone, and with all later ones. The test has
 to end within a minute by naming the refusal, as want of memory or a thread that was not started.
@@ -23,9 +23,9 @@ from refuse import MOST, Shim
 
 CRATES = pathlib.Path(__file__).resolve().parent.parent.parent / "crates"
 # how a test names a refusal
-NAMED = re.compile(rb"error: (Memory|AllocError|NotStarted\(\d+\))\n")
+NAMED = re.compile(rb"(?m)^[a-z ]+: (Memory|AllocError|NotStarted\(\d+\))$")
 # the test in which a refused call is made again, of queue and settle
-AGAIN = "instance_tests::queues::one_thread"
+AGAIN = "program_tests::queues::one_thread"
 # of each other test, how many sections of its charts have items
 ROOMS = {
     "chart_tests::orders::what_is_drawn_is_in_the_visual_order": 4,  # Order::visual
@@ -56,7 +56,7 @@ class Test:
             return f"no end in {MOST} seconds"
         if status == 0:
             return "passed"
-        return "named" if NAMED.match(said) else f"status {status}: {said[:200]}"
+        return "named" if NAMED.search(said) else f"status {status}: {said[:200]}"
 
 
 def refuse_each(name, shim):

@@ -1,21 +1,21 @@
 //! Charts of drafts: numbers, segments, queues, labels, and drafts that are no chart.
 
+use crate::drafts::draft_of;
+use crate::host::Host;
 use example_charts::{COREGION, EMPTY, LOCAL_EVENTS, NUMBERED, RELAY, TWO_SENDERS};
 use msc_chart::{Chart, ChartFault, Event, EventKind, Queues};
 use msc_parser::parse;
-use std::alloc::{AllocError, Global};
 use std::fmt::Write;
-use std::test::Fail;
 
 /// The chart of a text that has one.
-pub(crate) fn read_chart(alloc: Global, text: &[u8]) -> Result<Chart, Fail> {
-    Ok(Chart::build(alloc, &parse(alloc, text)?)?)
+pub(crate) fn chart_of(rt: &impl Host, text: &[u8]) -> Chart {
+    Chart::build(rt.alloc(), &draft_of(rt, text)).expect(rt, "a chart")
 }
 
 /// Whether a text has a draft with this fault, or whose chart is built where there is none.
-fn has_fault(alloc: Global, text: &[u8], wanted: Option<ChartFault>) -> bool {
-    match parse(alloc, text) {
-        Ok(draft) => Chart::build(alloc, &draft).err() == wanted,
+fn has_fault(rt: &impl Host, text: &[u8], wanted: Option<ChartFault>) -> bool {
+    match parse(rt.alloc(), text) {
+        Ok(draft) => Chart::build(rt.alloc(), &draft).err() == wanted,
         Err(_) => false,
     }
 }
@@ -70,7 +70,7 @@ instance b; in m from a; in m from a; endinstance; endmsc;",
 #[test]
 fn drafts_and_their_faults(rt: HostRuntime) {
     for &(text, wanted) in DRAFTS {
-        assert!(rt; has_fault(rt.alloc(), text, wanted), "{text:?}");
+        assert!(rt; has_fault(&rt, text, wanted), "{text:?}");
     }
 }
 
@@ -79,28 +79,27 @@ fn drafts_and_their_faults(rt: HostRuntime) {
 pub(crate) type Part = (&'static str, u32, &'static str, &'static str);
 
 /// Adds a part to a text.
-fn add_part(text: &mut String, part: Part) -> Result<(), AllocError> {
+fn add_part(rt: &impl Host, text: &mut String, part: Part) {
     let (head, count, before, after) = part;
-    text.push_str(head)?;
+    text.push_str(head).expect(rt, "memory");
     for k in 0..count {
-        write!(text, "{before}{k}{after}")?;
+        write!(text, "{before}{k}{after}").expect(rt, "memory");
     }
-    Ok(())
 }
 
 /// The text of these parts.
-pub(crate) fn text_of(alloc: Global, parts: &[Part]) -> Result<String, AllocError> {
-    let mut text = String::new(alloc);
+pub(crate) fn text_of(rt: &impl Host, parts: &[Part]) -> String {
+    let mut text = String::new(rt.alloc());
     for part in parts {
-        add_part(&mut text, *part)?;
+        add_part(rt, &mut text, *part);
     }
-    Ok(text)
+    text
 }
 
 /// Whether the draft of that text has this fault, or none.
-fn is_limit(alloc: Global, parts: &[Part], wanted: Option<ChartFault>) -> Result<bool, AllocError> {
-    let text = text_of(alloc, parts)?;
-    Ok(has_fault(alloc, text.as_bytes(), wanted))
+fn is_limit(rt: &impl Host, parts: &[Part], wanted: Option<ChartFault>) -> bool {
+    let text = text_of(rt, parts);
+    has_fault(rt, text.as_bytes(), wanted)
 }
 
 /// The beginning of a text, with its first section.
@@ -158,11 +157,10 @@ const LIMITS: &[(&[Part], Option<ChartFault>)] = &[
 ];
 
 #[test]
-fn the_limits_of_charts(rt: HostRuntime) -> Result<(), Fail> {
+fn the_limits_of_charts(rt: HostRuntime) {
     for &(parts, wanted) in LIMITS {
-        assert!(rt; is_limit(rt.alloc(), parts, wanted)?, "{wanted:?}");
+        assert!(rt; is_limit(&rt, parts, wanted), "{wanted:?}");
     }
-    Ok(())
 }
 
 /// How many events a chart has, the segments of two of them, and whether the first is drawn before
@@ -180,8 +178,8 @@ fn drawn(chart: &Chart, e: Event, f: Event) -> Option<Drawn> {
 }
 
 /// Whether this is drawn of two events of a text's chart.
-fn is_drawn(alloc: Global, text: &[u8], e: Event, f: Event, wanted: Drawn) -> Result<bool, Fail> {
-    Ok(drawn(&read_chart(alloc, text)?, e, f) == Some(wanted))
+fn is_drawn(rt: &impl Host, text: &[u8], e: Event, f: Event, wanted: Drawn) -> bool {
+    drawn(&chart_of(rt, text), e, f) == Some(wanted)
 }
 
 /// A chart in which a coregion without events stands between two events.
@@ -197,12 +195,11 @@ const DRAWN: &[(&[u8], Event, Event, Drawn)] = &[
 ];
 
 #[test]
-fn segments_and_what_is_drawn_before(rt: HostRuntime) -> Result<(), Fail> {
+fn segments_and_what_is_drawn_before(rt: HostRuntime) {
     for &(text, e, f, wanted) in DRAWN {
-        let is = is_drawn(rt.alloc(), text, e, f, wanted)?;
+        let is = is_drawn(&rt, text, e, f, wanted);
         assert!(rt; is, "({e}, {f}): {text:?}");
     }
-    Ok(())
 }
 
 /// Whether a chart has these names: its own, that of its last instance, and that of its second
@@ -216,14 +213,13 @@ fn has_names(chart: &Chart, [name, instance, message]: [&[u8]; 3]) -> bool {
 }
 
 /// Whether the chart of a text has these names.
-fn is_named(alloc: Global, text: &[u8], names: [&[u8]; 3]) -> Result<bool, Fail> {
-    Ok(has_names(&read_chart(alloc, text)?, names))
+fn is_named(rt: &impl Host, text: &[u8], names: [&[u8]; 3]) -> bool {
+    has_names(&chart_of(rt, text), names)
 }
 
 #[test]
-fn names_of_relay(rt: HostRuntime) -> Result<(), Fail> {
-    assert!(rt; is_named(rt.alloc(), RELAY, [b"t", b"c", b"x"])?);
-    Ok(())
+fn names_of_relay(rt: HostRuntime) {
+    assert!(rt; is_named(&rt, RELAY, [b"t", b"c", b"x"]));
 }
 
 /// The line of an instance of a chart, if it has the instance.
@@ -236,13 +232,8 @@ fn line(chart: &Chart, i: u32) -> Option<(Event, Event)> {
 
 /// Whether a text's chart has an instance with this line, or where there is none, no instance of
 /// this number.
-fn is_line(
-    alloc: Global,
-    text: &[u8],
-    i: u32,
-    wanted: Option<(Event, Event)>,
-) -> Result<bool, Fail> {
-    Ok(line(&read_chart(alloc, text)?, i) == wanted)
+fn is_line(rt: &impl Host, text: &[u8], i: u32, wanted: Option<(Event, Event)>) -> bool {
+    line(&chart_of(rt, text), i) == wanted
 }
 
 /// The instances of `relay` and their lines, and the number past the last instance.
@@ -254,11 +245,10 @@ const LINES: &[(u32, Option<(Event, Event)>)] = &[
 ];
 
 #[test]
-fn lines_of_relay(rt: HostRuntime) -> Result<(), Fail> {
+fn lines_of_relay(rt: HostRuntime) {
     for &(i, wanted) in LINES {
-        assert!(rt; is_line(rt.alloc(), RELAY, i, wanted)?, "{i}");
+        assert!(rt; is_line(&rt, RELAY, i, wanted), "{i}");
     }
-    Ok(())
 }
 
 /// The instance, the kind, the partner and the message of an event.
@@ -274,8 +264,8 @@ fn shown(chart: &Chart, e: Event) -> Option<Shown> {
 }
 
 /// Whether a text's chart has an event of which this is shown.
-fn is_event(alloc: Global, text: &[u8], e: Event, wanted: Shown) -> Result<bool, Fail> {
-    Ok(shown(&read_chart(alloc, text)?, e) == Some(wanted))
+fn is_event(rt: &impl Host, text: &[u8], e: Event, wanted: Shown) -> bool {
+    shown(&chart_of(rt, text), e) == Some(wanted)
 }
 
 /// Texts, an event, and what is shown of it.
@@ -289,11 +279,10 @@ const EVENTS: &[(&[u8], Event, Shown)] = &[
 ];
 
 #[test]
-fn events_of_charts(rt: HostRuntime) -> Result<(), Fail> {
+fn events_of_charts(rt: HostRuntime) {
     for &(text, e, wanted) in EVENTS {
-        assert!(rt; is_event(rt.alloc(), text, e, wanted)?, "{e}: {text:?}");
+        assert!(rt; is_event(&rt, text, e, wanted), "{e}: {text:?}");
     }
-    Ok(())
 }
 
 /// Whether an event of a chart has this label.
@@ -302,8 +291,8 @@ fn has_label(chart: &Chart, e: Event, label: Option<&[u8]>) -> bool {
 }
 
 /// Whether an event of a text's chart has this label.
-fn is_label(alloc: Global, text: &[u8], e: Event, label: Option<&[u8]>) -> Result<bool, Fail> {
-    Ok(has_label(&read_chart(alloc, text)?, e, label))
+fn is_label(rt: &impl Host, text: &[u8], e: Event, label: Option<&[u8]>) -> bool {
+    has_label(&chart_of(rt, text), e, label)
 }
 
 /// A chart with actions: one with apostrophes, one without a text.
@@ -320,11 +309,10 @@ const LABELS: &[(&[u8], Event, Option<&[u8]>)] = &[
 ];
 
 #[test]
-fn labels_of_local_events(rt: HostRuntime) -> Result<(), Fail> {
+fn labels_of_local_events(rt: HostRuntime) {
     for &(text, e, wanted) in LABELS {
-        assert!(rt; is_label(rt.alloc(), text, e, wanted)?, "{e}: {text:?}");
+        assert!(rt; is_label(&rt, text, e, wanted), "{e}: {text:?}");
     }
-    Ok(())
 }
 
 /// The output, the input, the sender and the receiver of a message, and its queue under each
@@ -344,8 +332,8 @@ fn sent(chart: &Chart, m: u32) -> Option<Sent> {
 }
 
 /// Whether this is shown of a message of a text's chart.
-fn is_sent(alloc: Global, text: &[u8], m: u32, wanted: Option<Sent>) -> Result<bool, Fail> {
-    Ok(sent(&read_chart(alloc, text)?, m) == wanted)
+fn is_sent(rt: &impl Host, text: &[u8], m: u32, wanted: Option<Sent>) -> bool {
+    sent(&chart_of(rt, text), m) == wanted
 }
 
 /// The messages of `relay`, and the number past the last one.
@@ -357,9 +345,8 @@ const SENT: &[(u32, Option<Sent>)] = &[
 ];
 
 #[test]
-fn messages_of_relay_and_their_queues(rt: HostRuntime) -> Result<(), Fail> {
+fn messages_of_relay_and_their_queues(rt: HostRuntime) {
     for &(m, wanted) in SENT {
-        assert!(rt; is_sent(rt.alloc(), RELAY, m, wanted)?, "{m}");
+        assert!(rt; is_sent(&rt, RELAY, m, wanted), "{m}");
     }
-    Ok(())
 }

@@ -1,7 +1,8 @@
 //! Closest races. The expected values are read off the charts by hand, from the definitions in
 //! `docs/MODEL.md`.
 
-use crate::charts::{Part, read_chart, text_of};
+use crate::charts::{Part, chart_of, text_of};
+use crate::host::Host;
 use example_charts::{
     BELOW_COREGION, CROSSING, OVERTAKING, RELAY, TWO_MAILBOXES, TWO_SENDERS, WAITS,
 };
@@ -9,8 +10,6 @@ use msc_chart::{Chart, Event, Queues};
 use msc_order::Order;
 use msc_race::races;
 use msc_reason::closest;
-use std::alloc::Global;
-use std::test::Fail;
 
 /// An output between two inputs of one queue, which are taken in the order in which they were not
 /// sent: the later input always comes first, and before the output.
@@ -39,33 +38,25 @@ const CLOSEST: &[(&[u8], Queues, &[(Event, Event)])] = &[
 ];
 
 /// Whether these are the closest races of a chart under an architecture.
-fn are_near(
-    alloc: Global,
-    chart: &Chart,
-    queues: Queues,
-    wanted: &[(Event, Event)],
-) -> Result<bool, Fail> {
-    let order = Order::enforced(alloc, chart, queues)?;
-    Ok(closest(alloc, chart, queues, &order)?.as_slice() == wanted)
+fn are_near(rt: &impl Host, chart: &Chart, queues: Queues, wanted: &[(Event, Event)]) -> bool {
+    let order = Order::enforced(rt.alloc(), chart, queues).expect(rt, "an order");
+    closest(rt.alloc(), chart, queues, &order)
+        .expect(rt, "races")
+        .as_slice()
+        == wanted
 }
 
 /// The same of a text's chart.
-fn are_closest(
-    alloc: Global,
-    text: &[u8],
-    queues: Queues,
-    wanted: &[(Event, Event)],
-) -> Result<bool, Fail> {
-    are_near(alloc, &read_chart(alloc, text)?, queues, wanted)
+fn are_closest(rt: &impl Host, text: &[u8], queues: Queues, wanted: &[(Event, Event)]) -> bool {
+    are_near(rt, &chart_of(rt, text), queues, wanted)
 }
 
 #[test]
-fn closest_races(rt: HostRuntime) -> Result<(), Fail> {
+fn closest_races(rt: HostRuntime) {
     for &(text, queues, wanted) in CLOSEST {
-        let are = are_closest(rt.alloc(), text, queues, wanted)?;
+        let are = are_closest(&rt, text, queues, wanted);
         assert!(rt; are, "{wanted:?}, {queues:?}");
     }
-    Ok(())
 }
 
 /// Texts with as many messages from each of two senders, drawn one stream below the other; how many
@@ -99,24 +90,23 @@ const STREAMS: &[(&[Part], usize, (Event, Event))] = &[
 type Counted = (usize, usize, Option<(Event, Event)>);
 
 /// How many races and how many closest races a chart has, and the first of these.
-fn counted(alloc: Global, chart: &Chart) -> Result<Counted, Fail> {
-    let order = Order::enforced(alloc, chart, Queues::Pair)?;
-    let near = closest(alloc, chart, Queues::Pair, &order)?;
-    let all = races(alloc, chart, &order)?.len();
-    Ok((all, near.len(), near.first().copied()))
+fn counted(rt: &impl Host, chart: &Chart) -> Counted {
+    let order = Order::enforced(rt.alloc(), chart, Queues::Pair).expect(rt, "an order");
+    let near = closest(rt.alloc(), chart, Queues::Pair, &order).expect(rt, "races");
+    let all = races(rt.alloc(), chart, &order).expect(rt, "races").len();
+    (all, near.len(), near.first().copied())
 }
 
 /// The same of the chart of a text of these parts.
-fn of_streams(alloc: Global, parts: &[Part]) -> Result<Counted, Fail> {
-    let text = text_of(alloc, parts)?;
-    counted(alloc, &read_chart(alloc, text.as_bytes())?)
+fn of_streams(rt: &impl Host, parts: &[Part]) -> Counted {
+    let text = text_of(rt, parts);
+    counted(rt, &chart_of(rt, text.as_bytes()))
 }
 
 #[test]
-fn two_streams_have_one_closest_race(rt: HostRuntime) -> Result<(), Fail> {
+fn two_streams_have_one_closest_race(rt: HostRuntime) {
     for &(parts, all, pair) in STREAMS {
-        let is = of_streams(rt.alloc(), parts)? == (all, 1, Some(pair));
+        let is = of_streams(&rt, parts) == (all, 1, Some(pair));
         assert!(rt; is, "{all} races");
     }
-    Ok(())
 }

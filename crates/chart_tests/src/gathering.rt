@@ -1,11 +1,10 @@
 //! Logs that are gathered into the least run that has them as its lines, and logs of no run.
 
-use crate::charts::read_chart;
+use crate::charts::chart_of;
+use crate::host::Host;
 use example_charts::{CROSSING, RELAY, TWO_SENDERS};
-use msc_chart::{Event, Queues};
+use msc_chart::{Chart, Event, Queues};
 use msc_gather::{GatherFault, gather};
-use std::alloc::{AllocError, Global};
-use std::test::Fail;
 
 /// Texts, architectures, logs, and the run that they are gathered into.
 const GATHERED: &[(&[u8], Queues, &[&[Event]], &[Event])] = &[
@@ -70,52 +69,60 @@ const OF_NO_RUN: &[&[&[Event]]] = &[
 ];
 
 /// A log as a list of its own.
-fn own(alloc: Global, log: &[Event]) -> Result<Vec<Event>, AllocError> {
-    let mut own = Vec::new(alloc);
-    own.extend_from_slice(log)?;
-    Ok(own)
+fn own(rt: &impl Host, log: &[Event]) -> Vec<Event> {
+    let mut own = Vec::new(rt.alloc());
+    own.extend_from_slice(log).expect(rt, "memory");
+    own
 }
 
 /// The logs as lists of their own.
-fn owned(alloc: Global, logs: &[&[Event]]) -> Result<Vec<Vec<Event>>, AllocError> {
-    let mut all = Vec::new(alloc);
+fn owned(rt: &impl Host, logs: &[&[Event]]) -> Vec<Vec<Event>> {
+    let mut all = Vec::new(rt.alloc());
     for log in logs {
-        all.push(own(alloc, log)?)?;
+        all.push(own(rt, log)).expect(rt, "memory");
     }
-    Ok(all)
+    all
 }
 
-/// Whether the logs of a text's chart are gathered into this run, or where there is none, no run
-/// has them as its lines.
+/// Whether the logs of a chart are gathered into this run, or where there is none, no run has them
+/// as its lines.
+fn is_gathered_in(
+    rt: &impl Host,
+    chart: &Chart,
+    queues: Queues,
+    logs: &[Vec<Event>],
+    wanted: Option<&[Event]>,
+) -> bool {
+    match gather(rt.alloc(), chart, queues, logs) {
+        Ok(run) => Some(run.as_slice()) == wanted,
+        Err(GatherFault::NoMerge) => wanted.is_none(),
+        Err(_) => false,
+    }
+}
+
+/// The same of a text's chart.
 fn is_gathered(
-    alloc: Global,
+    rt: &impl Host,
     text: &[u8],
     queues: Queues,
     logs: &[&[Event]],
     wanted: Option<&[Event]>,
-) -> Result<bool, Fail> {
-    let chart = read_chart(alloc, text)?;
-    Ok(match gather(alloc, &chart, queues, &owned(alloc, logs)?) {
-        Ok(run) => Some(run.as_slice()) == wanted,
-        Err(GatherFault::NoMerge) => wanted.is_none(),
-        Err(_) => false,
-    })
+) -> bool {
+    is_gathered_in(rt, &chart_of(rt, text), queues, &owned(rt, logs), wanted)
 }
 
 #[test]
-fn logs_of_runs(rt: HostRuntime) -> Result<(), Fail> {
+fn logs_of_runs(rt: HostRuntime) {
     for &(text, queues, logs, wanted) in GATHERED {
-        let is = is_gathered(rt.alloc(), text, queues, logs, Some(wanted))?;
+        let is = is_gathered(&rt, text, queues, logs, Some(wanted));
         assert!(rt; is, "{queues:?} {wanted:?}");
     }
-    Ok(())
 }
 
 #[test]
-fn logs_of_no_run(rt: HostRuntime) -> Result<(), Fail> {
+fn logs_of_no_run(rt: HostRuntime) {
     for &logs in OF_NO_RUN {
-        let is = is_gathered(rt.alloc(), CROSSING, Queues::Pair, logs, None)?;
+        let is = is_gathered(&rt, CROSSING, Queues::Pair, logs, None);
         assert!(rt; is, "{}", logs.len());
     }
-    Ok(())
 }

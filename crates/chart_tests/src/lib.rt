@@ -1,12 +1,23 @@
-//! Tests of charts: their events, orders, races and runs, and logs that are gathered into runs.
+//! Tests of reading and of charts: tokens, drafts, the grammar and the fault of each text that is
+//! refused; events, orders, races and runs, and logs that are gathered into runs.
 #![tactic(auto)]
 
+#[cfg(test)]
+mod actions;
 #[cfg(test)]
 mod charts;
 #[cfg(test)]
 mod closest;
 #[cfg(test)]
+mod drafts;
+#[cfg(test)]
+mod faults;
+#[cfg(test)]
 mod gathering;
+#[cfg(test)]
+mod grammar;
+#[cfg(test)]
+mod host;
 #[cfg(test)]
 mod orders;
 #[cfg(test)]
@@ -15,3 +26,5 @@ mod races;
 mod reasons;
 #[cfg(test)]
 mod runs;
+#[cfg(test)]
+mod tokens;

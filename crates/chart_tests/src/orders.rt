@@ -2,12 +2,11 @@
 
 ghost use Rattle.std.specs.Prelude.{◌≡◌, ◌<◌, length};
 
-use crate::charts::read_chart;
+use crate::charts::chart_of;
+use crate::host::Host;
 use example_charts::{LOCAL_EVENTS, OVERTAKING, RELAY, TWO_MAILBOXES, TWO_SENDERS, WAITS};
 use msc_chart::{Event, Queues};
 use msc_order::Order;
-use std::alloc::Global;
-use std::test::Fail;
 
 /// How many events an order is of, and whether it holds two of them in this order, and in the
 /// other.
@@ -24,24 +23,24 @@ fn is_held(order: &Order, events: u32, e: Event, f: Event, wanted: Held) -> bool
 }
 
 /// Whether this is held by the visual order of a text's chart.
-fn is_seen(alloc: Global, text: &[u8], e: Event, f: Event, wanted: Held) -> Result<bool, Fail> {
-    let chart = read_chart(alloc, text)?;
-    let order = Order::visual(alloc, &chart)?;
-    Ok(is_held(&order, chart.events(), e, f, wanted))
+fn is_seen(rt: &impl Host, text: &[u8], e: Event, f: Event, wanted: Held) -> bool {
+    let chart = chart_of(rt, text);
+    let order = Order::visual(rt.alloc(), &chart).expect(rt, "an order");
+    is_held(&order, chart.events(), e, f, wanted)
 }
 
 /// Whether this is held by the enforced order of a text's chart.
 fn is_enforced(
-    alloc: Global,
+    rt: &impl Host,
     text: &[u8],
     queues: Queues,
     e: Event,
     f: Event,
     wanted: Held,
-) -> Result<bool, Fail> {
-    let chart = read_chart(alloc, text)?;
-    let order = Order::enforced(alloc, &chart, queues)?;
-    Ok(is_held(&order, chart.events(), e, f, wanted))
+) -> bool {
+    let chart = chart_of(rt, text);
+    let order = Order::enforced(rt.alloc(), &chart, queues).expect(rt, "an order");
+    is_held(&order, chart.events(), e, f, wanted)
 }
 
 /// Texts, two events, and what the visual order holds of them.
@@ -51,11 +50,10 @@ const SEEN: &[(&[u8], Event, Event, Held)] = &[
 ];
 
 #[test]
-fn what_is_drawn_is_in_the_visual_order(rt: HostRuntime) -> Result<(), Fail> {
+fn what_is_drawn_is_in_the_visual_order(rt: HostRuntime) {
     for &(text, e, f, wanted) in SEEN {
-        assert!(rt; is_seen(rt.alloc(), text, e, f, wanted)?, "{text:?}");
+        assert!(rt; is_seen(&rt, text, e, f, wanted), "{text:?}");
     }
-    Ok(())
 }
 
 /// Texts, architectures, two events, and what the enforced order holds of them.
@@ -71,12 +69,11 @@ const ENFORCED: &[(&[u8], Queues, Event, Event, Held)] = &[
 ];
 
 #[test]
-fn what_an_architecture_enforces(rt: HostRuntime) -> Result<(), Fail> {
+fn what_an_architecture_enforces(rt: HostRuntime) {
     for &(text, queues, e, f, wanted) in ENFORCED {
-        let is = is_enforced(rt.alloc(), text, queues, e, f, wanted)?;
+        let is = is_enforced(&rt, text, queues, e, f, wanted);
         assert!(rt; is, "{queues:?}: {text:?}");
     }
-    Ok(())
 }
 
 /// What of a list of pairs, ascending, follows the pairs that an order holds of one first event, if
@@ -117,15 +114,10 @@ fn are_pairs(order: &Order, events: u32, pairs: &[(Event, Event)]) -> bool
 }
 
 /// Whether these are the pairs of the enforced order of a text's chart.
-fn are_enforced(
-    alloc: Global,
-    text: &[u8],
-    queues: Queues,
-    wanted: &[(Event, Event)],
-) -> Result<bool, Fail> {
-    let chart = read_chart(alloc, text)?;
-    let order = Order::enforced(alloc, &chart, queues)?;
-    Ok(are_pairs(&order, chart.events(), wanted))
+fn are_enforced(rt: &impl Host, text: &[u8], queues: Queues, wanted: &[(Event, Event)]) -> bool {
+    let chart = chart_of(rt, text);
+    let order = Order::enforced(rt.alloc(), &chart, queues).expect(rt, "an order");
+    are_pairs(&order, chart.events(), wanted)
 }
 
 /// The pairs of `two_mailboxes` that mailboxes enforce.
@@ -141,10 +133,9 @@ const ENFORCED_BY_MAILBOXES: &[(Event, Event)] = &[
 ];
 
 #[test]
-fn the_enforced_pairs_of_two_mailboxes(rt: HostRuntime) -> Result<(), Fail> {
+fn the_enforced_pairs_of_two_mailboxes(rt: HostRuntime) {
     let queues = Queues::Mailbox;
-    assert!(rt; are_enforced(rt.alloc(), TWO_MAILBOXES, queues, ENFORCED_BY_MAILBOXES)?);
-    Ok(())
+    assert!(rt; are_enforced(&rt, TWO_MAILBOXES, queues, ENFORCED_BY_MAILBOXES));
 }
 
 /// Whether an event's row of an order of so many events is this word.
@@ -155,16 +146,15 @@ fn has_row(order: &Order, events: u32, e: Event, wanted: u64) -> bool
 }
 
 /// Whether an event's row of the enforced order of a text's chart under `Pair` is this word.
-fn is_row(alloc: Global, text: &[u8], e: Event, wanted: u64) -> Result<bool, Fail> {
-    let chart = read_chart(alloc, text)?;
-    let order = Order::enforced(alloc, &chart, Queues::Pair)?;
-    Ok(has_row(&order, chart.events(), e, wanted))
+fn is_row(rt: &impl Host, text: &[u8], e: Event, wanted: u64) -> bool {
+    let chart = chart_of(rt, text);
+    let order = Order::enforced(rt.alloc(), &chart, Queues::Pair).expect(rt, "an order");
+    has_row(&order, chart.events(), e, wanted)
 }
 
 #[test]
-fn the_rows_of_two_senders(rt: HostRuntime) -> Result<(), Fail> {
+fn the_rows_of_two_senders(rt: HostRuntime) {
     for &(e, wanted) in &[(0, 2), (1, 0), (2, 0), (3, 4)] {
-        assert!(rt; is_row(rt.alloc(), TWO_SENDERS, e, wanted)?, "{e}");
+        assert!(rt; is_row(&rt, TWO_SENDERS, e, wanted), "{e}");
     }
-    Ok(())
 }

@@ -1,12 +1,11 @@
 //! Races of charts, and verdicts. Those of the worked charts are tested as they are printed, in
 //! `program_tests`.
 
-use crate::charts::read_chart;
+use crate::charts::chart_of;
+use crate::host::Host;
 use msc_chart::{Event, Queues};
 use msc_race::{Verdict, check};
-use std::alloc::{AllocError, Global};
 use std::fmt::Write;
-use std::test::Fail;
 
 /// A chart in which what follows the queue rule is enforced as well.
 const REPLY: &[u8] = b"msc t; instance a; out m1 to b; out m2 to b; endinstance; \
@@ -22,35 +21,33 @@ fn are_listed(verdict: &Verdict, wanted: &[(Event, Event)]) -> bool {
 }
 
 /// Whether these are the races of a text's chart under an architecture.
-fn are_races(
-    alloc: Global,
-    text: &[u8],
-    queues: Queues,
-    wanted: &[(Event, Event)],
-) -> Result<bool, Fail> {
-    let chart = read_chart(alloc, text)?;
-    Ok(are_listed(&check(alloc, &chart, queues)?, wanted))
+fn are_races(rt: &impl Host, text: &[u8], queues: Queues, wanted: &[(Event, Event)]) -> bool {
+    let chart = chart_of(rt, text);
+    are_listed(
+        &check(rt.alloc(), &chart, queues).expect(rt, "a verdict"),
+        wanted,
+    )
 }
 
 #[test]
-fn what_follows_the_queue_rule_is_enforced(rt: HostRuntime) -> Result<(), Fail> {
-    assert!(rt; are_races(rt.alloc(), REPLY, Queues::Pair, &[(2, 4), (3, 4)])?);
-    Ok(())
+fn what_follows_the_queue_rule_is_enforced(rt: HostRuntime) {
+    assert!(rt; are_races(&rt, REPLY, Queues::Pair, &[(2, 4), (3, 4)]));
 }
 
 /// So many messages from a to b, in one order or the inputs in reverse.
-fn messages(alloc: Global, count: u32, reversed: bool) -> Result<String, AllocError> {
-    let mut text = String::from_str(alloc, "msc t;instance a;")?;
+fn messages(rt: &impl Host, count: u32, reversed: bool) -> String {
+    let mut text = String::from_str(rt.alloc(), "msc t;instance a;").expect(rt, "memory");
     for m in 0..count {
-        write!(text, "out m{m} to b;")?;
+        write!(text, "out m{m} to b;").expect(rt, "memory");
     }
-    text.push_str("endinstance;instance b;")?;
+    text.push_str("endinstance;instance b;")
+        .expect(rt, "memory");
     for m in 0..count {
         let k = if reversed { count - 1 - m } else { m };
-        write!(text, "in m{k} from a;")?;
+        write!(text, "in m{k} from a;").expect(rt, "memory");
     }
-    text.push_str("endinstance;endmsc;")?;
-    Ok(text)
+    text.push_str("endinstance;endmsc;").expect(rt, "memory");
+    text
 }
 
 /// How many races there are, the first and the last.
@@ -68,22 +65,16 @@ fn summary_of(verdict: &Verdict) -> Summary {
 }
 
 /// How many races there are of a text's chart under an architecture, the first and the last.
-fn summary(alloc: Global, text: &[u8], queues: Queues) -> Result<Summary, Fail> {
-    let chart = read_chart(alloc, text)?;
-    Ok(summary_of(&check(alloc, &chart, queues)?))
+fn summary(rt: &impl Host, text: &[u8], queues: Queues) -> Summary {
+    let chart = chart_of(rt, text);
+    summary_of(&check(rt.alloc(), &chart, queues).expect(rt, "a verdict"))
 }
 
 /// Whether these are the races of so many messages from a to b, in one order or the inputs in
 /// reverse.
-fn are_many(
-    alloc: Global,
-    count: u32,
-    reversed: bool,
-    queues: Queues,
-    wanted: Summary,
-) -> Result<bool, Fail> {
-    let text = messages(alloc, count, reversed)?;
-    Ok(summary(alloc, text.as_bytes(), queues)? == wanted)
+fn are_many(rt: &impl Host, count: u32, reversed: bool, queues: Queues, wanted: Summary) -> bool {
+    let text = messages(rt, count, reversed);
+    summary(rt, text.as_bytes(), queues) == wanted
 }
 
 /// Numbers of messages, whether their inputs are in reverse, architectures, and the races.
@@ -123,10 +114,9 @@ const MANY: &[(u32, bool, Queues, Summary)] = &[
 ];
 
 #[test]
-fn many_messages(rt: HostRuntime) -> Result<(), Fail> {
+fn many_messages(rt: HostRuntime) {
     for &(count, reversed, queues, wanted) in MANY {
-        let are = are_many(rt.alloc(), count, reversed, queues, wanted)?;
+        let are = are_many(&rt, count, reversed, queues, wanted);
         assert!(rt; are, "{count} messages, {queues:?}");
     }
-    Ok(())
 }

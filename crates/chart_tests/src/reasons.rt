@@ -1,16 +1,15 @@
 //! Why races are races, and why pairs are enforced. The expected values are read off the charts by
 //! hand, from the definitions in `docs/MODEL.md`.
 
-use crate::charts::read_chart;
+use crate::charts::chart_of;
 use crate::closest::OUTPUT_BETWEEN;
+use crate::host::Host;
 use example_charts::{
     CROSSING, LOCAL_EVENTS, OVERTAKING, RELAY, TWO_MAILBOXES, TWO_SENDERS, WAITS,
 };
 use msc_chart::{Chart, Event, Queues};
 use msc_order::Order;
 use msc_reason::{Lack, RaceKind, Reason, Why, explain, is_race, lack_of};
-use std::alloc::Global;
-use std::test::Fail;
 
 /// The kind of a race, what it needs before which output, and whether it is reversed always.
 type Cause = (RaceKind, Event, Event, bool);
@@ -113,52 +112,47 @@ const REASONS: &[(&[u8], Queues, (Event, Event), Option<Cause>)] = &[
 ];
 
 /// Why a pair of events of a chart is a race under an architecture, where it is one.
-fn reason_in(
-    alloc: Global,
-    chart: &Chart,
-    queues: Queues,
-    pair: (Event, Event),
-) -> Result<Option<Cause>, Fail> {
+fn reason_in(rt: &impl Host, chart: &Chart, queues: Queues, pair: (Event, Event)) -> Option<Cause> {
     let (e, f) = pair;
     if e >= chart.events() || f >= chart.events() {
-        return Ok(None);
+        return None;
     }
-    let order = Order::enforced(alloc, chart, queues)?;
+    let order = Order::enforced(rt.alloc(), chart, queues).expect(rt, "an order");
     if !is_race(chart, queues, &order, e, f) {
-        return Ok(None);
+        return None;
     }
     let lack = lack_of(chart, queues, &order, e, f);
-    Ok(Some((lack.kind, lack.needed, lack.output, lack.always)))
+    Some((lack.kind, lack.needed, lack.output, lack.always))
 }
 
 /// The same of a text's chart.
-fn reason_of(
-    alloc: Global,
-    text: &[u8],
-    queues: Queues,
-    pair: (Event, Event),
-) -> Result<Option<Cause>, Fail> {
-    reason_in(alloc, &read_chart(alloc, text)?, queues, pair)
+fn reason_of(rt: &impl Host, text: &[u8], queues: Queues, pair: (Event, Event)) -> Option<Cause> {
+    reason_in(rt, &chart_of(rt, text), queues, pair)
 }
 
 #[test]
-fn reasons_of_races(rt: HostRuntime) -> Result<(), Fail> {
+fn reasons_of_races(rt: HostRuntime) {
     for &(text, queues, pair, wanted) in REASONS {
-        let reason = reason_of(rt.alloc(), text, queues, pair)?;
+        let reason = reason_of(&rt, text, queues, pair);
         assert!(rt; reason == wanted, "{pair:?}, {queues:?}");
     }
-    Ok(())
 }
 
+/// All kinds of races, and their words.
+const WORDS: &[(RaceKind, &str)] = &[
+    (RaceKind::Early, "early"),
+    (RaceKind::Queues, "queues"),
+    (RaceKind::Unordered, "unordered"),
+    (RaceKind::Overtaken, "overtaken"),
+];
+
 #[test]
-fn words_of_kinds(rt: HostRuntime) -> Result<(), Fail> {
-    let words = ["early", "queues", "unordered", "overtaken"];
-    for (kind, word) in RaceKind::ALL.into_iter().zip(words) {
+fn words_of_kinds(rt: HostRuntime) {
+    for &(kind, word) in WORDS {
         let is = kind.word() == word && RaceKind::of(word) == Some(kind);
         assert!(rt; is, "{word}");
     }
     assert!(rt; RaceKind::of("late").is_none());
-    Ok(())
 }
 
 /// Three messages from a to b, in their order.
@@ -215,28 +209,18 @@ fn shown(why: &Why) -> Shown<'_> {
 
 /// What is said of a pair of events of a chart under an architecture, if the chart has both and
 /// they are two.
-fn said_of(
-    alloc: Global,
-    chart: &Chart,
-    queues: Queues,
-    pair: (Event, Event),
-) -> Result<Option<Reason>, Fail> {
+fn said_of(rt: &impl Host, chart: &Chart, queues: Queues, pair: (Event, Event)) -> Option<Reason> {
     let (e, f) = pair;
     if e >= chart.events() || f >= chart.events() || e == f {
-        return Ok(None);
+        return None;
     }
-    let order = Order::enforced(alloc, chart, queues)?;
-    Ok(Some(explain(alloc, chart, queues, &order, e, f)?))
+    let order = Order::enforced(rt.alloc(), chart, queues).expect(rt, "an order");
+    Some(explain(rt.alloc(), chart, queues, &order, e, f).expect(rt, "a reason"))
 }
 
 /// The same of a text's chart.
-fn said(
-    alloc: Global,
-    text: &[u8],
-    queues: Queues,
-    pair: (Event, Event),
-) -> Result<Option<Reason>, Fail> {
-    said_of(alloc, &read_chart(alloc, text)?, queues, pair)
+fn said(rt: &impl Host, text: &[u8], queues: Queues, pair: (Event, Event)) -> Option<Reason> {
+    said_of(rt, &chart_of(rt, text), queues, pair)
 }
 
 /// Whether it is said that the pair is enforced for this reason, or not enforced where none is
@@ -251,22 +235,21 @@ fn is_explained(said: &Option<Reason>, wanted: Option<Shown>) -> bool {
 
 /// Whether that is said of a pair of events of a text's chart under an architecture.
 fn explains(
-    alloc: Global,
+    rt: &impl Host,
     text: &[u8],
     queues: Queues,
     pair: (Event, Event),
     wanted: Option<Shown>,
-) -> Result<bool, Fail> {
-    Ok(is_explained(&said(alloc, text, queues, pair)?, wanted))
+) -> bool {
+    is_explained(&said(rt, text, queues, pair), wanted)
 }
 
 #[test]
-fn reasons_of_enforced_pairs(rt: HostRuntime) -> Result<(), Fail> {
+fn reasons_of_enforced_pairs(rt: HostRuntime) {
     for &(text, queues, pair, wanted) in WHYS {
-        let is = explains(rt.alloc(), text, queues, pair, wanted)?;
+        let is = explains(&rt, text, queues, pair, wanted);
         assert!(rt; is, "{pair:?}, {queues:?}");
     }
-    Ok(())
 }
 
 /// A run that reverses a pair of events, the kind of the race where it is one, and what shows that
@@ -327,20 +310,19 @@ fn is_free(said: &Option<Reason>, wanted: Reversed) -> bool {
 
 /// Whether this is said of a pair of events of a text's chart that is not enforced.
 fn frees(
-    alloc: Global,
+    rt: &impl Host,
     text: &[u8],
     queues: Queues,
     pair: (Event, Event),
     wanted: Reversed,
-) -> Result<bool, Fail> {
-    Ok(is_free(&said(alloc, text, queues, pair)?, wanted))
+) -> bool {
+    is_free(&said(rt, text, queues, pair), wanted)
 }
 
 #[test]
-fn reasons_of_free_pairs(rt: HostRuntime) -> Result<(), Fail> {
+fn reasons_of_free_pairs(rt: HostRuntime) {
     for &(text, queues, pair, wanted) in FREE {
-        let is = frees(rt.alloc(), text, queues, pair, wanted)?;
+        let is = frees(&rt, text, queues, pair, wanted);
         assert!(rt; is, "{pair:?}, {queues:?}");
     }
-    Ok(())
 }

@@ -3,13 +3,12 @@
 
 ghost use Rattle.std.specs.Prelude.{◌<◌, length};
 
-use crate::charts::read_chart;
+use crate::charts::chart_of;
+use crate::host::Host;
 use example_charts::{COREGION, TWO_SENDERS};
 use msc_chart::{Chart, Event, Queues};
 use msc_order::Order;
 use msc_race::reversing_run;
-use std::alloc::{AllocError, Global};
-use std::test::Fail;
 
 /// Texts, architectures, two events of the chart, and the run that reverses them.
 const REVERSED: &[(&[u8], Queues, Event, Event, &[Event])] = &[
@@ -24,45 +23,53 @@ const REVERSED: &[(&[u8], Queues, Event, Event, &[Event])] = &[
 /// Whether two events of a chart are different and not enforced in this order, and this is the run
 /// that reverses them.
 fn is_run(
-    alloc: Global,
+    rt: &impl Host,
     chart: &Chart,
     queues: Queues,
     e: Event,
     f: Event,
     wanted: &[Event],
-) -> Result<bool, AllocError>
+) -> bool
     requires e_known { e < length chart.now.events }
     requires f_known { f < length chart.now.events }
 {
-    let order = Order::enforced(alloc, chart, queues)?;
+    let order = Order::enforced(rt.alloc(), chart, queues).expect(rt, "an order");
     if e == f || order.holds(e, f) {
-        return Ok(false);
+        return false;
     }
-    let run = reversing_run(alloc, chart, queues, &order, e, f)?;
-    Ok(run.as_slice() == wanted)
+    let run = reversing_run(rt.alloc(), chart, queues, &order, e, f).expect(rt, "a run");
+    run.as_slice() == wanted
 }
 
-/// The same of two events of a text's chart.
+/// The same of two numbers, where the chart has both events.
+fn is_known_run(
+    rt: &impl Host,
+    chart: &Chart,
+    queues: Queues,
+    e: Event,
+    f: Event,
+    wanted: &[Event],
+) -> bool {
+    let events = chart.events();
+    e < events && f < events && is_run(rt, chart, queues, e, f, wanted)
+}
+
+/// The same of a text's chart.
 fn is_reversing_run(
-    alloc: Global,
+    rt: &impl Host,
     text: &[u8],
     queues: Queues,
     e: Event,
     f: Event,
     wanted: &[Event],
-) -> Result<bool, Fail> {
-    let chart = read_chart(alloc, text)?;
-    if e >= chart.events() || f >= chart.events() {
-        return Ok(false);
-    }
-    Ok(is_run(alloc, &chart, queues, e, f, wanted)?)
+) -> bool {
+    is_known_run(rt, &chart_of(rt, text), queues, e, f, wanted)
 }
 
 #[test]
-fn reversing_runs(rt: HostRuntime) -> Result<(), Fail> {
+fn reversing_runs(rt: HostRuntime) {
     for &(text, queues, e, f, wanted) in REVERSED {
-        let is = is_reversing_run(rt.alloc(), text, queues, e, f, wanted)?;
+        let is = is_reversing_run(&rt, text, queues, e, f, wanted);
         assert!(rt; is, "({e}, {f}) {queues:?}: {text:?}");
     }
-    Ok(())
 }

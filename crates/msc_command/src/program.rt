@@ -27,7 +27,7 @@ use std::thread::Threads;
 use std::{fs, io};
 
 /// How a run of the program ended.
-#[derive(Clone, Copy, Debug, PartialEq, Eq)]
+#[derive(Clone, Copy)]
 enum Status {
     /// The chart has no race that counts, or the pair is enforced, or each instance that was run
     /// has finished, and the answer was written, where one is wanted.

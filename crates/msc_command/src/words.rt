@@ -12,7 +12,7 @@ use msc_reason::RaceKind;
 use msc_study::{KindSet, View};
 
 /// What the words ask for.
-#[derive(Clone, Copy, Debug, PartialEq, Eq)]
+#[derive(Clone, Copy)]
 pub enum Task {
     /// The canonical text.
     Read,

@@ -10,7 +10,7 @@ use std::alloc::{AllocError, Global};
 use std::marker::Model;
 
 /// The account of one sender, in messages: what it put is what was taken and then what is left.
-#[derive(Debug, Drop)]
+#[derive(Drop)]
 pub struct Account {
     /// What the sender put, in order.
     pub put: Listed<u32>,
@@ -35,7 +35,7 @@ impl Account {
 }
 
 /// A settled queue.
-#[derive(Debug, Drop)]
+#[derive(Drop)]
 pub struct Settled {
     /// The account of each sender, by its number.
     pub senders: Vec<Account>,

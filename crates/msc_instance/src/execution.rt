@@ -21,7 +21,7 @@ use std::sync::Wait;
 use std::thread::Threads;
 
 /// What the run of a chart leaves.
-#[derive(Debug, Drop)]
+#[derive(Drop)]
 pub struct Execution {
     /// What each instance logged, in order.
     pub logs: Vec<Vec<Event>>,

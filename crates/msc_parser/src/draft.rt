@@ -22,7 +22,7 @@ use std::marker::Model;
 
 /// The tree of names and texts of actions of a chart's text. Notes and comments leave nothing in
 /// it.
-#[derive(Debug, Drop)]
+#[derive(Drop)]
 pub struct Draft {
     name: Name,
     header: Listed<Decl>,

@@ -11,7 +11,7 @@ const INLINE: usize = 16;
 
 /// The bytes of a name: ASCII letters, digits and underscores, from one to `msc_lexer::NAME_LIMIT`,
 /// that are no reserved word. Contracts see their list.
-#[derive(Debug, Drop)]
+#[derive(Drop)]
 pub struct Name {
     bytes: SmallVec<u8, INLINE>,
 }

@@ -22,7 +22,7 @@ pub enum Way {
 
 /// The name of an instance with its kind, the names that say of what kind the instance is (Z.120).
 /// `kind` has no name where the text gives no kind, and otherwise one name or two.
-#[derive(Debug, Drop)]
+#[derive(Drop)]
 pub struct Decl {
     pub name: Name,
     pub kind: Listed<Name>,
@@ -32,7 +32,7 @@ pub struct Decl {
 ///
 /// `name` is the message's name, `number` its message instance name (Z.120), if it has one, and
 /// `parameters` the names between the parentheses.
-#[derive(Debug, Drop)]
+#[derive(Drop)]
 pub struct Signal {
     pub way: Way,
     pub name: Name,
@@ -42,7 +42,7 @@ pub struct Signal {
 }
 
 /// A statement that is one event of its instance.
-#[derive(Debug, Drop)]
+#[derive(Drop)]
 pub enum Statement {
     /// An output or an input of a message.
     Message(Signal),
@@ -51,7 +51,7 @@ pub enum Statement {
 }
 
 /// A part of a section.
-#[derive(Debug, Drop)]
+#[derive(Drop)]
 pub enum Item {
     /// An event that is ordered on the instance's line.
     Single(Statement),
@@ -60,7 +60,7 @@ pub enum Item {
 }
 
 /// The part of a text that describes one instance, from `instance` to `endinstance`.
-#[derive(Debug, Drop)]
+#[derive(Drop)]
 pub struct Section {
     pub decl: Decl,
     pub items: Listed<Item>,

@@ -133,7 +133,7 @@ fn count_open(chart: &Chart, order: &Order, e: Event, start: Event, end: Event) 
 }
 
 /// A walk over the events of a chart, from the first to the last, one after another.
-#[derive(Clone, Copy, Debug)]
+#[derive(Clone, Copy)]
 pub struct Walk {
     /// The number past the segment of the event that was reached last, 0 before the first.
     pub segment_end: Event,

@@ -4,7 +4,7 @@ use listed::Listed;
 use msc_chart::Event;
 
 /// What a check says of a chart under an architecture.
-#[derive(Debug, Drop)]
+#[derive(Drop)]
 pub enum Verdict {
     /// No drawn pair is a race.
     Pass,

@@ -53,7 +53,7 @@ impl RaceKind {
 }
 
 /// What a race lacks: were `needed` enforced before `output`, it would be none.
-#[derive(Clone, Copy, Debug)]
+#[derive(Clone, Copy)]
 pub struct Lack {
     /// The kind of the race.
     pub kind: RaceKind,

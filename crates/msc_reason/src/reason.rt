@@ -6,7 +6,7 @@ use listed::Listed;
 use msc_chart::Event;
 
 /// Whether the first of two events is enforced before the second, and why.
-#[derive(Debug, Drop)]
+#[derive(Drop)]
 pub enum Reason {
     /// It is, and this shows it.
     Enforced(Why),

@@ -6,7 +6,7 @@ use msc_chart::Event;
 /// What shows that an event is enforced before another, for a reader to follow step by step. A
 /// chain lists the events after its first one; each is drawn below the one before it and is
 /// controlled, or is its input.
-#[derive(Debug, Drop)]
+#[derive(Drop)]
 pub enum Why {
     /// A chain from the first event to the second.
     Straight(Listed<Event>),

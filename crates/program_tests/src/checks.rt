@@ -1,8 +1,8 @@
 //! `msc check`: the verdicts, races and runs of charts, what it prints, and its exit statuses.
 
 use crate::devices::{Narrow, byte_writer};
-use crate::program::{Host, answers, run};
-use crate::traces::read_chart;
+use crate::host::{Host, Machine, chart_of};
+use crate::program::{answers, run};
 use example_charts::{
     COREGION, CROSSING, EMPTY, LOCAL_EVENTS, NUMBERED, ONE_MESSAGE, OVERTAKING, RELAY,
     TEXTS_OF_ACTIONS, TWO_MAILBOXES, TWO_SENDERS, WAITS,
@@ -10,8 +10,6 @@ use example_charts::{
 use msc_chart::{Chart, Queues};
 use msc_report::{write_race, write_run};
 use msc_tool::{Fault, check_text};
-use std::alloc::{AllocError, Global};
-use std::test::Fail;
 
 /// What is printed behind the first two lines, under `pair`, `mailbox` and `single`.
 type Rests = [&'static [u8]; 3];
@@ -105,27 +103,26 @@ race 6 7 on z: in m4 from b; in m3 from a\nrun 0 1 2 3 4 5 7 6\n",
 
 /// Whether `msc check` prints of a text under an architecture a verdict on a chart named `t`, with
 /// this behind its first two lines, and ends with the status of that verdict.
-fn prints<R: Host>(rt: &R, text: &[u8], queues: &str, rest: &[u8]) -> Result<bool, AllocError> {
+fn prints(rt: &impl Machine, text: &[u8], queues: &str, rest: &[u8]) -> bool {
     let status = u8::from(rest != b"pass\n".as_slice());
-    let head = format!(in rt.alloc(); "chart t\nqueues {queues}\n")?;
-    let run = run(rt, &["check", "--queues", queues, "-"], text)?;
+    let head = format!(in rt.alloc(); "chart t\nqueues {queues}\n").expect(rt, "memory");
+    let run = run(rt, &["check", "--queues", queues, "-"], text);
     let behind = run.output.as_slice().strip_prefix(head.as_bytes());
-    Ok((behind, run.faults.len(), run.status) == (Some(rest), 0, status))
+    (behind, run.faults.len(), run.status) == (Some(rest), 0, status)
 }
 
 /// Whether it prints these under the three architectures.
-fn prints_each<R: Host>(rt: &R, text: &[u8], rests: Rests) -> Result<bool, AllocError> {
+fn prints_each(rt: &impl Machine, text: &[u8], rests: Rests) -> bool {
     let [pair, mailbox, single] = rests;
-    let without_order = prints(rt, text, "single", single)?;
-    Ok(without_order && prints(rt, text, "pair", pair)? && prints(rt, text, "mailbox", mailbox)?)
+    let without_order = prints(rt, text, "single", single);
+    without_order && prints(rt, text, "pair", pair) && prints(rt, text, "mailbox", mailbox)
 }
 
 #[test]
-fn verdicts_of_the_worked_charts(rt: HostRuntime) -> Result<(), Fail> {
+fn verdicts_of_the_worked_charts(rt: HostRuntime) {
     for &(text, rests) in PRINTED {
-        assert!(rt; prints_each(&rt, text, rests)?, "{text:?}");
+        assert!(rt; prints_each(&rt, text, rests), "{text:?}");
     }
-    Ok(())
 }
 
 /// The words for the architectures.
@@ -146,27 +143,27 @@ instance b; in m from a; in m from a; endinstance; endmsc;",
 ];
 
 /// Whether `msc check` refuses a text with this line under each architecture.
-fn refuses<R: Host>(rt: &R, text: &[u8], line: &[u8]) -> Result<bool, AllocError> {
+fn refuses(rt: &impl Machine, text: &[u8], line: &[u8]) -> bool {
     for &queues in ARCHITECTURES {
         let words = ["check", "--queues", queues, "-"];
-        if !answers(rt, &words, text, (b"", line, 2))? {
-            return Ok(false);
+        if !answers(rt, &words, text, (b"", line, 2)) {
+            return false;
         }
     }
-    Ok(true)
+    true
 }
 
 #[test]
-fn texts_that_are_refused(rt: HostRuntime) -> Result<(), Fail> {
+fn texts_that_are_refused(rt: HostRuntime) {
     for &(text, line) in REFUSED {
-        assert!(rt; refuses(&rt, text, line)?, "{line:?}");
+        assert!(rt; refuses(&rt, text, line), "{line:?}");
     }
-    Ok(())
 }
 
-/// What `check_text` answers of `relay`, without its faults.
-fn passes(alloc: Global, queues: Queues) -> Option<bool> {
-    check_text(alloc, RELAY, queues, 0, &mut byte_writer(alloc, 0)).ok()
+/// Whether `check_text` answers this of `relay`.
+fn is_answered(rt: &impl Host, queues: Queues, passed: bool) -> bool {
+    let mut writer = byte_writer(rt.alloc(), 0);
+    check_text(rt.alloc(), RELAY, queues, 0, &mut writer).ok() == Some(passed)
 }
 
 /// Whether `relay` passes under each architecture.
@@ -179,7 +176,7 @@ const PASSED: &[(Queues, bool)] = &[
 #[test]
 fn the_answer_is_true_for_pass(rt: HostRuntime) {
     for &(queues, passed) in PASSED {
-        assert_eq!(rt; passes(rt.alloc(), queues), Some(passed), "{queues:?}");
+        assert!(rt; is_answered(&rt, queues, passed), "{queues:?}");
     }
 }
 
@@ -188,41 +185,43 @@ const WRITTEN: &[u8] = b"chart t\nqueues pair\nraces 1\n\
 race 1 2 on b: in m1 from a; in m2 from c\nrun 0 3 2 1\n";
 
 /// How many calls a writer that takes a byte at a time gets that, if it does.
-fn calls_for_all(alloc: Global) -> Result<Option<u32>, Fault> {
-    let mut writer = byte_writer(alloc, 0);
-    check_text(alloc, TWO_SENDERS, Queues::Pair, 1, &mut writer)?;
-    Ok((writer.written.as_slice() == WRITTEN).then_some(writer.calls))
+fn calls_for_all(rt: &impl Host) -> Option<u32> {
+    let mut writer = byte_writer(rt.alloc(), 0);
+    check_text(rt.alloc(), TWO_SENDERS, Queues::Pair, 1, &mut writer).expect(rt, "a verdict");
+    (writer.written.as_slice() == WRITTEN).then_some(writer.calls)
 }
 
 /// Whether a writer that fails at this call is a device fault, with a beginning of that written.
-fn fails_at(alloc: Global, call: u32) -> bool {
-    let mut writer = byte_writer(alloc, call);
-    let fault = check_text(alloc, TWO_SENDERS, Queues::Pair, 1, &mut writer).err();
+fn fails_at(rt: &impl Host, call: u32) -> bool {
+    let mut writer = byte_writer(rt.alloc(), call);
+    let fault = check_text(rt.alloc(), TWO_SENDERS, Queues::Pair, 1, &mut writer).err();
     let begins = WRITTEN.starts_with(writer.written.as_slice());
     (fault, begins) == (Some(Fault::Device), true)
 }
 
 #[test]
-fn failing_writes_are_a_device_fault(rt: HostRuntime) -> Result<(), Fail> {
-    let calls = calls_for_all(rt.alloc())?.unwrap_or(0);
+fn failing_writes_are_a_device_fault(rt: HostRuntime) {
+    let calls = calls_for_all(&rt).unwrap_or(0);
     assert!(rt; calls > 0);
     for before in 0..calls {
-        assert!(rt; fails_at(rt.alloc(), before.wrapping_add(1)), "{before}");
+        assert!(rt; fails_at(&rt, before.wrapping_add(1)), "{before}");
     }
-    Ok(())
 }
 
-/// How many calls a writer gets of a text that is refused, if it is.
-fn calls_of_refused(alloc: Global, text: &[u8]) -> Option<u32> {
-    let mut writer = byte_writer(alloc, 0);
-    let answer = check_text(alloc, text, Queues::Pair, 0, &mut writer);
-    answer.is_err().then_some(writer.calls)
+/// Whether a text is refused, and the writer gets no call.
+fn is_refused_at_once(rt: &impl Host, text: &[u8]) -> bool {
+    let mut writer = byte_writer(rt.alloc(), 0);
+    let answer = check_text(rt.alloc(), text, Queues::Pair, 0, &mut writer);
+    (answer.is_err(), writer.calls) == (true, 0)
 }
+
+/// A text without a draft, and one without a chart.
+const NO_CHARTS: &[&[u8]] = &[b"msc t;", b"msc t; inst a; endmsc;"];
 
 #[test]
 fn a_refused_text_leaves_the_writer_with_no_call(rt: HostRuntime) {
-    for &text in &[b"msc t;".as_slice(), b"msc t; inst a; endmsc;"] {
-        assert_eq!(rt; calls_of_refused(rt.alloc(), text), Some(0));
+    for &text in NO_CHARTS {
+        assert!(rt; is_refused_at_once(&rt, text), "{text:?}");
     }
 }
 
@@ -234,16 +233,15 @@ fn is_race_written(writer: &mut Narrow, chart: &Chart) -> bool {
 }
 
 /// Whether that race of `two_senders` is written as `wanted`.
-fn writes_race(alloc: Global, wanted: &[u8]) -> Result<bool, Fail> {
-    let chart = read_chart(alloc, TWO_SENDERS)?;
-    let mut writer = byte_writer(alloc, 0);
+fn writes_race(rt: &impl Host, wanted: &[u8]) -> bool {
+    let chart = chart_of(rt, TWO_SENDERS);
+    let mut writer = byte_writer(rt.alloc(), 0);
     let is = is_race_written(&mut writer, &chart);
-    Ok((is, writer.written.as_slice()) == (true, wanted))
+    (is, writer.written.as_slice()) == (true, wanted)
 }
 
 #[test]
-fn a_race_with_its_run(rt: HostRuntime) -> Result<(), Fail> {
+fn a_race_with_its_run(rt: HostRuntime) {
     let wanted = b"race 1 2 on b: in m1 from a; in m2 from c\nrun 0 3 2 1\n";
-    assert!(rt; writes_race(rt.alloc(), wanted)?);
-    Ok(())
+    assert!(rt; writes_race(&rt, wanted));
 }

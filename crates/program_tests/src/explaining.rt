@@ -2,7 +2,6 @@
 
 use crate::program::answers;
 use example_charts::{ONE_MESSAGE, OVERTAKING, RELAY, TWO_SENDERS};
-use std::test::Fail;
 
 /// Charts, an architecture and two events, with what is printed and the exit status.
 const EXPLAINED: &[(&[u8], &str, &str, &str, &[u8], u8)] = &[
@@ -71,13 +70,12 @@ run 0 1\n",
 ];
 
 #[test]
-fn pairs_that_are_explained(rt: HostRuntime) -> Result<(), Fail> {
+fn pairs_that_are_explained(rt: HostRuntime) {
     for &(text, queues, e, f, printed, status) in EXPLAINED {
         let words = ["explain", "--queues", queues, "-", e, f];
-        let is = answers(&rt, &words, text, (printed, b"", status))?;
+        let is = answers(&rt, &words, text, (printed, b"", status));
         assert!(rt; is, "{queues} {e} {f}");
     }
-    Ok(())
 }
 
 /// Texts and two numbers that are refused, with the line of the fault.
@@ -106,11 +104,10 @@ const REFUSED: &[(&[u8], &str, &str, &[u8])] = &[
 ];
 
 #[test]
-fn pairs_that_are_refused(rt: HostRuntime) -> Result<(), Fail> {
+fn pairs_that_are_refused(rt: HostRuntime) {
     for &(text, e, f, line) in REFUSED {
         let words = ["explain", "--queues", "pair", "-", e, f];
-        let is = answers(&rt, &words, text, (b"", line, 2))?;
+        let is = answers(&rt, &words, text, (b"", line, 2));
         assert!(rt; is, "{e} {f}");
     }
-    Ok(())
 }

@@ -1,12 +1,11 @@
 //! The lines of faults, beside the messages that their types print.
 
+use crate::host::Host;
 use msc_chart::ChartFault;
 use msc_lexer::LexFault;
 use msc_parser::ParseFault;
 use msc_report::{PairFault, write_pair_fault};
 use msc_tool::{Fault, write_fault};
-use std::alloc::Global;
-use std::test::Fail;
 
 /// A fault of charts of each kind that has a number, the number, and its line.
 const CHART_FAULTS: &[(ChartFault, u32, &str)] = &[
@@ -63,28 +62,24 @@ const CHART_FAULTS: &[(ChartFault, u32, &str)] = &[
 ];
 
 /// Whether the line of a fault is this.
-fn is_line(alloc: Global, fault: Fault, wanted: &str) -> Result<bool, Fail> {
-    let mut line = Vec::new(alloc);
-    write_fault(&mut line, &fault)?;
-    Ok(line.as_slice() == wanted.as_bytes())
+fn is_line(rt: &impl Host, fault: Fault, wanted: &str) -> bool {
+    let mut line = Vec::new(rt.alloc());
+    write_fault(&mut line, &fault).expect(rt, "a line");
+    line.as_slice() == wanted.as_bytes()
 }
 
 /// Whether a fault's number and the message that its type prints are this line.
-fn is_message(alloc: Global, fault: ChartFault, number: u32, wanted: &str) -> Result<bool, Fail> {
-    let line = format!(in alloc; "chart fault {number}: {fault}\n")?;
-    Ok(line.as_str() == wanted)
+fn is_message(rt: &impl Host, fault: ChartFault, number: u32, wanted: &str) -> bool {
+    let line = format!(in rt.alloc(); "chart fault {number}: {fault}\n").expect(rt, "memory");
+    line.as_str() == wanted
 }
 
 #[test]
-fn a_chart_fault_is_printed_as_its_number_and_its_message(rt: HostRuntime) -> Result<(), Fail> {
+fn a_chart_fault_is_printed_as_its_number_and_its_message(rt: HostRuntime) {
     for &(fault, number, wanted) in CHART_FAULTS {
-        let is = is_line(rt.alloc(), Fault::Chart(fault), wanted)?;
-        assert!(rt;
-            is && is_message(rt.alloc(), fault, number, wanted)?,
-            "{wanted}"
-        );
+        let is = is_line(&rt, Fault::Chart(fault), wanted);
+        assert!(rt; is && is_message(&rt, fault, number, wanted), "{wanted}");
     }
-    Ok(())
 }
 
 /// A lexical fault of each kind, its number and its place, and its line.
@@ -117,28 +112,20 @@ const LEXICAL_FAULTS: &[(LexFault, &str, &str)] = &[
 ];
 
 /// Whether a fault's number and place and the message that its type prints are this line.
-fn is_lexical_message(
-    alloc: Global,
-    fault: LexFault,
-    head: &str,
-    wanted: &str,
-) -> Result<bool, Fail> {
-    let line = format!(in alloc; "lexical fault {head}: {fault}\n")?;
-    Ok(line.as_str() == wanted)
+fn is_lexical_message(rt: &impl Host, fault: LexFault, head: &str, wanted: &str) -> bool {
+    let line = format!(in rt.alloc(); "lexical fault {head}: {fault}\n").expect(rt, "memory");
+    line.as_str() == wanted
 }
 
 #[test]
-fn a_lexical_fault_is_printed_as_its_number_its_place_and_its_message(
-    rt: HostRuntime,
-) -> Result<(), Fail> {
+fn a_lexical_fault_is_printed_as_its_number_its_place_and_its_message(rt: HostRuntime) {
     for &(fault, head, wanted) in LEXICAL_FAULTS {
-        let is = is_line(rt.alloc(), Fault::Parse(ParseFault::Lex(fault)), wanted)?;
+        let is = is_line(&rt, Fault::Parse(ParseFault::Lex(fault)), wanted);
         assert!(rt;
-            is && is_lexical_message(rt.alloc(), fault, head, wanted)?,
+            is && is_lexical_message(&rt, fault, head, wanted),
             "{wanted}"
         );
     }
-    Ok(())
 }
 
 /// The faults that have no number, and their lines, which are their messages.
@@ -149,21 +136,17 @@ const OTHER_FAULTS: &[(Fault, &str)] = &[
 ];
 
 /// Whether the message that the type of a fault prints is this line.
-fn is_whole_message(alloc: Global, fault: Fault, wanted: &str) -> Result<bool, Fail> {
-    let line = format!(in alloc; "{fault}\n")?;
-    Ok(line.as_str() == wanted)
+fn is_whole_message(rt: &impl Host, fault: Fault, wanted: &str) -> bool {
+    let line = format!(in rt.alloc(); "{fault}\n").expect(rt, "memory");
+    line.as_str() == wanted
 }
 
 #[test]
-fn a_fault_without_a_number_is_printed_as_its_message(rt: HostRuntime) -> Result<(), Fail> {
+fn a_fault_without_a_number_is_printed_as_its_message(rt: HostRuntime) {
     for &(fault, wanted) in OTHER_FAULTS {
-        let is = is_line(rt.alloc(), fault, wanted)?;
-        assert!(rt;
-            is && is_whole_message(rt.alloc(), fault, wanted)?,
-            "{wanted}"
-        );
+        let is = is_line(&rt, fault, wanted);
+        assert!(rt; is && is_whole_message(&rt, fault, wanted), "{wanted}");
     }
-    Ok(())
 }
 
 /// A fault of running a chart and its line: its number stands before its message.
@@ -186,21 +169,20 @@ const RUN_FAULTS: &[(Fault, u32, &str)] = &[
 ];
 
 /// Whether a fault's number and the message that its type prints are this line.
-fn is_run_message(alloc: Global, fault: Fault, number: u32, wanted: &str) -> Result<bool, Fail> {
-    let line = format!(in alloc; "run fault {number}: {fault}\n")?;
-    Ok(line.as_str() == wanted)
+fn is_run_message(rt: &impl Host, fault: Fault, number: u32, wanted: &str) -> bool {
+    let line = format!(in rt.alloc(); "run fault {number}: {fault}\n").expect(rt, "memory");
+    line.as_str() == wanted
 }
 
 #[test]
-fn a_run_fault_is_printed_as_its_number_and_its_message(rt: HostRuntime) -> Result<(), Fail> {
+fn a_run_fault_is_printed_as_its_number_and_its_message(rt: HostRuntime) {
     for &(fault, number, wanted) in RUN_FAULTS {
-        let is = is_line(rt.alloc(), fault, wanted)?;
+        let is = is_line(&rt, fault, wanted);
         assert!(rt;
-            is && is_run_message(rt.alloc(), fault, number, wanted)?,
+            is && is_run_message(&rt, fault, number, wanted),
             "{wanted}"
         );
     }
-    Ok(())
 }
 
 /// A fault of pairs of each kind, its number, and its line.
@@ -218,31 +200,25 @@ const PAIR_FAULTS: &[(PairFault, u32, &str)] = &[
 ];
 
 /// Whether the line of a fault of pairs is this.
-fn is_pair_line(alloc: Global, fault: PairFault, wanted: &str) -> bool {
-    let mut line = Vec::new(alloc);
+fn is_pair_line(rt: &impl Host, fault: PairFault, wanted: &str) -> bool {
+    let mut line = Vec::new(rt.alloc());
     let is_written = write_pair_fault(&mut line, fault).is_ok();
     (is_written, line.as_slice()) == (true, wanted.as_bytes())
 }
 
 /// Whether a fault's number and the message that its type prints are this line.
-fn is_pair_message(
-    alloc: Global,
-    fault: PairFault,
-    number: u32,
-    wanted: &str,
-) -> Result<bool, Fail> {
-    let line = format!(in alloc; "pair fault {number}: {fault}\n")?;
-    Ok(line.as_str() == wanted)
+fn is_pair_message(rt: &impl Host, fault: PairFault, number: u32, wanted: &str) -> bool {
+    let line = format!(in rt.alloc(); "pair fault {number}: {fault}\n").expect(rt, "memory");
+    line.as_str() == wanted
 }
 
 #[test]
-fn a_pair_fault_is_printed_as_its_number_and_its_message(rt: HostRuntime) -> Result<(), Fail> {
+fn a_pair_fault_is_printed_as_its_number_and_its_message(rt: HostRuntime) {
     for &(fault, number, wanted) in PAIR_FAULTS {
-        let is = is_pair_line(rt.alloc(), fault, wanted);
+        let is = is_pair_line(&rt, fault, wanted);
         assert!(rt;
-            is && is_pair_message(rt.alloc(), fault, number, wanted)?,
+            is && is_pair_message(&rt, fault, number, wanted),
             "{wanted}"
         );
     }
-    Ok(())
 }

@@ -1,111 +1,102 @@
 //! Reading an input to its end, and writing to devices that fail.
 
 use crate::devices::{Unsteady, byte_writer};
+use crate::host::Host;
 use example_charts::EMPTY;
 use msc_chart::{ChartFault, Queues};
 use msc_tool::{CALL_LIMIT, Fault, check_text, read_all, read_input, read_text};
-use std::alloc::Global;
-use std::test::Fail;
 
 /// Whether a reader that is interrupted so often, and gives so many bytes at a time, is read to its
 /// end.
-fn is_read(alloc: Global, interruptions: u32, step: usize) -> Result<bool, Fault> {
+fn is_read(rt: &impl Host, interruptions: u32, step: usize) -> bool {
     let mut reader = Unsteady::new(EMPTY);
     reader.interruptions = interruptions;
     reader.step = step;
-    Ok(read_all(alloc, &mut reader)?.as_slice() == EMPTY)
+    let read = read_all(rt.alloc(), &mut reader).expect(rt, "bytes");
+    read.as_slice() == EMPTY
 }
 
 #[test]
-fn an_input_in_memory(rt: HostRuntime) -> Result<(), Fail> {
-    assert!(rt; is_read(rt.alloc(), 0, usize::MAX)?);
-    Ok(())
+fn an_input_in_memory(rt: HostRuntime) {
+    assert!(rt; is_read(&rt, 0, usize::MAX));
 }
 
-/// The fault of reading an input that is always interrupted, and how many calls it gets.
-fn always_interrupted(alloc: Global) -> (Option<Fault>, u32) {
+/// Whether reading an input that is always interrupted is a device fault after so many calls.
+fn is_given_up(rt: &impl Host, calls: u32) -> bool {
     let mut reader = Unsteady::new(EMPTY);
     reader.interruptions = u32::MAX;
-    let fault = read_all(alloc, &mut reader).err();
-    (fault, reader.calls)
+    let fault = read_all(rt.alloc(), &mut reader).err();
+    (fault, reader.calls) == (Some(Fault::Device), calls)
 }
 
 #[test]
-fn interrupted_reads_are_tried_again(rt: HostRuntime) -> Result<(), Fail> {
-    assert!(rt; is_read(rt.alloc(), 3, 1)?);
-    assert_eq!(rt;
-        always_interrupted(rt.alloc()),
-        (Some(Fault::Device), 2_097_152)
-    );
-    assert_eq!(rt; CALL_LIMIT, 2_097_152);
-    Ok(())
+fn interrupted_reads_are_tried_again(rt: HostRuntime) {
+    assert!(rt; is_read(&rt, 3, 1));
+    assert!(rt; is_given_up(&rt, 2_097_152));
+    assert!(rt; CALL_LIMIT == 2_097_152);
 }
 
-/// The fault of reading an input that fails at this call.
-fn read_fault_at(alloc: Global, call: u32) -> Option<Fault> {
+/// Whether reading an input that fails at this call is a device fault.
+fn is_read_failed(rt: &impl Host, call: u32) -> bool {
     let mut reader = Unsteady::new(EMPTY);
     reader.fails_at = call;
-    read_all(alloc, &mut reader).err()
+    read_all(rt.alloc(), &mut reader).err() == Some(Fault::Device)
 }
 
 #[test]
 fn failing_reads_are_a_device_fault(rt: HostRuntime) {
     for call in 1..3 {
-        assert_eq!(rt;
-            read_fault_at(rt.alloc(), call),
-            Some(Fault::Device),
-            "{call}"
-        );
+        assert!(rt; is_read_failed(&rt, call), "{call}");
     }
 }
 
 /// How many bytes are read of an input of so many.
-fn count_read(alloc: Global, count: usize) -> Result<usize, Fail> {
-    let long = vec![in alloc; b' '; count]?;
-    Ok(read_all(alloc, &mut Unsteady::new(&long))?.len())
+fn count_read(rt: &impl Host, count: usize) -> usize {
+    let long = vec![in rt.alloc(); b' '; count].expect(rt, "memory");
+    let read = read_all(rt.alloc(), &mut Unsteady::new(&long)).expect(rt, "bytes");
+    read.len()
 }
 
 #[test]
-fn the_first_bytes_of_a_long_input(rt: HostRuntime) -> Result<(), Fail> {
-    assert_eq!(rt; count_read(rt.alloc(), 1_048_578)?, 1_048_577);
-    Ok(())
+fn the_first_bytes_of_a_long_input(rt: HostRuntime) {
+    assert!(rt; count_read(&rt, 1_048_578) == 1_048_577);
 }
 
 /// Whether a chart without instances is written through a writer that takes a byte at a time.
-fn is_written(alloc: Global) -> Result<bool, Fault> {
-    let mut writer = byte_writer(alloc, 0);
-    read_text(alloc, EMPTY, &mut writer)?;
-    Ok(writer.written.as_slice() == b"msc t;\nendmsc;\n".as_slice())
+fn is_written(rt: &impl Host) -> bool {
+    let mut writer = byte_writer(rt.alloc(), 0);
+    read_text(rt.alloc(), EMPTY, &mut writer).expect(rt, "what is written");
+    writer.written.as_slice() == b"msc t;\nendmsc;\n".as_slice()
 }
 
 #[test]
-fn a_writer_that_takes_a_byte_at_a_time(rt: HostRuntime) -> Result<(), Fail> {
-    assert!(rt; is_written(rt.alloc())?);
-    Ok(())
+fn a_writer_that_takes_a_byte_at_a_time(rt: HostRuntime) {
+    assert!(rt; is_written(&rt));
 }
 
-/// The fault of reading a chart without instances, to a writer that fails at this call.
-fn fault_at(alloc: Global, call: u32) -> Option<Fault> {
-    read_text(alloc, EMPTY, &mut byte_writer(alloc, call)).err()
+/// Whether it is a device fault with a writer that fails at this call.
+fn is_write_failed(rt: &impl Host, call: u32) -> bool {
+    let mut writer = byte_writer(rt.alloc(), call);
+    read_text(rt.alloc(), EMPTY, &mut writer).err() == Some(Fault::Device)
 }
 
 #[test]
 fn failing_writes_are_a_device_fault(rt: HostRuntime) {
     for call in 1..16 {
-        assert_eq!(rt; fault_at(rt.alloc(), call), Some(Fault::Device), "{call}");
+        assert!(rt; is_write_failed(&rt, call), "{call}");
     }
 }
 
-/// How many calls a writer gets of a text that is refused, if it is.
-fn calls_of_refused(alloc: Global, text: &[u8]) -> Option<u32> {
-    let mut writer = byte_writer(alloc, 0);
-    let answer = read_text(alloc, text, &mut writer);
-    answer.is_err().then_some(writer.calls)
+/// Whether a text is refused, and the writer gets no call.
+fn is_refused_at_once(rt: &impl Host, text: &[u8]) -> bool {
+    let mut writer = byte_writer(rt.alloc(), 0);
+    let answer = read_text(rt.alloc(), text, &mut writer);
+    (answer.is_err(), writer.calls) == (true, 0)
 }
 
 #[test]
 fn a_refused_text_leaves_the_writer_with_no_call(rt: HostRuntime) {
-    assert_eq!(rt; calls_of_refused(rt.alloc(), b"msc t;"), Some(0));
+    assert!(rt; is_refused_at_once(&rt, b"msc t;"));
 }
 
 /// A text of the grammar whose chart is refused.
@@ -116,19 +107,22 @@ const CANONICAL: &[u8] = b"msc t;\ninstance a;\n  in m from a;\n  out m to a;\ne
 endmsc;\n";
 
 /// Whether both calls that read a text write this.
-fn are_read_as(alloc: Global, text: &[u8], wanted: &[u8]) -> Result<bool, Fault> {
-    let mut of_text = Vec::new(alloc);
-    read_text(alloc, text, &mut of_text)?;
-    let mut of_input = Vec::new(alloc);
-    read_input(alloc, &mut Unsteady::new(text), &mut of_input)?;
-    Ok((of_text.as_slice(), of_input.as_slice()) == (wanted, wanted))
+fn are_read_as(rt: &impl Host, text: &[u8], wanted: &[u8]) -> bool {
+    let mut of_text = Vec::new(rt.alloc());
+    read_text(rt.alloc(), text, &mut of_text).expect(rt, "what is written");
+    let mut of_input = Vec::new(rt.alloc());
+    read_input(rt.alloc(), &mut Unsteady::new(text), &mut of_input).expect(rt, "what is written");
+    (of_text.as_slice(), of_input.as_slice()) == (wanted, wanted)
+}
+
+/// Whether the check of a text is refused for this fault.
+fn is_check_refused(rt: &impl Host, text: &[u8], wanted: Fault) -> bool {
+    let mut writer = byte_writer(rt.alloc(), 0);
+    check_text(rt.alloc(), text, Queues::Pair, 0, &mut writer).err() == Some(wanted)
 }
 
 #[test]
-fn a_text_whose_chart_is_refused_is_read(rt: HostRuntime) -> Result<(), Fail> {
-    let alloc = rt.alloc();
-    assert!(rt; are_read_as(alloc, NO_CHART, CANONICAL)?);
-    let refused = check_text(alloc, NO_CHART, Queues::Pair, 0, &mut byte_writer(alloc, 0)).err();
-    assert_eq!(rt; refused, Some(Fault::Chart(ChartFault::Cyclic(0))));
-    Ok(())
+fn a_text_whose_chart_is_refused_is_read(rt: HostRuntime) {
+    assert!(rt; are_read_as(&rt, NO_CHART, CANONICAL));
+    assert!(rt; is_check_refused(&rt, NO_CHART, Fault::Chart(ChartFault::Cyclic(0))));
 }

@@ -1,19 +1,10 @@
 //! Runs of the program: words, standard input, what it prints, and its exit status.
 
 use crate::devices::{Narrow, Unflushed};
+use crate::host::Machine;
 use example_charts::{EMPTY, KINDS_AND_COMMENTS, ONE_MESSAGE, TEXTS_OF_ACTIONS};
 use msc_command::command;
-use std::alloc::{AllocError, AllocGlobal, Global};
 use std::io::Write;
-use std::rt::Files;
-use std::sync::Wait;
-use std::test::Fail;
-use std::thread::Threads;
-
-/// What the program needs of the machine.
-pub trait Host: AllocGlobal + Files + Threads + Wait + Sync {}
-
-impl<R: AllocGlobal + Files + Threads + Wait + Sync> Host for R {}
 
 /// What a run of the program printed, and its exit status.
 #[derive(Drop)]
@@ -23,61 +14,61 @@ pub struct Outcome {
     pub status: u8,
 }
 
-/// Adds the words of a command line, a file's name for the program first.
-fn add_words(alloc: Global, all: &mut Vec<String>, words: &[&str]) -> Result<(), AllocError> {
-    all.push(String::from_str(alloc, "./out/program")?)?;
+/// Adds a word to a command line.
+fn add_word(rt: &impl Machine, all: &mut Vec<String>, word: &str) {
+    let word = String::from_str(rt.alloc(), word).expect(rt, "memory");
+    all.push(word).expect(rt, "memory");
+}
+
+/// The words of a command line, a file's name for the program first.
+fn command_line(rt: &impl Machine, words: &[&str]) -> Vec<String> {
+    let mut all = Vec::new(rt.alloc());
+    add_word(rt, &mut all, "./out/program");
     for word in words {
-        all.push(String::from_str(alloc, word)?)?;
+        add_word(rt, &mut all, word);
     }
-    Ok(())
+    all
 }
 
 /// Runs the program over these words and this standard input.
-pub fn run<R: Host>(rt: &R, words: &[&str], stdin: &[u8]) -> Result<Outcome, AllocError> {
+pub fn run(rt: &impl Machine, words: &[&str], stdin: &[u8]) -> Outcome {
     let mut output = Vec::new(rt.alloc());
-    let (status, faults) = run_into(rt, words, stdin, &mut output)?;
-    Ok(Outcome {
+    let (status, faults) = run_into(rt, words, stdin, &mut output);
+    Outcome {
         output,
         faults,
         status,
-    })
+    }
 }
 
 /// Runs the program over these words and this standard input, into this output; gives its exit
 /// status and what went to standard error.
-fn run_into<R: Host, O: Write>(
-    rt: &R,
+fn run_into<O: Write>(
+    rt: &impl Machine,
     words: &[&str],
     stdin: &[u8],
     output: &mut O,
-) -> Result<(u8, Vec<u8>), AllocError> {
-    let alloc = rt.alloc();
-    let mut all = Vec::new(alloc);
-    add_words(alloc, &mut all, words)?;
+) -> (u8, Vec<u8>) {
+    let all = command_line(rt, words);
     let mut input = stdin;
-    let mut faults = Vec::new(alloc);
-    let status = command(rt, alloc, all, &mut input, output, &mut faults);
-    Ok((status, faults))
+    let mut faults = Vec::new(rt.alloc());
+    let status = command(rt, rt.alloc(), all, &mut input, output, &mut faults);
+    (status, faults)
 }
 
 /// What a run has to print to standard output and to standard error, and its exit status.
 pub type Answer<'a> = (&'a [u8], &'a [u8], u8);
 
 /// Whether a run over these words and this standard input ends so.
-pub fn answers<R: Host>(
-    rt: &R,
-    words: &[&str],
-    stdin: &[u8],
-    wanted: Answer,
-) -> Result<bool, AllocError> {
-    let run = run(rt, words, stdin)?;
-    Ok((run.output.as_slice(), run.faults.as_slice(), run.status) == wanted)
+pub fn answers(rt: &impl Machine, words: &[&str], stdin: &[u8], wanted: Answer) -> bool {
+    let run = run(rt, words, stdin);
+    (run.output.as_slice(), run.faults.as_slice(), run.status) == wanted
 }
 
 /// Whether a run over these words is refused with words of `clap` on standard error alone.
-fn is_wrong<R: Host>(rt: &R, words: &[&str]) -> Result<bool, AllocError> {
-    let run = run(rt, words, ONE_MESSAGE)?;
-    Ok((run.output.len() == 0, run.faults.len() == 0, run.status) == (true, false, 2))
+fn is_wrong(rt: &impl Machine, words: &[&str]) -> bool {
+    let run = run(rt, words, ONE_MESSAGE);
+    (run.output.len() == 0, run.faults.len() == 0, run.status) == (true, false, 2)
 }
 
 /// Texts, and what `msc read` prints of them.
@@ -103,12 +94,11 @@ in m from a;\nendinstance;\nendmsc;\n",
 ];
 
 #[test]
-fn texts_that_are_read(rt: HostRuntime) -> Result<(), Fail> {
+fn texts_that_are_read(rt: HostRuntime) {
     for &(text, printed) in READ {
-        let is = answers(&rt, &["read", "-"], text, (printed, b"", 0))?;
+        let is = answers(&rt, &["read", "-"], text, (printed, b"", 0));
         assert!(rt; is, "{printed:?}");
     }
-    Ok(())
 }
 
 /// The words of one run of each command and architecture.
@@ -176,12 +166,11 @@ const REFUSED: &[(&[u8], &[u8])] = &[
 ];
 
 #[test]
-fn texts_that_are_refused(rt: HostRuntime) -> Result<(), Fail> {
+fn texts_that_are_refused(rt: HostRuntime) {
     for &(text, line) in REFUSED {
-        let is = answers(&rt, &["read", "-"], text, (b"", line, 2))?;
+        let is = answers(&rt, &["read", "-"], text, (b"", line, 2));
         assert!(rt; is, "{line:?}");
     }
-    Ok(())
 }
 
 /// Numbers of spaces, one more than a text may have bytes and as many, and the line of their fault.
@@ -194,17 +183,16 @@ const SPACES: &[(usize, &[u8])] = &[
 ];
 
 /// Whether `msc read` refuses so many spaces with this line.
-fn refuses_spaces<R: Host>(rt: &R, count: usize, line: &[u8]) -> Result<bool, AllocError> {
-    let spaces = vec![in rt.alloc(); b' '; count]?;
+fn refuses_spaces(rt: &impl Machine, count: usize, line: &[u8]) -> bool {
+    let spaces = vec![in rt.alloc(); b' '; count].expect(rt, "memory");
     answers(rt, &["read", "-"], &spaces, (b"", line, 2))
 }
 
 #[test]
-fn texts_at_the_limit(rt: HostRuntime) -> Result<(), Fail> {
+fn texts_at_the_limit(rt: HostRuntime) {
     for &(count, line) in SPACES {
-        assert!(rt; refuses_spaces(&rt, count, line)?, "{line:?}");
+        assert!(rt; refuses_spaces(&rt, count, line), "{line:?}");
     }
-    Ok(())
 }
 
 /// Words that name a file that is not there.
@@ -216,12 +204,11 @@ const NO_FILES: &[&[&str]] = &[
 ];
 
 #[test]
-fn a_file_that_is_not_there(rt: HostRuntime) -> Result<(), Fail> {
+fn a_file_that_is_not_there(rt: HostRuntime) {
     for &words in NO_FILES {
-        let is = answers(&rt, words, ONE_MESSAGE, (b"", b"device fault\n", 4))?;
+        let is = answers(&rt, words, ONE_MESSAGE, (b"", b"device fault\n", 4));
         assert!(rt; is, "{words:?}");
     }
-    Ok(())
 }
 
 /// Words that are no command.
@@ -252,55 +239,51 @@ const WRONG: &[&[&str]] = &[
 ];
 
 #[test]
-fn wrong_usage(rt: HostRuntime) -> Result<(), Fail> {
+fn wrong_usage(rt: HostRuntime) {
     for &words in WRONG {
-        assert!(rt; is_wrong(&rt, words)?, "{words:?}");
+        assert!(rt; is_wrong(&rt, words), "{words:?}");
     }
-    Ok(())
 }
 
 /// What is printed to standard error where a device fails, and the exit status.
 const DEVICE_FAULT: (&[u8], u8) = (b"device fault\n", 4);
 
 /// Whether a run over these words answers that the first call of its output failed.
-fn fails_at_once<R: Host>(rt: &R, words: &[&str]) -> Result<bool, AllocError> {
+fn fails_at_once(rt: &impl Machine, words: &[&str]) -> bool {
     let mut output = Narrow {
         written: Vec::new(rt.alloc()),
         step: usize::MAX,
         calls: 0,
         fails_at: 1,
     };
-    let (status, faults) = run_into(rt, words, ONE_MESSAGE, &mut output)?;
-    Ok((faults.as_slice(), status) == DEVICE_FAULT)
+    let (status, faults) = run_into(rt, words, ONE_MESSAGE, &mut output);
+    (faults.as_slice(), status) == DEVICE_FAULT
 }
 
 /// Whether a run over these words flushes its output once, and answers that this failed.
-fn fails_when_flushed<R: Host>(rt: &R, words: &[&str]) -> Result<bool, AllocError> {
+fn fails_when_flushed(rt: &impl Machine, words: &[&str]) -> bool {
     let mut output = Unflushed { flushes: 0 };
-    let (status, faults) = run_into(rt, words, ONE_MESSAGE, &mut output)?;
-    Ok(((faults.as_slice(), status), output.flushes) == (DEVICE_FAULT, 1))
+    let (status, faults) = run_into(rt, words, ONE_MESSAGE, &mut output);
+    ((faults.as_slice(), status), output.flushes) == (DEVICE_FAULT, 1)
 }
 
 #[test]
-fn an_output_that_fails_at_its_first_call(rt: HostRuntime) -> Result<(), Fail> {
+fn an_output_that_fails_at_its_first_call(rt: HostRuntime) {
     for &words in RUNS {
-        assert!(rt; fails_at_once(&rt, words)?, "{words:?}");
+        assert!(rt; fails_at_once(&rt, words), "{words:?}");
     }
-    Ok(())
 }
 
 #[test]
-fn an_output_that_fails_when_it_is_flushed(rt: HostRuntime) -> Result<(), Fail> {
+fn an_output_that_fails_when_it_is_flushed(rt: HostRuntime) {
     for &words in RUNS {
-        assert!(rt; fails_when_flushed(&rt, words)?, "{words:?}");
+        assert!(rt; fails_when_flushed(&rt, words), "{words:?}");
     }
-    Ok(())
 }
 
 #[test]
-fn version(rt: HostRuntime) -> Result<(), Fail> {
-    assert!(rt; answers(&rt, &["--version"], b"", (b"msc 0.1.0\n", b"", 0))?);
-    Ok(())
+fn version(rt: HostRuntime) {
+    assert!(rt; answers(&rt, &["--version"], b"", (b"msc 0.1.0\n", b"", 0)));
 }
 
 /// Whether a text has this part.
@@ -314,10 +297,10 @@ fn has(text: &[u8], part: &str) -> bool {
 }
 
 /// Whether a run over these words prints help that has this part, and nothing else.
-fn helps<R: Host>(rt: &R, words: &[&str], part: &str) -> Result<bool, AllocError> {
-    let run = run(rt, words, b"")?;
+fn helps(rt: &impl Machine, words: &[&str], part: &str) -> bool {
+    let run = run(rt, words, b"");
     let has_part = has(run.output.as_slice(), part);
-    Ok((has_part, run.faults.len(), run.status) == (true, 0, 0))
+    (has_part, run.faults.len(), run.status) == (true, 0, 0)
 }
 
 /// Words that ask for help, and a part of it.
@@ -366,22 +349,20 @@ const HELP: &[(&[&str], &str)] = &[
 ];
 
 #[test]
-fn help(rt: HostRuntime) -> Result<(), Fail> {
+fn help(rt: HostRuntime) {
     for &(words, part) in HELP {
-        assert!(rt; helps(&rt, words, part)?, "{words:?}: {part}");
+        assert!(rt; helps(&rt, words, part), "{words:?}: {part}");
     }
-    Ok(())
 }
 
 /// Whether what a run over these words prints to standard error has this part.
-fn tells<R: Host>(rt: &R, words: &[&str], part: &str) -> Result<bool, AllocError> {
-    let run = run(rt, words, b"")?;
-    Ok(has(run.faults.as_slice(), part))
+fn tells(rt: &impl Machine, words: &[&str], part: &str) -> bool {
+    let run = run(rt, words, b"");
+    has(run.faults.as_slice(), part)
 }
 
 #[test]
-fn wrong_words_are_told_under_the_name_of_the_program(rt: HostRuntime) -> Result<(), Fail> {
+fn wrong_words_are_told_under_the_name_of_the_program(rt: HostRuntime) {
     let usage = "Usage: msc check --queues <pair|mailbox|single> <FILE>\n";
-    assert!(rt; tells(&rt, &["check", "-"], usage)?);
-    Ok(())
+    assert!(rt; tells(&rt, &["check", "-"], usage));
 }

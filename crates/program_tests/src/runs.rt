@@ -1,13 +1,12 @@
 //! Executions of texts: what is printed of them, and what gates force.
 
-use crate::program::{Host, answers, run};
+use crate::host::{Machine, Parallel};
+use crate::program::{answers, run};
 use example_charts::{EMPTY, LOCAL_EVENTS, NUMBERED, ONE_MESSAGE, RELAY, TWO_SENDERS};
 use msc_chart::{Event, Queues};
 use msc_instance::Gate;
 use msc_tool::run_text;
-use std::alloc::AllocError;
 use std::sync::atomic::{AtomicU64, Ordering};
-use std::test::Fail;
 use std::thread;
 
 /// The words of a run of the program, its text, what it prints to standard output and to standard
@@ -72,12 +71,11 @@ trace 4\n0 a action 'go'\n1 a out m to b\n2 b in m from a\n3 b action 'done'\n",
 ];
 
 #[test]
-fn executions_that_rest_on_no_schedule(rt: HostRuntime) -> Result<(), Fail> {
+fn executions_that_rest_on_no_schedule(rt: HostRuntime) {
     for &(words, text, output, faults, status) in RUN {
-        let is = answers(&rt, words, text, (output, faults, status))?;
+        let is = answers(&rt, words, text, (output, faults, status));
         assert!(rt; is, "{words:?}");
     }
-    Ok(())
 }
 
 /// What is printed of `numbered` under `single`, where b takes either message first.
@@ -89,17 +87,16 @@ trace 4\n0 a out m, 1 to b\n1 a out m, 2 to b\n3 b in m, 2 from a\n2 b in m, 1 f
 ];
 
 /// Whether a run of `numbered` under `single` finishes, and prints one of its two executions.
-fn runs_numbered<R: Host>(rt: &R) -> Result<bool, AllocError> {
-    let ran = run(rt, &["run", "--queues", "single", "-"], NUMBERED)?;
+fn runs_numbered(rt: &impl Machine) -> bool {
+    let ran = run(rt, &["run", "--queues", "single", "-"], NUMBERED);
     let printed = ran.output.as_slice();
     let is_run = NUMBERED_RUNS.iter().any(|text| printed == *text);
-    Ok((is_run, ran.status) == (true, 0))
+    (is_run, ran.status) == (true, 0)
 }
 
 #[test]
-fn two_messages_that_come_in_any_order(rt: HostRuntime) -> Result<(), Fail> {
-    assert!(rt; runs_numbered(&rt)?);
-    Ok(())
+fn two_messages_that_come_in_any_order(rt: HostRuntime) {
+    assert!(rt; runs_numbered(&rt));
 }
 
 /// How often a gate looks whether it was asked for another event.
@@ -203,17 +200,16 @@ const FORCED: &[(Awaited, Queues, [&[u8]; 2])] = &[
 
 /// Whether the run of `two_senders` with such a gate finishes with one of these traces, and asks
 /// the gate once for each event.
-fn is_forced<R: Host>(rt: &R, queues: Queues, awaited: Awaited, traces: &[&[u8]]) -> bool {
+fn is_forced(rt: &impl Parallel, queues: Queues, awaited: Awaited, traces: &[&[u8]]) -> bool {
     let mut output = Vec::new(rt.alloc());
     let gate = Waiting::new(awaited);
-    let patience = u32::MAX;
     let answer = run_text(
         rt,
         rt.alloc(),
         TWO_SENDERS,
         queues,
         &gate,
-        patience,
+        u32::MAX,
         &mut output,
     );
     let printed = output.as_slice();
@@ -223,10 +219,9 @@ fn is_forced<R: Host>(rt: &R, queues: Queues, awaited: Awaited, traces: &[&[u8]]
 }
 
 #[test]
-fn gates_force_traces(rt: HostRuntime) -> Result<(), Fail> {
+fn gates_force_traces(rt: HostRuntime) {
     for &(awaited, queues, traces) in FORCED {
         let is = is_forced(&rt, queues, awaited, &traces);
         assert!(rt; is, "{queues:?}: {awaited:?}");
     }
-    Ok(())
 }

@@ -4,13 +4,11 @@ ghost use Rattle.std.specs.Prelude.{◌<◌, IsTrue, length};
 ghost use Rattle.std.specs.List.{All};
 
 use crate::devices::{Narrow, byte_writer};
+use crate::host::{Host, chart_of};
 use example_charts::{EMPTY, LOCAL_EVENTS, NUMBERED, ONE_MESSAGE, RELAY};
 use msc_chart::{Chart, Event, Queues};
 use msc_execution::End;
-use msc_parser::parse;
 use msc_tool::write_trace;
-use std::alloc::Global;
-use std::test::Fail;
 
 /// A chart's text, the architecture, how each instance ended, the trace, and what is printed.
 type Printed = (
@@ -96,11 +94,6 @@ fn are_events(chart: &Chart, events: &[Event]) -> bool
     events.iter().all(|e| *e < count)
 }
 
-/// The chart of a text that has one.
-pub(crate) fn read_chart(alloc: Global, text: &[u8]) -> Result<Chart, Fail> {
-    Ok(Chart::build(alloc, &parse(alloc, text)?)?)
-}
-
 /// Whether `write_trace` succeeds on a chart. Not where the events are not the chart's, or the ends
 /// not as many as its instances.
 fn is_written(writer: &mut Narrow, chart: &Chart, printed: &Printed) -> bool {
@@ -118,35 +111,33 @@ fn is_written(writer: &mut Narrow, chart: &Chart, printed: &Printed) -> bool {
 }
 
 /// Whether this is what is written through a writer that takes a byte at a time.
-fn writes(alloc: Global, printed: &Printed) -> Result<bool, Fail> {
-    let chart = read_chart(alloc, printed.0)?;
-    let mut writer = byte_writer(alloc, 0);
+fn writes(rt: &impl Host, printed: &Printed) -> bool {
+    let chart = chart_of(rt, printed.0);
+    let mut writer = byte_writer(rt.alloc(), 0);
     let is = is_written(&mut writer, &chart, printed);
-    Ok((is, writer.written.as_slice()) == (true, printed.4))
+    (is, writer.written.as_slice()) == (true, printed.4)
 }
 
 /// Whether a writer that fails at this call, from 1, is an error.
-fn fails(alloc: Global, printed: &Printed, call: u32) -> Result<bool, Fail> {
-    let chart = read_chart(alloc, printed.0)?;
-    Ok(!is_written(&mut byte_writer(alloc, call), &chart, printed))
+fn fails(rt: &impl Host, printed: &Printed, call: u32) -> bool {
+    let chart = chart_of(rt, printed.0);
+    !is_written(&mut byte_writer(rt.alloc(), call), &chart, printed)
 }
 
 #[test]
-fn executions_of_the_worked_charts(rt: HostRuntime) -> Result<(), Fail> {
+fn executions_of_the_worked_charts(rt: HostRuntime) {
     for printed in PRINTED {
-        assert!(rt; writes(rt.alloc(), printed)?, "{printed:?}");
+        assert!(rt; writes(&rt, printed), "{printed:?}");
     }
-    Ok(())
 }
 
 #[test]
-fn a_failing_write_is_an_error(rt: HostRuntime) -> Result<(), Fail> {
+fn a_failing_write_is_an_error(rt: HostRuntime) {
     for printed in PRINTED {
         let calls = printed.4.len() as u32;
         for before in 0..calls {
             let call = before.wrapping_add(1);
-            assert!(rt; fails(rt.alloc(), printed, call)?, "{printed:?} {call}");
+            assert!(rt; fails(&rt, printed, call), "{printed:?} {call}");
         }
     }
-    Ok(())
 }

@@ -1,17 +1,14 @@
 //! Gates that make instances wait for each other, so that an execution shows which of them ran at
 //! the same time, and gates that stop them.
 
-use crate::together::{PATIENCE, Wanted, is_execution, read_chart};
+use crate::host::{Parallel, chart_of};
+use crate::together::{PATIENCE, Wanted, is_execution};
 use example_charts::{RELAY, TWO_SENDERS};
 use msc_chart::{Chart, Event, Queues};
 use msc_fifo::Account;
 use msc_instance::{End, Execution, Gate, run_chart};
-use std::alloc::Global;
-use std::sync::Wait;
 use std::sync::atomic::{AtomicBool, AtomicU64, Ordering};
-use std::test::Fail;
 use std::thread;
-use std::thread::Threads;
 
 /// How often a gate looks for another instance.
 const TURNS: u64 = 1_000_000_000;
@@ -70,33 +67,30 @@ const MET: [Wanted; 2] = [
 ];
 
 /// Whether the instances of a chart end in one of these ways, and the gate is asked four times.
-fn meet_in<R: Threads + Wait + Sync>(
-    rt: &R,
-    alloc: Global,
-    chart: &Chart,
-    queues: Queues,
-) -> Result<bool, Fail> {
+fn meet_in(rt: &impl Parallel, chart: &Chart, queues: Queues) -> bool {
     let gate = Meeting {
         first: AtomicBool::new(false),
         last: AtomicBool::new(false),
         asked: AtomicU64::new(0),
     };
-    let execution = run_chart(rt, alloc, chart, queues, &gate, PATIENCE)?;
+    let execution = run_chart(rt, rt.alloc(), chart, queues, &gate, PATIENCE).expect(
+        rt,
+        "an execution",
+    );
     let is_met = is_execution(&execution, MET[0]) || is_execution(&execution, MET[1]);
-    Ok(is_met && gate.asked.load(Ordering::SeqCst) == 4)
+    is_met && gate.asked.load(Ordering::SeqCst) == 4
 }
 
 /// Whether the instances of `two_senders` do.
-fn meet<R: Threads + Wait + Sync>(rt: &R, alloc: Global, queues: Queues) -> Result<bool, Fail> {
-    meet_in(rt, alloc, &read_chart(alloc, TWO_SENDERS)?, queues)
+fn meet(rt: &impl Parallel, queues: Queues) -> bool {
+    meet_in(rt, &chart_of(rt, TWO_SENDERS), queues)
 }
 
 #[test]
-fn outputs_that_wait_for_each_other(rt: HostRuntime) -> Result<(), Fail> {
+fn outputs_that_wait_for_each_other(rt: HostRuntime) {
     for queues in Queues::ALL {
-        assert!(rt; meet(&rt, rt.alloc(), queues)?, "{queues:?}");
+        assert!(rt; meet(&rt, queues), "{queues:?}");
     }
-    Ok(())
 }
 
 /// The gate that says no to one event of `relay`, and lets the second message to b go only once the
@@ -122,28 +116,17 @@ impl Gate for InOrder {
 }
 
 /// The execution of a chart under an architecture and the gate that says no to this event.
-fn stopped_in<R: Threads + Wait + Sync>(
-    rt: &R,
-    alloc: Global,
-    chart: &Chart,
-    queues: Queues,
-    event: Event,
-) -> Result<Execution, Fail> {
+fn stopped_in(rt: &impl Parallel, chart: &Chart, queues: Queues, event: Event) -> Execution {
     let gate = InOrder {
         never: event,
         first: AtomicBool::new(false),
     };
-    Ok(run_chart(rt, alloc, chart, queues, &gate, PATIENCE)?)
+    run_chart(rt, rt.alloc(), chart, queues, &gate, PATIENCE).expect(rt, "an execution")
 }
 
 /// The execution of `relay`.
-fn stopped_at<R: Threads + Wait + Sync>(
-    rt: &R,
-    alloc: Global,
-    queues: Queues,
-    event: Event,
-) -> Result<Execution, Fail> {
-    stopped_in(rt, alloc, &read_chart(alloc, RELAY)?, queues, event)
+fn stopped_at(rt: &impl Parallel, queues: Queues, event: Event) -> Execution {
+    stopped_in(rt, &chart_of(rt, RELAY), queues, event)
 }
 
 /// An event of `relay` at which the gate says no, and how the three instances end.
@@ -193,25 +176,18 @@ const STOPPED: &[(Event, Wanted)] = &[
 ];
 
 /// Whether the instances of `relay` end so.
-fn is_stopped_at<R: Threads + Wait + Sync>(
-    rt: &R,
-    alloc: Global,
-    queues: Queues,
-    event: Event,
-    wanted: Wanted,
-) -> Result<bool, Fail> {
-    Ok(is_execution(&stopped_at(rt, alloc, queues, event)?, wanted))
+fn is_stopped_at(rt: &impl Parallel, queues: Queues, event: Event, wanted: Wanted) -> bool {
+    is_execution(&stopped_at(rt, queues, event), wanted)
 }
 
 #[test]
-fn a_gate_that_says_no_to_an_event(rt: HostRuntime) -> Result<(), Fail> {
+fn a_gate_that_says_no_to_an_event(rt: HostRuntime) {
     for &(event, wanted) in STOPPED {
         for queues in Queues::ALL {
-            let is = is_stopped_at(&rt, rt.alloc(), queues, event, wanted)?;
+            let is = is_stopped_at(&rt, queues, event, wanted);
             assert!(rt; is, "{event} {queues:?}");
         }
     }
-    Ok(())
 }
 
 /// Whether the account is closed and has this put, nothing taken, and all of it left.
@@ -235,12 +211,11 @@ fn is_left_in_mailbox(execution: &Execution, put: &[u32]) -> bool {
 }
 
 /// Whether it is so where the gate says no to the first input of `relay`.
-fn is_left<R: Threads + Wait + Sync>(rt: &R, alloc: Global, put: &[u32]) -> Result<bool, Fail> {
-    Ok(is_left_in_mailbox(&stopped_at(rt, alloc, Queues::Mailbox, 2)?, put))
+fn is_left(rt: &impl Parallel, put: &[u32]) -> bool {
+    is_left_in_mailbox(&stopped_at(rt, Queues::Mailbox, 2), put)
 }
 
 #[test]
-fn what_nobody_takes_is_left_in_the_mailbox(rt: HostRuntime) -> Result<(), Fail> {
-    assert!(rt; is_left(&rt, rt.alloc(), &[2])?);
-    Ok(())
+fn what_nobody_takes_is_left_in_the_mailbox(rt: HostRuntime) {
+    assert!(rt; is_left(&rt, &[2]));
 }

@@ -1,11 +1,9 @@
 //! Instances run one by one in the thread of the test.
 
-use crate::together::read_chart;
+use crate::host::{Host, chart_of};
 use example_charts::{ONE_MESSAGE, RELAY};
 use msc_chart::{Chart, Event, Queues};
 use msc_instance::{AlwaysOpen, End, Gate, InstanceEnds, run_instance, wire};
-use std::alloc::{AllocError, Global};
-use std::test::Fail;
 
 /// The gate that says no to one event.
 #[derive(Clone, Copy)]
@@ -27,23 +25,25 @@ type Left<'a> = (End, &'a [Event]);
 /// Whether an instance with these ends and patience 3 ends so; not where there are no ends, or they
 /// do not fit.
 fn is_left<G: Gate>(
-    alloc: Global,
+    rt: &impl Host,
     chart: &Chart,
     i: u32,
     ends: Option<InstanceEnds>,
     gate: &G,
     wanted: Left,
-) -> Result<bool, AllocError> {
+) -> bool {
     let Some(ends) = ends else {
-        return Ok(false);
+        return false;
     };
     if i >= chart.instances() || !ends.fits(chart, i) {
-        return Ok(false);
+        return false;
     }
     let (start, end) = chart.line(i);
-    let log = Vec::with_capacity(alloc, end.saturating_sub(start) as usize)?;
+    let Ok(log) = Vec::with_capacity(rt.alloc(), end.saturating_sub(start) as usize) else {
+        panic!(rt; "memory");
+    };
     let left = run_instance(chart, i, ends, gate, 3, log);
-    Ok(left.end == wanted.0 && left.log.as_slice() == wanted.1)
+    left.end == wanted.0 && left.log.as_slice() == wanted.1
 }
 
 /// Whether a message with a clock goes into the last outlet.
@@ -67,39 +67,29 @@ enum Before {
 }
 
 /// Whether the sender of `one_message` does this.
-fn does(
-    alloc: Global,
-    chart: &Chart,
-    ends: Option<InstanceEnds>,
-    before: Before,
-) -> Result<bool, AllocError> {
+fn does(rt: &impl Host, chart: &Chart, ends: Option<InstanceEnds>, before: Before) -> bool {
     match before {
-        Before::Nothing => Ok(true),
-        Before::Stops => is_left(alloc, chart, 0, ends, &Never(0), (End::Stopped, &[])),
-        Before::Sends => is_left(alloc, chart, 0, ends, &AlwaysOpen, (End::Finished, &[0])),
+        Before::Nothing => true,
+        Before::Stops => is_left(rt, chart, 0, ends, &Never(0), (End::Stopped, &[])),
+        Before::Sends => is_left(rt, chart, 0, ends, &AlwaysOpen, (End::Finished, &[0])),
         Before::Strays => match ends {
-            Some(mut ends) => Ok(is_put(&mut ends, 5, 0)),
-            None => Ok(false),
+            Some(mut ends) => is_put(&mut ends, 5, 0),
+            None => false,
         },
     }
 }
 
 /// Whether the receiver of a chart of one message ends so after that.
-fn is_received_in(
-    alloc: Global,
-    chart: &Chart,
-    before: Before,
-    wanted: Left,
-) -> Result<bool, Fail> {
-    let mut ends = wire(alloc, chart, Queues::Pair)?;
+fn is_received_in(rt: &impl Host, chart: &Chart, before: Before, wanted: Left) -> bool {
+    let mut ends = wire(rt.alloc(), chart, Queues::Pair).expect(rt, "ends");
     let takes = ends.pop();
-    let is_done = does(alloc, chart, ends.pop(), before)?;
-    Ok(is_done && is_left(alloc, chart, 1, takes, &AlwaysOpen, wanted)?)
+    let is_done = does(rt, chart, ends.pop(), before);
+    is_done && is_left(rt, chart, 1, takes, &AlwaysOpen, wanted)
 }
 
 /// Whether the receiver of `one_message` ends so after that.
-fn is_received(alloc: Global, before: Before, wanted: Left) -> Result<bool, Fail> {
-    is_received_in(alloc, &read_chart(alloc, ONE_MESSAGE)?, before, wanted)
+fn is_received(rt: &impl Host, before: Before, wanted: Left) -> bool {
+    is_received_in(rt, &chart_of(rt, ONE_MESSAGE), before, wanted)
 }
 
 /// What the sender of `one_message` does, and how its receiver ends then.
@@ -111,41 +101,30 @@ const RECEIVED: &[(Before, Left)] = &[
 ];
 
 #[test]
-fn what_comes_of_one_message(rt: HostRuntime) -> Result<(), Fail> {
+fn what_comes_of_one_message(rt: HostRuntime) {
     for &(before, wanted) in RECEIVED {
-        assert!(rt; is_received(rt.alloc(), before, wanted)?, "{before:?}");
+        assert!(rt; is_received(&rt, before, wanted), "{before:?}");
     }
-    Ok(())
 }
 
 /// Whether the last of three instances, which takes a message with the last clock but one, stops
 /// before it sends.
-fn is_spent_in(alloc: Global, chart: &Chart) -> Result<bool, Fail> {
-    let mut ends = wire(alloc, chart, Queues::Mailbox)?;
+fn is_spent_in(rt: &impl Host, chart: &Chart) -> bool {
+    let mut ends = wire(rt.alloc(), chart, Queues::Mailbox).expect(rt, "ends");
     let is_sent = match ends.first_mut() {
         Some(sends) => is_put(sends, 1, u64::MAX - 1),
         None => false,
     };
-    Ok(
-        is_sent
-            && is_left(
-                alloc,
-                chart,
-                2,
-                ends.pop(),
-                &AlwaysOpen,
-                (End::Stopped, &[4]),
-            )?,
-    )
+    let wanted = (End::Stopped, [4].as_slice());
+    is_sent && is_left(rt, chart, 2, ends.pop(), &AlwaysOpen, wanted)
 }
 
 /// Whether that of `relay` does.
-fn is_spent(alloc: Global) -> Result<bool, Fail> {
-    is_spent_in(alloc, &read_chart(alloc, RELAY)?)
+fn is_spent(rt: &impl Host) -> bool {
+    is_spent_in(rt, &chart_of(rt, RELAY))
 }
 
 #[test]
-fn a_clock_that_is_spent(rt: HostRuntime) -> Result<(), Fail> {
-    assert!(rt; is_spent(rt.alloc())?);
-    Ok(())
+fn a_clock_that_is_spent(rt: HostRuntime) {
+    assert!(rt; is_spent(&rt));
 }

@@ -1,10 +1,9 @@
 //! Actions: what their texts hold, and how they are written.
 
-use crate::drafts::is_written_as;
+use crate::drafts::{draft_of, is_written_as};
+use crate::host::Host;
 use msc_lexer::{Kind, lex, text_bytes};
-use msc_parser::{Draft, Item, ParseFault, Statement, parse};
-use std::alloc::{AllocError, Global};
-use std::test::Fail;
+use msc_parser::{Draft, Item, Statement};
 
 /// Charts with actions, and their canonical texts.
 const CHARTS: &[(&[u8], &[u8])] = &[
@@ -29,15 +28,18 @@ endinstance;\nendmsc;\n",
 ];
 
 /// Whether the first token of a text is a text that holds `wanted`.
-fn holds(alloc: Global, text: &[u8], wanted: &[u8]) -> Result<bool, AllocError> {
-    let Ok(tokens) = lex(alloc, text) else {
-        return Ok(false);
+fn holds(rt: &impl Host, text: &[u8], wanted: &[u8]) -> bool {
+    let Ok(tokens) = lex(rt.alloc(), text) else {
+        return false;
     };
     match tokens.first() {
         Some(token) if token.kind == Kind::Text => {
-            Ok(text_bytes(alloc, text, token)?.as_slice() == wanted)
+            text_bytes(rt.alloc(), text, token)
+                .expect(rt, "memory")
+                .as_slice()
+                == wanted
         }
-        _ => Ok(false),
+        _ => false,
     }
 }
 
@@ -53,34 +55,31 @@ fn is_action(draft: &Draft, text: &[u8]) -> bool {
 }
 
 #[test]
-fn actions_are_written_and_read_again(rt: HostRuntime) -> Result<(), Fail> {
+fn actions_are_written_and_read_again(rt: HostRuntime) {
     for &(text, wanted) in CHARTS {
-        assert!(rt; is_written_as(rt.alloc(), text, wanted)?, "{text:?}");
+        assert!(rt; is_written_as(&rt, text, wanted), "{text:?}");
     }
-    Ok(())
 }
 
 /// Texts in apostrophes, and what they hold.
 const HELD: &[(&[u8], &[u8])] = &[(b"'it''s'", b"it's"), (b"''", b""), (b"'''''a'", b"''a")];
 
 #[test]
-fn what_a_text_holds(rt: HostRuntime) -> Result<(), Fail> {
+fn what_a_text_holds(rt: HostRuntime) {
     for &(text, wanted) in HELD {
-        assert!(rt; holds(rt.alloc(), text, wanted)?, "{text:?}");
+        assert!(rt; holds(&rt, text, wanted), "{text:?}");
     }
-    Ok(())
 }
 
 /// Whether the first section of a text's draft is one action with this text.
-fn has_action(alloc: Global, text: &[u8], wanted: &[u8]) -> Result<bool, ParseFault> {
-    Ok(is_action(&parse(alloc, text)?, wanted))
+fn has_action(rt: &impl Host, text: &[u8], wanted: &[u8]) -> bool {
+    is_action(&draft_of(rt, text), wanted)
 }
 
 /// A text with an action that has an apostrophe, and a comment.
 const COMMENTED: &[u8] = b"msc t; instance a; action 'it''s' comment 'no'; endinstance; endmsc;";
 
 #[test]
-fn the_text_of_an_action(rt: HostRuntime) -> Result<(), Fail> {
-    assert!(rt; has_action(rt.alloc(), COMMENTED, b"it's")?);
-    Ok(())
+fn the_text_of_an_action(rt: HostRuntime) {
+    assert!(rt; has_action(&rt, COMMENTED, b"it's"));
 }

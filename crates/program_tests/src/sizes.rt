@@ -2,9 +2,8 @@
 
 ghost use Rattle.std.specs.Prelude.{◌≤◌};
 
+use crate::host::Host;
 use msc_fifo::{Inlet, Outlet, QueueFault, SendFault, Taken, queue, settle};
-use std::alloc::Global;
-use std::test::Fail;
 
 /// Quotas, and why no queue has them, or none where a queue has them.
 const LIMITS: &[(&[u32], Option<QueueFault>)] = &[
@@ -31,29 +30,29 @@ fn are_open(outlets: &[Outlet], quotas: &[u32]) -> bool {
 }
 
 /// Whether there is a queue with these quotas, and a new one is open, empty and can be settled.
-fn is_new(alloc: Global, quotas: &[u32]) -> Result<bool, QueueFault> {
-    let (outlets, inlet) = queue(alloc, quotas)?;
+fn is_new(rt: &impl Host, quotas: &[u32]) -> bool {
+    let (outlets, inlet) = queue(rt.alloc(), quotas).expect(rt, "a queue");
     let known = are_open(&outlets, quotas) && inlet.unended() as usize == quotas.len();
-    match settle(alloc, inlet, outlets) {
+    match settle(rt.alloc(), inlet, outlets) {
         Ok(settled) => {
-            Ok(known && settled.senders.len() == quotas.len() && settled.places.is_empty())
+            known && settled.senders.len() == quotas.len() && settled.places.is_empty()
         }
-        Err(_) => Err(QueueFault::Memory),
+        Err(_) => false,
     }
 }
 
 /// Whether a queue with these quotas is new, or is refused so.
-fn is_made(alloc: Global, quotas: &[u32], refusal: Option<QueueFault>) -> bool {
-    match is_new(alloc, quotas) {
-        Ok(is_new) => is_new && refusal.is_none(),
-        Err(fault) => refusal == Some(fault),
+fn is_made(rt: &impl Host, quotas: &[u32], refusal: Option<QueueFault>) -> bool {
+    match refusal {
+        Some(_) => queue(rt.alloc(), quotas).err() == refusal,
+        None => is_new(rt, quotas),
     }
 }
 
 #[test]
 fn limits(rt: HostRuntime) {
     for &(quotas, refusal) in LIMITS {
-        assert!(rt; is_made(rt.alloc(), quotas, refusal), "{quotas:?}");
+        assert!(rt; is_made(&rt, quotas, refusal), "{quotas:?}");
     }
 }
 
@@ -80,8 +79,8 @@ fn empties(inlet: &mut Inlet, sender: u32) -> bool
 }
 
 /// Whether the largest queue takes all that may be put into it, and gives it back.
-fn is_filled_and_emptied(alloc: Global) -> Result<bool, QueueFault> {
-    let (mut outlets, mut inlet) = queue(alloc, &[32; 32])?;
+fn is_filled_and_emptied(rt: &impl Host) -> bool {
+    let (mut outlets, mut inlet) = queue(rt.alloc(), &[32; 32]).expect(rt, "a queue");
     let mut all = true;
     for outlet in outlets.iter_mut() {
         all &= fills(outlet);
@@ -90,11 +89,10 @@ fn is_filled_and_emptied(alloc: Global) -> Result<bool, QueueFault> {
         all &= inlet.unended() == 32 - sender;
         all &= empties(&mut inlet, sender);
     }
-    Ok(all && inlet.unended() == 0 && inlet.take(0) == Taken::Nothing)
+    all && inlet.unended() == 0 && inlet.take(0) == Taken::Nothing
 }
 
 #[test]
-fn the_largest_queue_is_filled_and_emptied(rt: HostRuntime) -> Result<(), Fail> {
-    assert!(rt; is_filled_and_emptied(rt.alloc())?);
-    Ok(())
+fn the_largest_queue_is_filled_and_emptied(rt: HostRuntime) {
+    assert!(rt; is_filled_and_emptied(&rt));
 }

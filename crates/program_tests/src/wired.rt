@@ -1,12 +1,10 @@
 //! Fresh ends of instances, and ends that do not fit.
 
 use crate::alone::is_put;
-use crate::together::read_chart;
+use crate::host::{Host, chart_of};
 use example_charts::RELAY;
 use msc_chart::{Chart, Queues};
 use msc_instance::{InstanceEnds, wire};
-use std::alloc::Global;
-use std::test::Fail;
 
 /// The queues of an instance's outlets, each with how many messages it has left, and those of its
 /// inlets.
@@ -62,26 +60,20 @@ fn are_ends(all: &[InstanceEnds], wanted: [Wired; 3]) -> bool {
 }
 
 /// Whether the instances of a chart have these ends.
-fn are_wired_in(
-    alloc: Global,
-    chart: &Chart,
-    queues: Queues,
-    wanted: [Wired; 3],
-) -> Result<bool, Fail> {
-    Ok(are_ends(&wire(alloc, chart, queues)?, wanted))
+fn are_wired_in(rt: &impl Host, chart: &Chart, queues: Queues, wanted: [Wired; 3]) -> bool {
+    are_ends(&wire(rt.alloc(), chart, queues).expect(rt, "ends"), wanted)
 }
 
 /// Whether the instances of `relay` have these ends.
-fn are_wired(alloc: Global, queues: Queues, wanted: [Wired; 3]) -> Result<bool, Fail> {
-    are_wired_in(alloc, &read_chart(alloc, RELAY)?, queues, wanted)
+fn are_wired(rt: &impl Host, queues: Queues, wanted: [Wired; 3]) -> bool {
+    are_wired_in(rt, &chart_of(rt, RELAY), queues, wanted)
 }
 
 #[test]
-fn the_ends_of_relay(rt: HostRuntime) -> Result<(), Fail> {
+fn the_ends_of_relay(rt: HostRuntime) {
     for (queues, wanted) in RELAY_ENDS {
-        assert!(rt; are_wired(rt.alloc(), queues, wanted)?, "{queues:?}");
+        assert!(rt; are_wired(&rt, queues, wanted), "{queues:?}");
     }
-    Ok(())
 }
 
 /// What is done to the ends of an instance before it is looked whether they fit.
@@ -130,14 +122,14 @@ fn first_fit(all: &mut [InstanceEnds], chart: &Chart, change: Change, i: u32) ->
 }
 
 /// The same of the ends of a chart.
-fn fit_in(alloc: Global, chart: &Chart, change: Change, i: u32) -> Result<Option<bool>, Fail> {
-    let mut all = wire(alloc, chart, Queues::Single)?;
-    Ok(first_fit(&mut all, chart, change, i))
+fn fit_in(rt: &impl Host, chart: &Chart, change: Change, i: u32) -> Option<bool> {
+    let mut all = wire(rt.alloc(), chart, Queues::Single).expect(rt, "ends");
+    first_fit(&mut all, chart, change, i)
 }
 
 /// The same of `relay`.
-fn fit(alloc: Global, change: Change, i: u32) -> Result<Option<bool>, Fail> {
-    fit_in(alloc, &read_chart(alloc, RELAY)?, change, i)
+fn fit(rt: &impl Host, change: Change, i: u32) -> Option<bool> {
+    fit_in(rt, &chart_of(rt, RELAY), change, i)
 }
 
 /// Changes of the ends of the first instance of `relay`, an instance, and whether they fit it.
@@ -151,9 +143,8 @@ const FITTING: &[(Change, u32, bool)] = &[
 ];
 
 #[test]
-fn ends_that_fit_and_that_do_not(rt: HostRuntime) -> Result<(), Fail> {
+fn ends_that_fit_and_that_do_not(rt: HostRuntime) {
     for &(change, i, wanted) in FITTING {
-        assert_eq!(rt; fit(rt.alloc(), change, i)?, Some(wanted), "{change:?} {i}");
+        assert_eq!(rt; fit(&rt, change, i), Some(wanted), "{change:?} {i}");
     }
-    Ok(())
 }

@@ -1,7 +1,7 @@
 //! Tokens and lexical faults.
 
+use crate::host::Host;
 use msc_lexer::{Kind, LexFault, Token, Word, lex};
-use std::alloc::Global;
 
 /// A list of tokens, each with its first place and the place past its last.
 macro_rules! tokens {
@@ -11,8 +11,8 @@ macro_rules! tokens {
 }
 
 /// Whether a text has exactly these tokens.
-fn has_tokens(alloc: Global, text: &[u8], wanted: &[Token]) -> bool {
-    match lex(alloc, text) {
+fn has_tokens(rt: &impl Host, text: &[u8], wanted: &[Token]) -> bool {
+    match lex(rt.alloc(), text) {
         Ok(tokens) => tokens.as_slice() == wanted,
         Err(_) => false,
     }
@@ -45,7 +45,7 @@ const TOKENS: &[(&[u8], &[Token])] = &[
 #[test]
 fn a_word_a_name_and_a_mark(rt: HostRuntime) {
     for &(text, wanted) in TOKENS {
-        assert!(rt; has_tokens(rt.alloc(), text, wanted), "{text:?}");
+        assert!(rt; has_tokens(&rt, text, wanted), "{text:?}");
     }
 }
 
@@ -79,7 +79,7 @@ const WORD_TOKENS: &[Token] = tokens![
 
 #[test]
 fn each_reserved_word_in_any_case(rt: HostRuntime) {
-    assert!(rt; has_tokens(rt.alloc(), WORDS, WORD_TOKENS));
+    assert!(rt; has_tokens(&rt, WORDS, WORD_TOKENS));
 }
 
 /// Texts, and their first lexical faults.
@@ -96,13 +96,13 @@ const FAULTS: &[(&[u8], LexFault)] = &[
 ];
 
 /// Whether this is the first lexical fault of a text.
-fn has_fault(alloc: Global, text: &[u8], wanted: LexFault) -> bool {
-    lex(alloc, text).err() == Some(wanted)
+fn has_fault(rt: &impl Host, text: &[u8], wanted: LexFault) -> bool {
+    lex(rt.alloc(), text).err() == Some(wanted)
 }
 
 #[test]
 fn lexical_faults(rt: HostRuntime) {
     for &(text, wanted) in FAULTS {
-        assert!(rt; has_fault(rt.alloc(), text, wanted), "{text:?}");
+        assert!(rt; has_fault(&rt, text, wanted), "{text:?}");
     }
 }

@@ -1,15 +1,13 @@
 //! Queues in one thread and in three. What clauses say is proved; these tests have the answers that
 //! no clause fixes: that what was put is found, that calls succeed with ample memory, and threads.
 
-ghost use Rattle.std.specs.Prelude.{◌≡◌, ◌≤◌, IfOk};
+ghost use Rattle.std.specs.Prelude.{◌≡◌, ◌≤◌};
 ghost use Rattle.msc_fifo.specs.Ends.{new_inlet, new_outlet, IsSameInlet, IsSameOutlet};
 
-use msc_fifo::{Inlet, Outlet, QueueFault, SendFault, Sent, Settled, Taken, queue, settle};
-use std::alloc::{AllocError, Global};
+use crate::host::{Host, Parallel};
+use msc_fifo::{Inlet, Outlet, SendFault, Sent, Settled, Taken, queue, settle};
 use std::marker::Model;
-use std::test::Fail;
 use std::thread;
-use std::thread::Threads;
 
 /// The greatest number of takes of a thread.
 const MOST_TAKES: u32 = 1_000_000_000;
@@ -64,26 +62,22 @@ struct Row {
 }
 
 /// The ends of a new queue of two senders.
-pub(crate) fn pair(
-    alloc: Global,
-    first: u32,
-    second: u32,
-) -> Result<(Outlet, Outlet, Inlet), QueueFault>
-    ensures zero { IfOk result (λ r. r.0 ≡ new_outlet r.2.queue 0 first) }
-    ensures one { IfOk result (λ r. r.1 ≡ new_outlet r.2.queue 1 second) }
-    ensures inlet { IfOk result (λ r. r.2 ≡ new_inlet r.2.queue 2) }
+pub(crate) fn pair(rt: &impl Host, first: u32, second: u32) -> (Outlet, Outlet, Inlet)
+    ensures zero { result.0 ≡ new_outlet result.2.queue 0 first }
+    ensures one { result.1 ≡ new_outlet result.2.queue 1 second }
+    ensures inlet { result.2 ≡ new_inlet result.2.queue 2 }
 {
-    let (mut outlets, inlet) = queue(alloc, &[first, second])?;
+    let (mut outlets, inlet) = queue(rt.alloc(), &[first, second]).expect(rt, "a queue");
     let one = outlets.pop().unwrap();
     let zero = outlets.pop().unwrap();
-    Ok((zero, one, inlet))
+    (zero, one, inlet)
 }
 
 impl Ends {
     /// The ends of a new queue with these quotas.
-    fn new(alloc: Global, quotas: (u32, u32)) -> Result<Ends, QueueFault> {
-        let (zero, one, inlet) = pair(alloc, quotas.0, quotas.1)?;
-        Ok(Ends { zero, one, inlet })
+    fn new(rt: &impl Host, quotas: (u32, u32)) -> Ends {
+        let (zero, one, inlet) = pair(rt, quotas.0, quotas.1);
+        Ends { zero, one, inlet }
     }
 
     /// Makes a call, and says whether it answers what it should.
@@ -128,18 +122,16 @@ impl Ends {
 
     /// Settles the queue, the outlets handed over in the other order; and where that was refused
     /// memory, once more with what was handed back.
-    fn settled(self, alloc: Global) -> Result<Settled, QueueFault> {
+    fn settled(self, rt: &impl Host) -> Settled {
         let Ends { zero, one, inlet } = self;
-        let Ok(mut outlets) = Vec::with_capacity(alloc, 2) else {
-            return Err(QueueFault::Memory);
-        };
+        let mut outlets = Vec::with_capacity(rt.alloc(), 2).expect(rt, "memory");
         outlets.push_reserved(one);
         outlets.push_reserved(zero);
-        match settle(alloc, inlet, outlets) {
-            Ok(settled) => Ok(settled),
-            Err((_, inlet, outlets)) => match settle(alloc, inlet, outlets) {
-                Ok(settled) => Ok(settled),
-                Err(_) => Err(QueueFault::Memory),
+        match settle(rt.alloc(), inlet, outlets) {
+            Ok(settled) => settled,
+            Err((_, inlet, outlets)) => match settle(rt.alloc(), inlet, outlets) {
+                Ok(settled) => settled,
+                Err((fault, _, _)) => panic!(rt; "accounts: {fault:?}"),
             },
         }
     }
@@ -173,12 +165,12 @@ fn is_settled(settled: &Settled, row: &Row) -> bool {
 }
 
 /// Whether the calls of a row answer what they should, and then this is settled.
-fn is_as_said(alloc: Global, row: &Row) -> Result<bool, QueueFault> {
-    let mut ends = Ends::new(alloc, row.quotas)?;
+fn is_as_said(rt: &impl Host, row: &Row) -> bool {
+    let mut ends = Ends::new(rt, row.quotas);
     if !ends.answers_all(row.calls) {
-        return Ok(false);
+        return false;
     }
-    Ok(is_settled(&ends.settled(alloc)?, row))
+    is_settled(&ends.settled(rt), row)
 }
 
 /// Two senders fill their quotas and close, and all is taken.
@@ -306,11 +298,10 @@ const ROWS: &[&Row] = &[
 ];
 
 #[test]
-fn one_thread(rt: HostRuntime) -> Result<(), Fail> {
+fn one_thread(rt: HostRuntime) {
     for &row in ROWS {
-        assert!(rt; is_as_said(rt.alloc(), row)?, "{:?}", row.quotas);
+        assert!(rt; is_as_said(&rt, row), "{:?}", row.quotas);
     }
-    Ok(())
 }
 
 /// Sends the hundred messages from `first` on, and closes.
@@ -341,7 +332,7 @@ fn take_all(mut inlet: Inlet) -> Inlet
 }
 
 /// Two threads send and a third one takes; all ends come back.
-fn in_three_threads<R: Threads + Sync>(rt: &R, ends: Ends) -> Ends {
+fn in_three_threads(rt: &impl Parallel, ends: Ends) -> Ends {
     let Ends { zero, one, inlet } = ends;
     let (zero, (one, inlet)) = thread::join(
         rt,
@@ -352,34 +343,33 @@ fn in_three_threads<R: Threads + Sync>(rt: &R, ends: Ends) -> Ends {
 }
 
 /// The hundred messages from `first` on.
-fn hundred(alloc: Global, first: u32) -> Result<Vec<u32>, AllocError>
+fn hundred(rt: &impl Host, first: u32) -> Vec<u32>
     requires { first ≤ 1000 }
 {
-    let mut all = Vec::new(alloc);
+    let mut all = Vec::new(rt.alloc());
     for m in first..first + 100 {
-        all.push(m)?;
+        all.push(m).expect(rt, "memory");
     }
-    Ok(all)
+    all
 }
 
 /// Whether the accounts of two senders show that a hundred messages of each were put and taken.
-fn are_hundreds(alloc: Global, settled: &Settled) -> Result<bool, AllocError> {
-    let (low, high) = (hundred(alloc, 0)?, hundred(alloc, 1000)?);
+fn are_hundreds(rt: &impl Host, settled: &Settled) -> bool {
+    let (low, high) = (hundred(rt, 0), hundred(rt, 1000));
     let low = (low.as_slice(), low.as_slice(), [].as_slice(), true);
     let high = (high.as_slice(), high.as_slice(), [].as_slice(), true);
-    Ok(is_shown(settled, 0, &low) && is_shown(settled, 1, &high))
+    is_shown(settled, 0, &low) && is_shown(settled, 1, &high)
 }
 
 /// Whether two threads put a hundred messages each, a third takes them, and all is settled.
-fn are_taken<R: Threads + Sync>(rt: &R, alloc: Global) -> Result<bool, Fail> {
-    let ends = in_three_threads(rt, Ends::new(alloc, (100, 100))?);
+fn are_taken(rt: &impl Parallel) -> bool {
+    let ends = in_three_threads(rt, Ends::new(rt, (100, 100)));
     let are_ended = ends.inlet.unended() == 0;
-    let settled = ends.settled(alloc)?;
-    Ok(are_ended && are_hundreds(alloc, &settled)? && settled.places.len() == 202)
+    let settled = ends.settled(rt);
+    are_ended && are_hundreds(rt, &settled) && settled.places.len() == 202
 }
 
 #[test]
-fn three_threads(rt: HostRuntime) -> Result<(), Fail> {
-    assert!(rt; are_taken(&rt, rt.alloc())?);
-    Ok(())
+fn three_threads(rt: HostRuntime) {
+    assert!(rt; are_taken(&rt));
 }

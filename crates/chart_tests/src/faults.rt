@@ -1,13 +1,12 @@
 //! Why a text has no draft, and at which place.
 
+use crate::host::Host;
 use msc_lexer::{LexFault, Word};
 use msc_parser::{ParseFault, What, parse};
-use std::alloc::{AllocError, Global};
-use std::test::Fail;
 
 /// The fault of a text that has no draft.
-pub fn fault(alloc: Global, text: &[u8]) -> Option<ParseFault> {
-    parse(alloc, text).err()
+pub fn fault(rt: &impl Host, text: &[u8]) -> Option<ParseFault> {
+    parse(rt.alloc(), text).err()
 }
 
 /// Texts without a draft, and their faults.
@@ -35,16 +34,21 @@ const REFUSED: &[(&[u8], ParseFault)] = &[
     ),
 ];
 
+/// Whether a text has no draft for this fault.
+pub fn has_fault(rt: &impl Host, text: &[u8], wanted: ParseFault) -> bool {
+    fault(rt, text) == Some(wanted)
+}
+
 #[test]
 fn refused_texts(rt: HostRuntime) {
     for &(text, wanted) in REFUSED {
-        assert_eq!(rt; fault(rt.alloc(), text), Some(wanted), "{text:?}");
+        assert!(rt; has_fault(&rt, text, wanted), "{text:?}");
     }
 }
 
 /// Whether the message of a fault is this.
-fn has_message(alloc: Global, fault: ParseFault, wanted: &str) -> Result<bool, AllocError> {
-    Ok(fault.to_string(alloc)?.as_str() == wanted)
+fn has_message(rt: &impl Host, fault: ParseFault, wanted: &str) -> bool {
+    fault.to_string(rt.alloc()).expect(rt, "memory").as_str() == wanted
 }
 
 /// Faults and their messages.
@@ -62,17 +66,16 @@ const MESSAGES: &[(ParseFault, &str)] = &[
 ];
 
 #[test]
-fn messages_are_the_printed_words(rt: HostRuntime) -> Result<(), Fail> {
+fn messages_are_the_printed_words(rt: HostRuntime) {
     for &(fault, wanted) in MESSAGES {
-        assert!(rt; has_message(rt.alloc(), fault, wanted)?, "{wanted}");
+        assert!(rt; has_message(&rt, fault, wanted), "{wanted}");
     }
-    Ok(())
 }
 
-/// The fault of a text of one byte, so many times.
-fn fault_of_many(alloc: Global, byte: u8, count: usize) -> Result<Option<ParseFault>, AllocError> {
-    let text = vec![in alloc; byte; count]?;
-    Ok(fault(alloc, &text))
+/// Whether a text of one byte, so many times, has no draft for this fault.
+fn has_fault_of_many(rt: &impl Host, byte: u8, count: usize, wanted: ParseFault) -> bool {
+    let text = vec![in rt.alloc(); byte; count].expect(rt, "memory");
+    has_fault(rt, &text, wanted)
 }
 
 /// Bytes, how many of them make a text, and its fault.
@@ -83,13 +86,8 @@ const LIMITS: &[(u8, usize, ParseFault)] = &[
 ];
 
 #[test]
-fn texts_at_the_limit(rt: HostRuntime) -> Result<(), Fail> {
+fn texts_at_the_limit(rt: HostRuntime) {
     for &(byte, count, wanted) in LIMITS {
-        assert_eq!(rt;
-            fault_of_many(rt.alloc(), byte, count)?,
-            Some(wanted),
-            "{count}"
-        );
+        assert!(rt; has_fault_of_many(&rt, byte, count, wanted), "{count}");
     }
-    Ok(())
 }

@@ -1,9 +1,8 @@
 //! Drafts: the parts that the readers show, and the canonical text.
 
+use crate::host::Host;
 use example_charts::ONE_MESSAGE;
-use msc_parser::{Draft, Item, ParseFault, Section, Signal, Statement, Way, parse};
-use std::alloc::Global;
-use std::test::Fail;
+use msc_parser::{Draft, Item, Section, Signal, Statement, Way, parse};
 
 /// Whether an event is this one of message `m`, with no message instance name and no parameters.
 fn is_plain(signal: &Signal, way: Way, address: &[u8]) -> bool {
@@ -37,27 +36,27 @@ fn is_one_message(draft: &Draft) -> bool {
     }
 }
 
-/// The canonical text of a text's draft.
-pub fn canonical(alloc: Global, text: &[u8]) -> Result<Vec<u8>, ParseFault> {
-    Ok(parse(alloc, text)?.write(alloc)?)
+/// The draft of a text that has one.
+pub fn draft_of(rt: &impl Host, text: &[u8]) -> Draft {
+    parse(rt.alloc(), text).expect(rt, "a draft")
 }
 
-/// Whether the draft of `ONE_MESSAGE` has its parts.
-fn has_parts(alloc: Global) -> Result<bool, ParseFault> {
-    Ok(is_one_message(&parse(alloc, ONE_MESSAGE)?))
+/// The canonical text of a text's draft.
+pub fn canonical(rt: &impl Host, text: &[u8]) -> Vec<u8> {
+    let draft = draft_of(rt, text);
+    draft.write(rt.alloc()).expect(rt, "memory")
 }
 
 #[test]
-fn the_parts_of_one_message(rt: HostRuntime) -> Result<(), Fail> {
-    assert!(rt; has_parts(rt.alloc())?);
-    Ok(())
+fn the_parts_of_one_message(rt: HostRuntime) {
+    assert!(rt; is_one_message(&draft_of(&rt, ONE_MESSAGE)));
 }
 
 /// Whether a text is written as `wanted`, and `wanted` as itself.
-pub fn is_written_as(alloc: Global, text: &[u8], wanted: &[u8]) -> Result<bool, ParseFault> {
-    let first = canonical(alloc, text)?;
-    let again = canonical(alloc, wanted)?;
-    Ok(first.as_slice() == wanted && again.as_slice() == wanted)
+pub fn is_written_as(rt: &impl Host, text: &[u8], wanted: &[u8]) -> bool {
+    let first = canonical(rt, text);
+    let again = canonical(rt, wanted);
+    first.as_slice() == wanted && again.as_slice() == wanted
 }
 
 /// A text; its header has the names of all `inst` statements.
@@ -69,7 +68,6 @@ const CANONICAL: &[u8] = b"msc t;\ninst a, b, a;\ninstance a;\n  out m to b;\nen
 endmsc;\n";
 
 #[test]
-fn a_written_draft_is_read_again(rt: HostRuntime) -> Result<(), Fail> {
-    assert!(rt; is_written_as(rt.alloc(), TEXT, CANONICAL)?);
-    Ok(())
+fn a_written_draft_is_read_again(rt: HostRuntime) {
+    assert!(rt; is_written_as(&rt, TEXT, CANONICAL));
 }

@@ -1,13 +1,12 @@
 //! The whole grammar: drafts of kinds, message instance names, parameters and coregions, and a
 //! refused text for each place.
 
-use crate::drafts::canonical;
-use crate::faults::fault;
+use crate::drafts::{canonical, draft_of};
+use crate::faults::{fault, has_fault};
+use crate::host::Host;
 use example_charts::KINDS_AND_COMMENTS;
 use msc_lexer::LexFault;
-use msc_parser::{Draft, Item, Name, ParseFault, Signal, Statement, What, parse};
-use std::alloc::{AllocError, Global};
-use std::test::Fail;
+use msc_parser::{Draft, Item, Name, ParseFault, Signal, Statement, What};
 
 /// Whether these are the two names.
 fn are_names(names: &[Name], first: &[u8], second: &[u8]) -> bool {
@@ -59,16 +58,10 @@ fn has_coregions(draft: &Draft) -> bool {
 const COREGIONS: &[u8] = b"msc t; instance a; concurrent comment 'c'; endconcurrent; \
 concurrent; in m() from b; out n to b; endconcurrent; endinstance; endmsc;";
 
-/// Whether the drafts of `KINDS_AND_COMMENTS` and of `COREGIONS` have their parts.
-fn have_parts(alloc: Global) -> Result<(bool, bool), ParseFault> {
-    let kinds = has_kinds_numbers_and_parameters(&parse(alloc, KINDS_AND_COMMENTS)?);
-    Ok((kinds, has_coregions(&parse(alloc, COREGIONS)?)))
-}
-
 #[test]
-fn kinds_numbers_parameters_and_coregions(rt: HostRuntime) -> Result<(), Fail> {
-    assert_eq!(rt; have_parts(rt.alloc())?, (true, true));
-    Ok(())
+fn kinds_numbers_parameters_and_coregions(rt: HostRuntime) {
+    assert!(rt; has_kinds_numbers_and_parameters(&draft_of(&rt, KINDS_AND_COMMENTS)));
+    assert!(rt; has_coregions(&draft_of(&rt, COREGIONS)));
 }
 
 /// Texts without a draft, where the first token stands that is not expected, and what is expected
@@ -140,14 +133,14 @@ const PLACES: &[(&[u8], usize, What)] = &[
 #[test]
 fn a_refused_text_for_each_place(rt: HostRuntime) {
     for &(text, at, what) in PLACES {
-        let wanted = Some(ParseFault::Expected(at, what));
-        assert_eq!(rt; fault(rt.alloc(), text), wanted, "{text:?}");
+        let is = has_fault(&rt, text, ParseFault::Expected(at, what));
+        assert!(rt; is, "{text:?}");
     }
 }
 
 /// The fault of the first bytes of `KINDS_AND_COMMENTS`, so many of them.
-fn fault_of_beginning(alloc: Global, length: usize) -> Option<ParseFault> {
-    fault(alloc, KINDS_AND_COMMENTS.get(..length).unwrap_or(b""))
+fn fault_of_beginning(rt: &impl Host, length: usize) -> Option<ParseFault> {
+    fault(rt, KINDS_AND_COMMENTS.get(..length).unwrap_or(b""))
 }
 
 /// Numbers of bytes, and the faults of so many.
@@ -170,17 +163,14 @@ const CUT: &[(usize, ParseFault)] = &[
 #[test]
 fn a_text_that_is_cut(rt: HostRuntime) {
     for &(length, wanted) in CUT {
-        assert_eq!(rt;
-            fault_of_beginning(rt.alloc(), length),
-            Some(wanted),
-            "{length}"
-        );
+        let is = fault_of_beginning(&rt, length) == Some(wanted);
+        assert!(rt; is, "{length}");
     }
 }
 
 /// Whether the first bytes are refused, and not as unsupported.
-fn is_refused_beginning(alloc: Global, length: usize) -> bool {
-    match fault_of_beginning(alloc, length) {
+fn is_refused_beginning(rt: &impl Host, length: usize) -> bool {
+    match fault_of_beginning(rt, length) {
         Some(ParseFault::Lex(_) | ParseFault::Expected(_, _)) => true,
         _ => false,
     }
@@ -189,32 +179,34 @@ fn is_refused_beginning(alloc: Global, length: usize) -> bool {
 #[test]
 fn every_beginning_is_refused_and_none_as_unsupported(rt: HostRuntime) {
     for length in 0..KINDS_AND_COMMENTS.len() {
-        assert!(rt; is_refused_beginning(rt.alloc(), length), "{length}");
+        assert!(rt; is_refused_beginning(&rt, length), "{length}");
     }
 }
 
 /// A text of forty thousand empty coregions.
-fn empty_coregions(alloc: Global) -> Result<Vec<u8>, AllocError> {
-    let mut text = Vec::new(alloc);
-    text.extend_from_slice(b"msc t;instance a;")?;
+fn empty_coregions(rt: &impl Host) -> Vec<u8> {
+    let mut text = Vec::new(rt.alloc());
+    text.extend_from_slice(b"msc t;instance a;")
+        .expect(rt, "memory");
     for _ in 0..40_000 {
-        text.extend_from_slice(b"concurrent;endconcurrent;")?;
+        text.extend_from_slice(b"concurrent;endconcurrent;")
+            .expect(rt, "memory");
     }
-    text.extend_from_slice(b"endinstance;endmsc;")?;
-    Ok(text)
+    text.extend_from_slice(b"endinstance;endmsc;")
+        .expect(rt, "memory");
+    text
 }
 
 /// The lengths of that text and of its canonical text, and the fault of the latter.
-fn of_empty_coregions(alloc: Global) -> Result<(usize, usize, Option<ParseFault>), ParseFault> {
-    let text = empty_coregions(alloc)?;
-    let written = canonical(alloc, &text)?;
-    Ok((text.len(), written.len(), fault(alloc, &written)))
+fn of_empty_coregions(rt: &impl Host) -> (usize, usize, Option<ParseFault>) {
+    let text = empty_coregions(rt);
+    let written = canonical(rt, &text);
+    (text.len(), written.len(), fault(rt, &written))
 }
 
 #[test]
-fn forty_thousand_empty_coregions(rt: HostRuntime) -> Result<(), Fail> {
+fn forty_thousand_empty_coregions(rt: HostRuntime) {
     let too_long = Some(ParseFault::Lex(LexFault::TooLong));
     let wanted = (1_000_036, 1_240_040, too_long);
-    assert_eq!(rt; of_empty_coregions(rt.alloc())?, wanted);
-    Ok(())
+    assert!(rt; of_empty_coregions(&rt) == wanted);
 }
