@@ -8,8 +8,10 @@ use Rattle.msc_report.specs.declared.fault.Fault.{Fault}
 use Rattle.msc_report.specs.declared.fault.PairFault.{PairFault}
 use Rattle.msc_study.specs.Explaining.{HasPairFault}
 use Rattle.msc_report.specs.declared.fault.Fault.TheVariants.{Parse, Chart, NotStarted, Memory, Device}
-use Rattle.msc_text.specs.Answers.{OnRead, RefusesText}
-use Rattle.msc_text.specs.Reading.{IsReadFrom}
+use Rattle.msc_text.specs.Answers.{RefusesText}
+use Rattle.msc_source.specs.declared.fault.ReadFault.{ReadFault}
+use Rattle.msc_source.specs.declared.fault.ReadFault.TheVariants as readings
+use Rattle.msc_report.specs.Refusals.{of_reading}
 use Rattle.msc_command.specs.declared.program.Refusal.{Refusal}
 use Rattle.msc_command.specs.declared.program.Refusal.TheVariants as refusals
 use Rattle.msc_command.specs.declared.program.Status.{Status}
@@ -122,29 +124,33 @@ told_refused Refused before after told two = told
 told_refused Unfinished before after told two = absurd cc
 told_refused Failed before after told two = absurd cc
 
--- Why a task has no answer, by what an answer says of the bytes that were read: which texts it refuses,
--- which drafts, and which instances it could not start.
-unanswered_by : (task : Task) (rest left : Option (List ℕ)) {A : Type 0} (answer : Result A Fault) (e : Fault) (said : List ℕ → Type 0) (before after : Option (List ℕ))
-    → answer ≡ Err e → OnRead rest left answer said → ((text : List ℕ) → said text → RefusesRightly task text answer)
-    → (e ≢ Memory → e ≢ Device → after ≡ before) → IsUnanswered task (IsReadFrom rest left) (refusals.Fault e) before after
-unanswered_by task rest left answer e said before after is (inr (inl memory)) refuses kept = inl (let same : e ≡ Memory = cc in ap refusals.Fault same)
-unanswered_by task rest left answer e said before after is (inr (inr device)) refuses kept = inr (inl (let same : e ≡ Device = cc in ap refusals.Fault same))
-unanswered_by task rest left answer Memory said before after is (inl read) refuses kept = inl refl
-unanswered_by task rest left answer Device said before after is (inl read) refuses kept = inr (inl refl)
-unanswered_by task rest left answer (Parse f) said before after is (inl read) refuses kept =
-    inr (inr (read.0, read.1, (refuses read.0 read.2).0.stands f is, kept (λ no. cc) (λ no. cc)))
-unanswered_by task rest left answer (Chart f) said before after is (inl read) refuses kept =
-    inr (inr (read.0, read.1, (refuses read.0 read.2).1 f is, kept (λ no. cc) (λ no. cc)))
-unanswered_by task rest left answer (NotStarted i) said before after is (inl read) refuses kept =
-    inr (inr (read.0, read.1, (refuses read.0 read.2).2 i is, kept (λ no. cc) (λ no. cc)))
+-- Why a task has no answer, by what an answer says of its text: whether it refuses it, or its draft,
+-- and which instances it could not start.
+unanswered_by : (task : Task) (text : List ℕ) (A : Type 0) (e : Fault) (before after : Option (List ℕ))
+    → RefusesRightly {A = A} task text (Err e) → (e ≢ Memory → e ≢ Device → after ≡ before)
+    → IsUnanswered task (λ t. t ≡ text) (refusals.Fault e) before after
+unanswered_by task text A Memory before after refuses kept = inl refl
+unanswered_by task text A Device before after refuses kept = inr (inl refl)
+unanswered_by task text A (Parse f) before after refuses kept =
+    inr (inr (text, refl, refuses.0.stands f refl, kept (λ no. cc) (λ no. cc)))
+unanswered_by task text A (Chart f) before after refuses kept =
+    inr (inr (text, refl, refuses.1 f refl, kept (λ no. cc) (λ no. cc)))
+unanswered_by task text A (NotStarted i) before after refuses kept =
+    inr (inr (text, refl, refuses.2 i refl, kept (λ no. cc) (λ no. cc)))
 
 -- the same of a task that is known
-pub unanswered : (task known : Task) (rest left : Option (List ℕ)) {A : Type 0} (answer : Result A Fault) (e : Fault) (said : List ℕ → Type 0) (before after : Option (List ℕ))
-    → task ≡ known → answer ≡ Err e → OnRead rest left answer said → ((text : List ℕ) → said text → RefusesRightly known text answer)
-    → (e ≢ Memory → e ≢ Device → after ≡ before) → IsUnanswered task (IsReadFrom rest left) (refusals.Fault e) before after
-unanswered task known rest left answer e said before after same is read refuses kept =
-    subst (λ (t : Task). IsUnanswered t (IsReadFrom rest left) (refusals.Fault e) before after) (sym same)
-    (unanswered_by known rest left answer e said before after is read refuses kept)
+pub unanswered : (task known : Task) (text : List ℕ) (A : Type 0) (e : Fault) (before after : Option (List ℕ))
+    → task ≡ known → RefusesRightly {A = A} known text (Err e) → (e ≢ Memory → e ≢ Device → after ≡ before)
+    → IsUnanswered task (λ t. t ≡ text) (refusals.Fault e) before after
+unanswered task known text A e before after same refuses kept =
+    subst (λ (t : Task). IsUnanswered t (λ t. t ≡ text) (refusals.Fault e) before after) (sym same)
+    (unanswered_by known text A e before after refuses kept)
+
+-- an input that was not read leaves each task without an answer
+pub unread : (task : Task) (reads : List ℕ → Type 0) (f : ReadFault) (before after : Option (List ℕ))
+    → IsUnanswered task reads (refusals.Fault (of_reading f)) before after
+unread task reads readings.Memory before after = inl refl
+unread task reads (readings.Device e) before after = inr (inl refl)
 
 -- numbers that are no two events of a text's chart leave the task of explaining them without an answer
 pub no_pair : (task : Task) (queues : Queues) (e f : ℕ) (reads : List ℕ → Type 0) (text : List ℕ) (fault : PairFault) (before after : Option (List ℕ))

@@ -23,7 +23,7 @@ use Rattle.msc_study.specs.Explaining.{HasPairFault, WritesReason}
 use Rattle.msc_study.specs.Studying.{Studies, WritesStudy}
 use Rattle.msc_text.specs.Answers.{WritesDraft}
 use Rattle.msc_text.specs.Checking.{WritesVerdict}
-use Rattle.msc_text.specs.Reading.{IsReadFrom}
+use Rattle.msc_source.specs.Inputs.{IsReadFrom}
 use Rattle.msc_tool.specs.Running.{HasInstance, WritesTrace}
 use Rattle.msc_command.specs.Commands.{AreAnswered, AreTaken}
 use Rattle.msc_command.specs.Words.{AsksFor, IsNoCommand}

@@ -10,15 +10,16 @@ ghost use Rattle.msc_command.specs.Program.{FollowsWords, IsUnanswered, Obeys, O
 ghost use Rattle.msc_command.specs.Program.{PrintsUnfinished, TellsAnswer, TellsRaces};
 ghost use Rattle.msc_command.specs.Program.{WritesAnswer};
 ghost use Rattle.msc_command.specs.declared.program.Status.{Status};
-ghost use Rattle.msc_text.specs.Reading.{IsReadFrom};
+ghost use Rattle.msc_source.specs.Inputs.{IsReadFrom};
 
 use crate::commands::{architectures, grammar, kinds};
 use crate::words::{Task, task_of};
 use clap::{ArgMatches, Error};
 use msc_instance::AlwaysOpen;
 use msc_report::{Fault, PairFault, write_fault, write_pair_fault};
-use msc_study::{Explained, explain_input, study_input};
-use msc_tool::{check_input, read_input, run_input};
+use msc_source::{ReadFault, read_all};
+use msc_study::{Explained, explain_text, study_text};
+use msc_tool::{check_text, read_text, run_text};
 use std::alloc::{AllocError, Global};
 use std::io::{ErrorKind, Read, Write};
 use std::rt::Files;
@@ -77,6 +78,17 @@ impl From<Fault> for Refusal {
     }
 }
 
+impl From<ReadFault> for Refusal {
+    ghost use Rattle.msc_command.specs.declared.program.Refusal.{Refusal};
+    ghost use Rattle.msc_report.specs.Refusals.{of_reading};
+
+    ghost from_gives = { λ fault refusal. refusal ≡ Refusal.Fault (of_reading fault) };
+
+    fn from(fault: ReadFault) -> Refusal {
+        Refusal::Fault(fault.into())
+    }
+}
+
 /// Writes a fault's line, where that succeeds, and tells how the run ended.
 fn end_with<E: Write>(faults: &mut E, fault: Fault) -> Status
     ensures { result ≡ status_of fault }
@@ -101,49 +113,47 @@ fn end_refused<E: Write>(faults: &mut E, refusal: Refusal) -> Status
     }
 }
 
-/// Writes the answer of a task to an input.
-fn answer<R: Threads + Wait + Sync, I: Read, O: Write>(
+/// Writes the answer of a task to a text.
+fn answer<R: Threads + Wait + Sync, O: Write>(
     rt: &R,
     alloc: Global,
     task: Task,
-    input: &mut I,
+    text: &[u8],
     output: &mut O,
 ) -> Result<Status, Refusal>
-    ensures written { IfOk result (λ status. (text : List ℕ)
-        × IsReadFrom (I.remaining input.old) (I.remaining input.new) text
-        × WritesAnswer task text status (O.contents output.old) (O.contents output.new)) }
-    ensures refused { IfErr result (λ refusal. IsUnanswered task
-        (IsReadFrom (I.remaining input.old) (I.remaining input.new)) refusal
+    ensures written { IfOk result (λ status.
+        WritesAnswer task text.now status (O.contents output.old) (O.contents output.new)) }
+    ensures refused { IfErr result (λ refusal. IsUnanswered task (λ t. t ≡ text.now) refusal
         (O.contents output.old) (O.contents output.new)) }
 {
     match task {
         Task::Read => {
-            read_input(alloc, input, output)?;
+            read_text(alloc, text, output)?;
             Ok(Status::Done)
         }
-        Task::Check(queues, show) => match check_input(alloc, input, queues, show, output)? {
+        Task::Check(queues, show) => match check_text(alloc, text, queues, show, output)? {
             true => Ok(Status::Done),
             false => Ok(Status::Races),
         },
-        Task::Study(queues, view) => match study_input(alloc, input, queues, view, output)? {
+        Task::Study(queues, view) => match study_text(alloc, text, queues, view, output)? {
             true => Ok(Status::Done),
             false => Ok(Status::Races),
         },
         Task::Judge(queues, view) => {
-            match study_input(alloc, input, queues, view, &mut io::sink())? {
+            match study_text(alloc, text, queues, view, &mut io::sink())? {
                 true => Ok(Status::Done),
                 false => Ok(Status::Races),
             }
         }
         Task::Explain(queues, e, f) => {
-            match explain_input(alloc, input, queues, e, f, output)? {
+            match explain_text(alloc, text, queues, e, f, output)? {
                 Explained::Enforced => Ok(Status::Done),
                 Explained::Free => Ok(Status::Races),
                 Explained::Refused(fault) => Err(Refusal::Pair(fault)),
             }
         }
         Task::Run(queues, patience) => {
-            match run_input(rt, alloc, input, queues, &AlwaysOpen, patience, output)? {
+            match run_text(rt, alloc, text, queues, &AlwaysOpen, patience, output)? {
                 true => Ok(Status::Done),
                 false => Ok(Status::Unfinished),
             }
@@ -151,7 +161,7 @@ fn answer<R: Threads + Wait + Sync, I: Read, O: Write>(
     }
 }
 
-/// Does a task over an input. The whole answer goes out before it is told.
+/// Does a task over an input, which is read once. The whole answer goes out before it is told.
 fn perform<R: Threads + Wait + Sync, I: Read, O: Write>(
     rt: &R,
     alloc: Global,
@@ -166,7 +176,8 @@ fn perform<R: Threads + Wait + Sync, I: Read, O: Write>(
         (IsReadFrom (I.remaining input.old) (I.remaining input.new)) refusal
         (O.contents output.old) (O.contents output.new)) }
 {
-    let status = answer(rt, alloc, task, input, output)?;
+    let text = read_all(alloc, input)?;
+    let status = answer(rt, alloc, task, text.as_slice(), output)?;
     match output.flush() {
         Ok(()) => Ok(status),
         Err(_) => Err(Refusal::Fault(Fault::Device)),

@@ -15,7 +15,7 @@ mod verdict;
 mod writing;
 
 pub use event_texts::EventTexts;
-pub use fault::{Fault, PairFault};
+pub use fault::{Fault, PairFault, WriteFault};
 pub use race::{write_event_at, write_race, write_run};
 pub use trace::write_trace;
 pub use verdict::{write_head, write_name_line, write_queues_line, write_verdict};

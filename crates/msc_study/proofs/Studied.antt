@@ -19,7 +19,7 @@ use Rattle.msc_study.specs.Studied.{BeginsChartStudy, StudiesChart}
 use Rattle.msc_study.specs.Studying.{AreLacks, BeginsStudy, PrintsStudy, Studies, WritesStudy}
 use Rattle.msc_study.specs.declared.view.View.{View}
 use Rattle.msc_text.proofs.Answered.{chosen_runs, shows_races}
-use Rattle.msc_text.specs.Charting.{IsChartOf}
+use Rattle.msc_source.specs.Texts.{IsChartOf}
 use Rattle.msc_text.specs.Checking.{AreChosen}
 use Rattle.msc_text.specs.Pages.{Writes}
 

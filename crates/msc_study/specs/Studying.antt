@@ -1,5 +1,5 @@
 -- What studying a text answers.
-use Rattle.std.specs.Prelude.{◌≡◌, ◌⊎◌, ◌↔◌, ℕ, Bool, List, Option, Result, Err, IfOk, IsTrue}
+use Rattle.std.specs.Prelude.{◌≡◌, ◌↔◌, ℕ, Bool, List, Option, IsTrue}
 use Rattle.std.specs.Io.KnownBytes.{Appends}
 use Rattle.msc_chart.specs.declared.queue.Queues.{Queues}
 use Rattle.msc_chart.specs.Drawings.{Drawing}
@@ -8,11 +8,8 @@ use Rattle.msc_race.specs.declared.verdict.Verdict.{Verdict}
 use Rattle.msc_race.specs.Races.{IsVerdict, TellsRuns}
 use Rattle.msc_reason.specs.Lacks.{IsLackOf}
 use Rattle.msc_reason.specs.declared.lack.Lack.{Lack}
-use Rattle.msc_report.specs.declared.fault.Fault.{Fault}
-use Rattle.msc_report.specs.declared.fault.Fault.TheVariants.{Memory}
-use Rattle.msc_text.specs.Answers.{RefusesText}
-use Rattle.msc_text.specs.Charting.{IsChartOf}
-use Rattle.msc_text.specs.Checking.{AreChosen, WritesBeginning, RefusesDraft, ShowsRaces}
+use Rattle.msc_source.specs.Texts.{IsChartOf}
+use Rattle.msc_text.specs.Checking.{AreChosen, WritesBeginning, ShowsRaces}
 use Rattle.msc_study.specs.declared.view.View.{View}
 use Rattle.msc_study.specs.Lines.{studied_text}
 use Rattle.msc_study.specs.Listing.{AreAllAllowed, AreLeftOut, AreAllWanted}
@@ -56,10 +53,3 @@ WritesStudy text queues view passed before after =
 abbrev pub BeginsStudy : List ℕ → Queues → View → Option (List ℕ) → Option (List ℕ) → Type 0
 BeginsStudy text queues view before after =
     (passed : Bool) × (printed : List ℕ) × Studies text queues view passed printed × WritesBeginning before after printed
-
--- what studying a text answers and writes
-pub record StudiesText (text : List ℕ) (queues : Queues) (view : View) (answer : Result Bool Fault) (before after : Option (List ℕ)) : Type 0 where
-  pub written : IfOk answer (λ passed. WritesStudy text queues view passed before after)
-  pub refused : RefusesText text answer
-  pub no_chart : RefusesDraft text answer
-  pub begun : answer ≡ Err Memory → (after ≡ before) ⊎ BeginsStudy text queues view before after

@@ -1,6 +1,6 @@
 //! From a text to a study of its chart's races, bytes to bytes.
 
-ghost use Rattle.std.specs.Prelude.{◌≡◌, ◌≢◌, ◌⊎◌, ℕ, List, length, IfErr, IfOk, IfSome, OnOk};
+ghost use Rattle.std.specs.Prelude.{◌≡◌, ◌≢◌, ◌⊎◌, ℕ, List, length, IfErr, IfOk, OnOk};
 ghost use Rattle.std.specs.Io.KnownBytes.{Appends};
 ghost use Rattle.msc_chart.specs.Orders.{wired, IsEnforcedOrder};
 ghost use Rattle.msc_order.specs.Tables.{orders};
@@ -8,9 +8,9 @@ ghost use Rattle.msc_race.specs.Races.{IsVerdict};
 ghost use Rattle.msc_study.specs.Counting.{IsListing};
 ghost use Rattle.msc_study.specs.Lines.{study_head};
 ghost use Rattle.msc_study.specs.Studied.{BeginsChartStudy, StudiesChart};
-ghost use Rattle.msc_study.specs.Studying.{BeginsStudy, PrintsStudy, StudiesText, WritesStudy};
-ghost use Rattle.msc_text.specs.Answers.{OnRead, RefusesInput, RefusesText, StartsNothing};
-ghost use Rattle.msc_text.specs.Checking.{RefusesDraft, RefusesInputDraft};
+ghost use Rattle.msc_study.specs.Studying.{BeginsStudy, PrintsStudy, WritesStudy};
+ghost use Rattle.msc_text.specs.Answers.{RefusesText, StartsNothing};
+ghost use Rattle.msc_text.specs.Checking.{RefusesDraft};
 ghost use Rattle.msc_text.specs.Pages.{Writes};
 
 use crate::lines::{write_allowed, write_closest};
@@ -23,10 +23,10 @@ use msc_race::laws::the_chosen_run_reverses;
 use msc_race::{Verdict, check_order};
 use msc_reason::laws::each_race_has_one_kind;
 use msc_report::{Fault, write_verdict};
-use msc_text::{Page, chart_of_text, read_all};
+use msc_text::{Page, chart_of_text};
 use std::alloc::{AllocError, Global};
 use std::io;
-use std::io::{Read, Write};
+use std::io::Write;
 
 /// Writes the head of a study: that of the verdict, how many races are left out and how many are
 /// listed.
@@ -140,32 +140,4 @@ pub fn study_text<W: Write>(
 {
     let chart = chart_of_text(alloc, text)?;
     study_chart(alloc, &chart, queues, view, writer)
-}
-
-/// Reads an input to its end, and writes a study of the races of its chart, as [`study_text`];
-/// answers whether no race is left that is not allowed.
-///
-/// The faults are those of [`read_all`] and then those of [`study_text`].
-pub fn study_input<R: Read, W: Write>(
-    alloc: Global,
-    reader: &mut R,
-    queues: Queues,
-    view: View,
-    writer: &mut W,
-) -> Result<bool, Fault>
-    ensures written { IfOk result (λ passed. IfSome (R.remaining reader.old) (λ bytes. WritesStudy
-        bytes queues view passed (W.contents writer.old) (W.contents writer.new))) }
-    ensures refused { RefusesInput (R.remaining reader.old) result }
-    ensures no_chart { RefusesInputDraft (R.remaining reader.old) result }
-    ensures started { StartsNothing result }
-    ensures read { OnRead (R.remaining reader.old) (R.remaining reader.new) result (λ bytes.
-        StudiesText bytes queues view result (W.contents writer.old) (W.contents writer.new)) }
-    ensures begun { IfErr result (λ e. e ≡ Fault.Memory → (writer.new ≡ writer.old)
-        ⊎ IfSome (R.remaining reader.old) (λ bytes. BeginsStudy
-        bytes queues view (W.contents writer.old) (W.contents writer.new))) }
-    ensures untouched { IfErr result
-        (λ e. e ≢ Fault.Memory → e ≢ Fault.Device → writer.new ≡ writer.old) }
-{
-    let text = read_all(alloc, reader)?;
-    study_text(alloc, text.as_slice(), queues, view, writer)
 }

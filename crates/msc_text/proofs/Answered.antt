@@ -1,8 +1,6 @@
 -- What writing a verdict and its races answers.
-use Rattle.msc_text.specs.declared.reading.TheConstants.{BYTE_LIMIT}
-use Rattle.std.proofs.Common.{◌≡◌, ◌≢◌, ◌⊎◌, ℕ, ◌<◌, min, Bool, List, [], length, take, Option, None, Some, ◌∙◌, Result, Ok, Err, subst, ap, refl, sym, inl, inr, arith}
-use Rattle.std.specs.Prelude.{IfOk, IfErr, IfSome}
-use Rattle.std.proofs.lemmas.List.{take_all, length-take}
+use Rattle.std.proofs.Common.{◌≡◌, ◌≢◌, ◌⊎◌, ℕ, ◌<◌, Bool, List, [], length, Option, Result, Ok, Err, subst, refl, sym, inl, inr, arith}
+use Rattle.std.specs.Prelude.{IfOk, IfErr}
 use Rattle.std.proofs.lemmas.Bool.{cases_lt}
 use Rattle.msc_chart.specs.declared.fault.ChartFault.{ChartFault}
 use Rattle.msc_chart.specs.declared.queue.Queues.{Queues}
@@ -10,8 +8,6 @@ use Rattle.msc_chart.specs.Chosen.{IsChosenRun}
 use Rattle.msc_chart.specs.Drawings.{Drawing, IsAccepted}
 use Rattle.msc_chart.specs.Orders.{wired}
 use Rattle.msc_parser.specs.declared.fault.ParseFault.{ParseFault}
-use Rattle.msc_parser.specs.Grammar.{Tree}
-use Rattle.msc_parser.specs.Parsing.{HasDraft}
 use Rattle.msc_race.specs.declared.verdict.Verdict.{Verdict}
 use Rattle.msc_race.specs.declared.verdict.Verdict.TheVariants.{Pass, Races}
 use Rattle.msc_race.specs.Laws.{AChosenRunExists, ChosenRunsAreWhole, ChosenRunsReverseRaces}
@@ -19,7 +15,7 @@ use Rattle.msc_race.specs.Races.{IsVerdict, TellsRuns}
 use Rattle.msc_report.specs.declared.fault.Fault.{Fault}
 use Rattle.msc_report.specs.declared.fault.Fault.TheVariants.{Parse, Chart, NotStarted, Memory, Device}
 use Rattle.msc_text.proofs.Races.{pair_events}
-use Rattle.msc_text.specs.Charting.{IsChartOf}
+use Rattle.msc_source.specs.Texts.{IsChartOf}
 use Rattle.msc_text.specs.Checking.{passes, checked_text, AreChosen, PrintsVerdict, ShowsRaces, Prints, WritesVerdict, BeginsVerdict}
 use Rattle.msc_text.specs.Pages.{Writes}
 
@@ -108,15 +104,3 @@ begins_verdict A (Err Device) text queues show v printed before after wrote prin
 begins_verdict A (Err (Parse f)) text queues show v printed before after wrote prints = absurd wrote
 begins_verdict A (Err (Chart f)) text queues show v printed before after wrote prints = absurd wrote
 begins_verdict A (Err (NotStarted i)) text queues show v printed before after wrote prints = absurd wrote
-
--- a beginning that has a draft is no longer than a text may be, so it is the whole input
-pub whole_input : (xs bytes : List ℕ) (draft : Tree) → xs ≡ take BYTE_LIMIT bytes → HasDraft xs draft → xs ≡ bytes
-whole_input xs bytes draft front (tokens, has, chart) =
-    let long : length xs ≡ min BYTE_LIMIT (length bytes) = ap length front ∙ length-take BYTE_LIMIT bytes in
-    front ∙ take_all BYTE_LIMIT bytes (omega (arith, long, has.short))
-
--- what is said of the text that was read holds of the input
-pub of_input : (xs : List ℕ) (input : Option (List ℕ)) (Q : List ℕ → Type 0) → IfSome input (λ bytes. xs ≡ take BYTE_LIMIT bytes) → (draft : Tree) → HasDraft xs draft → Q xs
-    → IfSome input Q
-of_input xs None Q read draft has told = tt
-of_input xs (Some bytes) Q read draft has told = subst Q (whole_input xs bytes draft read has) told

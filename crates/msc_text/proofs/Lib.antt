@@ -1,4 +1,3 @@
-pub mod ReadingLemmas
 pub mod Refusals
 pub mod Races
 pub mod PageLemmas
@@ -6,6 +5,4 @@ pub mod Shown
 pub mod EachEvent
 pub mod Told
 pub mod Answered
-pub mod Inputs
 pub mod RunEvents
-pub mod InputAnswers

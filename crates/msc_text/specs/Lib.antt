@@ -1,5 +1,4 @@
 -- what is promised
-pub mod Reading
 pub mod Answers
 pub mod Checking
 pub mod Charting

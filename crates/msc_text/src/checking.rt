@@ -1,19 +1,17 @@
 //! From a text to the verdict on its chart, bytes to bytes.
 
-ghost use Rattle.std.specs.Prelude.{◌≡◌, ◌≢◌, ◌⊎◌, ℕ, List, length, IfErr, IfOk, IfSome};
+ghost use Rattle.std.specs.Prelude.{◌≡◌, ◌≢◌, ◌⊎◌, ℕ, List, length, IfErr, IfOk};
 ghost use Rattle.msc_chart.specs.Orders.{wired, IsEnforcedOrder};
 ghost use Rattle.msc_order.specs.Tables.{orders};
 ghost use Rattle.msc_race.specs.Races.{verdict_by, IsVerdict, TellsRuns};
 ghost use Rattle.msc_report.specs.Verdicts.{head_text};
-ghost use Rattle.msc_text.specs.Answers.{OnRead, RefusesInput, RefusesText, StartsNothing};
-ghost use Rattle.msc_text.specs.Checking.{passes, races_of, BeginsVerdict, ChecksText};
-ghost use Rattle.msc_text.specs.Checking.{PrintsVerdict, RefusesDraft, RefusesInputDraft};
-ghost use Rattle.msc_text.specs.Checking.{WritesVerdict};
+ghost use Rattle.msc_text.specs.Answers.{RefusesText, StartsNothing};
+ghost use Rattle.msc_text.specs.Checking.{passes, races_of, BeginsVerdict, PrintsVerdict};
+ghost use Rattle.msc_text.specs.Checking.{RefusesDraft, WritesVerdict};
 ghost use Rattle.msc_text.specs.Pages.{Writes};
 
 use crate::charting::chart_of_text;
 use crate::page::Page;
-use crate::reading::read_all;
 use crate::showing::put_races;
 use msc_chart::{Chart, Event, Queues};
 use msc_order::Order;
@@ -21,7 +19,7 @@ use msc_race::laws::{enforced_orders_tell_verdicts, the_chosen_run_reverses};
 use msc_race::{Verdict, count_races};
 use msc_report::{Fault, write_head};
 use std::alloc::{AllocError, Global};
-use std::io::{Read, Write};
+use std::io::Write;
 
 /// The races of a verdict.
 pub fn races_of<'v>(verdict: &'v Verdict) -> &'v [(Event, Event)]
@@ -100,32 +98,4 @@ pub fn check_text<W: Write>(
     let chart = chart_of_text(alloc, text)?;
     let order = Order::enforced(alloc, &chart, queues)?;
     write_checked(alloc, writer, &chart, queues, &order, show)
-}
-
-/// Reads an input to its end, and writes the verdict on its chart and each race in order, as
-/// [`check_text`]; answers whether the verdict is `pass`.
-///
-/// The faults are those of [`read_all`](crate::read_all) and then those of [`check_text`].
-pub fn check_input<R: Read, W: Write>(
-    alloc: Global,
-    reader: &mut R,
-    queues: Queues,
-    show: u32,
-    writer: &mut W,
-) -> Result<bool, Fault>
-    ensures written { IfOk result (λ passed. IfSome (R.remaining reader.old) (λ bytes.
-        WritesVerdict bytes queues show passed (W.contents writer.old) (W.contents writer.new))) }
-    ensures refused { RefusesInput (R.remaining reader.old) result }
-    ensures no_chart { RefusesInputDraft (R.remaining reader.old) result }
-    ensures started { StartsNothing result }
-    ensures read { OnRead (R.remaining reader.old) (R.remaining reader.new) result (λ bytes.
-        ChecksText bytes queues show result (W.contents writer.old) (W.contents writer.new)) }
-    ensures begun { IfErr result (λ e. e ≡ Fault.Memory → (writer.new ≡ writer.old)
-        ⊎ IfSome (R.remaining reader.old) (λ bytes.
-        BeginsVerdict bytes queues show (W.contents writer.old) (W.contents writer.new))) }
-    ensures untouched { IfErr result
-        (λ e. e ≢ Fault.Memory → e ≢ Fault.Device → writer.new ≡ writer.old) }
-{
-    let text = read_all(alloc, reader)?;
-    check_text(alloc, text.as_slice(), queues, show, writer)
 }
