@@ -11,6 +11,7 @@ import argparse
 import re
 import sys
 
+sys.dont_write_bytecode = True
 import contracts
 from contracts import CRATES, PAGES, TOP
 
