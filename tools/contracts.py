@@ -152,6 +152,13 @@ def is_public(item, modules, names):
     return item.is_open and item.kind != "method" and seen
 
 
+def public_items(crate):
+    """The items of a crate that are in sight, in the order of its sources."""
+    modules, names, _ = exposed(crate)
+    every = [it for file in sources(crate) for it in items_of(file)]
+    return [it for it in every if is_public(it, modules, names)]
+
+
 @functools.cache
 def imports(file):
     """Of each definition that a file imports from `specs/` its crate and its file."""
@@ -267,9 +274,7 @@ def is_within(item, other):
 
 def page(crate):
     """The lines of a crate's page."""
-    modules, names, others = exposed(crate)
-    every = [it for file in sources(crate) for it in items_of(file)]
-    public = [it for it in every if is_public(it, modules, names)]
+    public, others = public_items(crate), exposed(crate)[2]
     yield from (f"# `{crate}`", "", sentence(head_doc(CRATES / crate / "src/lib.rt")))
     for other, found in others.items():
         yield f"It hands on {', '.join(f'`{it}`' for it in found)} of [`{other}`]({other}.md)."
@@ -277,6 +282,7 @@ def page(crate):
         yield from ("", f"## `src/{file.stem}.rt`", "", sentence(head_doc(file)), "")
         for item in [it for it in public if it.file == file]:
             yield from shown(crate, item)
+    every = [it for file in sources(crate) for it in items_of(file)]
     within = [it for it in every if it not in public and it.kind != "type"]
     traits = [it for it in public if it.kind == "trait"]
     lines = list(inner(crate, [it for it in within if not any(is_within(it, t) for t in traits)]))
@@ -288,9 +294,7 @@ def has_calls(crate):
     """Whether a crate is a library with a contract on a public call; tests have none in sight."""
     if not (CRATES / crate / "src/lib.rt").is_file():
         return False
-    modules, names, _ = exposed(crate)
-    every = [it for file in sources(crate) for it in items_of(file)]
-    return any(it.clauses for it in every if is_public(it, modules, names))
+    return any(it.clauses for it in public_items(crate))
 
 
 INDEX = """# Contracts

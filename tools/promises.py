@@ -1,8 +1,8 @@
 #!/usr/bin/env python3
 """Looks whether what docs/PROMISES.md and docs/PROOFS.md name is there: calls and their clauses,
-laws, definitions and lemmas in the files that stand behind them, and tests; whether each edit can
-be applied; and whether docs/contracts is what the sources say. Prints what is not so; the exit
-status is 1 then.
+laws, definitions and lemmas in the files that stand behind them, and tests; whether PROMISES has
+each public call with a contract; whether each edit can be applied; and whether docs/contracts is
+what the sources say. Prints what is not so; the exit status is 1 then.
 
     tools/promises.py            looks
     tools/promises.py --write    makes docs/contracts anew, and then looks
@@ -37,28 +37,32 @@ def missing_words(crate, text):
                 yield f"{name} in {place}"
 
 
-def said(crate, call):
-    """What the contracts of a crate's functions of this name say."""
-    items = [it for file in contracts.sources(crate) for it in contracts.items_of(file)]
-    for it in items:
-        if it.path == call or it.name == call.split("::")[-1]:
-            yield from (clause for _, clause, _ in it.clauses)
+def named(crate):
+    """The items of a crate by each of their names: the bare one, that with the type, and that with
+    the module."""
+    found = {}
+    for it in [it for file in contracts.sources(crate) for it in contracts.items_of(file)]:
+        for name in {it.name, it.path, f"{it.file.stem}::{it.name}"}:
+            found.setdefault(name, []).append(it)
+    return found
 
 
 def missing_calls(crate, cell):
-    """The calls of a cell, parted by `;`, of which the crate says nothing, and the clauses behind
-    `:` that none of these calls has; of a type a method or a trait may stand there."""
-    sources = "".join(it.read_text() for it in contracts.sources(crate))
+    """The calls of a cell, parted by `;`, that the crate has not, and the clauses behind `:` that
+    none of these calls has; behind a type may stand a trait that it has."""
+    items = named(crate)
     for part in cell.split(";"):
         lists = [re.findall(r"`([^`/]+)`", it) for it in re.split(r":(?=\s)", part)]
         calls, *clauses = [names for names in lists if names] or [[]]
         calls = [it for it in calls if "laws::" not in it]
-        yield from (it for it in calls if not re.search(rf"\b{it.split('::')[-1]}\b", sources))
-        known = {clause for it in calls for clause in said(crate, it)}
+        yield from (it for it in calls if it not in items)
+        found = [it for call in calls for it in items.get(call, ())]
+        known = {clause for it in found for _, clause, _ in it.clauses}
+        every = [it for of in items.values() for it in of if it.owner in calls]
+        traits = [it.name for it in every if it.kind == "trait"]
+        known |= {re.sub(r"<.*", "", it).split("::")[-1] for it in traits}
         for name in clauses[0] if calls and clauses else []:
-            one = re.escape(name)
-            of_type = rf"\b(fn {one}\b|impl(<.*>)? ([\w:]*::)?{one}(<\w+>)? for\b|ghost {one}\b)"
-            if name not in known and not re.search(of_type, sources):
+            if name not in known:
                 yield f"clause {name} of {', '.join(calls)}"
 
 
@@ -98,16 +102,26 @@ def missing(text):
             crate = named and named[1]
         cells = line.strip("| ").split(" | ")
         found = []
-        if not line.startswith("| "):
+        if not line.startswith("|"):
             columns = None
         elif columns is None:
             columns = cells
-        elif columns[1] == "Test":
+        elif line.startswith("| ") and columns[1] == "Test":
             found = [*missing_tests(cells[1])]
-        elif crate and columns[1] == "Call":
+        elif line.startswith("| ") and columns[1] == "Call":
             found = [*missing_calls(crate, cells[1])]
         found += [*missing_laws(crate, line), *missing_words(crate, line)]
         yield from ((number, it) for it in found)
+
+
+def unsaid(text):
+    """The public calls with a contract of which the part on their crate says nothing."""
+    parts = dict(re.findall(r"(?ms)^## [^\n]*\(`(\w+)`\)$(.*?)(?=^## |\Z)", text))
+    for crate in filter(contracts.has_calls, sorted(it.name for it in CRATES.iterdir())):
+        names = {it.split("::")[-1] for it in re.findall(r"`([^`]+)`", parts.get(crate, ""))}
+        for it in contracts.public_items(crate):
+            if it.kind == "call" and it.clauses and it.name not in names:
+                yield f"docs/PROMISES.md says nothing of {it.path} of {crate}"
 
 
 def stale():
@@ -139,7 +153,7 @@ def main():
     parser.add_argument("--write", action="store_true", help="make docs/contracts anew")
     if parser.parse_args().write:
         write()
-    found = [*stale()]
+    found = [*stale(), *unsaid((TOP / "docs/PROMISES.md").read_text())]
     for page in ("docs/PROMISES.md", "docs/PROOFS.md"):
         text = (TOP / page).read_text()
         found += [f"{page}:{number}: there is no {it}" for number, it in missing(text)]
