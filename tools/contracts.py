@@ -246,17 +246,16 @@ def shown(crate, item):
     if item.file.stem in exposed(crate)[0] and not item.owner:
         name = f"{item.file.stem}::{name}"
     yield f"- **`{name}`** {sentence(item.doc)}".rstrip()
-    clauses = [(kind, clause, text, item.file) for kind, clause, text in item.clauses]
+    clauses = [*item.clauses]
     for it in items_of(item.file) if item.kind == "trait" else []:
         if it.kind == "method" and it.lines[0] in range(*item.lines):
-            clauses += [(f"{kind} of {it.name}", *more, it.file) for kind, *more in it.clauses]
-    for kind, clause, text, file in clauses:
-        word = {"requires": "wants ", "ensures": "", "ghost": ""}.get(kind, f"{kind} ")
-        label = f"{word}`{clause}`" if clause else word.strip() or "answers"
-        yield f"  - {label}: {cited(crate, file, text)}"
+            clauses += [(kind, f"{it.name}: {named}", *more) for kind, named, *more in it.clauses]
+    for kind, clause, text in clauses:
+        words = ["wants"] * (kind == "requires") + [f"`{clause}`"] * bool(clause)
+        yield f"  - {' '.join(words) or 'answers'}: {cited(crate, item.file, text)}"
     edits = edits_at(crate, item)
     if edits:
-        yield f"  - refused: {edits}"
+        yield f"  - wrong bodies: {edits}"
 
 
 def inner(crate, items):
@@ -303,8 +302,8 @@ Made of the sources by `tools/promises.py --write`, and compared with them in `.
 it comes to stands in [PROMISES](../PROMISES.md). Each page has a crate's public calls in the order
 of its sources: the first sentence of what is said of the call, what it wants of its caller, and its
 clauses by their names, each with the definitions that it cites, or with its text where it cites
-none. A clause without a name stands as `answers`. Behind `refused` stand edits, wrong bodies that
-the prover refuses: those of the crate's folder `must-fail`, and by hand those of
+none. A clause without a name stands as `answers`. The wrong bodies are edits that the prover
+refuses: those of the crate's folder `must-fail`, which the gate tries, and by hand those of
 `tools/more_edits`.
 """
 

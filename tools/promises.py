@@ -28,8 +28,8 @@ def is_defined(name, file):
 
 
 def missing_words(crate, text):
-    """The names of a text that do not stand in the file behind them, which is this crate's or, where
-    one is named with it, another's; and such files that are not there."""
+    """The names of a text that do not stand in the file behind them, which is that of the crate
+    before it, or of this one."""
     for names, other, place in LISTED.findall(text):
         file = CRATES / (other or crate or "") / f"{place}.antt"
         for name in re.findall(r"`([^`]+)`", names):
