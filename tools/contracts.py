@@ -132,6 +132,11 @@ def sources(crate):
     return sorted((CRATES / crate / "src").rglob("*.rt"))
 
 
+def source(crate, file):
+    """A source file's path in its crate."""
+    return file.relative_to(CRATES / crate).as_posix()
+
+
 def exposed(crate):
     """The public modules of a crate, the names that it exposes of its own, and those of others."""
     text = (CRATES / crate / "src/lib.rt").read_text()
@@ -239,11 +244,8 @@ def edits_at(crate, item):
 
 def shown(crate, item):
     """The lines of a page on a type, a trait that a type has, or a call."""
-    if item.kind == "type":
-        yield f"- **`{item.name}`** {sentence(item.doc)}".rstrip()
-        return
-    name = item.path if item.kind == "call" else f"{item.owner}: {item.name}"
-    if item.file.stem in exposed(crate)[0] and not item.owner:
+    name = f"{item.owner}: {item.name}" if item.kind == "trait" else item.path
+    if item.kind == "call" and item.file.stem in exposed(crate)[0] and not item.owner:
         name = f"{item.file.stem}::{name}"
     yield f"- **`{name}`** {sentence(item.doc)}".rstrip()
     clauses = [*item.clauses]
@@ -253,7 +255,7 @@ def shown(crate, item):
     for kind, clause, text in clauses:
         words = ["wants"] * (kind == "requires") + [f"`{clause}`"] * bool(clause)
         yield f"  - {' '.join(words) or 'answers'}: {cited(crate, item.file, text)}"
-    edits = edits_at(crate, item)
+    edits = edits_at(crate, item) if item.kind != "type" else ""
     if edits:
         yield f"  - wrong bodies: {edits}"
 
@@ -263,7 +265,7 @@ def inner(crate, items):
     for item in items:
         edits = edits_at(crate, item)
         if edits and item.kind in ("call", "method"):
-            yield f"- `{item.path}` in `src/{item.file.stem}.rt`: {edits}"
+            yield f"- `{item.path}` in `{source(crate, item.file)}`: {edits}"
 
 
 def is_within(item, other):
@@ -278,7 +280,7 @@ def page(crate):
     for other, found in others.items():
         yield f"It hands on {', '.join(f'`{it}`' for it in found)} of [`{other}`]({other}.md)."
     for file in dict.fromkeys(it.file for it in public if it.kind != "type"):
-        yield from ("", f"## `src/{file.stem}.rt`", "", sentence(head_doc(file)), "")
+        yield from ("", f"## `{source(crate, file)}`", "", sentence(head_doc(file)), "")
         for item in [it for it in public if it.file == file]:
             yield from shown(crate, item)
     every = [it for file in sources(crate) for it in items_of(file)]
