@@ -9,7 +9,7 @@ import re
 TOP = pathlib.Path(__file__).resolve().parent.parent
 CRATES = TOP / "crates"
 PAGES = TOP / "docs/contracts"
-# where the edits of a crate stand: those that the gate tries, and those that are tried by hand
+# where the edits of a crate stand: those that `rt ci` tries, and those that are tried by hand
 PLACES = {"": "crates/{}/must-fail", "by hand ": "tools/more_edits/{}"}
 
 FUNCTION = re.compile(r"( *)(pub(?:\([a-z]+\))? )?(?:const )?fn (\w+)")
@@ -234,7 +234,7 @@ def edits_of(crate):
 
 
 def edits_at(crate, item):
-    """The edits that turn an item, those first that the gate tries."""
+    """The edits that turn an item, those first that `rt ci` tries."""
     found = {}
     for name, when, places, _ in edits_of(crate):
         if any(file == item.file and line in range(*item.lines) for file, line in places):
@@ -305,7 +305,7 @@ it comes to stands in [PROMISES](../PROMISES.md). Each page has a crate's public
 of its sources: the first sentence of what is said of the call, what it wants of its caller, and its
 clauses by their names, each with the definitions that it cites, or with its text where it cites
 none. A clause without a name stands as `answers`. The wrong bodies are edits that the prover
-refuses: those of the crate's folder `must-fail`, which the gate tries, and by hand those of
+refuses: those of the crate's folder `must-fail`, which `rt ci` tries, and by hand those of
 `tools/more_edits`.
 """
 
@@ -315,7 +315,7 @@ def pages():
     names = re.findall(r"(?m)^(\w+)[^:#\n]*:", (TOP / "crates.txt").read_text())
     crates = [it for it in names if has_calls(it)]
     found = {PAGES / f"{it}.md": "\n".join(page(it)) + "\n" for it in crates}
-    rows = ["| Crate | Is | Edits: gate | by hand |", "|---|---|---:|---:|"]
+    rows = ["| Crate | Is | Edits: `rt ci` | by hand |", "|---|---|---:|---:|"]
     for crate in crates:
         told = sentence(head_doc(CRATES / crate / "src/lib.rt"))
         tried = [sum(it[1] == when for it in edits_of(crate)) for when in PLACES]
