@@ -13,7 +13,7 @@ PAGES = TOP / "docs/contracts"
 PLACES = {"": "crates/{}/must-fail", "by hand ": "tools/more_edits/{}"}
 
 FUNCTION = re.compile(r"( *)(pub(?:\([a-z]+\))? )?(?:const )?fn (\w+)")
-IMPL = re.compile(r"impl(?:<.*?>)? (?:([\w:<>', ()]+) for )?([\w:]+)(?:<.*>)? \{$")
+IMPL = re.compile(r"impl(?:<.*?>)? (?:(.+?) for )?([\w:]+)(?:<.*>)?(?: where .*)? \{$")
 TYPE = re.compile(r"pub (?:struct|enum|trait) (\w+)")
 CLAUSE = re.compile(r" *(requires|ensures|ghost)(?: (\w+))?(?: [=:]|:)? (\{.*)")
 USE = re.compile(r"ghost use Rattle\.(\w+)\.specs\.([\w.]+)\.\{([^}]*)\};")
@@ -74,7 +74,7 @@ def clause_at(lines, at):
 def function_end(lines, at):
     """The clauses of the function that begins at a line, and the line behind it."""
     indent, clauses = FUNCTION.match(lines[at])[1], []
-    while not re.search(r"(^| )\{\}?$|;$", lines[at]):
+    while lines[at].strip().startswith("//") or not re.search(r"(^| )\{\}?$|;$", lines[at]):
         at += 1
         while CLAUSE.match(lines[at]):
             clause, at = clause_at(lines, at)
@@ -93,6 +93,14 @@ def block_end(lines, at):
     return lines.index("}", at) + 1
 
 
+def header(lines, at):
+    """The head of the block that begins at a line, in one line."""
+    end = at
+    while lines[at].startswith("impl") and not lines[end].endswith(("{", "{}")):
+        end += 1
+    return " ".join(it.strip() for it in lines[at : end + 1])
+
+
 def ghosts(lines):
     """The ghost clauses of a block."""
     at = [at for at, it in enumerate(lines) if it.startswith("    ghost ") and CLAUSE.match(it)]
@@ -104,7 +112,8 @@ def items_of(file):
     """The items of a file, in order. A model is left out, since it is no call, and so are tests."""
     lines, found, block = file.read_text().split("\n"), [], None
     for at, line in enumerate(lines):
-        impl, named, function = IMPL.match(line), TYPE.match(line), FUNCTION.match(line)
+        impl, named = IMPL.match(header(lines, at)), TYPE.match(line)
+        function = FUNCTION.match(line)
         if line == "#[cfg(test)]":
             break
         if block and at >= block.lines[1]:
