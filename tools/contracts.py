@@ -9,11 +9,11 @@ import re
 TOP = pathlib.Path(__file__).resolve().parent.parent
 CRATES = TOP / "crates"
 PAGES = TOP / "docs/contracts"
-# where the edits of a crate stand: those that the gate tries, and those that are tried by hand
+# where the edits of a crate stand: those that `rt ci` tries, and those that are tried by hand
 PLACES = {"": "crates/{}/must-fail", "by hand ": "tools/more_edits/{}"}
 
 FUNCTION = re.compile(r"( *)(pub(?:\([a-z]+\))? )?(?:const )?fn (\w+)")
-IMPL = re.compile(r"impl(?:<.*?>)? (?:([\w:<>', ()]+) for )?([\w:]+)(?:<.*>)? \{$")
+IMPL = re.compile(r"impl(?:<.*?>)? (?:(.+?) for )?([\w:]+)(?:<.*>)?(?: where .*)? \{$")
 TYPE = re.compile(r"pub (?:struct|enum|trait) (\w+)")
 CLAUSE = re.compile(r" *(requires|ensures|ghost)(?: (\w+))?(?: [=:]|:)? (\{.*)")
 USE = re.compile(r"ghost use Rattle\.(\w+)\.specs\.([\w.]+)\.\{([^}]*)\};")
@@ -74,7 +74,7 @@ def clause_at(lines, at):
 def function_end(lines, at):
     """The clauses of the function that begins at a line, and the line behind it."""
     indent, clauses = FUNCTION.match(lines[at])[1], []
-    while not re.search(r"(^| )\{\}?$|;$", lines[at]):
+    while lines[at].strip().startswith("//") or not re.search(r"(^| )\{\}?$|;$", lines[at]):
         at += 1
         while CLAUSE.match(lines[at]):
             clause, at = clause_at(lines, at)
@@ -93,6 +93,14 @@ def block_end(lines, at):
     return lines.index("}", at) + 1
 
 
+def header(lines, at):
+    """The head of the block that begins at a line, in one line."""
+    end = at
+    while lines[at].startswith("impl") and not lines[end].endswith(("{", "{}")):
+        end += 1
+    return " ".join(it.strip() for it in lines[at : end + 1])
+
+
 def ghosts(lines):
     """The ghost clauses of a block."""
     at = [at for at, it in enumerate(lines) if it.startswith("    ghost ") and CLAUSE.match(it)]
@@ -104,7 +112,8 @@ def items_of(file):
     """The items of a file, in order. A model is left out, since it is no call, and so are tests."""
     lines, found, block = file.read_text().split("\n"), [], None
     for at, line in enumerate(lines):
-        impl, named, function = IMPL.match(line), TYPE.match(line), FUNCTION.match(line)
+        impl, named = IMPL.match(header(lines, at)), TYPE.match(line)
+        function = FUNCTION.match(line)
         if line == "#[cfg(test)]":
             break
         if block and at >= block.lines[1]:
@@ -234,7 +243,7 @@ def edits_of(crate):
 
 
 def edits_at(crate, item):
-    """The edits that turn an item, those first that the gate tries."""
+    """The edits that turn an item, those first that `rt ci` tries."""
     found = {}
     for name, when, places, _ in edits_of(crate):
         if any(file == item.file and line in range(*item.lines) for file, line in places):
@@ -305,7 +314,7 @@ it comes to stands in [PROMISES](../PROMISES.md). Each page has a crate's public
 of its sources: the first sentence of what is said of the call, what it wants of its caller, and its
 clauses by their names, each with the definitions that it cites, or with its text where it cites
 none. A clause without a name stands as `answers`. The wrong bodies are edits that the prover
-refuses: those of the crate's folder `must-fail`, which the gate tries, and by hand those of
+refuses: those of the crate's folder `must-fail`, which `rt ci` tries, and by hand those of
 `tools/more_edits`.
 """
 
@@ -315,7 +324,7 @@ def pages():
     names = re.findall(r"(?m)^(\w+)[^:#\n]*:", (TOP / "crates.txt").read_text())
     crates = [it for it in names if has_calls(it)]
     found = {PAGES / f"{it}.md": "\n".join(page(it)) + "\n" for it in crates}
-    rows = ["| Crate | Is | Edits: gate | by hand |", "|---|---|---:|---:|"]
+    rows = ["| Crate | Is | Edits: `rt ci` | by hand |", "|---|---|---:|---:|"]
     for crate in crates:
         told = sentence(head_doc(CRATES / crate / "src/lib.rt"))
         tried = [sum(it[1] == when for it in edits_of(crate)) for when in PLACES]

@@ -20,6 +20,7 @@ pub mod Kept
 pub mod Sound
 pub mod Takes
 pub mod Rounds
+pub mod Patience
 pub mod Ending
 pub mod Beginning
 pub mod Told
@@ -27,3 +28,4 @@ pub mod Emptied
 pub mod Returned
 pub mod Answered
 pub mod Sendings
+pub mod Asked

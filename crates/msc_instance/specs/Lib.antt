@@ -1,5 +1,6 @@
 -- what is promised
 pub mod Views
+pub mod Gates
 -- what the code keeps
 pub mod Steps
 pub mod Active

@@ -355,6 +355,69 @@ fn help(rt: HostRuntime) {
     }
 }
 
+/// A command, and what its help says of a word of it, from the word on.
+const WORDS: &[(&str, &str)] = &[
+    ("read", "<FILE>  The chart's text; - is standard input\n"),
+    (
+        "check",
+        "--queues <pair|mailbox|single>\n          A queue for each sender and receiver, for each \
+         receiver, or for each message ",
+    ),
+    (
+        "check",
+        "--closest\n          List the closest races alone, and print how many there are\n",
+    ),
+    (
+        "check",
+        "--why\n          Print the kind of each race, and the pair of events that would have to \
+         be enforced\n",
+    ),
+    (
+        "check",
+        "--most <N>\n          List the first N races alone\n",
+    ),
+    (
+        "check",
+        "--show <N>\n          Print a run for each of the first N races; without it, for all\n",
+    ),
+    (
+        "check",
+        "--allow <early|queues|unordered|overtaken>\n          Leave out the races of this kind, \
+         in the list and in the status; may be repeated ",
+    ),
+    (
+        "check",
+        "-q, --quiet\n          Print nothing; the status tells\n",
+    ),
+    (
+        "check",
+        "\n  early      the input can come before the output or action that is drawn above it\n",
+    ),
+    ("check", "\n  queues     two inputs by two queues\n"),
+    (
+        "check",
+        "\n  unordered  two inputs by one queue, and nothing orders their outputs\n",
+    ),
+    (
+        "check",
+        "\n  overtaken  two inputs by one queue, whose outputs come in the other order\n",
+    ),
+    ("explain", "<E>     The number of the first event\n"),
+    ("explain", "<F>     The number of the second event\n"),
+    (
+        "run",
+        "--patience <N>                  End an instance that looked in vain N times in a row; \
+         without it, 1000000000\n",
+    ),
+];
+
+#[test]
+fn help_says_what_each_word_is_for(rt: HostRuntime) {
+    for &(command, part) in WORDS {
+        assert!(rt; helps(&rt, &[command, "--help"], part), "{command}: {part}");
+    }
+}
+
 /// Whether what a run over these words prints to standard error has this part.
 fn tells(rt: &impl Machine, words: &[&str], part: &str) -> bool {
     let run = run(rt, words, b"");
