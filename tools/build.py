@@ -69,8 +69,7 @@ def lay_out(room, name, below):
     """Puts into a copy what it lacks: a crate, without what it kept, and the libraries of those
     that it stands on."""
     room.mkdir(parents=True, exist_ok=True)
-    for file in ("crates.txt", "HANDLES"):
-        shutil.copy(TOP / file, room)
+    shutil.copy(TOP / "HANDLES", room)
     for crate in [name, *below]:
         # a link to a source would change its time
         parts = [(part, shutil.copy) for part in SOURCES]
@@ -79,6 +78,9 @@ def lay_out(room, name, below):
             there, here = TOP / "crates" / crate / part, room / "crates" / crate / part
             if there.is_dir() and not here.exists():
                 shutil.copytree(there, here, copy_function=copy)
+    lines = (TOP / "crates.txt").read_text().splitlines(keepends=True)
+    here = [it for it in lines if (room / "crates" / re.split("[ :]", it)[0]).is_dir()]
+    (room / "crates.txt").write_text("".join(here))
 
 
 class Progress:
