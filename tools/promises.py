@@ -1,17 +1,23 @@
 #!/usr/bin/env python3
-"""Looks whether what docs/PROMISES.md names is there: source files, calls and their clauses,
-definitions and lemmas in the files that it names for them, laws, edits, and tests. Prints what is
-not, with its line; the exit status is 1 then.
+"""Looks whether what docs/PROMISES.md and docs/PROOFS.md name is there: calls and their clauses,
+laws, definitions and lemmas in the files that stand behind them, and tests; whether PROMISES has
+each public call with a contract; whether each edit can be applied; and whether docs/contracts is
+what the sources say. Prints what is not so; the exit status is 1 then.
+
+    tools/promises.py            looks
+    tools/promises.py --write    makes docs/contracts anew, and then looks
 """
-import pathlib
+import argparse
 import re
 import sys
 
-TOP = pathlib.Path(__file__).resolve().parent.parent
-CRATES = TOP / "crates"
-# a name, and behind it the file that it stands in, of this crate or another
-NAMED = re.compile(r"`([^`]+)`(?: \((?:`(\w+)`, )?`((?:specs|proofs)/[\w/]+)`\))?")
-EDIT = re.compile(r"`(\w+)`(?: \(of `(\w+)`\))?")
+sys.dont_write_bytecode = True
+import contracts
+from contracts import CRATES, PAGES, TOP
+
+# names, and behind them the file that they stand in, of this crate or another
+LISTED = re.compile(r"((?:`[^`]+`, )*`[^`]+`) \((?:`(\w+)`, )?`((?:specs|proofs)/[\w/]+)`\)")
+LAWS = re.compile(r"`(?:(\w+)::)?laws::(\w+)`((?:: (?:`\w+`(?:, )?)+)?)")
 WORDS = r"(?m)^\s*(?:(?:pub|abbrev|unfoldable|opaque|data|record)\s+)*{}(?=[\s:(])"
 
 
@@ -21,106 +27,141 @@ def is_defined(name, file):
     return file.is_file() and bool(re.search(WORDS.format(word), file.read_text()))
 
 
-def missing_words(crate, cell):
-    """The names of a cell that do not stand in the file behind them."""
-    waiting = []
-    for name, other, place in NAMED.findall(cell):
-        if "laws::" in name:
-            continue
-        if re.fullmatch(r"(specs|proofs)/[\w/]+", name):
-            if not (CRATES / crate / f"{name}.antt").is_file():
-                yield name
-            continue
-        waiting.append(name)
-        if place:
-            file = CRATES / (other or crate) / f"{place}.antt"
-            yield from (f"{it} in {place}" for it in waiting if not is_defined(it, file))
-            waiting = []
+def missing_words(crate, text):
+    """The names of a text that do not stand in the file behind them, which is that of the crate
+    before it, or of this one."""
+    for names, other, place in LISTED.findall(text):
+        file = CRATES / (other or crate or "") / f"{place}.antt"
+        for name in re.findall(r"`([^`]+)`", names):
+            if not is_defined(name, file):
+                yield f"{name} in {place}"
 
 
-def contracts(crate, call):
-    """What stands from a function's name to its body, of each function of this name."""
-    name = re.escape(call.split("::")[-1])
-    for file in sorted((CRATES / crate / "src").rglob("*.rt")):
-        yield from re.findall(rf"(?ms)\bfn {name}\b.*?^\s*\{{", file.read_text())
+def named(crate):
+    """The items of a crate by each of their names: the bare one, that with the type, and that with
+    the module."""
+    found = {}
+    for it in [it for file in contracts.sources(crate) for it in contracts.items_of(file)]:
+        for name in {it.name, it.path, f"{it.file.stem}::{it.name}"}:
+            found.setdefault(name, []).append(it)
+    return found
 
 
 def missing_calls(crate, cell):
-    """The calls of a cell, parted by `;`, of which the crate says nothing, and the clauses behind
-    `:` that none of these calls has; of a type a method or a trait may stand there."""
-    sources = "".join(it.read_text() for it in sorted((CRATES / crate / "src").rglob("*.rt")))
+    """The calls of a cell, parted by `;`, that the crate has not, and the clauses behind `:` that
+    none of these calls has; behind a type may stand a trait that it has."""
+    items = named(crate)
     for part in cell.split(";"):
         lists = [re.findall(r"`([^`/]+)`", it) for it in re.split(r":(?=\s)", part)]
         calls, *clauses = [names for names in lists if names] or [[]]
         calls = [it for it in calls if "laws::" not in it]
-        yield from (it for it in calls if not re.search(rf"\b{it.split('::')[-1]}\b", sources))
-        said = "".join(text for it in calls for text in contracts(crate, it))
-        for name in map(re.escape, clauses[0] if calls and clauses else []):
-            if not re.search(rf"\b(ensures|ghost) {name}\b", said or sources):
-                if not re.search(rf"\b(fn {name}\b|impl ([\w:]*::)?{name}(<\w+>)? for\b)", sources):
-                    yield f"clause {name} of {', '.join(calls)}"
+        yield from (it for it in calls if it not in items)
+        found = [it for call in calls for it in items.get(call, ())]
+        known = {clause for it in found for _, clause, _ in it.clauses}
+        every = [it for of in items.values() for it in of if it.owner in calls]
+        traits = [it.name for it in every if it.kind == "trait"]
+        known |= {re.sub(r"<.*", "", it).split("::")[-1] for it in traits}
+        for name in clauses[0] if calls and clauses else []:
+            if name not in known:
+                yield f"clause {name} of {', '.join(calls)}"
 
 
-def missing_edits(crate, cell):
-    """The edits of a cell that are not there; behind one may stand the crate that has it."""
-    for name, other in EDIT.findall(cell):
-        if not (CRATES / (other or crate) / f"must-fail/{name}.edit").is_file():
-            yield f"edit {name}"
-
-
-def missing_tests(cell, crates):
-    """The tests of a cell, MODULE::NAME, that are in none of the crates."""
-    for module, name in re.findall(r"`(\w+)::(\w+)`", cell):
-        files = [CRATES / crate / f"src/{module}.rt" for crate in re.findall(r"`(\w+)`", crates)]
-        if not any(file.is_file() and f"fn {name}(" in file.read_text() for file in files):
-            yield f"{module}::{name}"
-
-
-def missing_laws(crate, line):
-    """The laws of a line that are not there: `laws::NAME` of this crate, or that of another."""
-    for other, name in re.findall(r"`(?:(\w+)::)?laws::(\w+)`", line):
+def missing_laws(crate, text):
+    """The laws of a text that are not there: `laws::NAME` of this crate, or that of another; and
+    the clauses behind them."""
+    for other, name, more in LAWS.findall(text):
         file = CRATES / (other or crate or "") / "src/laws.rt"
         if not file.is_file() or f"pub fn {name}(" not in file.read_text():
             yield f"law {name}"
+            continue
+        law = [it for it in contracts.items_of(file) if it.name == name]
+        known = {clause for it in law for _, clause, _ in it.clauses}
+        asked = re.findall(r"`(\w+)`", more)
+        yield from (f"clause {it} of {name}" for it in asked if it not in known)
+
+
+def missing_tests(cell):
+    """What a cell names that is there neither as a test, MODULE::NAME, nor as a module with tests,
+    nor as a tool."""
+    for module, name in re.findall(r"`(\w+)(?:::(\w+))?`", cell):
+        files = [CRATES / it / f"src/{module}.rt" for it in ("program_tests", "chart_tests")]
+        said = "".join(it.read_text() for it in files if it.is_file())
+        if f"fn {name}(" not in said if name else "#[test]" not in said:
+            yield f"{module}::{name}" if name else f"test in {module}"
+    for tool in re.findall(r"`(tools/[\w./]+)`", cell):
+        if not (TOP / tool).is_file():
+            yield tool
 
 
 def missing(text):
     """Each line's number and what it names that is not there."""
-    crate = None
+    crate, columns = None, None
     for number, line in enumerate(text.split("\n"), 1):
         if line.startswith("## "):
             named = re.search(r"\(`(\w+)`\)", line)
             crate = named and named[1]
         cells = line.strip("| ").split(" | ")
-        found = list(missing_laws(crate, line))
-        if crate and line.startswith("| ") and len(cells) == 5:
-            if cells[1] != "Call, clause":
-                found += missing_calls(crate, cells[1])
-            for cell in cells[2:4]:
-                found += missing_words(crate, cell)
-            found += missing_edits(crate, cells[4])
-        elif crate:
-            sources = re.findall(r"`(src/\w+\.rt)`", line)
-            found += [it for it in sources if not (CRATES / crate / it).is_file()]
-        elif line.startswith("| ") and len(cells) == 3:
-            found += missing_tests(cells[1], cells[2])
-        elif line.startswith("| ") and len(cells) == 4:
-            # a definition of another crate than the table's has its crate beside its file
-            found += missing_words("", cells[3])
+        found = []
+        if not line.startswith("|"):
+            columns = None
+        elif columns is None:
+            columns = cells
+        elif line.startswith("| ") and columns[1] == "Test":
+            found = [*missing_tests(cells[1])]
+        elif line.startswith("| ") and columns[1] == "Call":
+            found = [*missing_calls(crate, cells[1])]
+        found += [*missing_laws(crate, line), *missing_words(crate, line)]
         yield from ((number, it) for it in found)
 
 
+def unsaid(text):
+    """The public calls with a contract of which the part on their crate says nothing."""
+    parts = dict(re.findall(r"(?ms)^## [^\n]*\(`(\w+)`\)$(.*?)(?=^## |\Z)", text))
+    for crate in filter(contracts.has_calls, sorted(it.name for it in CRATES.iterdir())):
+        names = {it.split("::")[-1] for it in re.findall(r"`([^`]+)`", parts.get(crate, ""))}
+        for it in contracts.public_items(crate):
+            if it.kind == "call" and it.clauses and it.name not in names:
+                yield f"docs/PROMISES.md says nothing of {it.path} of {crate}"
+
+
+def stale():
+    """The pages that are not what the sources say, and edits that cannot be applied."""
+    made = contracts.pages()
+    for path in sorted({*made, *PAGES.glob("*.md")}):
+        if not path.is_file() or path.read_text() != made.get(path):
+            yield f"{path.relative_to(TOP)}: not what the sources say: tools/promises.py --write"
+    for crate in sorted(it.name for it in CRATES.iterdir()):
+        for name, _, _, hindered in contracts.edits_of(crate):
+            if hindered:
+                yield f"edit {crate}/{name}: {hindered}"
+
+
+def write():
+    """Makes the pages anew, and takes away those of no crate."""
+    made = contracts.pages()
+    PAGES.mkdir(exist_ok=True)
+    for path in {*PAGES.glob("*.md")} - {*made}:
+        path.unlink()
+    for path, text in made.items():
+        path.write_text(text)
+
+
 def main():
-    found = list(missing((TOP / "docs/PROMISES.md").read_text()))
-    for number, it in found:
-        print(f"docs/PROMISES.md:{number}: there is no {it}")
-    print(
-        f"promises: {len(found)} names are of nothing"
-        if found
-        else "promises: all that is named is there"
+    parser = argparse.ArgumentParser(
+        description=__doc__, formatter_class=argparse.RawDescriptionHelpFormatter
     )
+    parser.add_argument("--write", action="store_true", help="make docs/contracts anew")
+    if parser.parse_args().write:
+        write()
+    found = [*stale(), *unsaid((TOP / "docs/PROMISES.md").read_text())]
+    for page in ("docs/PROMISES.md", "docs/PROOFS.md"):
+        text = (TOP / page).read_text()
+        found += [f"{page}:{number}: there is no {it}" for number, it in missing(text)]
+    print("\n".join([*found, f"promises: {len(found)} faults"] if found else PASSED))
     return int(bool(found))
 
+
+PASSED = ["promises: all that is named is there, and docs/contracts is what the sources say"]
 
 if __name__ == "__main__":
     sys.exit(main())

@@ -132,7 +132,7 @@ A race is closest where nothing is drawn between its two events; every race span
 
 Kinds of races:
   early      the input can come before the output or action that is drawn above it
-  queues     two inputs by two queues, and nothing orders their outputs
+  queues     two inputs by two queues
   unordered  two inputs by one queue, and nothing orders their outputs
   overtaken  two inputs by one queue, whose outputs come in the other order
 

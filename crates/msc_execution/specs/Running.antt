@@ -1,8 +1,8 @@
 -- The run of an instance: what it leaves, however it ends.
-use Rattle.std.specs.Prelude.{◌≡◌, ◌≢◌, ℕ, ◌<◌, ◌≤◌, Bool, true, false, List, [], ◌∷◌, map, All, IsTrue}
+use Rattle.std.specs.Prelude.{◌≡◌, ◌≢◌, ℕ, ◌<◌, ◌≤◌, Bool, true, false, List, [], ◌∷◌, map, All, IsTrue, Some, slice_get}
 use Rattle.std.specs.List.{AllZip}
 use Rattle.msc_chart.specs.Lists.{occurs}
-use Rattle.msc_chart.specs.Charts.{line, is_controlled, before}
+use Rattle.msc_chart.specs.Charts.{line, is_controlled, is_output, before}
 use Rattle.msc_chart.specs.Drawings.{Drawing}
 use Rattle.msc_fifo.specs.Ends.{IsSpentClock, unended_in}
 use Rattle.msc_ending.specs.declared.end.End.{End}
@@ -32,6 +32,14 @@ pub record IsHungry (r : Role) (log : List ℕ) : Type 0 where
   pub blocked : (s : ℕ) → IsFirstDue r.chart r.number log s
       → (x : ℕ) × IsTrue (before r.chart.events x s) × (occurs log x ≡ false)
 
+-- the line's first output or local event outside the log is an output, and all that is drawn before
+-- it is logged
+pub record IsReadyToSend (r : Role) (log : List ℕ) : Type 0 where
+  pub output : ℕ
+  pub due : IsFirstDue r.chart r.number log output
+  pub sends : IsTrue (is_output r.chart.events output)
+  pub ready : (x : ℕ) → IsTrue (before r.chart.events x output) → IsTrue (occurs log x)
+
 -- every sender of every inlet has ended
 abbrev pub AllHaveEnded : List NumberedInlet → Type 0
 AllHaveEnded inlets = All (λ (n : NumberedInlet). unended_in n.1 ≡ 0) inlets
@@ -49,7 +57,7 @@ pub record IsStrangeAlone (r : Role) (left : Left) (strange : ℕ → List ℕ) 
   pub is_strange : IsStrange r queue left.log m
 
 -- What each way to end says. With a gate that is known to be open only a spent clock stops an
--- instance.
+-- instance, and only before an output that it could send otherwise.
 abbrev pub EndsAs : Role → Bool → ℕ → Reading → Left → (ℕ → List ℕ) → End → Type 0
 EndsAs r open' patience reading left strange Finished =
     IsNothingStrange strange × IsWholeLog r.chart r.number left.log
@@ -61,10 +69,19 @@ EndsAs r open' patience reading left strange Impatient =
 EndsAs r open' patience reading left strange Stopped =
     IsNothingStrange strange
     × (open' ≡ true → IsSpentClock (clock_along r.chart reading.read_at left.log))
+    × (open' ≡ true → IsReadyToSend r left.log)
 EndsAs r open' patience reading left strange (Foreign m) = IsStrangeAlone r left strange m
 
--- The run of an instance from these ends, that read these clocks and places. Without patience it
--- takes nothing.
+-- no take on these inlets has found nothing yet
+abbrev pub AreEager : List NumberedInlet → Type 0
+AreEager inlets = All (λ (n : NumberedInlet). n.1.idle ≡ 0) inlets
+
+-- on some inlet the last n takes have found nothing, and no more
+abbrev pub SomeIdled : ℕ → List NumberedInlet → Type 0
+SomeIdled n inlets = (k : ℕ) × (x : NumberedInlet) × (slice_get inlets k ≡ Some x) × (x.1.idle ≡ n)
+
+-- The run of an instance from these ends, that read these clocks and places. It is impatient once
+-- its patience has run out, and no later. Without patience it takes nothing.
 pub record IsRunBy (r : Role) (open' : Bool) (patience : ℕ) (reading : Reading) (before : EndLists)
     (left : Left) : Type 0 where
   pub log : IsLogOf r.chart r.number left.log
@@ -72,6 +89,7 @@ pub record IsRunBy (r : Role) (open' : Bool) (patience : ℕ) (reading : Reading
   pub strange : ℕ → List ℕ
   pub got : AllZip (HasTaken r left.log reading strange) before.inlets left.ends.inlets
   pub ended : EndsAs r open' patience reading left strange left.end
+  pub in_time : left.end ≡ Impatient → AreEager before.inlets → SomeIdled patience left.ends.inlets
   pub untaken : patience ≡ 0 → left.ends.inlets ≡ before.inlets
 
 -- The run of an instance from these ends, with a gate that is known to be open or is not.

@@ -13,7 +13,7 @@ use Rattle.msc_execution.specs.Logs.{clock_along}
 use Rattle.msc_execution.specs.Executions.{Outcome, IsExecution, log_at, end_at}
 use Rattle.msc_execution.specs.Clocks.{QueuePlace, Places, messages, place_clock, trace_of}
 use Rattle.msc_execution.specs.Clocks.QueuePlace.{Message, EndMark}
-use Rattle.msc_execution.specs.Timed.{IsTimed}
+use Rattle.msc_execution.specs.Timed.{IsTimed, all_puts}
 
 -- the places of the settled queue with this number, none where no queue has it
 abbrev pub places_at : List (ℕ × Settled) → ℕ → List Place
@@ -59,13 +59,22 @@ ExecutionsHaveAMerge =
     → IsAccepted d → IsExecution queues d open' patience o
     → HasNoMerge (wired queues d) (length d.instances) o.logs → ⊥
 
+-- no more messages are put than the chart has
+abbrev pub NoMoreIsPut : Type 0
+NoMoreIsPut =
+    (queues : Queues) (d : Drawing) (open' : Bool) (patience : ℕ) (o : Outcome)
+    → IsAccepted d → IsExecution queues d open' patience o
+    → length (all_puts (wired queues d) o.logs) ≤ length d.messages
+
 -- no clock of an instance, after any beginning of its log, is greater than the number of messages
+-- that are put
 abbrev pub NoClockIsSpent : Type 0
 NoClockIsSpent =
     (queues : Queues) (d : Drawing) (open' : Bool) (patience : ℕ) (o : Outcome)
     → IsAccepted d → (execution : IsExecution queues d open' patience o)
     → (i : ℕ) (below : i < length d.instances) (past rest : List ℕ) → log_at o i ≡ past ++ rest
-    → clock_along d (execution.runs i below).reading.read_at past ≤ length d.messages
+    → clock_along d (execution.runs i below).reading.read_at past
+    ≤ length (all_puts (wired queues d) o.logs)
 
 -- and no clock of a place
 abbrev pub NoPlaceClockIsSpent : Type 0
@@ -73,7 +82,7 @@ NoPlaceClockIsSpent =
     (queues : Queues) (d : Drawing) (open' : Bool) (patience : ℕ) (o : Outcome)
     → IsAccepted d → IsExecution queues d open' patience o
     → (q s : ℕ) → IsTrue (occurs (messages (shown_places d o q)) s)
-    → place_clock (shown_places d o q) s ≤ length d.messages
+    → place_clock (shown_places d o q) s ≤ length (all_puts (wired queues d) o.logs)
 
 -- so with an open gate no instance is stopped
 abbrev pub NobodyIsStopped : Type 0

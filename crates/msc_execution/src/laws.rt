@@ -13,7 +13,7 @@ ghost use Rattle.msc_execution.specs.Settling.{FinishedExecutionsLeaveNothing, R
 ghost use Rattle.msc_execution.specs.Settling.{SettledRunsAreExecutions};
 ghost use Rattle.msc_execution.specs.Shown.{ExecutionsAreRuns, ExecutionsAreTimed};
 ghost use Rattle.msc_execution.specs.Shown.{ExecutionsHaveAMerge, NobodyIsStopped, NoClockIsSpent};
-ghost use Rattle.msc_execution.specs.Shown.{NoPlaceClockIsSpent};
+ghost use Rattle.msc_execution.specs.Shown.{NoMoreIsPut, NoPlaceClockIsSpent};
 
 use msc_gather::laws::charts_are_seated;
 
@@ -96,9 +96,10 @@ pub fn executions_are_runs()
     charts_are_seated();
 }
 
-/// No clock of an execution is greater than the number of messages; so with an open gate no
-/// instance is stopped.
+/// No clock of an execution is greater than the number of messages that are put, which are no more
+/// than those of the chart; so with an open gate no instance is stopped.
 pub fn no_clock_is_spent()
+    ensures puts { NoMoreIsPut }
     ensures clocks { NoClockIsSpent }
     ensures places { NoPlaceClockIsSpent }
     ensures stopped { NobodyIsStopped }

@@ -126,6 +126,8 @@ answered inlet outlets v n are t senders made got clocks proper =
             let f = offer_among o.0.claims q.3.2.0 c.clock (subst (λ (l : List ℕ). slice_get l q.3.2.0 ≡ Some c.clock) (sym (k.offers ∙ ap t.offered o.2)) q.3.2.1) in
             let w = subst (λ (l : List Claim). Occurs l f.0) k.claims f.1 in
             (f.0, (own_among o.0.sender w.0 log f.0 w.1).0, f.2, f.3));
+        marks = λ c a mark. (let g = get-build 0 a.0 a.0 t.clk t.log c (omega arith) a.1 in
+            sym (ap (λ (x : Claim). x.clock) g.2) ∙ t.marks a.0 g.0 g.1 (ap (λ (x : Claim). is_message x.entry) g.2 ∙ mark));
       };
     }
 

@@ -1,5 +1,5 @@
 -- Each step of the inlet keeps the rule of the table, and so do making, splitting and joining the seats.
-use Rattle.std.proofs.Common.{◌≡◌, ◌≢◌, ◌⊎◌, ℕ, zero, suc, ◌+◌, ◌-◌, ◌<◌, ◌≤◌, ◌==◌, true, cond, true≢false, List, [], ◌∷◌, ◌++◌, length, set, replicate, Some, slice_get, slice_index, sym, refl, ap, ◌∙◌, subst, inl, inr, ⊎_elim, append-nil, append_assoc, arith, length-append, eq-eqb, ne_eqb, eq-or-lt_of_le}
+use Rattle.std.proofs.Common.{◌≡◌, ◌≢◌, ◌⊎◌, ℕ, zero, suc, ◌+◌, ◌-◌, ◌<◌, ◌≤◌, ◌==◌, true, cond, false, true≢false, List, [], ◌∷◌, ◌++◌, length, set, replicate, Some, slice_get, slice_index, sym, refl, ap, ◌∙◌, subst, inl, inr, ⊎_elim, append-nil, append_assoc, arith, length-append, eq-eqb, ne_eqb, eq-or-lt_of_le}
 use mathlib.Core.Option.{some, none, some-ne-none, some-injective}
 use lib.ListN.{get_elem?}
 use Rattle.atomic_table.specs.Table.{State, step, keeps, Allows, Splits, Joins, opening, stepped}
@@ -49,6 +49,11 @@ index_last (y ∷ xs) x (suc k) h = index_last xs x k (omega arith)
 mark_clock : (w : World) (k i : ℕ) (x : Slot) → slice_get w.log k ≡ Some x → x.entry ≡ Ended i → IsDated w k (w.clk k) → w.clk k ≡ 0
 mark_clock w k i x at is (inl z) = z
 mark_clock w k i x at is (inr d) = let both : Some x ≡ Some d.0 = sym at ∙ d.1 in let same : x ≡ d.0 = cc in absurd (true≢false (sym d.2 ∙ ap (λ (y : Slot). is_message y.entry) (sym same) ∙ ap is_message is))
+
+-- a place without a message has the clock 0
+unmarked_clock : (w : World) (k : ℕ) (x : Slot) → slice_get w.log k ≡ Some x → is_message x.entry ≡ false → IsDated w k (w.clk k) → w.clk k ≡ 0
+unmarked_clock w k x at mark (inl z) = z
+unmarked_clock w k x at mark (inr d) = let both : Some x ≡ Some d.0 = sym at ∙ d.1 in let same : x ≡ d.0 = cc in absurd (true≢false (sym d.2 ∙ ap (λ (y : Slot). is_message y.entry) (sym same) ∙ mark))
 
 -- what the inlet knows once it has got one entry more
 taken : (places id : ℕ) (w : World) (v : TicketView) (e : Entry) (x : Slot) (more : List Entry) → IsReader places w id v → Sound places w → length v.got < places → length v.clocks ≡ length v.got → entries w.log ≡ v.got ++ e ∷ more
@@ -136,6 +141,7 @@ settles_keep places slots id me gets s h same at lt =
       got = mine.got;
       clocks = mine.clocks;
       dated = λ k lt. (let c = h.claimed in let lt' : k < places = omega arith in ⊎_elim (λ (z : old.clk k ≡ 0). inl z) (λ d. inr (d.3, (d.4.0, subst (λ (n : ℕ). d.4.0 < n) (sym mine.made) d.4.1, d.4.2))) (h.sound.dated k lt'));
+      marks = λ k x at mark. (let inside = get_inside h.log k x at in let below : k < places = omega arith in unmarked_clock old k x at mark (h.sound.dated k below));
       senders = each-map (IsSender places old id) _ v.senders
           (λ x p. (subst (λ (n : ℕ). x.from < n) (sym mine.made) p.made, p.put, p.closed, p.claims, p.offers, each-map (IsStored old) _ x.claims (λ c q. q.1) p.stored)) (h.each id v at).1;
     } in

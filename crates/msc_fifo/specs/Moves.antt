@@ -6,7 +6,7 @@ use Rattle.msc_fifo.specs.declared.entry.Entry.TheVariants.{Message, Ended}
 use Rattle.msc_fifo.specs.declared.claim.Claim.{Claim}
 use Rattle.msc_fifo.specs.declared.rule.Sender.{Sender}
 use Rattle.msc_fifo.specs.declared.rule.TicketView.{TicketView}
-use Rattle.msc_fifo.specs.Claims.{claim}
+use Rattle.msc_fifo.specs.Claims.{claim, is_message}
 use Rattle.msc_fifo.specs.Entries.{sender_of, messages_of, has_ended, IsOrderly}
 use Rattle.msc_fifo.specs.Lists.{Occurs, Each}
 use Rattle.msc_fifo.specs.World.{Slot, spot_of, entries, own, code, IsSmall, Covers}
@@ -89,6 +89,7 @@ pub record Told (v : TicketView) (count : ℕ) : Type 0 where
   pub got : (rest : List Entry) × (entries log ≡ v.got ++ rest)
   pub clocks : (k : ℕ) → k < length v.clocks → clk k ≡ slice_index v.clocks k
   pub dated : (k : ℕ) → k < count → (clk k ≡ 0) ⊎ (Covers log k (clk k) × ((i : ℕ) × (i < v.made) × ((j : ℕ) × (slice_get (offered i) j ≡ Some (clk k)))))
+  pub marks : (k : ℕ) (x : Slot) → slice_get log k ≡ Some x → is_message x.entry ≡ false → clk k ≡ 0
   pub senders : Each (λ (x : Sender). (x.from < v.made) × (x.put ≡ messages_of x.from (entries log)) × (x.closed ≡ has_ended x.from (entries log)) × (map spot_of (x.claims ++ x.pending) ≡ own x.from 0 log) × (x.offers ≡ offered x.from) × Each (λ (c : Claim). clk c.place ≡ c.clock) x.claims) v.senders
 
 -- the claim is one that is known of some sender

@@ -1,5 +1,5 @@
 -- What is known of a queue once its ends are settled.
-use Rattle.std.specs.Prelude.{◌≡◌, ℕ, ◌<◌, ◌≤◌, ◌==◌, true, if◌then◌else◌, List, [], ◌∷◌, ◌++◌, map, length, Option, Some, None, slice_get, slice_index}
+use Rattle.std.specs.Prelude.{◌≡◌, ℕ, ◌<◌, ◌≤◌, ◌==◌, true, false, if◌then◌else◌, List, [], ◌∷◌, ◌++◌, map, length, Option, Some, None, slice_get, slice_index}
 use Rattle.msc_fifo.specs.declared.entry.Entry.{Entry}
 use Rattle.msc_fifo.specs.declared.entry.Entry.TheVariants.{Message, Ended}
 use Rattle.msc_fifo.specs.declared.claim.Claim.{Claim}
@@ -48,7 +48,7 @@ place_of c = record { sender = sender_of c.entry; message = message_of c.entry; 
 -- The places of a queue that were claimed, in order and without gaps. Each outlet's claims are its
 -- part of them, for what it put and then its end mark; what was got is the items of the first places,
 -- and the clocks that were read are theirs. The clock of a message's place is at least each offer
--- made for it or a place before it, and is the offer of some message
+-- made for it or a place before it, and is the offer of some message; that of an end mark's is 0
 pub record IsPlaced (inlet : InletState) (outlets : List OutletState) (log : List Claim) : Type 0 where
   pub numbered : (k : ℕ) (c : Claim) → slice_get log k ≡ Some c → c.place ≡ k
   pub orderly : IsOrderly inlet.senders (entries_at log)
@@ -59,6 +59,7 @@ pub record IsPlaced (inlet : InletState) (outlets : List OutletState) (log : Lis
   pub covers : (c d : Claim) → Occurs log c → is_message c.entry ≡ true → Occurs log d → d.place ≤ c.place → d.offer ≤ c.clock
   pub offered : (c : Claim) → Occurs log c → is_message c.entry ≡ true
       → (d : Claim) × Occurs log d × (is_message d.entry ≡ true) × (d.offer ≡ c.clock)
+  pub marks : (c : Claim) → Occurs log c → is_message c.entry ≡ false → c.clock ≡ 0
 
 -- these are the places of the queue whose ends were these
 pub record IsSettled (inlet : InletState) (outlets : List OutletState) (places : List Place) : Type 0 where

@@ -11,6 +11,7 @@ use Rattle.msc_instance.specs.declared.threads.Job.{Job}
 use Rattle.msc_instance.specs.declared.threads.Answer.{Answer}
 use Rattle.msc_instance.specs.declared.threads.Answer.TheVariants.{Ran, NotRun}
 use Rattle.msc_instance.specs.declared.threads.Gathered.{Gathered}
+use Rattle.msc_instance.specs.Gates.{Rule}
 use Rattle.msc_instance.specs.Threads.{AnswersRun, HasNotRun, HaveAnswered, HaveRun, HaveStopped, IsClosedJob, IsReady, IsRefused}
 use Rattle.msc_instance.proofs.Runs.{paired_more, paired_back}
 
@@ -20,7 +21,7 @@ none_before R [] h = refl
 none_before R (x ∷ xs) h = absurd h
 
 -- what stands in the one list has its like in the other
-like_at : {A B : Type 0} (R : A → B → Type 0) (xs : List A) (ys : List B) → AllZip R xs ys
+pub like_at : {A B : Type 0} (R : A → B → Type 0) (xs : List A) (ys : List B) → AllZip R xs ys
     → (n : ℕ) (y : B) → slice_get ys n ≡ Some y → (x : A) × (slice_get xs n ≡ Some x) × R x y
 like_at R [] [] h n y at = cc
 like_at R [] (z ∷ ys) h n y at = absurd h
@@ -72,11 +73,11 @@ pub if_err : {T E : Type 0} (P Q : E → Type 0) (r : Result T E) → ((e : E) �
 if_err P Q (Ok x) f h = tt
 if_err P Q (Err e) f h = f e h
 
-module _ (d : Drawing) (open' : Bool) (patience : ℕ) where
+module _ (d : Drawing) (gate : Rule) (patience : ℕ) where
   -- the first of them was refused, and so the others are closed
   pub stopped : (jobs rest : List Job) (j : Job) (answers : List Answer) (a : Answer) (g : Gathered)
-      → jobs ≡ rest ++ j ∷ [] → answers ≡ [] → AnswersRun d open' patience j a
-      → HaveStopped a rest answers g → HaveAnswered d open' patience jobs g
+      → jobs ≡ rest ++ j ∷ [] → answers ≡ [] → AnswersRun d gate patience j a
+      → HaveStopped a rest answers g → HaveAnswered d gate patience jobs g
   stopped jobs rest j answers (Ran r) g is none run stops = record {
     others = rest;
     started = j ∷ [];
@@ -94,37 +95,37 @@ module _ (d : Drawing) (open' : Bool) (patience : ℕ) where
 
   -- the first of them has answered too
   pub one_answered : (jobs rest : List Job) (j : Job) (a : Answer) (old new : Gathered)
-      → jobs ≡ rest ++ j ∷ [] → HaveAnswered d open' patience rest old
-      → AnswersRun d open' patience j a → new.answers.items ≡ old.answers.items ++ a ∷ []
-      → new.unstarted ≡ old.unstarted → HaveAnswered d open' patience jobs new
+      → jobs ≡ rest ++ j ∷ [] → HaveAnswered d gate patience rest old
+      → AnswersRun d gate patience j a → new.answers.items ≡ old.answers.items ++ a ∷ []
+      → new.unstarted ≡ old.unstarted → HaveAnswered d gate patience jobs new
   one_answered jobs rest j a old new is have run answers same = record {
     others = have.others;
     started = have.started ++ j ∷ [];
     whole = is ∙ ap (λ l. l ++ j ∷ []) have.whole ∙ append_assoc have.others have.started (j ∷ []);
-    answers = rw answers (paired_more (AnswersRun d open' patience) have.started
+    answers = rw answers (paired_more (AnswersRun d gate patience) have.started
         old.answers.items j a have.answers run);
     closed = rw same have.closed;
   }
 
   -- there are no more answers than instances
-  pub few_answers : (jobs : List Job) (g : Gathered) → HaveAnswered d open' patience jobs g
+  pub few_answers : (jobs : List Job) (g : Gathered) → HaveAnswered d gate patience jobs g
       → length g.answers.items ≤ length jobs
   few_answers jobs g have =
-      let same = AllZip-long (AnswersRun d open' patience) have.started g.answers.items
+      let same = AllZip-long (AnswersRun d gate patience) have.started g.answers.items
       have.answers in
       omega (arith, ap length have.whole, length-append have.others have.started, same)
 
   -- so there is room for one more
   pub fewer_answers : (jobs rest : List Job) (j : Job) (g : Gathered) → jobs ≡ rest ++ j ∷ []
-      → HaveAnswered d open' patience rest g → length g.answers.items < length jobs
+      → HaveAnswered d gate patience rest g → length g.answers.items < length jobs
   fewer_answers jobs rest j g is have =
       let few = few_answers rest g have in
       omega (arith, few, ap length is, length-append rest (j ∷ []))
 
   -- answers that are runs
   answers_are_runs : (jobs : List Job) (ran : List InstanceEnd)
-      → AllZip (AnswersRun d open' patience) jobs (map Ran ran)
-      → HaveRun d open' patience jobs ran
+      → AllZip (AnswersRun d gate patience) jobs (map Ran ran)
+      → HaveRun d gate patience jobs ran
   answers_are_runs [] [] h = tt
   answers_are_runs [] (r ∷ ran) h = absurd h
   answers_are_runs (j ∷ jobs) [] h = absurd h
@@ -132,26 +133,26 @@ module _ (d : Drawing) (open' : Bool) (patience : ℕ) where
 
   -- all were run, in the order of the instances
   pub all_run : (jobs turn : List Job) (ran : List InstanceEnd) (g : Gathered) → turn ≡ reverse jobs
-      → HaveAnswered d open' patience turn g → g.unstarted.items ≡ []
+      → HaveAnswered d gate patience turn g → g.unstarted.items ≡ []
       → g.answers.items ≡ reverse (map Ran ran)
-      → HaveRun d open' patience jobs ran
+      → HaveRun d gate patience jobs ran
   all_run jobs turn ran g is have none left =
       let all : have.others ≡ [] =
       none_before IsClosedJob have.others (subst (AllZip IsClosedJob have.others) none have.closed) in
       let whole : turn ≡ have.started = have.whole ∙ ap (λ l. l ++ have.started) all in
       let back : reverse turn ≡ jobs = ap reverse is ∙ reverse-reverse jobs in
-      let zip : AllZip (AnswersRun d open' patience) turn (reverse (map Ran ran)) =
-      subst (λ l. AllZip (AnswersRun d open' patience) l (reverse (map Ran ran))) (sym whole)
-      (subst (AllZip (AnswersRun d open' patience) have.started) left have.answers) in
-      let turned = paired_back (AnswersRun d open' patience) turn (reverse (map Ran ran)) zip in
+      let zip : AllZip (AnswersRun d gate patience) turn (reverse (map Ran ran)) =
+      subst (λ l. AllZip (AnswersRun d gate patience) l (reverse (map Ran ran))) (sym whole)
+      (subst (AllZip (AnswersRun d gate patience) have.started) left have.answers) in
+      let turned = paired_back (AnswersRun d gate patience) turn (reverse (map Ran ran)) zip in
       answers_are_runs jobs ran
-      (subst (AllZip (AnswersRun d open' patience) jobs) (reverse-reverse (map Ran ran))
-      (subst (λ l. AllZip (AnswersRun d open' patience) l (reverse (reverse (map Ran ran)))) back
+      (subst (AllZip (AnswersRun d gate patience) jobs) (reverse-reverse (map Ran ran))
+      (subst (λ l. AllZip (AnswersRun d gate patience) l (reverse (reverse (map Ran ran)))) back
       turned))
 
   -- who was refused is an instance
   pub refused_is_known : (jobs : List Job) (g : Gathered) (i : ℕ) → All (IsReady d) jobs
-      → HaveAnswered d open' patience jobs g → IsRefused g i → i < length d.instances
+      → HaveAnswered d gate patience jobs g → IsRefused g i → i < length d.instances
   refused_is_known jobs g i ready have (inl refused) =
       let (later, k, is, number) = refused in
       let at : slice_get g.unstarted.items (length later) ≡ Some k = rw is (last_at later k) in
@@ -163,7 +164,7 @@ module _ (d : Drawing) (open' : Bool) (patience : ℕ) where
       omega (arith, one.known, closed.number, number)
   refused_is_known jobs g i ready have (inr told) =
       let (n, k, at, number) = told.1 in
-      let (j, here, closed) = like_at (AnswersRun d open' patience) have.started g.answers.items
+      let (j, here, closed) = like_at (AnswersRun d gate patience) have.started g.answers.items
       have.answers n (NotRun k) at in
       let (m, behind) = later_at have.others have.started n j here in
       let there : slice_get jobs m ≡ Some j = rw have.whole behind in

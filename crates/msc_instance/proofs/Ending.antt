@@ -7,7 +7,7 @@ use Rattle.msc_chart.proofs.ListLemmas.{clash}
 use Rattle.msc_fifo.specs.Ends.{IsSpentClock, unended_in}
 use Rattle.msc_ending.specs.declared.end.End.TheVariants as end
 use Rattle.msc_execution.specs.Roles.{NumberedInlet}
-use Rattle.msc_execution.specs.Running.{IsHungry, AllHaveEnded}
+use Rattle.msc_execution.specs.Running.{IsHungry, IsReadyToSend, AllHaveEnded}
 use Rattle.msc_instance.specs.declared.active.Active.{Active}
 use Rattle.msc_instance.specs.declared.active.Post.{Post}
 use Rattle.msc_instance.specs.Active.{IsSound, HasSent, HasUpTo, IsBlocked, EndsSo, logged_by, post_role, weight}
@@ -50,10 +50,12 @@ module _ (d : Drawing) (post : Post) (a b c : Active) (patience empty : ℕ) (se
 
 module _ (d : Drawing) (p : Post) (a : Active) (s : IsSound d p a) (open' : Bool) (patience : ℕ) where
   -- the gate or the clock has stopped it
-  pub ends_stopped : (open' ≡ true → IsSpentClock a.clock) → EndsSo d p open' patience a end.Stopped
-  ends_stopped spent =
+  pub ends_stopped : (open' ≡ true → IsSpentClock a.clock)
+      → (open' ≡ true → IsReadyToSend (post_role d p) (logged_by a))
+      → EndsSo d p open' patience a end.Stopped
+  ends_stopped spent ready =
       comes s.begun open' patience end.Stopped
-      (λ reading is. (λ q. refl, λ known. sym is ∙ spent known))
+      (λ reading is. (λ q. refl, λ known. sym is ∙ spent known, ready))
 
   -- all is logged
   pub ends_finished : a.first ≡ p.end → EndsSo d p open' patience a end.Finished

@@ -10,7 +10,7 @@ use Rattle.msc_ending.specs.declared.end.End.TheVariants as end
 use Rattle.msc_execution.specs.Roles.{Role, EndLists, NumberedOutlet, NumberedInlet, IsFit}
 use Rattle.msc_execution.specs.Logs.{Reading, clock_along}
 use Rattle.msc_execution.specs.Growth.{HasTaken, IsLeftBy, IsStrange}
-use Rattle.msc_execution.specs.Running.{EndsAs, HasRun}
+use Rattle.msc_execution.specs.Running.{EndsAs, AreEager, SomeIdled, HasRun}
 use Rattle.msc_instance.specs.Steps.{IsPutBy, IsGotBy, ArePutBy, HasBegun}
 use Rattle.msc_instance.specs.Active.{HasGot, HasCome, IsClosedFrom}
 use Rattle.msc_instance.proofs.Stepped as stepped
@@ -129,20 +129,23 @@ module _ {r : Role} {first : EndLists} {shut : Bool} {outs : List NumberedOutlet
 
 -- what an instance leaves once all outlets are closed
 pub leaves : (r : Role) (open' : Bool) (patience : ℕ) (first : EndLists) (shut : Bool)
-    (outs news : List NumberedOutlet) (ins : List NumberedInlet) (log : List ℕ) (end : End)
-    → AllZip IsClosedFrom outs news → (patience ≡ 0 → ins ≡ first.inlets)
+    (outs news : List NumberedOutlet) (ins : List NumberedInlet) (log : List ℕ) (last : End)
+    → AllZip IsClosedFrom outs news
+    → (last ≡ end.Impatient → AreEager first.inlets → SomeIdled patience ins)
+    → (patience ≡ 0 → ins ≡ first.inlets)
     → HasCome r open' patience first shut
-    (record { log = log; ends = record { outlets = outs; inlets = ins }; end = end })
+    (record { log = log; ends = record { outlets = outs; inlets = ins }; end = last })
     → HasRun r open' patience first
-    (record { log = log; ends = record { outlets = news; inlets = ins }; end = end })
-leaves r open' patience first shut outs news ins log end closed untaken come = record {
+    (record { log = log; ends = record { outlets = news; inlets = ins }; end = last })
+leaves r open' patience first shut outs news ins log last closed in_time untaken come = record {
   reading = come.reading;
   run = record {
     log = come.log;
     put = closes r log come.reading shut first.outlets outs news closed come.put;
     strange = come.strange;
     got = come.got;
-    ended = same_end r open' patience come.reading outs news ins log end come.strange end come.ended;
+    ended = same_end r open' patience come.reading outs news ins log last come.strange last come.ended;
+    in_time = in_time;
     untaken = untaken;
   };
 }

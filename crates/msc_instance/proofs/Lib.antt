@@ -13,6 +13,7 @@ pub mod Growing
 pub mod Stepped
 pub mod Zipped
 pub mod Logs
+pub mod Due
 pub mod Finding
 pub mod Numbered
 pub mod Begun
@@ -20,6 +21,7 @@ pub mod Kept
 pub mod Sound
 pub mod Takes
 pub mod Rounds
+pub mod Patience
 pub mod Ending
 pub mod Beginning
 pub mod Told
@@ -27,3 +29,4 @@ pub mod Emptied
 pub mod Returned
 pub mod Answered
 pub mod Sendings
+pub mod Asked

@@ -17,6 +17,7 @@ use Rattle.msc_execution.specs.Settling.{HaveRunFrom}
 use Rattle.msc_instance.specs.declared.ends.InstanceEnd.{InstanceEnd}
 use Rattle.msc_instance.specs.declared.threads.Job.{Job}
 use Rattle.msc_instance.specs.Views.{ends_of, left_by}
+use Rattle.msc_instance.specs.Gates.{Rule, WasLet}
 use Rattle.msc_instance.specs.Threads.{RunsFrom, AreJobs, HaveRun}
 
 -- one more on each side
@@ -46,13 +47,13 @@ paired_at R f g (x ∷ xs) [] h i c d at back = absurd h
 paired_at R f g (x ∷ xs) (y ∷ ys) h zero c d at back = let a : f x ≡ c = cc in let b : g y ≡ d = cc in (x, y, refl, a, b, h.0)
 paired_at R f g (x ∷ xs) (y ∷ ys) h (suc i) c d at back = paired_at R f g xs ys h.1 i c d at back
 
-module _ (d : Drawing) (open' : Bool) (patience : ℕ) where
+module _ (d : Drawing) (gate : Rule) (patience : ℕ) where
   -- what the jobs of a chart leave are runs from fresh ends
-  pub runs_from_fresh : (queues : Queues) (jobs : List Job) (ran : List InstanceEnd) → AreJobs queues d jobs → HaveRun d open' patience jobs ran
-      → HaveRunFrom queues d open' patience (map (λ (j : Job). ends_of j.ends) jobs) (map left_by ran)
+  pub runs_from_fresh : (queues : Queues) (jobs : List Job) (ran : List InstanceEnd) → AreJobs queues d jobs → HaveRun d gate patience jobs ran
+      → HaveRunFrom queues d gate.is_open patience (map (λ (j : Job). ends_of j.ends) jobs) (map left_by ran)
   runs_from_fresh queues jobs ran are have =
-      let R : Job → InstanceEnd → Type 0 = λ k s. RunsFrom d k.number open' patience k.ends s in
-      let many = AllZip-long (λ (k : Job) (s : InstanceEnd). RunsFrom d k.number open' patience k.ends s) jobs ran have in
+      let R : Job → InstanceEnd → Type 0 = λ k s. RunsFrom d k.number gate patience k.ends s in
+      let many = AllZip-long (λ (k : Job) (s : InstanceEnd). RunsFrom d k.number gate patience k.ends s) jobs ran have in
       record {
         many = omega (arith, many, length-map ran left_by, length-map jobs (λ (j : Job). ends_of j.ends));
         each = λ i e r at back.
@@ -61,11 +62,11 @@ module _ (d : Drawing) (open' : Bool) (patience : ℕ) where
             let within = slice_get_within jobs i j here in
             let under : j.ends.queues ≡ queues =
             subst (λ (k : Job). k.ends.queues ≡ queues) (get_or_from_slice_get jobs i j j here) (are.under i j within) in
-            let one : HasRun (role queues d i) open' patience (ends_of j.ends) (left_by s) =
-            subst (λ (q : Queues). HasRun (role q d i) open' patience (ends_of j.ends) (left_by s)) under
-            (subst (λ (n : ℕ). HasRun (role j.ends.queues d n) open' patience (ends_of j.ends) (left_by s)) number run) in
-            subst (λ (l : Left). HasRun (role queues d i) open' patience e l) leaves
-            (subst (λ (b : EndLists). HasRun (role queues d i) open' patience b (left_by s)) begins one);
+            let one : HasRun (role queues d i) gate.is_open patience (ends_of j.ends) (left_by s) =
+            subst (λ (q : Queues). HasRun (role q d i) gate.is_open patience (ends_of j.ends) (left_by s)) under
+            (subst (λ (n : ℕ). HasRun (role j.ends.queues d n) gate.is_open patience (ends_of j.ends) (left_by s)) number run.0) in
+            subst (λ (l : Left). HasRun (role queues d i) gate.is_open patience e l) leaves
+            (subst (λ (b : EndLists). HasRun (role queues d i) gate.is_open patience b (left_by s)) begins one);
       }
 
 -- numbers of a range that all lie between two bounds are no more than these are apart

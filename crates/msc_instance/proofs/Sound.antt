@@ -1,6 +1,7 @@
 -- Each step of an instance keeps it sound.
-use Rattle.std.proofs.Common.{◌≡◌, ℕ, ◌+◌, ◌<◌, ◌≤◌, true, false, [], ◌∷◌, ◌++◌, map, length, set, get_or, sym, subst, arith, inl, inr, vec_capacity, Vec, Global}
+use Rattle.std.proofs.Common.{◌≡◌, ℕ, List, ◌+◌, ◌<◌, ◌≤◌, true, false, [], ◌∷◌, ◌++◌, map, length, set, get_or, sym, subst, arith, inl, inr, vec_capacity, Vec, Global}
 use Rattle.std.proofs.lemmas.Bool.{cases_lt}
+use Rattle.std.proofs.lemmas.List.Elements.{All-cons}
 use Rattle.std.specs.List.{AllZip}
 use Rattle.std.specs.Vec.{with_item}
 use Rattle.msc_chart.specs.Lists.{occurs}
@@ -10,13 +11,14 @@ use Rattle.msc_chart.specs.Orders.{queue_of}
 use Rattle.msc_chart.proofs.ListLemmas.{clash, by_test}
 use Rattle.msc_chart.proofs.Drawn.{local_parts, controlled_or_input, input_not_local, output_or_input, controlled_parts, controlled_no_input}
 use Rattle.msc_fifo.specs.Ends.{HasRoom}
-use Rattle.msc_execution.specs.Roles.{NumberedOutlet}
-use Rattle.msc_execution.specs.Logs.{IsLogOf}
+use Rattle.msc_execution.specs.Growth.{IsLeftBy}
+use Rattle.msc_execution.specs.Roles.{NumberedOutlet, Role}
+use Rattle.msc_execution.specs.Logs.{IsLogOf, Reading}
 use Rattle.msc_instance.specs.declared.active.Active.{Active}
 use Rattle.msc_instance.specs.declared.active.Post.{Post}
 use Rattle.msc_instance.specs.declared.journal.Journal.{Journal}
 use Rattle.msc_instance.specs.Steps.{ArePutBy, HasBegun}
-use Rattle.msc_instance.specs.Active.{IsSound, IsNext, HasPut, IsAscending, IsClosedFrom, logged_by, post_role, first_ends}
+use Rattle.msc_instance.specs.Active.{IsSound, IsNext, HasPut, IsAscending, IsClosedFrom, AreClosed, logged_by, post_role, first_ends}
 use Rattle.msc_instance.proofs.Finding.{sent_ascends}
 use Rattle.msc_instance.proofs.Logs.{on_post, not_logged, next_moves, log_due, log_shorter, upto_push}
 use Rattle.msc_instance.proofs.Numbered.{outlet_number, outlet_numbers, has_room}
@@ -182,3 +184,21 @@ has_closed d p a outs s opened done closed = record {
   closed = λ _. done;
   room = s.room;
 }
+
+-- what stands beside an outlet that is left is closed
+left_closed : (r : Role) (log : List ℕ) (reading : Reading) (olds news : List NumberedOutlet)
+    → AllZip (IsLeftBy r log reading) olds news → AreClosed news
+left_closed r log reading [] [] h = λ k x lt. absurd (omega arith)
+left_closed r log reading [] (y ∷ news) h = absurd h
+left_closed r log reading (x ∷ olds) [] h = absurd h
+left_closed r log reading (x ∷ olds) (y ∷ news) h =
+    All-cons (λ (o : NumberedOutlet). o.1.closed ≡ true) y news h.0.closed
+    (left_closed r log reading olds news h.1)
+
+-- the outlets of an instance that is shut are closed
+pub are_closed : (d : Drawing) (p : Post) (a : Active) → IsSound d p a → a.shut ≡ true
+    → AreClosed a.outlets.items
+are_closed d p a s shut =
+    let put = subst (λ b. ArePutBy b (post_role d p) (logged_by a) s.begun.reading
+    (first_ends p).outlets a.outlets.items) shut s.begun.kept.put in
+    left_closed (post_role d p) (logged_by a) s.begun.reading (first_ends p).outlets a.outlets.items put

@@ -6,7 +6,7 @@ use Rattle.std.proofs.lemmas.List.{get_or_default}
 use Rattle.std.proofs.lemmas.List.Sums.{sum_by-set}
 use Rattle.msc_chart.specs.declared.TheConstants.{EVENT_LIMIT}
 use Rattle.msc_chart.specs.Lists.{occurs}
-use Rattle.msc_chart.specs.Charts.{line, message, is_controlled}
+use Rattle.msc_chart.specs.Charts.{line, message, is_controlled, is_input}
 use Rattle.msc_chart.specs.Drawings.{Drawing, input_of, receiver_of}
 use Rattle.msc_chart.specs.Orders.{queue_of}
 use Rattle.msc_chart.proofs.Drawn.{input_parts, controlled_no_input}
@@ -22,7 +22,8 @@ use Rattle.msc_execution.proofs.Wiring.Logged.{input_is}
 use Rattle.msc_instance.specs.declared.active.Active.{Active}
 use Rattle.msc_instance.specs.declared.active.Post.{Post}
 use Rattle.msc_instance.specs.declared.journal.Journal.{Journal}
-use Rattle.msc_instance.specs.Active.{IsSound, IsNext, IsQuiet, EndsSo, HasGot, logged_by, post_role, first_ends, weight}
+use Rattle.msc_instance.specs.Active.{IsSound, IsNext, EndsSo, HasGot, logged_by, post_role, first_ends, weight}
+use Rattle.msc_instance.specs.Taking.{IsQuiet, IsFound}
 use Rattle.msc_instance.proofs.Logs.{log_input, log_shorter, upto_push}
 use Rattle.msc_instance.proofs.Numbered.{inlet_number, inlet_numbers, number_there}
 use Rattle.msc_instance.proofs.Begun.{begun_took, begun_ended, begun_nothing}
@@ -44,6 +45,13 @@ module _ (d : Drawing) (p : Post) (a : Active) (s : IsSound d p a) (k : ℕ) (n 
       (get_or a.inlets.items k n).1
       ≡ sum_by (λ (x : NumberedInlet). unended_in x.1) a.inlets.items + unended_in new.1
   sums = sum_by-set (λ (x : NumberedInlet). unended_in x.1) a.inlets.items k new n lt
+
+  -- the take found something, and leaves the other inlets as they are
+  found : new.1.idle ≡ 0 → IsFound k a (record a { inlets = with_item a.inlets k new })
+  found none = record {
+    idle = λ m. ap (λ (x : NumberedInlet). x.1.idle) (get_or-set_same a.inlets.items k new m lt) ∙ none;
+    others = λ j m other. get_or-set_other a.inlets.items k j new m other;
+  }
 
   -- nothing
   pub took_nothing : HasGot a.clock took.Nothing (get_or a.inlets.items k n) new
@@ -73,6 +81,7 @@ module _ (d : Drawing) (p : Post) (a : Active) (s : IsSound d p a) (k : ℕ) (n 
   pub took_ended : (i : ℕ) → HasGot a.clock (took.Ended i) (get_or a.inlets.items k n) new
       → IsSound d p (record a { inlets = with_item a.inlets k new })
       × (weight d p (record a { inlets = with_item a.inlets k new }) < weight d p a)
+      × IsFound k a (record a { inlets = with_item a.inlets k new })
   took_ended i got = (
     record {
       post = s.post;
@@ -83,6 +92,7 @@ module _ (d : Drawing) (p : Post) (a : Active) (s : IsSound d p a) (k : ℕ) (n 
       room = s.room;
     },
     omega (arith, sums, got.unended),
+    found got.idle,
   )
 
   -- a message that is strange
@@ -133,6 +143,7 @@ module _ (d : Drawing) (p : Post) (a : Active) (s : IsSound d p a) (k : ℕ) (n 
         → IsSound d p (record a { inlets = with_item a.inlets k new; journal = journal; clock = now })
         × (weight d p (record a { inlets = with_item a.inlets k new; journal = journal; clock = now })
         < weight d p a)
+        × IsFound k a (record a { inlets = with_item a.inlets k new; journal = journal; clock = now })
     took_input i place now journal got noted room =
         let is = input_is p.queues d s.post.accepted m known in
         let at : queue_of p.queues d (message d.events (input_of d m))
@@ -156,6 +167,10 @@ module _ (d : Drawing) (p : Post) (a : Active) (s : IsSound d p a) (k : ℕ) (n 
             left_fewer d p.instance (logged_by a) journal.log.items
                 (input_of d m) input_log.0 noted,
           ),
+          record {
+            idle = (found got.idle).idle;
+            others = (found got.idle).others;
+          },
         )
 
 -- inlet k has one number, whatever stands for what is not there
@@ -169,3 +184,8 @@ pub event_in : (d : Drawing) (p : Post) (a : Active) → IsSound d p a → (m : 
 event_in d p a s m known =
     let below = (input_parts d.events (input_of d m) (input_is p.queues d s.post.accepted m known).0).0 in
     omega (arith, below, s.post.accepted.few_events)
+
+-- and they are inputs
+pub input_here : (d : Drawing) (p : Post) (a : Active) → IsSound d p a → (m : ℕ) → m < length d.messages
+    → is_input d.events (input_of d m) ≡ true
+input_here d p a s m known = (input_is p.queues d s.post.accepted m known).0

@@ -13,12 +13,18 @@ use Rattle.msc_instance.specs.declared.threads.Answer.{Answer}
 use Rattle.msc_instance.specs.declared.threads.Answer.TheVariants.{Ran, NotRun}
 use Rattle.msc_instance.specs.declared.threads.Gathered.{Gathered}
 use Rattle.msc_instance.specs.Active.{IsClosedFrom}
+use Rattle.msc_instance.specs.Gates.{Rule, WasLet}
 use Rattle.msc_instance.specs.Views.{ends_of, left_by}
 
--- what an instance left is the run of the instance of this number from these ends
-abbrev pub RunsFrom : Drawing → ℕ → Bool → ℕ → InstanceEnds → InstanceEnd → Type 0
-RunsFrom d i open' patience ends r =
-    HasRun (role ends.queues d i) open' patience (ends_of ends) (left_by r)
+-- this is known of a gate
+abbrev pub rule : Bool → (ℕ → ℕ → Bool) → Rule
+rule open' lets = record { is_open = open'; lets = lets }
+
+-- what an instance left is the run of the instance of this number from these ends, under this gate
+abbrev pub RunsFrom : Drawing → ℕ → Rule → ℕ → InstanceEnds → InstanceEnd → Type 0
+RunsFrom d i gate patience ends r =
+    HasRun (role ends.queues d i) gate.is_open patience (ends_of ends) (left_by r)
+    × WasLet gate.lets d i r.log.items r.end
 
 -- the job of an instance that was not begun, its outlets closed
 pub record IsClosedJob (old new : Job) : Type 0 where
@@ -29,9 +35,9 @@ pub record IsClosedJob (old new : Job) : Type 0 where
   pub log : new.log.items ≡ old.log.items
 
 -- what a thread answers is the run from its job, or that job, not begun
-abbrev pub AnswersRun : Drawing → Bool → ℕ → Job → Answer → Type 0
-AnswersRun d open' patience j (Ran r) = RunsFrom d j.number open' patience j.ends r
-AnswersRun d open' patience j (NotRun k) = IsClosedJob j k
+abbrev pub AnswersRun : Drawing → Rule → ℕ → Job → Answer → Type 0
+AnswersRun d gate patience j (Ran r) = RunsFrom d j.number gate patience j.ends r
+AnswersRun d gate patience j (NotRun k) = IsClosedJob j k
 
 -- an instance may be run from here
 pub record IsReady (d : Drawing) (j : Job) : Type 0 where
@@ -48,9 +54,9 @@ pub record AreJobs (queues : Queues) (d : Drawing) (jobs : List Job) : Type 0 wh
   pub ready : All (IsReady d) jobs
 
 -- each was run, in their order
-abbrev pub HaveRun : Drawing → Bool → ℕ → List Job → List InstanceEnd → Type 0
-HaveRun d open' patience jobs ran =
-    AllZip (λ (j : Job) (r : InstanceEnd). RunsFrom d j.number open' patience j.ends r) jobs ran
+abbrev pub HaveRun : Drawing → Rule → ℕ → List Job → List InstanceEnd → Type 0
+HaveRun d gate patience jobs ran =
+    AllZip (λ (j : Job) (r : InstanceEnd). RunsFrom d j.number gate patience j.ends r) jobs ran
 
 -- The later instances, whose jobs these were, are closed. Beside them stands the one whose thread
 -- was refused, or its answer beside the answers
@@ -63,12 +69,12 @@ HaveStopped (NotRun k) jobs answers g =
 
 -- Of these jobs, in which the first instance stands last, the first ones were started, and each of
 -- their threads has answered; the others were not begun and their outlets are closed
-pub record HaveAnswered (d : Drawing) (open' : Bool) (patience : ℕ) (jobs : List Job) (g : Gathered)
+pub record HaveAnswered (d : Drawing) (gate : Rule) (patience : ℕ) (jobs : List Job) (g : Gathered)
     : Type 0 where
   pub others : List Job
   pub started : List Job
   pub whole : jobs ≡ others ++ started
-  pub answers : AllZip (AnswersRun d open' patience) started g.answers.items
+  pub answers : AllZip (AnswersRun d gate patience) started g.answers.items
   pub closed : AllZip IsClosedJob others g.unstarted.items
 
 -- the instance of this number has answered that it was not begun
@@ -82,6 +88,6 @@ IsRefused g i =
     ⊎ ((g.unstarted.items ≡ []) × HasNotRun g.answers.items i)
 
 -- Instance i was refused: those before it have answered, and it and all behind it are closed
-abbrev pub WasRefused : Drawing → Bool → ℕ → List Job → ℕ → Type 0
-WasRefused d open' patience jobs i =
-    (g : Gathered) × HaveAnswered d open' patience jobs g × IsRefused g i
+abbrev pub WasRefused : Drawing → Rule → ℕ → List Job → ℕ → Type 0
+WasRefused d gate patience jobs i =
+    (g : Gathered) × HaveAnswered d gate patience jobs g × IsRefused g i

@@ -1,6 +1,6 @@
 //! An instance while it runs.
 
-ghost use Rattle.std.specs.Prelude.{◌≡◌, ◌<◌, ◌≤◌, ◌+◌, false, ℕ, IsTrue};
+ghost use Rattle.std.specs.Prelude.{◌≡◌, ◌<◌, ◌≤◌, ◌+◌, ◌++◌, ◌∷◌, [], false, ℕ, IsTrue};
 ghost use Rattle.msc_chart.specs.Lists.{occurs};
 ghost use Rattle.msc_chart.specs.Charts.{before, is_controlled, is_local, is_output};
 ghost use Rattle.msc_fifo.specs.Ends.{IsSpentClock};
@@ -50,6 +50,7 @@ impl Active {
             → IsTrue (is_controlled chart.now.events self.new.next) }
         ensures first { self.new.first < post.now.end
             → occurs (logged_by self.new) self.new.first ≡ false }
+        ensures logged { logged_by self.new ≡ logged_by self.old }
         ensures shut { self.new.shut ≡ self.old.shut }
     {
         self.next = next_controlled(chart, self.next, post.end);
@@ -67,6 +68,8 @@ impl Active {
         ensures sent { HasSent self.old self.new }
         ensures next { IsTrue result → self.new.next ≡ self.old.next + 1 }
         ensures spent { result ≡ false → IsSpentClock self.new.clock }
+        ensures logged { IsTrue result
+            → logged_by self.new ≡ logged_by self.old ++ self.old.next ∷ [] }
         ensures kept { result ≡ false → logged_by self.new ≡ logged_by self.old }
         ensures shut { self.new.shut ≡ self.old.shut }
     {
@@ -92,6 +95,7 @@ impl Active {
         ensures sound { IsSound chart.now post.now self.new }
         ensures sent { HasSent self.old self.new }
         ensures next { self.new.next ≡ self.old.next + 1 }
+        ensures logged { logged_by self.new ≡ logged_by self.old ++ self.old.next ∷ [] }
         ensures shut { self.new.shut ≡ self.old.shut }
     {
         let e = self.next;

@@ -3,6 +3,8 @@
 ghost use Rattle.std.specs.Prelude.{◌≡◌, ◌≢◌, ℕ, ◌<◌, length, IfOk, IfErr, IsTrue};
 ghost use Rattle.msc_ending.specs.declared.end.End.TheVariants.{Stopped};
 ghost use Rattle.msc_execution.specs.Executions.{AreFinished, IsExecution, IsFinished, end_at};
+ghost use Rattle.msc_execution.specs.Executions.{log_at};
+ghost use Rattle.msc_instance.specs.Gates.{WasLet};
 ghost use Rattle.msc_instance.specs.Views.{outcome_of};
 
 use crate::gate::Gate;
@@ -52,6 +54,10 @@ pub fn run_chart<R: Threads + Wait + Sync, G: Gate + Sync>(
     // A gate that is known to be open stops nobody.
     ensures open { IfOk result (λ x.
         IsTrue G.is_open → (i : ℕ) → end_at (outcome_of x) i ≢ Stopped) }
+
+    // The gate has let each event of a log, but for an input at which its instance was stopped.
+    ensures asked { IfOk result (λ x. (i : ℕ) → i < length chart.now.instances
+        → WasLet (G.lets gate.now) chart.now i (log_at (outcome_of x) i) (end_at (outcome_of x) i)) }
     ensures started { IfErr result (λ f.
         (i : ℕ) → f ≡ RunFault.NotStarted i → i < length chart.now.instances) }
 {

@@ -1,7 +1,9 @@
 //! Rounds of takes.
 
 ghost use Rattle.std.specs.Prelude.{◌≡◌, true};
-ghost use Rattle.msc_instance.specs.Active.{IsSound, TookEach};
+ghost use Rattle.msc_instance.specs.Active.{IsSound, logged_by};
+ghost use Rattle.msc_instance.specs.Gates.{AreLet, EndsAtInput};
+ghost use Rattle.msc_instance.specs.Taking.{TookEach};
 
 use crate::active::{Active, Post};
 use crate::gate::Gate;
@@ -23,6 +25,12 @@ impl Active {
         requires sound { IsSound chart.now post.now self.old }
         ensures took { TookEach chart.now post.now self.old self.new result }
         ensures open { G.is_open ≡ true → result ≡ Round.Stopped → ⊥ }
+        ensures asked { (result ≡ Round.Stopped → ⊥)
+            → AreLet (G.lets gate.now) post.now.instance (logged_by self.old)
+            → AreLet (G.lets gate.now) post.now.instance (logged_by self.new) }
+        ensures last { result ≡ Round.Stopped
+            → AreLet (G.lets gate.now) post.now.instance (logged_by self.old)
+            → EndsAtInput (G.lets gate.now) chart.now post.now.instance (logged_by self.new) }
     {
         let mut found = false;
         for k in 0..self.inlets.len() {

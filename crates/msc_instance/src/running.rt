@@ -3,8 +3,9 @@
 ghost use Rattle.std.specs.Prelude.{◌≡◌, ◌↔◌, ◌<◌, ◌≤◌, [], length, IsTrue, vec_capacity};
 ghost use Rattle.msc_execution.specs.Roles.{role, IsFit};
 ghost use Rattle.msc_execution.specs.Logs.{line_events};
-ghost use Rattle.msc_execution.specs.Running.{AllHaveEnded, HasRun};
-ghost use Rattle.msc_instance.specs.Active.{EndsSo, IsSound};
+ghost use Rattle.msc_execution.specs.Running.{AllHaveEnded, AreEager, HasRun, SomeIdled};
+ghost use Rattle.msc_instance.specs.Active.{EndsSo, IsSound, logged_by};
+ghost use Rattle.msc_instance.specs.Gates.{AreLet, WasLet};
 ghost use Rattle.msc_instance.specs.Views.{ends_of, left_by};
 
 use crate::active::{Active, Post};
@@ -38,6 +39,10 @@ impl Active {
     fn run<G: Gate>(&mut self, chart: &Chart, post: &Post, gate: &G, patience: u32) -> End
         requires { IsSound chart.now post.now self.old }
         ensures ends { EndsSo chart.now post.now G.is_open patience self.new result }
+        ensures in_time { result ≡ End.Impatient → AreEager self.old.inlets.items
+            → SomeIdled patience self.new.inlets.items }
+        ensures asked { AreLet (G.lets gate.now) post.now.instance (logged_by self.old)
+            → WasLet (G.lets gate.now) chart.now post.now.instance (logged_by self.new) result }
         ensures untaken { patience ≡ 0 → self.new.inlets.items ≡ self.old.inlets.items }
     {
         let mut empty = 0;
@@ -86,6 +91,7 @@ pub fn run_instance<G: Gate>(
     requires room { length (line_events chart.now i) ≤ vec_capacity log }
     ensures run { HasRun (role ends.queues chart.now i) G.is_open patience (ends_of ends)
         (left_by result) }
+    ensures asked { WasLet (G.lets gate.now) chart.now i result.log.items result.end }
     ensures same { result.ends.queues ≡ ends.queues }
 {
     chart.accepted();

@@ -2,9 +2,12 @@
 
 ghost use Rattle.std.specs.Prelude.{◌≡◌, ◌<◌, ◌+◌, ℕ, false, true, IsTrue};
 ghost use Rattle.msc_chart.specs.Lists.{occurs};
-ghost use Rattle.msc_chart.specs.Charts.{before, is_controlled};
+ghost use Rattle.msc_chart.specs.Charts.{before, is_controlled, is_output};
 ghost use Rattle.msc_fifo.specs.Ends.{IsSpentClock};
-ghost use Rattle.msc_instance.specs.Active.{HasSent, IsBlocked, IsSound, logged_by};
+ghost use Rattle.msc_execution.specs.Running.{IsReadyToSend};
+ghost use Rattle.msc_instance.specs.Active.{AreClosed, HasSent, IsBlocked, IsSound, logged_by};
+ghost use Rattle.msc_instance.specs.Active.{post_role};
+ghost use Rattle.msc_instance.specs.Gates.{AreLet};
 
 use crate::active::{Active, Post};
 use crate::gate::Gate;
@@ -33,7 +36,11 @@ impl Active {
         ensures next { IsTrue result → self.new.next ≡ self.old.next + 1 }
         ensures stopped { G.is_open ≡ true → result ≡ false
             → IsSpentClock self.new.clock }
+        ensures output { G.is_open ≡ true → result ≡ false
+            → IsTrue (is_output chart.now.events self.old.next) }
         ensures kept { result ≡ false → logged_by self.new ≡ logged_by self.old }
+        ensures asked { AreLet (G.lets gate.now) post.now.instance (logged_by self.old)
+            → AreLet (G.lets gate.now) post.now.instance (logged_by self.new) }
         ensures shut { self.new.shut ≡ self.old.shut }
     {
         if !gate.at(post.instance, self.next) {
@@ -54,10 +61,15 @@ impl Active {
         ensures done { result ≡ Sending.Done → self.new.next ≡ post.now.end }
         ensures waits { result ≡ Sending.Waits
             → IsBlocked chart.now post.now.instance (logged_by self.new) }
+        ensures behind { result ≡ Sending.Waits → self.new.next < post.now.end }
         ensures stopped { G.is_open ≡ true → result ≡ Sending.Stopped
             → IsSpentClock self.new.clock }
+        ensures ready { G.is_open ≡ true → result ≡ Sending.Stopped
+            → IsReadyToSend (post_role chart.now post.now) (logged_by self.new) }
         ensures first { (result ≡ Sending.Stopped → ⊥) → self.new.first < post.now.end
             → occurs (logged_by self.new) self.new.first ≡ false }
+        ensures asked { AreLet (G.lets gate.now) post.now.instance (logged_by self.old)
+            → AreLet (G.lets gate.now) post.now.instance (logged_by self.new) }
         ensures shut { self.new.shut ≡ self.old.shut }
     {
         'events: loop {
@@ -86,6 +98,12 @@ impl Active {
             → occurs (logged_by self.new) self.new.first ≡ false }
         ensures stopped { G.is_open ≡ true → result ≡ false
             → IsSpentClock self.new.clock }
+        ensures ready { G.is_open ≡ true → result ≡ false
+            → IsReadyToSend (post_role chart.now post.now) (logged_by self.new) }
+        ensures closed { IsTrue result → self.new.next ≡ post.now.end
+            → AreClosed self.new.outlets.items }
+        ensures asked { AreLet (G.lets gate.now) post.now.instance (logged_by self.old)
+            → AreLet (G.lets gate.now) post.now.instance (logged_by self.new) }
     {
         match self.do_ready(chart, post, gate) {
             Sending::Stopped => return false,

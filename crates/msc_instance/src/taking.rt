@@ -2,7 +2,9 @@
 
 ghost use Rattle.std.specs.Prelude.{◌≡◌, ◌<◌, ◌↔◌, true, length, IsTrue};
 ghost use Rattle.msc_chart.specs.Orders.{queue_of};
-ghost use Rattle.msc_instance.specs.Active.{HasGot, IsSound, TookOne};
+ghost use Rattle.msc_instance.specs.Active.{HasGot, IsSound, logged_by};
+ghost use Rattle.msc_instance.specs.Gates.{AreLet, EndsAtInput};
+ghost use Rattle.msc_instance.specs.Taking.{TookOne};
 
 use crate::active::{Active, Post};
 use crate::gate::Gate;
@@ -42,6 +44,12 @@ impl Active {
         ensures took { TookOne chart.now post.now k self.old self.new result }
         ensures open { G.is_open ≡ true → result ≡ TakeStep.Stopped → ⊥ }
         ensures inlets { length self.new.inlets.items ≡ length self.old.inlets.items }
+        ensures asked { (result ≡ TakeStep.Stopped → ⊥)
+            → AreLet (G.lets gate.now) post.now.instance (logged_by self.old)
+            → AreLet (G.lets gate.now) post.now.instance (logged_by self.new) }
+        ensures last { result ≡ TakeStep.Stopped
+            → AreLet (G.lets gate.now) post.now.instance (logged_by self.old)
+            → EndsAtInput (G.lets gate.now) chart.now post.now.instance (logged_by self.new) }
     {
         let queue = self.inlets[k].0;
         let (m, clock) = match take_one(&mut self.inlets[k], self.clock) {

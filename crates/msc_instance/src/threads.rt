@@ -5,7 +5,7 @@ ghost use Rattle.std.specs.Prelude.{IfErr, MatchOption, vec_len, vec_capacity};
 ghost use Rattle.std.specs.List.{AllZip};
 ghost use Rattle.msc_execution.specs.Roles.{IsFit, role};
 ghost use Rattle.msc_instance.specs.Threads.{AnswersRun, AreJobs, HasNotRun, HaveAnswered, HaveRun};
-ghost use Rattle.msc_instance.specs.Threads.{HaveStopped, IsClosedJob, IsReady, WasRefused};
+ghost use Rattle.msc_instance.specs.Threads.{HaveStopped, IsClosedJob, IsReady, WasRefused, rule};
 ghost use Rattle.msc_instance.specs.Views.{ends_of};
 
 use crate::ends::{InstanceEnd, InstanceEnds};
@@ -58,9 +58,10 @@ struct Ran<'a, G> {
 }
 
 impl<'a, G: Gate> Promise<Answer> for Ran<'a, G> {
-    ghost use Rattle.msc_instance.specs.Threads.{AnswersRun};
+    ghost use Rattle.msc_instance.specs.Threads.{AnswersRun, rule};
 
-    ghost kept_by = { λ p r. AnswersRun p.chart.now G.is_open p.patience p.job.value r };
+    ghost kept_by = { λ p r. AnswersRun p.chart.now (rule G.is_open (G.lets p.gate.now))
+        p.patience p.job.value r };
 }
 
 /// What an instance starts from, with these ends.
@@ -114,7 +115,7 @@ fn close_each(jobs: &mut [Job])
 /// Runs an instance once all threads were started, or closes its outlets where one was refused.
 fn run_job<G: Gate>(chart: &Chart, mut job: Job, gate: &G, patience: u32, start: &Start) -> Answer
     requires ready { IsReady chart.now job }
-    ensures { AnswersRun chart.now G.is_open patience job result }
+    ensures { AnswersRun chart.now (rule G.is_open (G.lets gate.now)) patience job result }
 {
     if start.was_refused() {
         close(&mut job);
@@ -173,7 +174,8 @@ fn run_rest<'s, 'e, R: Threads + Wait + Sync, G: Gate + Sync>(
     requires jobs { All (IsReady chart.now) jobs.items }
     requires empty { answers.items ≡ [] }
     requires room { vec_len jobs ≤ vec_capacity answers }
-    ensures answered { HaveAnswered chart.entry.now G.is_open patience jobs.items result }
+    ensures answered { HaveAnswered chart.entry.now (rule G.is_open (G.lets gate.entry.now))
+        patience jobs.items result }
     ensures room { vec_capacity result.answers ≡ vec_capacity answers }
 {
     let Some(job) = next_job(chart, &mut jobs) else {
@@ -193,7 +195,8 @@ fn run_rest<'s, 'e, R: Threads + Wait + Sync, G: Gate + Sync>(
         promise,
         move || -> Answer
             requires ready { IsReady chart.now job }
-            ensures answered { AnswersRun chart.entry.now G.is_open patience job result }
+            ensures answered { AnswersRun chart.entry.now (rule G.is_open (G.lets gate.entry.now))
+                patience job result }
         { run_job(chart, job, gate, patience, start) },
     ) {
         Err(refusal) => {
@@ -220,7 +223,8 @@ fn in_scope<R: Threads + Wait + Sync, G: Gate + Sync>(
     requires jobs { All (IsReady chart.now) jobs.items }
     requires empty { answers.items ≡ [] }
     requires room { vec_len jobs ≤ vec_capacity answers }
-    ensures answered { HaveAnswered chart.now G.is_open patience jobs.items result }
+    ensures answered { HaveAnswered chart.now (rule G.is_open (G.lets gate.now))
+        patience jobs.items result }
     ensures room { vec_capacity result.answers ≡ vec_capacity answers }
 {
     let start = Start::new();
@@ -232,7 +236,8 @@ fn in_scope<R: Threads + Wait + Sync, G: Gate + Sync>(
             requires jobs { All (IsReady chart.now) jobs.items }
             requires empty { answers.items ≡ [] }
             requires room { vec_len jobs ≤ vec_capacity answers }
-            ensures answered { HaveAnswered chart.entry.now G.is_open patience jobs.items result }
+            ensures answered { HaveAnswered chart.entry.now (rule G.is_open (G.lets gate.entry.now))
+                patience jobs.items result }
             ensures room { vec_capacity result.answers ≡ vec_capacity answers }
         { run_rest(rt, scope, chart, gate, patience, start, jobs, answers) },
     )
@@ -270,8 +275,9 @@ pub(crate) fn run_all<R: Threads + Wait + Sync, G: Gate + Sync>(
     requires empty { (answers.items ≡ []) × (back.items ≡ []) }
     requires room { (vec_len jobs ≤ vec_capacity answers) × (vec_len jobs ≤ vec_capacity back) }
     ensures runs { IfOk result (λ ran.
-        HaveRun chart.now G.is_open patience jobs.items ran.items) }
-    ensures refused { IfErr result (WasRefused chart.now G.is_open patience (reverse jobs.items)) }
+        HaveRun chart.now (rule G.is_open (G.lets gate.now)) patience jobs.items ran.items) }
+    ensures refused { IfErr result (WasRefused chart.now (rule G.is_open (G.lets gate.now))
+        patience (reverse jobs.items)) }
     ensures known { IfErr result (λ i. i < length chart.now.instances) }
 {
     jobs.reverse();

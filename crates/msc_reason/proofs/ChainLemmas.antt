@@ -11,12 +11,19 @@ use Rattle.msc_reason.specs.declared.why.Why.{Why}
 use Rattle.msc_reason.specs.declared.why.Why.TheVariants.{Straight, ByQueue}
 use Rattle.msc_reason.specs.Chains.{Step, LeadsTo, IsChain, IsWhy}
 use Rattle.msc_reason.specs.Chains.Step.{below, over}
+use Rattle.msc_reason.specs.Rules.{IsChosenStep, LeadsByRule}
 use Rattle.msc_reason.proofs.OnePair.{queued_before, share_from}
 
 -- what leads to an event, and on from there, leads all the way
 pub leads_on : (events : List ChartEvent) (x : ℕ) (steps : List ℕ) (y : ℕ) (more : List ℕ) (z : ℕ) → LeadsTo events x steps y → LeadsTo events y more z → LeadsTo events x (steps ++ more) z
 leads_on events x [] y more z h k = subst (λ (w : ℕ). LeadsTo events w more z) (sym h) k
 leads_on events x (s ∷ steps) y more z h k = (h.0, leads_on events s steps y more z h.1 k)
+
+-- a chain that is chosen goes on by a chosen step
+pub rule_on : (chart : WiredChart) (y x : ℕ) (steps : List ℕ) (z next : ℕ) → LeadsByRule chart y x steps z → IsChosenStep chart z y next
+    → LeadsByRule chart y x (steps ++ next ∷ []) next
+rule_on chart y x [] z next h step = (subst (λ (w : ℕ). IsChosenStep chart w y next) (sym h) step, refl)
+rule_on chart y x (s ∷ steps) z next h step = (h.0, rule_on chart y s steps z next h.1 step)
 
 -- a list with something before another one is not empty
 some_first : (xs ys : List ℕ) → xs ≢ [] → (xs ++ ys) ≢ []

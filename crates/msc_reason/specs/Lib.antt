@@ -2,8 +2,9 @@
 pub mod Closest
 pub mod Lacks
 pub mod Chains
+pub mod Links
+pub mod Rules
 pub mod Reasons
 pub mod Laws
 -- what the code keeps
 pub mod Ranges
-pub mod Links

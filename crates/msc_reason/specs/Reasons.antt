@@ -7,7 +7,7 @@ use Rattle.msc_reason.specs.declared.lack.Lack.{Lack}
 use Rattle.msc_reason.specs.declared.why.Why.{Why}
 use Rattle.msc_reason.specs.declared.reason.Reason.{Reason}
 use Rattle.msc_reason.specs.declared.reason.Reason.TheVariants.{Enforced as EnforcedBy, Free}
-use Rattle.msc_reason.specs.Chains.{IsWhy}
+use Rattle.msc_reason.specs.Rules.{IsChosenWhy}
 use Rattle.msc_reason.specs.Lacks.{IsLackOf}
 
 -- e is not enforced before f
@@ -32,9 +32,9 @@ pub record IsFreeBy (chart : WiredChart) (e f : ℕ) (run : List ℕ) (lack : Op
   pub whole : IsWhole chart run
   pub reverses : Reverses run e f
   pub race : MatchOption lack (IsNoRace chart e f) (IsRaceWith chart e f)
-  pub turned : MatchOption late (IsNotEnforced chart f e) (IsWhy chart f e)
+  pub turned : MatchOption late (IsNotEnforced chart f e) (IsChosenWhy chart f e)
 
 -- what is said of a pair of events is right
 abbrev pub IsReason : WiredChart → ℕ → ℕ → Reason → Type 0
-IsReason chart e f (EnforcedBy why) = IsWhy chart e f why
+IsReason chart e f (EnforcedBy why) = IsChosenWhy chart e f why
 IsReason chart e f (Free run lack late) = IsFreeBy chart e f run lack late

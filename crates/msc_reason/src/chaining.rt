@@ -9,8 +9,10 @@ ghost use Rattle.msc_chart.specs.Charts.{is_input};
 ghost use Rattle.msc_chart.specs.Orders.{wired, Enforced, IsEnforcedOrder};
 ghost use Rattle.msc_order.specs.Caused.{Caused, InQueueOrder, IsFollowedBy};
 ghost use Rattle.msc_order.specs.Tables.{orders};
-ghost use Rattle.msc_reason.specs.Chains.{IsWhy, LeadsTo, Step};
-ghost use Rattle.msc_reason.specs.Links.{HasNoLink, IsNextStep, IsMate, Reaches};
+ghost use Rattle.msc_reason.specs.Chains.{LeadsTo, Step};
+ghost use Rattle.msc_reason.specs.Links.{HasNoLink, IsMate, Reaches};
+ghost use Rattle.msc_reason.specs.Rules.{IsChosenStep, IsChosenWhy, IsFirstMate, IsLastLink};
+ghost use Rattle.msc_reason.specs.Rules.{LeadsByRule};
 
 use crate::why::Why;
 use listed::Listed;
@@ -38,7 +40,7 @@ fn last_link(chart: &Chart, queues: Queues, order: &Order, x: Event, y: Event) -
     requires x_known { x < length chart.now.events }
     requires y_known { y < length chart.now.events }
     ensures { MatchOption result (HasNoLink (wired queues chart.now) x y)
-        (IsNextStep (wired queues chart.now) x y) }
+        (IsLastLink (wired queues chart.now) x y) }
 {
     chart.accepted();
     let start = chart.segment_end(x);
@@ -59,6 +61,7 @@ fn next_step(chart: &Chart, queues: Queues, order: &Order, x: Event, y: Event) -
     requires caused { Caused chart.now.events x y }
     ensures step { Step chart.now.events x result }
     ensures onward { IsFollowedBy chart.now.events result y }
+    ensures chosen { IsChosenStep (wired queues chart.now) x y result }
 {
     ends_share_queues();
     chart.accepted();
@@ -80,7 +83,8 @@ fn walk(
     requires enforced { IsEnforcedOrder (wired queues chart.now) (orders order.now) }
     requires square { length order.now ≡ length chart.now.events }
     requires onward { IsFollowedBy chart.now.events x y }
-    ensures { IfOk result (λ steps. LeadsTo chart.now.events x steps y) }
+    ensures { IfOk result (λ steps. LeadsTo chart.now.events x steps y
+        × LeadsByRule (wired queues chart.now) y x steps y) }
 {
     the_enforced_order_has_no_cycle();
     ends_share_queues();
@@ -149,7 +153,7 @@ fn first_mate(chart: &Chart, queues: Queues, order: &Order, e: Event, f: Event) 
     requires input { IsTrue (is_input chart.now.events e) }
     requires f_known { f < length chart.now.events }
     requires some { (u : ℕ) × IsMate (wired queues chart.now) e f u }
-    ensures { IsMate (wired queues chart.now) e f result }
+    ensures { IsFirstMate (wired queues chart.now) e f result }
 {
     for u in 0..chart.events() {
         if is_mate(chart, queues, order, e, f, u) {
@@ -159,7 +163,9 @@ fn first_mate(chart: &Chart, queues: Queues, order: &Order, e: Event, f: Event) 
     e
 }
 
-/// What shows that `e` is enforced before `f`, step by step. `order` is the enforced order of the
+/// What shows that `e` is enforced before `f`, step by step; of several the one that the rule
+/// gives: a chain where there is one, otherwise the first input that serves, and of each chain the
+/// last events that lead on. `order` is the enforced order of the
 /// chart, and holds the pair. An error is a growth of memory that was refused.
 pub fn why_of(
     alloc: Global,
@@ -172,7 +178,7 @@ pub fn why_of(
     requires enforced { IsEnforcedOrder (wired queues chart.now) (orders order.now) }
     requires square { length order.now ≡ length chart.now.events }
     requires pair { Enforced (wired queues chart.now) e f }
-    ensures { IfOk result (IsWhy (wired queues chart.now) e f) }
+    ensures { IfOk result (IsChosenWhy (wired queues chart.now) e f) }
 {
     the_enforced_order_has_no_cycle();
     ends_share_queues();

@@ -3,8 +3,8 @@
 ghost use Rattle.std.specs.Prelude.{◌≡◌, ◌≢◌, ◌<◌, length, IfOk, MatchOption};
 ghost use Rattle.msc_chart.specs.Orders.{wired, IsEnforcedOrder};
 ghost use Rattle.msc_order.specs.Tables.{orders};
-ghost use Rattle.msc_reason.specs.Chains.{IsWhy};
 ghost use Rattle.msc_reason.specs.Reasons.{IsReason, IsNoRace, IsNotEnforced, IsRaceWith};
+ghost use Rattle.msc_reason.specs.Rules.{IsChosenWhy};
 
 use crate::chaining::why_of;
 use crate::lack::Lack;
@@ -46,7 +46,7 @@ fn why_if_enforced(
     requires e_known { e < length chart.now.events }
     requires f_known { f < length chart.now.events }
     ensures { IfOk result (λ why. MatchOption why (IsNotEnforced (wired queues chart.now) e f)
-        (IsWhy (wired queues chart.now) e f)) }
+        (IsChosenWhy (wired queues chart.now) e f)) }
 {
     if order.holds(e, f) {
         return Ok(Some(why_of(alloc, chart, queues, order, e, f)?));

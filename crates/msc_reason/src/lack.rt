@@ -10,7 +10,7 @@ use msc_chart::Event;
 pub enum RaceKind {
     /// An output or a local event, then an input: the input can come before what is drawn above it.
     Early,
-    /// Two inputs by two queues: nothing orders their outputs.
+    /// Two inputs by two queues, in whichever order their outputs come.
     Queues,
     /// Two inputs by one queue: nothing orders their outputs.
     Unordered,

@@ -56,9 +56,9 @@ module _ (queues : Queues) (d : Drawing) (accepted : IsAccepted d) where
 
   -- a reason names events
   pub names_all : (e f : ℕ) (reason : Reason) → e < length d.events → f < length d.events → IsReason (wired queues d) e f reason → NamesAll d reason
-  names_all e f (Enforced why) e_known f_known is = names_events e f why is
+  names_all e f (Enforced why) e_known f_known is = names_events e f why is.0
   names_all e f (Free run None None) e_known f_known is = (tt, tt)
-  names_all e f (Free run None (Some why)) e_known f_known is = (tt, names_events f e why is.turned)
+  names_all e f (Free run None (Some why)) e_known f_known is = (tt, names_events f e why is.turned.0)
   names_all e f (Free run (Some lack) None) e_known f_known is = (lack_known e f lack e_known f_known is.race.1, tt)
   names_all e f (Free run (Some lack) (Some why)) e_known f_known is =
-      (lack_known e f lack e_known f_known is.race.1, names_events f e why is.turned)
+      (lack_known e f lack e_known f_known is.race.1, names_events f e why is.turned.0)

@@ -46,7 +46,7 @@ prints_pair queues d e f (reasons.Enforced why) printed accepted enough two righ
   two = two;
   reason = reasons.Enforced why;
   right = right;
-  answered = (λ yes. enough queues d accepted e f why right, λ enforced. refl);
+  answered = (λ yes. enough queues d accepted e f why right.0, λ enforced. refl);
   text = text;
 }
 prints_pair queues d e f (reasons.Free run lack late) printed accepted enough two right text = record {

@@ -1,18 +1,20 @@
 //! Instances run one by one in the thread of the test.
 
 use crate::host::{Host, chart_of};
-use example_charts::{ONE_MESSAGE, RELAY};
+use example_charts::{ONE_MESSAGE, RELAY, TWO_SENDERS};
 use msc_chart::{Chart, Event, Queues};
 use msc_instance::{AlwaysOpen, End, Gate, InstanceEnds, run_instance, wire};
 
 /// The gate that says no to one event.
 #[derive(Clone, Copy)]
-struct Never(Event);
+pub struct Never(pub Event);
 
 impl Gate for Never {
-    ghost use Rattle.std.specs.Prelude.{false};
+    ghost use Rattle.std.specs.Prelude.{false, nat_eq, not};
 
     ghost is_open = { false };
+
+    ghost lets = { λ gate _ event. not (nat_eq event gate.0) };
 
     fn at(&self, _instance: u32, event: Event) -> bool {
         event != self.0
@@ -32,6 +34,19 @@ fn is_left<G: Gate>(
     gate: &G,
     wanted: Left,
 ) -> bool {
+    is_left_after(rt, chart, i, ends, gate, 3, wanted)
+}
+
+/// The same with another patience.
+fn is_left_after<G: Gate>(
+    rt: &impl Host,
+    chart: &Chart,
+    i: u32,
+    ends: Option<InstanceEnds>,
+    gate: &G,
+    patience: u32,
+    wanted: Left,
+) -> bool {
     let Some(ends) = ends else {
         return false;
     };
@@ -42,7 +57,7 @@ fn is_left<G: Gate>(
     let Ok(log) = Vec::with_capacity(rt.alloc(), end.saturating_sub(start) as usize) else {
         panic!(rt; "memory");
     };
-    let left = run_instance(chart, i, ends, gate, 3, log);
+    let left = run_instance(chart, i, ends, gate, patience, log);
     left.end == wanted.0 && left.log.as_slice() == wanted.1
 }
 
@@ -127,4 +142,88 @@ fn is_spent(rt: &impl Host) -> bool {
 #[test]
 fn a_clock_that_is_spent(rt: HostRuntime) {
     assert!(rt; is_spent(&rt));
+}
+
+/// Whether the sender of a chart of one message, without patience, sends it, and the receiver,
+/// without patience, takes nothing.
+fn takes_nothing_in(rt: &impl Host, chart: &Chart) -> bool {
+    let mut ends = wire(rt.alloc(), chart, Queues::Pair).expect(rt, "ends");
+    let takes = ends.pop();
+    let sent = (End::Finished, [0].as_slice());
+    let untaken = (End::Impatient, [].as_slice());
+    is_left_after(rt, chart, 0, ends.pop(), &AlwaysOpen, 0, sent)
+        && is_left_after(rt, chart, 1, takes, &AlwaysOpen, 0, untaken)
+}
+
+/// Whether those of `one_message` do.
+fn takes_nothing(rt: &impl Host) -> bool {
+    takes_nothing_in(rt, &chart_of(rt, ONE_MESSAGE))
+}
+
+#[test]
+fn without_patience_nothing_is_taken(rt: HostRuntime) {
+    assert!(rt; takes_nothing(&rt));
+}
+
+/// Whether the second of three instances logs both its inputs in this order, run after the third
+/// and then the first have sent.
+fn takes_in_order_in(rt: &impl Host, chart: &Chart) -> bool {
+    let mut ends = wire(rt.alloc(), chart, Queues::Pair).expect(rt, "ends");
+    let (third, second) = (ends.pop(), ends.pop());
+    let (last, first) = (
+        (End::Finished, [3].as_slice()),
+        (End::Finished, [0].as_slice()),
+    );
+    is_left(rt, chart, 2, third, &AlwaysOpen, last)
+        && is_left(rt, chart, 0, ends.pop(), &AlwaysOpen, first)
+        && is_left(rt, chart, 1, second, &AlwaysOpen, (End::Finished, &[1, 2]))
+}
+
+/// Whether that of `two_senders` does.
+fn takes_in_order(rt: &impl Host) -> bool {
+    takes_in_order_in(rt, &chart_of(rt, TWO_SENDERS))
+}
+
+#[test]
+fn a_round_goes_over_the_inlets_from_the_first_on(rt: HostRuntime) {
+    assert!(rt; takes_in_order(&rt));
+}
+
+/// An instance with three inlets, to the first of which two messages come.
+const THREE_SENDERS: &[u8] = b"msc t; instance a; out p to b; out q to b; endinstance; \
+instance b; in p from a; in q from a; in r from c; in s from d; endinstance; \
+instance c; out r to b; endinstance; instance d; out s to b; endinstance; endmsc;";
+
+/// Whether the second of four instances takes once from each of its three inlets, and then the
+/// second message of the first, where all others have sent.
+fn takes_once_in(rt: &impl Host, chart: &Chart) -> bool {
+    let mut ends = wire(rt.alloc(), chart, Queues::Pair).expect(rt, "ends");
+    let (fourth, third, second) = (ends.pop(), ends.pop(), ends.pop());
+    is_left(
+        rt,
+        chart,
+        0,
+        ends.pop(),
+        &AlwaysOpen,
+        (End::Finished, &[0, 1]),
+    ) && is_left(rt, chart, 2, third, &AlwaysOpen, (End::Finished, &[6]))
+        && is_left(rt, chart, 3, fourth, &AlwaysOpen, (End::Finished, &[7]))
+        && is_left(
+            rt,
+            chart,
+            1,
+            second,
+            &AlwaysOpen,
+            (End::Finished, &[2, 4, 5, 3]),
+        )
+}
+
+/// Whether that of `three_senders` does.
+fn takes_once(rt: &impl Host) -> bool {
+    takes_once_in(rt, &chart_of(rt, THREE_SENDERS))
+}
+
+#[test]
+fn a_round_takes_once_from_each_inlet(rt: HostRuntime) {
+    assert!(rt; takes_once(&rt));
 }

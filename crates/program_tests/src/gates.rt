@@ -1,6 +1,7 @@
 //! Gates that make instances wait for each other, so that an execution shows which of them ran at
 //! the same time, and gates that stop them.
 
+use crate::alone::Never;
 use crate::host::{Parallel, chart_of};
 use crate::together::{PATIENCE, Wanted, is_execution};
 use example_charts::{RELAY, TWO_SENDERS};
@@ -39,9 +40,11 @@ fn meets(one: &AtomicBool, other: &AtomicBool) -> bool {
 }
 
 impl Gate for Meeting {
-    ghost use Rattle.std.specs.Prelude.{false};
+    ghost use Rattle.std.specs.Prelude.{false, true};
 
     ghost is_open = { false };
+
+    ghost lets = { λ _ _ _. true };
 
     fn at(&self, _instance: u32, event: Event) -> bool {
         self.asked.fetch_add(1, Ordering::SeqCst);
@@ -102,9 +105,11 @@ struct InOrder {
 }
 
 impl Gate for InOrder {
-    ghost use Rattle.std.specs.Prelude.{false};
+    ghost use Rattle.std.specs.Prelude.{false, nat_eq, not};
 
     ghost is_open = { false };
+
+    ghost lets = { λ gate _ event. not (nat_eq event gate.never) };
 
     fn at(&self, _instance: u32, event: Event) -> bool {
         if event == 2 {
@@ -218,4 +223,34 @@ fn is_left(rt: &impl Parallel, put: &[u32]) -> bool {
 #[test]
 fn what_nobody_takes_is_left_in_the_mailbox(rt: HostRuntime) {
     assert!(rt; is_left(&rt, &[2]));
+}
+
+/// In this chart x waits for what z sends, and b for what x sends then.
+const HELD_UP: &[u8] = b"msc t; instance x; in p from z; in s from b; out r to b; endinstance; \
+instance b; out s to x; in r from x; endinstance; instance z; out p to x; endinstance; endmsc;";
+
+/// How the instances of `held_up` end where z may not send. Nobody's patience is needed: b closes
+/// its outlet as soon as it has sent, and so x sees that nobody sends to it any more.
+const HELD: Wanted = (
+    &[End::Starved, End::Starved, End::Stopped],
+    &[&[1], &[3], &[]],
+);
+
+/// Whether the instances of a chart end so where the gate says no to event 5.
+fn are_held_in(rt: &impl Parallel, chart: &Chart) -> bool {
+    let execution = run_chart(rt, rt.alloc(), chart, Queues::Pair, &Never(5), PATIENCE).expect(
+        rt,
+        "an execution",
+    );
+    is_execution(&execution, HELD)
+}
+
+/// Whether those of `held_up` do.
+fn are_held(rt: &impl Parallel) -> bool {
+    are_held_in(rt, &chart_of(rt, HELD_UP))
+}
+
+#[test]
+fn who_has_sent_all_closes_its_outlets(rt: HostRuntime) {
+    assert!(rt; are_held(&rt));
 }

@@ -146,9 +146,11 @@ impl Waiting {
 }
 
 impl Gate for Waiting {
-    ghost use Rattle.std.specs.Prelude.{false};
+    ghost use Rattle.std.specs.Prelude.{false, true};
 
     ghost is_open = { false };
+
+    ghost lets = { λ _ _ _. true };
 
     fn at(&self, _instance: u32, event: Event) -> bool {
         let Some(asked) = self.asked.get(event as usize) else {

@@ -16,7 +16,7 @@ use Rattle.msc_execution.specs.Logs.{Reading, clock_along}
 use Rattle.msc_execution.specs.Running.{Left, IsRunBy, EndsAs}
 use Rattle.msc_execution.specs.Executions.{Outcome, IsExecution, log_at, end_at}
 use Rattle.msc_execution.specs.Clocks.{messages, place_clock}
-use Rattle.msc_execution.specs.Timed.{IsTimed}
+use Rattle.msc_execution.specs.Timed.{IsTimed, all_puts}
 use Rattle.msc_execution.specs.Shown.{shown_places, trace_in}
 use Rattle.msc_execution.proofs.Timed.{trace_is_run}
 use Rattle.msc_execution.proofs.Bounded.{clocks_bounded, places_bounded}
@@ -96,10 +96,15 @@ module _ {queues : Queues} {d : Drawing} {open' : Bool} {patience : ℕ} {o : Ou
     pub has_merge : HasNoMerge (wired queues d) (length d.instances) o.logs → ⊥
     has_merge none = none (trace_in queues d o) is_run.0 is_run.1
 
-    -- no clock along a log is greater than the number of messages
+    -- no more messages are put than the chart has
+    pub puts_few : length (all_puts (wired queues d) o.logs) ≤ length d.messages
+    puts_few = few_puts queues d accepted o.logs (shown_places d o) timed_by
+
+    -- no clock along a log is greater than the number of messages that are put
     pub clocks_few : (i : ℕ) (below : i < length d.instances) (past rest : List ℕ)
         → log_at o i ≡ past ++ rest
-        → clock_along d (exec.runs i below).reading.read_at past ≤ length d.messages
+        → clock_along d (exec.runs i below).reading.read_at past
+        ≤ length (all_puts (wired queues d) o.logs)
     clocks_few i below past rest split =
         let has = exec.runs i below in
         let own : IsRead queues d open' patience o = record {
@@ -115,16 +120,12 @@ module _ {queues : Queues} {d : Drawing} {open' : Bool} {patience : ℕ} {o : Ou
         ≡ clock_along d (read_with i has.reading i).read_at past =
         ap (λ (r : Reading). clock_along d r.read_at past) (sym (read_own i has.reading)) in
         let bound = clocks_bounded seated timed_by i past rest below split in
-        let puts = few_puts queues d accepted o.logs (shown_places d o) timed_by in
         omega arith
 
     -- nor is one of a place
     pub places_few : (q s : ℕ) → occurs (messages (shown_places d o q)) s ≡ true
-        → place_clock (shown_places d o q) s ≤ length d.messages
-    places_few q s there =
-        let bound = places_bounded seated timed_by q s there in
-        let puts = few_puts queues d accepted o.logs (shown_places d o) timed_by in
-        omega arith
+        → place_clock (shown_places d o q) s ≤ length (all_puts (wired queues d) o.logs)
+    places_few q s there = places_bounded seated timed_by q s there
 
     -- so with an open gate no instance is stopped
     pub none_stopped : open' ≡ true → (i : ℕ) → end_at o i ≡ Stopped → ⊥
@@ -137,6 +138,7 @@ module _ {queues : Queues} {d : Drawing} {open' : Bool} {patience : ℕ} {o : Ou
               (left i) has.run.strange e) stopped has.run.ended in
               let spent = ended.1 is_open in
               let bound = clocks_few i below (log_at o i) [] (sym (append-nil (log_at o i))) in
+              let puts = puts_few in
               let few = accepted.few_messages in
               omega arith
           | inr past ↦

@@ -1,5 +1,5 @@
 -- The claims of the sample are the places of its queue.
-use Rattle.std.proofs.Common.{◌≡◌, ℕ, zero, suc, ◌<◌, ◌≤◌, true, [], ◌∷◌, get_or, Some, slice_get, refl, sym, ap, arith}
+use Rattle.std.proofs.Common.{◌≡◌, ℕ, zero, suc, ◌<◌, ◌≤◌, true, false, [], ◌∷◌, get_or, Some, slice_get, refl, sym, ap, arith}
 use Rattle.std.specs.Prelude.{count_by, nat_eq}
 use Rattle.msc_chart.proofs.ListLemmas.{clash}
 use Rattle.msc_fifo.specs.Identity.{QueueId}
@@ -48,6 +48,10 @@ module _ (id : QueueId) where
         → c.clock ≡ 1) all_claims c c_in.0
         (λ _. refl, (λ _. refl, (λ h. clash h refl, (λ h. clash h refl, tt)))) c_in.1 message in
         (get_or all_claims 0 c, (0, refl), refl, sym is);
+    marks = λ c c_in mark.
+        each_at (λ (c : Claim). is_message c.entry ≡ false
+        → c.clock ≡ 0) all_claims c c_in.0
+        (λ h. clash refl h, (λ h. clash refl h, (λ _. refl, (λ _. refl, tt)))) c_in.1 mark;
   }
     where
       -- the place of each claim is its number

@@ -196,6 +196,7 @@ module _ (id : QueueId) where
       got = own_got;
       ended =
           (λ q. refl, own_whole);
+      in_time = λ late. absurd cc;
       untaken = λ zero. absurd cc;
     };
   }
@@ -208,6 +209,7 @@ module _ (id : QueueId) where
       got = other_got;
       ended =
           (λ q. refl, other_whole);
+      in_time = λ late. absurd cc;
       untaken = λ zero. absurd cc;
     };
   }

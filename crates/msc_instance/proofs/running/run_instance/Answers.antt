@@ -1,8 +1,10 @@
 use Rattle.std.proofs.Common.{refl, ap, sym, ◌∙◌, subst, arith}
 use Rattle.std.specs.Vec.{with_items}
 use Rattle.std.proofs.lemmas.List.{with_items_is}
+use Rattle.msc_chart.specs.Lists.{occurs}
+use Rattle.msc_chart.proofs.ListLemmas.{clash}
 use Rattle.msc_execution.specs.Roles.{EndLists, role}
-use Rattle.msc_execution.specs.Running.{HasRun}
+use Rattle.msc_execution.specs.Running.{AreEager, HasRun}
 use Rattle.msc_instance.specs.Active.{IsPost}
 use Rattle.msc_instance.specs.Views.{ends_of}
 use Rattle.msc_instance.proofs.Beginning.{begins}
@@ -61,6 +63,14 @@ returns-clause-run g c =
     (ends_of c.of-began.result.value) a.shut a.outlets.items
     (with_items a.outlets c.close_all.new.outlets).items a.inlets.items a.journal.log.items c.run-last.result
     (rw (same, ← c.as_mut_slice.ensures.value) c.close_all.ensures)
+    (λ late eager. c.run-last.ensures.in_time late
+    (subst (λ (first : EndLists). AreEager first.inlets) (ap ends_of c.of-began.ensures) eager))
     (λ zero. c.run-last.ensures.untaken zero
     ∙ ap (λ (first : EndLists). first.inlets) (ap ends_of (sym c.of-began.ensures)))
     c.run-last.ensures.ends)
+
+pub returns-clause-asked : goal.returns-clause-asked
+unfolding occurs
+returns-clause-asked g c =
+    c.run-last.ensures.asked
+    (λ e there. clash (sym (ap (λ l. occurs l e) (ap (λ l. l.items) c.new.ensures ∙ c.requires.empty)) ∙ there) refl)

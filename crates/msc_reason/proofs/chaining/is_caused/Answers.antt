@@ -7,7 +7,8 @@ use Rattle.msc_chart.proofs.Drawn.{output_controlled}
 use Rattle.msc_chart.proofs.ListLemmas.{clash}
 use Rattle.msc_order.specs.Caused.{Caused}
 use Rattle.msc_order.proofs.Once.{caused_enforced}
-use Rattle.msc_reason.specs.Links.{HasNoLink, IsNextStep}
+use Rattle.msc_reason.specs.Links.{HasNoLink}
+use Rattle.msc_reason.specs.Rules.{IsLastLink}
 use Rattle.msc_reason.proofs.Walking.{controlled_caused, link_caused, over_step}
 use Rattle.msc_reason.proofs.chaining.is_caused.Goals as goal
 
@@ -22,13 +23,13 @@ returns-then-is_controlled c =
 
 -- an event that is not controlled is caused before another exactly where a link was found
 told : (chart : WiredChart) → IsWired chart → (x y : ℕ) → is_controlled chart.events x ≡ false
-    → (link : Option ℕ) → MatchOption link (HasNoLink chart x y) (IsNextStep chart x y)
+    → (link : Option ℕ) → MatchOption link (HasNoLink chart x y) (IsLastLink chart x y)
     → (is_some link ≡ true) ↔ Caused chart.events x y
 told chart is_wired x y none None h = (
   λ no. clash no refl,
   λ caused. clash (output_controlled chart.events x (over_step chart x y caused h).0) none,
 )
-told chart is_wired x y none (Some z) h = (λ yes. link_caused chart is_wired x y z h, λ caused. refl)
+told chart is_wired x y none (Some z) h = (λ yes. link_caused chart is_wired x y z h.0, λ caused. refl)
 
 pub returns : goal.returns
 returns c =

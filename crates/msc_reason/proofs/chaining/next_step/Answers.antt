@@ -1,5 +1,5 @@
 use Rattle.msc_order.specs.Caused.{IsFollowedBy}
-use Rattle.std.proofs.Common.{ℕ, sym, subst}
+use Rattle.std.proofs.Common.{ℕ, inl, inr, sym, subst}
 use Rattle.msc_chart.specs.Orders.{wired}
 use Rattle.msc_order.proofs.Once.{caused_enforced}
 use Rattle.msc_race.proofs.Runs.EnforcedPairs.{enforced_below}
@@ -24,11 +24,11 @@ other_end-requires c =
 
 pub returns-in-Some-clause-step : goal.returns-in-Some-clause-step
 returns-in-Some-clause-step c =
-    (link_step (wired c.args.queues c.args.chart.now) (c.ends_share_queues.ensures c.args.queues c.args.chart.now c.accepted.ensures) c.args.x c.args.y c.in-Some.z c.in-Some.ensures).0
+    (link_step (wired c.args.queues c.args.chart.now) (c.ends_share_queues.ensures c.args.queues c.args.chart.now c.accepted.ensures) c.args.x c.args.y c.in-Some.z c.in-Some.ensures.0).0
 
 pub returns-in-Some-clause-onward : goal.returns-in-Some-clause-onward
 returns-in-Some-clause-onward c =
-    (link_step (wired c.args.queues c.args.chart.now) (c.ends_share_queues.ensures c.args.queues c.args.chart.now c.accepted.ensures) c.args.x c.args.y c.in-Some.z c.in-Some.ensures).1
+    (link_step (wired c.args.queues c.args.chart.now) (c.ends_share_queues.ensures c.args.queues c.args.chart.now c.accepted.ensures) c.args.x c.args.y c.in-Some.z c.in-Some.ensures.0).1
 
 pub returns-in-None-clause-step : goal.returns-in-None-clause-step
 returns-in-None-clause-step c =
@@ -39,3 +39,9 @@ pub returns-in-None-clause-onward : goal.returns-in-None-clause-onward
 returns-in-None-clause-onward c =
     let sent = over_step (wired c.args.queues c.args.chart.now) c.args.x c.args.y c.requires.caused c.in-None.ensures in
     subst (λ (z : ℕ). IsFollowedBy c.args.chart.now.events z c.args.y) (sym c.other_end.ensures.value) sent.1
+
+pub returns-in-Some-clause-chosen : goal.returns-in-Some-clause-chosen
+returns-in-Some-clause-chosen c = inl c.in-Some.ensures
+
+pub returns-in-None-clause-chosen : goal.returns-in-None-clause-chosen
+returns-in-None-clause-chosen c = inr (c.in-None.ensures, sym c.other_end.ensures.value)

@@ -3,7 +3,8 @@ use Rattle.msc_chart.specs.Orders.{wired}
 use Rattle.msc_order.specs.Tables.{orders}
 use Rattle.msc_race.proofs.Runs.EnforcedPairs.{enforced_below}
 use Rattle.msc_reason.specs.Chains.{LeadsTo}
-use Rattle.msc_reason.proofs.ChainLemmas.{leads_on, step_enforced}
+use Rattle.msc_reason.specs.Rules.{LeadsByRule}
+use Rattle.msc_reason.proofs.ChainLemmas.{leads_on, rule_on, step_enforced}
 use Rattle.msc_reason.proofs.Walking.{fewer_after}
 use Rattle.msc_reason.proofs.chaining.walk.Goals as goal
 
@@ -23,8 +24,15 @@ loop-at-preserved c =
     record {
       chain = subst (λ (l : List ℕ). LeadsTo events c.args.x l next) (sym c.in_ok-push.ensures.items)
           (leads_on events c.args.x c.loop-at.steps.items c.loop-at.at (next ∷ []) next c.loop-at.invariant.chain (c.next_step-at.ensures.step, refl));
+      chosen = subst (λ (l : List ℕ). LeadsByRule (wired c.args.queues c.args.chart.now) c.args.y c.args.x l next) (sym c.in_ok-push.ensures.items)
+          (rule_on (wired c.args.queues c.args.chart.now) c.args.y c.args.x c.loop-at.steps.items c.loop-at.at next c.loop-at.invariant.chosen c.next_step-at.ensures.chosen);
       onward = c.next_step-at.ensures.onward;
     }
 
 pub returns : goal.returns
-returns c = rw (c.from_vec.ensures, ← c.loop-at-test.false) c.loop-at.invariant.chain
+returns c = rw c.from_vec.ensures (
+  subst (λ (z : ℕ). LeadsTo c.args.chart.now.events c.args.x c.loop-at.steps.items z) c.loop-at-test.false
+      c.loop-at.invariant.chain,
+  subst (λ (z : ℕ). LeadsByRule (wired c.args.queues c.args.chart.now) c.args.y c.args.x c.loop-at.steps.items z)
+      c.loop-at-test.false c.loop-at.invariant.chosen,
+)

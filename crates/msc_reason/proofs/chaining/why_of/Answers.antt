@@ -33,16 +33,23 @@ other_end-output-requires c =
     (enforced_below (wired c.args.queues c.args.chart.now) (c.ends_share_queues.ensures c.args.queues c.args.chart.now c.accepted.ensures) c.args.e c.args.f c.requires.pair).0
 
 pub other_end-requires : goal.other_end-requires
-other_end-requires c = (input_parts c.args.chart.now.events c.first_mate-u.result c.first_mate-u.ensures.0.second).0
+other_end-requires c = (input_parts c.args.chart.now.events c.first_mate-u.result c.first_mate-u.ensures.0.0.second).0
 
 pub returns : goal.returns
 returns c =
     let chart = wired c.args.queues c.args.chart.now in
-    let mate = c.first_mate-u.ensures.0 in
-    let h = c.in_ok-outputs.ensures in
-    record {
-      mates = share_from chart c.args.e c.first_mate-u.result mate.first mate.second mate.one_queue;
-      chain = chain_from chart (c.the_enforced_order_has_no_cycle.ensures c.args.queues c.args.chart.now c.accepted.ensures) _ _ _ mate.outputs
-          (rw (← c.other_end-output.ensures.value, ← c.other_end.ensures.value) h);
-      rest = c.in_ok-onward.ensures;
-    }
+    let mate = c.first_mate-u.ensures.0.0 in
+    let h = c.in_ok-outputs.ensures in (
+      record {
+        mates = share_from chart c.args.e c.first_mate-u.result mate.first mate.second mate.one_queue;
+        chain = chain_from chart (c.the_enforced_order_has_no_cycle.ensures c.args.queues c.args.chart.now c.accepted.ensures) _ _ _ mate.outputs
+            (rw (← c.other_end-output.ensures.value, ← c.other_end.ensures.value) h.0);
+        rest = c.in_ok-onward.ensures.0;
+      },
+      (
+        λ caused. clash (c.is_caused.ensures.1 caused) c.if-is_caused.false,
+        c.first_mate-u.ensures,
+        rw (← c.other_end-output.ensures.value, ← c.other_end.ensures.value) h.1,
+        c.in_ok-onward.ensures.1,
+      ),
+    )

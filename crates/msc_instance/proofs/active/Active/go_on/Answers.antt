@@ -1,11 +1,11 @@
-use Rattle.std.proofs.Common.{refl, sym, ◌∙◌}
+use Rattle.std.proofs.Common.{refl, sym, arith, ◌∙◌}
 use Rattle.std.specs.Vec.{with_items}
 use Rattle.std.proofs.lemmas.Bool.{true≢false, false≢true}
 use Rattle.std.proofs.lemmas.List.{with_items_is}
 use Rattle.msc_instance.specs.Active.{logged_by}
 use Rattle.msc_instance.proofs.Logs.{none_due}
 use Rattle.msc_instance.proofs.Sendings.{done_stopped, waits_stopped}
-use Rattle.msc_instance.proofs.Sound.{has_closed}
+use Rattle.msc_instance.proofs.Sound.{has_closed, are_closed}
 use Rattle.msc_instance.proofs.active.Active.go_on.Goals as goal
 
 pub returns-then-not-self-clause-sound : goal.returns-then-not-self-clause-sound
@@ -59,3 +59,32 @@ returns-else-not-self-clause-first g c = λ e. c.do_ready.ensures.first (λ othe
 
 pub returns-else-not-self-clause-stopped : goal.returns-else-not-self-clause-stopped
 returns-else-not-self-clause-stopped g c = λ gate other. absurd (true≢false other)
+
+pub returns-in-Stopped-clause-ready : goal.returns-in-Stopped-clause-ready
+returns-in-Stopped-clause-ready g c = λ gate e. c.do_ready.ensures.ready gate c.in-Stopped.is
+
+pub returns-in-Stopped-clause-closed : goal.returns-in-Stopped-clause-closed
+returns-in-Stopped-clause-closed g c = λ other. absurd (false≢true other)
+
+pub returns-in-Waits-clause-ready : goal.returns-in-Waits-clause-ready
+returns-in-Waits-clause-ready g c = λ gate other. absurd (true≢false other)
+
+pub returns-in-Waits-clause-closed : goal.returns-in-Waits-clause-closed
+returns-in-Waits-clause-closed g c = λ e at.
+    let behind = c.do_ready.ensures.behind c.in-Waits.is in
+    absurd (omega (arith, behind, at))
+
+pub returns-then-not-self-clause-ready : goal.returns-then-not-self-clause-ready
+returns-then-not-self-clause-ready g c = λ gate other. absurd (true≢false other)
+
+pub returns-then-not-self-clause-closed : goal.returns-then-not-self-clause-closed
+returns-then-not-self-clause-closed g c = λ e at.
+    are_closed c.args.chart.now c.args.post.now _ (returns-then-not-self-clause-sound g c) refl
+
+pub returns-else-not-self-clause-ready : goal.returns-else-not-self-clause-ready
+returns-else-not-self-clause-ready g c = λ gate other. absurd (true≢false other)
+
+pub returns-else-not-self-clause-closed : goal.returns-else-not-self-clause-closed
+returns-else-not-self-clause-closed g c = λ e at.
+    are_closed c.args.chart.now c.args.post.now c.do_ready.new.self c.do_ready.ensures.sound
+    c.if-not-self.false

@@ -1,7 +1,8 @@
 use Rattle.std.proofs.Common.{◌≡◌, true, sym, ap, ◌∙◌, arith}
 use Rattle.msc_chart.specs.Lists.{occurs}
 use Rattle.msc_chart.proofs.ListLemmas.{clash}
-use Rattle.msc_instance.proofs.Takes.{took_nothing, took_ended, took_strange, took_input, input_fits, queue_here, event_in}
+use Rattle.msc_instance.proofs.Takes.{took_nothing, took_ended, took_strange, took_input, input_fits, queue_here, event_in, input_here}
+use Rattle.msc_instance.proofs.Asked.{let_more, ends_at_input}
 use Rattle.msc_instance.proofs.active.Active.take.Goals as goal
 
 pub returns-in-Nothing-clause-took : goal.returns-in-Nothing-clause-took
@@ -92,5 +93,15 @@ returns-else-at-clause-took g c =
 
 pub returns-else-at-clause-open : goal.returns-else-at-clause-open
 returns-else-at-clause-open g c =
-    λ gate other. let yes : c.at.result ≡ true = c.at.ensures gate in
+    λ gate other. let yes : c.at.result ≡ true = c.at.ensures.open gate in
     cc
+
+pub returns-then-at-clause-asked : goal.returns-then-at-clause-asked
+returns-then-at-clause-asked g c = λ _. let_more (g.G.Gate.lets c.args.gate.now) c.args.post.now.instance _ _ _
+    c.note.ensures.noted (c.at.ensures.asked c.if-at.true)
+
+pub returns-else-at-clause-last : goal.returns-else-at-clause-last
+returns-else-at-clause-last g c = λ _. ends_at_input (g.G.Gate.lets c.args.gate.now) c.args.post.now.instance _ _ _
+    c.note.ensures.noted c.args.chart.now
+    (rw c.input_of-e.ensures (input_here c.args.chart.now c.args.post.now c.args.self.now c.requires.sound c.in-Message.m
+    (c.is_of.ensures.0 c.if-not-is_of.false).0))
