@@ -1,5 +1,5 @@
 -- What the program answers, and its exit statuses.
-use Rattle.std.specs.Prelude.{◌≡◌, ◌⊎◌, ℕ, Bool, List, MatchOption, Option, Some, codes, true, false}
+use Rattle.std.specs.Prelude.{◌≡◌, ◌≢◌, ◌⊎◌, ℕ, Bool, List, MatchOption, Option, Some, codes, true, false}
 use Rattle.std.specs.Io.KnownBytes.{Keeps}
 use Rattle.clap.specs.Words.{Row, Text, first_value, rows_of, subcommand_rows_of}
 use Rattle.clap.specs.declared.error.kind.ErrorKind.{ErrorKind}
@@ -12,6 +12,7 @@ use Rattle.msc_parser.specs.Grammar.{Tree}
 use Rattle.msc_parser.specs.Parsing.{HasDraft, HasParseFault}
 use Rattle.msc_report.specs.declared.fault.Fault.{Fault}
 use Rattle.msc_report.specs.declared.fault.Fault.TheVariants.{Parse, Chart, NotStarted, Memory, Device}
+use Rattle.msc_report.specs.Texts.{fault_line, pair_fault_line}
 use Rattle.msc_command.specs.declared.program.Status.{Status}
 use Rattle.msc_command.specs.declared.program.Status.TheVariants.{Done, Races, Refused, Unfinished, Failed}
 use Rattle.msc_command.specs.declared.program.Refusal.{Refusal}
@@ -48,6 +49,11 @@ status_of Device = Failed
 abbrev pub ends_as : Refusal → Status
 ends_as (refusals.Fault f) = status_of f
 ends_as (refusals.Pair f) = Refused
+
+-- the line of a refusal
+abbrev pub refusal_line : Refusal → List ℕ
+refusal_line (refusals.Fault f) = fault_line f
+refusal_line (refusals.Pair f) = pair_fault_line f
 
 -- a study has been made of a text, whose answer is told, and the known bytes of a writer are kept
 abbrev pub JudgesText : List ℕ → Queues → View → Bool → Option (List ℕ) → Option (List ℕ) → Type 0
@@ -111,10 +117,16 @@ Obeys command found status rest left before after =
     (task : Task) × (text : List ℕ) × AsksFor command found task × IsFileText found rest left text
     × WritesAnswer task text status before after
 
+-- where FILE is not `-` the input is not read
+abbrev pub LeavesInput : Found → Option (List ℕ) → Option (List ℕ) → Type 0
+LeavesInput found rest left =
+    (file : List ℕ) → first_value found (codes "FILE") ≡ Some file → file ≢ codes "-" → left ≡ rest
+
 -- A command that the words name is obeyed, by what was found of its own words.
 abbrev pub ObeysNamed : Text × List Row → Status → Option (List ℕ) → Option (List ℕ) → Option (List ℕ) → Option (List ℕ) → Type 0
 ObeysNamed named status rest left before after =
     (found : Found) × (named.1 ≡ rows_of found) × Obeys named.0 found status rest left before after
+    × LeavesInput found rest left
 
 -- The words that `clap` took are obeyed; such as name no command are refused.
 abbrev pub ObeysMatches : ArgMatches → Status → Option (List ℕ) → Option (List ℕ) → Option (List ℕ) → Option (List ℕ) → Type 0

@@ -1,15 +1,19 @@
 //! What the program does, and how it ends.
 
-ghost use Rattle.std.specs.Prelude.{◌≡◌, ◌≢◌, ◌⊎◌, codes, map, IfErr, IfOk, List, ℕ};
+ghost use Rattle.std.specs.Prelude.{◌≡◌, ◌≢◌, ◌⊎◌, codes, map, IfErr, IfOk, List, OnOk, ℕ};
+ghost use Rattle.std.specs.Io.KnownBytes.{Appends};
 ghost use Rattle.std.specs.IoError.{error_kind};
 ghost use Rattle.std.specs.declared.io.ErrorKind.TheVariants.{OutOfMemory};
 ghost use Rattle.std.specs.String.{string_bytes};
 ghost use Rattle.clap.specs.Words.{found_of, kind_of};
-ghost use Rattle.msc_command.specs.Program.{ends_as, status_code, status_of, EndsUsage};
-ghost use Rattle.msc_command.specs.Program.{FollowsWords, IsUnanswered, Obeys, ObeysMatches};
+ghost use Rattle.msc_command.specs.Program.{ends_as, refusal_line, status_code, status_of};
+ghost use Rattle.msc_command.specs.Program.{EndsUsage};
+ghost use Rattle.msc_command.specs.Program.{FollowsWords, IsUnanswered, LeavesInput, Obeys};
+ghost use Rattle.msc_command.specs.Program.{ObeysMatches};
 ghost use Rattle.msc_command.specs.Program.{PrintsUnfinished, TellsAnswer, TellsRaces};
 ghost use Rattle.msc_command.specs.Program.{WritesAnswer};
 ghost use Rattle.msc_command.specs.declared.program.Status.{Status};
+ghost use Rattle.msc_report.specs.Texts.{fault_line};
 ghost use Rattle.msc_source.specs.Inputs.{IsReadFrom};
 
 use crate::commands::{architectures, grammar, kinds};
@@ -89,26 +93,37 @@ impl From<ReadFault> for Refusal {
     }
 }
 
-/// Writes a fault's line, where that succeeds, and tells how the run ended.
-fn end_with<E: Write>(faults: &mut E, fault: Fault) -> Status
+/// How a run ends that meets a fault.
+fn status_of(fault: Fault) -> Status
     ensures { result ≡ status_of fault }
 {
-    let _ = write_fault(faults, &fault);
     match fault {
         Fault::Parse(_) | Fault::Chart(_) => Status::Refused,
         Fault::NotStarted(_) | Fault::Memory | Fault::Device => Status::Failed,
     }
 }
 
-/// Writes the line of a refusal, where that succeeds, and tells how the run ended.
-fn end_refused<E: Write>(faults: &mut E, refusal: Refusal) -> Status
-    ensures { result ≡ ends_as refusal }
+/// Writes a fault's line, and tells how the run ended, and whether the line went out.
+fn end_with<E: Write>(faults: &mut E, fault: Fault) -> (Status, io::Result<()>)
+    ensures status { result.0 ≡ status_of fault }
+    ensures line { OnOk result.1
+        (Appends (E.contents faults.old) (E.contents faults.new) (fault_line fault)) }
+{
+    let told = write_fault(faults, &fault);
+    (status_of(fault), told)
+}
+
+/// Writes the line of a refusal, and tells how the run ended, and whether the line went out.
+fn end_refused<E: Write>(faults: &mut E, refusal: Refusal) -> (Status, io::Result<()>)
+    ensures status { result.0 ≡ ends_as refusal }
+    ensures line { OnOk result.1
+        (Appends (E.contents faults.old) (E.contents faults.new) (refusal_line refusal)) }
 {
     match refusal {
         Refusal::Fault(fault) => end_with(faults, fault),
         Refusal::Pair(fault) => {
-            let _ = write_pair_fault(faults, fault);
-            Status::Refused
+            let told = write_pair_fault(faults, fault);
+            (Status::Refused, told)
         }
     }
 }
@@ -199,6 +214,7 @@ fn perform_on<R: Files + Threads + Wait + Sync, I: Read, O: Write>(
     ensures refused { IfErr result (λ refusal. IsUnanswered task (λ text. file.now ≡ codes "-"
         → IsReadFrom (I.remaining input.old) (I.remaining input.new) text)
         refusal (O.contents output.old) (O.contents output.new)) }
+    ensures apart { file.now ≢ codes "-" → input.new ≡ input.old }
 {
     if file == "-" {
         return perform(rt, alloc, task, input, output);
@@ -216,7 +232,7 @@ fn tell_usage<O: Write, E: Write>(output: &mut O, faults: &mut E, error: &Error)
         (O.contents output.old) (O.contents output.new) }
 {
     if error.kind() == clap::error::ErrorKind::OutOfMemory {
-        return end_with(faults, Fault::Memory);
+        return end_with(faults, Fault::Memory).0;
     }
     if error.use_stderr() {
         let _ = write!(faults, "{error}");
@@ -224,7 +240,7 @@ fn tell_usage<O: Write, E: Write>(output: &mut O, faults: &mut E, error: &Error)
     }
     match write!(output, "{error}") {
         Ok(()) => Status::Done,
-        Err(_) => end_with(faults, Fault::Device),
+        Err(_) => end_with(faults, Fault::Device).0,
     }
 }
 
@@ -238,8 +254,10 @@ fn obey<R: Files + Threads + Wait + Sync, I: Read, O: Write, E: Write>(
     output: &mut O,
     faults: &mut E,
 ) -> Status
-    ensures { Obeys command.now (found_of words.now) result (I.remaining input.old)
+    ensures obeyed { Obeys command.now (found_of words.now) result (I.remaining input.old)
         (I.remaining input.new) (O.contents output.old) (O.contents output.new) }
+    ensures apart { LeavesInput (found_of words.now) (I.remaining input.old)
+        (I.remaining input.new) }
 {
     let Some(task) = task_of(command, words) else {
         return Status::Refused;
@@ -247,7 +265,7 @@ fn obey<R: Files + Threads + Wait + Sync, I: Read, O: Write, E: Write>(
     let file = words.get_str("FILE").unwrap_or("-");
     match perform_on(rt, alloc, task, file, input, output) {
         Ok(status) => status,
-        Err(refusal) => end_refused(faults, refusal),
+        Err(refusal) => end_refused(faults, refusal).0,
     }
 }
 
@@ -303,7 +321,7 @@ pub fn refuse_words<E: Write>(faults: &mut E, error: &io::Error) -> u8
     ensures usage { error_kind error.now ≢ OutOfMemory → result ≡ 2 }
 {
     if error.kind() == ErrorKind::OutOfMemory {
-        return end_with(faults, Fault::Memory).code();
+        return end_with(faults, Fault::Memory).0.code();
     }
     let _ = writeln!(faults, "error: a word of the command line is no text");
     Status::Refused.code()
@@ -349,6 +367,6 @@ pub fn command<R: Files + Threads + Wait + Sync, I: Read, O: Write, E: Write>(
 {
     match run(rt, alloc, words.as_slice(), input, output, faults) {
         Ok(status) => status.code(),
-        Err(_) => end_with(faults, Fault::Memory).code(),
+        Err(_) => end_with(faults, Fault::Memory).0.code(),
     }
 }

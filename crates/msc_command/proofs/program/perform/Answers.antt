@@ -2,6 +2,7 @@ use Rattle.std.proofs.Common.{ℕ, List, sym, ◌∙◌, subst}
 use Rattle.std.proofs.lemmas.Result.{err_from_is_err_and}
 use Rattle.msc_source.specs.Inputs.{IsReadFrom}
 use Rattle.msc_command.proofs.Told.{answer_kept, unanswered_so, unread}
+use Rattle.msc_command.specs.Program.{WritesAnswer}
 use Rattle.msc_command.proofs.program.perform.Goals as goal
 
 pub returns-in_err-text-clause-refused : goal.returns-in_err-text-clause-refused
@@ -19,4 +20,5 @@ pub returns-in-Ok-clause-written : goal.returns-in-Ok-clause-written
 returns-in-Ok-clause-written g c =
     let told = c.in_ok-status.ensures.written in
     (c.in_ok-text.text.items, c.in_ok-text.ensures.rest,
-    rw c.as_slice.ensures.value at answer_kept c.args.task _ c.in_ok-status.status _ (g.O.Write.contents c.answer.new.output) _ told c.flush.ensures.bytes)
+    subst (λ (t : List ℕ). WritesAnswer c.args.task t c.in_ok-status.status (g.O.Write.contents c.args.output.now) (g.O.Write.contents c.flush.new.self)) c.as_slice.ensures.value
+    (answer_kept c.args.task _ c.in_ok-status.status _ (g.O.Write.contents c.answer.new.output) _ told c.flush.ensures.bytes))
