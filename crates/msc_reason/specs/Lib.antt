@@ -1,9 +1,13 @@
 -- what is promised
 pub mod Closest
 pub mod Lacks
+pub mod Kinds
+pub mod Counting
+pub mod Selected
 pub mod Chains
 pub mod Reasons
 pub mod Laws
 -- what the code keeps
 pub mod Ranges
 pub mod Links
+pub mod Marked
