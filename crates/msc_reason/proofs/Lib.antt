@@ -9,3 +9,4 @@ pub mod Counted
 pub mod Within
 pub mod Marking
 pub mod Sums
+pub mod LacksIn

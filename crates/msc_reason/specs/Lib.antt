@@ -3,6 +3,7 @@ pub mod Closest
 pub mod Lacks
 pub mod Kinds
 pub mod Counting
+pub mod CountingLaws
 pub mod Selected
 pub mod Chains
 pub mod Reasons

@@ -124,6 +124,13 @@ impl<'a> Listing<'a> {
         &self.enforced
     }
 
+    /// Whether the closest races alone are listed.
+    pub fn closest(&self) -> bool
+        ensures { result ≡ self.now.closest }
+    {
+        self.marks.is_some()
+    }
+
     /// How many events the chart has.
     pub fn events(&self) -> u32
         ensures { result ≡ length self.now.judged.chart.events }

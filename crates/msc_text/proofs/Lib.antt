@@ -7,5 +7,4 @@ pub mod EachEvent
 pub mod Told
 pub mod Answered
 pub mod Inputs
-pub mod RunEvents
 pub mod InputAnswers

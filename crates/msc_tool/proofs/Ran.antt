@@ -15,7 +15,7 @@ use Rattle.msc_gather.specs.Laws.{WholeLogsGiveWholeTraces}
 use Rattle.msc_report.specs.declared.fault.Fault.{Fault}
 use Rattle.msc_report.specs.declared.fault.Fault.TheVariants.{Parse, Chart, NotStarted, Memory, Device}
 use Rattle.msc_report.specs.Traces.{trace_text}
-use Rattle.msc_text.proofs.RunEvents.{run_events}
+use Rattle.msc_race.proofs.Runs.RunEvents.{run_events}
 use Rattle.msc_text.specs.Charting.{IsChartOf}
 use Rattle.msc_tool.specs.Ran.{IsRunFault}
 use Rattle.msc_tool.specs.Running.{NamesAnInstance, PrintsExecution, WritesTrace}

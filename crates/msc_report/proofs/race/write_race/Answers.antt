@@ -1,7 +1,7 @@
 use Rattle.std.proofs.lemmas.List.{append-nil}
 use Rattle.std.proofs.lemmas.Result.{on_ok_weaker}
 use Rattle.msc_report.specs.Verdicts.{race_events}
-use Rattle.msc_report.proofs.KnownBytes.{Appends-append}
+use Rattle.msc_judge.proofs.KnownBytes.{Appends-append}
 use Rattle.msc_report.proofs.race.write_race.Goals as goal
 
 pub returns : goal.returns

@@ -1,7 +1,7 @@
 use Rattle.std.proofs.KnownBytes.{Appends-nil}
 use Rattle.std.proofs.lemmas.Result.{IfOk-weaker}
 use Rattle.std.specs.Io.KnownBytes.{Appends}
-use Rattle.msc_report.proofs.KnownBytes.{Appends-append}
+use Rattle.msc_judge.proofs.KnownBytes.{Appends-append}
 use Rattle.msc_study.specs.Lines.{always_text}
 use Rattle.msc_study.proofs.lines.write_kind.Goals.{then-lack+in_ok-write_all-3, else-lack}
 use Rattle.msc_study.proofs.lines.write_kind.Goals as goal

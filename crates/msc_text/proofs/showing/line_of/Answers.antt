@@ -2,7 +2,7 @@ use Rattle.std.proofs.Common.{ℕ, List, Some, ap, ◌∙◌}
 use Rattle.std.proofs.lemmas.Result.{IfOk-weaker}
 use Rattle.msc_chart.specs.Orders.{wired}
 use Rattle.msc_report.specs.Verdicts.{run_line}
-use Rattle.msc_text.proofs.RunEvents.{run_events}
+use Rattle.msc_race.proofs.Runs.RunEvents.{run_events}
 use Rattle.msc_text.proofs.showing.line_of.Goals as goal
 
 -- the events of a chosen run have their texts
