@@ -5,6 +5,7 @@
 #![tactic(auto)]
 
 mod commands;
+mod judging;
 mod program;
 mod words;
 

@@ -12,13 +12,14 @@ ghost use Rattle.msc_command.specs.Program.{WritesAnswer};
 ghost use Rattle.msc_command.specs.declared.program.Status.{Status};
 ghost use Rattle.msc_text.specs.Reading.{IsReadFrom};
 
-use crate::commands::{architectures, grammar, kinds};
+use crate::commands::{architectures, forms, grammar, kinds};
+use crate::judging::{judge_input, passes_input};
 use crate::words::{Task, task_of};
 use clap::{ArgMatches, Error};
 use msc_instance::AlwaysOpen;
 use msc_report::{Fault, PairFault, write_fault, write_pair_fault};
-use msc_study::{Explained, explain_input, study_input};
-use msc_tool::{check_input, read_input, run_input};
+use msc_study::{Explained, explain_input};
+use msc_tool::{read_input, run_input};
 use std::alloc::{AllocError, Global};
 use std::io::{ErrorKind, Read, Write};
 use std::rt::Files;
@@ -101,17 +102,18 @@ fn end_refused<E: Write>(faults: &mut E, refusal: Refusal) -> Status
     }
 }
 
-/// Writes the answer of a task to an input.
+/// Writes the answer of a task to an input, the text of a file of this name.
 fn answer<R: Threads + Wait + Sync, I: Read, O: Write>(
     rt: &R,
     alloc: Global,
     task: Task,
+    file: &str,
     input: &mut I,
     output: &mut O,
 ) -> Result<Status, Refusal>
     ensures written { IfOk result (λ status. (text : List ℕ)
         × IsReadFrom (I.remaining input.old) (I.remaining input.new) text
-        × WritesAnswer task text status (O.contents output.old) (O.contents output.new)) }
+        × WritesAnswer task file.now text status (O.contents output.old) (O.contents output.new)) }
     ensures refused { IfErr result (λ refusal. IsUnanswered task
         (IsReadFrom (I.remaining input.old) (I.remaining input.new)) refusal
         (O.contents output.old) (O.contents output.new)) }
@@ -121,20 +123,16 @@ fn answer<R: Threads + Wait + Sync, I: Read, O: Write>(
             read_input(alloc, input, output)?;
             Ok(Status::Done)
         }
-        Task::Check(queues, show) => match check_input(alloc, input, queues, show, output)? {
-            true => Ok(Status::Done),
-            false => Ok(Status::Races),
-        },
-        Task::Study(queues, view) => match study_input(alloc, input, queues, view, output)? {
-            true => Ok(Status::Done),
-            false => Ok(Status::Races),
-        },
-        Task::Judge(queues, view) => {
-            match study_input(alloc, input, queues, view, &mut io::sink())? {
+        Task::Check(queues, question, form) => {
+            match judge_input(alloc, input, queues, question, form.format(file), output)? {
                 true => Ok(Status::Done),
                 false => Ok(Status::Races),
             }
         }
+        Task::Judge(queues, allowed) => match passes_input(alloc, input, queues, allowed)? {
+            true => Ok(Status::Done),
+            false => Ok(Status::Races),
+        },
         Task::Explain(queues, e, f) => {
             match explain_input(alloc, input, queues, e, f, output)? {
                 Explained::Enforced => Ok(Status::Done),
@@ -151,22 +149,24 @@ fn answer<R: Threads + Wait + Sync, I: Read, O: Write>(
     }
 }
 
-/// Does a task over an input. The whole answer goes out before it is told.
+/// Does a task over an input, the text of a file of this name. The whole answer goes out before it
+/// is told.
 fn perform<R: Threads + Wait + Sync, I: Read, O: Write>(
     rt: &R,
     alloc: Global,
     task: Task,
+    file: &str,
     input: &mut I,
     output: &mut O,
 ) -> Result<Status, Refusal>
     ensures written { IfOk result (λ status. (text : List ℕ)
         × IsReadFrom (I.remaining input.old) (I.remaining input.new) text
-        × WritesAnswer task text status (O.contents output.old) (O.contents output.new)) }
+        × WritesAnswer task file.now text status (O.contents output.old) (O.contents output.new)) }
     ensures refused { IfErr result (λ refusal. IsUnanswered task
         (IsReadFrom (I.remaining input.old) (I.remaining input.new)) refusal
         (O.contents output.old) (O.contents output.new)) }
 {
-    let status = answer(rt, alloc, task, input, output)?;
+    let status = answer(rt, alloc, task, file, input, output)?;
     match output.flush() {
         Ok(()) => Ok(status),
         Err(_) => Err(Refusal::Fault(Fault::Device)),
@@ -184,16 +184,16 @@ fn perform_on<R: Files + Threads + Wait + Sync, I: Read, O: Write>(
 ) -> Result<Status, Refusal>
     ensures written { IfOk result (λ status. (text : List ℕ)
         × (file.now ≡ codes "-" → IsReadFrom (I.remaining input.old) (I.remaining input.new) text)
-        × WritesAnswer task text status (O.contents output.old) (O.contents output.new)) }
+        × WritesAnswer task file.now text status (O.contents output.old) (O.contents output.new)) }
     ensures refused { IfErr result (λ refusal. IsUnanswered task (λ text. file.now ≡ codes "-"
         → IsReadFrom (I.remaining input.old) (I.remaining input.new) text)
         refusal (O.contents output.old) (O.contents output.new)) }
 {
     if file == "-" {
-        return perform(rt, alloc, task, input, output);
+        return perform(rt, alloc, task, file, input, output);
     }
     match fs::open(rt, file) {
-        Ok(mut opened) => perform(rt, alloc, task, &mut opened, output),
+        Ok(mut opened) => perform(rt, alloc, task, file, &mut opened, output),
         Err(_) => Err(Refusal::Fault(Fault::Device)),
     }
 }
@@ -278,7 +278,13 @@ fn run<R: Files + Threads + Wait + Sync, I: Read, O: Write, E: Write>(
 {
     let architectures = architectures(alloc)?;
     let kinds = kinds(alloc)?;
-    let command = grammar(alloc, architectures.alternatives(), kinds.alternatives())?;
+    let forms = forms(alloc)?;
+    let command = grammar(
+        alloc,
+        architectures.alternatives(),
+        kinds.alternatives(),
+        forms.alternatives(),
+    )?;
     match command.try_get_matches_from(words) {
         Ok(matches) => Ok(obey_matches(rt, alloc, &matches, input, output, faults)),
         Err(error) => Ok(tell_usage(output, faults, &error)),

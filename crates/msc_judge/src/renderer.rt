@@ -67,12 +67,7 @@ pub trait Renderer {
             ≡ page.old.bytes.items ++ heading_text self.now chart.now heading) };
 
     /// What it makes of a run.
-    fn run_line(
-        &self,
-        alloc: Global,
-        chart: &Chart,
-        run: &[Event],
-    ) -> Result<Vec<u8>, AllocError>
+    fn run_line(&self, alloc: Global, chart: &Chart, run: &[Event]) -> Result<Vec<u8>, AllocError>
         requires fits { fits self.now chart.now }
         requires events { All (λ e. e < length chart.now.events) run.now }
         ensures { IfOk result (λ line. line.items ≡ run_text self.now chart.now run.now) };

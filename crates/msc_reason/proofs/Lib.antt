@@ -10,3 +10,4 @@ pub mod Within
 pub mod Marking
 pub mod Sums
 pub mod LacksIn
+pub mod CountingLaws

@@ -2,9 +2,10 @@
 
 ghost use Rattle.std.specs.Prelude.{◌≡◌};
 ghost use Rattle.msc_report.specs.declared.fault.Fault.TheVariants.{Device, Memory};
-ghost use Rattle.msc_report.specs.Refusals.{chart_refusal_of, refusal_of};
+ghost use Rattle.msc_report.specs.Refusals.{chart_refusal_of, refusal_of, write_refusal_of};
 
 use msc_chart::ChartFault;
+use msc_judge::WriteFault;
 use msc_parser::ParseFault;
 use std::alloc::AllocError;
 use std::io;
@@ -79,6 +80,17 @@ impl From<ChartFault> for Fault {
         match fault {
             ChartFault::Memory => Fault::Memory,
             _ => Fault::Chart(fault),
+        }
+    }
+}
+
+impl From<WriteFault> for Fault {
+    ghost from_gives = { λ f e. e ≡ write_refusal_of f };
+
+    fn from(fault: WriteFault) -> Fault {
+        match fault {
+            WriteFault::Memory => Fault::Memory,
+            WriteFault::Device => Fault::Device,
         }
     }
 }

@@ -15,11 +15,12 @@ ghost use Rattle.msc_text.specs.Checking.{RefusesDraft, RefusesInputDraft};
 use crate::explained::Explained;
 use crate::reasons::write_explained;
 use msc_chart::{Chart, Event, Queues};
+use msc_judge::Page;
 use msc_order::Order;
 use msc_reason::laws::a_why_is_enough;
 use msc_reason::{Reason, explain};
 use msc_report::{Fault, PairFault};
-use msc_text::{Page, chart_of_text, read_all};
+use msc_text::{chart_of_text, read_all};
 use std::alloc::{AllocError, Global};
 use std::io::{Read, Write};
 

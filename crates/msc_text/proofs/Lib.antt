@@ -1,10 +1,9 @@
 pub mod ReadingLemmas
 pub mod Refusals
-pub mod Races
-pub mod PageLemmas
 pub mod Shown
-pub mod EachEvent
 pub mod Told
+pub mod Plain
+pub mod Judged
 pub mod Answered
 pub mod Inputs
 pub mod InputAnswers

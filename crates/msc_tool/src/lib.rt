@@ -7,5 +7,5 @@
 mod running;
 
 pub use msc_report::{Fault, write_draft, write_fault, write_trace, write_verdict};
-pub use msc_text::{CALL_LIMIT, check_input, check_text, read_all, read_input, read_text};
+pub use msc_text::{CALL_LIMIT, check_text, read_all, read_input, read_text};
 pub use running::{run_input, run_text};

@@ -3,28 +3,10 @@ use Rattle.std.proofs.lemmas.Result.{err_from_is_err_and}
 use Rattle.msc_command.proofs.Told.{keeps_itself, no_pair, unanswered}
 use Rattle.msc_command.proofs.program.answer.Goals as goal
 
-pub returns-in-false-2-clause-written : goal.returns-in-false-2-clause-written
-returns-in-false-2-clause-written g c =
-    elim c.in_ok-study_input-in-Study.ensures.read [
-      | inl told ↦ (told.0, told.1, rw c.in-Study.is (rw c.in-false-2.is at told.2.written))
-      | inr failed ↦ absurd (elim failed [ inl memory ↦ cc | inr device ↦ cc ])
-    ]
-
 pub returns-in-false-3-clause-written : goal.returns-in-false-3-clause-written
 returns-in-false-3-clause-written g c =
-    elim c.in_ok-study_input-in-Judge.ensures.read [
-      | inl told ↦ (
-        told.0,
-        told.1,
-        rw c.in-Judge.is (let wrote = rw c.in-false-3.is at told.2.written in (wrote.0, wrote.1, keeps_itself (g.O.Write.contents c.args.output.now))),
-      )
-      | inr failed ↦ absurd (elim failed [ inl memory ↦ cc | inr device ↦ cc ])
-    ]
-
-pub returns-in-false-4-clause-written : goal.returns-in-false-4-clause-written
-returns-in-false-4-clause-written g c =
     elim c.in_ok-run_input-in-Run.ensures.read [
-      | inl told ↦ (told.0, told.1, rw c.in-Run.is (rw c.in-false-4.is at told.2.written))
+      | inl told ↦ (told.0, told.1, rw c.in-Run.is (rw c.in-false-3.is at told.2.written))
       | inr failed ↦ absurd (elim failed [ inl memory ↦ cc | inr device ↦ cc ])
     ]
 
@@ -37,15 +19,29 @@ returns-in-Free-clause-written g c =
 
 pub returns-in-true-clause-written : goal.returns-in-true-clause-written
 returns-in-true-clause-written g c =
-    elim c.in_ok-check_input-in-Check.ensures.read [
-      | inl told ↦ (told.0, told.1, rw c.in-Check.is (rw c.in-true.is at told.2.written))
+    elim c.in_ok-judge_input-in-Check.ensures.read [
+      | inl told ↦ (told.0, told.1, rw c.in-Check.is (record { format = c.format.result; its = c.format.ensures; wrote = rw c.in-true.is at told.2.written }))
       | inr failed ↦ absurd (elim failed [ inl memory ↦ cc | inr device ↦ cc ])
     ]
 
 pub returns-in-false-clause-written : goal.returns-in-false-clause-written
 returns-in-false-clause-written g c =
-    elim c.in_ok-check_input-in-Check.ensures.read [
-      | inl told ↦ (told.0, told.1, rw c.in-Check.is (rw c.in-false.is at told.2.written))
+    elim c.in_ok-judge_input-in-Check.ensures.read [
+      | inl told ↦ (told.0, told.1, rw c.in-Check.is (record { format = c.format.result; its = c.format.ensures; wrote = rw c.in-false.is at told.2.written }))
+      | inr failed ↦ absurd (elim failed [ inl memory ↦ cc | inr device ↦ cc ])
+    ]
+
+pub returns-in-true-2-clause-written : goal.returns-in-true-2-clause-written
+returns-in-true-2-clause-written g c =
+    elim c.in_ok-passes_input-in-Judge.ensures.read [
+      | inl told ↦ (told.0, told.1, rw c.in-Judge.is (rw c.in-true-2.is at told.2.passes, keeps_itself (g.O.Write.contents c.args.output.now)))
+      | inr failed ↦ absurd (elim failed [ inl memory ↦ cc | inr device ↦ cc ])
+    ]
+
+pub returns-in-false-2-clause-written : goal.returns-in-false-2-clause-written
+returns-in-false-2-clause-written g c =
+    elim c.in_ok-passes_input-in-Judge.ensures.read [
+      | inl told ↦ (told.0, told.1, rw c.in-Judge.is (rw c.in-false-2.is at told.2.passes, keeps_itself (g.O.Write.contents c.args.output.now)))
       | inr failed ↦ absurd (elim failed [ inl memory ↦ cc | inr device ↦ cc ])
     ]
 
@@ -57,26 +53,18 @@ returns-in_err-read_input-in-Read-clause-refused g c =
     (λ text told. (told.refused, said.no_chart, said.started))
     (λ memory device. ap g.O.Write.contents (said.untouched device)))
 
-pub returns-in_err-check_input-in-Check-clause-refused : goal.returns-in_err-check_input-in-Check-clause-refused
-returns-in_err-check_input-in-Check-clause-refused g c =
-    let p = err_from_is_err_and c.from_residual-in_err-check_input-in-Check.result c.from_residual-in_err-check_input-in-Check.ensures.1 in
-    let said = c.in_err-check_input-in-Check.ensures in
+pub returns-in_err-judge_input-in-Check-clause-refused : goal.returns-in_err-judge_input-in-Check-clause-refused
+returns-in_err-judge_input-in-Check-clause-refused g c =
+    let p = err_from_is_err_and c.from_residual-in_err-judge_input-in-Check.result c.from_residual-in_err-judge_input-in-Check.ensures.1 in
+    let said = c.in_err-judge_input-in-Check.ensures in
     rw (p.1, p.2) (unanswered _ _ _ _ _ _ _ _ _ c.in-Check.is refl said.read
     (λ text told. (told.refused, told.no_chart.stands, said.started))
     (λ memory device. ap g.O.Write.contents (said.untouched memory device)))
 
-pub returns-in_err-study_input-in-Study-clause-refused : goal.returns-in_err-study_input-in-Study-clause-refused
-returns-in_err-study_input-in-Study-clause-refused g c =
-    let p = err_from_is_err_and c.from_residual-in_err-study_input-in-Study.result c.from_residual-in_err-study_input-in-Study.ensures.1 in
-    let said = c.in_err-study_input-in-Study.ensures in
-    rw (p.1, p.2) (unanswered _ _ _ _ _ _ _ _ _ c.in-Study.is refl said.read
-    (λ text told. (told.refused, told.no_chart.stands, said.started))
-    (λ memory device. ap g.O.Write.contents (said.untouched memory device)))
-
-pub returns-in_err-study_input-in-Judge-clause-refused : goal.returns-in_err-study_input-in-Judge-clause-refused
-returns-in_err-study_input-in-Judge-clause-refused g c =
-    let p = err_from_is_err_and c.from_residual-in_err-study_input-in-Judge.result c.from_residual-in_err-study_input-in-Judge.ensures.1 in
-    let said = c.in_err-study_input-in-Judge.ensures in
+pub returns-in_err-passes_input-in-Judge-clause-refused : goal.returns-in_err-passes_input-in-Judge-clause-refused
+returns-in_err-passes_input-in-Judge-clause-refused g c =
+    let p = err_from_is_err_and c.from_residual-in_err-passes_input-in-Judge.result c.from_residual-in_err-passes_input-in-Judge.ensures.1 in
+    let said = c.in_err-passes_input-in-Judge.ensures in
     rw (p.1, p.2) (unanswered _ _ _ _ _ _ _ _ _ c.in-Judge.is refl said.read
     (λ text told. (told.refused, told.no_chart.stands, said.started))
     (λ memory device. refl))

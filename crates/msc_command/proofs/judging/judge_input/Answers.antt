@@ -1,0 +1,16 @@
+use Rattle.std.proofs.Common.{inr}
+use Rattle.std.proofs.lemmas.Result.{err_from_is_err_and}
+use Rattle.msc_text.proofs.InputAnswers.{input_read, unread}
+use Rattle.msc_command.specs.Answering.{JudgesText}
+use Rattle.msc_command.proofs.judging.judge_input.Goals as goal
+
+pub returns-clause-read : goal.returns-clause-read
+returns-clause-read g c =
+    let said = c.judge_text.ensures in
+    input_read (λ bytes. JudgesText bytes c.args.queues c.args.question c.args.format c.judge_text.result _ _) c.in_ok-text.ensures.rest c.as_slice.ensures.value
+    (record { written = said.written; refused = said.refused; no_chart = said.no_chart })
+
+pub returns-in_err-text-clause-read : goal.returns-in_err-text-clause-read
+returns-in_err-text-clause-read g c =
+    let exit = err_from_is_err_and c.from_residual.result c.from_residual.ensures.1 in
+    inr (rw (exit.1, exit.2) (unread c.in_err-text.ensures.fault))
