@@ -17,9 +17,9 @@ use Rattle.msc_command.specs.declared.program.Refusal.TheVariants as refusals
 use Rattle.msc_command.specs.declared.program.Status.{Status}
 use Rattle.msc_command.specs.declared.program.Status.TheVariants.{Done, Races, Refused, Unfinished, Failed}
 use Rattle.msc_command.specs.declared.words.Task.{Task}
-use Rattle.msc_command.specs.declared.words.Task.TheVariants.{Read, Check, Study, Judge, Explain, Run}
+use Rattle.msc_command.specs.declared.words.Task.TheVariants.{Read, Check, Judge, Explain, Run}
 use Rattle.msc_command.specs.Program.{ends_as, status_code, IsFileText, IsUnanswered, Obeys, RefusesTask, TellsAnswer, TellsRaces, WritesAnswer}
-use Rattle.msc_command.specs.Words.{AsksFor}
+use Rattle.msc_command.specs.Words.{file_of, AsksFor}
 
 -- different ends of a run
 clash : Refused ≡ Failed → ⊥
@@ -33,45 +33,45 @@ RefusesRightly task text answer =
     × ((i : ℕ) → answer ≡ Err (NotStarted i) → RefusesTask task text (refusals.Fault (NotStarted i)))
 
 -- no answer of a task has the status of a refusal, or of a failure
-no_answer : (task : Task) (text : List ℕ) (before after : Option (List ℕ))
-    → (WritesAnswer task text Refused before after → ⊥) × (WritesAnswer task text Failed before after → ⊥)
-no_answer Read text before after = ((λ told. told), (λ told. told))
-no_answer (Check queues show) text before after = ((λ told. told), (λ told. told))
-no_answer (Study queues view) text before after = ((λ told. told), (λ told. told))
-no_answer (Judge queues view) text before after = ((λ told. told), (λ told. told))
-no_answer (Explain queues e f) text before after = ((λ told. told), (λ told. told))
-no_answer (Run queues patience) text before after = ((λ told. told), (λ told. told))
+no_answer : (task : Task) (file text : List ℕ) (before after : Option (List ℕ))
+    → (WritesAnswer task file text Refused before after → ⊥) × (WritesAnswer task file text Failed before after → ⊥)
+no_answer Read file text before after = ((λ told. told), (λ told. told))
+no_answer (Check queues q form) file text before after = ((λ told. told), (λ told. told))
+no_answer (Judge queues allowed) file text before after = ((λ told. told), (λ told. told))
+no_answer (Explain queues e f) file text before after = ((λ told. told), (λ told. told))
+no_answer (Run queues patience) file text before after = ((λ told. told), (λ told. told))
 
 -- the answer of a task is what its status tells
-pub prints : (task : Task) (text : List ℕ) (status : Status) (before after : Option (List ℕ))
-    → WritesAnswer task text status before after → TellsAnswer status before after
-prints task text Done before after told = tt
-prints task text Refused before after told = absurd ((no_answer task text before after).0 told)
-prints task text Failed before after told = tt
-prints Read text Races before after told = absurd told
-prints (Check queues show) text Races before after told = inl (text, queues, show, told)
-prints (Study queues view) text Races before after told = inr (inl (text, queues, view, told))
-prints (Judge queues view) text Races before after told = inr (inr (inl (text, queues, view, told)))
-prints (Explain queues e f) text Races before after told = inr (inr (inr (text, queues, e, f, told)))
-prints (Run queues patience) text Races before after told = absurd told
-prints Read text Unfinished before after told = absurd told
-prints (Check queues show) text Unfinished before after told = absurd told
-prints (Study queues view) text Unfinished before after told = absurd told
-prints (Judge queues view) text Unfinished before after told = absurd told
-prints (Explain queues e f) text Unfinished before after told = absurd told
-prints (Run queues patience) text Unfinished before after told = (text, queues, patience, told)
+pub prints : (task : Task) (file text : List ℕ) (status : Status) (before after : Option (List ℕ))
+    → WritesAnswer task file text status before after → TellsAnswer status before after
+prints task file text Done before after told = tt
+prints task file text Refused before after told = absurd ((no_answer task file text before after).0 told)
+prints task file text Failed before after told = tt
+prints Read file text Races before after told = absurd told
+prints (Check queues q form) file text Races before after told = inl (text, queues, q, told.format, told.wrote)
+prints (Judge queues allowed) file text Races before after told = inr (inl (text, queues, allowed, told))
+prints (Explain queues e f) file text Races before after told = inr (inr (text, queues, e, f, told))
+prints (Run queues patience) file text Races before after told = absurd told
+prints Read file text Unfinished before after told = absurd told
+prints (Check queues q form) file text Unfinished before after told = absurd told
+prints (Judge queues allowed) file text Unfinished before after told = absurd told
+prints (Explain queues e f) file text Unfinished before after told = absurd told
+prints (Run queues patience) file text Unfinished before after told = (text, queues, patience, told)
 
 -- an answer to what the words of a command ask for
-pub obeys : (command : List ℕ) (found : Found) (task : Task) (text : List ℕ) (status : Status) (rest left before after : Option (List ℕ))
-    → AsksFor command found task → IsFileText found rest left text
-    → WritesAnswer task text status before after → Obeys command found status rest left before after
-obeys command found task text Done rest left before after asks reads told = (task, text, asks, reads, told)
-obeys command found task text Races rest left before after asks reads told = (task, text, asks, reads, told)
-obeys command found task text Refused rest left before after asks reads told =
-    absurd ((no_answer task text before after).0 told)
-obeys command found task text Unfinished rest left before after asks reads told = (task, text, asks, reads, told)
-obeys command found task text Failed rest left before after asks reads told =
-    absurd ((no_answer task text before after).1 told)
+pub obeys : (command : List ℕ) (found : Found) (task : Task) (file text : List ℕ) (status : Status) (rest left before after : Option (List ℕ))
+    → file ≡ file_of found → AsksFor command found task → IsFileText found rest left text
+    → WritesAnswer task file text status before after → Obeys command found status rest left before after
+obeys command found task file text Done rest left before after named asks reads told =
+    (task, text, asks, reads, subst (λ (f : List ℕ). WritesAnswer task f text Done before after) named told)
+obeys command found task file text Races rest left before after named asks reads told =
+    (task, text, asks, reads, subst (λ (f : List ℕ). WritesAnswer task f text Races before after) named told)
+obeys command found task file text Refused rest left before after named asks reads told =
+    absurd ((no_answer task file text before after).0 told)
+obeys command found task file text Unfinished rest left before after named asks reads told =
+    (task, text, asks, reads, subst (λ (f : List ℕ). WritesAnswer task f text Unfinished before after) named told)
+obeys command found task file text Failed rest left before after named asks reads told =
+    absurd ((no_answer task file text before after).1 told)
 
 -- why a task of the words has no answer, as the status tells that stands for it
 pub in_vain : (command : List ℕ) (found : Found) (task : Task) (refusal : Refusal) (status : Status) (rest left before after : Option (List ℕ))
@@ -101,11 +101,11 @@ nothing_out task reads refusal before after is (inr (inr why)) = why.3
 pub obeyed : (command : List ℕ) (found : Found) (status : Status) (rest left before after : Option (List ℕ))
     → Obeys command found status rest left before after → TellsAnswer status before after
 obeyed command found Done rest left before after done = tt
-obeyed command found Races rest left before after done = prints done.0 done.1 Races before after done.4
+obeyed command found Races rest left before after done = prints done.0 (file_of found) done.1 Races before after done.4
 obeyed command found Refused rest left before after (inl none) = none.1
 obeyed command found Refused rest left before after (inr done) =
     nothing_out done.0 (IsFileText found rest left) done.1 before after done.3 done.4
-obeyed command found Unfinished rest left before after done = prints done.0 done.1 Unfinished before after done.4
+obeyed command found Unfinished rest left before after done = prints done.0 (file_of found) done.1 Unfinished before after done.4
 obeyed command found Failed rest left before after done = tt
 
 -- where the exit status is 1, the answer tells of races
@@ -186,36 +186,39 @@ kept_on (Some xs) (Some ys) None first then = absurd then
 kept_on (Some xs) (Some ys) (Some zs) first then = then ∙ first
 
 -- and so is an answer
-pub answer_kept : (task : Task) (text : List ℕ) (status : Status) (before mid after : Option (List ℕ))
-    → WritesAnswer task text status before mid → Keeps mid after → WritesAnswer task text status before after
-answer_kept Read text Done before mid after told keeps =
+pub answer_kept : (task : Task) (file text : List ℕ) (status : Status) (before mid after : Option (List ℕ))
+    → WritesAnswer task file text status before mid → Keeps mid after → WritesAnswer task file text status before after
+answer_kept Read file text Done before mid after told keeps =
     record { draft = told.draft; has = told.has; written = kept before mid after _ told.written keeps }
-answer_kept Read text Races before mid after told keeps = told
-answer_kept Read text Refused before mid after told keeps = told
-answer_kept Read text Unfinished before mid after told keeps = told
-answer_kept Read text Failed before mid after told keeps = told
-answer_kept (Check queues show) text Done before mid after told keeps = (told.0, told.1, kept before mid after _ told.2 keeps)
-answer_kept (Check queues show) text Races before mid after told keeps = (told.0, told.1, kept before mid after _ told.2 keeps)
-answer_kept (Check queues show) text Refused before mid after told keeps = told
-answer_kept (Check queues show) text Unfinished before mid after told keeps = told
-answer_kept (Check queues show) text Failed before mid after told keeps = told
-answer_kept (Study queues view) text Done before mid after told keeps = (told.0, told.1, kept before mid after _ told.2 keeps)
-answer_kept (Study queues view) text Races before mid after told keeps = (told.0, told.1, kept before mid after _ told.2 keeps)
-answer_kept (Study queues view) text Refused before mid after told keeps = told
-answer_kept (Study queues view) text Unfinished before mid after told keeps = told
-answer_kept (Study queues view) text Failed before mid after told keeps = told
-answer_kept (Judge queues view) text Done before mid after told keeps = (told.0, told.1, kept_on before mid after told.2 keeps)
-answer_kept (Judge queues view) text Races before mid after told keeps = (told.0, told.1, kept_on before mid after told.2 keeps)
-answer_kept (Judge queues view) text Refused before mid after told keeps = told
-answer_kept (Judge queues view) text Unfinished before mid after told keeps = told
-answer_kept (Judge queues view) text Failed before mid after told keeps = told
-answer_kept (Explain queues e f) text Done before mid after told keeps = (told.0, told.1, kept before mid after _ told.2 keeps)
-answer_kept (Explain queues e f) text Races before mid after told keeps = (told.0, told.1, kept before mid after _ told.2 keeps)
-answer_kept (Explain queues e f) text Refused before mid after told keeps = told
-answer_kept (Explain queues e f) text Unfinished before mid after told keeps = told
-answer_kept (Explain queues e f) text Failed before mid after told keeps = told
-answer_kept (Run queues patience) text Done before mid after told keeps = (told.0, told.1, kept before mid after _ told.2 keeps)
-answer_kept (Run queues patience) text Unfinished before mid after told keeps = (told.0, told.1, kept before mid after _ told.2 keeps)
-answer_kept (Run queues patience) text Races before mid after told keeps = told
-answer_kept (Run queues patience) text Refused before mid after told keeps = told
-answer_kept (Run queues patience) text Failed before mid after told keeps = told
+answer_kept Read file text Races before mid after told keeps = told
+answer_kept Read file text Refused before mid after told keeps = told
+answer_kept Read file text Unfinished before mid after told keeps = told
+answer_kept Read file text Failed before mid after told keeps = told
+answer_kept (Check queues q form) file text Done before mid after told keeps = record {
+  format = told.format;
+  its = told.its;
+  wrote = (told.wrote.0, told.wrote.1, kept before mid after _ told.wrote.2 keeps);
+}
+answer_kept (Check queues q form) file text Races before mid after told keeps = record {
+  format = told.format;
+  its = told.its;
+  wrote = (told.wrote.0, told.wrote.1, kept before mid after _ told.wrote.2 keeps);
+}
+answer_kept (Check queues q form) file text Refused before mid after told keeps = told
+answer_kept (Check queues q form) file text Unfinished before mid after told keeps = told
+answer_kept (Check queues q form) file text Failed before mid after told keeps = told
+answer_kept (Judge queues allowed) file text Done before mid after told keeps = (told.0, kept_on before mid after told.1 keeps)
+answer_kept (Judge queues allowed) file text Races before mid after told keeps = (told.0, kept_on before mid after told.1 keeps)
+answer_kept (Judge queues allowed) file text Refused before mid after told keeps = told
+answer_kept (Judge queues allowed) file text Unfinished before mid after told keeps = told
+answer_kept (Judge queues allowed) file text Failed before mid after told keeps = told
+answer_kept (Explain queues e f) file text Done before mid after told keeps = (told.0, told.1, kept before mid after _ told.2 keeps)
+answer_kept (Explain queues e f) file text Races before mid after told keeps = (told.0, told.1, kept before mid after _ told.2 keeps)
+answer_kept (Explain queues e f) file text Refused before mid after told keeps = told
+answer_kept (Explain queues e f) file text Unfinished before mid after told keeps = told
+answer_kept (Explain queues e f) file text Failed before mid after told keeps = told
+answer_kept (Run queues patience) file text Done before mid after told keeps = (told.0, told.1, kept before mid after _ told.2 keeps)
+answer_kept (Run queues patience) file text Unfinished before mid after told keeps = (told.0, told.1, kept before mid after _ told.2 keeps)
+answer_kept (Run queues patience) file text Races before mid after told keeps = told
+answer_kept (Run queues patience) file text Refused before mid after told keeps = told
+answer_kept (Run queues patience) file text Failed before mid after told keeps = told

@@ -16,14 +16,15 @@ ghost use Rattle.msc_command.specs.declared.program.Status.{Status};
 ghost use Rattle.msc_report.specs.Texts.{fault_line};
 ghost use Rattle.msc_source.specs.Inputs.{IsReadFrom};
 
-use crate::commands::{architectures, grammar, kinds};
+use crate::commands::{architectures, forms, grammar, kinds};
 use crate::words::{Task, task_of};
 use clap::{ArgMatches, Error};
 use msc_instance::AlwaysOpen;
 use msc_report::{Fault, PairFault, write_fault, write_pair_fault};
 use msc_source::{ReadFault, read_all};
-use msc_study::{Explained, explain_text, study_text};
-use msc_tool::{check_text, read_text, run_text};
+use msc_study::{Explained, explain_text};
+use msc_text::{judge_text, passes_text};
+use msc_tool::{read_text, run_text};
 use std::alloc::{AllocError, Global};
 use std::io::{ErrorKind, Read, Write};
 use std::rt::Files;
@@ -128,16 +129,17 @@ fn end_refused<E: Write>(faults: &mut E, refusal: Refusal) -> (Status, io::Resul
     }
 }
 
-/// Writes the answer of a task to a text.
+/// Writes the answer of a task to the text of a file of this name.
 fn answer<R: Threads + Wait + Sync, O: Write>(
     rt: &R,
     alloc: Global,
     task: Task,
+    file: &str,
     text: &[u8],
     output: &mut O,
 ) -> Result<Status, Refusal>
-    ensures written { IfOk result (λ status.
-        WritesAnswer task text.now status (O.contents output.old) (O.contents output.new)) }
+    ensures written { IfOk result (λ status. WritesAnswer task file.now text.now status
+        (O.contents output.old) (O.contents output.new)) }
     ensures refused { IfErr result (λ refusal. IsUnanswered task (λ t. t ≡ text.now) refusal
         (O.contents output.old) (O.contents output.new)) }
 {
@@ -146,20 +148,16 @@ fn answer<R: Threads + Wait + Sync, O: Write>(
             read_text(alloc, text, output)?;
             Ok(Status::Done)
         }
-        Task::Check(queues, show) => match check_text(alloc, text, queues, show, output)? {
-            true => Ok(Status::Done),
-            false => Ok(Status::Races),
-        },
-        Task::Study(queues, view) => match study_text(alloc, text, queues, view, output)? {
-            true => Ok(Status::Done),
-            false => Ok(Status::Races),
-        },
-        Task::Judge(queues, view) => {
-            match study_text(alloc, text, queues, view, &mut io::sink())? {
+        Task::Check(queues, question, form) => {
+            match judge_text(alloc, text, queues, question, form.format(file), output)? {
                 true => Ok(Status::Done),
                 false => Ok(Status::Races),
             }
         }
+        Task::Judge(queues, allowed) => match passes_text(alloc, text, queues, allowed)? {
+            true => Ok(Status::Done),
+            false => Ok(Status::Races),
+        },
         Task::Explain(queues, e, f) => {
             match explain_text(alloc, text, queues, e, f, output)? {
                 Explained::Enforced => Ok(Status::Done),
@@ -176,23 +174,25 @@ fn answer<R: Threads + Wait + Sync, O: Write>(
     }
 }
 
-/// Does a task over an input, which is read once. The whole answer goes out before it is told.
+/// Does a task over an input, which is read once, the text of a file of this name. The whole answer
+/// goes out before it is told.
 fn perform<R: Threads + Wait + Sync, I: Read, O: Write>(
     rt: &R,
     alloc: Global,
     task: Task,
+    file: &str,
     input: &mut I,
     output: &mut O,
 ) -> Result<Status, Refusal>
     ensures written { IfOk result (λ status. (text : List ℕ)
         × IsReadFrom (I.remaining input.old) (I.remaining input.new) text
-        × WritesAnswer task text status (O.contents output.old) (O.contents output.new)) }
+        × WritesAnswer task file.now text status (O.contents output.old) (O.contents output.new)) }
     ensures refused { IfErr result (λ refusal. IsUnanswered task
         (IsReadFrom (I.remaining input.old) (I.remaining input.new)) refusal
         (O.contents output.old) (O.contents output.new)) }
 {
     let text = read_all(alloc, input)?;
-    let status = answer(rt, alloc, task, text.as_slice(), output)?;
+    let status = answer(rt, alloc, task, file, text.as_slice(), output)?;
     match output.flush() {
         Ok(()) => Ok(status),
         Err(_) => Err(Refusal::Fault(Fault::Device)),
@@ -210,17 +210,17 @@ fn perform_on<R: Files + Threads + Wait + Sync, I: Read, O: Write>(
 ) -> Result<Status, Refusal>
     ensures written { IfOk result (λ status. (text : List ℕ)
         × (file.now ≡ codes "-" → IsReadFrom (I.remaining input.old) (I.remaining input.new) text)
-        × WritesAnswer task text status (O.contents output.old) (O.contents output.new)) }
+        × WritesAnswer task file.now text status (O.contents output.old) (O.contents output.new)) }
     ensures refused { IfErr result (λ refusal. IsUnanswered task (λ text. file.now ≡ codes "-"
         → IsReadFrom (I.remaining input.old) (I.remaining input.new) text)
         refusal (O.contents output.old) (O.contents output.new)) }
     ensures apart { file.now ≢ codes "-" → input.new ≡ input.old }
 {
     if file == "-" {
-        return perform(rt, alloc, task, input, output);
+        return perform(rt, alloc, task, file, input, output);
     }
     match fs::open(rt, file) {
-        Ok(mut opened) => perform(rt, alloc, task, &mut opened, output),
+        Ok(mut opened) => perform(rt, alloc, task, file, &mut opened, output),
         Err(_) => Err(Refusal::Fault(Fault::Device)),
     }
 }
@@ -307,7 +307,13 @@ fn run<R: Files + Threads + Wait + Sync, I: Read, O: Write, E: Write>(
 {
     let architectures = architectures(alloc)?;
     let kinds = kinds(alloc)?;
-    let command = grammar(alloc, architectures.alternatives(), kinds.alternatives())?;
+    let forms = forms(alloc)?;
+    let command = grammar(
+        alloc,
+        architectures.alternatives(),
+        kinds.alternatives(),
+        forms.alternatives(),
+    )?;
     match command.try_get_matches_from(words) {
         Ok(matches) => Ok(obey_matches(rt, alloc, &matches, input, output, faults)),
         Err(error) => Ok(tell_usage(output, faults, &error)),

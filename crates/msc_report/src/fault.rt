@@ -1,32 +1,21 @@
 //! Why a call gave no answer: the union of what each phase can meet.
 //!
 //! Reading an input fails with a `ReadFault`, making a text's chart with a `SourceFault` (both of
-//! `msc_source`), running it with a `RunFault` (of `msc_ending`), and writing with a
-//! [`WriteFault`]. Each is a [`Fault`], by which its line is worded.
+//! `msc_source`), running it with a `RunFault` (of `msc_ending`), and writing with a `WriteFault`
+//! (of `msc_judge`). Each is a [`Fault`], by which its line is worded.
 
 ghost use Rattle.std.specs.Prelude.{◌≡◌};
 ghost use Rattle.msc_report.specs.declared.fault.Fault.TheVariants.{Device, Memory};
-ghost use Rattle.msc_report.specs.declared.fault.WriteFault.TheVariants as writing;
 ghost use Rattle.msc_report.specs.Refusals.{of_reading, of_run, of_source, of_writing};
 
 use msc_chart::ChartFault;
 use msc_ending::RunFault;
+use msc_judge::WriteFault;
 use msc_parser::ParseFault;
 use msc_source::{ReadFault, SourceFault};
 use std::alloc::AllocError;
 use std::io;
 use thiserror::Error;
-
-/// Why an answer was not written to its end.
-#[derive(Clone, Copy, Debug, PartialEq, Eq, Error)]
-pub enum WriteFault {
-    /// A growth of memory was refused.
-    #[error("memory fault")]
-    Memory,
-    /// A write failed.
-    #[error("device fault")]
-    Device,
-}
 
 /// Why a call gave no answer. The first that stands is answered, in this order, but for want of
 /// memory, which may come at any growth before the answer is known.
@@ -59,22 +48,6 @@ pub enum PairFault {
     /// Both numbers are this one.
     #[error("{0} and {0} are one event")]
     OneEvent(u32),
-}
-
-impl From<AllocError> for WriteFault {
-    ghost from_gives = { λ _ e. e ≡ writing.Memory };
-
-    fn from(_e: AllocError) -> WriteFault {
-        WriteFault::Memory
-    }
-}
-
-impl From<io::Error> for WriteFault {
-    ghost from_gives = { λ _ e. e ≡ writing.Device };
-
-    fn from(_e: io::Error) -> WriteFault {
-        WriteFault::Device
-    }
 }
 
 impl From<AllocError> for Fault {

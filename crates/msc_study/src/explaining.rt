@@ -12,13 +12,13 @@ ghost use Rattle.msc_text.specs.Checking.{RefusesDraft};
 use crate::explained::Explained;
 use crate::reasons::write_explained;
 use msc_chart::{Chart, Event, Queues};
+use msc_judge::Page;
 use msc_order::Order;
 use msc_parser::laws::one_parsing;
 use msc_reason::laws::a_why_is_enough;
 use msc_reason::{Reason, explain};
 use msc_report::{Fault, PairFault};
 use msc_source::{Language, Source};
-use msc_text::Page;
 use std::alloc::{AllocError, Global};
 use std::io::Write;
 

@@ -7,7 +7,6 @@ use Rattle.msc_parser.specs.Parsing.{HasDraft}
 use Rattle.msc_chart.specs.declared.fault.ChartFault.{ChartFault}
 use Rattle.msc_chart.specs.declared.queue.Queues.{Queues}
 use Rattle.msc_chart.specs.Drawings.{Drawing}
-use Rattle.msc_chart.specs.Chosen.{IsChosenRun}
 use Rattle.msc_chart.specs.Lists.{Occurs}
 use Rattle.msc_chart.specs.Faults.{Stands, IsFirstFault}
 use Rattle.msc_chart.specs.Orders.{WiredChart, wired}
@@ -16,6 +15,8 @@ use Rattle.msc_race.specs.declared.verdict.Verdict.{Verdict}
 use Rattle.msc_race.specs.declared.verdict.Verdict.TheVariants.{Pass, Races}
 use Rattle.msc_race.specs.Races.{IsVerdict, TellsRuns}
 use Rattle.msc_source.specs.Texts.{IsChartOf}
+use Rattle.msc_judge.specs.Findings.{AreChosen}
+use Rattle.msc_judge.specs.Pages.{WritesBeginning}
 use Rattle.msc_report.specs.declared.fault.Fault.{Fault}
 use Rattle.msc_report.specs.declared.fault.Fault.TheVariants.{Chart, Memory}
 use Rattle.msc_report.specs.Verdicts.{verdict_text, race_text}
@@ -29,10 +30,6 @@ passes (Races pairs) = false
 abbrev pub races_of : Verdict → List (ℕ × ℕ)
 races_of Pass = []
 races_of (Races pairs) = pairs
-
--- each event's chosen run
-abbrev pub AreChosen : WiredChart → (ℕ → List ℕ) → Type 0
-AreChosen chart runs = (e : ℕ) → e < length chart.events → IsChosenRun chart e (runs e)
 
 -- each race in order, with the run of its first event
 abbrev pub shown_text : Drawing → (ℕ → List ℕ) → List (ℕ × ℕ) → List ℕ
@@ -78,10 +75,6 @@ pub record Prints (text : List ℕ) (queues : Queues) (show : ℕ) (passed : Boo
 abbrev pub WritesVerdict : List ℕ → Queues → ℕ → Bool → Option (List ℕ) → Option (List ℕ) → Type 0
 WritesVerdict text queues show passed before after =
     (printed : List ℕ) × Prints text queues show passed printed × Appends before after printed
-
--- a beginning of a text went behind the known bytes of a writer
-abbrev pub WritesBeginning : Option (List ℕ) → Option (List ℕ) → List ℕ → Type 0
-WritesBeginning before after text = (front rest : List ℕ) × (text ≡ front ++ rest) × Appends before after front
 
 -- a beginning of what is printed of the text went behind the known bytes of a writer
 abbrev pub BeginsVerdict : List ℕ → Queues → ℕ → Option (List ℕ) → Option (List ℕ) → Type 0

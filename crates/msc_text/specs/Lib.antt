@@ -2,6 +2,6 @@
 pub mod Answers
 pub mod Checking
 pub mod Charting
-pub mod Pages
+pub mod Judging
 -- what the code keeps
-pub mod Calls
+pub mod Plain

@@ -16,7 +16,7 @@ use Rattle.msc_report.specs.declared.fault.Fault.{Fault}
 use Rattle.msc_report.specs.declared.fault.Fault.TheVariants.{Parse, Chart}
 use Rattle.msc_report.specs.Refusals.{of_run}
 use Rattle.msc_report.specs.Traces.{trace_text}
-use Rattle.msc_text.proofs.RunEvents.{run_events}
+use Rattle.msc_race.proofs.Runs.RunEvents.{run_events}
 use Rattle.msc_source.specs.Texts.{IsChartOf}
 use Rattle.msc_tool.specs.Running.{NamesAnInstance, PrintsExecution}
 

@@ -3,10 +3,21 @@ use Rattle.std.proofs.lemmas.Result.{err_from_is_err_and}
 use Rattle.msc_command.proofs.Told.{keeps_itself, no_pair, unanswered}
 use Rattle.msc_command.proofs.program.answer.Goals as goal
 
-pub returns-in-false-3-clause-written : goal.returns-in-false-3-clause-written
-returns-in-false-3-clause-written g c =
-    let wrote = rw c.in-false-3.is at c.in_ok-study_text-in-Judge.ensures.written in
-    rw c.in-Judge.is (wrote.0, wrote.1, keeps_itself (g.O.Write.contents c.args.output.now))
+pub returns-in-true-clause-written : goal.returns-in-true-clause-written
+returns-in-true-clause-written g c =
+    rw c.in-Check.is (record { format = c.format.result; its = c.format.ensures; wrote = rw c.in-true.is at c.in_ok-judge_text-in-Check.ensures.written })
+
+pub returns-in-false-clause-written : goal.returns-in-false-clause-written
+returns-in-false-clause-written g c =
+    rw c.in-Check.is (record { format = c.format.result; its = c.format.ensures; wrote = rw c.in-false.is at c.in_ok-judge_text-in-Check.ensures.written })
+
+pub returns-in-true-2-clause-written : goal.returns-in-true-2-clause-written
+returns-in-true-2-clause-written g c =
+    rw c.in-Judge.is (rw c.in-true-2.is at c.in_ok-passes_text-in-Judge.ensures.passes, keeps_itself (g.O.Write.contents c.args.output.now))
+
+pub returns-in-false-2-clause-written : goal.returns-in-false-2-clause-written
+returns-in-false-2-clause-written g c =
+    rw c.in-Judge.is (rw c.in-false-2.is at c.in_ok-passes_text-in-Judge.ensures.passes, keeps_itself (g.O.Write.contents c.args.output.now))
 
 pub returns-in_err-read_text-in-Read-clause-refused : goal.returns-in_err-read_text-in-Read-clause-refused
 returns-in_err-read_text-in-Read-clause-refused g c =
@@ -14,22 +25,16 @@ returns-in_err-read_text-in-Read-clause-refused g c =
     let said = c.in_err-read_text-in-Read.ensures in
     rw (p.1, p.2) (unanswered _ _ _ _ _ _ _ c.in-Read.is (said.refused, said.no_chart, said.started) (λ memory device. ap g.O.Write.contents (said.untouched device)))
 
-pub returns-in_err-check_text-in-Check-clause-refused : goal.returns-in_err-check_text-in-Check-clause-refused
-returns-in_err-check_text-in-Check-clause-refused g c =
-    let p = err_from_is_err_and c.from_residual-in_err-check_text-in-Check.result c.from_residual-in_err-check_text-in-Check.ensures.1 in
-    let said = c.in_err-check_text-in-Check.ensures in
+pub returns-in_err-judge_text-in-Check-clause-refused : goal.returns-in_err-judge_text-in-Check-clause-refused
+returns-in_err-judge_text-in-Check-clause-refused g c =
+    let p = err_from_is_err_and c.from_residual-in_err-judge_text-in-Check.result c.from_residual-in_err-judge_text-in-Check.ensures.1 in
+    let said = c.in_err-judge_text-in-Check.ensures in
     rw (p.1, p.2) (unanswered _ _ _ _ _ _ _ c.in-Check.is (said.refused, said.no_chart.stands, said.started) (λ memory device. ap g.O.Write.contents (said.untouched memory device)))
 
-pub returns-in_err-study_text-in-Study-clause-refused : goal.returns-in_err-study_text-in-Study-clause-refused
-returns-in_err-study_text-in-Study-clause-refused g c =
-    let p = err_from_is_err_and c.from_residual-in_err-study_text-in-Study.result c.from_residual-in_err-study_text-in-Study.ensures.1 in
-    let said = c.in_err-study_text-in-Study.ensures in
-    rw (p.1, p.2) (unanswered _ _ _ _ _ _ _ c.in-Study.is (said.refused, said.no_chart.stands, said.started) (λ memory device. ap g.O.Write.contents (said.untouched memory device)))
-
-pub returns-in_err-study_text-in-Judge-clause-refused : goal.returns-in_err-study_text-in-Judge-clause-refused
-returns-in_err-study_text-in-Judge-clause-refused g c =
-    let p = err_from_is_err_and c.from_residual-in_err-study_text-in-Judge.result c.from_residual-in_err-study_text-in-Judge.ensures.1 in
-    let said = c.in_err-study_text-in-Judge.ensures in
+pub returns-in_err-passes_text-in-Judge-clause-refused : goal.returns-in_err-passes_text-in-Judge-clause-refused
+returns-in_err-passes_text-in-Judge-clause-refused g c =
+    let p = err_from_is_err_and c.from_residual-in_err-passes_text-in-Judge.result c.from_residual-in_err-passes_text-in-Judge.ensures.1 in
+    let said = c.in_err-passes_text-in-Judge.ensures in
     rw (p.1, p.2) (unanswered _ _ _ _ _ _ _ c.in-Judge.is (said.refused, said.no_chart.stands, said.started) (λ memory device. refl))
 
 pub returns-in_err-explain_text-in-Explain-clause-refused : goal.returns-in_err-explain_text-in-Explain-clause-refused

@@ -5,7 +5,7 @@ use Rattle.msc_command.proofs.program.obey.Goals as goal
 pub returns-in-Ok-clause-obeyed : goal.returns-in-Ok-clause-obeyed
 returns-in-Ok-clause-obeyed g c =
     let done = c.in-Ok.ensures.written in
-    obeys c.args.command.now _ c.in-Some.task done.0 c.in-Ok.status _ _ _ _ c.in-Some.ensures
+    obeys c.args.command.now _ c.in-Some.task _ done.0 c.in-Ok.status _ _ _ _ (search rules) c.in-Some.ensures
     (λ named. done.1 (search rules)) done.2
 
 pub returns-in-Err-clause-obeyed : goal.returns-in-Err-clause-obeyed

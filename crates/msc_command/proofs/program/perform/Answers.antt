@@ -21,6 +21,6 @@ returns-in-Ok-clause-written g c =
     let told = c.in_ok-status.ensures.written in (
       c.in_ok-text.text.items,
       c.in_ok-text.ensures.rest,
-      subst (λ (t : List ℕ). WritesAnswer c.args.task t c.in_ok-status.status (g.O.Write.contents c.args.output.now) (g.O.Write.contents c.flush.new.self)) c.as_slice.ensures.value
-          (answer_kept c.args.task _ c.in_ok-status.status _ (g.O.Write.contents c.answer.new.output) _ told c.flush.ensures.bytes),
+      subst (λ (t : List ℕ). WritesAnswer c.args.task c.args.file.now t c.in_ok-status.status (g.O.Write.contents c.args.output.now) (g.O.Write.contents c.flush.new.self)) c.as_slice.ensures.value
+          (answer_kept c.args.task c.args.file.now _ c.in_ok-status.status _ (g.O.Write.contents c.answer.new.output) _ told c.flush.ensures.bytes),
     )
