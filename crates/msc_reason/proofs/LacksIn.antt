@@ -38,11 +38,13 @@ module _ (e : EnforcedChart) (is : IsEnforced e) (accepted : IsAccepted e.chart)
       (λ early. early)
       (λ none other. (one none, λ same. clash (eq-eqb _ _ same) (not-true _ other)))
       (λ none same late. (
-      share_from (wiring_of e) x y (one none) (race_input (wiring_of e) x y race) (eqb-true _ _ same),
-      is.enforced.holds _ _ (matched.in_range y known.1) (matched.in_range x known.0) late))
+        share_from (wiring_of e) x y (one none) (race_input (wiring_of e) x y race) (eqb-true _ _ same),
+        is.enforced.holds _ _ (matched.in_range y known.1) (matched.in_range x known.0) late,
+      ))
       (λ none same free. (
-      share_from (wiring_of e) x y (one none) (race_input (wiring_of e) x y race) (eqb-true _ _ same),
-      λ late. clash (is.enforced.complete _ _ late) free))
+        share_from (wiring_of e) x y (one none) (race_input (wiring_of e) x y race) (eqb-true _ _ same),
+        λ late. clash (is.enforced.complete _ _ late) free,
+      ))
 
 -- so by the enforced order each race has its lack
 pub all_lacks : (e : EnforcedChart) → IsEnforced e → IsAccepted e.chart → AreLacks e (lack_in e)

@@ -94,8 +94,11 @@ module _ (e : EnforcedChart) (allowed : KindSet) where
       let value : get_or new y 0 ≡ k = marks y ∙ ap (λ (b : Bool). cond b k (get_or old y 0)) some in
       let one = any_parts (ends_in y) pairs some in
       let its = counted_parts e allowed k one.0.0 one.0.1 (subst (λ (l : List (ℕ × ℕ)). Occurs l one.0) are one.1) in
-      rw value (omega (arith, less), subst (λ (n : ℕ). is_counted e allowed k n ≡ true) (eqb-true one.0.1 y one.2)
-      (subst (λ (n : ℕ). is_counted e allowed n one.0.1 ≡ true) its.0 its.1)))
+      rw value (
+        omega (arith, less),
+        subst (λ (n : ℕ). is_counted e allowed k n ≡ true) (eqb-true one.0.1 y one.2)
+            (subst (λ (n : ℕ). is_counted e allowed n one.0.1 ≡ true) its.0 its.1),
+      ))
       (λ none.
       let value : get_or new y 0 ≡ get_or old y 0 = marks y ∙ ap (λ (b : Bool). cond b k (get_or old y 0)) none in
       rw value (before x y (earlier none) its))

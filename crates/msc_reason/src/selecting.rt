@@ -223,11 +223,7 @@ pub fn count_counting(
 
 /// Whether no race of a chart counts. It stops at the first event with one that does. An error is a
 /// growth of memory that was refused.
-pub fn none_counts(
-    alloc: Global,
-    enforced: &Enforced,
-    allowed: KindSet,
-) -> Result<bool, AllocError>
+pub fn none_counts(alloc: Global, enforced: &Enforced, allowed: KindSet) -> Result<bool, AllocError>
     ensures { IfOk result (λ none. none
         ≡ nat_eq (length (counting enforced.now allowed (lack_in enforced.now))) 0) }
 {

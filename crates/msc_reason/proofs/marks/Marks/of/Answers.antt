@@ -53,7 +53,7 @@ loop-e-preserved c =
     }
 
 pub returns : goal.returns
-returns c = 
+returns c =
     let e = c.args.enforced.now in
     let n : ℕ = c.events-events.result in
     let test = is_counted e c.args.allowed in
