@@ -1,5 +1,5 @@
-//! The answers of the program on a text alone: its canonical text, the verdict on its chart, and what
-//! is asked of its races.
+//! The answers of the program on a text alone: its canonical text, the verdict on its chart, and
+//! what is asked of its races.
 //!
 //! Each call speaks of the bytes of a text and of those that it gives to a writer, so what the
 //! program prints is a stated function of what it reads.
