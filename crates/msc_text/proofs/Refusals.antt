@@ -13,8 +13,8 @@ use Rattle.msc_source.specs.Reading as reading
 use Rattle.msc_source.specs.Texts.{IsChartOf}
 use Rattle.msc_report.specs.declared.fault.Fault.{Fault}
 use Rattle.msc_report.specs.declared.fault.Fault.TheVariants.{Parse, Chart, Memory}
-use Rattle.msc_report.specs.declared.fault.WriteFault.{WriteFault}
-use Rattle.msc_report.specs.declared.fault.WriteFault.TheVariants as writing
+use Rattle.msc_judge.specs.declared.page.WriteFault.{WriteFault}
+use Rattle.msc_judge.specs.declared.page.WriteFault.TheVariants as writing
 use Rattle.msc_report.specs.Refusals.{of_source, of_writing}
 use Rattle.msc_text.specs.Answers.{RefusesText, StartsNothing}
 use Rattle.msc_text.specs.Checking.{RefusesDraft}

@@ -5,8 +5,9 @@ ghost use Rattle.std.specs.Io.KnownBytes.{Appends};
 ghost use Rattle.msc_parser.specs.Canonical.{canonical};
 ghost use Rattle.msc_text.specs.Answers.{BuildsNoChart, RefusesText, StartsNothing, WritesDraft};
 
+use msc_judge::WriteFault;
 use msc_parser::laws::one_parsing;
-use msc_report::{Fault, WriteFault, write_draft};
+use msc_report::{Fault, write_draft};
 use msc_source::{Language, Reading};
 use std::alloc::Global;
 use std::io::Write;
