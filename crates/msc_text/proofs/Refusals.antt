@@ -1,5 +1,5 @@
 -- How the faults of texts and drafts are answered.
-use Rattle.std.proofs.Common.{◌≡◌, ◌≢◌, ◌⊎◌, ℕ, List, Result, Ok, Err, refl, ap, sym, ◌∙◌, subst, inl, inr}
+use Rattle.std.proofs.Common.{◌≡◌, ◌≢◌, ℕ, List, Result, Ok, Err, refl, ap, sym, ◌∙◌, subst, inl, inr}
 use Rattle.msc_parser.specs.declared.fault.ParseFault.{ParseFault}
 use Rattle.msc_parser.specs.Grammar.{Tree}
 use Rattle.msc_parser.specs.Parsing.{HasDraft, HasParseFault, OneParsing}
@@ -16,7 +16,7 @@ use Rattle.msc_report.specs.declared.fault.Fault.TheVariants.{Parse, Chart, Memo
 use Rattle.msc_judge.specs.declared.page.WriteFault.{WriteFault}
 use Rattle.msc_judge.specs.declared.page.WriteFault.TheVariants as writing
 use Rattle.msc_report.specs.Refusals.{of_source, of_writing}
-use Rattle.msc_text.specs.Answers.{RefusesText, StartsNothing}
+use Rattle.msc_text.specs.Answers.{RefusesText}
 use Rattle.msc_text.specs.Checking.{RefusesDraft}
 
 module _ (one : OneParsing) (text : List ℕ) where
@@ -81,12 +81,6 @@ module _ (one : OneParsing) (text : List ℕ) where
     stands = λ f e. absurd (other f e);
     comes = λ t h f stands. absurd (is.faultless f (subst (λ (x : Tree). Stands x f) (one.draft text t is.draft h is.has) stands));
   }
-
--- the fault of a text that has no chart names no instance
-pub source_starts_nothing : {A : Type 0} (f : SourceFault) → StartsNothing {A = A} (Err (of_source f))
-source_starts_nothing {A} (sources.Parse f) i e = cc
-source_starts_nothing {A} (sources.Chart f) i e = cc
-source_starts_nothing {A} sources.Memory i e = cc
 
 -- why a text has no draft is why it has no chart
 pub read_refused : (text : List ℕ) (f : SourceFault) → reading.RefusesDraft MscPr text f → reading.Refuses MscPr text f

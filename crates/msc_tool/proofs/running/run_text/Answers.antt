@@ -1,7 +1,7 @@
-use Rattle.std.proofs.Common.{◌∙◌, sym, subst}
+use Rattle.std.proofs.Common.{sym, subst}
 use Rattle.std.proofs.lemmas.Result.{err_from_is_err_and}
 use Rattle.msc_source.specs.Texts.{IsChartOf}
-use Rattle.msc_text.proofs.Refusals.{draft_charted, draft_refused, source_starts_nothing, text_drafted, text_refused}
+use Rattle.msc_text.proofs.Refusals.{draft_charted, draft_refused, text_drafted, text_refused}
 use Rattle.msc_tool.proofs.Ran.{run_names, run_refuses_no_draft, run_refuses_no_text}
 use Rattle.msc_tool.proofs.running.run_text.Goals as goal
 
