@@ -130,13 +130,7 @@ impl Lines {
     }
 
     /// Puts the line of a race behind a page.
-    fn put_race(
-        &self,
-        page: &mut Page,
-        chart: &Chart,
-        e: Event,
-        f: Event,
-    ) -> Result<(), AllocError>
+    fn put_race(&self, page: &mut Page, chart: &Chart, e: Event, f: Event) -> Result<(), AllocError>
         requires fits { FitsLines chart.now self.now }
         requires e_known { e < length chart.now.events }
         requires f_known { f < length chart.now.events }
