@@ -233,6 +233,9 @@ impl<'t, 'a, R: Renderer> Teller<'t, 'a, R> {
             self.now.listing.now.allowed self.now.listing.now.closest
             (lack_in self.now.listing.now.judged))) }
     {
+        if races == 0 {
+            return Ok(());
+        }
         self.listing.enforced().enforced();
         let mut stream = Stream::new(alloc);
         let mut number = 0;

@@ -227,8 +227,7 @@ fn a_refused_text_leaves_the_writer_with_no_call(rt: HostRuntime) {
 
 /// Whether a race of a chart of four events is written, with a run behind it.
 fn is_race_written(writer: &mut Narrow, chart: &Chart) -> bool {
-    chart.events() == 4
-        && write_race(writer, chart, 1, 2, Some(&[0, 3, 2, 1])).is_ok()
+    chart.events() == 4 && write_race(writer, chart, 1, 2, Some(&[0, 3, 2, 1])).is_ok()
 }
 
 /// Whether that race of `two_senders` is written as `wanted`.

@@ -1,6 +1,6 @@
 use Rattle.std.proofs.Common.{Bool, ◌≡◌, ◌≤◌, ℕ, ◌+◌, List, [], ◌++◌, length, Err, sym, ap, ◌∙◌, subst, arith}
 use Rattle.std.specs.List.{filter}
-use Rattle.std.proofs.lemmas.List.{append-nil}
+use Rattle.std.proofs.lemmas.List.{append-nil, nil_from_length}
 use Rattle.std.proofs.lemmas.Result.{err_from_is_err_and}
 use Rattle.msc_race.specs.Views.{races_from, races_of, AreFrom, AreRacesOf}
 use Rattle.msc_race.specs.Wired.{EnforcedChart, IsEnforced}
@@ -16,6 +16,17 @@ use Rattle.msc_judge.specs.Findings.{texts}
 use Rattle.msc_judge.specs.Pages.{Pages, Puts}
 use Rattle.msc_judge.specs.Telling.{race_text, told_from}
 use Rattle.msc_judge.proofs.judging.Teller.put_all.Goals as goal
+
+pub returns-then-races-eq0 : goal.returns-then-races-eq0
+returns-then-races-eq0 g c runs are =
+    let s = c.args.self.now.listing.now in
+    let r = g.R.Renderer in
+    let q = c.args.self.now.question in
+    let page : List ℕ = c.args.page.now.bytes.items in
+    let text = told_from (race_text (texts r.heading_text r.run_text r.finding_text r.end_text c.args.self.now.renderer.now s.judged.chart) s.judged q runs) q.most 0 in
+    let none = nil_from_length (races_of s.judged) (sym c.requires.all ∙ c.if-races-eq0.true) in
+    let empty = ap (λ (pairs : List (ℕ × ℕ)). page ++ text (filter (is_listed s.judged s.allowed s.closest (lack_in s.judged)) pairs)) none in
+    pages_in _ page page _ (sym (empty ∙ append-nil page))
 
 pub loop-e-init : goal.loop-e-init
 loop-e-init g c =
