@@ -13,6 +13,7 @@ pub mod Growing
 pub mod Stepped
 pub mod Zipped
 pub mod Logs
+pub mod Due
 pub mod Finding
 pub mod Numbered
 pub mod Begun

@@ -6,7 +6,7 @@ use Rattle.std.proofs.lemmas.Bool.{eq-eqb, ne_eqb, cases_eq, cases_lt}
 use Rattle.std.proofs.lemmas.List.{append-nil}
 use Rattle.std.proofs.lemmas.List.Elements.{filter-append}
 use Rattle.msc_chart.specs.Lists.{occurs}
-use Rattle.msc_chart.specs.Charts.{line, before, is_controlled, is_output}
+use Rattle.msc_chart.specs.Charts.{line, before, is_controlled}
 use Rattle.msc_chart.specs.Drawings.{Drawing}
 use Rattle.msc_chart.proofs.ListLemmas.{clash, by_test, Steps-push, occurs_other, occurs-left}
 use Rattle.msc_chart.proofs.Drawn.{before_parts, before_from, controlled_parts}
@@ -14,9 +14,8 @@ use Rattle.msc_execution.specs.Logs.{Begins, IsLogOf, MayBeLogged, IsWholeLog, l
 use Rattle.msc_execution.proofs.Lists.Words.{steps_once, passes, kept, fails}
 use Rattle.msc_execution.proofs.Lists.Ranges.{filter_more, in_range, range_has}
 use Rattle.msc_execution.proofs.Wiring.Fitted.{pigeons}
-use Rattle.msc_execution.specs.Running.{IsFirstDue, IsReadyToSend}
 use Rattle.msc_instance.specs.declared.active.Post.{Post}
-use Rattle.msc_instance.specs.Active.{line_below, post_role, IsPost, IsNext, HasUpTo, IsBlocked}
+use Rattle.msc_instance.specs.Active.{line_below, IsPost, IsNext, HasUpTo, IsBlocked}
 use Rattle.msc_instance.proofs.Growing.{filter_yes, filter_no}
 
 -- a log is no longer than its line
@@ -178,21 +177,6 @@ module _ (d : Drawing) (p : Post) (post : IsPost d p) (log : List ℕ) (next : �
               (subst (λ l. Begins l (controlled d (line_events d p.instance))) (sym next_after.done) begins),
           next_after,
         )
-
-    -- it is the first that is due
-    pub first_due : IsFirstDue d p.instance log next
-    first_due = record {
-      controlled = yes';
-      on_line = (on_post next is.from within).1;
-      missing = not_logged next (omega arith) yes';
-      first = logged_below;
-    }
-
-    -- so an instance is ready for it, where it is an output and all that is drawn before it is logged
-    pub ready_to_send : (now : List ℕ) → now ≡ log → is_output d.events next ≡ true
-        → ((x : ℕ) → before d.events x next ≡ true → occurs log x ≡ true) → IsReadyToSend (post_role d p) now
-    ready_to_send now same sends all = subst (IsReadyToSend (post_role d p)) (sym same)
-        (record { output = next; due = first_due; sends = sends; ready = all })
 
   -- all controlled events are logged, so none is due
   pub none_due : next ≡ p.end → IsBlocked d p.instance log

@@ -4,7 +4,8 @@ use Rattle.std.proofs.lemmas.Option.{slice_get-get_or}
 use Rattle.msc_execution.specs.Roles.{NumberedInlet}
 use Rattle.msc_execution.specs.Running.{AllHaveEnded, AreEager, SomeIdled}
 use Rattle.msc_instance.specs.declared.active.Active.{Active}
-use Rattle.msc_instance.specs.Active.{HasSent, IsIdle, SomeFound}
+use Rattle.msc_instance.specs.Active.{HasSent}
+use Rattle.msc_instance.specs.Taking.{IsIdle, SomeFound}
 
 -- where there are inlets, on one of them no more than the last n takes have found nothing
 abbrev pub IsNotLate : ℕ → List NumberedInlet → Type 0

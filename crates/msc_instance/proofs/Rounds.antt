@@ -7,7 +7,8 @@ use Rattle.msc_fifo.specs.Entries.{greatest_idle}
 use Rattle.msc_execution.specs.Roles.{NumberedInlet}
 use Rattle.msc_instance.specs.declared.active.Active.{Active}
 use Rattle.msc_instance.specs.declared.active.Post.{Post}
-use Rattle.msc_instance.specs.Active.{IsSound, IsQuiet, IsIdle, IsFound, SomeFound, logged_by, weight}
+use Rattle.msc_instance.specs.Active.{IsSound, logged_by, weight}
+use Rattle.msc_instance.specs.Taking.{IsQuiet, IsIdle, IsFound, SomeFound}
 
 -- no take on the first k inlets found anything
 pub record HasFoundNothing (d : Drawing) (p : Post) (k : ℕ) (a b : Active) : Type 0 where

@@ -22,7 +22,8 @@ use Rattle.msc_execution.proofs.Wiring.Logged.{input_is}
 use Rattle.msc_instance.specs.declared.active.Active.{Active}
 use Rattle.msc_instance.specs.declared.active.Post.{Post}
 use Rattle.msc_instance.specs.declared.journal.Journal.{Journal}
-use Rattle.msc_instance.specs.Active.{IsSound, IsNext, IsQuiet, IsFound, EndsSo, HasGot, logged_by, post_role, first_ends, weight}
+use Rattle.msc_instance.specs.Active.{IsSound, IsNext, EndsSo, HasGot, logged_by, post_role, first_ends, weight}
+use Rattle.msc_instance.specs.Taking.{IsQuiet, IsFound}
 use Rattle.msc_instance.proofs.Logs.{log_input, log_shorter, upto_push}
 use Rattle.msc_instance.proofs.Numbered.{inlet_number, inlet_numbers, number_there}
 use Rattle.msc_instance.proofs.Begun.{begun_took, begun_ended, begun_nothing}

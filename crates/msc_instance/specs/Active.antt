@@ -1,5 +1,5 @@
 -- What is known of an instance while it runs, between two steps.
-use Rattle.std.specs.Prelude.{◌≡◌, ◌≢◌, ℕ, ◌+◌, ◌-◌, ◌<◌, ◌≤◌, min, Bool, true, false, List, ◌++◌, ◌∷◌, [], length, filter, get_or, All, nat_eq, IsTrue, vec_capacity}
+use Rattle.std.specs.Prelude.{◌≡◌, ℕ, ◌+◌, ◌-◌, ◌<◌, ◌≤◌, Bool, true, false, List, ◌++◌, ◌∷◌, [], length, filter, All, nat_eq, IsTrue, vec_capacity}
 use Rattle.std.specs.List.{AllZip, range_with_len, sum_by}
 use Rattle.msc_chart.specs.Lists.{occurs}
 use Rattle.msc_chart.specs.Charts.{line, before}
@@ -8,10 +8,9 @@ use Rattle.msc_chart.specs.Laws.{SegmentsRise}
 use Rattle.msc_fifo.specs.declared.entry.Entry.TheVariants.{Message, Ended}
 use Rattle.msc_fifo.specs.Claims.{claim}
 use Rattle.msc_fifo.specs.declared.entry.Taken.{Taken}
-use Rattle.msc_fifo.specs.Entries.{entries_of, idle_after, ends_in, greatest_idle}
+use Rattle.msc_fifo.specs.Entries.{entries_of, idle_after, ends_in}
 use Rattle.msc_fifo.specs.Ends.{IsSameOutlet, IsSameInlet, Clocked, unended_in}
 use Rattle.msc_execution.specs.declared.end.End.{End}
-use Rattle.msc_execution.specs.declared.end.End.TheVariants as end
 use Rattle.msc_execution.specs.Roles.{Role, EndLists, NumberedOutlet, NumberedInlet, role, IsFit}
 use Rattle.msc_execution.specs.Logs.{Reading, IsLogOf, line_events, controlled}
 use Rattle.msc_execution.specs.Fits.{OutputsHaveOutlets, LogsKeepQuotas, InletsBringOwn}
@@ -19,10 +18,6 @@ use Rattle.msc_execution.specs.Growth.{HasTaken}
 use Rattle.msc_execution.specs.Running.{Left, IsFirstDue, EndsAs}
 use Rattle.msc_instance.specs.declared.active.Active.{Active}
 use Rattle.msc_instance.specs.declared.active.Post.{Post}
-use Rattle.msc_instance.specs.declared.taking.TakeStep.{TakeStep}
-use Rattle.msc_instance.specs.declared.taking.TakeStep.TheVariants as step
-use Rattle.msc_instance.specs.declared.round.Round.{Round}
-use Rattle.msc_instance.specs.declared.round.Round.TheVariants as round
 use Rattle.msc_instance.specs.Views.{ends_of}
 use Rattle.msc_instance.specs.Steps.{State, HasBegun, ArePutBy}
 
@@ -158,46 +153,3 @@ what_is_left a end = record { log = a.journal.log.items; ends = ends_now a; end 
 -- the run of an instance ends so
 abbrev pub EndsSo : Drawing → Post → Bool → ℕ → Active → End → Type 0
 EndsSo d p open' patience a end = HasCome (post_role d p) open' patience (first_ends p) a.shut (what_is_left a end)
-
--- a take on inlet k found nothing
-pub record IsQuiet (k : ℕ) (a b : Active) : Type 0 where
-  pub kept : logged_by b ≡ logged_by a
-  pub idle : (n : NumberedInlet)
-      → (get_or b.inlets.items k n).1.idle ≡ min ((get_or a.inlets.items k n).1.idle + 1) greatest_idle
-  pub others : (j : ℕ) (n : NumberedInlet) → j ≢ k → get_or b.inlets.items j n ≡ get_or a.inlets.items j n
-
--- and one found something
-pub record IsFound (k : ℕ) (a b : Active) : Type 0 where
-  pub idle : (n : NumberedInlet) → (get_or b.inlets.items k n).1.idle ≡ 0
-  pub others : (j : ℕ) (n : NumberedInlet) → j ≢ k → get_or b.inlets.items j n ≡ get_or a.inlets.items j n
-
--- after a take on inlet k
-abbrev pub TookOne : Drawing → Post → ℕ → Active → Active → TakeStep → Type 0
-TookOne d p k a b step.Nothing = IsSound d p b × IsQuiet k a b × (weight d p b ≡ weight d p a)
-TookOne d p k a b step.Ended = IsSound d p b × (weight d p b < weight d p a) × IsFound k a b
-TookOne d p k a b step.Logged = IsSound d p b × (weight d p b < weight d p a) × IsFound k a b
-TookOne d p k a b step.Stopped = IsSound d p b
-TookOne d p k a b (step.Foreign m) = (open' : Bool) (patience : ℕ)
-    → EndsSo d p open' patience b (end.Foreign m)
-
--- no take of a round found anything
-pub record IsIdle (a b : Active) : Type 0 where
-  pub kept : logged_by b ≡ logged_by a
-  pub many : length b.inlets.items ≡ length a.inlets.items
-  pub once : (j : ℕ) (i : NumberedInlet)
-      → (get_or b.inlets.items j i).1.idle ≤ (get_or a.inlets.items j i).1.idle + 1
-  pub idle : (n : ℕ) → n < greatest_idle → All (λ (i : NumberedInlet). n ≤ i.1.idle) a.inlets.items
-      → All (λ (i : NumberedInlet). n + 1 ≤ i.1.idle) b.inlets.items
-
--- the last take on some inlet found something
-abbrev pub SomeFound : Active → Type 0
-SomeFound a = (j : ℕ) × (j < length a.inlets.items)
-    × ((n : NumberedInlet) → (get_or a.inlets.items j n).1.idle ≡ 0)
-
--- after a round of takes
-abbrev pub TookEach : Drawing → Post → Active → Active → Round → Type 0
-TookEach d p a b round.Empty = IsSound d p b × IsIdle a b × (weight d p b ≡ weight d p a)
-TookEach d p a b round.Busy = IsSound d p b × (weight d p b < weight d p a) × SomeFound b
-TookEach d p a b round.Stopped = IsSound d p b
-TookEach d p a b (round.Foreign m) = (open' : Bool) (patience : ℕ)
-    → EndsSo d p open' patience b (end.Foreign m)

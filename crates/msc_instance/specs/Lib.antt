@@ -4,6 +4,7 @@ pub mod Gates
 -- what the code keeps
 pub mod Steps
 pub mod Active
+pub mod Taking
 pub mod Handing
 pub mod Fitting
 pub mod Threads

@@ -1,8 +1,9 @@
 //! Rounds of takes.
 
 ghost use Rattle.std.specs.Prelude.{◌≡◌, true};
-ghost use Rattle.msc_instance.specs.Active.{IsSound, TookEach, logged_by};
+ghost use Rattle.msc_instance.specs.Active.{IsSound, logged_by};
 ghost use Rattle.msc_instance.specs.Gates.{AreLet, EndsAtInput};
+ghost use Rattle.msc_instance.specs.Taking.{TookEach};
 
 use crate::active::{Active, Post};
 use crate::gate::Gate;

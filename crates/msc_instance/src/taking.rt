@@ -2,8 +2,9 @@
 
 ghost use Rattle.std.specs.Prelude.{◌≡◌, ◌<◌, ◌↔◌, true, length, IsTrue};
 ghost use Rattle.msc_chart.specs.Orders.{queue_of};
-ghost use Rattle.msc_instance.specs.Active.{HasGot, IsSound, TookOne, logged_by};
+ghost use Rattle.msc_instance.specs.Active.{HasGot, IsSound, logged_by};
 ghost use Rattle.msc_instance.specs.Gates.{AreLet, EndsAtInput};
+ghost use Rattle.msc_instance.specs.Taking.{TookOne};
 
 use crate::active::{Active, Post};
 use crate::gate::Gate;

@@ -1,5 +1,5 @@
 -- What running a chart answers.
-use Rattle.std.proofs.Common.{◌≡◌, ◌≢◌, ℕ, ◌<◌, Bool, List, length, Option, Some, Result, Ok, Err, IsTrue, ◌↔◌, subst, ap, ◌∙◌}
+use Rattle.std.proofs.Common.{◌≡◌, ◌≢◌, ℕ, ◌<◌, Bool, List, length, Option, Some, Result, Ok, Err, IsTrue, ◌↔◌, subst, ap, refl, ◌∙◌}
 use Rattle.std.specs.Prelude.{IfOk, IfErr}
 use Rattle.std.specs.Io.KnownBytes.{Appends}
 use Rattle.std.specs.List.{All}
@@ -17,8 +17,16 @@ use Rattle.msc_report.specs.declared.fault.Fault.TheVariants.{Parse, Chart, NotS
 use Rattle.msc_report.specs.Traces.{trace_text}
 use Rattle.msc_text.proofs.RunEvents.{run_events}
 use Rattle.msc_text.specs.Charting.{IsChartOf}
-use Rattle.msc_tool.specs.Ran.{IsRunFault}
+use Rattle.msc_instance.specs.declared.fault.RunFault.{RunFault}
+use Rattle.msc_instance.specs.declared.fault.RunFault.TheVariants as run
+use Rattle.msc_tool.specs.Ran.{IsRunFault, told_as}
 use Rattle.msc_tool.specs.Running.{NamesAnInstance, PrintsExecution, WritesTrace}
+
+-- why a chart was not run is told by a fault of a chart that was built
+pub told_faults : (d : Drawing) (f : RunFault) → ((i : ℕ) → f ≡ run.NotStarted i → i < length d.instances)
+    → IsRunFault d (told_as f)
+told_faults d (run.NotStarted i) known = known i refl
+told_faults d run.Memory known = tt
 
 -- running a chart refuses no text
 pub ran_no_parse : {A : Type 0} (r : Result A Fault) (d : Drawing) → IfErr r (IsRunFault d) → (f : ParseFault) → r ≢ Err (Parse f)

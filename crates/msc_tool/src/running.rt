@@ -12,7 +12,7 @@ ghost use Rattle.msc_instance.specs.Views.{outcome_of};
 ghost use Rattle.msc_report.specs.Traces.{trace_text};
 ghost use Rattle.msc_text.specs.Answers.{OnRead, RefusesInput, RefusesText};
 ghost use Rattle.msc_text.specs.Checking.{RefusesDraft, RefusesInputDraft};
-ghost use Rattle.msc_tool.specs.Ran.{IsRunFault};
+ghost use Rattle.msc_tool.specs.Ran.{IsRunFault, told_as};
 ghost use Rattle.msc_tool.specs.Running.{NamesAnInstance, NamesAnInstanceOf, PrintsExecution};
 ghost use Rattle.msc_tool.specs.Running.{RunsText, WritesTrace};
 
@@ -41,6 +41,16 @@ fn are_finished(ends: &[End]) -> bool
     true
 }
 
+/// Why a chart was not run, as a fault of the program.
+fn fault_of(fault: RunFault) -> Fault
+    ensures { result ≡ told_as fault }
+{
+    match fault {
+        RunFault::NotStarted(i) => Fault::NotStarted(i),
+        RunFault::Memory => Fault::Memory,
+    }
+}
+
 /// An execution of a chart, or why there is none.
 fn execution_of<R: Threads + Wait + Sync, G: Gate + Sync>(
     rt: &R,
@@ -58,8 +68,7 @@ fn execution_of<R: Threads + Wait + Sync, G: Gate + Sync>(
 {
     match run_chart(rt, alloc, chart, queues, gate, patience) {
         Ok(execution) => Ok(execution),
-        Err(RunFault::NotStarted(i)) => Err(Fault::NotStarted(i)),
-        Err(RunFault::Memory) => Err(Fault::Memory),
+        Err(fault) => Err(fault_of(fault)),
     }
 }
 

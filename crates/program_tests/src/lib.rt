@@ -17,6 +17,8 @@ mod gates;
 #[cfg(test)]
 mod gone;
 #[cfg(test)]
+mod help;
+#[cfg(test)]
 mod host;
 #[cfg(test)]
 mod inputs;

@@ -4,7 +4,8 @@ use Rattle.msc_chart.proofs.ListLemmas.{clash}
 use Rattle.msc_execution.proofs.Lists.Words.{fails}
 use Rattle.msc_instance.specs.declared.active.Active.{Active}
 use Rattle.msc_instance.specs.Active.{HasSent, logged_by}
-use Rattle.msc_instance.proofs.Logs.{first_within, waits, ready, ready_to_send}
+use Rattle.msc_instance.proofs.Logs.{first_within, waits, ready}
+use Rattle.msc_instance.proofs.Due.{ready_to_send}
 use Rattle.msc_instance.proofs.Sendings.{done_waits, done_stopped, waits_stopped}
 use Rattle.msc_instance.proofs.active.Active.do_ready.Goals as goal
 

@@ -1,6 +1,6 @@
 use Rattle.std.proofs.Common.{arith}
 use Rattle.msc_instance.proofs.Runs.{line_room}
-use Rattle.program_tests.proofs.alone.is_left.Goals as goal
+use Rattle.program_tests.proofs.alone.is_left_after.Goals as goal
 
 pub run_instance-left-requires-clause-room : goal.run_instance-left-requires-clause-room
 run_instance-left-requires-clause-room g c =
