@@ -1,0 +1,2 @@
+-- where lines begin and end
+pub mod LineLemmas

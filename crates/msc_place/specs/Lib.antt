@@ -1,0 +1,3 @@
+-- what is promised
+pub mod Positions
+pub mod Excerpts
