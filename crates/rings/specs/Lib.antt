@@ -1,0 +1,4 @@
+-- what is promised
+pub mod Rings
+-- what the code keeps
+pub mod Walking
