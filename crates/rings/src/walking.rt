@@ -1,9 +1,9 @@
 //! A shortest ring through a number.
 
-ghost use Rattle.std.specs.Prelude.{◌≡◌, ◌*◌, ◌<◌, length, IfOk, IfSome, IfNone};
+ghost use Rattle.std.specs.Prelude.{◌≡◌, ◌*◌, ◌<◌, length, IfOk, IfSome, IfNone, MatchOption};
 ghost use Rattle.bit_rows.specs.Rows.{word_count};
 ghost use Rattle.bit_rows.specs.Tables.{cell};
-ghost use Rattle.rings.specs.Rings.{IsRing};
+ghost use Rattle.rings.specs.Rings.{IsLeastRing, HasNoRing};
 ghost use Rattle.rings.specs.Walking.{IsNearest, HasNoNearest};
 
 use crate::away::{NEVER, away_from};
@@ -40,8 +40,9 @@ pub fn ring(
 ) -> Result<Option<Vec<u32>>, AllocError>
     requires square { length steps.now ≡ n * word_count n }
     requires start { start < n }
-    ensures { IfOk result (λ found.
-        IfSome found (λ ring. IsRing (cell n steps.now) start ring.items)) }
+    ensures found { IfOk result
+        (λ found. IfSome found (λ ring. IsLeastRing (cell n steps.now) n start ring.items)) }
+    ensures none { IfOk result (λ found. IfNone found (HasNoRing (cell n steps.now) n start)) }
 {
     let away = away_from(alloc, steps, n, start)?;
     let mut ring = Vec::new(alloc);

@@ -1,5 +1,7 @@
-use Rattle.std.proofs.Common.{◌<◌, All}
+use Rattle.bit_rows.specs.Tables.{cell}
+use Rattle.rings.specs.Searching.{IsReaching}
 use Rattle.rings.proofs.away.reach.Given as goal
 
 abbrev pub invariant-loop-x : goal.invariant-loop-x
-invariant-loop-x l = All (λ q. q < l.n) l.queue.items
+invariant-loop-x l =
+    IsReaching (cell l.n l.steps) l.n l.start l.at l.x l.y l.farther l.away l.queue.items
