@@ -14,7 +14,7 @@ ghost use Rattle.msc_text.specs.Reading.{IsReadFrom};
 
 use crate::commands::{architectures, forms, grammar, kinds};
 use crate::judging::{judge_input, passes_input};
-use crate::words::{Task, task_of};
+use crate::words::{Task, file_of, task_of};
 use clap::{ArgMatches, Error};
 use msc_instance::AlwaysOpen;
 use msc_report::{Fault, PairFault, write_fault, write_pair_fault};
@@ -233,7 +233,7 @@ fn obey<R: Files + Threads + Wait + Sync, I: Read, O: Write, E: Write>(
     let Some(task) = task_of(command, words) else {
         return Status::Refused;
     };
-    let file = words.get_str("FILE").unwrap_or("-");
+    let file = file_of(words);
     match perform_on(rt, alloc, task, file, input, output) {
         Ok(status) => status,
         Err(refusal) => end_refused(faults, refusal),

@@ -3,8 +3,9 @@
 ghost use Rattle.std.specs.Prelude.{◌≡◌, MatchOption, Some, map};
 ghost use Rattle.clap.specs.Matches.{found_of};
 ghost use Rattle.msc_command.specs.Forms.{IsFormat};
-ghost use Rattle.msc_command.specs.Words.{architecture, form, names_kind, AreAllowed, AsksFor};
-ghost use Rattle.msc_command.specs.Words.{AsksToCheck, IsEventWord, IsFlag, IsOptionNumber};
+ghost use Rattle.msc_command.specs.Words.{architecture, file_of, form, names_kind, AreAllowed};
+ghost use Rattle.msc_command.specs.Words.{AsksFor, AsksToCheck, IsEventWord, IsFlag};
+ghost use Rattle.msc_command.specs.Words.{IsOptionNumber};
 ghost use Rattle.msc_command.specs.Words.{LacksEvent, IsNoCommand, IsQuestion};
 
 use clap::ArgMatches;
@@ -130,6 +131,16 @@ fn checking(queues: Queues, words: &ArgMatches) -> Task
         return Task::Judge(queues, allowed_of(words));
     }
     Task::Check(queues, question_of(words), form_of(words))
+}
+
+/// The file that the words name.
+pub fn file_of<'w>(words: &'w ArgMatches) -> &'w str
+    ensures { result.now ≡ file_of (found_of words.entry.now) }
+{
+    match words.get_str("FILE") {
+        Some(file) => file,
+        None => "-",
+    }
 }
 
 /// The architecture that the words name.
