@@ -4,8 +4,9 @@
     studies.py [--charts N] [--messages M] [--seed S] PROGRAM
 
 The charts are those of compare.py. Each is checked under each architecture with a random choice of
-the options --closest, --why, --most, --show, --allow and --quiet: which races are listed, of which
-kinds they are and what they lack is made pair by pair from the enforced order of verdict.py. Prints
+the options --closest, --why, --most, --show, --allow, --format and --quiet: which races are listed,
+of which kinds they are and what they lack is made pair by pair from the enforced order of
+verdict.py. Prints
 how many outputs were compared and how many races were listed. The exit status is 1 at the first
 difference, whose chart is printed.
 """
@@ -25,9 +26,14 @@ def is_enforced(drawn, e, f):
     return bool(drawn.enforced[e] >> f & 1)
 
 
-def is_closest(drawn, e, f):
-    """Nothing is drawn between e and f."""
-    return not any(drawn.before(e, x) and drawn.before(x, f) for x in drawn.all)
+def is_within(drawn, e, f, g, h):
+    """(g, h) lies within (e, f): g is e or drawn after it, and h is f or drawn before it."""
+    return (g == e or drawn.before(e, g)) and (h == f or drawn.before(h, f))
+
+
+def is_closest(drawn, e, f, races):
+    """Within the race (e, f) lies no other one of these."""
+    return not any((g, h) != (e, f) and is_within(drawn, e, f, g, h) for g, h in races)
 
 
 def share_queue(drawn, e, f):
@@ -61,7 +67,11 @@ def study(drawn, options):
     status = int(bool(left))
     if options["quiet"]:
         return [], status
-    listed = [race for race in left if is_closest(drawn, *race)] if options["closest"] else left
+    closest = [race for race in left if is_closest(drawn, *race, left)]
+    if options["format"] == "count":
+        verdict = f"races {len(races)} closest {len(closest)}" if races else "pass"
+        return [f"{verdict} -"], status
+    listed = closest if options["closest"] else left
     verdict = f"races {len(races)}" if races else "pass"
     lines = [f"chart {drawn.name}", f"queues {drawn.queues}", verdict]
     if options["allow"]:
@@ -85,6 +95,7 @@ def some_options(pick):
         "most": pick.choice([0, 1, 2, 2 ** 32 - 1]),
         "show": pick.choice([0, 1, 2 ** 32 - 1]),
         "allow": [pick.choice(KINDS) for _ in range(pick.choice([0, 0, 1, 2]))],
+        "format": pick.choice(["text", "text", "text", "count"]),
         "quiet": pick.random() < 0.1,
     }
 

@@ -13,24 +13,25 @@ use Rattle.clap.specs.declared.builder.value_parser.ValueParser.TheVariants.{Nam
 use Rattle.clap.specs.declared.parser.matches.ArgMatches.{ArgMatches}
 use Rattle.clap.specs.declared.parser.matches.ArgMatches.TheViews.{out-SubCommand}
 use Rattle.clap.specs.declared.parser.matches.SubCommand.{SubCommand}
-use Rattle.msc_command.specs.Commands.{AreTaken, IsGrammar, architecture_words, kind_words, whole_command}
+use Rattle.msc_command.specs.Commands.{AreTaken, IsGrammar, architecture_words, form_words, kind_words, whole_command}
 use Rattle.msc_command.specs.Program.{ObeysMatches, ObeysNamed}
 use Rattle.msc_command.specs.declared.program.Status.{Status}
 use Rattle.msc_command.specs.declared.program.Status.TheVariants.{Refused}
 
 -- the commands are told of with these words
-pub is_grammar : {architectures kinds : Bor (List (Bor Text))} {grammar : App}
+pub is_grammar : {architectures kinds forms : Bor (List (Bor Text))} {grammar : App}
     → map (λ word. word.now) architectures.now ≡ architecture_words → map (λ word. word.now) kinds.now ≡ kind_words
-    → grammar ≡ whole_command (Names architectures) (Names kinds) → IsGrammar grammar
-is_grammar one other is = (_, _, (_, refl, one), (_, refl, other), is)
+    → map (λ word. word.now) forms.now ≡ form_words
+    → grammar ≡ whole_command (Names architectures) (Names kinds) (Names forms) → IsGrammar grammar
+is_grammar one two three is = (_, _, _, (_, refl, one), (_, refl, two), (_, refl, three), is)
 
 -- they are of the kind of which `clap` says all
 pub is_known : (grammar : App) → IsGrammar grammar → is_simple_and_free grammar ≡ true
-is_known grammar known = rw known.4 refl
+is_known grammar known = rw known.6 refl
 
 -- and simple, so that it says their matches
 pub is_simple_grammar : (grammar : App) → IsGrammar grammar → is_simple grammar ≡ true
-is_simple_grammar grammar known = rw known.4 refl
+is_simple_grammar grammar known = rw known.6 refl
 
 -- where neither of two steps fails, the second does not
 second_passes : (first second : Kinds) → or_else first second ≡ [] → second ≡ []
@@ -58,7 +59,7 @@ names_wanted s names held words named below wanted passes =
 -- words that are taken name a command
 names_command : (grammar : App) (words : List Text) → IsGrammar grammar → fault_of grammar words ≡ []
     → is_some (subcommand_of grammar words) ≡ true
-names_command grammar words known taken = names_wanted (built grammar).top _ _ _ _ _ (rw known.4 refl) taken
+names_command grammar words known taken = names_wanted (built grammar).top _ _ _ _ _ (rw known.6 refl) taken
 
 -- what there is
 there_is : {A : Type 0} (n : Option A) → is_some n ≡ true → (a : A) × (n ≡ Some a)

@@ -8,16 +8,18 @@ use Rattle.msc_report.specs.declared.fault.Fault.{Fault}
 use Rattle.msc_report.specs.declared.fault.PairFault.{PairFault}
 use Rattle.msc_study.specs.Explaining.{HasPairFault}
 use Rattle.msc_report.specs.declared.fault.Fault.TheVariants.{Parse, Chart, NotStarted, Memory, Device}
-use Rattle.msc_text.specs.Answers.{OnRead, RefusesText}
-use Rattle.msc_text.specs.Reading.{IsReadFrom}
+use Rattle.msc_text.specs.Answers.{RefusesText}
+use Rattle.msc_source.specs.declared.fault.ReadFault.{ReadFault}
+use Rattle.msc_source.specs.declared.fault.ReadFault.TheVariants as readings
+use Rattle.msc_report.specs.Refusals.{of_reading}
 use Rattle.msc_command.specs.declared.program.Refusal.{Refusal}
 use Rattle.msc_command.specs.declared.program.Refusal.TheVariants as refusals
 use Rattle.msc_command.specs.declared.program.Status.{Status}
 use Rattle.msc_command.specs.declared.program.Status.TheVariants.{Done, Races, Refused, Unfinished, Failed}
 use Rattle.msc_command.specs.declared.words.Task.{Task}
-use Rattle.msc_command.specs.declared.words.Task.TheVariants.{Read, Check, Study, Judge, Explain, Run}
+use Rattle.msc_command.specs.declared.words.Task.TheVariants.{Read, Check, Judge, Explain, Run}
 use Rattle.msc_command.specs.Program.{ends_as, status_code, IsFileText, IsUnanswered, Obeys, RefusesTask, TellsAnswer, TellsRaces, WritesAnswer}
-use Rattle.msc_command.specs.Words.{AsksFor}
+use Rattle.msc_command.specs.Words.{file_of, AsksFor}
 
 -- different ends of a run
 clash : Refused ≡ Failed → ⊥
@@ -31,45 +33,45 @@ RefusesRightly task text answer =
     × ((i : ℕ) → answer ≡ Err (NotStarted i) → RefusesTask task text (refusals.Fault (NotStarted i)))
 
 -- no answer of a task has the status of a refusal, or of a failure
-no_answer : (task : Task) (text : List ℕ) (before after : Option (List ℕ))
-    → (WritesAnswer task text Refused before after → ⊥) × (WritesAnswer task text Failed before after → ⊥)
-no_answer Read text before after = ((λ told. told), (λ told. told))
-no_answer (Check queues show) text before after = ((λ told. told), (λ told. told))
-no_answer (Study queues view) text before after = ((λ told. told), (λ told. told))
-no_answer (Judge queues view) text before after = ((λ told. told), (λ told. told))
-no_answer (Explain queues e f) text before after = ((λ told. told), (λ told. told))
-no_answer (Run queues patience) text before after = ((λ told. told), (λ told. told))
+no_answer : (task : Task) (file text : List ℕ) (before after : Option (List ℕ))
+    → (WritesAnswer task file text Refused before after → ⊥) × (WritesAnswer task file text Failed before after → ⊥)
+no_answer Read file text before after = ((λ told. told), (λ told. told))
+no_answer (Check queues q form) file text before after = ((λ told. told), (λ told. told))
+no_answer (Judge queues allowed) file text before after = ((λ told. told), (λ told. told))
+no_answer (Explain queues e f) file text before after = ((λ told. told), (λ told. told))
+no_answer (Run queues patience) file text before after = ((λ told. told), (λ told. told))
 
 -- the answer of a task is what its status tells
-pub prints : (task : Task) (text : List ℕ) (status : Status) (before after : Option (List ℕ))
-    → WritesAnswer task text status before after → TellsAnswer status before after
-prints task text Done before after told = tt
-prints task text Refused before after told = absurd ((no_answer task text before after).0 told)
-prints task text Failed before after told = tt
-prints Read text Races before after told = absurd told
-prints (Check queues show) text Races before after told = inl (text, queues, show, told)
-prints (Study queues view) text Races before after told = inr (inl (text, queues, view, told))
-prints (Judge queues view) text Races before after told = inr (inr (inl (text, queues, view, told)))
-prints (Explain queues e f) text Races before after told = inr (inr (inr (text, queues, e, f, told)))
-prints (Run queues patience) text Races before after told = absurd told
-prints Read text Unfinished before after told = absurd told
-prints (Check queues show) text Unfinished before after told = absurd told
-prints (Study queues view) text Unfinished before after told = absurd told
-prints (Judge queues view) text Unfinished before after told = absurd told
-prints (Explain queues e f) text Unfinished before after told = absurd told
-prints (Run queues patience) text Unfinished before after told = (text, queues, patience, told)
+pub prints : (task : Task) (file text : List ℕ) (status : Status) (before after : Option (List ℕ))
+    → WritesAnswer task file text status before after → TellsAnswer status before after
+prints task file text Done before after told = tt
+prints task file text Refused before after told = absurd ((no_answer task file text before after).0 told)
+prints task file text Failed before after told = tt
+prints Read file text Races before after told = absurd told
+prints (Check queues q form) file text Races before after told = inl (text, queues, q, told.format, told.wrote)
+prints (Judge queues allowed) file text Races before after told = inr (inl (text, queues, allowed, told))
+prints (Explain queues e f) file text Races before after told = inr (inr (text, queues, e, f, told))
+prints (Run queues patience) file text Races before after told = absurd told
+prints Read file text Unfinished before after told = absurd told
+prints (Check queues q form) file text Unfinished before after told = absurd told
+prints (Judge queues allowed) file text Unfinished before after told = absurd told
+prints (Explain queues e f) file text Unfinished before after told = absurd told
+prints (Run queues patience) file text Unfinished before after told = (text, queues, patience, told)
 
 -- an answer to what the words of a command ask for
-pub obeys : (command : List ℕ) (found : Found) (task : Task) (text : List ℕ) (status : Status) (rest left before after : Option (List ℕ))
-    → AsksFor command found task → IsFileText found rest left text
-    → WritesAnswer task text status before after → Obeys command found status rest left before after
-obeys command found task text Done rest left before after asks reads told = (task, text, asks, reads, told)
-obeys command found task text Races rest left before after asks reads told = (task, text, asks, reads, told)
-obeys command found task text Refused rest left before after asks reads told =
-    absurd ((no_answer task text before after).0 told)
-obeys command found task text Unfinished rest left before after asks reads told = (task, text, asks, reads, told)
-obeys command found task text Failed rest left before after asks reads told =
-    absurd ((no_answer task text before after).1 told)
+pub obeys : (command : List ℕ) (found : Found) (task : Task) (file text : List ℕ) (status : Status) (rest left before after : Option (List ℕ))
+    → file ≡ file_of found → AsksFor command found task → IsFileText found rest left text
+    → WritesAnswer task file text status before after → Obeys command found status rest left before after
+obeys command found task file text Done rest left before after named asks reads told =
+    (task, text, asks, reads, subst (λ (f : List ℕ). WritesAnswer task f text Done before after) named told)
+obeys command found task file text Races rest left before after named asks reads told =
+    (task, text, asks, reads, subst (λ (f : List ℕ). WritesAnswer task f text Races before after) named told)
+obeys command found task file text Refused rest left before after named asks reads told =
+    absurd ((no_answer task file text before after).0 told)
+obeys command found task file text Unfinished rest left before after named asks reads told =
+    (task, text, asks, reads, subst (λ (f : List ℕ). WritesAnswer task f text Unfinished before after) named told)
+obeys command found task file text Failed rest left before after named asks reads told =
+    absurd ((no_answer task file text before after).1 told)
 
 -- why a task of the words has no answer, as the status tells that stands for it
 pub in_vain : (command : List ℕ) (found : Found) (task : Task) (refusal : Refusal) (status : Status) (rest left before after : Option (List ℕ))
@@ -99,11 +101,11 @@ nothing_out task reads refusal before after is (inr (inr why)) = why.3
 pub obeyed : (command : List ℕ) (found : Found) (status : Status) (rest left before after : Option (List ℕ))
     → Obeys command found status rest left before after → TellsAnswer status before after
 obeyed command found Done rest left before after done = tt
-obeyed command found Races rest left before after done = prints done.0 done.1 Races before after done.4
+obeyed command found Races rest left before after done = prints done.0 (file_of found) done.1 Races before after done.4
 obeyed command found Refused rest left before after (inl none) = none.1
 obeyed command found Refused rest left before after (inr done) =
     nothing_out done.0 (IsFileText found rest left) done.1 before after done.3 done.4
-obeyed command found Unfinished rest left before after done = prints done.0 done.1 Unfinished before after done.4
+obeyed command found Unfinished rest left before after done = prints done.0 (file_of found) done.1 Unfinished before after done.4
 obeyed command found Failed rest left before after done = tt
 
 -- where the exit status is 1, the answer tells of races
@@ -122,29 +124,33 @@ told_refused Refused before after told two = told
 told_refused Unfinished before after told two = absurd cc
 told_refused Failed before after told two = absurd cc
 
--- Why a task has no answer, by what an answer says of the bytes that were read: which texts it refuses,
--- which drafts, and which instances it could not start.
-unanswered_by : (task : Task) (rest left : Option (List ℕ)) {A : Type 0} (answer : Result A Fault) (e : Fault) (said : List ℕ → Type 0) (before after : Option (List ℕ))
-    → answer ≡ Err e → OnRead rest left answer said → ((text : List ℕ) → said text → RefusesRightly task text answer)
-    → (e ≢ Memory → e ≢ Device → after ≡ before) → IsUnanswered task (IsReadFrom rest left) (refusals.Fault e) before after
-unanswered_by task rest left answer e said before after is (inr (inl memory)) refuses kept = inl (let same : e ≡ Memory = cc in ap refusals.Fault same)
-unanswered_by task rest left answer e said before after is (inr (inr device)) refuses kept = inr (inl (let same : e ≡ Device = cc in ap refusals.Fault same))
-unanswered_by task rest left answer Memory said before after is (inl read) refuses kept = inl refl
-unanswered_by task rest left answer Device said before after is (inl read) refuses kept = inr (inl refl)
-unanswered_by task rest left answer (Parse f) said before after is (inl read) refuses kept =
-    inr (inr (read.0, read.1, (refuses read.0 read.2).0.stands f is, kept (λ no. cc) (λ no. cc)))
-unanswered_by task rest left answer (Chart f) said before after is (inl read) refuses kept =
-    inr (inr (read.0, read.1, (refuses read.0 read.2).1 f is, kept (λ no. cc) (λ no. cc)))
-unanswered_by task rest left answer (NotStarted i) said before after is (inl read) refuses kept =
-    inr (inr (read.0, read.1, (refuses read.0 read.2).2 i is, kept (λ no. cc) (λ no. cc)))
+-- Why a task has no answer, by what an answer says of its text: whether it refuses it, or its draft,
+-- and which instances it could not start.
+unanswered_by : (task : Task) (text : List ℕ) (A : Type 0) (e : Fault) (before after : Option (List ℕ))
+    → RefusesRightly {A = A} task text (Err e) → (e ≢ Memory → e ≢ Device → after ≡ before)
+    → IsUnanswered task (λ t. t ≡ text) (refusals.Fault e) before after
+unanswered_by task text A Memory before after refuses kept = inl refl
+unanswered_by task text A Device before after refuses kept = inr (inl refl)
+unanswered_by task text A (Parse f) before after refuses kept =
+    inr (inr (text, refl, refuses.0.stands f refl, kept (λ no. cc) (λ no. cc)))
+unanswered_by task text A (Chart f) before after refuses kept =
+    inr (inr (text, refl, refuses.1 f refl, kept (λ no. cc) (λ no. cc)))
+unanswered_by task text A (NotStarted i) before after refuses kept =
+    inr (inr (text, refl, refuses.2 i refl, kept (λ no. cc) (λ no. cc)))
 
 -- the same of a task that is known
-pub unanswered : (task known : Task) (rest left : Option (List ℕ)) {A : Type 0} (answer : Result A Fault) (e : Fault) (said : List ℕ → Type 0) (before after : Option (List ℕ))
-    → task ≡ known → answer ≡ Err e → OnRead rest left answer said → ((text : List ℕ) → said text → RefusesRightly known text answer)
-    → (e ≢ Memory → e ≢ Device → after ≡ before) → IsUnanswered task (IsReadFrom rest left) (refusals.Fault e) before after
-unanswered task known rest left answer e said before after same is read refuses kept =
-    subst (λ (t : Task). IsUnanswered t (IsReadFrom rest left) (refusals.Fault e) before after) (sym same)
-    (unanswered_by known rest left answer e said before after is read refuses kept)
+pub unanswered : (task known : Task) (text : List ℕ) (A : Type 0) (e : Fault) (before after : Option (List ℕ))
+    → task ≡ known → RefusesRightly {A = A} known text (Err e) → (e ≢ Memory → e ≢ Device → after ≡ before)
+    → IsUnanswered task (λ t. t ≡ text) (refusals.Fault e) before after
+unanswered task known text A e before after same refuses kept =
+    subst (λ (t : Task). IsUnanswered t (λ t. t ≡ text) (refusals.Fault e) before after) (sym same)
+    (unanswered_by known text A e before after refuses kept)
+
+-- an input that was not read leaves each task without an answer
+pub unread : (task : Task) (reads : List ℕ → Type 0) (f : ReadFault) (before after : Option (List ℕ))
+    → IsUnanswered task reads (refusals.Fault (of_reading f)) before after
+unread task reads readings.Memory before after = inl refl
+unread task reads (readings.Device e) before after = inr (inl refl)
 
 -- numbers that are no two events of a text's chart leave the task of explaining them without an answer
 pub no_pair : (task : Task) (queues : Queues) (e f : ℕ) (reads : List ℕ → Type 0) (text : List ℕ) (fault : PairFault) (before after : Option (List ℕ))
@@ -180,36 +186,39 @@ kept_on (Some xs) (Some ys) None first then = absurd then
 kept_on (Some xs) (Some ys) (Some zs) first then = then ∙ first
 
 -- and so is an answer
-pub answer_kept : (task : Task) (text : List ℕ) (status : Status) (before mid after : Option (List ℕ))
-    → WritesAnswer task text status before mid → Keeps mid after → WritesAnswer task text status before after
-answer_kept Read text Done before mid after told keeps =
+pub answer_kept : (task : Task) (file text : List ℕ) (status : Status) (before mid after : Option (List ℕ))
+    → WritesAnswer task file text status before mid → Keeps mid after → WritesAnswer task file text status before after
+answer_kept Read file text Done before mid after told keeps =
     record { draft = told.draft; has = told.has; written = kept before mid after _ told.written keeps }
-answer_kept Read text Races before mid after told keeps = told
-answer_kept Read text Refused before mid after told keeps = told
-answer_kept Read text Unfinished before mid after told keeps = told
-answer_kept Read text Failed before mid after told keeps = told
-answer_kept (Check queues show) text Done before mid after told keeps = (told.0, told.1, kept before mid after _ told.2 keeps)
-answer_kept (Check queues show) text Races before mid after told keeps = (told.0, told.1, kept before mid after _ told.2 keeps)
-answer_kept (Check queues show) text Refused before mid after told keeps = told
-answer_kept (Check queues show) text Unfinished before mid after told keeps = told
-answer_kept (Check queues show) text Failed before mid after told keeps = told
-answer_kept (Study queues view) text Done before mid after told keeps = (told.0, told.1, kept before mid after _ told.2 keeps)
-answer_kept (Study queues view) text Races before mid after told keeps = (told.0, told.1, kept before mid after _ told.2 keeps)
-answer_kept (Study queues view) text Refused before mid after told keeps = told
-answer_kept (Study queues view) text Unfinished before mid after told keeps = told
-answer_kept (Study queues view) text Failed before mid after told keeps = told
-answer_kept (Judge queues view) text Done before mid after told keeps = (told.0, told.1, kept_on before mid after told.2 keeps)
-answer_kept (Judge queues view) text Races before mid after told keeps = (told.0, told.1, kept_on before mid after told.2 keeps)
-answer_kept (Judge queues view) text Refused before mid after told keeps = told
-answer_kept (Judge queues view) text Unfinished before mid after told keeps = told
-answer_kept (Judge queues view) text Failed before mid after told keeps = told
-answer_kept (Explain queues e f) text Done before mid after told keeps = (told.0, told.1, kept before mid after _ told.2 keeps)
-answer_kept (Explain queues e f) text Races before mid after told keeps = (told.0, told.1, kept before mid after _ told.2 keeps)
-answer_kept (Explain queues e f) text Refused before mid after told keeps = told
-answer_kept (Explain queues e f) text Unfinished before mid after told keeps = told
-answer_kept (Explain queues e f) text Failed before mid after told keeps = told
-answer_kept (Run queues patience) text Done before mid after told keeps = (told.0, told.1, kept before mid after _ told.2 keeps)
-answer_kept (Run queues patience) text Unfinished before mid after told keeps = (told.0, told.1, kept before mid after _ told.2 keeps)
-answer_kept (Run queues patience) text Races before mid after told keeps = told
-answer_kept (Run queues patience) text Refused before mid after told keeps = told
-answer_kept (Run queues patience) text Failed before mid after told keeps = told
+answer_kept Read file text Races before mid after told keeps = told
+answer_kept Read file text Refused before mid after told keeps = told
+answer_kept Read file text Unfinished before mid after told keeps = told
+answer_kept Read file text Failed before mid after told keeps = told
+answer_kept (Check queues q form) file text Done before mid after told keeps = record {
+  format = told.format;
+  its = told.its;
+  wrote = (told.wrote.0, told.wrote.1, kept before mid after _ told.wrote.2 keeps);
+}
+answer_kept (Check queues q form) file text Races before mid after told keeps = record {
+  format = told.format;
+  its = told.its;
+  wrote = (told.wrote.0, told.wrote.1, kept before mid after _ told.wrote.2 keeps);
+}
+answer_kept (Check queues q form) file text Refused before mid after told keeps = told
+answer_kept (Check queues q form) file text Unfinished before mid after told keeps = told
+answer_kept (Check queues q form) file text Failed before mid after told keeps = told
+answer_kept (Judge queues allowed) file text Done before mid after told keeps = (told.0, kept_on before mid after told.1 keeps)
+answer_kept (Judge queues allowed) file text Races before mid after told keeps = (told.0, kept_on before mid after told.1 keeps)
+answer_kept (Judge queues allowed) file text Refused before mid after told keeps = told
+answer_kept (Judge queues allowed) file text Unfinished before mid after told keeps = told
+answer_kept (Judge queues allowed) file text Failed before mid after told keeps = told
+answer_kept (Explain queues e f) file text Done before mid after told keeps = (told.0, told.1, kept before mid after _ told.2 keeps)
+answer_kept (Explain queues e f) file text Races before mid after told keeps = (told.0, told.1, kept before mid after _ told.2 keeps)
+answer_kept (Explain queues e f) file text Refused before mid after told keeps = told
+answer_kept (Explain queues e f) file text Unfinished before mid after told keeps = told
+answer_kept (Explain queues e f) file text Failed before mid after told keeps = told
+answer_kept (Run queues patience) file text Done before mid after told keeps = (told.0, told.1, kept before mid after _ told.2 keeps)
+answer_kept (Run queues patience) file text Unfinished before mid after told keeps = (told.0, told.1, kept before mid after _ told.2 keeps)
+answer_kept (Run queues patience) file text Races before mid after told keeps = told
+answer_kept (Run queues patience) file text Refused before mid after told keeps = told
+answer_kept (Run queues patience) file text Failed before mid after told keeps = told

@@ -22,6 +22,10 @@ architecture_words = queues_word Pair ∷ queues_word Mailbox ∷ queues_word Si
 abbrev pub kind_words : List Text
 kind_words = kind_word Early ∷ kind_word Queues ∷ kind_word Unordered ∷ kind_word Overtaken ∷ []
 
+-- the words of the forms of an answer
+abbrev pub form_words : List Text
+form_words = codes "text" ∷ codes "count" ∷ []
+
 -- an argument is read by a rule
 abbrev pub IsArgument : Rule → Arg → Type 0
 IsArgument rule argument = (rule_of argument ≡ rule) × (argument.global ≡ false)
@@ -50,6 +54,14 @@ allow_rule kinds = record (new_rule (codes "allow")) {
   value_names = 1;
   parser = Some kinds;
   action = Some Append;
+}
+
+-- `--format`, one of these words
+abbrev pub format_rule : ValueParser → Rule
+format_rule forms = record (new_rule (codes "format")) {
+  long = Some (codes "format");
+  value_names = 1;
+  parser = Some forms;
 }
 
 -- a word that stands alone
@@ -86,10 +98,10 @@ with_listing app = with_rule (with_rule (with_rule (with_rule app (flag_rule (co
     (flag_rule (codes "why"))) (number_rule (codes "most"))) (number_rule (codes "show"))
 
 -- `msc check`
-abbrev pub check_command : ValueParser → ValueParser → App
-check_command architectures kinds = with_rule (with_rule (with_rule
+abbrev pub check_command : ValueParser → ValueParser → ValueParser → App
+check_command architectures kinds forms = with_rule (with_rule (with_rule (with_rule
     (with_listing (with_rule (new_app (codes "check")) (queues_rule architectures)))
-    (allow_rule kinds)) quiet_rule) file_rule
+    (allow_rule kinds)) (format_rule forms)) quiet_rule) file_rule
 
 -- `msc explain`
 abbrev pub explain_command : ValueParser → App
@@ -109,9 +121,9 @@ bare_command = record (new_app (codes "msc")) {
 }
 
 -- `msc` with its commands
-abbrev pub whole_command : ValueParser → ValueParser → App
-whole_command architectures kinds = with_subcommand (with_subcommand (with_subcommand
-    (with_subcommand bare_command read_command.top) (check_command architectures kinds).top)
+abbrev pub whole_command : ValueParser → ValueParser → ValueParser → App
+whole_command architectures kinds forms = with_subcommand (with_subcommand (with_subcommand
+    (with_subcommand bare_command read_command.top) (check_command architectures kinds forms).top)
     (explain_command architectures).top) (run_command architectures).top
 
 -- a parser takes just these words
@@ -121,9 +133,9 @@ IsOneOf words parser = (names : Bor (List (Bor Text)))
 
 -- what `clap` is told of the program's words
 abbrev pub IsGrammar : App → Type 0
-IsGrammar grammar = (architectures : ValueParser) × (kinds : ValueParser)
-    × IsOneOf architecture_words architectures × IsOneOf kind_words kinds
-    × (grammar ≡ whole_command architectures kinds)
+IsGrammar grammar = (architectures : ValueParser) × (kinds : ValueParser) × (forms : ValueParser)
+    × IsOneOf architecture_words architectures × IsOneOf kind_words kinds × IsOneOf form_words forms
+    × (grammar ≡ whole_command architectures kinds forms)
 
 -- The words of a command line, the program's name first, are taken: they name a command, of whose
 -- words this is found.

@@ -1,4 +1,5 @@
--- what is promised; the code keeps nothing besides
+-- what is promised
 pub mod Commands
+pub mod Forms
 pub mod Program
 pub mod Words

@@ -1,5 +1,5 @@
 -- What the program answers, and its exit statuses.
-use Rattle.std.specs.Prelude.{◌≡◌, ◌⊎◌, ℕ, Bool, List, MatchOption, Option, Some, codes, true, false}
+use Rattle.std.specs.Prelude.{◌≡◌, ◌≢◌, ◌⊎◌, ℕ, Bool, List, MatchOption, Option, Some, codes, true, false}
 use Rattle.std.specs.Io.KnownBytes.{Keeps}
 use Rattle.clap.specs.Words.{Row, Text, first_value, rows_of, subcommand_rows_of}
 use Rattle.clap.specs.declared.error.kind.ErrorKind.{ErrorKind}
@@ -12,21 +12,25 @@ use Rattle.msc_parser.specs.Grammar.{Tree}
 use Rattle.msc_parser.specs.Parsing.{HasDraft, HasParseFault}
 use Rattle.msc_report.specs.declared.fault.Fault.{Fault}
 use Rattle.msc_report.specs.declared.fault.Fault.TheVariants.{Parse, Chart, NotStarted, Memory, Device}
+use Rattle.msc_report.specs.Texts.{fault_line, pair_fault_line}
 use Rattle.msc_command.specs.declared.program.Status.{Status}
 use Rattle.msc_command.specs.declared.program.Status.TheVariants.{Done, Races, Refused, Unfinished, Failed}
 use Rattle.msc_command.specs.declared.program.Refusal.{Refusal}
 use Rattle.msc_command.specs.declared.program.Refusal.TheVariants as refusals
 use Rattle.msc_command.specs.declared.words.Task.{Task}
-use Rattle.msc_command.specs.declared.words.Task.TheVariants.{Read, Check, Study, Judge, Explain, Run}
-use Rattle.msc_study.specs.declared.view.View.{View}
+use Rattle.msc_command.specs.declared.words.Form.{Form}
+use Rattle.msc_command.specs.declared.words.Task.TheVariants.{Read, Check, Judge, Explain, Run}
+use Rattle.msc_judge.specs.declared.question.Question.{Question}
+use Rattle.msc_reason.specs.declared.kinds.KindSet.{KindSet}
 use Rattle.msc_study.specs.Explaining.{HasPairFault, WritesReason}
-use Rattle.msc_study.specs.Studying.{Studies, WritesStudy}
 use Rattle.msc_text.specs.Answers.{WritesDraft}
-use Rattle.msc_text.specs.Checking.{WritesVerdict}
-use Rattle.msc_text.specs.Reading.{IsReadFrom}
+use Rattle.msc_source.specs.Inputs.{IsReadFrom}
+use Rattle.msc_text.specs.Judging.{Passes, WritesJudged}
+use Rattle.msc_text.specs.declared.judging.Format.{Format}
 use Rattle.msc_tool.specs.Running.{HasInstance, WritesTrace}
 use Rattle.msc_command.specs.Commands.{AreAnswered, AreTaken}
-use Rattle.msc_command.specs.Words.{AsksFor, IsNoCommand}
+use Rattle.msc_command.specs.Forms.{IsFormat}
+use Rattle.msc_command.specs.Words.{file_of, AsksFor, IsNoCommand}
 
 -- the exit status for how a run ended
 abbrev pub status_code : Status → ℕ
@@ -49,28 +53,36 @@ abbrev pub ends_as : Refusal → Status
 ends_as (refusals.Fault f) = status_of f
 ends_as (refusals.Pair f) = Refused
 
--- a study has been made of a text, whose answer is told, and the known bytes of a writer are kept
-abbrev pub JudgesText : List ℕ → Queues → View → Bool → Option (List ℕ) → Option (List ℕ) → Type 0
-JudgesText text queues view passed before after =
-    (printed : List ℕ) × Studies text queues view passed printed × Keeps before after
+-- the line of a refusal
+abbrev pub refusal_line : Refusal → List ℕ
+refusal_line (refusals.Fault f) = fault_line f
+refusal_line (refusals.Pair f) = pair_fault_line f
 
--- the whole answer of a task to a text went behind the known bytes of a writer, the answer that is
--- told; a chart is run with a gate that is known to be open
-abbrev pub WritesAnswer : Task → List ℕ → Status → Option (List ℕ) → Option (List ℕ) → Type 0
-WritesAnswer Read text Done before after = WritesDraft text before after
-WritesAnswer (Check queues show) text Done before after = WritesVerdict text queues show true before after
-WritesAnswer (Check queues show) text Races before after = WritesVerdict text queues show false before after
-WritesAnswer (Study queues view) text Done before after = WritesStudy text queues view true before after
-WritesAnswer (Study queues view) text Races before after = WritesStudy text queues view false before after
-WritesAnswer (Judge queues view) text Done before after = JudgesText text queues view true before after
-WritesAnswer (Judge queues view) text Races before after = JudgesText text queues view false before after
-WritesAnswer (Explain queues e f) text Done before after = WritesReason text queues e f true before after
-WritesAnswer (Explain queues e f) text Races before after = WritesReason text queues e f false before after
-WritesAnswer (Run queues patience) text Done before after =
+-- what is asked of a text's races in a form, for a file, went behind the known bytes of a writer
+pub record WritesForm (form : Form) (file text : List ℕ) (queues : Queues) (q : Question) (passed : Bool) (before after : Option (List ℕ)) : Type 0 where
+  pub format : Format
+  pub its : IsFormat form file format
+  pub wrote : WritesJudged text queues q format passed before after
+
+-- whether no race of a text counts is told, and the known bytes of a writer are kept
+abbrev pub JudgesQuietly : List ℕ → Queues → KindSet → Bool → Option (List ℕ) → Option (List ℕ) → Type 0
+JudgesQuietly text queues allowed passed before after = Passes text queues allowed passed × Keeps before after
+
+-- the whole answer of a task to the text of a file went behind the known bytes of a writer, the answer
+-- that is told; a chart is run with a gate that is known to be open
+abbrev pub WritesAnswer : Task → List ℕ → List ℕ → Status → Option (List ℕ) → Option (List ℕ) → Type 0
+WritesAnswer Read file text Done before after = WritesDraft text before after
+WritesAnswer (Check queues q form) file text Done before after = WritesForm form file text queues q true before after
+WritesAnswer (Check queues q form) file text Races before after = WritesForm form file text queues q false before after
+WritesAnswer (Judge queues allowed) file text Done before after = JudgesQuietly text queues allowed true before after
+WritesAnswer (Judge queues allowed) file text Races before after = JudgesQuietly text queues allowed false before after
+WritesAnswer (Explain queues e f) file text Done before after = WritesReason text queues e f true before after
+WritesAnswer (Explain queues e f) file text Races before after = WritesReason text queues e f false before after
+WritesAnswer (Run queues patience) file text Done before after =
     WritesTrace text queues true patience true before after
-WritesAnswer (Run queues patience) text Unfinished before after =
+WritesAnswer (Run queues patience) file text Unfinished before after =
     WritesTrace text queues true patience false before after
-WritesAnswer task text status before after = ⊥
+WritesAnswer task file text status before after = ⊥
 
 -- a text is refused for a task with its first fault: it has no draft, its draft is no chart, or the
 -- numbers are no two events of its chart; or an instance of its chart could not be started
@@ -109,12 +121,18 @@ Obeys command found Failed rest left before after =
     EndsUnanswered command found Failed (IsFileText found rest left) before after
 Obeys command found status rest left before after =
     (task : Task) × (text : List ℕ) × AsksFor command found task × IsFileText found rest left text
-    × WritesAnswer task text status before after
+    × WritesAnswer task (file_of found) text status before after
+
+-- where FILE is not `-` the input is not read
+abbrev pub LeavesInput : Found → Option (List ℕ) → Option (List ℕ) → Type 0
+LeavesInput found rest left =
+    (file : List ℕ) → first_value found (codes "FILE") ≡ Some file → file ≢ codes "-" → left ≡ rest
 
 -- A command that the words name is obeyed, by what was found of its own words.
 abbrev pub ObeysNamed : Text × List Row → Status → Option (List ℕ) → Option (List ℕ) → Option (List ℕ) → Option (List ℕ) → Type 0
 ObeysNamed named status rest left before after =
     (found : Found) × (named.1 ≡ rows_of found) × Obeys named.0 found status rest left before after
+    × LeavesInput found rest left
 
 -- The words that `clap` took are obeyed; such as name no command are refused.
 abbrev pub ObeysMatches : ArgMatches → Status → Option (List ℕ) → Option (List ℕ) → Option (List ℕ) → Option (List ℕ) → Type 0
@@ -137,31 +155,25 @@ FollowsWords words status rest left before after =
     ⊎ (((kind : ErrorKind) × AreAnswered words kind × EndsUsage kind status before after)
     ⊎ ((status ≡ Failed) × (after ≡ before)))
 
--- a whole verdict with races went behind the known bytes of a writer
+-- a whole answer on races of which some count went behind the known bytes of a writer
 abbrev pub PrintsRaces : Option (List ℕ) → Option (List ℕ) → Type 0
 PrintsRaces before after =
-    (text : List ℕ) × (queues : Queues) × (show : ℕ) × WritesVerdict text queues show false before after
+    (text : List ℕ) × (queues : Queues) × (q : Question) × (format : Format) × WritesJudged text queues q format false before after
 
--- a whole study with races that count went behind the known bytes of a writer
-abbrev pub PrintsStudied : Option (List ℕ) → Option (List ℕ) → Type 0
-PrintsStudied before after =
-    (text : List ℕ) × (queues : Queues) × (view : View) × WritesStudy text queues view false before after
-
--- a study has races that count, and the known bytes of a writer are kept
+-- some races of a text count, and the known bytes of a writer are kept
 abbrev pub FindsRaces : Option (List ℕ) → Option (List ℕ) → Type 0
 FindsRaces before after =
-    (text : List ℕ) × (queues : Queues) × (view : View) × JudgesText text queues view false before after
+    (text : List ℕ) × (queues : Queues) × (allowed : KindSet) × JudgesQuietly text queues allowed false before after
 
 -- a whole explanation of a pair that is not enforced went behind the known bytes of a writer
 abbrev pub PrintsFree : Option (List ℕ) → Option (List ℕ) → Type 0
 PrintsFree before after =
     (text : List ℕ) × (queues : Queues) × (e : ℕ) × (f : ℕ) × WritesReason text queues e f false before after
 
--- what tells of races, or of a pair that is not enforced: a whole verdict that has races, a whole
--- study of some that count, or nothing where nothing is to be printed; or a whole explanation
+-- what tells of races, or of a pair that is not enforced: a whole answer on races of which some count,
+-- or nothing where nothing is to be printed; or a whole explanation
 abbrev pub TellsRaces : Option (List ℕ) → Option (List ℕ) → Type 0
-TellsRaces before after =
-    PrintsRaces before after ⊎ (PrintsStudied before after ⊎ (FindsRaces before after ⊎ PrintsFree before after))
+TellsRaces before after = PrintsRaces before after ⊎ (FindsRaces before after ⊎ PrintsFree before after)
 
 -- a whole answer went behind the known bytes of a writer, of an execution that is not finished
 abbrev pub PrintsUnfinished : Option (List ℕ) → Option (List ℕ) → Type 0

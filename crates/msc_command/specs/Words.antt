@@ -1,5 +1,5 @@
 -- What the words of a command ask for, by what `clap` found of them.
-use Rattle.std.specs.Prelude.{◌≡◌, ◌≢◌, ◌<◌, ◌⊎◌, ◌^◌, ◌||◌, ℕ, Bool, true, false, not, List, [], Option, Some, None, codes, nat_lt}
+use Rattle.std.specs.Prelude.{◌≡◌, ◌≢◌, ◌<◌, ◌⊎◌, ◌^◌, ℕ, Bool, true, false, cond, List, [], Option, Some, None, codes}
 use Rattle.std.specs.Prelude.{option_and_then}
 use Rattle.std.specs.List.{list_any}
 use Rattle.std.specs.Option.{option_map_or}
@@ -11,11 +11,13 @@ use Rattle.msc_chart.specs.Architectures.{queues_of_word}
 use Rattle.msc_chart.specs.declared.queue.Queues.{Queues}
 use Rattle.msc_reason.specs.Lacks.{kind_word}
 use Rattle.msc_reason.specs.declared.lack.RaceKind.{RaceKind}
-use Rattle.msc_study.specs.Views.{has_kind, is_empty}
-use Rattle.msc_study.specs.declared.view.KindSet.{KindSet}
-use Rattle.msc_study.specs.declared.view.View.{View}
+use Rattle.msc_reason.specs.Kinds.{has_kind}
+use Rattle.msc_reason.specs.declared.kinds.KindSet.{KindSet}
+use Rattle.msc_judge.specs.declared.question.Question.{Question}
+use Rattle.msc_command.specs.declared.words.Form.{Form}
+use Rattle.msc_command.specs.declared.words.Form.TheVariants as forms
 use Rattle.msc_command.specs.declared.words.Task.{Task}
-use Rattle.msc_command.specs.declared.words.Task.TheVariants.{Read, Check, Study, Judge, Explain, Run}
+use Rattle.msc_command.specs.declared.words.Task.TheVariants.{Read, Check, Judge, Explain, Run}
 
 -- the architecture that the words name
 abbrev pub architecture : Found → Option Queues
@@ -66,28 +68,39 @@ unlimited = 4294967295
 abbrev pub default_patience : ℕ
 default_patience = 1000000000
 
--- what the words want to see of a chart's races
-pub record IsView (found : Found) (view : View) : Type 0 where
-  pub closest : IsFlag found (codes "closest") view.closest
-  pub why : IsFlag found (codes "why") view.why
-  pub allowed : AreAllowed found view.allowed
-  pub most : IsOptionNumber found (codes "most") unlimited view.most
-  pub show : IsOptionNumber found (codes "show") unlimited view.show
+-- what the words ask of a chart's races
+pub record IsQuestion (found : Found) (q : Question) : Type 0 where
+  pub closest : IsFlag found (codes "closest") q.closest
+  pub why : IsFlag found (codes "why") q.why
+  pub allowed : AreAllowed found q.allowed
+  pub most : IsOptionNumber found (codes "most") unlimited q.most
+  pub show : IsOptionNumber found (codes "show") unlimited q.show
 
--- more or less is to be seen than a verdict and its races with runs
-abbrev pub is_study : View → Bool
-is_study view = ((view.closest || view.why) || not (is_empty view.allowed)) || nat_lt view.most unlimited
+-- the form that a word names: text, where none does
+abbrev pub form_of_word : Option (List ℕ) → Form
+form_of_word None = forms.Text
+form_of_word (Some word) = cond (bytes_eq word (codes "count")) forms.Count forms.Text
+
+-- the form of the answer that the words name
+abbrev pub form : Found → Form
+form found = form_of_word (first_value found (codes "format"))
+
+-- the file that a word names: the input, where none does
+abbrev pub file_of_word : Option (List ℕ) → List ℕ
+file_of_word None = codes "-"
+file_of_word (Some word) = word
+
+-- the file that the words name
+abbrev pub file_of : Found → List ℕ
+file_of found = file_of_word (first_value found (codes "FILE"))
 
 -- what the words of `msc check` ask for
 abbrev pub AsksToCheck : Found → Task → Type 0
-AsksToCheck found (Check queues show) =
-    (view : View) × IsView found view × (is_study view ≡ false) × (show ≡ view.show)
-    × IsFlag found (codes "quiet") false × (architecture found ≡ Some queues)
-AsksToCheck found (Study queues view) =
-    IsView found view × (is_study view ≡ true) × IsFlag found (codes "quiet") false
+AsksToCheck found (Check queues q its) =
+    IsQuestion found q × (its ≡ form found) × IsFlag found (codes "quiet") false
     × (architecture found ≡ Some queues)
-AsksToCheck found (Judge queues view) =
-    AreAllowed found view.allowed × IsFlag found (codes "quiet") true × (architecture found ≡ Some queues)
+AsksToCheck found (Judge queues allowed) =
+    AreAllowed found allowed × IsFlag found (codes "quiet") true × (architecture found ≡ Some queues)
 AsksToCheck found task = ⊥
 
 -- what the words of a command ask for

@@ -6,6 +6,7 @@ ghost use Rattle.clap.specs.declared.builder.value_parser.ValueParser.TheVariant
 ghost use Rattle.msc_command.specs.Commands.{allow_rule, architecture_words, bare_command};
 ghost use Rattle.msc_command.specs.Commands.{check_command};
 ghost use Rattle.msc_command.specs.Commands.{event_rule, explain_command, file_rule, flag_rule};
+ghost use Rattle.msc_command.specs.Commands.{form_words, format_rule};
 ghost use Rattle.msc_command.specs.Commands.{kind_words, number_rule, queues_rule, read_command};
 ghost use Rattle.msc_command.specs.Commands.{run_command, whole_command, with_listing};
 ghost use Rattle.msc_command.specs.Commands.{IsArgument, IsCommand};
@@ -96,6 +97,23 @@ pub fn kinds(alloc: Global) -> Result<Choice, AllocError>
     ensures { IfOk result (λ choice. map (λ word. word.now) choice.words.items ≡ kind_words) }
 {
     Choice::of(alloc, kind_words(alloc)?)
+}
+
+/// The words for the forms of an answer.
+fn form_words(alloc: Global) -> Result<Vec<&'static str>, AllocError>
+    ensures { IfOk result (λ words. map (λ word. word.now) words.items ≡ form_words) }
+{
+    let mut words = Vec::new(alloc);
+    words.push("text")?;
+    words.push("count")?;
+    Ok(words)
+}
+
+/// The forms of an answer.
+pub fn forms(alloc: Global) -> Result<Choice, AllocError>
+    ensures { IfOk result (λ choice. map (λ word. word.now) choice.words.items ≡ form_words) }
+{
+    Choice::of(alloc, form_words(alloc)?)
 }
 
 /// What `msc --version` prints behind the program's name.
@@ -206,6 +224,17 @@ fn allow<'a>(alloc: Global, choice: Alternatives<'a>) -> Arg<'a>
         .action(ArgAction::Append)
 }
 
+/// The form of an answer.
+fn format<'a>(alloc: Global, choice: Alternatives<'a>) -> Arg<'a>
+    ensures { IsArgument (format_rule (Names choice.entry.words)) result }
+{
+    Arg::new(alloc, "format")
+        .long("format")
+        .value_name(choice.shown)
+        .help("Print lines of text, or one line with the number of races; without it, text")
+        .value_parser(choice.words)
+}
+
 /// A word that stands alone, with what it is for.
 fn flag<'a>(alloc: Global, name: &'static str, help: &'static str) -> Arg<'a>
     ensures { IsArgument (flag_rule name.now) result }
@@ -281,15 +310,17 @@ fn check_words<'a>(
     alloc: Global,
     architectures: Alternatives<'a>,
     kinds: Alternatives<'a>,
+    forms: Alternatives<'a>,
 ) -> Result<Command<'a>, AllocError>
-    ensures { IfOk result (IsCommand
-        (check_command (Names architectures.entry.words) (Names kinds.entry.words))) }
+    ensures { IfOk result (IsCommand (check_command (Names architectures.entry.words)
+        (Names kinds.entry.words) (Names forms.entry.words))) }
 {
     let about = "Print whether the chart has races, and for each a run that shows it";
     let quiet = flag(alloc, "quiet", "Print nothing; the status tells").short('q');
     let command = named(alloc, "check", about, CHECK_NOTES);
     let command = list_words(alloc, and(command, queues(alloc, architectures)));
     let command = and(command, allow(alloc, kinds));
+    let command = and(command, format(alloc, forms));
     and(and(command, quiet), file(alloc))
 }
 
@@ -357,12 +388,13 @@ pub fn grammar<'a>(
     alloc: Global,
     architectures: Alternatives<'a>,
     kinds: Alternatives<'a>,
+    forms: Alternatives<'a>,
 ) -> Result<Command<'a>, AllocError>
-    ensures { IfOk result (IsCommand
-        (whole_command (Names architectures.entry.words) (Names kinds.entry.words))) }
+    ensures { IfOk result (IsCommand (whole_command (Names architectures.entry.words)
+        (Names kinds.entry.words) (Names forms.entry.words))) }
 {
     let command = with(bare(alloc), read_words(alloc));
-    let command = with(command, check_words(alloc, architectures, kinds));
+    let command = with(command, check_words(alloc, architectures, kinds, forms));
     let command = with(command, explain_words(alloc, architectures));
     with(command, run_words(alloc, architectures))
 }

@@ -1,24 +1,30 @@
 //! What the program does, and how it ends.
 
-ghost use Rattle.std.specs.Prelude.{◌≡◌, ◌≢◌, ◌⊎◌, codes, map, IfErr, IfOk, List, ℕ};
+ghost use Rattle.std.specs.Prelude.{◌≡◌, ◌≢◌, ◌⊎◌, codes, map, IfErr, IfOk, List, OnOk, ℕ};
+ghost use Rattle.std.specs.Io.KnownBytes.{Appends};
 ghost use Rattle.std.specs.IoError.{error_kind};
 ghost use Rattle.std.specs.declared.io.ErrorKind.TheVariants.{OutOfMemory};
 ghost use Rattle.std.specs.String.{string_bytes};
 ghost use Rattle.clap.specs.Words.{found_of, kind_of};
-ghost use Rattle.msc_command.specs.Program.{ends_as, status_code, status_of, EndsUsage};
-ghost use Rattle.msc_command.specs.Program.{FollowsWords, IsUnanswered, Obeys, ObeysMatches};
+ghost use Rattle.msc_command.specs.Program.{ends_as, refusal_line, status_code, status_of};
+ghost use Rattle.msc_command.specs.Program.{EndsUsage};
+ghost use Rattle.msc_command.specs.Program.{FollowsWords, IsUnanswered, LeavesInput, Obeys};
+ghost use Rattle.msc_command.specs.Program.{ObeysMatches};
 ghost use Rattle.msc_command.specs.Program.{PrintsUnfinished, TellsAnswer, TellsRaces};
 ghost use Rattle.msc_command.specs.Program.{WritesAnswer};
 ghost use Rattle.msc_command.specs.declared.program.Status.{Status};
-ghost use Rattle.msc_text.specs.Reading.{IsReadFrom};
+ghost use Rattle.msc_report.specs.Texts.{fault_line};
+ghost use Rattle.msc_source.specs.Inputs.{IsReadFrom};
 
-use crate::commands::{architectures, grammar, kinds};
-use crate::words::{Task, task_of};
+use crate::commands::{architectures, forms, grammar, kinds};
+use crate::words::{Task, file_of, task_of};
 use clap::{ArgMatches, Error};
 use msc_instance::AlwaysOpen;
 use msc_report::{Fault, PairFault, write_fault, write_pair_fault};
-use msc_study::{Explained, explain_input, study_input};
-use msc_tool::{check_input, read_input, run_input};
+use msc_source::{ReadFault, read_all};
+use msc_study::{Explained, explain_text};
+use msc_text::{judge_text, passes_text};
+use msc_tool::{read_text, run_text};
 use std::alloc::{AllocError, Global};
 use std::io::{ErrorKind, Read, Write};
 use std::rt::Files;
@@ -77,73 +83,90 @@ impl From<Fault> for Refusal {
     }
 }
 
-/// Writes a fault's line, where that succeeds, and tells how the run ended.
-fn end_with<E: Write>(faults: &mut E, fault: Fault) -> Status
+impl From<ReadFault> for Refusal {
+    ghost use Rattle.msc_command.specs.declared.program.Refusal.{Refusal};
+    ghost use Rattle.msc_report.specs.Refusals.{of_reading};
+
+    ghost from_gives = { λ fault refusal. refusal ≡ Refusal.Fault (of_reading fault) };
+
+    fn from(fault: ReadFault) -> Refusal {
+        Refusal::Fault(fault.into())
+    }
+}
+
+/// How a run ends that meets a fault.
+fn status_of(fault: Fault) -> Status
     ensures { result ≡ status_of fault }
 {
-    let _ = write_fault(faults, &fault);
     match fault {
         Fault::Parse(_) | Fault::Chart(_) => Status::Refused,
         Fault::NotStarted(_) | Fault::Memory | Fault::Device => Status::Failed,
     }
 }
 
-/// Writes the line of a refusal, where that succeeds, and tells how the run ended.
-fn end_refused<E: Write>(faults: &mut E, refusal: Refusal) -> Status
-    ensures { result ≡ ends_as refusal }
+/// Writes a fault's line, and tells how the run ended, and whether the line went out.
+fn end_with<E: Write>(faults: &mut E, fault: Fault) -> (Status, io::Result<()>)
+    ensures status { result.0 ≡ status_of fault }
+    ensures line { OnOk result.1
+        (Appends (E.contents faults.old) (E.contents faults.new) (fault_line fault)) }
+{
+    let told = write_fault(faults, &fault);
+    (status_of(fault), told)
+}
+
+/// Writes the line of a refusal, and tells how the run ended, and whether the line went out.
+fn end_refused<E: Write>(faults: &mut E, refusal: Refusal) -> (Status, io::Result<()>)
+    ensures status { result.0 ≡ ends_as refusal }
+    ensures line { OnOk result.1
+        (Appends (E.contents faults.old) (E.contents faults.new) (refusal_line refusal)) }
 {
     match refusal {
         Refusal::Fault(fault) => end_with(faults, fault),
         Refusal::Pair(fault) => {
-            let _ = write_pair_fault(faults, fault);
-            Status::Refused
+            let told = write_pair_fault(faults, fault);
+            (Status::Refused, told)
         }
     }
 }
 
-/// Writes the answer of a task to an input.
-fn answer<R: Threads + Wait + Sync, I: Read, O: Write>(
+/// Writes the answer of a task to the text of a file of this name.
+fn answer<R: Threads + Wait + Sync, O: Write>(
     rt: &R,
     alloc: Global,
     task: Task,
-    input: &mut I,
+    file: &str,
+    text: &[u8],
     output: &mut O,
 ) -> Result<Status, Refusal>
-    ensures written { IfOk result (λ status. (text : List ℕ)
-        × IsReadFrom (I.remaining input.old) (I.remaining input.new) text
-        × WritesAnswer task text status (O.contents output.old) (O.contents output.new)) }
-    ensures refused { IfErr result (λ refusal. IsUnanswered task
-        (IsReadFrom (I.remaining input.old) (I.remaining input.new)) refusal
+    ensures written { IfOk result (λ status. WritesAnswer task file.now text.now status
+        (O.contents output.old) (O.contents output.new)) }
+    ensures refused { IfErr result (λ refusal. IsUnanswered task (λ t. t ≡ text.now) refusal
         (O.contents output.old) (O.contents output.new)) }
 {
     match task {
         Task::Read => {
-            read_input(alloc, input, output)?;
+            read_text(alloc, text, output)?;
             Ok(Status::Done)
         }
-        Task::Check(queues, show) => match check_input(alloc, input, queues, show, output)? {
-            true => Ok(Status::Done),
-            false => Ok(Status::Races),
-        },
-        Task::Study(queues, view) => match study_input(alloc, input, queues, view, output)? {
-            true => Ok(Status::Done),
-            false => Ok(Status::Races),
-        },
-        Task::Judge(queues, view) => {
-            match study_input(alloc, input, queues, view, &mut io::sink())? {
+        Task::Check(queues, question, form) => {
+            match judge_text(alloc, text, queues, question, form.format(file), output)? {
                 true => Ok(Status::Done),
                 false => Ok(Status::Races),
             }
         }
+        Task::Judge(queues, allowed) => match passes_text(alloc, text, queues, allowed)? {
+            true => Ok(Status::Done),
+            false => Ok(Status::Races),
+        },
         Task::Explain(queues, e, f) => {
-            match explain_input(alloc, input, queues, e, f, output)? {
+            match explain_text(alloc, text, queues, e, f, output)? {
                 Explained::Enforced => Ok(Status::Done),
                 Explained::Free => Ok(Status::Races),
                 Explained::Refused(fault) => Err(Refusal::Pair(fault)),
             }
         }
         Task::Run(queues, patience) => {
-            match run_input(rt, alloc, input, queues, &AlwaysOpen, patience, output)? {
+            match run_text(rt, alloc, text, queues, &AlwaysOpen, patience, output)? {
                 true => Ok(Status::Done),
                 false => Ok(Status::Unfinished),
             }
@@ -151,22 +174,25 @@ fn answer<R: Threads + Wait + Sync, I: Read, O: Write>(
     }
 }
 
-/// Does a task over an input. The whole answer goes out before it is told.
+/// Does a task over an input, which is read once, the text of a file of this name. The whole answer
+/// goes out before it is told.
 fn perform<R: Threads + Wait + Sync, I: Read, O: Write>(
     rt: &R,
     alloc: Global,
     task: Task,
+    file: &str,
     input: &mut I,
     output: &mut O,
 ) -> Result<Status, Refusal>
     ensures written { IfOk result (λ status. (text : List ℕ)
         × IsReadFrom (I.remaining input.old) (I.remaining input.new) text
-        × WritesAnswer task text status (O.contents output.old) (O.contents output.new)) }
+        × WritesAnswer task file.now text status (O.contents output.old) (O.contents output.new)) }
     ensures refused { IfErr result (λ refusal. IsUnanswered task
         (IsReadFrom (I.remaining input.old) (I.remaining input.new)) refusal
         (O.contents output.old) (O.contents output.new)) }
 {
-    let status = answer(rt, alloc, task, input, output)?;
+    let text = read_all(alloc, input)?;
+    let status = answer(rt, alloc, task, file, text.as_slice(), output)?;
     match output.flush() {
         Ok(()) => Ok(status),
         Err(_) => Err(Refusal::Fault(Fault::Device)),
@@ -184,16 +210,17 @@ fn perform_on<R: Files + Threads + Wait + Sync, I: Read, O: Write>(
 ) -> Result<Status, Refusal>
     ensures written { IfOk result (λ status. (text : List ℕ)
         × (file.now ≡ codes "-" → IsReadFrom (I.remaining input.old) (I.remaining input.new) text)
-        × WritesAnswer task text status (O.contents output.old) (O.contents output.new)) }
+        × WritesAnswer task file.now text status (O.contents output.old) (O.contents output.new)) }
     ensures refused { IfErr result (λ refusal. IsUnanswered task (λ text. file.now ≡ codes "-"
         → IsReadFrom (I.remaining input.old) (I.remaining input.new) text)
         refusal (O.contents output.old) (O.contents output.new)) }
+    ensures apart { file.now ≢ codes "-" → input.new ≡ input.old }
 {
     if file == "-" {
-        return perform(rt, alloc, task, input, output);
+        return perform(rt, alloc, task, file, input, output);
     }
     match fs::open(rt, file) {
-        Ok(mut opened) => perform(rt, alloc, task, &mut opened, output),
+        Ok(mut opened) => perform(rt, alloc, task, file, &mut opened, output),
         Err(_) => Err(Refusal::Fault(Fault::Device)),
     }
 }
@@ -205,7 +232,7 @@ fn tell_usage<O: Write, E: Write>(output: &mut O, faults: &mut E, error: &Error)
         (O.contents output.old) (O.contents output.new) }
 {
     if error.kind() == clap::error::ErrorKind::OutOfMemory {
-        return end_with(faults, Fault::Memory);
+        return end_with(faults, Fault::Memory).0;
     }
     if error.use_stderr() {
         let _ = write!(faults, "{error}");
@@ -213,7 +240,7 @@ fn tell_usage<O: Write, E: Write>(output: &mut O, faults: &mut E, error: &Error)
     }
     match write!(output, "{error}") {
         Ok(()) => Status::Done,
-        Err(_) => end_with(faults, Fault::Device),
+        Err(_) => end_with(faults, Fault::Device).0,
     }
 }
 
@@ -227,16 +254,18 @@ fn obey<R: Files + Threads + Wait + Sync, I: Read, O: Write, E: Write>(
     output: &mut O,
     faults: &mut E,
 ) -> Status
-    ensures { Obeys command.now (found_of words.now) result (I.remaining input.old)
+    ensures obeyed { Obeys command.now (found_of words.now) result (I.remaining input.old)
         (I.remaining input.new) (O.contents output.old) (O.contents output.new) }
+    ensures apart { LeavesInput (found_of words.now) (I.remaining input.old)
+        (I.remaining input.new) }
 {
     let Some(task) = task_of(command, words) else {
         return Status::Refused;
     };
-    let file = words.get_str("FILE").unwrap_or("-");
+    let file = file_of(words);
     match perform_on(rt, alloc, task, file, input, output) {
         Ok(status) => status,
-        Err(refusal) => end_refused(faults, refusal),
+        Err(refusal) => end_refused(faults, refusal).0,
     }
 }
 
@@ -278,7 +307,13 @@ fn run<R: Files + Threads + Wait + Sync, I: Read, O: Write, E: Write>(
 {
     let architectures = architectures(alloc)?;
     let kinds = kinds(alloc)?;
-    let command = grammar(alloc, architectures.alternatives(), kinds.alternatives())?;
+    let forms = forms(alloc)?;
+    let command = grammar(
+        alloc,
+        architectures.alternatives(),
+        kinds.alternatives(),
+        forms.alternatives(),
+    )?;
     match command.try_get_matches_from(words) {
         Ok(matches) => Ok(obey_matches(rt, alloc, &matches, input, output, faults)),
         Err(error) => Ok(tell_usage(output, faults, &error)),
@@ -292,7 +327,7 @@ pub fn refuse_words<E: Write>(faults: &mut E, error: &io::Error) -> u8
     ensures usage { error_kind error.now ≢ OutOfMemory → result ≡ 2 }
 {
     if error.kind() == ErrorKind::OutOfMemory {
-        return end_with(faults, Fault::Memory).code();
+        return end_with(faults, Fault::Memory).0.code();
     }
     let _ = writeln!(faults, "error: a word of the command line is no text");
     Status::Refused.code()
@@ -338,6 +373,6 @@ pub fn command<R: Files + Threads + Wait + Sync, I: Read, O: Write, E: Write>(
 {
     match run(rt, alloc, words.as_slice(), input, output, faults) {
         Ok(status) => status.code(),
-        Err(_) => end_with(faults, Fault::Memory).code(),
+        Err(_) => end_with(faults, Fault::Memory).0.code(),
     }
 }

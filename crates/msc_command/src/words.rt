@@ -2,26 +2,48 @@
 
 ghost use Rattle.std.specs.Prelude.{◌≡◌, MatchOption, Some, map};
 ghost use Rattle.clap.specs.Matches.{found_of};
-ghost use Rattle.msc_command.specs.Words.{architecture, is_study, names_kind, AreAllowed, AsksFor};
-ghost use Rattle.msc_command.specs.Words.{AsksToCheck, IsEventWord, IsFlag, IsOptionNumber};
-ghost use Rattle.msc_command.specs.Words.{LacksEvent, IsNoCommand, IsView};
+ghost use Rattle.msc_command.specs.Forms.{IsFormat};
+ghost use Rattle.msc_command.specs.Words.{architecture, file_of, form, names_kind, AreAllowed};
+ghost use Rattle.msc_command.specs.Words.{AsksFor, AsksToCheck, IsEventWord, IsFlag};
+ghost use Rattle.msc_command.specs.Words.{IsOptionNumber};
+ghost use Rattle.msc_command.specs.Words.{LacksEvent, IsNoCommand, IsQuestion};
 
 use clap::ArgMatches;
 use msc_chart::{Event, Queues};
-use msc_reason::RaceKind;
-use msc_study::{KindSet, View};
+use msc_judge::Question;
+use msc_reason::{KindSet, RaceKind};
+use msc_text::Format;
+
+/// In which form an answer is written.
+#[derive(Clone, Copy)]
+pub enum Form {
+    /// Text, the verdict and lines for each race.
+    Text,
+    /// One line for each file.
+    Count,
+}
+
+impl Form {
+    /// The format for a file of this name.
+    pub fn format<'f>(self, file: &'f str) -> Format<'f>
+        ensures { IsFormat self file.entry.now result }
+    {
+        match self {
+            Form::Text => Format::Lines,
+            Form::Count => Format::Count(file.as_bytes()),
+        }
+    }
+}
 
 /// What the words ask for.
 #[derive(Clone, Copy)]
 pub enum Task {
     /// The canonical text.
     Read,
-    /// The verdict under an architecture, and how many races are shown with a run.
-    Check(Queues, u32),
-    /// A study of the races under an architecture.
-    Study(Queues, View),
-    /// Whether a study finds races that count, without its text.
-    Judge(Queues, View),
+    /// What is asked of the races under an architecture, in a form.
+    Check(Queues, Question, Form),
+    /// Whether no race counts under an architecture, of none of these kinds, without a text.
+    Judge(Queues, KindSet),
     /// Why the first of two events comes before the second under an architecture, or how it need
     /// not.
     Explain(Queues, Event, Event),
@@ -74,11 +96,11 @@ fn allowed_of(words: &ArgMatches) -> KindSet
     }
 }
 
-/// What is to be seen of the races.
-fn view_of(words: &ArgMatches) -> View
-    ensures { IsView (found_of words.now) result }
+/// What is asked of the races.
+fn question_of(words: &ArgMatches) -> Question
+    ensures { IsQuestion (found_of words.now) result }
 {
-    View {
+    Question {
         closest: is_given(words, "closest"),
         why: is_given(words, "why"),
         allowed: allowed_of(words),
@@ -87,37 +109,38 @@ fn view_of(words: &ArgMatches) -> View
     }
 }
 
-/// Whether more or less is to be seen than a verdict and its races with runs.
-fn is_study(view: View) -> bool
-    ensures { result ≡ is_study view }
+/// The form that the words ask for.
+fn form_of(words: &ArgMatches) -> Form
+    ensures { result ≡ form (found_of words.now) }
 {
-    let leaves_out = !view.allowed.is_empty();
-    view.closest || view.why || leaves_out || view.most < u32::MAX
+    let Some(word) = words.get_str("format") else {
+        return Form::Text;
+    };
+    if word == "count" {
+        return Form::Count;
+    }
+    Form::Text
 }
 
-/// What the words of `msc check` ask for. Without an option besides `--show` it is the verdict;
-/// what is to be quiet lists no race.
+/// What the words of `msc check` ask for. What is to be quiet is told by the status alone.
 fn checking(queues: Queues, words: &ArgMatches) -> Task
     ensures { architecture (found_of words.now) ≡ Some queues
         → AsksToCheck (found_of words.now) result }
 {
     if is_given(words, "quiet") {
-        return Task::Judge(
-            queues,
-            View {
-                closest: false,
-                why: false,
-                allowed: allowed_of(words),
-                most: 0,
-                show: 0,
-            },
-        );
+        return Task::Judge(queues, allowed_of(words));
     }
-    let view = view_of(words);
-    if is_study(view) {
-        return Task::Study(queues, view);
+    Task::Check(queues, question_of(words), form_of(words))
+}
+
+/// The file that the words name.
+pub fn file_of<'w>(words: &'w ArgMatches) -> &'w str
+    ensures { result.now ≡ file_of (found_of words.entry.now) }
+{
+    match words.get_str("FILE") {
+        Some(file) => file,
+        None => "-",
     }
-    Task::Check(queues, view.show)
 }
 
 /// The architecture that the words name.

@@ -11,8 +11,8 @@ use Rattle.msc_fifo.specs.Settlement.{IsSettled}
 use Rattle.msc_fifo.specs.declared.accounts.Account.{Account}
 use Rattle.msc_fifo.specs.declared.accounts.Settled.{Settled}
 use Rattle.msc_fifo.specs.declared.places.Place.{Place}
-use Rattle.msc_execution.specs.declared.end.End.{End}
-use Rattle.msc_execution.specs.declared.end.End.TheVariants.{Finished, Foreign}
+use Rattle.msc_ending.specs.declared.end.End.{End}
+use Rattle.msc_ending.specs.declared.end.End.TheVariants.{Finished, Foreign}
 use Rattle.msc_execution.specs.Roles.{EndLists, role, wired_ends, queues_in, takes_from}
 use Rattle.msc_execution.specs.Logs.{Begins, sent, received, received_from}
 use Rattle.msc_execution.specs.Running.{HasRun}

@@ -5,8 +5,8 @@ use Rattle.msc_chart.specs.Lists.{occurs}
 use Rattle.msc_chart.specs.Charts.{line, is_controlled, is_output, before}
 use Rattle.msc_chart.specs.Drawings.{Drawing}
 use Rattle.msc_fifo.specs.Ends.{IsSpentClock, unended_in}
-use Rattle.msc_execution.specs.declared.end.End.{End}
-use Rattle.msc_execution.specs.declared.end.End.TheVariants.{Finished, Starved, Impatient, Stopped, Foreign}
+use Rattle.msc_ending.specs.declared.end.End.{End}
+use Rattle.msc_ending.specs.declared.end.End.TheVariants.{Finished, Starved, Impatient, Stopped, Foreign}
 use Rattle.msc_execution.specs.Roles.{Role, EndLists, NumberedInlet}
 use Rattle.msc_execution.specs.Logs.{IsLogOf, IsWholeLog, Reading, clock_along}
 use Rattle.msc_execution.specs.Growth.{IsLeftBy, HasTaken, IsStrange}

@@ -13,7 +13,7 @@ use Rattle.msc_fifo.specs.declared.accounts.Account.{Account}
 use Rattle.msc_fifo.specs.declared.accounts.Settled.{Settled}
 use Rattle.msc_fifo.specs.Claims.{claim}
 use Rattle.msc_fifo.specs.Settlement.{place_of}
-use Rattle.msc_execution.specs.declared.end.End.TheVariants.{Finished}
+use Rattle.msc_ending.specs.declared.end.End.TheVariants.{Finished}
 use Rattle.msc_execution.specs.Executions.{Outcome, IsExecution}
 use Rattle.msc_execution.specs.Shown.{trace_in}
 

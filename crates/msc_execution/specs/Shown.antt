@@ -8,7 +8,7 @@ use Rattle.msc_chart.specs.Orders.{wired}
 use Rattle.msc_chart.specs.Runs.{Run, HasLines, HasNoMerge}
 use Rattle.msc_fifo.specs.declared.accounts.Settled.{Settled}
 use Rattle.msc_fifo.specs.declared.places.Place.{Place}
-use Rattle.msc_execution.specs.declared.end.End.TheVariants.{Stopped}
+use Rattle.msc_ending.specs.declared.end.End.TheVariants.{Stopped}
 use Rattle.msc_execution.specs.Logs.{clock_along}
 use Rattle.msc_execution.specs.Executions.{Outcome, IsExecution, log_at, end_at}
 use Rattle.msc_execution.specs.Clocks.{QueuePlace, Places, messages, place_clock, trace_of}

@@ -8,8 +8,8 @@ use Rattle.msc_chart.specs.Lists.{occurs}
 use Rattle.msc_chart.specs.Charts.{is_input}
 use Rattle.msc_chart.specs.Drawings.{Drawing}
 use Rattle.msc_chart.proofs.ListLemmas.{occurs_other}
-use Rattle.msc_execution.specs.declared.end.End.{End}
-use Rattle.msc_execution.specs.declared.end.End.TheVariants.{Finished}
+use Rattle.msc_ending.specs.declared.end.End.{End}
+use Rattle.msc_ending.specs.declared.end.End.TheVariants.{Finished}
 use Rattle.msc_execution.specs.Running.{Left}
 use Rattle.msc_instance.specs.declared.ends.InstanceEnd.{InstanceEnd}
 use Rattle.msc_instance.specs.declared.threads.Job.{Job}

@@ -5,7 +5,7 @@ use Rattle.msc_chart.specs.Lists.{occurs}
 use Rattle.msc_chart.specs.Drawings.{Drawing}
 use Rattle.msc_chart.proofs.ListLemmas.{clash}
 use Rattle.msc_fifo.specs.Ends.{IsSpentClock, unended_in}
-use Rattle.msc_execution.specs.declared.end.End.TheVariants as end
+use Rattle.msc_ending.specs.declared.end.End.TheVariants as end
 use Rattle.msc_execution.specs.Roles.{NumberedInlet}
 use Rattle.msc_execution.specs.Running.{IsHungry, IsReadyToSend, AllHaveEnded}
 use Rattle.msc_instance.specs.declared.active.Active.{Active}

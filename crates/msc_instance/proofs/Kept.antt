@@ -5,8 +5,8 @@ use Rattle.std.proofs.Math.Seq.{map-set_same}
 use Rattle.std.proofs.lemmas.Bool.{eq-eqb, ne_eqb}
 use Rattle.msc_chart.specs.Lists.{occurs}
 use Rattle.msc_fifo.specs.declared.entry.Taken.TheVariants as took
-use Rattle.msc_execution.specs.declared.end.End.{End}
-use Rattle.msc_execution.specs.declared.end.End.TheVariants as end
+use Rattle.msc_ending.specs.declared.end.End.{End}
+use Rattle.msc_ending.specs.declared.end.End.TheVariants as end
 use Rattle.msc_execution.specs.Roles.{Role, EndLists, NumberedOutlet, NumberedInlet, IsFit}
 use Rattle.msc_execution.specs.Logs.{Reading, clock_along}
 use Rattle.msc_execution.specs.Growth.{HasTaken, IsLeftBy, IsStrange}

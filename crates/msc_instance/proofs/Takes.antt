@@ -13,7 +13,7 @@ use Rattle.msc_chart.proofs.Drawn.{input_parts, controlled_no_input}
 use Rattle.msc_fifo.specs.Entries.{greatest_idle}
 use Rattle.msc_fifo.specs.declared.entry.Taken.TheVariants as took
 use Rattle.msc_fifo.specs.Ends.{unended_in}
-use Rattle.msc_execution.specs.declared.end.End.TheVariants as end
+use Rattle.msc_ending.specs.declared.end.End.TheVariants as end
 use Rattle.msc_execution.specs.Roles.{NumberedInlet}
 use Rattle.msc_execution.specs.Logs.{IsLogOf, line_events}
 use Rattle.msc_execution.specs.Growth.{IsStrange}

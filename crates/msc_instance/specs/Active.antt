@@ -10,7 +10,7 @@ use Rattle.msc_fifo.specs.Claims.{claim}
 use Rattle.msc_fifo.specs.declared.entry.Taken.{Taken}
 use Rattle.msc_fifo.specs.Entries.{entries_of, idle_after, ends_in}
 use Rattle.msc_fifo.specs.Ends.{IsSameOutlet, IsSameInlet, Clocked, unended_in}
-use Rattle.msc_execution.specs.declared.end.End.{End}
+use Rattle.msc_ending.specs.declared.end.End.{End}
 use Rattle.msc_execution.specs.Roles.{Role, EndLists, NumberedOutlet, NumberedInlet, role, IsFit}
 use Rattle.msc_execution.specs.Logs.{Reading, IsLogOf, line_events, controlled}
 use Rattle.msc_execution.specs.Fits.{OutputsHaveOutlets, LogsKeepQuotas, InletsBringOwn}

@@ -3,8 +3,8 @@ use Rattle.std.specs.Prelude.{◌≡◌, ◌⊎◌, ℕ, Bool, List, [], ◌∷�
 use Rattle.msc_chart.specs.Lists.{occurs}
 use Rattle.msc_chart.specs.Charts.{is_input}
 use Rattle.msc_chart.specs.Drawings.{Drawing}
-use Rattle.msc_execution.specs.declared.end.End.{End}
-use Rattle.msc_execution.specs.declared.end.End.TheVariants.{Stopped}
+use Rattle.msc_ending.specs.declared.end.End.{End}
+use Rattle.msc_ending.specs.declared.end.End.TheVariants.{Stopped}
 
 -- whether it lets everything, and which event of which instance it may let
 pub record Rule : Type 0 where

@@ -2,7 +2,7 @@
 use Rattle.std.specs.Prelude.{◌≡◌, ◌≢◌, ℕ, ◌+◌, ◌<◌, ◌≤◌, min, Bool, length, get_or, All}
 use Rattle.msc_chart.specs.Drawings.{Drawing}
 use Rattle.msc_fifo.specs.Entries.{greatest_idle}
-use Rattle.msc_execution.specs.declared.end.End.TheVariants as end
+use Rattle.msc_ending.specs.declared.end.End.TheVariants as end
 use Rattle.msc_execution.specs.Roles.{NumberedInlet}
 use Rattle.msc_instance.specs.declared.active.Active.{Active}
 use Rattle.msc_instance.specs.declared.active.Post.{Post}

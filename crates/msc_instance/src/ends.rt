@@ -1,7 +1,7 @@
 //! The ends that an instance has of its queues, and what it leaves.
 
 use msc_chart::{Event, Queues};
-use msc_execution::End;
+use msc_ending::End;
 use msc_fifo::{Inlet, Outlet};
 
 /// The ends of an instance under an architecture, each with the number of its queue, ascending.

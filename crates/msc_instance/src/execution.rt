@@ -1,18 +1,17 @@
 //! The execution of a chart: all its instances on threads, and then its queues settled.
 
 ghost use Rattle.std.specs.Prelude.{◌≡◌, ◌≢◌, ℕ, ◌<◌, length, IfOk, IfErr, IsTrue};
-ghost use Rattle.msc_execution.specs.declared.end.End.TheVariants.{Stopped};
+ghost use Rattle.msc_ending.specs.declared.end.End.TheVariants.{Stopped};
 ghost use Rattle.msc_execution.specs.Executions.{AreFinished, IsExecution, IsFinished, end_at};
 ghost use Rattle.msc_execution.specs.Executions.{log_at};
 ghost use Rattle.msc_instance.specs.Gates.{WasLet};
 ghost use Rattle.msc_instance.specs.Views.{outcome_of};
 
-use crate::fault::RunFault;
 use crate::gate::Gate;
 use crate::settling::settle_all;
 use crate::threads::{prepare_all, run_all};
 use msc_chart::{Chart, Event, Queues};
-use msc_execution::End;
+use msc_ending::{End, RunFault};
 use msc_execution::laws::{
     finished_executions_leave_nothing, no_clock_is_spent, runs_hold_queues,
     settled_runs_are_executions,

@@ -10,7 +10,6 @@ mod active;
 mod counting;
 mod ends;
 mod execution;
-mod fault;
 mod fitting;
 mod gate;
 mod journal;
@@ -27,8 +26,7 @@ mod wiring;
 
 pub use ends::{InstanceEnd, InstanceEnds};
 pub use execution::{Execution, run_chart};
-pub use fault::RunFault;
 pub use gate::{AlwaysOpen, Gate};
-pub use msc_execution::End;
+pub use msc_ending::{End, RunFault};
 pub use running::run_instance;
 pub use wiring::wire;

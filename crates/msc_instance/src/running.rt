@@ -16,7 +16,7 @@ use crate::outlets::close_all;
 use crate::round::Round;
 use msc_chart::laws::lines_are_ranges;
 use msc_chart::{Chart, Event};
-use msc_execution::End;
+use msc_ending::End;
 use msc_execution::laws::{inlets_bring_own, logs_keep_quotas, outputs_have_outlets};
 use msc_fifo::Inlet;
 use std::snapshot::Snapshot;

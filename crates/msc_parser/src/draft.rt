@@ -1,4 +1,4 @@
-//! Drafts: the tree of names and texts of a chart's text, made by `parse` alone.
+//! Drafts: the tree of names and texts of a chart's text.
 //!
 //! Contracts see a draft as its `Tree`: the chart's name, the header and the sections, as plain
 //! lists.
@@ -40,8 +40,9 @@ impl Model for Draft {
 }
 
 impl Draft {
-    /// The draft of these parts.
-    pub(crate) fn new(name: Name, header: Listed<Decl>, sections: Listed<Section>) -> Self
+    /// The draft of these parts, where they are such as a text can have. It takes no memory. What
+    /// reads another language than this crate's makes its drafts so.
+    pub fn new(name: Name, header: Listed<Decl>, sections: Listed<Section>) -> Self
         requires { IsDraft (record { name = name; header = header; sections = sections }) }
         ensures { result ≡ record { name = name; header = header; sections = sections } }
     {

@@ -7,3 +7,4 @@ pub mod Counts
 pub mod OpenPairs
 pub mod DrawnPairs
 pub mod Verdicts
+pub mod Raced

@@ -16,3 +16,4 @@ pub mod ChosenRuns
 pub mod Deciding
 pub mod FreeRuns
 pub mod ChosenExists
+pub mod RunEvents

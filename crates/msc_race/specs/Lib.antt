@@ -1,6 +1,8 @@
 -- what is promised
 pub mod Laws
 pub mod Races
+pub mod Wired
+pub mod Views
 pub mod Gaps
 pub mod Walks
 pub mod Samples

@@ -9,6 +9,7 @@
 
 mod beginning;
 mod choosing;
+mod enforced;
 pub mod laws;
 mod lines;
 mod queued_run;
@@ -18,6 +19,7 @@ mod reversing;
 mod rows;
 mod verdict;
 
+pub use enforced::Enforced;
 pub use racing::{Walk, check, check_order, count_races, push_open, races};
 pub use reversing::{chosen_run, reversing_run};
 pub use verdict::Verdict;

@@ -178,6 +178,7 @@ impl Walk {
         requires known { e < length chart.now.events }
         requires reached { HasReached chart.now.events e self.now }
         ensures reached { HasReached chart.now.events (e + 1) self.new }
+        ensures segment { IsSegmentEnd chart.now.events e self.new.segment_end }
         ensures races { OnOk result (list.new.items ≡ list.old.items
             ++ pairs_to (is_raced chart.now.events order.now) e (length chart.now.events)) }
     {

@@ -4,3 +4,10 @@ pub mod KindLemmas
 pub mod NextEvents
 pub mod ChainLemmas
 pub mod Walking
+pub mod Filtered
+pub mod Counted
+pub mod Within
+pub mod Marking
+pub mod Sums
+pub mod LacksIn
+pub mod CountingLaws

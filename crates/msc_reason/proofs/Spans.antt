@@ -55,7 +55,7 @@ module _ (chart : WiredChart) (is_wired : IsWired chart) where
   )
 
   -- an event between those of a race parts it: the one pair is a race, or the other
-  parted : (e x f : ℕ) → IsRace chart e f → before chart.events e x ≡ true → before chart.events x f ≡ true → IsRace chart e x ⊎ IsRace chart x f
+  pub parted : (e x f : ℕ) → IsRace chart e f → before chart.events e x ≡ true → before chart.events x f ≡ true → IsRace chart e x ⊎ IsRace chart x f
   parted e x f race low high =
       let known = before_parts chart.events e x low in
       elim (enforced_told chart is_wired e x known.0 known.1) [

@@ -1,6 +1,10 @@
 -- what is promised
 pub mod Closest
 pub mod Lacks
+pub mod Kinds
+pub mod Counting
+pub mod CountingLaws
+pub mod Selected
 pub mod Chains
 pub mod Links
 pub mod Rules
@@ -8,3 +12,4 @@ pub mod Reasons
 pub mod Laws
 -- what the code keeps
 pub mod Ranges
+pub mod Marked

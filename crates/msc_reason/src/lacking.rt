@@ -3,7 +3,9 @@
 ghost use Rattle.std.specs.Prelude.{◌≡◌, ◌≢◌, ◌<◌, ◌↔◌, length, IsTrue};
 ghost use Rattle.msc_chart.specs.Orders.{wired, Enforced, IsEnforcedOrder, IsRace};
 ghost use Rattle.msc_order.specs.Tables.{orders};
+ghost use Rattle.msc_race.specs.Wired.{enforced_chart};
 ghost use Rattle.msc_reason.specs.Lacks.{IsKindOf, IsLackOf, needed};
+ghost use Rattle.msc_reason.specs.Marked.{kind_in, lack_in};
 
 use crate::lack::{Lack, RaceKind};
 use crate::laws::a_race_lacks_one_pair;
@@ -28,7 +30,8 @@ pub fn kind_of(chart: &Chart, queues: Queues, order: &Order, e: Event, f: Event)
     requires enforced { IsEnforcedOrder (wired queues chart.now) (orders order.now) }
     requires square { length order.now ≡ length chart.now.events }
     requires race { IsRace (wired queues chart.now) e f }
-    ensures { IsKindOf (wired queues chart.now) e f result }
+    ensures kind { IsKindOf (wired queues chart.now) e f result }
+    ensures by_order { result ≡ kind_in (enforced_chart chart.now queues order.now) e f }
 {
     chart.accepted();
     let wiring = Wiring { chart, queues };
@@ -66,6 +69,7 @@ pub fn lack_of(chart: &Chart, queues: Queues, order: &Order, e: Event, f: Event)
     ensures lack { IsLackOf (wired queues chart.now) e f result }
     ensures needed { result.needed < length chart.now.events }
     ensures output { result.output < length chart.now.events }
+    ensures by_order { result ≡ lack_in (enforced_chart chart.now queues order.now) e f }
 
     // So what is needed is another event than the output, and not enforced before it.
     ensures apart { result.needed ≢ result.output }

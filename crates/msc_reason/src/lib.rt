@@ -8,18 +8,25 @@
 #![tactic(auto)]
 
 mod chaining;
+mod counting;
 mod explaining;
+mod kinds;
 mod lack;
 mod lacking;
 pub mod laws;
 mod listing;
+mod marks;
 mod reason;
+mod selecting;
 mod why;
 
 pub use chaining::why_of;
+pub use counting::counts;
 pub use explaining::explain;
+pub use kinds::KindSet;
 pub use lack::{Lack, RaceKind};
 pub use lacking::{is_race, kind_of, lack_of};
 pub use listing::closest;
 pub use reason::Reason;
+pub use selecting::{Listing, Stream, count_counting, none_counts};
 pub use why::Why;

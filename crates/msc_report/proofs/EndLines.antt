@@ -2,7 +2,7 @@
 use Rattle.std.proofs.Common.{◌≡◌, ℕ, zero, suc, ◌+◌, ◌<◌, List, [], ◌∷◌, ◌++◌, length, take, get_or, sym, ap, ◌∙◌, append_assoc, arith}
 use Rattle.std.proofs.lemmas.List.{append-nil}
 use Rattle.msc_chart.specs.Drawings.{Drawing}
-use Rattle.msc_execution.specs.declared.end.End.{End}
+use Rattle.msc_ending.specs.declared.end.End.{End}
 use Rattle.msc_report.specs.Traces.{end_line, end_lines}
 
 -- behind the lines of i instances, the first of them instance j, comes that of instance n, the next

@@ -1,4 +1,3 @@
-pub mod KnownBytes
 pub mod KindLemmas
 pub mod EndLines
 pub mod MadeTexts

@@ -4,5 +4,8 @@ pub mod Texts
 pub mod Verdicts
 pub mod Traces
 pub mod EventTexts
+pub mod Lines
+pub mod Counts
+pub mod Fitting
 -- what the code keeps
 pub mod Spans

@@ -1,17 +1,32 @@
--- How a fault of a lower crate is answered: want of memory is never nested.
-use Rattle.msc_parser.specs.declared.fault.ParseFault.{ParseFault}
-use Rattle.msc_parser.specs.declared.fault.ParseFault.TheVariants as grammar
-use Rattle.msc_chart.specs.declared.fault.ChartFault.{ChartFault}
-use Rattle.msc_chart.specs.declared.fault.ChartFault.TheVariants as charts
+-- The faults of phases, each as the fault that is worded.
+use Rattle.msc_ending.specs.declared.fault.RunFault.{RunFault}
+use Rattle.msc_ending.specs.declared.fault.RunFault.TheVariants as runs
+use Rattle.msc_source.specs.declared.fault.ReadFault.{ReadFault}
+use Rattle.msc_source.specs.declared.fault.ReadFault.TheVariants as reads
+use Rattle.msc_source.specs.declared.fault.SourceFault.{SourceFault}
+use Rattle.msc_source.specs.declared.fault.SourceFault.TheVariants as sources
 use Rattle.msc_report.specs.declared.fault.Fault.{Fault}
-use Rattle.msc_report.specs.declared.fault.Fault.TheVariants.{Parse, Chart, Memory}
+use Rattle.msc_report.specs.declared.fault.Fault.TheVariants.{Parse, Chart, NotStarted, Memory, Device}
+use Rattle.msc_judge.specs.declared.page.WriteFault.{WriteFault}
+use Rattle.msc_judge.specs.declared.page.WriteFault.TheVariants as writes
 
--- how a fault of the parser is answered
-abbrev pub refusal_of : ParseFault → Fault
-refusal_of grammar.Memory = Memory
-refusal_of fault = Parse fault
+-- of reading an input
+abbrev pub of_reading : ReadFault → Fault
+of_reading reads.Memory = Memory
+of_reading (reads.Device e) = Device
 
--- how a fault of a draft that is no chart is answered
-abbrev pub chart_refusal_of : ChartFault → Fault
-chart_refusal_of charts.Memory = Memory
-chart_refusal_of fault = Chart fault
+-- of making the chart of a text
+abbrev pub of_source : SourceFault → Fault
+of_source (sources.Parse f) = Parse f
+of_source (sources.Chart f) = Chart f
+of_source sources.Memory = Memory
+
+-- of running a chart
+abbrev pub of_run : RunFault → Fault
+of_run (runs.NotStarted i) = NotStarted i
+of_run runs.Memory = Memory
+
+-- of writing an answer
+abbrev pub of_writing : WriteFault → Fault
+of_writing writes.Memory = Memory
+of_writing writes.Device = Device

@@ -1,11 +1,18 @@
-//! Why a call gave no answer.
+//! Why a call gave no answer: the union of what each phase can meet.
+//!
+//! Reading an input fails with a `ReadFault`, making a text's chart with a `SourceFault` (both of
+//! `msc_source`), running it with a `RunFault` (of `msc_ending`), and writing with a `WriteFault`
+//! (of `msc_judge`). Each is a [`Fault`], by which its line is worded.
 
 ghost use Rattle.std.specs.Prelude.{◌≡◌};
 ghost use Rattle.msc_report.specs.declared.fault.Fault.TheVariants.{Device, Memory};
-ghost use Rattle.msc_report.specs.Refusals.{chart_refusal_of, refusal_of};
+ghost use Rattle.msc_report.specs.Refusals.{of_reading, of_run, of_source, of_writing};
 
 use msc_chart::ChartFault;
+use msc_ending::RunFault;
+use msc_judge::WriteFault;
 use msc_parser::ParseFault;
+use msc_source::{ReadFault, SourceFault};
 use std::alloc::AllocError;
 use std::io;
 use thiserror::Error;
@@ -59,26 +66,47 @@ impl From<io::Error> for Fault {
     }
 }
 
-impl From<ParseFault> for Fault {
-    ghost from_gives = { λ f e. e ≡ refusal_of f };
+impl From<ReadFault> for Fault {
+    ghost from_gives = { λ f e. e ≡ of_reading f };
 
-    /// Want of memory is never nested.
-    fn from(fault: ParseFault) -> Fault {
+    fn from(fault: ReadFault) -> Fault {
         match fault {
-            ParseFault::Memory => Fault::Memory,
-            _ => Fault::Parse(fault),
+            ReadFault::Memory => Fault::Memory,
+            ReadFault::Device(_) => Fault::Device,
         }
     }
 }
 
-impl From<ChartFault> for Fault {
-    ghost from_gives = { λ f e. e ≡ chart_refusal_of f };
+impl From<SourceFault> for Fault {
+    ghost from_gives = { λ f e. e ≡ of_source f };
 
-    /// Want of memory is never nested.
-    fn from(fault: ChartFault) -> Fault {
+    fn from(fault: SourceFault) -> Fault {
         match fault {
-            ChartFault::Memory => Fault::Memory,
-            _ => Fault::Chart(fault),
+            SourceFault::Parse(fault) => Fault::Parse(fault),
+            SourceFault::Chart(fault) => Fault::Chart(fault),
+            SourceFault::Memory => Fault::Memory,
+        }
+    }
+}
+
+impl From<RunFault> for Fault {
+    ghost from_gives = { λ f e. e ≡ of_run f };
+
+    fn from(fault: RunFault) -> Fault {
+        match fault {
+            RunFault::NotStarted(i) => Fault::NotStarted(i),
+            RunFault::Memory => Fault::Memory,
+        }
+    }
+}
+
+impl From<WriteFault> for Fault {
+    ghost from_gives = { λ f e. e ≡ of_writing f };
+
+    fn from(fault: WriteFault) -> Fault {
+        match fault {
+            WriteFault::Memory => Fault::Memory,
+            WriteFault::Device => Fault::Device,
         }
     }
 }

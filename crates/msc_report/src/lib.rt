@@ -6,17 +6,21 @@
 //! from 0, over all lines.
 #![tactic(auto)]
 
+mod counts;
 mod event_texts;
 mod fault;
+mod lines;
 mod race;
 mod race_line;
 mod trace;
 mod verdict;
 mod writing;
 
+pub use counts::Counts;
 pub use event_texts::EventTexts;
 pub use fault::{Fault, PairFault};
+pub use lines::{Lines, write_pair, write_why};
 pub use race::{write_event_at, write_race, write_run};
 pub use trace::write_trace;
-pub use verdict::{write_head, write_name_line, write_queues_line, write_verdict};
+pub use verdict::{write_name_line, write_queues_line, write_verdict};
 pub use writing::{write_draft, write_fault, write_pair_fault};

@@ -1,6 +1,6 @@
 //! The text of one race.
 
-ghost use Rattle.std.specs.Prelude.{◌≡◌, ◌<◌, ◌++◌, false, None, OnOk, Some, length};
+ghost use Rattle.std.specs.Prelude.{◌≡◌, ◌<◌, ◌++◌, false, OnOk, Some, length, option_map};
 ghost use Rattle.std.specs.Io.KnownBytes.{Appends};
 ghost use Rattle.std.specs.List.{flat_map};
 ghost use Rattle.std.specs.Option.{option_copied};
@@ -188,7 +188,7 @@ fn write_race_place<W: Write>(writer: &mut W, chart: &Chart, e: Event, f: Event)
 }
 
 /// Writes what two events do, to the end of the line.
-fn write_pair<W: Write>(writer: &mut W, chart: &Chart, e: Event, f: Event) -> io::Result<()>
+fn write_events<W: Write>(writer: &mut W, chart: &Chart, e: Event, f: Event) -> io::Result<()>
     requires e_known { e < length chart.now.events }
     requires f_known { f < length chart.now.events }
     ensures { OnOk result (Appends (W.contents writer.old) (W.contents writer.new)
@@ -200,15 +200,33 @@ fn write_pair<W: Write>(writer: &mut W, chart: &Chart, e: Event, f: Event) -> io
     writer.write_all(b"\n")
 }
 
+/// Writes the line of a run, where one is shown.
+fn write_shown<W: Write>(writer: &mut W, run: Option<&[Event]>) -> io::Result<()>
+    ensures { OnOk result (Appends (W.contents writer.old) (W.contents writer.new)
+        (run_line (option_map (λ r. r.now) run.entry))) }
+{
+    match run {
+        Some(run) => write_run(writer, run),
+        None => Ok(()),
+    }
+}
+
 /// Writes the race of `e` and `f`, two events of one line: their numbers, the instance's name and
-/// what they do.
-pub fn write_race<W: Write>(writer: &mut W, chart: &Chart, e: Event, f: Event) -> io::Result<()>
+/// what they do; and below it a run that shows it, where one is given.
+pub fn write_race<W: Write>(
+    writer: &mut W,
+    chart: &Chart,
+    e: Event,
+    f: Event,
+    run: Option<&[Event]>,
+) -> io::Result<()>
     requires e_known { e < length chart.now.events }
     requires f_known { f < length chart.now.events }
     ensures { OnOk result (Appends (W.contents writer.old) (W.contents writer.new)
-        (race_text chart.now e f None)) }
+        (race_text chart.now e f (option_map (λ r. r.now) run.entry))) }
 {
     write_race_place(writer, chart, e, f)?;
     writer.write_all(b": ")?;
-    write_pair(writer, chart, e, f)
+    write_events(writer, chart, e, f)?;
+    write_shown(writer, run)
 }

@@ -10,7 +10,7 @@ ghost use Rattle.msc_report.specs.Traces.{trace_text};
 use crate::race::{write_event_at, write_instance};
 use crate::verdict::{write_name_line, write_queues_line};
 use msc_chart::{Chart, Event, Queues};
-use msc_execution::End;
+use msc_ending::End;
 use std::io;
 use std::io::Write;
 

@@ -80,7 +80,7 @@ fn write_count<W: Write>(writer: &mut W, count: u32) -> io::Result<()>
 
 /// Writes the head of a verdict on a chart under an architecture by the number of its races. It is
 /// what [`write_verdict`] writes of a verdict that lists so many.
-pub fn write_head<W: Write>(
+pub(crate) fn write_head<W: Write>(
     writer: &mut W,
     chart: &Chart,
     queues: Queues,

@@ -1,6 +1,6 @@
 -- What explaining a pair of events answers.
-use Rattle.std.proofs.Common.{◌≡◌, ◌≢◌, ◌⊎◌, ℕ, List, Option, Result, Ok, Err, None, Some, inl, inr, refl, sym, ap, ◌∙◌, subst, arith}
-use Rattle.std.specs.Prelude.{IfErr, IfOk, IfSome}
+use Rattle.std.proofs.Common.{◌≡◌, ◌≢◌, ◌⊎◌, ℕ, List, Option, Result, Ok, Err, inl, inr, refl, sym, ap, ◌∙◌, subst, arith}
+use Rattle.std.specs.Prelude.{IfErr}
 use Rattle.std.specs.Io.KnownBytes.{Appends}
 use Rattle.msc_chart.specs.declared.queue.Queues.{Queues}
 use Rattle.msc_chart.specs.Drawings.{Drawing, IsAccepted}
@@ -16,11 +16,9 @@ use Rattle.msc_report.specs.declared.fault.PairFault.TheVariants.{NoEvent, OneEv
 use Rattle.msc_study.specs.declared.explained.Explained.{Explained}
 use Rattle.msc_study.specs.declared.explained.Explained.TheVariants as answers
 use Rattle.msc_study.specs.Explained.{told, PrintsPair}
-use Rattle.msc_study.specs.Explaining.{AnswersPair, AreTwoEvents, IsPairFault, RefusesInputPair, RefusesPair}
+use Rattle.msc_study.specs.Explaining.{AnswersPair, AreTwoEvents, IsPairFault, RefusesPair}
 use Rattle.msc_study.specs.Reasons.{explained_text}
-use Rattle.msc_text.proofs.InputAnswers.{Drafted}
-use Rattle.msc_text.proofs.Inputs.{draft_back, HasRead}
-use Rattle.msc_text.specs.Charting.{IsChartOf, IsChartOrMemory}
+use Rattle.msc_source.specs.Texts.{IsChartOf}
 
 -- a pair that has a fault is no pair of two events, and has no other fault
 pub no_fault : (d : Drawing) (e f : ℕ) (p : PairFault) → AreTwoEvents d e f → IsPairFault d e f p → ⊥
@@ -68,49 +66,34 @@ fails_otherwise {A} (Err e) x said no_memory no_device same =
 
 module _ (text : List ℕ) (queues : Queues) (e f : ℕ) where
   -- what is printed of the chart of a text is printed of the text
-  pub answers_pair : (r : Result Explained Fault) (d : Drawing) (before after : Option (List ℕ)) → IsChartOf text d
-      → IfOk r (λ told. (printed : List ℕ) × PrintsPair d queues e f told printed × Appends before after printed)
-      → IfOk r (λ told. AnswersPair text queues e f told before after)
-  answers_pair (Ok answers.Enforced) d before after of_text (printed, prints, wrote) =
+  pub answers_pair : (told : Explained) (d : Drawing) (printed : List ℕ) (before after : Option (List ℕ)) → IsChartOf text d
+      → PrintsPair d queues e f told printed → Appends before after printed → AnswersPair text queues e f told before after
+  answers_pair answers.Enforced d printed before after of_text prints wrote =
       (printed, record { chart = d; of_text = of_text; shown = prints }, wrote)
-  answers_pair (Ok answers.Free) d before after of_text (printed, prints, wrote) =
+  answers_pair answers.Free d printed before after of_text prints wrote =
       (printed, record { chart = d; of_text = of_text; shown = prints }, wrote)
-  answers_pair (Ok (answers.Refused p)) d before after of_text (printed, prints, wrote) = absurd prints
-  answers_pair (Err fault) d before after of_text said = tt
+  answers_pair (answers.Refused p) d printed before after of_text prints wrote = absurd prints
+
+  -- and it is no fault of a pair
+  pub answers_no_fault : (told : Explained) (d : Drawing) (printed : List ℕ) → PrintsPair d queues e f told printed
+      → (p : PairFault) → told ≢ answers.Refused p
+  answers_no_fault answers.Enforced d printed prints p same = absurd cc
+  answers_no_fault answers.Free d printed prints p same = absurd cc
+  answers_no_fault (answers.Refused q) d printed prints p same = prints
 
   -- where a chart has two such events, no fault of a pair stands
-  pub two_stand : (answer : Result Explained Fault) (d : Drawing) → ((c : Drawing) → IsChartOf text c → IsChartOrMemory c (Ok d)) → AreTwoEvents d e f
+  pub two_stand : (answer : Result Explained Fault) (d : Drawing) → ((c : Drawing) → IsChartOf text c → d ≡ c) → AreTwoEvents d e f
       → RefusesPair text e f answer
   two_stand answer d only two p has =
       absurd (no_fault has.chart e f p (subst (λ (c : Drawing). AreTwoEvents c e f) (only has.chart has.of_text) two) has.stands)
 
   -- a fault of a pair is answered as it stands
-  pub pair_stands : (d : Drawing) (p : PairFault) → ((c : Drawing) → IsChartOf text c → IsChartOrMemory c (Ok d)) → IsPairFault d e f p
+  pub pair_stands : (d : Drawing) (p : PairFault) → ((c : Drawing) → IsChartOf text c → d ≡ c) → IsPairFault d e f p
       → RefusesPair text e f (Ok (answers.Refused p))
   pair_stands d p only stands q has =
       inl (ap (λ (x : PairFault). Ok (answers.Refused x))
       (one_fault has.chart e f p q (subst (λ (c : Drawing). IsPairFault c e f p) (only has.chart has.of_text) stands) has.stands))
 
   -- and a text without a chart has none, unless memory runs out
-  pub no_pair : (x : Fault) → ((c : Drawing) → IsChartOf text c → IsChartOrMemory c (Err x)) → RefusesPair text e f (Err x)
+  pub no_pair : (x : Fault) → ((c : Drawing) → IsChartOf text c → x ≡ Memory) → RefusesPair text e f (Err x)
   no_pair x only q has = inr (ap Err (only has.chart has.of_text))
-
-  -- what is said of the fault of a pair of what was read holds of the input
-  pub refuses_input_pair : (input : Option (List ℕ)) (answer : Result Explained Fault) → HasRead text input
-      → RefusesPair text e f answer → RefusesInputPair input e f answer
-  refuses_input_pair None answer read said p = tt
-  refuses_input_pair (Some bytes) answer read said p =
-      λ has.
-      let of = has.of_text in
-      let of_read : IsChartOf text has.chart =
-      record { draft = of.draft; has = draft_back text bytes read of.draft of.has; faultless = of.faultless; chart = of.chart } in
-      elim (said p (record { chart = has.chart; of_text = of_read; stands = has.stands })) [
-        | inl same ↦ inl same
-        | inr memory ↦ inr (inl memory)
-      ]
-
-  -- and what is answered of a pair speaks of a draft of the text
-  pub answers_drafted : (before after : Option (List ℕ)) (told : Explained) → AnswersPair text queues e f told before after → Drafted text
-  answers_drafted before after answers.Enforced wrote = (wrote.1.of_text.draft, wrote.1.of_text.has)
-  answers_drafted before after answers.Free wrote = (wrote.1.of_text.draft, wrote.1.of_text.has)
-  answers_drafted before after (answers.Refused p) has = (has.of_text.draft, has.of_text.has)

@@ -1,5 +1,5 @@
 -- What explaining a pair of a text's events answers.
-use Rattle.std.specs.Prelude.{◌≡◌, ◌≢◌, ◌≤◌, ◌<◌, ◌⊎◌, ◌↔◌, ℕ, Bool, true, false, List, length, Option, Result, Ok, Err, IfOk, IfSome, IsTrue}
+use Rattle.std.specs.Prelude.{◌≡◌, ◌≢◌, ◌≤◌, ◌<◌, ◌⊎◌, ◌↔◌, ℕ, Bool, true, false, List, length, Option, Result, Ok, Err, IsTrue}
 use Rattle.std.specs.Io.KnownBytes.{Appends}
 use Rattle.msc_chart.specs.declared.queue.Queues.{Queues}
 use Rattle.msc_chart.specs.Drawings.{Drawing}
@@ -7,12 +7,10 @@ use Rattle.msc_chart.specs.Orders.{wired, Enforced}
 use Rattle.msc_reason.specs.Reasons.{IsReason}
 use Rattle.msc_reason.specs.declared.reason.Reason.{Reason}
 use Rattle.msc_report.specs.declared.fault.Fault.{Fault}
-use Rattle.msc_report.specs.declared.fault.Fault.TheVariants.{Memory, Device}
+use Rattle.msc_report.specs.declared.fault.Fault.TheVariants.{Memory}
 use Rattle.msc_report.specs.declared.fault.PairFault.{PairFault}
 use Rattle.msc_report.specs.declared.fault.PairFault.TheVariants.{NoEvent, OneEvent}
-use Rattle.msc_text.specs.Answers.{RefusesText}
-use Rattle.msc_text.specs.Charting.{IsChartOf}
-use Rattle.msc_text.specs.Checking.{RefusesDraft}
+use Rattle.msc_source.specs.Texts.{IsChartOf}
 use Rattle.msc_study.specs.declared.explained.Explained.{Explained}
 use Rattle.msc_study.specs.declared.explained.Explained.TheVariants as answers
 use Rattle.msc_study.specs.Reasons.{explained_text}
@@ -66,17 +64,3 @@ abbrev pub RefusesPair : List ℕ → ℕ → ℕ → Result Explained Fault →
 RefusesPair text e f answer =
     (fault : PairFault) → HasPairFault text e f fault
     → (answer ≡ Ok (answers.Refused fault)) ⊎ (answer ≡ Err Memory)
-
--- what explaining a pair of a text's events answers and writes
-pub record ExplainsText (text : List ℕ) (queues : Queues) (e f : ℕ) (answer : Result Explained Fault) (before after : Option (List ℕ)) : Type 0 where
-  pub written : IfOk answer (λ told. AnswersPair text queues e f told before after)
-  pub refused : RefusesText text answer
-  pub no_chart : RefusesDraft text answer
-  pub no_pair : RefusesPair text e f answer
-
--- what of an input whose bytes are told has a fault is refused with it, unless memory runs out or a
--- device fails
-abbrev pub RefusesInputPair : Option (List ℕ) → ℕ → ℕ → Result Explained Fault → Type 0
-RefusesInputPair input e f answer =
-    (fault : PairFault) → IfSome input (λ bytes. HasPairFault bytes e f fault
-    → (answer ≡ Ok (answers.Refused fault)) ⊎ ((answer ≡ Err Memory) ⊎ (answer ≡ Err Device)))

@@ -1,5 +1,5 @@
 -- The texts that reasons are printed as. This project's own formats.
-use Rattle.std.specs.Prelude.{ℕ, ◌&&◌, cond, List, [], ◌∷◌, ◌++◌, Option, None, Some, codes, nat_eq, true}
+use Rattle.std.specs.Prelude.{ℕ, ◌&&◌, cond, List, [], ◌∷◌, ◌++◌, Option, None, Some, codes, nat_eq}
 use Rattle.std.specs.Fmt.{decimal}
 use Rattle.msc_chart.specs.declared.queue.Queues.{Queues}
 use Rattle.msc_chart.specs.Charts.{is_output, partner}
@@ -11,7 +11,7 @@ use Rattle.msc_reason.specs.declared.why.Why.{Why}
 use Rattle.msc_reason.specs.declared.why.Why.TheVariants.{Straight, ByQueue}
 use Rattle.msc_report.specs.Texts.{text_line}
 use Rattle.msc_report.specs.Verdicts.{name_line, queues_line, race_text, run_line}
-use Rattle.msc_study.specs.Lines.{pair_line, why_text}
+use Rattle.msc_report.specs.Lines.{pair_line, why_text}
 
 -- the word for a step from x to y: y is the input of x, or it is drawn below x
 abbrev pub step_word : Drawing → ℕ → ℕ → List ℕ
@@ -33,7 +33,7 @@ showing_text d e (ByQueue u outputs onward) =
 -- that e is not enforced before f: as a race, with why it is one, or not drawn in this order
 abbrev pub free_text : Drawing → ℕ → ℕ → Option Lack → List ℕ
 free_text d e f None = pair_line (codes "free") d e f
-free_text d e f (Some lack) = race_text d e f None ++ why_text true d lack
+free_text d e f (Some lack) = race_text d e f None ++ why_text d lack
 
 -- that f is enforced before e, where something shows it
 abbrev pub late_text : Drawing → ℕ → ℕ → Option Why → List ℕ

@@ -1,27 +1,26 @@
 //! From a text and two numbers to why one event comes before another, bytes to bytes.
 
-ghost use Rattle.std.specs.Prelude.{◌≡◌, ◌≢◌, ◌<◌, ◌⊎◌, ℕ, List, length, IfErr, IfOk, IfSome};
-ghost use Rattle.std.specs.Prelude.{MatchOption, Ok};
-ghost use Rattle.std.specs.Io.KnownBytes.{Appends};
+ghost use Rattle.std.specs.Prelude.{◌≡◌, ◌≢◌, ◌<◌, length, IfErr, IfOk, MatchOption, Ok};
 ghost use Rattle.msc_chart.specs.Orders.{wired};
 ghost use Rattle.msc_reason.specs.Reasons.{IsReason};
 ghost use Rattle.msc_study.specs.Explained.{told, NamesAll, PrintsPair};
-ghost use Rattle.msc_study.specs.Explaining.{AnswersPair, AreTwoEvents, ExplainsText, IsPairFault};
-ghost use Rattle.msc_study.specs.Explaining.{RefusesInputPair, RefusesPair};
+ghost use Rattle.msc_study.specs.Explaining.{AnswersPair, AreTwoEvents, IsPairFault, RefusesPair};
 ghost use Rattle.msc_study.specs.Reasons.{explained_text};
-ghost use Rattle.msc_text.specs.Answers.{OnRead, RefusesInput, RefusesText, StartsNothing};
-ghost use Rattle.msc_text.specs.Checking.{RefusesDraft, RefusesInputDraft};
+ghost use Rattle.msc_text.specs.Answers.{RefusesText, StartsNothing};
+ghost use Rattle.msc_text.specs.Checking.{RefusesDraft};
 
 use crate::explained::Explained;
 use crate::reasons::write_explained;
 use msc_chart::{Chart, Event, Queues};
+use msc_judge::Page;
 use msc_order::Order;
+use msc_parser::laws::one_parsing;
 use msc_reason::laws::a_why_is_enough;
 use msc_reason::{Reason, explain};
 use msc_report::{Fault, PairFault};
-use msc_text::{Page, chart_of_text, read_all};
+use msc_source::{Language, Source};
 use std::alloc::{AllocError, Global};
-use std::io::{Read, Write};
+use std::io::Write;
 
 /// Why two numbers are no two events of a chart, where they are none.
 fn pair_fault(chart: &Chart, e: Event, f: Event) -> Option<PairFault>
@@ -84,29 +83,23 @@ fn reason_of(
     explain(alloc, chart, queues, &order, e, f)
 }
 
-/// Writes why `e` is enforced before `f`, or how it need not be. Nothing is written before the
-/// whole text is known.
-fn write_pair_of<W: Write>(
+/// Why `e` is enforced before `f`, or how it need not be: what is printed of it, and which of both
+/// it is.
+fn print_pair(
     alloc: Global,
     chart: &Chart,
     queues: Queues,
     e: Event,
     f: Event,
-    writer: &mut W,
-) -> Result<Explained, Fault>
-    requires two { AreTwoEvents chart.now e f }
-    ensures written { IfOk result (λ told. (printed : List ℕ)
-        × PrintsPair chart.now queues e f told printed
-        × Appends (W.contents writer.old) (W.contents writer.new) printed) }
-    ensures fault { IfErr result (λ e. (e ≡ Fault.Memory) ⊎ (e ≡ Fault.Device)) }
-    ensures untouched { IfErr result (λ e. e ≢ Fault.Device → writer.new ≡ writer.old) }
+) -> Result<(Page, Explained), AllocError>
+    requires { AreTwoEvents chart.now e f }
+    ensures { IfOk result (λ p. PrintsPair chart.now queues e f p.1 p.0.bytes.items) }
 {
     a_why_is_enough();
     chart.accepted();
     let reason = reason_of(alloc, chart, queues, e, f)?;
     let page = page_of(alloc, chart, queues, e, f, &reason)?;
-    writer.write_all(page.bytes.as_slice())?;
-    Ok(told(&reason))
+    Ok((page, told(&reason)))
 }
 
 /// Writes why event `e` of a text's chart comes before event `f` under an architecture, or how it
@@ -137,37 +130,13 @@ pub fn explain_text<W: Write>(
     ensures unwritten { (fault : PairFault)
         → result ≡ Ok (Explained.Refused fault) → writer.new ≡ writer.old }
 {
-    let chart = chart_of_text(alloc, text)?;
-    match pair_fault(&chart, e, f) {
-        Some(fault) => Ok(Explained::Refused(fault)),
-        None => write_pair_of(alloc, &chart, queues, e, f, writer),
+    one_parsing();
+    let source = Source::of(alloc, Language::MscPr, text)?;
+    let chart = source.chart();
+    if let Some(fault) = pair_fault(chart, e, f) {
+        return Ok(Explained::Refused(fault));
     }
-}
-
-/// Reads an input to its end, and writes why event `e` of its chart comes before event `f`, or how
-/// it need not, as [`explain_text`]; answers which of both it is.
-///
-/// The faults are those of [`read_all`] and then those of [`explain_text`].
-pub fn explain_input<R: Read, W: Write>(
-    alloc: Global,
-    reader: &mut R,
-    queues: Queues,
-    e: Event,
-    f: Event,
-    writer: &mut W,
-) -> Result<Explained, Fault>
-    ensures written { IfOk result (λ told. IfSome (R.remaining reader.old) (λ bytes.
-        AnswersPair bytes queues e f told (W.contents writer.old) (W.contents writer.new))) }
-    ensures refused { RefusesInput (R.remaining reader.old) result }
-    ensures no_chart { RefusesInputDraft (R.remaining reader.old) result }
-    ensures no_pair { RefusesInputPair (R.remaining reader.old) e f result }
-    ensures started { StartsNothing result }
-    ensures read { OnRead (R.remaining reader.old) (R.remaining reader.new) result (λ bytes.
-        ExplainsText bytes queues e f result (W.contents writer.old) (W.contents writer.new)) }
-    ensures untouched { IfErr result (λ e. e ≢ Fault.Device → writer.new ≡ writer.old) }
-    ensures unwritten { (fault : PairFault)
-        → result ≡ Ok (Explained.Refused fault) → writer.new ≡ writer.old }
-{
-    let text = read_all(alloc, reader)?;
-    explain_text(alloc, text.as_slice(), queues, e, f, writer)
+    let (page, told) = print_pair(alloc, chart, queues, e, f)?;
+    writer.write_all(page.bytes.as_slice())?;
+    Ok(told)
 }

@@ -1,22 +1,10 @@
-//! Studies of a chart's races: which to look at, and why they are races; and explanations of pairs
-//! of events: why the first comes before the second, or how it need not.
-//!
-//! A study is a verdict with a choice of its races ([`View`]): the closest ones, those of some
-//! kinds, the first ones; and with what each of them lacks. Each call speaks of the bytes that it
-//! takes from a reader and gives to a writer.
+//! Explanations of pairs of events of a chart: why the first comes before the second, or how it
+//! need not. Each call speaks of the bytes of a text and of those that it gives to a writer.
 #![tactic(auto)]
 
 mod explained;
 mod explaining;
-pub mod laws;
-mod lines;
-mod listing;
 mod reasons;
-mod showing;
-mod studying;
-mod view;
 
 pub use explained::Explained;
-pub use explaining::{explain_input, explain_text};
-pub use studying::{study_input, study_text};
-pub use view::{KindSet, View};
+pub use explaining::explain_text;

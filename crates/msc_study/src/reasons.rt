@@ -4,14 +4,15 @@ ghost use Rattle.std.specs.Prelude.{◌≡◌, ◌<◌, ◌++◌, OnOk, length};
 ghost use Rattle.std.specs.Io.KnownBytes.{Appends};
 ghost use Rattle.msc_study.specs.Explained.{AreEventsOf, NamesAll, NamesEvents, NamesLack};
 ghost use Rattle.msc_study.specs.Explained.{NamesLate};
-ghost use Rattle.msc_study.specs.Lines.{pair_line};
+ghost use Rattle.msc_report.specs.Lines.{pair_line};
 ghost use Rattle.msc_study.specs.Reasons.{chain_text, explained_text, free_text, late_text};
 ghost use Rattle.msc_study.specs.Reasons.{reason_text, showing_text, step_word};
 
-use crate::lines::{write_pair, write_why};
 use msc_chart::{Chart, Event, Queues};
 use msc_reason::{Lack, Reason, Why};
-use msc_report::{write_name_line, write_queues_line, write_race, write_run};
+use msc_report::{
+    write_name_line, write_pair, write_queues_line, write_race, write_run, write_why,
+};
 use std::io;
 use std::io::Write;
 
@@ -99,7 +100,7 @@ fn write_free<W: Write>(
 {
     match lack {
         Some(lack) => {
-            write_race(writer, chart, e, f)?;
+            write_race(writer, chart, e, f, None)?;
             write_why(writer, chart, &lack)
         }
         None => write_pair(writer, chart, "free", e, f),

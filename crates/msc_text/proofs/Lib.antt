@@ -1,11 +1,5 @@
-pub mod ReadingLemmas
 pub mod Refusals
-pub mod Races
-pub mod PageLemmas
 pub mod Shown
-pub mod EachEvent
 pub mod Told
-pub mod Answered
-pub mod Inputs
-pub mod RunEvents
-pub mod InputAnswers
+pub mod Plain
+pub mod Judged

@@ -1,50 +1,97 @@
 -- How the faults of texts and drafts are answered.
-use Rattle.std.proofs.Common.{◌≡◌, ◌≢◌, ◌⊎◌, ℕ, List, Result, Ok, Err, refl, ap, sym, ◌∙◌, subst, inl, inr}
+use Rattle.std.proofs.Common.{◌≡◌, ◌≢◌, ℕ, List, Result, Ok, Err, refl, ap, sym, ◌∙◌, subst, inl, inr}
 use Rattle.msc_parser.specs.declared.fault.ParseFault.{ParseFault}
-use Rattle.msc_parser.specs.declared.fault.ParseFault.TheVariants as grammar
 use Rattle.msc_parser.specs.Grammar.{Tree}
-use Rattle.msc_parser.specs.Parsing.{HasDraft, HasParseFault}
+use Rattle.msc_parser.specs.Parsing.{HasDraft, HasParseFault, OneParsing}
 use Rattle.msc_chart.specs.declared.fault.ChartFault.{ChartFault}
-use Rattle.msc_chart.specs.declared.fault.ChartFault.TheVariants as charts
 use Rattle.msc_chart.specs.Drawings.{Drawing, chart_of}
-use Rattle.msc_chart.specs.Faults.{Stands, IsFirstFault, IsFaultless}
+use Rattle.msc_chart.specs.Faults.{Stands, IsFirstFault}
+use Rattle.msc_source.specs.declared.fault.SourceFault.{SourceFault}
+use Rattle.msc_source.specs.declared.fault.SourceFault.TheVariants as sources
+use Rattle.msc_source.specs.declared.language.Language.TheVariants.{MscPr}
+use Rattle.msc_source.specs.Reading as reading
+use Rattle.msc_source.specs.Texts.{IsChartOf}
 use Rattle.msc_report.specs.declared.fault.Fault.{Fault}
 use Rattle.msc_report.specs.declared.fault.Fault.TheVariants.{Parse, Chart, Memory}
-use Rattle.msc_report.specs.Refusals.{refusal_of, chart_refusal_of}
+use Rattle.msc_judge.specs.declared.page.WriteFault.{WriteFault}
+use Rattle.msc_judge.specs.declared.page.WriteFault.TheVariants as writing
+use Rattle.msc_report.specs.Refusals.{of_source, of_writing}
 use Rattle.msc_text.specs.Answers.{RefusesText}
 use Rattle.msc_text.specs.Checking.{RefusesDraft}
-use Rattle.msc_text.specs.Charting.{IsChartOf}
 
--- what the parser says of a text where it answers a fault
-abbrev pub ParserRefuses : List ℕ → ParseFault → Type 0
-ParserRefuses text f = (f ≢ grammar.Memory → HasParseFault text f) × ((t : Tree) → HasDraft text t → f ≡ grammar.Memory) × ((g : ParseFault) → HasParseFault text g → (f ≡ g) ⊎ (f ≡ grammar.Memory))
+module _ (one : OneParsing) (text : List ℕ) where
+  -- a text is refused with the fault that it has
+  pub text_refused : {A : Type 0} (f : SourceFault) → reading.Refuses MscPr text f → RefusesText {A = A} text (Err (of_source f))
+  text_refused {A} (sources.Parse f) has = record {
+    stands = λ g e. let same : f ≡ g = cc in subst (HasParseFault text) same has;
+    comes = λ g h. inl (ap (λ (x : ParseFault). Err (Parse x)) (one.fault text f g has h));
+    accepted = λ t h g e. one.apart text t f h has;
+  }
+  text_refused {A} (sources.Chart f) (d, has, first) = record {
+    stands = λ g e. absurd cc;
+    comes = λ g h. absurd (one.apart text d g has h);
+    accepted = λ t h g e. cc;
+  }
+  text_refused {A} sources.Memory said = record {
+    stands = λ g e. absurd cc;
+    comes = λ g h. inr refl;
+    accepted = λ t h g e. cc;
+  }
 
--- a fault that is no want of memory is answered as itself
-refuses_with : {A : Type 0} (text : List ℕ) (f : ParseFault) → f ≢ grammar.Memory → ParserRefuses text f → RefusesText {A = A} text (Err (Parse f))
-refuses_with {A} text f other said = record {
-  stands = λ g e. let same : f ≡ g = cc in subst (HasParseFault text) same (said.0 other);
-  comes = λ g h. elim (said.2 g h) [ inl same ↦ inl (let e : f ≡ g = same in cc) | inr memory ↦ absurd (other memory) ];
-  accepted = λ t d g e. other (said.1 t d);
-}
+  -- and so is its draft
+  pub draft_refused : {A : Type 0} (f : SourceFault) → reading.Refuses MscPr text f → RefusesDraft {A = A} text (Err (of_source f))
+  draft_refused {A} (sources.Parse f) has = record {
+    stands = λ g e. absurd cc;
+    comes = λ t h g stands. absurd (one.apart text t f h has);
+  }
+  draft_refused {A} (sources.Chart f) (d, has, first) = record {
+    stands = λ g e. (d, has, let same : f ≡ g = cc in subst (IsFirstFault d) same first);
+    comes = λ t h g stands. (Chart f, refl, subst (λ (x : Tree). IsFirstFault x f) (one.draft text d t has h) first);
+  }
+  draft_refused {A} sources.Memory said = record {
+    stands = λ g e. absurd cc;
+    comes = λ t h g stands. (Memory, refl, tt);
+  }
 
--- want of memory is answered as such
-pub refuses_memory : {A : Type 0} (text : List ℕ) → RefusesText {A = A} text (Err Memory)
-refuses_memory {A} text = record {
-  stands = λ g e. absurd cc;
-  comes = λ g h. inr refl;
-  accepted = λ t d g e. cc;
-}
+  -- a text that has a chart is refused for want of memory alone
+  pub chart_refused : (f : SourceFault) → reading.Refuses MscPr text f → (d : Drawing) → IsChartOf text d → of_source f ≡ Memory
+  chart_refused (sources.Parse f) has d is = absurd (one.apart text is.draft f is.has has)
+  chart_refused (sources.Chart f) (t, has, first) d is =
+      absurd (is.faultless f (subst (λ (x : Tree). Stands x f) (one.draft text t is.draft has is.has) first.stands))
+  chart_refused sources.Memory said d is = refl
 
--- each fault of the parser is answered as it stands
-pub refuses : {A : Type 0} (text : List ℕ) (f : ParseFault) → ParserRefuses text f → RefusesText {A = A} text (Err (refusal_of f))
-refuses {A} text grammar.Memory said = refuses_memory text
-refuses {A} text (grammar.Lex f) said = refuses_with text (grammar.Lex f) (λ e. cc) said
-refuses {A} text (grammar.Unsupported at w) said = refuses_with text (grammar.Unsupported at w) (λ e. cc) said
-refuses {A} text (grammar.Expected at w) said = refuses_with text (grammar.Expected at w) (λ e. cc) said
+  -- it has one chart
+  pub one_chart : (c d : Drawing) → IsChartOf text c → IsChartOf text d → c ≡ d
+  one_chart c d is other =
+      is.chart ∙ ap chart_of (one.draft text is.draft other.draft is.has other.has) ∙ sym other.chart
 
--- the text's draft, of which there is one
-abbrev pub IsOnlyDraft : List ℕ → Tree → Type 0
-IsOnlyDraft text d = HasDraft text d × ((t : Tree) → HasDraft text t → d ≡ t)
+  -- where a text has a draft, what is answered of it names no fault of a text
+  pub text_drafted : {A : Type 0} (t : Tree) (answer : Result A Fault) → HasDraft text t
+      → ((f : ParseFault) → answer ≢ Err (Parse f)) → RefusesText text answer
+  text_drafted {A} t answer has other = record {
+    stands = λ f e. absurd (other f e);
+    comes = λ f h. absurd (one.apart text t f has h);
+    accepted = λ u h f. other f;
+  }
+
+  -- and where it has a chart, no fault of a draft
+  pub draft_charted : {A : Type 0} (d : Drawing) (answer : Result A Fault) → IsChartOf text d
+      → ((f : ChartFault) → answer ≢ Err (Chart f)) → RefusesDraft text answer
+  draft_charted {A} d answer is other = record {
+    stands = λ f e. absurd (other f e);
+    comes = λ t h f stands. absurd (is.faultless f (subst (λ (x : Tree). Stands x f) (one.draft text t is.draft h is.has) stands));
+  }
+
+-- why a text has no draft is why it has no chart
+pub read_refused : (text : List ℕ) (f : SourceFault) → reading.RefusesDraft MscPr text f → reading.Refuses MscPr text f
+read_refused text (sources.Parse f) has = has
+read_refused text (sources.Chart f) has = absurd has
+read_refused text sources.Memory has = tt
+
+-- what is not written to its end has no fault of a text
+pub write_refuses_no_text : {A : Type 0} (w : WriteFault) (f : ParseFault) → ◌≢◌ {A = Result A Fault} (Err (of_writing w)) (Err (Parse f))
+write_refuses_no_text {A} writing.Memory f e = cc
+write_refuses_no_text {A} writing.Device f e = cc
 
 -- where a text has a draft, no fault of a text is answered
 pub text_stands : {A : Type 0} (text : List ℕ) (answer : Result A Fault) → ((f : ParseFault) → HasParseFault text f → ⊥)
@@ -54,86 +101,6 @@ text_stands {A} text answer faultless other = record {
   comes = λ f has. absurd (faultless f has);
   accepted = λ t has f. other f;
 }
-
--- want of memory is no word on a draft
-pub memory_of_draft : {A : Type 0} (text : List ℕ) → RefusesDraft {A = A} text (Err Memory)
-memory_of_draft {A} text = record {
-  stands = λ f e. absurd cc;
-  comes = λ d has f stands. (Memory, refl, tt);
-}
-
--- where the parser refuses a text, it has no draft, unless memory runs out
-pub no_draft : {A : Type 0} (text : List ℕ) (f : ParseFault) → ParserRefuses text f → RefusesDraft {A = A} text (Err (refusal_of f))
-no_draft {A} text grammar.Memory said = memory_of_draft text
-no_draft {A} text (grammar.Lex f) said = record {
-  stands = λ g e. absurd cc;
-  comes = λ d has g stands. let memory : grammar.Lex f ≡ grammar.Memory = said.1 d has in absurd cc;
-}
-no_draft {A} text (grammar.Unsupported at w) said = record {
-  stands = λ g e. absurd cc;
-  comes = λ d has g stands. let memory : grammar.Unsupported at w ≡ grammar.Memory = said.1 d has in absurd cc;
-}
-no_draft {A} text (grammar.Expected at w) said = record {
-  stands = λ g e. absurd cc;
-  comes = λ d has g stands. let memory : grammar.Expected at w ≡ grammar.Memory = said.1 d has in absurd cc;
-}
-
--- the first fault of the text's draft is answered
-first_fault : {A : Type 0} (text : List ℕ) (d : Tree) (f : ChartFault) → IsOnlyDraft text d → IsFirstFault d f → RefusesDraft {A = A} text (Err (Chart f))
-first_fault {A} text d f is first = record {
-  stands = λ g e. (d, is.0, let same : f ≡ g = cc in subst (IsFirstFault d) same first);
-  comes = λ t has g stands. (Chart f, refl, subst (λ t. IsFirstFault t f) (is.1 t has) first);
-}
-
--- a draft that is no chart is refused with its first fault, unless memory runs out
-pub no_chart : {A : Type 0} (text : List ℕ) (d : Tree) (f : ChartFault) → IsOnlyDraft text d → (f ≢ charts.Memory → IsFirstFault d f)
-    → RefusesDraft {A = A} text (Err (chart_refusal_of f))
-no_chart {A} text d charts.Memory is first = memory_of_draft text
-no_chart {A} text d charts.TooManyInstances is first = first_fault text d _ is (first (λ e. cc))
-no_chart {A} text d (charts.TwiceInstance i) is first = first_fault text d _ is (first (λ e. cc))
-no_chart {A} text d (charts.HeaderWithoutBody k) is first = first_fault text d _ is (first (λ e. cc))
-no_chart {A} text d (charts.UnknownAddress e) is first = first_fault text d _ is (first (λ e. cc))
-no_chart {A} text d charts.TooManyMessages is first = first_fault text d _ is (first (λ e. cc))
-no_chart {A} text d charts.TooManyActions is first = first_fault text d _ is (first (λ e. cc))
-no_chart {A} text d (charts.TwiceEvent e) is first = first_fault text d _ is (first (λ e. cc))
-no_chart {A} text d (charts.UnmatchedOut e) is first = first_fault text d _ is (first (λ e. cc))
-no_chart {A} text d (charts.UnmatchedIn e) is first = first_fault text d _ is (first (λ e. cc))
-no_chart {A} text d (charts.Cyclic e) is first = first_fault text d _ is (first (λ e. cc))
-
--- where no fault stands in the text's draft, no fault of a draft is answered
-pub chart_stands : {A : Type 0} (text : List ℕ) (d : Tree) (answer : Result A Fault) → IsOnlyDraft text d → IsFaultless d
-    → ((f : ChartFault) → answer ≢ Err (Chart f)) → RefusesDraft text answer
-chart_stands {A} text d answer is faultless other = record {
-  stands = λ f e. absurd (other f e);
-  comes = λ t has f stands. absurd (faultless f (subst (λ t. Stands t f) (sym (is.1 t has)) stands));
-}
-
--- a draft without faults is refused for want of memory alone
-only_memory : (draft : Tree) (f : ChartFault) → IsFaultless draft → (f ≢ charts.Memory → IsFirstFault draft f) → chart_refusal_of f ≡ Memory
-only_memory draft charts.Memory faultless first = refl
-only_memory draft charts.TooManyInstances faultless first = absurd (faultless _ (first (λ e. cc)).stands)
-only_memory draft (charts.TwiceInstance i) faultless first = absurd (faultless _ (first (λ e. cc)).stands)
-only_memory draft (charts.HeaderWithoutBody k) faultless first = absurd (faultless _ (first (λ e. cc)).stands)
-only_memory draft (charts.UnknownAddress e) faultless first = absurd (faultless _ (first (λ e. cc)).stands)
-only_memory draft charts.TooManyMessages faultless first = absurd (faultless _ (first (λ e. cc)).stands)
-only_memory draft charts.TooManyActions faultless first = absurd (faultless _ (first (λ e. cc)).stands)
-only_memory draft (charts.TwiceEvent e) faultless first = absurd (faultless _ (first (λ e. cc)).stands)
-only_memory draft (charts.UnmatchedOut e) faultless first = absurd (faultless _ (first (λ e. cc)).stands)
-only_memory draft (charts.UnmatchedIn e) faultless first = absurd (faultless _ (first (λ e. cc)).stands)
-only_memory draft (charts.Cyclic e) faultless first = absurd (faultless _ (first (λ e. cc)).stands)
-
--- so where the parser refuses a text, it has no chart, unless memory runs out
-pub no_draft_no_chart : (text : List ℕ) (f : ParseFault) → ParserRefuses text f → (d : Drawing) → IsChartOf text d → refusal_of f ≡ Memory
-no_draft_no_chart text f said d is = rw (said.1 is.draft is.has) refl
-
--- and where the draft is refused
-pub no_chart_of : (text : List ℕ) (t : Tree) (f : ChartFault) → IsOnlyDraft text t → (f ≢ charts.Memory → IsFirstFault t f)
-    → (d : Drawing) → IsChartOf text d → chart_refusal_of f ≡ Memory
-no_chart_of text t f own first d is = only_memory t f (subst IsFaultless (sym (own.1 is.draft is.has)) is.faultless) first
-
--- a chart of the text's draft is the text's chart
-pub one_chart : (text : List ℕ) (t : Tree) (c : Drawing) → IsOnlyDraft text t → c ≡ chart_of t → (d : Drawing) → IsChartOf text d → c ≡ d
-one_chart text t c own same d is = same ∙ ap chart_of (own.1 is.draft is.has) ∙ sym is.chart
 
 -- where a text's chart is refused, what is made of it is refused alike: the text
 pub text_so : {A B : Type 0} (text : List ℕ) (e : Fault) → RefusesText {A = A} text (Err e) → RefusesText {A = B} text (Err e)

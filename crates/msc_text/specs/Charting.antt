@@ -1,18 +1,8 @@
--- What the chart of a text is, and what is answered where there is one.
-use Rattle.std.specs.Prelude.{◌≡◌, ℕ, List, Result, Ok, Err}
-use Rattle.msc_parser.specs.Grammar.{Tree}
-use Rattle.msc_parser.specs.Parsing.{HasDraft}
-use Rattle.msc_chart.specs.Drawings.{Drawing, chart_of}
-use Rattle.msc_chart.specs.Faults.{IsFaultless}
+-- What is answered of a text that has a chart, and of one that has none.
+use Rattle.std.specs.Prelude.{◌≡◌, Result, Ok, Err}
+use Rattle.msc_chart.specs.Drawings.{Drawing}
 use Rattle.msc_report.specs.declared.fault.Fault.{Fault}
 use Rattle.msc_report.specs.declared.fault.Fault.TheVariants.{Parse, Chart, NotStarted, Memory, Device}
-
--- the text has a draft in which no fault stands, and this is its chart
-pub record IsChartOf (text : List ℕ) (d : Drawing) : Type 0 where
-  pub draft : Tree
-  pub has : HasDraft text draft
-  pub faultless : IsFaultless draft
-  pub chart : d ≡ chart_of draft
 
 -- what is answered of a text that has a chart
 abbrev pub IsChartOrMemory : Drawing → Result Drawing Fault → Type 0

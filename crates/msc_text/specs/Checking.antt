@@ -1,5 +1,5 @@
 -- What checking a text answers.
-use Rattle.std.specs.Prelude.{◌≡◌, ◌⊎◌, ℕ, IfOk, IfSome, ◌<◌, Bool, true, false, List, [], ◌++◌, length, take, drop, Option, None, Some, Result, Err}
+use Rattle.std.specs.Prelude.{◌≡◌, ℕ, ◌<◌, Bool, true, false, List, [], ◌++◌, length, take, drop, Option, None, Some, Result, Err}
 use Rattle.std.specs.List.{flat_map}
 use Rattle.std.specs.Io.KnownBytes.{Appends}
 use Rattle.msc_parser.specs.Grammar.{Tree}
@@ -7,7 +7,6 @@ use Rattle.msc_parser.specs.Parsing.{HasDraft}
 use Rattle.msc_chart.specs.declared.fault.ChartFault.{ChartFault}
 use Rattle.msc_chart.specs.declared.queue.Queues.{Queues}
 use Rattle.msc_chart.specs.Drawings.{Drawing}
-use Rattle.msc_chart.specs.Chosen.{IsChosenRun}
 use Rattle.msc_chart.specs.Lists.{Occurs}
 use Rattle.msc_chart.specs.Faults.{Stands, IsFirstFault}
 use Rattle.msc_chart.specs.Orders.{WiredChart, wired}
@@ -15,11 +14,12 @@ use Rattle.msc_chart.specs.Runs.{Run, IsWhole, Reverses}
 use Rattle.msc_race.specs.declared.verdict.Verdict.{Verdict}
 use Rattle.msc_race.specs.declared.verdict.Verdict.TheVariants.{Pass, Races}
 use Rattle.msc_race.specs.Races.{IsVerdict, TellsRuns}
+use Rattle.msc_source.specs.Texts.{IsChartOf}
+use Rattle.msc_judge.specs.Findings.{AreChosen}
+use Rattle.msc_judge.specs.Pages.{WritesBeginning}
 use Rattle.msc_report.specs.declared.fault.Fault.{Fault}
-use Rattle.msc_report.specs.declared.fault.Fault.TheVariants.{Chart, Memory, Device}
+use Rattle.msc_report.specs.declared.fault.Fault.TheVariants.{Chart, Memory}
 use Rattle.msc_report.specs.Verdicts.{verdict_text, race_text}
-use Rattle.msc_text.specs.Answers.{RefusesText}
-use Rattle.msc_text.specs.Charting.{IsChartOf}
 
 -- whether a verdict is `pass`
 abbrev pub passes : Verdict → Bool
@@ -30,10 +30,6 @@ passes (Races pairs) = false
 abbrev pub races_of : Verdict → List (ℕ × ℕ)
 races_of Pass = []
 races_of (Races pairs) = pairs
-
--- each event's chosen run
-abbrev pub AreChosen : WiredChart → (ℕ → List ℕ) → Type 0
-AreChosen chart runs = (e : ℕ) → e < length chart.events → IsChosenRun chart e (runs e)
 
 -- each race in order, with the run of its first event
 abbrev pub shown_text : Drawing → (ℕ → List ℕ) → List (ℕ × ℕ) → List ℕ
@@ -80,10 +76,6 @@ abbrev pub WritesVerdict : List ℕ → Queues → ℕ → Bool → Option (List
 WritesVerdict text queues show passed before after =
     (printed : List ℕ) × Prints text queues show passed printed × Appends before after printed
 
--- a beginning of a text went behind the known bytes of a writer
-abbrev pub WritesBeginning : Option (List ℕ) → Option (List ℕ) → List ℕ → Type 0
-WritesBeginning before after text = (front rest : List ℕ) × (text ≡ front ++ rest) × Appends before after front
-
 -- a beginning of what is printed of the text went behind the known bytes of a writer
 abbrev pub BeginsVerdict : List ℕ → Queues → ℕ → Option (List ℕ) → Option (List ℕ) → Type 0
 BeginsVerdict text queues show before after =
@@ -100,18 +92,3 @@ pub record RefusesDraft {A : Type 0} (text : List ℕ) (answer : Result A Fault)
   pub stands : (f : ChartFault) → answer ≡ Err (Chart f) → (draft : Tree) × HasDraft text draft × IsFirstFault draft f
   pub comes : (draft : Tree) → HasDraft text draft → (f : ChartFault) → Stands draft f
       → (fault : Fault) × (answer ≡ Err fault) × IsRefusalOf draft fault
-
--- what checking a text answers and writes
-pub record ChecksText (text : List ℕ) (queues : Queues) (show : ℕ) (answer : Result Bool Fault) (before after : Option (List ℕ)) : Type 0 where
-  pub written : IfOk answer (λ passed. WritesVerdict text queues show passed before after)
-  pub refused : RefusesText text answer
-  pub no_chart : RefusesDraft text answer
-  pub begun : answer ≡ Err Memory → (after ≡ before) ⊎ BeginsVerdict text queues show before after
-
--- a draft of an input whose bytes are told is refused where it is no chart, with its first fault
--- unless memory runs out or a device fails, and no other is
-pub record RefusesInputDraft {A : Type 0} (input : Option (List ℕ)) (answer : Result A Fault) : Type 0 where
-  pub stands : (f : ChartFault) → answer ≡ Err (Chart f)
-      → IfSome input (λ bytes. (draft : Tree) × HasDraft bytes draft × IsFirstFault draft f)
-  pub comes : (draft : Tree) (f : ChartFault) → IfSome input (λ bytes. HasDraft bytes draft → Stands draft f
-      → ((fault : Fault) × (answer ≡ Err fault) × IsRefusalOf draft fault) ⊎ (answer ≡ Err Device))

@@ -1,8 +1,7 @@
 -- what is promised
-pub mod Reading
 pub mod Answers
 pub mod Checking
 pub mod Charting
-pub mod Pages
+pub mod Judging
 -- what the code keeps
-pub mod Calls
+pub mod Plain

@@ -2,13 +2,15 @@
 
 ghost use Rattle.std.specs.Prelude.{IfErr, IfOk};
 ghost use Rattle.msc_chart.specs.Drawings.{Drawing};
+ghost use Rattle.msc_source.specs.Texts.{IsChartOf};
 ghost use Rattle.msc_text.specs.Answers.{RefusesText};
 ghost use Rattle.msc_text.specs.Checking.{RefusesDraft};
-ghost use Rattle.msc_text.specs.Charting.{IsChartFault, IsChartOf, IsChartOrMemory};
+ghost use Rattle.msc_text.specs.Charting.{IsChartFault, IsChartOrMemory};
 
 use msc_chart::Chart;
-use msc_parser::parse;
+use msc_parser::laws::one_parsing;
 use msc_report::Fault;
+use msc_source::{Language, Source};
 use std::alloc::Global;
 
 /// The chart of a text.
@@ -22,6 +24,6 @@ pub fn chart_of_text(alloc: Global, text: &[u8]) -> Result<Chart, Fault>
     ensures no_chart { RefusesDraft text.now result }
     ensures fault { IfErr result IsChartFault }
 {
-    let draft = parse(alloc, text)?;
-    Ok(Chart::build(alloc, &draft)?)
+    one_parsing();
+    Ok(Source::of(alloc, Language::MscPr, text)?.into_chart())
 }

@@ -1,19 +1,16 @@
-//! The answers of the program on a text alone: its canonical text, and the verdict on its chart.
+//! The answers of the program on a text alone: its canonical text, the verdict on its chart, and
+//! what is asked of its races.
 //!
-//! Each call speaks of the bytes that it takes from a reader and gives to a writer, so what the
+//! Each call speaks of the bytes of a text and of those that it gives to a writer, so what the
 //! program prints is a stated function of what it reads.
 #![tactic(auto)]
 
 mod charting;
 mod checking;
-mod page;
-mod reading;
-mod showing;
+mod judging;
 mod text;
 
 pub use charting::chart_of_text;
-pub use checking::{check_input, check_text, races_of};
-pub use page::Page;
-pub use reading::{CALL_LIMIT, read_all};
-pub use showing::{line_of, put_with_run};
-pub use text::{read_input, read_text};
+pub use checking::check_text;
+pub use judging::{Format, judge_text, passes_text};
+pub use text::{read_text, write_reading};

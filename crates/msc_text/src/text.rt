@@ -1,14 +1,31 @@
 //! From a text to its canonical text, bytes to bytes.
 
-ghost use Rattle.std.specs.Prelude.{◌≡◌, ◌≢◌, IfSome, IfErr, OnOk};
-ghost use Rattle.msc_text.specs.Answers.{BuildsNoChart, OnRead, ReadsText, RefusesInput};
-ghost use Rattle.msc_text.specs.Answers.{RefusesText, StartsNothing, WritesDraft};
+ghost use Rattle.std.specs.Prelude.{◌≡◌, ◌≢◌, IfErr, OnOk};
+ghost use Rattle.std.specs.Io.KnownBytes.{Appends};
+ghost use Rattle.msc_parser.specs.Canonical.{canonical};
+ghost use Rattle.msc_text.specs.Answers.{BuildsNoChart, RefusesText, StartsNothing, WritesDraft};
 
-use crate::reading::read_all;
-use msc_parser::parse;
+use msc_judge::WriteFault;
+use msc_parser::laws::one_parsing;
 use msc_report::{Fault, write_draft};
+use msc_source::{Language, Reading};
 use std::alloc::Global;
-use std::io::{Read, Write};
+use std::io::Write;
+
+/// Writes the canonical text of a draft. After `Memory` the writer has had no call.
+pub fn write_reading<W: Write>(
+    alloc: Global,
+    read: &Reading,
+    writer: &mut W,
+) -> Result<(), WriteFault>
+    ensures written { OnOk result (Appends (W.contents writer.old) (W.contents writer.new)
+        (canonical read.now.draft)) }
+    ensures untouched { IfErr result (λ e. e ≢ WriteFault.Device → writer.new ≡ writer.old) }
+{
+    let text = read.draft().write(alloc)?;
+    write_draft(writer, text.as_slice())?;
+    Ok(())
+}
 
 /// Writes the canonical text of a text's draft.
 ///
@@ -22,29 +39,7 @@ pub fn read_text<W: Write>(alloc: Global, text: &[u8], writer: &mut W) -> Result
     ensures started { StartsNothing result }
     ensures untouched { IfErr result (λ e. e ≢ Fault.Device → writer.new ≡ writer.old) }
 {
-    let draft = parse(alloc, text)?;
-    let canonical = draft.write(alloc)?;
-    write_draft(writer, canonical.as_slice())?;
-    Ok(())
-}
-
-/// Reads an input to its end and writes the canonical text of its draft.
-///
-/// The faults are those of [`read_all`](crate::read_all) and then those of [`read_text`].
-pub fn read_input<R: Read, W: Write>(
-    alloc: Global,
-    reader: &mut R,
-    writer: &mut W,
-) -> Result<(), Fault>
-    ensures written { OnOk result (IfSome (R.remaining reader.old)
-        (λ bytes. WritesDraft bytes (W.contents writer.old) (W.contents writer.new))) }
-    ensures refused { RefusesInput (R.remaining reader.old) result }
-    ensures no_chart { BuildsNoChart result }
-    ensures started { StartsNothing result }
-    ensures read { OnRead (R.remaining reader.old) (R.remaining reader.new) result (λ bytes.
-        ReadsText bytes result (W.contents writer.old) (W.contents writer.new)) }
-    ensures untouched { IfErr result (λ e. e ≢ Fault.Device → writer.new ≡ writer.old) }
-{
-    let text = read_all(alloc, reader)?;
-    read_text(alloc, text.as_slice(), writer)
+    one_parsing();
+    let read = Reading::of(alloc, Language::MscPr, text)?;
+    Ok(write_reading(alloc, &read, writer)?)
 }

@@ -1,65 +1,40 @@
 -- What running a chart answers.
-use Rattle.std.proofs.Common.{◌≡◌, ◌≢◌, ℕ, ◌<◌, Bool, List, length, Option, Some, Result, Ok, Err, IsTrue, ◌↔◌, subst, ap, refl, ◌∙◌}
-use Rattle.std.specs.Prelude.{IfOk, IfErr}
-use Rattle.std.specs.Io.KnownBytes.{Appends}
+use Rattle.std.proofs.Common.{◌≡◌, ◌≢◌, ℕ, ◌<◌, Bool, List, length, Some, Result, Err, IsTrue, ◌↔◌, subst, ap, ◌∙◌}
 use Rattle.std.specs.List.{All}
 use Rattle.msc_parser.specs.declared.fault.ParseFault.{ParseFault}
 use Rattle.msc_chart.specs.declared.fault.ChartFault.{ChartFault}
 use Rattle.msc_chart.specs.declared.queue.Queues.{Queues}
 use Rattle.msc_chart.specs.Drawings.{Drawing, IsAccepted}
 use Rattle.msc_chart.specs.Orders.{wired}
-use Rattle.msc_execution.specs.declared.end.End.{End}
+use Rattle.msc_ending.specs.declared.end.End.{End}
 use Rattle.msc_execution.specs.Executions.{Outcome, IsExecution, AreFinished, IsFinished}
 use Rattle.msc_gather.specs.Gathering.{IsGathered}
 use Rattle.msc_gather.specs.Laws.{WholeLogsGiveWholeTraces}
+use Rattle.msc_ending.specs.declared.fault.RunFault.{RunFault}
+use Rattle.msc_ending.specs.declared.fault.RunFault.TheVariants as runs
 use Rattle.msc_report.specs.declared.fault.Fault.{Fault}
-use Rattle.msc_report.specs.declared.fault.Fault.TheVariants.{Parse, Chart, NotStarted, Memory, Device}
+use Rattle.msc_report.specs.declared.fault.Fault.TheVariants.{Parse, Chart}
+use Rattle.msc_report.specs.Refusals.{of_run}
 use Rattle.msc_report.specs.Traces.{trace_text}
-use Rattle.msc_text.proofs.RunEvents.{run_events}
-use Rattle.msc_text.specs.Charting.{IsChartOf}
-use Rattle.msc_instance.specs.declared.fault.RunFault.{RunFault}
-use Rattle.msc_instance.specs.declared.fault.RunFault.TheVariants as run
-use Rattle.msc_tool.specs.Ran.{IsRunFault, told_as}
-use Rattle.msc_tool.specs.Running.{NamesAnInstance, PrintsExecution, WritesTrace}
+use Rattle.msc_race.proofs.Runs.RunEvents.{run_events}
+use Rattle.msc_source.specs.Texts.{IsChartOf}
+use Rattle.msc_tool.specs.Running.{NamesAnInstance, PrintsExecution}
 
--- why a chart was not run is told by a fault of a chart that was built
-pub told_faults : (d : Drawing) (f : RunFault) → ((i : ℕ) → f ≡ run.NotStarted i → i < length d.instances)
-    → IsRunFault d (told_as f)
-told_faults d (run.NotStarted i) known = known i refl
-told_faults d run.Memory known = tt
+-- what keeps a chart from being run is no fault of a text
+pub run_refuses_no_text : {A : Type 0} (r : RunFault) (f : ParseFault) → ◌≢◌ {A = Result A Fault} (Err (of_run r)) (Err (Parse f))
+run_refuses_no_text {A} (runs.NotStarted i) f e = cc
+run_refuses_no_text {A} runs.Memory f e = cc
 
--- running a chart refuses no text
-pub ran_no_parse : {A : Type 0} (r : Result A Fault) (d : Drawing) → IfErr r (IsRunFault d) → (f : ParseFault) → r ≢ Err (Parse f)
-ran_no_parse {A} (Ok a) d said f e = absurd cc
-ran_no_parse {A} (Err (Parse g)) d said f e = said
-ran_no_parse {A} (Err (Chart g)) d said f e = said
-ran_no_parse {A} (Err (NotStarted i)) d said f e = absurd cc
-ran_no_parse {A} (Err Memory) d said f e = absurd cc
-ran_no_parse {A} (Err Device) d said f e = absurd cc
+-- and none of a draft
+pub run_refuses_no_draft : {A : Type 0} (r : RunFault) (f : ChartFault) → ◌≢◌ {A = Result A Fault} (Err (of_run r)) (Err (Chart f))
+run_refuses_no_draft {A} (runs.NotStarted i) f e = cc
+run_refuses_no_draft {A} runs.Memory f e = cc
 
--- and no draft
-pub ran_no_chart : {A : Type 0} (r : Result A Fault) (d : Drawing) → IfErr r (IsRunFault d) → (f : ChartFault) → r ≢ Err (Chart f)
-ran_no_chart {A} (Ok a) d said f e = absurd cc
-ran_no_chart {A} (Err (Parse g)) d said f e = said
-ran_no_chart {A} (Err (Chart g)) d said f e = said
-ran_no_chart {A} (Err (NotStarted i)) d said f e = absurd cc
-ran_no_chart {A} (Err Memory) d said f e = absurd cc
-ran_no_chart {A} (Err Device) d said f e = absurd cc
-
--- an instance that could not be started is one of the chart
-ran_names : {A : Type 0} (r : Result A Fault) (d : Drawing) → IfErr r (IsRunFault d) → (i : ℕ) → r ≡ Err (NotStarted i)
-    → i < length d.instances
-ran_names {A} (Ok a) d said i e = absurd cc
-ran_names {A} (Err (Parse g)) d said i e = absurd cc
-ran_names {A} (Err (Chart g)) d said i e = absurd cc
-ran_names {A} (Err (NotStarted j)) d said i e = let same : j ≡ i = cc in subst (λ (n : ℕ). n < length d.instances) same said
-ran_names {A} (Err Memory) d said i e = absurd cc
-ran_names {A} (Err Device) d said i e = absurd cc
-
--- so it is one of the text's chart
-pub ran_names_of : {A : Type 0} (r : Result A Fault) (text : List ℕ) (d : Drawing)
-    → IsChartOf text d → IfErr r (IsRunFault d) → NamesAnInstance text r
-ran_names_of {A} r text d of_text said i e = (d, of_text, ran_names r d said i e)
+-- an instance that could not be started is one of the text's chart
+pub run_names : {A : Type 0} (text : List ℕ) (d : Drawing) (r : RunFault) → IsChartOf text d
+    → ((i : ℕ) → r ≡ runs.NotStarted i → i < length d.instances) → NamesAnInstance {A = A} text (Err (of_run r))
+run_names {A} text d (runs.NotStarted j) of_text said i e = (d, of_text, let same : j ≡ i = cc in said i (ap runs.NotStarted same))
+run_names {A} text d runs.Memory of_text said i e = absurd cc
 
 -- a trace is of events of the chart
 pub trace_events : (queues : Queues) (d : Drawing) (logs : List (List ℕ)) (events : List ℕ)
@@ -82,12 +57,3 @@ prints_execution d queues open' patience o ends trace events finished accepted w
       text = ap (λ (es : List End). trace_text d queues es (Some events)) same_ends
           ∙ ap (λ (t : List ℕ). trace_text d queues o.ends (Some t)) same;
     }
-
--- what is printed of the chart of a text is printed of the text
-pub writes_trace : (r : Result Bool Fault) (text : List ℕ) (queues : Queues) (open' : Bool) (patience : ℕ) (d : Drawing)
-    (before after : Option (List ℕ)) → IsChartOf text d
-    → IfOk r (λ finished. (printed : List ℕ) × PrintsExecution d queues open' patience finished printed × Appends before after printed)
-    → IfOk r (λ finished. WritesTrace text queues open' patience finished before after)
-writes_trace (Ok finished) text queues open' patience d before after of_text (printed, prints, wrote) =
-    (printed, record { chart = d; of_text = of_text; shown = prints }, wrote)
-writes_trace (Err e) text queues open' patience d before after of_text wrote = tt

@@ -1,4 +1,2 @@
 -- what is promised
 pub mod Running
--- what the code keeps
-pub mod Ran

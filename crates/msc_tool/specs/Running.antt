@@ -1,5 +1,5 @@
 -- What running a text answers.
-use Rattle.std.specs.Prelude.{◌≡◌, ℕ, ◌<◌, ◌↔◌, Bool, true, List, length, Option, Some, Result, Err, IfOk, IfSome}
+use Rattle.std.specs.Prelude.{◌≡◌, ℕ, ◌<◌, ◌↔◌, Bool, true, List, length, Option, Some, Result, Err}
 use Rattle.std.specs.Io.KnownBytes.{Appends}
 use Rattle.msc_chart.specs.declared.queue.Queues.{Queues}
 use Rattle.msc_chart.specs.Drawings.{Drawing}
@@ -10,9 +10,7 @@ use Rattle.msc_gather.specs.Gathering.{IsGathered}
 use Rattle.msc_report.specs.declared.fault.Fault.{Fault}
 use Rattle.msc_report.specs.declared.fault.Fault.TheVariants.{NotStarted}
 use Rattle.msc_report.specs.Traces.{trace_text}
-use Rattle.msc_text.specs.Answers.{RefusesText}
-use Rattle.msc_text.specs.Charting.{IsChartOf}
-use Rattle.msc_text.specs.Checking.{RefusesDraft}
+use Rattle.msc_source.specs.Texts.{IsChartOf}
 
 -- What is printed of a chart: how each instance of one of its executions ended, and the execution's
 -- trace, the least run that has the instances' logs as its lines. Whether all have finished is told;
@@ -48,17 +46,3 @@ HasInstance text i = (chart : Drawing) × IsChartOf text chart × (i < length ch
 -- an instance that could not be started is one of the text's chart
 abbrev pub NamesAnInstance : {A : Type 0} → List ℕ → Result A Fault → Type 0
 NamesAnInstance text answer = (i : ℕ) → answer ≡ Err (NotStarted i) → HasInstance text i
-
--- what running a text answers and writes
-pub record RunsText (text : List ℕ) (queues : Queues) (open' : Bool) (patience : ℕ)
-    (answer : Result Bool Fault) (before after : Option (List ℕ)) : Type 0 where
-  pub written : IfOk answer (λ finished.
-      WritesTrace text queues open' patience finished before after)
-  pub refused : RefusesText text answer
-  pub no_chart : RefusesDraft text answer
-  pub started : NamesAnInstance text answer
-
--- an instance that could not be started is one of the chart of an input whose bytes are told
-abbrev pub NamesAnInstanceOf : {A : Type 0} → Option (List ℕ) → Result A Fault → Type 0
-NamesAnInstanceOf input answer =
-    (i : ℕ) → answer ≡ Err (NotStarted i) → IfSome input (λ bytes. HasInstance bytes i)

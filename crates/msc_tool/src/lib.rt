@@ -4,8 +4,11 @@
 //! What needs a text alone is done by `msc_text` and handed on; what runs a chart stands here.
 #![tactic(auto)]
 
+mod reading;
 mod running;
 
 pub use msc_report::{Fault, write_draft, write_fault, write_trace, write_verdict};
-pub use msc_text::{CALL_LIMIT, check_input, check_text, read_all, read_input, read_text};
-pub use running::{run_input, run_text};
+pub use msc_source::CALL_LIMIT;
+pub use msc_text::{check_text, read_text};
+pub use reading::read_all;
+pub use running::run_text;

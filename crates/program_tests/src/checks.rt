@@ -8,7 +8,7 @@ use example_charts::{
     TEXTS_OF_ACTIONS, TWO_MAILBOXES, TWO_SENDERS, WAITS,
 };
 use msc_chart::{Chart, Queues};
-use msc_report::{write_race, write_run};
+use msc_report::write_race;
 use msc_tool::{Fault, check_text};
 
 /// What is printed behind the first two lines, under `pair`, `mailbox` and `single`.
@@ -225,11 +225,9 @@ fn a_refused_text_leaves_the_writer_with_no_call(rt: HostRuntime) {
     }
 }
 
-/// Whether a race of a chart of four events is written, and a run behind it.
+/// Whether a race of a chart of four events is written, with a run behind it.
 fn is_race_written(writer: &mut Narrow, chart: &Chart) -> bool {
-    chart.events() == 4
-        && write_race(writer, chart, 1, 2).is_ok()
-        && write_run(writer, &[0, 3, 2, 1]).is_ok()
+    chart.events() == 4 && write_race(writer, chart, 1, 2, Some(&[0, 3, 2, 1])).is_ok()
 }
 
 /// Whether that race of `two_senders` is written as `wanted`.

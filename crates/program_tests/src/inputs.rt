@@ -4,7 +4,9 @@ use crate::devices::{Unsteady, byte_writer};
 use crate::host::Host;
 use example_charts::EMPTY;
 use msc_chart::{ChartFault, Queues};
-use msc_tool::{CALL_LIMIT, Fault, check_text, read_all, read_input, read_text};
+use msc_source::ReadFault;
+use msc_tool::{CALL_LIMIT, Fault, check_text, read_all, read_text};
+use std::io::ErrorKind;
 
 /// Whether a reader that is interrupted so often, and gives so many bytes at a time, is read to its
 /// end.
@@ -48,6 +50,34 @@ fn failing_reads_are_a_device_fault(rt: HostRuntime) {
     for call in 1..3 {
         assert!(rt; is_read_failed(&rt, call), "{call}");
     }
+}
+
+/// The kind of the error with which reading this input fails.
+fn cause(rt: &impl Host, reader: &mut Unsteady) -> Option<ErrorKind> {
+    match msc_source::read_all(rt.alloc(), reader) {
+        Err(ReadFault::Device(error)) => Some(error.kind()),
+        _ => None,
+    }
+}
+
+/// The cause of a failure at the first call.
+fn cause_of_failure(rt: &impl Host) -> Option<ErrorKind> {
+    let mut reader = Unsteady::new(EMPTY);
+    reader.fails_at = 1;
+    cause(rt, &mut reader)
+}
+
+/// The cause where each call is interrupted.
+fn cause_of_giving_up(rt: &impl Host) -> Option<ErrorKind> {
+    let mut reader = Unsteady::new(EMPTY);
+    reader.interruptions = u32::MAX;
+    cause(rt, &mut reader)
+}
+
+#[test]
+fn a_device_fault_of_reading_has_its_cause(rt: HostRuntime) {
+    assert!(rt; cause_of_failure(&rt) == Some(ErrorKind::BrokenPipe));
+    assert!(rt; cause_of_giving_up(&rt) == Some(ErrorKind::TimedOut));
 }
 
 /// How many bytes are read of an input of so many.
@@ -106,13 +136,11 @@ const NO_CHART: &[u8] = b"msc t; instance a; in m from a; out m to a; endinstanc
 const CANONICAL: &[u8] = b"msc t;\ninstance a;\n  in m from a;\n  out m to a;\nendinstance;\n\
 endmsc;\n";
 
-/// Whether both calls that read a text write this.
-fn are_read_as(rt: &impl Host, text: &[u8], wanted: &[u8]) -> bool {
-    let mut of_text = Vec::new(rt.alloc());
-    read_text(rt.alloc(), text, &mut of_text).expect(rt, "what is written");
-    let mut of_input = Vec::new(rt.alloc());
-    read_input(rt.alloc(), &mut Unsteady::new(text), &mut of_input).expect(rt, "what is written");
-    (of_text.as_slice(), of_input.as_slice()) == (wanted, wanted)
+/// Whether reading a text writes this.
+fn is_read_as(rt: &impl Host, text: &[u8], wanted: &[u8]) -> bool {
+    let mut written = Vec::new(rt.alloc());
+    read_text(rt.alloc(), text, &mut written).expect(rt, "what is written");
+    written.as_slice() == wanted
 }
 
 /// Whether the check of a text is refused for this fault.
@@ -123,6 +151,6 @@ fn is_check_refused(rt: &impl Host, text: &[u8], wanted: Fault) -> bool {
 
 #[test]
 fn a_text_whose_chart_is_refused_is_read(rt: HostRuntime) {
-    assert!(rt; are_read_as(&rt, NO_CHART, CANONICAL));
+    assert!(rt; is_read_as(&rt, NO_CHART, CANONICAL));
     assert!(rt; is_check_refused(&rt, NO_CHART, Fault::Chart(ChartFault::Cyclic(0))));
 }

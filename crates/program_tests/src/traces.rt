@@ -7,7 +7,7 @@ use crate::devices::{Narrow, byte_writer};
 use crate::host::{Host, chart_of};
 use example_charts::{EMPTY, LOCAL_EVENTS, NUMBERED, ONE_MESSAGE, RELAY};
 use msc_chart::{Chart, Event, Queues};
-use msc_execution::End;
+use msc_ending::End;
 use msc_tool::write_trace;
 
 /// A chart's text, the architecture, how each instance ended, the trace, and what is printed.

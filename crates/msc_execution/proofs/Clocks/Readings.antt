@@ -9,8 +9,8 @@ use Rattle.msc_chart.specs.Orders.{wired}
 use Rattle.msc_chart.specs.Runs.{Run, HasLines, HasNoMerge}
 use Rattle.msc_chart.proofs.ListLemmas.{by_test, occurs-left}
 use Rattle.msc_gather.specs.Schedule.{IsSeated}
-use Rattle.msc_execution.specs.declared.end.End.{End}
-use Rattle.msc_execution.specs.declared.end.End.TheVariants.{Finished, Stopped}
+use Rattle.msc_ending.specs.declared.end.End.{End}
+use Rattle.msc_ending.specs.declared.end.End.TheVariants.{Finished, Stopped}
 use Rattle.msc_execution.specs.Roles.{role, wired_ends}
 use Rattle.msc_execution.specs.Logs.{Reading, clock_along}
 use Rattle.msc_execution.specs.Running.{Left, IsRunBy, EndsAs}

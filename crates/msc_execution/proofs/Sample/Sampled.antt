@@ -13,7 +13,7 @@ use Rattle.msc_fifo.specs.declared.accounts.Account.{Account}
 use Rattle.msc_fifo.specs.declared.accounts.Settled.{Settled}
 use Rattle.msc_fifo.specs.declared.places.Place.{Place}
 use Rattle.msc_fifo.specs.Ends.{OutletState}
-use Rattle.msc_execution.specs.declared.end.End.TheVariants.{Foreign}
+use Rattle.msc_ending.specs.declared.end.End.TheVariants.{Foreign}
 use Rattle.msc_execution.specs.Roles.{takes_from}
 use Rattle.msc_execution.specs.Logs.{Begins, received, received_from}
 use Rattle.msc_execution.specs.Executions.{log_at, end_at, placed_messages, AreAccounts, IsTrafficOf, IsSettledFrom, IsExecution}

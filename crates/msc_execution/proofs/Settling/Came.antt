@@ -12,7 +12,7 @@ use Rattle.msc_fifo.specs.Ends.{OutletState, InletState, AreOutletsOf}
 use Rattle.msc_fifo.specs.Laws.{AreNumberedFrom}
 use Rattle.msc_fifo.specs.declared.accounts.Account.{Account}
 use Rattle.msc_fifo.specs.declared.accounts.Settled.{Settled}
-use Rattle.msc_execution.specs.declared.end.End.{End}
+use Rattle.msc_ending.specs.declared.end.End.{End}
 use Rattle.msc_execution.specs.Roles.{EndLists, NumberedOutlet, NumberedInlet, role, wired_ends, queues_in, takes_from, rank_of}
 use Rattle.msc_execution.specs.Logs.{IsLogOf, Reading, sent, received, received_from}
 use Rattle.msc_execution.specs.Growth.{IsLeftBy, HasTaken, all_messages}

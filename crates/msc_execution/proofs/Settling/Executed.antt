@@ -15,8 +15,8 @@ use Rattle.msc_fifo.specs.Identity.{QueueId}
 use Rattle.msc_fifo.specs.declared.accounts.Account.{Account}
 use Rattle.msc_fifo.specs.declared.accounts.Settled.{Settled}
 use Rattle.msc_fifo.specs.Ends.{OutletState, InletState}
-use Rattle.msc_execution.specs.declared.end.End.{End}
-use Rattle.msc_execution.specs.declared.end.End.TheVariants.{Finished, Foreign}
+use Rattle.msc_ending.specs.declared.end.End.{End}
+use Rattle.msc_ending.specs.declared.end.End.TheVariants.{Finished, Foreign}
 use Rattle.msc_execution.specs.Roles.{EndLists, role, queues_in}
 use Rattle.msc_execution.specs.Logs.{Begins, IsWholeLog, sent, received, received_from}
 use Rattle.msc_execution.specs.Running.{EndsAs}

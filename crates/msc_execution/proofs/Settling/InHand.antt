@@ -6,8 +6,8 @@ use Rattle.msc_chart.specs.declared.queue.Queues.{Queues}
 use Rattle.msc_chart.specs.Lists.{occurs}
 use Rattle.msc_chart.specs.Drawings.{Drawing, IsAccepted}
 use Rattle.msc_fifo.specs.Ends.{InletState, AreOutletsOf}
-use Rattle.msc_execution.specs.declared.end.End.{End}
-use Rattle.msc_execution.specs.declared.end.End.TheVariants.{Finished}
+use Rattle.msc_ending.specs.declared.end.End.{End}
+use Rattle.msc_ending.specs.declared.end.End.TheVariants.{Finished}
 use Rattle.msc_execution.specs.Roles.{NumberedOutlet, NumberedInlet, EndLists, role, wired_ends, IsWiring, queues_in}
 use Rattle.msc_execution.specs.Running.{Left, HasRun}
 use Rattle.msc_execution.specs.Executions.{Outcome, log_at, IsExecution}

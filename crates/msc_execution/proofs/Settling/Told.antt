@@ -15,8 +15,8 @@ use Rattle.msc_fifo.specs.declared.entry.Entry.{Entry}
 use Rattle.msc_fifo.specs.declared.accounts.Settled.{Settled}
 use Rattle.msc_fifo.specs.Entries.{messages_of}
 use Rattle.msc_fifo.specs.Ends.{InletState, new_inlet}
-use Rattle.msc_execution.specs.declared.end.End.{End}
-use Rattle.msc_execution.specs.declared.end.End.TheVariants.{Finished, Starved, Impatient, Stopped, Foreign}
+use Rattle.msc_ending.specs.declared.end.End.{End}
+use Rattle.msc_ending.specs.declared.end.End.TheVariants.{Finished, Starved, Impatient, Stopped, Foreign}
 use Rattle.msc_execution.specs.Roles.{Role, role, queues_in, takes_from, taken_queues, rank_of}
 use Rattle.msc_execution.specs.Logs.{IsLogOf, Reading, sent, received}
 use Rattle.msc_execution.specs.Growth.{HasTaken, all_messages}

@@ -168,7 +168,7 @@ module _ (test : ℕ → ℕ → Bool) where
       ]
 
   -- a pair that passes is in the list
-  to_from : (e k f : ℕ) → f < k → test e f ≡ true → Occurs (pairs_to test e k) (e, f)
+  pub to_from : (e k f : ℕ) → f < k → test e f ≡ true → Occurs (pairs_to test e k) (e, f)
   to_from e zero f below h = absurd (omega arith)
   to_from e (suc k) f below h =
       let one : k + 1 ≡ suc k = omega arith in

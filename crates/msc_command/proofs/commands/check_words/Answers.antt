@@ -8,4 +8,5 @@ returns c =
     let under = c.and.ensures _ _ c.named-command.ensures c.queues.ensures in
     let listed = c.list_words-command.ensures _ under in
     let kinds = c.and-command.ensures _ _ listed c.allow.ensures in
-    c.and-3.ensures _ _ (c.and-2.ensures _ _ kinds silent) c.file.ensures
+    let forms = c.and-command-2.ensures _ _ kinds c.format.ensures in
+    c.and-3.ensures _ _ (c.and-2.ensures _ _ forms silent) c.file.ensures

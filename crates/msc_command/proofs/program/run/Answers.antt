@@ -8,7 +8,7 @@ pub returns-in-Ok-clause-followed : goal.returns-in-Ok-clause-followed
 returns-in-Ok-clause-followed g c =
     let known : IsGrammar (app_of c.in_ok-command.command) =
     is_grammar (rw c.alternatives.ensures c.in_ok-architectures.ensures)
-    (rw c.alternatives-2.ensures c.in_ok-kinds.ensures) c.in_ok-command.ensures.0 in
+    (rw c.alternatives-2.ensures c.in_ok-kinds.ensures) (rw c.alternatives-3.ensures c.in_ok-forms.ensures) c.in_ok-command.ensures.0 in
     inl (obeys_taken _ _ c.in-Ok.matches _ _ _ _ _ known (c.in-Ok.ensures.kinds (is_known _ known))
     (c.in-Ok.ensures.matches (is_simple_grammar _ known)).1 c.obey_matches.ensures.obeyed)
 
@@ -16,7 +16,7 @@ pub returns-clause-followed : goal.returns-clause-followed
 returns-clause-followed g c =
     let known : IsGrammar (app_of c.in_ok-command.command) =
     is_grammar (rw c.alternatives.ensures c.in_ok-architectures.ensures)
-    (rw c.alternatives-2.ensures c.in_ok-kinds.ensures) c.in_ok-command.ensures.0 in
+    (rw c.alternatives-2.ensures c.in_ok-kinds.ensures) (rw c.alternatives-3.ensures c.in_ok-forms.ensures) c.in_ok-command.ensures.0 in
     elim (c.in-Err.ensures.kinds (is_known _ known)) [
       | inl memory ↦ inr (inr (rw memory at c.tell_usage.ensures.ends))
       | inr among ↦ inr (inl (_, (_, known, among), c.tell_usage.ensures.ends))

@@ -35,15 +35,15 @@ pub queue-requires-2-clause-message : goal.queue-requires-2-clause-message
 queue-requires-2-clause-message c =
     input_not_local c.args.chart.now.events c.args.f (race_input (wired c.args.queues c.args.chart.now) c.args.e c.args.f c.requires.race)
 
-pub returns-then-queue : goal.returns-then-queue
-returns-then-queue c =
+pub returns-then-queue-clause-kind : goal.returns-then-queue-clause-kind
+returns-then-queue-clause-kind c =
     let chart = wired c.args.queues c.args.chart.now in (
       first_input chart c.args.e c.args.f c.requires.race (sym c.is_controlled.ensures ∙ c.if-is_controlled.false),
       λ same. c.if-queue.true (c.queue.ensures ∙ same ∙ sym c.queue-2.ensures),
     )
 
-pub returns-then-holds : goal.returns-then-holds
-returns-then-holds c =
+pub returns-then-holds-clause-kind : goal.returns-then-holds-clause-kind
+returns-then-holds-clause-kind c =
     let chart = wired c.args.queues c.args.chart.now in
     let first = first_input chart c.args.e c.args.f c.requires.race (sym c.is_controlled.ensures ∙ c.if-is_controlled.false) in (
       share_from chart c.args.e c.args.f first (race_input chart c.args.e c.args.f c.requires.race) (sym c.queue.ensures ∙ c.if-queue.false ∙ c.queue-2.ensures),
@@ -51,8 +51,8 @@ returns-then-holds c =
           (c.requires.enforced.holds _ _ c.other_end.ensures.known c.other_end-2.ensures.known (sym c.holds.ensures ∙ c.if-holds.true)),
     )
 
-pub returns : goal.returns
-returns c =
+pub returns-clause-kind : goal.returns-clause-kind
+returns-clause-kind c =
     let chart = wired c.args.queues c.args.chart.now in
     let first = first_input chart c.args.e c.args.f c.requires.race (sym c.is_controlled.ensures ∙ c.if-is_controlled.false) in (
       share_from chart c.args.e c.args.f first (race_input chart c.args.e c.args.f c.requires.race) (sym c.queue.ensures ∙ c.if-queue.false ∙ c.queue-2.ensures),
@@ -60,5 +60,5 @@ returns c =
           (λ late. clash (c.holds.ensures ∙ c.requires.enforced.complete _ _ late) c.if-holds.false),
     )
 
-pub returns-then-is_controlled : goal.returns-then-is_controlled
-returns-then-is_controlled c = sym c.is_controlled.ensures ∙ c.if-is_controlled.true
+pub returns-then-is_controlled-clause-kind : goal.returns-then-is_controlled-clause-kind
+returns-then-is_controlled-clause-kind c = sym c.is_controlled.ensures ∙ c.if-is_controlled.true

@@ -22,7 +22,7 @@ pub returns-clause-lack : goal.returns-clause-lack
 returns-clause-lack c =
     let p = before_parts c.args.chart.now.events c.args.e c.args.f c.requires.race.0 in
     record {
-      kind = c.kind_of-kind.ensures;
+      kind = c.kind_of-kind.ensures.kind;
       first = c.needed_of.ensures.value;
       second = c.other_end.ensures.value;
       always = (

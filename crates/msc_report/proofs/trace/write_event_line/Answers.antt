@@ -4,7 +4,7 @@ use Rattle.std.proofs.lemmas.Result.{on_ok_weaker}
 use Rattle.msc_chart.specs.Drawings.{Drawing}
 use Rattle.msc_report.specs.Verdicts.{event_at}
 use Rattle.msc_report.specs.Traces.{event_line}
-use Rattle.msc_report.proofs.KnownBytes.{Appends-append}
+use Rattle.msc_judge.proofs.KnownBytes.{Appends-append}
 use Rattle.msc_report.proofs.trace.write_event_line.Goals as goal
 
 -- the line of an event is its number, a space, what it does on its line, and the end of the line

@@ -1,8 +1,8 @@
 use Rattle.std.proofs.Common.{ℕ, ◌<◌, ◌+◌, List, ◌++◌, length, ap, sym, ◌∙◌, append_assoc, arith}
 use Rattle.std.proofs.lemmas.List.{drop_more}
 use Rattle.std.specs.Prelude.{get_or, drop}
-use Rattle.msc_report.proofs.KnownBytes.{Appends-append}
-use Rattle.msc_study.specs.Lines.{pair_line}
+use Rattle.msc_judge.proofs.KnownBytes.{Appends-append}
+use Rattle.msc_report.specs.Lines.{pair_line}
 use Rattle.msc_study.specs.Reasons.{chain_text, step_word}
 use Rattle.msc_study.proofs.reasons.write_chain.Goals as goal
 

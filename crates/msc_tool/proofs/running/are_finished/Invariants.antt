@@ -1,5 +1,5 @@
 use Rattle.std.proofs.Common.{◌≡◌, ℕ, ◌<◌, get_or}
-use Rattle.msc_execution.specs.declared.end.End.TheVariants.{Finished}
+use Rattle.msc_ending.specs.declared.end.End.TheVariants.{Finished}
 use Rattle.msc_tool.proofs.running.are_finished.Given as goal
 
 -- the ends that were looked at are `Finished`

@@ -1,0 +1,5 @@
+pub mod KnownBytes
+pub mod Putting
+pub mod Telling
+pub mod Asked
+pub mod Whole

@@ -1,0 +1,25 @@
+use Rattle.std.proofs.Common.{◌≡◌, ◌+◌, ℕ, List, length}
+use Rattle.msc_race.specs.Views.{wiring_of}
+use Rattle.msc_race.specs.Walks.{HasReached}
+use Rattle.msc_reason.proofs.Sums.{kept_below}
+use Rattle.msc_reason.specs.Counting.{is_listed}
+use Rattle.msc_reason.specs.Marked.{lack_in}
+use Rattle.msc_judge.specs.Findings.{texts, AreChosen}
+use Rattle.msc_judge.specs.Pages.{Pages}
+use Rattle.msc_judge.specs.Telling.{race_text, told_from}
+use Rattle.msc_judge.proofs.judging.Teller.put_all.Given as goal
+
+-- the races of the events so far that are listed are put behind the page
+abbrev pub invariant-loop-e : goal.invariant-loop-e
+invariant-loop-e g l =
+    let r = g.R.Renderer in
+    let s = l.self.listing.now in
+    let below = kept_below s.judged (is_listed s.judged s.allowed s.closest (lack_in s.judged)) l.e in
+    record {
+      reached : HasReached s.judged.chart.events l.e l.stream.walk;
+      number : l.number ≡ length below;
+      put : (runs : ℕ → List ℕ) → AreChosen (wiring_of s.judged) runs
+          → Pages (g.W.Write.contents l.fn.writer) (g.W.Write.contents l.writer) l.fn.page.bytes.items l.page.bytes.items
+          (told_from (race_text (texts r.heading_text r.run_text r.finding_text r.end_text l.self.renderer.now s.judged.chart)
+          s.judged l.self.question runs) l.self.question.most 0 below);
+    }

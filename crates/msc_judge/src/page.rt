@@ -1,0 +1,111 @@
+//! The one place where an answer goes out in pages, and what may come in between.
+
+ghost use Rattle.std.specs.Prelude.{◌≡◌, ◌↔◌, [], IfOk, IsOk, OnOk, Some};
+ghost use Rattle.std.specs.Io.{WritesAtMost};
+ghost use Rattle.std.specs.Io.KnownBytes.{Appends, Keeps, WriteAppends};
+ghost use Rattle.msc_judge.specs.Pages.{Puts};
+ghost use Rattle.msc_judge.specs.declared.page.WriteFault.TheVariants.{Device, Memory};
+
+use std::alloc::{AllocError, Global};
+use std::io;
+use std::io::Write;
+use thiserror::Error;
+
+/// Why an answer was not written to its end.
+#[derive(Clone, Copy, Debug, PartialEq, Eq, Error)]
+pub enum WriteFault {
+    /// A growth of memory was refused.
+    #[error("memory fault")]
+    Memory,
+    /// A write failed.
+    #[error("device fault")]
+    Device,
+}
+
+impl From<AllocError> for WriteFault {
+    ghost from_gives = { λ _ e. e ≡ Memory };
+
+    fn from(_e: AllocError) -> WriteFault {
+        WriteFault::Memory
+    }
+}
+
+impl From<io::Error> for WriteFault {
+    ghost from_gives = { λ _ e. e ≡ Device };
+
+    fn from(_e: io::Error) -> WriteFault {
+        WriteFault::Device
+    }
+}
+
+/// How many bytes of an answer go out at once: some lines of runs, which have up to 10,000 bytes.
+const PAGE_SIZE: usize = 65_536;
+
+/// A page. What is written to it stands behind what it has; want of memory is the only error.
+#[derive(Drop)]
+pub struct Page {
+    pub bytes: Vec<u8>,
+}
+
+impl Page {
+    /// A page with nothing on it.
+    pub fn new(alloc: Global) -> Page
+        ensures { result.bytes.items ≡ [] }
+    {
+        Page {
+            bytes: Vec::new(alloc),
+        }
+    }
+
+    /// Lets it go out where as much stands on it as goes out at once.
+    pub fn turn<W: Write>(&mut self, writer: &mut W) -> Result<(), WriteFault>
+        ensures { Puts result (W.contents writer.old) (W.contents writer.new)
+            self.old.bytes.items self.new.bytes.items [] }
+    {
+        if self.bytes.len() < PAGE_SIZE {
+            return Ok(());
+        }
+        writer.write_all(self.bytes.as_slice())?;
+        self.bytes.clear();
+        Ok(())
+    }
+
+    /// The page, where the writes to it that answered `written` did not run out of memory.
+    pub fn if_written(self, written: io::Result<()>) -> Result<Page, AllocError>
+        ensures kept { IfOk result (λ page. page.bytes.items ≡ self.bytes.items) }
+        ensures accepted { IsOk result ↔ IsOk written }
+    {
+        match written {
+            Ok(()) => Ok(self),
+            Err(_) => Err(AllocError),
+        }
+    }
+}
+
+impl Write for Page {
+    ghost contents = { λ p. Some p.bytes.items };
+
+    fn write(&mut self, buf: &[u8]) -> io::Result<usize>
+        ensures bound { WritesAtMost result buf.now }
+        ensures bytes { WriteAppends (Some self.old.bytes.items)
+            (Some self.new.bytes.items) result buf.now }
+    {
+        self.bytes.extend_from_slice(buf)?;
+        Ok(buf.len())
+    }
+
+    fn flush(&mut self) -> io::Result<()>
+        ensures bytes { Keeps (Some self.old.bytes.items) (Some self.new.bytes.items) }
+    {
+        Ok(())
+    }
+
+    // A list takes all bytes at once; the loop of the trait costs more than the bytes.
+    fn write_all(&mut self, buf: &[u8]) -> io::Result<()>
+        ensures bytes { OnOk result (Appends (Some self.old.bytes.items)
+            (Some self.new.bytes.items) buf.now) }
+    {
+        self.bytes.extend_from_slice(buf)?;
+        Ok(())
+    }
+}

@@ -1,0 +1,123 @@
+//! A chart under an architecture, with its enforced order.
+
+ghost use Rattle.std.specs.Prelude.{◌≡◌, ◌+◌, ◌<◌, length, IfOk, OnOk};
+ghost use Rattle.msc_chart.specs.Charts.{IsSegmentEnd};
+ghost use Rattle.msc_chart.specs.Drawings.{IsAccepted};
+ghost use Rattle.msc_race.specs.Views.{wiring_of, races_from, races_of, AreFrom, AreRacesOf};
+ghost use Rattle.msc_race.specs.Views.{HasEnforcedOrder};
+ghost use Rattle.msc_race.specs.Walks.{HasReached};
+ghost use Rattle.msc_chart.specs.Chosen.{IsChosenRun};
+
+use crate::racing::{Walk, count_races};
+use crate::reversing::chosen_run;
+use msc_chart::{Chart, Event, Queues};
+use msc_order::Order;
+use std::alloc::{AllocError, Global};
+use std::marker::Model;
+
+/// A chart under an architecture, with its enforced order. Contracts see these three.
+#[derive(Drop)]
+pub struct Enforced<'a> {
+    chart: &'a Chart,
+    queues: Queues,
+    order: Order,
+}
+
+impl<'a> Model for Enforced<'a> {
+    ghost use Rattle.msc_race.specs.Wired.{EnforcedChart, enforced_chart, IsEnforced};
+
+    ghost Value = { EnforcedChart };
+
+    ghost view = { λ e. enforced_chart e.chart.now e.queues e.order };
+
+    ghost invariant = { λ e. IsEnforced (enforced_chart e.chart.now e.queues e.order) };
+}
+
+impl<'a> Enforced<'a> {
+    /// A chart under an architecture. An error is a growth of memory that was refused.
+    pub fn of(alloc: Global, chart: &'a Chart, queues: Queues) -> Result<Enforced<'a>, AllocError>
+        ensures chart { IfOk result (λ enforced. enforced.chart ≡ chart.now) }
+        ensures queues { IfOk result (λ enforced. enforced.queues ≡ queues) }
+    {
+        let order = Order::enforced(alloc, chart, queues)?;
+        Ok(Enforced {
+            chart,
+            queues,
+            order,
+        })
+    }
+
+    /// The chart.
+    pub fn chart(&self) -> &'a Chart
+        ensures { result.now ≡ self.now.chart }
+    {
+        self.chart
+    }
+
+    /// The architecture.
+    pub fn queues(&self) -> Queues
+        ensures { result ≡ self.now.queues }
+    {
+        self.queues
+    }
+
+    /// The enforced order.
+    pub fn order(&self) -> &Order
+        ensures { result.now ≡ self.now.order }
+    {
+        &self.order
+    }
+
+    /// What every such chart keeps. It does nothing; a caller calls it to rest its own proof on
+    /// that.
+    pub fn enforced(&self)
+        ensures order { HasEnforcedOrder self.now }
+        ensures chart { IsAccepted self.now.chart }
+    {
+        let chart = self.chart;
+        chart.accepted();
+    }
+
+    /// How many races the chart has. It takes no memory.
+    pub fn count_races(&self) -> u32
+        ensures { result ≡ length (races_of self.now) }
+    {
+        count_races(self.chart, &self.order)
+    }
+
+    /// How many events the chart has.
+    pub fn events(&self) -> u32
+        ensures { result ≡ length self.now.chart.events }
+    {
+        self.chart.events()
+    }
+
+    /// Goes on to event `e` of a walk: the list has its races then, ascending. An error is a growth
+    /// of memory that was refused.
+    pub fn next_races(
+        &self,
+        walk: &mut Walk,
+        list: &mut Vec<(Event, Event)>,
+        e: Event,
+    ) -> Result<(), AllocError>
+        requires known { e < length self.now.chart.events }
+        requires reached { HasReached self.now.chart.events e walk.old }
+        ensures reached { HasReached self.now.chart.events (e + 1) walk.new }
+        ensures segment { IsSegmentEnd self.now.chart.events e walk.new.segment_end }
+        ensures list { OnOk result (list.new.items ≡ races_from self.now e) }
+        ensures races { AreRacesOf self.now (races_from self.now e) }
+        ensures first { AreFrom e (races_from self.now e) }
+    {
+        list.clear();
+        walk.push_races(list, self.chart, &self.order, e)
+    }
+
+    /// The chosen run of an event, which reverses each of its races. An error is a growth of memory
+    /// that was refused.
+    pub fn chosen_run(&self, alloc: Global, e: Event) -> Result<Vec<Event>, AllocError>
+        requires { e < length self.now.chart.events }
+        ensures { IfOk result (λ run. IsChosenRun (wiring_of self.now) e run.items) }
+    {
+        chosen_run(alloc, self.chart, self.queues, &self.order, e)
+    }
+}

@@ -1,0 +1,73 @@
+-- Races that count, as pairs that pass a test.
+use Rattle.std.proofs.Common.{◌≡◌, ℕ, ◌<◌, Bool, true, false, ◌&&◌, not, List, length, refl, sym, ap, ◌∙◌, arith}
+use Rattle.std.specs.List.{filter}
+use Rattle.std.proofs.lemmas.Bool.{and_parts, and_from}
+use Rattle.msc_chart.specs.Charts.{before}
+use Rattle.msc_chart.specs.Lists.{Occurs}
+use Rattle.msc_chart.proofs.Drawn.{before_parts}
+use Rattle.msc_race.specs.Races.{is_raced}
+use Rattle.msc_race.specs.Wired.{EnforcedChart}
+use Rattle.msc_race.proofs.Listing.Pairs.{of_from, of_parts, to_from, to_parts}
+use Rattle.msc_reason.proofs.Filtered.{filter_all, filter_from, filter_parts}
+use Rattle.msc_reason.specs.Counting.{counting, counts}
+use Rattle.msc_reason.specs.Kinds.{has_kind, is_empty}
+use Rattle.msc_reason.specs.Marked.{counted_from, is_counted, lack_in}
+use Rattle.msc_reason.specs.declared.kinds.KindSet.{KindSet}
+use Rattle.msc_reason.specs.declared.lack.Lack.{Lack}
+use Rattle.msc_reason.specs.declared.lack.RaceKind.{RaceKind}
+use Rattle.msc_reason.specs.declared.lack.RaceKind.TheVariants.{Early, Queues, Unordered, Overtaken}
+
+-- an empty set has no kind
+none_left_out : (allowed : KindSet) (kind : RaceKind) → is_empty allowed ≡ true → has_kind allowed kind ≡ false
+none_left_out allowed Early empty = grind (arith, empty)
+none_left_out allowed Queues empty = grind (arith, empty)
+none_left_out allowed Unordered empty = grind (arith, empty)
+none_left_out allowed Overtaken empty = grind (arith, empty)
+
+-- so where no kind is left out, each race counts
+pub all_count : (allowed : KindSet) (lacks : ℕ → ℕ → Lack) (p : ℕ × ℕ) → is_empty allowed ≡ true → counts allowed lacks p ≡ true
+all_count allowed lacks p empty = rw (none_left_out allowed (lacks p.0 p.1).kind empty) refl
+
+-- and all of a list do
+pub all_counted : (allowed : KindSet) (lacks : ℕ → ℕ → Lack) (pairs : List (ℕ × ℕ)) → is_empty allowed ≡ true
+    → filter (counts allowed lacks) pairs ≡ pairs
+all_counted allowed lacks pairs empty = filter_all (counts allowed lacks) pairs (λ p. all_count allowed lacks p empty)
+
+module _ (e : EnforcedChart) (allowed : KindSet) where
+  -- a race that counts is drawn in an order
+  pub counted_drawn : (x y : ℕ) → is_counted e allowed x y ≡ true → before e.chart.events x y ≡ true
+  unfolding is_counted is_raced
+  counted_drawn x y h = (and_parts _ _ (and_parts (is_raced e.chart.events e.order x y) (counts allowed (lack_in e) (x, y)) h).0).0
+
+  -- the races of an event that count
+  pub counted_parts : (x y z : ℕ) → Occurs (counted_from e allowed x) (y, z) → (y ≡ x) × (is_counted e allowed y z ≡ true)
+  unfolding is_counted
+  counted_parts x y z there =
+      let kept = filter_parts (counts allowed (lack_in e)) _ (y, z) there in
+      let parts = to_parts (is_raced e.chart.events e.order) x (length e.chart.events) y z kept.0 in
+      let raced : is_raced e.chart.events e.order y z ≡ true = ap (λ (n : ℕ). is_raced e.chart.events e.order n z) parts.0 ∙ parts.2 in
+      (parts.0, and_from _ _ raced kept.1)
+
+  -- each of them is among these
+  pub counted_in : (x y : ℕ) → is_counted e allowed x y ≡ true → Occurs (counted_from e allowed x) (x, y)
+  unfolding is_counted
+  counted_in x y h =
+      let both = and_parts (is_raced e.chart.events e.order x y) (counts allowed (lack_in e) (x, y)) h in
+      let known = before_parts e.chart.events x y (counted_drawn x y h) in
+      filter_from (counts allowed (lack_in e)) _ (x, y) (to_from (is_raced e.chart.events e.order) x (length e.chart.events) y known.1 both.0) both.1
+
+  -- what is among all races that count is one
+  pub counting_parts : (x y : ℕ) → Occurs (counting e allowed (lack_in e)) (x, y) → is_counted e allowed x y ≡ true
+  unfolding is_counted
+  counting_parts x y there =
+      let kept = filter_parts (counts allowed (lack_in e)) _ (x, y) there in
+      let parts = of_parts (is_raced e.chart.events e.order) (length e.chart.events) x y kept.0 in
+      and_from _ _ parts.2 kept.1
+
+  -- and each is among them
+  pub counting_in : (x y : ℕ) → is_counted e allowed x y ≡ true → Occurs (counting e allowed (lack_in e)) (x, y)
+  unfolding is_counted
+  counting_in x y h =
+      let both = and_parts (is_raced e.chart.events e.order x y) (counts allowed (lack_in e) (x, y)) h in
+      let known = before_parts e.chart.events x y (counted_drawn x y h) in
+      filter_from (counts allowed (lack_in e)) _ (x, y) (of_from (is_raced e.chart.events e.order) (length e.chart.events) x y known.0 known.1 both.0) both.1

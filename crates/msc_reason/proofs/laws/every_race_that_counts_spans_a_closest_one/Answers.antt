@@ -1,0 +1,13 @@
+use Rattle.msc_reason.proofs.CountingLaws.{closest_without, none_closest, spanned}
+use Rattle.msc_reason.proofs.laws.every_race_that_counts_spans_a_closest_one.Goals as goal
+
+pub returns-clause-spans : goal.returns-clause-spans
+returns-clause-spans c e is accepted allowed lacks are x y its =
+    spanned e is accepted c.each_race_has_one_kind.ensures.one allowed lacks are x y its
+
+pub returns-clause-none : goal.returns-clause-none
+returns-clause-none c e is accepted allowed lacks are =
+    none_closest e is accepted c.each_race_has_one_kind.ensures.one allowed lacks are
+
+pub returns-clause-all : goal.returns-clause-all
+returns-clause-all c e is accepted allowed empty x y = closest_without e (c.ends_share_queues.ensures e.queues e.chart accepted) allowed empty x y

@@ -1,0 +1,64 @@
+-- Laws of the races that count, of an accepted chart with its enforced order.
+use Rattle.std.specs.Prelude.{◌≡◌, ℕ, ◌↔◌, List, [], true}
+use Rattle.msc_chart.specs.Drawings.{IsAccepted}
+use Rattle.msc_chart.specs.Lists.{Occurs}
+use Rattle.msc_chart.specs.Orders.{IsRace, WiredChart}
+use Rattle.msc_race.specs.Races.{AreAscending}
+use Rattle.msc_race.specs.Views.{wiring_of}
+use Rattle.msc_race.specs.Wired.{EnforcedChart, IsEnforced}
+use Rattle.msc_reason.specs.Closest.{IsClosest, StandsWithin}
+use Rattle.msc_reason.specs.Counting.{counting, listed, AreLacks}
+use Rattle.msc_reason.specs.Kinds.{has_kind, is_empty}
+use Rattle.msc_reason.specs.Lacks.{IsKindOf}
+use Rattle.msc_reason.specs.declared.kinds.KindSet.{KindSet}
+use Rattle.msc_reason.specs.declared.lack.Lack.{Lack}
+use Rattle.msc_reason.specs.declared.lack.RaceKind.{RaceKind}
+
+-- the pair is of one of these kinds
+pub record IsLeftOut (chart : WiredChart) (allowed : KindSet) (e f : ℕ) : Type 0 where
+  pub kind : RaceKind
+  pub its : IsKindOf chart e f kind
+  pub named : has_kind allowed kind ≡ true
+
+-- a race that is of none of the kinds which are left out
+pub record IsCounting (chart : WiredChart) (allowed : KindSet) (e f : ℕ) : Type 0 where
+  pub race : IsRace chart e f
+  pub counts : IsLeftOut chart allowed e f → ⊥
+
+-- one within whose span no other such race lies
+pub record IsClosestCounting (chart : WiredChart) (allowed : KindSet) (e f : ℕ) : Type 0 where
+  pub itself : IsCounting chart allowed e f
+  pub alone : (g h : ℕ) → IsCounting chart allowed g h → StandsWithin chart.events e f g h → (g ≡ e) × (h ≡ f)
+
+-- what is said of each enforced chart, and of the lacks of its races
+abbrev pub OfCharts : (EnforcedChart → KindSet → (ℕ → ℕ → Lack) → Type 0) → Type 0
+OfCharts Says =
+    (e : EnforcedChart) → IsEnforced e → IsAccepted e.chart → (allowed : KindSet) (lacks : ℕ → ℕ → Lack)
+    → AreLacks e lacks → Says e allowed lacks
+
+-- the races that count are listed as such, and no other pair
+abbrev pub CountingRacesAreListed : Type 0
+CountingRacesAreListed = OfCharts (λ e allowed lacks.
+    (x y : ℕ) → IsCounting (wiring_of e) allowed x y ↔ Occurs (counting e allowed lacks) (x, y))
+
+-- the closest of them are listed as closest, and no other pair
+abbrev pub ClosestRacesAreListed : Type 0
+ClosestRacesAreListed = OfCharts (λ e allowed lacks.
+    (x y : ℕ) → IsClosestCounting (wiring_of e) allowed x y ↔ Occurs (listed e allowed true lacks) (x, y))
+
+-- within each race that counts stands a closest one that counts
+abbrev pub EveryRaceThatCountsSpansAClosestOne : Type 0
+EveryRaceThatCountsSpansAClosestOne = OfCharts (λ e allowed lacks.
+    (x y : ℕ) → IsCounting (wiring_of e) allowed x y
+    → (g : ℕ) × (h : ℕ) × IsClosestCounting (wiring_of e) allowed g h × StandsWithin e.chart.events x y g h)
+
+-- so none is listed as closest exactly where none counts
+abbrev pub NoneIsClosestWhereNoneCounts : Type 0
+NoneIsClosestWhereNoneCounts = OfCharts (λ e allowed lacks.
+    (listed e allowed true lacks ≡ []) ↔ (counting e allowed lacks ≡ []))
+
+-- where no kind is left out, the closest races that count are the closest races
+abbrev pub WithoutKindsTheClosestAreTheClosest : Type 0
+WithoutKindsTheClosestAreTheClosest =
+    (e : EnforcedChart) → IsEnforced e → IsAccepted e.chart → (allowed : KindSet) → is_empty allowed ≡ true
+    → (x y : ℕ) → IsClosestCounting (wiring_of e) allowed x y ↔ IsClosest (wiring_of e) x y

@@ -1,0 +1,58 @@
+-- What the code keeps of the races that count: their lacks by the order, and where they begin and end.
+use Rattle.std.specs.Prelude.{◌≡◌, ℕ, ◌+◌, ◌<◌, ◌≤◌, Bool, ◌&&◌, not, cond, List, length, get_or, nat_eq, IsTrue}
+use Rattle.std.specs.List.{filter}
+use Rattle.msc_chart.specs.Charts.{partner, is_controlled}
+use Rattle.msc_chart.specs.Orders.{queue}
+use Rattle.msc_order.specs.Tables.{orders}
+use Rattle.msc_race.specs.Races.{is_raced}
+use Rattle.msc_race.specs.Views.{races_from, wiring_of}
+use Rattle.msc_race.specs.Wired.{EnforcedChart}
+use Rattle.msc_reason.specs.Counting.{counts, is_listed}
+use Rattle.msc_reason.specs.Lacks.{needed}
+use Rattle.msc_reason.specs.declared.kinds.KindSet.{KindSet}
+use Rattle.msc_reason.specs.declared.lack.Lack.{Lack}
+use Rattle.msc_reason.specs.declared.lack.RaceKind.{RaceKind}
+use Rattle.msc_reason.specs.declared.lack.RaceKind.TheVariants.{Early, Queues, Unordered, Overtaken}
+
+-- the kind of a race, by the order of the chart's events
+abbrev pub kind_in : EnforcedChart → ℕ → ℕ → RaceKind
+kind_in e x y =
+    cond (is_controlled e.chart.events x) Early
+    (cond (not (nat_eq (queue (wiring_of e) x) (queue (wiring_of e) y))) Queues
+    (cond (orders e.order (partner e.chart.events y) (partner e.chart.events x)) Overtaken Unordered))
+
+-- the lack of a race, by this order
+abbrev pub lack_in : EnforcedChart → ℕ → ℕ → Lack
+lack_in e x y = record {
+  kind = kind_in e x y;
+  needed = needed (wiring_of e) x y;
+  output = partner e.chart.events y;
+  always = orders e.order y x;
+}
+
+-- the pair is a race that counts
+unfoldable pub is_counted : EnforcedChart → KindSet → ℕ → ℕ → Bool
+is_counted e allowed x y = is_raced e.chart.events e.order x y && counts allowed (lack_in e) (x, y)
+
+-- the races of x that count, ascending
+abbrev pub counted_from : EnforcedChart → KindSet → ℕ → List (ℕ × ℕ)
+counted_from e allowed x = filter (counts allowed (lack_in e)) (races_from e x)
+
+-- those that are listed
+abbrev pub listed_from : EnforcedChart → KindSet → Bool → ℕ → List (ℕ × ℕ)
+listed_from e allowed closest x = filter (is_listed e allowed closest (lack_in e)) (races_from e x)
+
+-- y is the least event with which x passes a test, or past them all where there is none
+pub record IsLeastSecond (test : ℕ → ℕ → Bool) (events x y : ℕ) : Type 0 where
+  pub none_below : (z : ℕ) → IsTrue (test x z) → y ≤ z
+  pub itself : y < events → IsTrue (test x y)
+
+-- For each event y the last event that passes a test with it. For each number s the least event with
+-- which an event passes that is not below s; or the number of events, where there is none.
+pub record AreMarks (test : ℕ → ℕ → Bool) (events : ℕ) (last least : List ℕ) : Type 0 where
+  pub lasts : length last ≡ events
+  pub leasts : length least ≡ events + 1
+  pub end : (x y : ℕ) → IsTrue (test x y) → (x ≤ get_or last y 0) × IsTrue (test (get_or last y 0) y)
+  pub none_below : (s x y : ℕ) → s ≤ x → IsTrue (test x y) → get_or least s 0 ≤ y
+  pub itself : (s : ℕ) → s ≤ events → get_or least s 0 < events
+      → (x : ℕ) × (s ≤ x) × IsTrue (test x (get_or least s 0))

@@ -1,0 +1,15 @@
+-- Which races of a chart are asked for, as contracts see it.
+use Rattle.std.specs.Prelude.{Bool}
+use Rattle.msc_race.specs.Wired.{EnforcedChart}
+use Rattle.msc_reason.specs.declared.kinds.KindSet.{KindSet}
+
+-- a chart under an architecture, the kinds that are left out, and whether the closest races alone are
+-- listed
+pub record Selected : Type 0 where
+  pub judged : EnforcedChart
+  pub allowed : KindSet
+  pub closest : Bool
+
+-- these three
+abbrev pub selected : EnforcedChart → KindSet → Bool → Selected
+selected judged allowed closest = record { judged = judged; allowed = allowed; closest = closest }

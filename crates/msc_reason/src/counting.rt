@@ -1,0 +1,79 @@
+//! Which races count, event by event.
+
+ghost use Rattle.std.specs.Prelude.{◌≡◌, ◌+◌, ◌<◌, ◌++◌, length, OnOk};
+ghost use Rattle.std.specs.List.{filter};
+ghost use Rattle.msc_chart.specs.Charts.{IsSegmentEnd};
+ghost use Rattle.msc_chart.specs.Orders.{IsRace};
+ghost use Rattle.msc_race.specs.Views.{wiring_of, AreRacesOf};
+ghost use Rattle.msc_race.specs.Walks.{HasReached};
+ghost use Rattle.msc_reason.specs.Counting.{counts};
+ghost use Rattle.msc_reason.specs.Marked.{counted_from, lack_in};
+
+use crate::kinds::KindSet;
+use crate::lacking::kind_of;
+use msc_chart::Event;
+use msc_race::{Enforced, Walk};
+use std::alloc::AllocError;
+
+/// Whether a race is of none of the kinds that are left out. Where there are none of these, its
+/// kind is not looked for. It takes no memory.
+pub fn counts(enforced: &Enforced, allowed: KindSet, race: (Event, Event)) -> bool
+    requires { IsRace (wiring_of enforced.now) race.0 race.1 }
+    ensures { result ≡ counts allowed (lack_in enforced.now) race }
+{
+    if allowed.is_empty() {
+        return true;
+    }
+    enforced.enforced();
+    let kind = kind_of(
+        enforced.chart(),
+        enforced.queues(),
+        enforced.order(),
+        race.0,
+        race.1,
+    );
+    !allowed.has(kind)
+}
+
+/// Appends those of these races that count.
+fn push_counting(
+    list: &mut Vec<(Event, Event)>,
+    enforced: &Enforced,
+    allowed: KindSet,
+    races: &[(Event, Event)],
+) -> Result<(), AllocError>
+    requires { AreRacesOf enforced.now races.now }
+    ensures { OnOk result (list.new.items
+        ≡ list.old.items ++ filter (counts allowed (lack_in enforced.now)) races.now) }
+{
+    for race in races {
+        if counts(enforced, allowed, *race) {
+            list.push(*race)?;
+        }
+    }
+    Ok(())
+}
+
+/// Goes on to event `e` of a walk: the list has its races that count then. `room` is for all of its
+/// races. An error is a growth of memory that was refused.
+pub(crate) fn next_counting(
+    walk: &mut Walk,
+    list: &mut Vec<(Event, Event)>,
+    room: &mut Vec<(Event, Event)>,
+    enforced: &Enforced,
+    allowed: KindSet,
+    e: Event,
+) -> Result<(), AllocError>
+    requires known { e < length enforced.now.chart.events }
+    requires reached { HasReached enforced.now.chart.events e walk.old }
+    ensures reached { HasReached enforced.now.chart.events (e + 1) walk.new }
+    ensures segment { IsSegmentEnd enforced.now.chart.events e walk.new.segment_end }
+    ensures list { OnOk result (list.new.items ≡ counted_from enforced.now allowed e) }
+{
+    if allowed.is_empty() {
+        return enforced.next_races(walk, list, e);
+    }
+    enforced.next_races(walk, room, e)?;
+    list.clear();
+    push_counting(list, enforced, allowed, room.as_slice())
+}

@@ -1,0 +1,123 @@
+//! Where the races that count begin and end, noted once for all events.
+//!
+//! Of the races of an event, another one stands within each but those that end first. Of these, one
+//! that begins later stands within it where it ends in the same event, or ends before it.
+
+ghost use Rattle.std.specs.Prelude.{◌≡◌, ◌⊎◌, ℕ, ◌+◌, ◌<◌, ◌≤◌, cond, get_or, length, nat_eq, IfOk};
+ghost use Rattle.std.specs.Prelude.{IsTrue};
+ghost use Rattle.std.specs.List.{list_any, All};
+ghost use Rattle.msc_chart.specs.Charts.{IsSegmentEnd};
+ghost use Rattle.msc_chart.specs.Lists.{Occurs};
+ghost use Rattle.msc_reason.specs.Counting.{counting, is_within};
+ghost use Rattle.msc_reason.specs.Marked.{is_counted, lack_in, AreMarks, IsLeastSecond};
+
+use crate::counting::next_counting;
+use crate::kinds::KindSet;
+use msc_chart::Event;
+use msc_race::{Enforced, Walk};
+use std::alloc::{AllocError, Global};
+
+/// Where the races that count begin and end.
+#[derive(Drop)]
+pub(crate) struct Marks {
+    /// For each event the last one with which a race that counts ends in it.
+    pub last: Vec<Event>,
+    /// For each number the least event in which a race that counts ends whose first event is not
+    /// below the number; the number of events where there is none.
+    pub least: Vec<Event>,
+}
+
+/// Notes `e` for the second event of each of these races.
+fn mark_seconds(last: &mut Vec<Event>, races: &[(Event, Event)], e: Event)
+    requires { All (λ p. p.1 < length last.old.items) races.now }
+    ensures size { length last.new.items ≡ length last.old.items }
+    ensures marked { (y : ℕ) → get_or last.new.items y 0
+        ≡ cond (list_any (λ p. nat_eq p.1 y) races.now) e (get_or last.old.items y 0) }
+{
+    for race in races {
+        last[race.1 as usize] = e;
+    }
+}
+
+/// The least second event of these races, or `none` where that is less or there is none.
+pub(crate) fn least_second(races: &[(Event, Event)], none: Event) -> Event
+    ensures none_below { All (λ p. result ≤ p.1) races.now }
+    ensures itself { (result ≡ none) ⊎ ((x : ℕ) × Occurs races.now (x, result)) }
+{
+    let mut least = none;
+    for race in races {
+        least = least.min(race.1);
+    }
+    least
+}
+
+/// For each number the least of what stands there and behind.
+fn sink_least(least: &mut Vec<Event>)
+    ensures size { length least.new.items ≡ length least.old.items }
+    ensures none_below { (s x : ℕ) → s ≤ x → x < length least.old.items
+        → get_or least.new.items s 0 ≤ get_or least.old.items x 0 }
+    ensures itself { (s : ℕ) → s < length least.old.items
+        → (x : ℕ) × (s ≤ x) × (x < length least.old.items)
+        × (get_or least.new.items s 0 ≡ get_or least.old.items x 0) }
+{
+    let size = least.len();
+    for k in 1..size {
+        let s = size - 1 - k;
+        least[s] = least[s].min(least[s + 1]);
+    }
+}
+
+impl Marks {
+    /// Where the races of a chart that count begin and end. An error is a growth of memory that was
+    /// refused.
+    pub fn of(alloc: Global, enforced: &Enforced, allowed: KindSet) -> Result<Marks, AllocError>
+        ensures { IfOk result (λ marks. AreMarks (is_counted enforced.now allowed)
+            (length enforced.now.chart.events) marks.last.items marks.least.items) }
+    {
+        let events = enforced.events();
+        let mut last = vec![in alloc; 0; events as usize]?;
+        let mut least = vec![in alloc; events; events as usize + 1]?;
+        let mut list = Vec::new(alloc);
+        let mut room = Vec::new(alloc);
+        let mut walk = Walk::new();
+        for e in 0..events {
+            next_counting(&mut walk, &mut list, &mut room, enforced, allowed, e)?;
+            mark_seconds(&mut last, list.as_slice(), e);
+            least[e as usize] = least_second(list.as_slice(), events);
+        }
+        sink_least(&mut least);
+        Ok(Marks { last, least })
+    }
+
+    /// Whether another race that counts stands within one that does: `first` is the least event in
+    /// which one of its first event ends, and `end` the number past the segment of that.
+    pub fn has_within(
+        &self,
+        enforced: &Enforced,
+        allowed: KindSet,
+        first: Event,
+        end: Event,
+        race: (Event, Event),
+    ) -> bool
+        requires marks { AreMarks (is_counted enforced.now allowed)
+            (length enforced.now.chart.events) self.now.last.items self.now.least.items }
+        requires race { IsTrue (is_counted enforced.now allowed race.0 race.1) }
+        requires first { IsLeastSecond (is_counted enforced.now allowed)
+            (length enforced.now.chart.events) race.0 first }
+        requires end { IsSegmentEnd enforced.now.chart.events race.0 end }
+        ensures { result ≡ list_any (is_within enforced.now.chart.events race)
+            (counting enforced.now allowed (lack_in enforced.now)) }
+    {
+        enforced.enforced();
+        let chart = enforced.chart();
+        let (e, f) = race;
+        if chart.before(first, f) {
+            return true;
+        }
+        let least = self.least[end as usize];
+        if least < chart.events() && chart.before(least, f) {
+            return true;
+        }
+        chart.before(e, self.last[f as usize])
+    }
+}

@@ -1,4 +1,0 @@
-use Rattle.msc_report.proofs.fault.FaultFromParseFault.from.Goals as goal
-
-pub returns-in-Memory : goal.returns-in-Memory
-returns-in-Memory c = rw c.in-Memory.is

@@ -1,0 +1,30 @@
+//! Laws of inputs and texts, over the definitions alone. A caller calls one to rest its own proof
+//! on the law.
+
+ghost use Rattle.std.specs.Prelude.{◌≡◌, ◌+◌};
+ghost use Rattle.msc_source.specs.Inputs.{WhatIsReadTellsTheInput};
+ghost use Rattle.msc_source.specs.Reading.{DraftsAreReadInOneWay, TextsAreReadInOneWay};
+
+use crate::{BYTE_LIMIT, CALL_LIMIT};
+use msc_lexer::TEXT_LIMIT;
+use msc_parser::laws::one_parsing;
+
+/// A text is read in one way: what is said of it is answered, unless memory runs out.
+pub fn texts_are_read_in_one_way()
+    ensures charts { TextsAreReadInOneWay }
+    ensures drafts { DraftsAreReadInOneWay }
+{
+    one_parsing();
+}
+
+/// What is read of an input has the drafts and the faults of all its bytes, however many they are.
+pub fn what_is_read_tells_the_input()
+    ensures { WhatIsReadTellsTheInput }
+{}
+
+/// Of an input are read as many bytes as a text may have and one, by so many calls at most.
+pub fn limits_of_reading()
+    ensures bytes { BYTE_LIMIT ≡ TEXT_LIMIT + 1 }
+    ensures number { BYTE_LIMIT ≡ 1048577 }
+    ensures calls { CALL_LIMIT ≡ 2097152 }
+{}

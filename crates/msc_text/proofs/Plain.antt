@@ -1,0 +1,85 @@
+-- What is asked for a verdict is printed as the verdict and its races.
+use Rattle.std.proofs.Common.{◌≡◌, zero, suc, ℕ, ◌+◌, ◌<◌, ◌≤◌, Bool, true, false, cond, not, nat_eq, nat_lt, List, [], ◌∷◌, ◌++◌, None, Some, length, take, drop, refl, sym, ap, ap₂, ◌∙◌, append_assoc, arith}
+use Rattle.std.specs.List.{filter, flat_map}
+use Rattle.std.proofs.lemmas.Bool.{and_from, le-ltb, lt-ltb}
+use Rattle.std.proofs.lemmas.List.{append-nil, take_all}
+use Rattle.std.proofs.Math.Seq.{drop-nil, take-nil}
+use Rattle.msc_chart.specs.declared.queue.Queues.{Queues}
+use Rattle.msc_chart.specs.Drawings.{Drawing}
+use Rattle.msc_race.specs.Races.{verdict_of}
+use Rattle.msc_race.specs.Views.{races_of}
+use Rattle.msc_race.specs.Wired.{EnforcedChart}
+use Rattle.msc_reason.proofs.Filtered.{filter_all}
+use Rattle.msc_reason.specs.Counting.{counting, counts, is_alone, is_listed, listed}
+use Rattle.msc_reason.specs.Kinds.{has_kind}
+use Rattle.msc_reason.specs.declared.lack.Lack.{Lack}
+use Rattle.msc_reason.specs.declared.lack.RaceKind.{RaceKind}
+use Rattle.msc_reason.specs.declared.lack.RaceKind.TheVariants.{Early, Queues as TwoQueues, Unordered, Overtaken}
+use Rattle.msc_judge.specs.Findings.{answer_text, findings_from, shown_text as finding_shown, Tables}
+use Rattle.msc_judge.specs.declared.question.Question.{Question}
+use Rattle.msc_report.specs.Lines.{finding_text}
+use Rattle.msc_report.specs.Verdicts.{head_text, race_text, run_line}
+use Rattle.msc_text.proofs.Shown.{race_and_run}
+use Rattle.msc_text.proofs.Told.{checked_told}
+use Rattle.msc_text.specs.Checking.{checked_text, races_text, shown_text, unshown_text}
+use Rattle.msc_text.specs.Judging.{texts_in}
+use Rattle.msc_text.specs.Plain.{no_kind}
+use Rattle.msc_text.specs.declared.judging.Format.TheVariants.{Lines}
+
+-- each race counts, where no kind is left out
+all_count : (lacks : ℕ → ℕ → Lack) (p : ℕ × ℕ) → counts no_kind lacks p ≡ true
+all_count lacks p = by (lacks p.0 p.1).kind
+  where
+    -- no kind is one of none
+    by : (kind : RaceKind) → not (has_kind no_kind kind) ≡ true
+    by Early = refl
+    by TwoQueues = refl
+    by Unordered = refl
+    by Overtaken = refl
+
+-- so all races do
+pub counting_all : (e : EnforcedChart) (lacks : ℕ → ℕ → Lack) → counting e no_kind lacks ≡ races_of e
+counting_all e lacks = filter_all (counts no_kind lacks) (races_of e) (all_count lacks)
+
+-- and all are listed
+listed_all : (e : EnforcedChart) (lacks : ℕ → ℕ → Lack) → listed e no_kind false lacks ≡ races_of e
+listed_all e lacks = filter_all (is_listed e no_kind false lacks) (races_of e) (λ p. and_from (counts no_kind lacks p) _ (all_count lacks p) refl)
+
+-- there are as many findings
+found_all : (lacks : ℕ → ℕ → Lack) (n : ℕ) (pairs : List (ℕ × ℕ)) → length (findings_from false lacks n pairs) ≡ length pairs
+found_all lacks n [] = refl
+found_all lacks n (p ∷ pairs) = ap suc (found_all lacks (n + 1) pairs)
+
+module _ (d : Drawing) (runs : ℕ → List ℕ) (show : ℕ) (lacks : ℕ → ℕ → Lack) where
+  -- the text of these races as findings, numbered from here on
+  abbrev found : ℕ → List (ℕ × ℕ) → List ℕ
+  found n pairs = flat_map (finding_shown (finding_text d) (λ run. run_line (Some run)) show runs) (findings_from false lacks n pairs)
+
+  -- past the first, without runs
+  found_unshown : (n : ℕ) (pairs : List (ℕ × ℕ)) → show ≤ n → found n pairs ≡ unshown_text d pairs
+  found_unshown n [] past = refl
+  found_unshown n (p ∷ pairs) past =
+      rw (le-ltb n show past) (ap₂ (λ (s t : List ℕ). s ++ t) (append-nil (race_text d p.0 p.1 None)) (found_unshown (n + 1) pairs (omega (arith, past))))
+
+  -- the first with their runs
+  pub found_races : (n k : ℕ) (pairs : List (ℕ × ℕ)) → show ≡ n + k → found n pairs ≡ races_text d runs k pairs
+  found_races n k [] is = rw (take-nil k, drop-nil k) refl
+  found_races n zero (p ∷ pairs) is = found_unshown n (p ∷ pairs) (omega (arith, is))
+  found_races n (suc k) (p ∷ pairs) is =
+      let less : n < show = omega (arith, is) in
+      rw (lt-ltb n show less) (ap₂ (λ (s t : List ℕ). s ++ t) (race_and_run d p.0 p.1 (runs p.0)) (found_races (n + 1) k pairs (omega (arith, is)))
+      ∙ sym (append_assoc (race_text d p.0 p.1 (Some (runs p.0))) (shown_text d runs (take k pairs)) (unshown_text d (drop k pairs))))
+
+-- so what is asked for a verdict is printed as it
+pub plain_text : (e : EnforcedChart) (most show : ℕ) (t : Tables) → length (races_of e) ≤ most
+    → answer_text (texts_in Lines e.chart) e (record { closest = false; why = false; allowed = no_kind; most = most; show = show }) t
+    ≡ checked_text e.chart e.queues t.runs show (verdict_of (races_of e))
+plain_text e most show t few =
+    let listed_is = listed_all e t.lacks in
+    let long = found_all t.lacks 0 (races_of e) in
+    let first = ap (λ (l : List (ℕ × ℕ)). take most (findings_from false t.lacks 0 l)) listed_is
+    ∙ take_all most (findings_from false t.lacks 0 (races_of e)) (omega (arith, few, long)) in
+    ap₂ (λ (s r : List ℕ). s ++ r) (append-nil (head_text e.chart e.queues (length (races_of e))))
+    (append-nil _ ∙ ap (flat_map (finding_shown (finding_text e.chart) (λ run. run_line (Some run)) show t.runs)) first
+    ∙ found_races e.chart t.runs show t.lacks 0 show (races_of e) (omega arith))
+    ∙ checked_told e.chart e.queues t.runs show (races_of e) (length (races_of e)) _ refl refl

@@ -1,0 +1,12 @@
+-- What is asked for a verdict.
+use Rattle.std.specs.Prelude.{ℕ, true, false}
+use Rattle.msc_reason.specs.declared.kinds.KindSet.{KindSet}
+use Rattle.msc_judge.specs.declared.question.Question.{Question}
+
+-- no kind
+abbrev pub no_kind : KindSet
+no_kind = record { early = false; queues = false; unordered = false; overtaken = false }
+
+-- all races, so many of them with runs
+abbrev pub plain : ℕ → Question
+plain show = record { closest = false; why = false; allowed = no_kind; most = 4294967295; show = show }
