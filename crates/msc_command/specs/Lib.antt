@@ -1,5 +1,8 @@
 -- what is promised
-pub mod Commands
-pub mod Forms
-pub mod Program
 pub mod Words
+pub mod Grammar
+pub mod Asking
+pub mod Formats
+pub mod Ending
+pub mod Answering
+pub mod Program

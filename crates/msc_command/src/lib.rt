@@ -4,8 +4,11 @@
 //! library that reads command lines.
 #![tactic(auto)]
 
-mod commands;
+mod answering;
+mod ending;
+mod grammar;
 mod program;
+mod tasks;
 mod words;
 
 pub use program::{command, refuse_words};

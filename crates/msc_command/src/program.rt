@@ -1,203 +1,32 @@
-//! What the program does, and how it ends.
+//! What the program does with its words.
 
-ghost use Rattle.std.specs.Prelude.{◌≡◌, ◌≢◌, ◌⊎◌, codes, map, IfErr, IfOk, List, OnOk, ℕ};
-ghost use Rattle.std.specs.Io.KnownBytes.{Appends};
+ghost use Rattle.std.specs.Prelude.{◌≡◌, ◌≢◌, ◌⊎◌, codes, map, IfErr, IfOk, MatchOption};
 ghost use Rattle.std.specs.IoError.{error_kind};
 ghost use Rattle.std.specs.declared.io.ErrorKind.TheVariants.{OutOfMemory};
 ghost use Rattle.std.specs.String.{string_bytes};
 ghost use Rattle.clap.specs.Words.{found_of, kind_of};
-ghost use Rattle.msc_command.specs.Program.{ends_as, refusal_line, status_code, status_of};
-ghost use Rattle.msc_command.specs.Program.{EndsUsage};
-ghost use Rattle.msc_command.specs.Program.{FollowsWords, IsUnanswered, LeavesInput, Obeys};
-ghost use Rattle.msc_command.specs.Program.{ObeysMatches};
-ghost use Rattle.msc_command.specs.Program.{PrintsUnfinished, TellsAnswer, TellsRaces};
-ghost use Rattle.msc_command.specs.Program.{WritesAnswer};
-ghost use Rattle.msc_command.specs.declared.program.Status.{Status};
-ghost use Rattle.msc_report.specs.Texts.{fault_line};
+ghost use Rattle.msc_command.specs.Answering.{Performs};
+ghost use Rattle.msc_command.specs.Ending.{status_code};
+ghost use Rattle.msc_command.specs.Program.{EndsUsage, FollowsWords, IsFileText, IsNamed};
+ghost use Rattle.msc_command.specs.Program.{IsNamedVainly, LeavesInput, Obeys, ObeysMatches};
+ghost use Rattle.msc_command.specs.Program.{Tells, TellsAnswer};
+ghost use Rattle.msc_command.specs.declared.ending.Status.{Status};
+ghost use Rattle.msc_command.specs.declared.ending.Status.TheVariants.{Races, Unfinished};
 ghost use Rattle.msc_source.specs.Inputs.{IsReadFrom};
 
-use crate::commands::{architectures, forms, grammar, kinds};
-use crate::words::{Task, file_of, task_of};
+use crate::answering::perform;
+use crate::ending::{Refusal, Status, end_refused, end_with};
+use crate::grammar::{Lists, grammar};
+use crate::tasks::{Task, file_of, task_of};
+use crate::words::Verb;
 use clap::{ArgMatches, Error};
-use msc_instance::AlwaysOpen;
-use msc_report::{Fault, PairFault, write_fault, write_pair_fault};
-use msc_source::{ReadFault, read_all};
-use msc_study::{Explained, explain_text};
-use msc_text::{judge_text, passes_text};
-use msc_tool::{read_text, run_text};
+use msc_report::Fault;
 use std::alloc::{AllocError, Global};
 use std::io::{ErrorKind, Read, Write};
 use std::rt::Files;
 use std::sync::Wait;
 use std::thread::Threads;
 use std::{fs, io};
-
-/// How a run of the program ended.
-#[derive(Clone, Copy)]
-enum Status {
-    /// The chart has no race that counts, or the pair is enforced, or each instance that was run
-    /// has finished, and the answer was written, where one is wanted.
-    Done,
-    /// The chart has races that count, or the pair is not enforced, and the answer was written,
-    /// where one is wanted.
-    Races,
-    /// The text or the pair was refused, or the words are no command.
-    Refused,
-    /// The answer was written: some instance has not finished.
-    Unfinished,
-    /// Memory, a device or the start of a thread failed.
-    Failed,
-}
-
-impl Status {
-    /// The exit status of the program.
-    fn code(self) -> u8
-        ensures { result ≡ status_code self }
-    {
-        match self {
-            Status::Done => 0,
-            Status::Races => 1,
-            Status::Refused => 2,
-            Status::Unfinished => 3,
-            Status::Failed => 4,
-        }
-    }
-}
-
-/// Why a task has no answer.
-#[derive(Clone, Copy)]
-enum Refusal {
-    /// A fault was met.
-    Fault(Fault),
-    /// The numbers are no two events of the chart.
-    Pair(PairFault),
-}
-
-impl From<Fault> for Refusal {
-    ghost use Rattle.msc_command.specs.declared.program.Refusal.{Refusal};
-
-    ghost from_gives = { λ fault refusal. refusal ≡ Refusal.Fault fault };
-
-    fn from(fault: Fault) -> Refusal {
-        Refusal::Fault(fault)
-    }
-}
-
-impl From<ReadFault> for Refusal {
-    ghost use Rattle.msc_command.specs.declared.program.Refusal.{Refusal};
-    ghost use Rattle.msc_report.specs.Refusals.{of_reading};
-
-    ghost from_gives = { λ fault refusal. refusal ≡ Refusal.Fault (of_reading fault) };
-
-    fn from(fault: ReadFault) -> Refusal {
-        Refusal::Fault(fault.into())
-    }
-}
-
-/// How a run ends that meets a fault.
-fn status_of(fault: Fault) -> Status
-    ensures { result ≡ status_of fault }
-{
-    match fault {
-        Fault::Parse(_) | Fault::Chart(_) => Status::Refused,
-        Fault::NotStarted(_) | Fault::Memory | Fault::Device => Status::Failed,
-    }
-}
-
-/// Writes a fault's line, and tells how the run ended, and whether the line went out.
-fn end_with<E: Write>(faults: &mut E, fault: Fault) -> (Status, io::Result<()>)
-    ensures status { result.0 ≡ status_of fault }
-    ensures line { OnOk result.1
-        (Appends (E.contents faults.old) (E.contents faults.new) (fault_line fault)) }
-{
-    let told = write_fault(faults, &fault);
-    (status_of(fault), told)
-}
-
-/// Writes the line of a refusal, and tells how the run ended, and whether the line went out.
-fn end_refused<E: Write>(faults: &mut E, refusal: Refusal) -> (Status, io::Result<()>)
-    ensures status { result.0 ≡ ends_as refusal }
-    ensures line { OnOk result.1
-        (Appends (E.contents faults.old) (E.contents faults.new) (refusal_line refusal)) }
-{
-    match refusal {
-        Refusal::Fault(fault) => end_with(faults, fault),
-        Refusal::Pair(fault) => {
-            let told = write_pair_fault(faults, fault);
-            (Status::Refused, told)
-        }
-    }
-}
-
-/// Writes the answer of a task to the text of a file of this name.
-fn answer<R: Threads + Wait + Sync, O: Write>(
-    rt: &R,
-    alloc: Global,
-    task: Task,
-    file: &str,
-    text: &[u8],
-    output: &mut O,
-) -> Result<Status, Refusal>
-    ensures written { IfOk result (λ status. WritesAnswer task file.now text.now status
-        (O.contents output.old) (O.contents output.new)) }
-    ensures refused { IfErr result (λ refusal. IsUnanswered task (λ t. t ≡ text.now) refusal
-        (O.contents output.old) (O.contents output.new)) }
-{
-    match task {
-        Task::Read => {
-            read_text(alloc, text, output)?;
-            Ok(Status::Done)
-        }
-        Task::Check(queues, question, form) => {
-            match judge_text(alloc, text, queues, question, form.format(file), output)? {
-                true => Ok(Status::Done),
-                false => Ok(Status::Races),
-            }
-        }
-        Task::Judge(queues, allowed) => match passes_text(alloc, text, queues, allowed)? {
-            true => Ok(Status::Done),
-            false => Ok(Status::Races),
-        },
-        Task::Explain(queues, e, f) => {
-            match explain_text(alloc, text, queues, e, f, output)? {
-                Explained::Enforced => Ok(Status::Done),
-                Explained::Free => Ok(Status::Races),
-                Explained::Refused(fault) => Err(Refusal::Pair(fault)),
-            }
-        }
-        Task::Run(queues, patience) => {
-            match run_text(rt, alloc, text, queues, &AlwaysOpen, patience, output)? {
-                true => Ok(Status::Done),
-                false => Ok(Status::Unfinished),
-            }
-        }
-    }
-}
-
-/// Does a task over an input, which is read once, the text of a file of this name. The whole answer
-/// goes out before it is told.
-fn perform<R: Threads + Wait + Sync, I: Read, O: Write>(
-    rt: &R,
-    alloc: Global,
-    task: Task,
-    file: &str,
-    input: &mut I,
-    output: &mut O,
-) -> Result<Status, Refusal>
-    ensures written { IfOk result (λ status. (text : List ℕ)
-        × IsReadFrom (I.remaining input.old) (I.remaining input.new) text
-        × WritesAnswer task file.now text status (O.contents output.old) (O.contents output.new)) }
-    ensures refused { IfErr result (λ refusal. IsUnanswered task
-        (IsReadFrom (I.remaining input.old) (I.remaining input.new)) refusal
-        (O.contents output.old) (O.contents output.new)) }
-{
-    let text = read_all(alloc, input)?;
-    let status = answer(rt, alloc, task, file, text.as_slice(), output)?;
-    match output.flush() {
-        Ok(()) => Ok(status),
-        Err(_) => Err(Refusal::Fault(Fault::Device)),
-    }
-}
 
 /// Does a task over a file, or over `input` where it is `-`.
 fn perform_on<R: Files + Threads + Wait + Sync, I: Read, O: Write>(
@@ -208,12 +37,9 @@ fn perform_on<R: Files + Threads + Wait + Sync, I: Read, O: Write>(
     input: &mut I,
     output: &mut O,
 ) -> Result<Status, Refusal>
-    ensures written { IfOk result (λ status. (text : List ℕ)
-        × (file.now ≡ codes "-" → IsReadFrom (I.remaining input.old) (I.remaining input.new) text)
-        × WritesAnswer task file.now text status (O.contents output.old) (O.contents output.new)) }
-    ensures refused { IfErr result (λ refusal. IsUnanswered task (λ text. file.now ≡ codes "-"
+    ensures performed { Performs O.contents task file.now (λ text. file.now ≡ codes "-"
         → IsReadFrom (I.remaining input.old) (I.remaining input.new) text)
-        refusal (O.contents output.old) (O.contents output.new)) }
+        result output.old output.new }
     ensures apart { file.now ≢ codes "-" → input.new ≡ input.old }
 {
     if file == "-" {
@@ -227,9 +53,8 @@ fn perform_on<R: Files + Threads + Wait + Sync, I: Read, O: Write>(
 
 /// Writes what `clap` says of words that are no command, or the help that they ask for.
 fn tell_usage<O: Write, E: Write>(output: &mut O, faults: &mut E, error: &Error) -> Status
-    ensures told { TellsAnswer result (O.contents output.old) (O.contents output.new) }
-    ensures ends { EndsUsage (kind_of error.now) result
-        (O.contents output.old) (O.contents output.new) }
+    ensures told { TellsAnswer O.contents result output.old output.new }
+    ensures ends { EndsUsage (kind_of error.now) result output.old output.new }
 {
     if error.kind() == clap::error::ErrorKind::OutOfMemory {
         return end_with(faults, Fault::Memory).0;
@@ -244,22 +69,30 @@ fn tell_usage<O: Write, E: Write>(output: &mut O, faults: &mut E, error: &Error)
     }
 }
 
-/// Does what the words of a command ask for, and tells how the run ended.
+/// What the words behind a command ask for, if they name it and are all there.
+fn task_named(name: &str, words: &ArgMatches) -> Option<Task>
+    ensures { MatchOption result (IsNamedVainly name.now (found_of words.now))
+        (IsNamed name.now (found_of words.now)) }
+{
+    task_of(Verb::of(name)?, words)
+}
+
+/// Does what the words behind a command ask for, and tells how the run ended.
 fn obey<R: Files + Threads + Wait + Sync, I: Read, O: Write, E: Write>(
     rt: &R,
     alloc: Global,
-    command: &str,
+    name: &str,
     words: &ArgMatches,
     input: &mut I,
     output: &mut O,
     faults: &mut E,
 ) -> Status
-    ensures obeyed { Obeys command.now (found_of words.now) result (I.remaining input.old)
-        (I.remaining input.new) (O.contents output.old) (O.contents output.new) }
-    ensures apart { LeavesInput (found_of words.now) (I.remaining input.old)
-        (I.remaining input.new) }
+    ensures obeyed { Obeys O.contents name.now (found_of words.now) result
+        (IsFileText (found_of words.now) (I.remaining input.old) (I.remaining input.new))
+        output.old output.new }
+    ensures apart { LeavesInput (found_of words.now) input.old input.new }
 {
-    let Some(task) = task_of(command, words) else {
+    let Some(task) = task_named(name, words) else {
         return Status::Refused;
     };
     let file = file_of(words);
@@ -278,12 +111,12 @@ fn obey_matches<R: Files + Threads + Wait + Sync, I: Read, O: Write, E: Write>(
     output: &mut O,
     faults: &mut E,
 ) -> Status
-    ensures told { TellsAnswer result (O.contents output.old) (O.contents output.new) }
-    ensures obeyed { ObeysMatches matches.now result (I.remaining input.old) (I.remaining input.new)
-        (O.contents output.old) (O.contents output.new) }
+    ensures told { TellsAnswer O.contents result output.old output.new }
+    ensures obeyed { ObeysMatches I.remaining O.contents matches.now result
+        input.old input.new output.old output.new }
 {
     match matches.subcommand() {
-        Some((command, words)) => obey(rt, alloc, command, words, input, output, faults),
+        Some((name, words)) => obey(rt, alloc, name, words, input, output, faults),
         None => Status::Refused,
     }
 }
@@ -298,22 +131,13 @@ fn run<R: Files + Threads + Wait + Sync, I: Read, O: Write, E: Write>(
     output: &mut O,
     faults: &mut E,
 ) -> Result<Status, AllocError>
-    ensures told { IfOk result (λ status.
-        TellsAnswer status (O.contents output.old) (O.contents output.new)) }
-    ensures followed { IfOk result (λ status. FollowsWords (map string_bytes words.now) status
-        (I.remaining input.old) (I.remaining input.new)
-        (O.contents output.old) (O.contents output.new)) }
-    ensures unknown { IfErr result (λ _. O.contents output.new ≡ O.contents output.old) }
+    ensures told { IfOk result (λ status. TellsAnswer O.contents status output.old output.new) }
+    ensures followed { IfOk result (λ status. FollowsWords I.remaining O.contents
+        (map string_bytes words.now) status input.old input.new output.old output.new) }
+    ensures unknown { IfErr result (λ _. output.new ≡ output.old) }
 {
-    let architectures = architectures(alloc)?;
-    let kinds = kinds(alloc)?;
-    let forms = forms(alloc)?;
-    let command = grammar(
-        alloc,
-        architectures.alternatives(),
-        kinds.alternatives(),
-        forms.alternatives(),
-    )?;
+    let lists = Lists::of(alloc)?;
+    let command = grammar(alloc, lists.choices())?;
     match command.try_get_matches_from(words) {
         Ok(matches) => Ok(obey_matches(rt, alloc, &matches, input, output, faults)),
         Err(error) => Ok(tell_usage(output, faults, &error)),
@@ -362,14 +186,12 @@ pub fn command<R: Files + Threads + Wait + Sync, I: Read, O: Write, E: Write>(
     faults: &mut E,
 ) -> u8
     ensures status { (result ≡ 0) ⊎ (result ≡ 1) ⊎ (result ≡ 2) ⊎ (result ≡ 3) ⊎ (result ≡ 4) }
-    ensures races { result ≡ 1 → TellsRaces (O.contents output.old) (O.contents output.new) }
-    ensures refused { result ≡ 2 → O.contents output.new ≡ O.contents output.old }
-    ensures unfinished { result ≡ 3
-        → PrintsUnfinished (O.contents output.old) (O.contents output.new) }
+    ensures races { result ≡ 1 → Tells O.contents Races output.old output.new }
+    ensures refused { result ≡ 2 → output.new ≡ output.old }
+    ensures unfinished { result ≡ 3 → Tells O.contents Unfinished output.old output.new }
     ensures followed { (status : Status) × (result ≡ status_code status)
-        × FollowsWords (map string_bytes words.items) status
-        (I.remaining input.old) (I.remaining input.new)
-        (O.contents output.old) (O.contents output.new) }
+        × FollowsWords I.remaining O.contents (map string_bytes words.items) status
+        input.old input.new output.old output.new }
 {
     match run(rt, alloc, words.as_slice(), input, output, faults) {
         Ok(status) => status.code(),

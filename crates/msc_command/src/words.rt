@@ -1,173 +1,255 @@
-//! The words of the command line, and what they ask for.
+//! The commands of the program and the words behind them: each is told here once, for the grammar
+//! of command lines, for what reads them, and for the help.
 
-ghost use Rattle.std.specs.Prelude.{◌≡◌, MatchOption, Some, map};
-ghost use Rattle.clap.specs.Matches.{found_of};
-ghost use Rattle.msc_command.specs.Forms.{IsFormat};
-ghost use Rattle.msc_command.specs.Words.{architecture, file_of, form, names_kind, AreAllowed};
-ghost use Rattle.msc_command.specs.Words.{AsksFor, AsksToCheck, IsEventWord, IsFlag};
-ghost use Rattle.msc_command.specs.Words.{IsOptionNumber};
-ghost use Rattle.msc_command.specs.Words.{LacksEvent, IsNoCommand, IsQuestion};
+ghost use Rattle.std.specs.Prelude.{◌≡◌};
+ghost use Rattle.msc_command.specs.Words.{takes_of, verb_name, verb_of_word, word_name, words_of};
 
-use clap::ArgMatches;
-use msc_chart::{Event, Queues};
-use msc_judge::Question;
-use msc_reason::{KindSet, RaceKind};
-use msc_text::Format;
-
-/// In which form an answer is written.
+/// A command.
 #[derive(Clone, Copy)]
-pub enum Form {
-    /// Text, the verdict and lines for each race.
-    Text,
-    /// One line for each file.
-    Count,
+pub(crate) enum Verb {
+    Read,
+    Check,
+    Explain,
+    Run,
 }
 
-impl Form {
-    /// The format for a file of this name.
-    pub fn format<'f>(self, file: &'f str) -> Format<'f>
-        ensures { IsFormat self file.entry.now result }
+/// A word behind a command: an argument, or an option with what it takes.
+#[derive(Clone, Copy)]
+pub(crate) enum Word {
+    File,
+    Queues,
+    Closest,
+    Why,
+    Most,
+    Show,
+    Allow,
+    Format,
+    Quiet,
+    Patience,
+    FirstEvent,
+    SecondEvent,
+}
+
+/// What a word behind a command is, and takes.
+#[derive(Clone, Copy)]
+pub(crate) enum Takes {
+    /// An argument: the name of a file.
+    File,
+    /// An argument: the number of an event.
+    Event,
+    /// An option that stands alone.
+    Nothing,
+    /// An option that stands alone and has one letter too, `q`.
+    NothingOrQ,
+    /// An option with a number.
+    Number,
+    /// An option with an architecture, which has to stand.
+    Architecture,
+    /// An option with a kind of races, which may stand often.
+    Kinds,
+    /// An option with the form of an answer.
+    Form,
+}
+
+impl Word {
+    /// Its name: that of an argument, or what stands behind `--`.
+    pub fn name(self) -> &'static str
+        ensures { result.now ≡ word_name self }
     {
         match self {
-            Form::Text => Format::Lines,
-            Form::Count => Format::Count(file.as_bytes()),
+            Word::File => "FILE",
+            Word::Queues => "queues",
+            Word::Closest => "closest",
+            Word::Why => "why",
+            Word::Most => "most",
+            Word::Show => "show",
+            Word::Allow => "allow",
+            Word::Format => "format",
+            Word::Quiet => "quiet",
+            Word::Patience => "patience",
+            Word::FirstEvent => "E",
+            Word::SecondEvent => "F",
+        }
+    }
+
+    /// What it is, and takes.
+    pub fn takes(self) -> Takes
+        ensures { result ≡ takes_of self }
+    {
+        match self {
+            Word::File => Takes::File,
+            Word::FirstEvent | Word::SecondEvent => Takes::Event,
+            Word::Closest | Word::Why => Takes::Nothing,
+            Word::Quiet => Takes::NothingOrQ,
+            Word::Most | Word::Show | Word::Patience => Takes::Number,
+            Word::Queues => Takes::Architecture,
+            Word::Allow => Takes::Kinds,
+            Word::Format => Takes::Form,
+        }
+    }
+
+    /// What the help says of it.
+    pub fn help(self) -> &'static str {
+        match self {
+            Word::File => "The chart's text; - is standard input",
+            Word::Queues => {
+                "A queue for each sender and receiver, for each receiver, or for each message"
+            }
+            Word::Closest => "List the closest races alone, and print how many there are",
+            Word::Why => {
+                "Print the kind of each race, and the pair of events that would have to be enforced"
+            }
+            Word::Most => "List the first N races alone",
+            Word::Show => "Print a run for each of the first N races; without it, for all",
+            Word::Allow => {
+                "Leave out the races of this kind, in the list and in the status; may be repeated"
+            }
+            Word::Format => {
+                "Print lines of text, or one line with the number of races; without it, text"
+            }
+            Word::Quiet => "Print nothing; the status tells",
+            Word::Patience => {
+                "End an instance that looked in vain N times in a row; without it, 1000000000"
+            }
+            Word::FirstEvent => "The number of the first event",
+            Word::SecondEvent => "The number of the second event",
         }
     }
 }
 
-/// What the words ask for.
-#[derive(Clone, Copy)]
-pub enum Task {
-    /// The canonical text.
-    Read,
-    /// What is asked of the races under an architecture, in a form.
-    Check(Queues, Question, Form),
-    /// Whether no race counts under an architecture, of none of these kinds, without a text.
-    Judge(Queues, KindSet),
-    /// Why the first of two events comes before the second under an architecture, or how it need
-    /// not.
-    Explain(Queues, Event, Event),
-    /// An execution under an architecture, and how many rounds in a row an instance looks in vain.
-    Run(Queues, u32),
-}
+impl Verb {
+    /// Each command once, in the order of the help.
+    pub const ALL: [Verb; 4] = [Verb::Read, Verb::Check, Verb::Explain, Verb::Run];
 
-/// How many rounds in a row an instance looks for messages in vain, where the words do not say.
-const DEFAULT_PATIENCE: u32 = 1_000_000_000;
+    /// Its name.
+    pub fn name(self) -> &'static str
+        ensures { result.now ≡ verb_name self }
+    {
+        match self {
+            Verb::Read => "read",
+            Verb::Check => "check",
+            Verb::Explain => "explain",
+            Verb::Run => "run",
+        }
+    }
 
-/// The event that an argument names, if it does.
-fn event_of(words: &ArgMatches, name: &str) -> Option<Event>
-    ensures { MatchOption result (LacksEvent (found_of words.now) name.now)
-        (IsEventWord (found_of words.now) name.now) }
-{
-    words.get_one(name)
-}
+    /// The command of a name.
+    pub fn of(name: &str) -> Option<Verb>
+        ensures { result ≡ verb_of_word name.now }
+    {
+        for verb in Verb::ALL {
+            if name == verb.name() {
+                return Some(verb);
+            }
+        }
+        None
+    }
 
-/// The number of an option, and `without` where it does not stand.
-fn number_of(words: &ArgMatches, name: &str, without: u32) -> u32
-    ensures { IsOptionNumber (found_of words.now) name.now without result }
-{
-    words.get_one(name).unwrap_or(without)
-}
+    /// The words behind it, in the order of the help.
+    pub fn words(self) -> &'static [Word]
+        ensures { result.now ≡ words_of self }
+    {
+        match self {
+            Verb::Read => &[Word::File],
+            Verb::Check => &[
+                Word::Queues,
+                Word::Closest,
+                Word::Why,
+                Word::Most,
+                Word::Show,
+                Word::Allow,
+                Word::Format,
+                Word::Quiet,
+                Word::File,
+            ],
+            Verb::Explain => &[
+                Word::Queues,
+                Word::File,
+                Word::FirstEvent,
+                Word::SecondEvent,
+            ],
+            Verb::Run => &[Word::Queues, Word::Patience, Word::File],
+        }
+    }
 
-/// Whether a flag stands.
-fn is_given(words: &ArgMatches, name: &str) -> bool
-    ensures { IsFlag (found_of words.now) name.now result }
-{
-    words.get_flag(name)
-}
+    /// What the help says that it is for.
+    pub fn about(self) -> &'static str {
+        match self {
+            Verb::Read => "Print the chart's canonical text",
+            Verb::Check => "Print whether the chart has races, and for each a run that shows it",
+            Verb::Explain => {
+                "Print why an event comes before another, or a run in which it does not"
+            }
+            Verb::Run => {
+                "Run the chart on threads, and print how each instance ended and the trace"
+            }
+        }
+    }
 
-/// Whether a kind is left out.
-fn is_allowed(words: &[&str], kind: RaceKind) -> bool
-    ensures { result ≡ names_kind (map (λ word. word.now) words.now) kind }
-{
-    words.contains(&kind.word())
-}
-
-/// The kinds that are left out.
-fn allowed_of(words: &ArgMatches) -> KindSet
-    ensures { AreAllowed (found_of words.now) result }
-{
-    let kinds = words.get_strs("allow").unwrap_or(&[]);
-    KindSet {
-        early: is_allowed(kinds, RaceKind::Early),
-        queues: is_allowed(kinds, RaceKind::Queues),
-        unordered: is_allowed(kinds, RaceKind::Unordered),
-        overtaken: is_allowed(kinds, RaceKind::Overtaken),
+    /// What stands below its help.
+    pub fn notes(self) -> &'static str {
+        match self {
+            Verb::Read => READ_NOTES,
+            Verb::Check => CHECK_NOTES,
+            Verb::Explain => EXPLAIN_NOTES,
+            Verb::Run => RUN_NOTES,
+        }
     }
 }
 
-/// What is asked of the races.
-fn question_of(words: &ArgMatches) -> Question
-    ensures { IsQuestion (found_of words.now) result }
-{
-    Question {
-        closest: is_given(words, "closest"),
-        why: is_given(words, "why"),
-        allowed: allowed_of(words),
-        most: number_of(words, "most", u32::MAX),
-        show: number_of(words, "show", u32::MAX),
-    }
-}
+/// What stands below the help of `msc read`.
+const READ_NOTES: &str = "\
+Exit status:
+  0  the canonical text was written
+  2  the text was refused, or the words are no command
+  4  memory ran out, or a file or the output failed
 
-/// The form that the words ask for.
-fn form_of(words: &ArgMatches) -> Form
-    ensures { result ≡ form (found_of words.now) }
-{
-    let Some(word) = words.get_str("format") else {
-        return Form::Text;
-    };
-    if word == "count" {
-        return Form::Count;
-    }
-    Form::Text
-}
+Example:
+  msc read relay.msc";
 
-/// What the words of `msc check` ask for. What is to be quiet is told by the status alone.
-fn checking(queues: Queues, words: &ArgMatches) -> Task
-    ensures { architecture (found_of words.now) ≡ Some queues
-        → AsksToCheck (found_of words.now) result }
-{
-    if is_given(words, "quiet") {
-        return Task::Judge(queues, allowed_of(words));
-    }
-    Task::Check(queues, question_of(words), form_of(words))
-}
+/// What stands below the help of `msc check`.
+const CHECK_NOTES: &str = "\
+A race is closest where nothing is drawn between its two events; every race spans a closest one.
 
-/// The file that the words name.
-pub fn file_of<'w>(words: &'w ArgMatches) -> &'w str
-    ensures { result.now ≡ file_of (found_of words.entry.now) }
-{
-    match words.get_str("FILE") {
-        Some(file) => file,
-        None => "-",
-    }
-}
+Kinds of races:
+  early      the input can come before the output or action that is drawn above it
+  queues     two inputs by two queues
+  unordered  two inputs by one queue, and nothing orders their outputs
+  overtaken  two inputs by one queue, whose outputs come in the other order
 
-/// The architecture that the words name.
-fn queues_of(words: &ArgMatches) -> Option<Queues>
-    ensures { result ≡ architecture (found_of words.now) }
-{
-    Queues::of(words.get_str("queues")?)
-}
+Exit status:
+  0  the chart has no races that count
+  1  the chart has races that count
+  2  the text was refused, or the words are no command
+  4  memory ran out, or a file or the output failed
 
-/// What the words of a command ask for, if they name it.
-pub fn task_of(command: &str, words: &ArgMatches) -> Option<Task>
-    ensures { MatchOption result (IsNoCommand command.now (found_of words.now))
-        (AsksFor command.now (found_of words.now)) }
-{
-    if command == "read" {
-        return Some(Task::Read);
-    }
-    let queues = queues_of(words)?;
-    if command == "run" {
-        return Some(Task::Run(queues, number_of(words, "patience", DEFAULT_PATIENCE)));
-    }
-    if command == "explain" {
-        let e = event_of(words, "E")?;
-        return Some(Task::Explain(queues, e, event_of(words, "F")?));
-    }
-    if command == "check" {
-        return Some(checking(queues, words));
-    }
-    None
-}
+Example:
+  msc check --queues pair --show 1 relay.msc
+  msc check --queues mailbox --closest --why --allow early relay.msc";
+
+/// What stands below the help of `msc explain`.
+const EXPLAIN_NOTES: &str = "\
+Events are numbered from 0, over all lines. The lines of a chain:
+  drawn X Y  Y is an output or an action that is drawn below X
+  sent X Y   Y is the input of X
+  queue X Y  two inputs of one queue, whose outputs come in this order by the chain behind blanks
+
+Exit status:
+  0  E is enforced before F, and why was written
+  1  E is not enforced before F, and a run that has F before E was written
+  2  the text or the pair was refused, or the words are no command
+  4  memory ran out, or a file or the output failed
+
+Example:
+  msc explain --queues mailbox relay.msc 2 3";
+
+/// What stands below the help of `msc run`.
+const RUN_NOTES: &str = "\
+Exit status:
+  0  all instances have finished
+  2  the text was refused, or the words are no command
+  3  some instance has not finished; how each ended was written, and the trace
+  4  memory ran out, a thread could not be started, or a file or the output failed
+
+Example:
+  msc run --queues mailbox relay.msc";

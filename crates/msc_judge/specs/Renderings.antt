@@ -1,13 +1,8 @@
 -- What a renderer may rely on of a finding.
 use Rattle.std.specs.Prelude.{ℕ, ◌<◌, List, length, MatchOption}
 use Rattle.msc_chart.specs.Drawings.{Drawing}
-use Rattle.msc_reason.specs.declared.lack.Lack.{Lack}
+use Rattle.msc_reason.specs.Named.{NamesLack}
 use Rattle.msc_judge.specs.declared.renderer.Finding.{Finding}
-
--- all numbers that a lack names are those of events
-pub record NamesLack (d : Drawing) (lack : Lack) : Type 0 where
-  pub needed : lack.needed < length d.events
-  pub output : lack.output < length d.events
 
 -- all numbers that a finding names are those of events
 pub record NamesEvents (d : Drawing) (f : Finding) : Type 0 where

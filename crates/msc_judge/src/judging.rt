@@ -7,10 +7,11 @@ ghost use Rattle.msc_race.specs.Views.{races_of, wiring_of, AreFrom, AreRacesOf}
 ghost use Rattle.msc_reason.specs.Counting.{listed};
 ghost use Rattle.msc_reason.specs.Kinds.{is_empty};
 ghost use Rattle.msc_reason.specs.Marked.{lack_in};
+ghost use Rattle.msc_reason.specs.Named.{NamesLack};
 ghost use Rattle.msc_reason.specs.Selected.{selected};
 ghost use Rattle.msc_judge.specs.Findings.{finding_of, heading_of, texts, Answers, AreChosen};
 ghost use Rattle.msc_judge.specs.Pages.{Puts};
-ghost use Rattle.msc_judge.specs.Renderings.{NamesEvents, NamesLack};
+ghost use Rattle.msc_judge.specs.Renderings.{NamesEvents};
 ghost use Rattle.msc_judge.specs.Telling.{race_text, told_from};
 
 use crate::page::{Page, WriteFault};

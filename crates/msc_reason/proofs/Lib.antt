@@ -11,3 +11,4 @@ pub mod Marking
 pub mod Sums
 pub mod LacksIn
 pub mod CountingLaws
+pub mod Named

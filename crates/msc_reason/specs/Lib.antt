@@ -9,6 +9,8 @@ pub mod Chains
 pub mod Links
 pub mod Rules
 pub mod Reasons
+pub mod Pairs
+pub mod Named
 pub mod Laws
 -- what the code keeps
 pub mod Ranges

@@ -11,6 +11,7 @@ ghost use Rattle.msc_reason.specs.Laws.{EachRaceHasOneKind};
 ghost use Rattle.msc_reason.specs.Laws.{EveryRaceSpansAClosestRace, RacesAreToldByTheClosest};
 ghost use Rattle.msc_reason.specs.Laws.{RacesEndInInputs, SingleRacesAreOfTwoKinds};
 ghost use Rattle.msc_reason.specs.Laws.{WhatIsOvertakenIsAlwaysReversed};
+ghost use Rattle.msc_reason.specs.Named.{AReasonNamesEvents};
 
 use msc_chart::laws::ends_share_queues;
 
@@ -67,4 +68,10 @@ pub fn every_race_that_counts_spans_a_closest_one()
 {
     each_race_has_one_kind();
     ends_share_queues();
+}
+
+/// A reason that is right names events of the chart alone, so it can be printed.
+pub fn a_reason_names_events()
+    ensures { AReasonNamesEvents }
+{
 }

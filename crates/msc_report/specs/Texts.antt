@@ -11,8 +11,8 @@ use Rattle.msc_chart.specs.declared.fault.ChartFault.{ChartFault}
 use Rattle.msc_chart.specs.declared.fault.ChartFault.TheVariants as charts
 use Rattle.msc_report.specs.declared.fault.Fault.{Fault}
 use Rattle.msc_report.specs.declared.fault.Fault.TheVariants.{Parse, Chart, NotStarted, Memory, Device}
-use Rattle.msc_report.specs.declared.fault.PairFault.{PairFault}
-use Rattle.msc_report.specs.declared.fault.PairFault.TheVariants.{NoEvent, OneEvent}
+use Rattle.msc_reason.specs.declared.pair.PairFault.{PairFault}
+use Rattle.msc_reason.specs.declared.pair.PairFault.TheVariants.{NoEvent, OneEvent}
 
 -- one line of words
 abbrev pub text_line : List ℕ → List ℕ

@@ -38,18 +38,6 @@ pub enum Fault {
     Device,
 }
 
-/// Why two numbers are no two events of a chart. The first that stands is answered, in this order:
-/// the first number is no event, the second is none, both are one event.
-#[derive(Clone, Copy, Debug, PartialEq, Eq, Error)]
-pub enum PairFault {
-    /// No event of the chart has this number.
-    #[error("no event {0}")]
-    NoEvent(u32),
-    /// Both numbers are this one.
-    #[error("{0} and {0} are one event")]
-    OneEvent(u32),
-}
-
 impl From<AllocError> for Fault {
     ghost from_gives = { λ _ e. e ≡ Memory };
 

@@ -12,15 +12,17 @@ mod fault;
 mod lines;
 mod race;
 mod race_line;
+mod reasons;
 mod trace;
 mod verdict;
 mod writing;
 
 pub use counts::Counts;
 pub use event_texts::EventTexts;
-pub use fault::{Fault, PairFault};
+pub use fault::Fault;
 pub use lines::{Lines, write_pair, write_why};
 pub use race::{write_event_at, write_race, write_run};
+pub use reasons::write_explained;
 pub use trace::write_trace;
 pub use verdict::{write_name_line, write_queues_line, write_verdict};
 pub use writing::{write_draft, write_fault, write_pair_fault};

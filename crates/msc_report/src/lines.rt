@@ -7,7 +7,7 @@ ghost use Rattle.msc_report.specs.Fitting.{FitsLines};
 ghost use Rattle.msc_report.specs.Lines.{closest_line, finding_text, heading_text, kind_line};
 ghost use Rattle.msc_report.specs.Lines.{lack_text, left_out_line, pair_line, why_text};
 ghost use Rattle.msc_report.specs.Verdicts.{race_text, run_line};
-ghost use Rattle.msc_judge.specs.Renderings.{NamesLack};
+ghost use Rattle.msc_reason.specs.Named.{NamesLack};
 
 use crate::event_texts::EventTexts;
 use crate::race::{write_event_at, write_race, write_run};

@@ -8,10 +8,11 @@ ghost use Rattle.std.specs.Io.KnownBytes.{Appends};
 ghost use Rattle.msc_report.specs.Texts.{chart_fault_line, fault_line, grammar_line, lexical_line};
 ghost use Rattle.msc_report.specs.Texts.{text_line, numbered, pair_fault_line, placed};
 
-use crate::fault::{Fault, PairFault};
+use crate::fault::Fault;
 use msc_chart::ChartFault;
 use msc_lexer::{LexFault, Word};
 use msc_parser::{ParseFault, What};
+use msc_reason::PairFault;
 use std::io;
 use std::io::Write;
 

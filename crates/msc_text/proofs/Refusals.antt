@@ -53,18 +53,6 @@ module _ (one : OneParsing) (text : List ℕ) where
     comes = λ t h g stands. (Memory, refl, tt);
   }
 
-  -- a text that has a chart is refused for want of memory alone
-  pub chart_refused : (f : SourceFault) → reading.Refuses MscPr text f → (d : Drawing) → IsChartOf text d → of_source f ≡ Memory
-  chart_refused (sources.Parse f) has d is = absurd (one.apart text is.draft f is.has has)
-  chart_refused (sources.Chart f) (t, has, first) d is =
-      absurd (is.faultless f (subst (λ (x : Tree). Stands x f) (one.draft text t is.draft has is.has) first.stands))
-  chart_refused sources.Memory said d is = refl
-
-  -- it has one chart
-  pub one_chart : (c d : Drawing) → IsChartOf text c → IsChartOf text d → c ≡ d
-  one_chart c d is other =
-      is.chart ∙ ap chart_of (one.draft text is.draft other.draft is.has other.has) ∙ sym other.chart
-
   -- where a text has a draft, what is answered of it names no fault of a text
   pub text_drafted : {A : Type 0} (t : Tree) (answer : Result A Fault) → HasDraft text t
       → ((f : ParseFault) → answer ≢ Err (Parse f)) → RefusesText text answer
@@ -93,43 +81,7 @@ pub write_refuses_no_text : {A : Type 0} (w : WriteFault) (f : ParseFault) → �
 write_refuses_no_text {A} writing.Memory f e = cc
 write_refuses_no_text {A} writing.Device f e = cc
 
--- where a text has a draft, no fault of a text is answered
-pub text_stands : {A : Type 0} (text : List ℕ) (answer : Result A Fault) → ((f : ParseFault) → HasParseFault text f → ⊥)
-    → ((f : ParseFault) → answer ≢ Err (Parse f)) → RefusesText text answer
-text_stands {A} text answer faultless other = record {
-  stands = λ f e. absurd (other f e);
-  comes = λ f has. absurd (faultless f has);
-  accepted = λ t has f. other f;
-}
-
--- where a text's chart is refused, what is made of it is refused alike: the text
-pub text_so : {A B : Type 0} (text : List ℕ) (e : Fault) → RefusesText {A = A} text (Err e) → RefusesText {A = B} text (Err e)
-text_so {A} {B} text e said = record {
-  stands = λ f same. let is : e ≡ Parse f = cc in said.stands f (ap Err is);
-  comes = λ f has. elim (said.comes f has) [
-    | inl same ↦ inl (let is : e ≡ Parse f = cc in ap Err is)
-    | inr same ↦ inr (let is : e ≡ Memory = cc in ap Err is)
-  ];
-  accepted = λ t has f same. let is : e ≡ Parse f = cc in said.accepted t has f (ap Err is);
-}
-
--- and its draft
-pub draft_so : {A B : Type 0} (text : List ℕ) (e : Fault) → RefusesDraft {A = A} text (Err e) → RefusesDraft {A = B} text (Err e)
-draft_so {A} {B} text e said = record {
-  stands = λ f same. let is : e ≡ Chart f = cc in said.stands f (ap Err is);
-  comes = λ d has f stands. let (fault, same, refusal) = said.comes d has f stands in (fault, (let is : e ≡ fault = cc in ap Err is), refusal);
-}
-
--- where a chart is answered, what is made of it may refuse the text only by a fault of its own
-pub text_passes : {A B : Type 0} (text : List ℕ) (a : A) (answer : Result B Fault) → RefusesText text (Ok a)
-    → ((f : ParseFault) → answer ≢ Err (Parse f)) → RefusesText text answer
-text_passes {A} {B} text a answer said other =
-    text_stands text answer (λ f has. elim (said.comes f has) [ inl same ↦ absurd cc | inr memory ↦ absurd cc ]) other
-
--- and so the draft
-pub draft_passes : {A B : Type 0} (text : List ℕ) (a : A) (answer : Result B Fault) → RefusesDraft text (Ok a)
-    → ((f : ChartFault) → answer ≢ Err (Chart f)) → RefusesDraft text answer
-draft_passes {A} {B} text a answer said other = record {
-  stands = λ f e. absurd (other f e);
-  comes = λ d has f stands. let no = (said.comes d has f stands).1 in absurd cc;
-}
+-- and none of a draft
+pub write_refuses_no_draft : {A : Type 0} (w : WriteFault) (f : ChartFault) → ◌≢◌ {A = Result A Fault} (Err (of_writing w)) (Err (Chart f))
+write_refuses_no_draft {A} writing.Memory f e = cc
+write_refuses_no_draft {A} writing.Device f e = cc

@@ -1,7 +1,7 @@
 -- what is promised
 pub mod Answers
 pub mod Checking
-pub mod Charting
 pub mod Judging
+pub mod Explaining
 -- what the code keeps
 pub mod Plain

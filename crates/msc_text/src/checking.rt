@@ -5,12 +5,14 @@ ghost use Rattle.msc_text.specs.Answers.{RefusesText, StartsNothing};
 ghost use Rattle.msc_text.specs.Checking.{BeginsVerdict, RefusesDraft, WritesVerdict};
 ghost use Rattle.msc_text.specs.Plain.{plain};
 
-use crate::judging::{Format, judge_text};
+use crate::judging::{Format, judge_chart};
 use msc_chart::Queues;
 use msc_judge::Question;
+use msc_parser::laws::one_parsing;
 use msc_race::laws::{enforced_orders_tell_verdicts, the_chosen_run_reverses};
 use msc_reason::KindSet;
 use msc_report::Fault;
+use msc_source::{Language, Source};
 use std::alloc::Global;
 use std::io::Write;
 
@@ -52,7 +54,10 @@ pub fn check_text<W: Write>(
     ensures untouched { IfErr result
         (λ e. e ≢ Fault.Memory → e ≢ Fault.Device → writer.new ≡ writer.old) }
 {
+    one_parsing();
     the_chosen_run_reverses();
     enforced_orders_tell_verdicts();
-    judge_text(alloc, text, queues, all_races(show), Format::Lines, writer)
+    let source = Source::of(alloc, Language::MscPr, text)?;
+    let question = all_races(show);
+    Ok(judge_chart(alloc, source.chart(), queues, question, Format::Lines, writer)?)
 }

@@ -1,21 +1,17 @@
-//! From a text to what is asked of the races of its chart, bytes to bytes.
+//! What is asked of the races of a chart, in bytes.
 
-ghost use Rattle.std.specs.Prelude.{◌≡◌, ◌≢◌, ◌⊎◌, ℕ, List, IfErr, IfOk};
-ghost use Rattle.std.specs.Io.KnownBytes.{Appends};
+ghost use Rattle.std.specs.Prelude.{IfOk};
 ghost use Rattle.msc_judge.specs.Findings.{Answers};
-ghost use Rattle.msc_text.specs.Answers.{RefusesText, StartsNothing};
-ghost use Rattle.msc_text.specs.Checking.{RefusesDraft};
-ghost use Rattle.msc_text.specs.Judging.{asked, texts_in, BeginsChart, BeginsJudged, JudgesChart};
-ghost use Rattle.msc_text.specs.Judging.{Passes, WritesJudged};
+ghost use Rattle.msc_judge.specs.Pages.{Tells};
+ghost use Rattle.msc_text.specs.Judging.{asked, texts_in, JudgesChart, Passes};
 
-use crate::charting::chart_of_text;
 use msc_chart::{Chart, Queues};
 use msc_judge::{Question, WriteFault, judge};
 use msc_race::Enforced;
 use msc_race::laws::the_chosen_run_reverses;
 use msc_reason::{KindSet, none_counts};
-use msc_report::{Counts, Fault, Lines};
-use std::alloc::Global;
+use msc_report::{Counts, Lines};
+use std::alloc::{AllocError, Global};
 use std::io::Write;
 
 /// How what is asked of a chart's races is written.
@@ -62,8 +58,8 @@ fn judge_in<W: Write>(
 }
 
 /// Writes what is asked of a chart's races under an architecture in a format; answers whether none
-/// counts.
-fn judge_chart<W: Write>(
+/// counts. `Device` is answered where the writer fails.
+pub fn judge_chart<W: Write>(
     alloc: Global,
     chart: &Chart,
     queues: Queues,
@@ -71,12 +67,8 @@ fn judge_chart<W: Write>(
     format: Format<'_>,
     writer: &mut W,
 ) -> Result<bool, WriteFault>
-    ensures written { IfOk result (λ passed. (printed : List ℕ)
-        × JudgesChart chart.now queues question format.entry passed printed
-        × Appends (W.contents writer.old) (W.contents writer.new) printed) }
-    ensures begun { IfErr result (λ e. e ≡ WriteFault.Memory → (writer.new ≡ writer.old)
-        ⊎ BeginsChart chart.now queues question format.entry
-        (W.contents writer.old) (W.contents writer.new)) }
+    ensures { Tells W.contents (JudgesChart chart.now queues question format.entry)
+        result writer.old writer.new }
 {
     chart.accepted();
     let enforced = Enforced::of(alloc, chart, queues)?;
@@ -84,53 +76,19 @@ fn judge_chart<W: Write>(
     judge_in(alloc, enforced, question, format, writer)
 }
 
-/// Writes what is asked of the races of a text's chart under an architecture in a format; answers
-/// whether none counts.
-///
-/// A text without a draft is refused with its first fault, a draft that is no chart with its own,
-/// and want of memory is answered as `Memory`. After `Memory` a beginning of the answer may have
-/// been written, after the other refusals the writer has had no call. `Device` is answered where
-/// the writer fails.
-pub fn judge_text<W: Write>(
+/// Whether no race of a chart counts under an architecture, where these kinds are left out. It
+/// stops at the first one that does, and makes no text. An error is a growth of memory that was
+/// refused.
+pub fn passes_chart(
     alloc: Global,
-    text: &[u8],
-    queues: Queues,
-    question: Question,
-    format: Format<'_>,
-    writer: &mut W,
-) -> Result<bool, Fault>
-    ensures written { IfOk result (λ passed. WritesJudged text.now queues question format.entry
-        passed (W.contents writer.old) (W.contents writer.new)) }
-    ensures refused { RefusesText text.now result }
-    ensures no_chart { RefusesDraft text.now result }
-    ensures started { StartsNothing result }
-    ensures begun { IfErr result (λ e. e ≡ Fault.Memory → (writer.new ≡ writer.old)
-        ⊎ BeginsJudged text.now queues question format.entry
-        (W.contents writer.old) (W.contents writer.new)) }
-    ensures untouched { IfErr result
-        (λ e. e ≢ Fault.Memory → e ≢ Fault.Device → writer.new ≡ writer.old) }
-{
-    let chart = chart_of_text(alloc, text)?;
-    Ok(judge_chart(alloc, &chart, queues, question, format, writer)?)
-}
-
-/// Whether no race of a text's chart counts under an architecture. It stops at the first event with
-/// one that does.
-///
-/// The faults are those of [`chart_of_text`].
-pub fn passes_text(
-    alloc: Global,
-    text: &[u8],
+    chart: &Chart,
     queues: Queues,
     allowed: KindSet,
-) -> Result<bool, Fault>
-    ensures passes { IfOk result (Passes text.now queues allowed) }
-    ensures refused { RefusesText text.now result }
-    ensures no_chart { RefusesDraft text.now result }
-    ensures started { StartsNothing result }
+) -> Result<bool, AllocError>
+    ensures { IfOk result (Passes chart.now queues allowed) }
 {
-    let chart = chart_of_text(alloc, text)?;
-    let enforced = Enforced::of(alloc, &chart, queues)?;
+    chart.accepted();
+    let enforced = Enforced::of(alloc, chart, queues)?;
     enforced.enforced();
-    Ok(none_counts(alloc, &enforced, allowed)?)
+    none_counts(alloc, &enforced, allowed)
 }

@@ -1,16 +1,13 @@
-//! The answers of the program on a text alone: its canonical text, the verdict on its chart, and
-//! what is asked of its races.
-//!
-//! Each call speaks of the bytes of a text and of those that it gives to a writer, so what the
-//! program prints is a stated function of what it reads.
+//! Answers in bytes: what is printed of a text's draft, of the races of its chart, and of a pair of
+//! its events. `read_text` and `check_text` go from the bytes of a text to those that are printed.
 #![tactic(auto)]
 
-mod charting;
 mod checking;
+mod explaining;
 mod judging;
 mod text;
 
-pub use charting::chart_of_text;
 pub use checking::check_text;
-pub use judging::{Format, judge_text, passes_text};
+pub use explaining::explain_pair;
+pub use judging::{Format, judge_chart, passes_chart};
 pub use text::{read_text, write_reading};

@@ -11,4 +11,4 @@ pub use msc_report::{Fault, write_draft, write_fault, write_trace, write_verdict
 pub use msc_source::CALL_LIMIT;
 pub use msc_text::{check_text, read_text};
 pub use reading::read_all;
-pub use running::run_text;
+pub use running::{print_execution, run_text};

@@ -76,9 +76,12 @@ fn page_of(
     page.if_written(written)
 }
 
-/// Runs a chart: what is printed of an execution with its trace, and whether all instances have
-/// finished.
-fn print_execution<R: Threads + Wait + Sync, G: Gate + Sync>(
+/// Runs a chart under an architecture: what is printed of an execution with its trace, and whether
+/// all instances have finished. `gate` and `patience` are those of [`run_text`].
+///
+/// `NotStarted` has the number of an instance whose thread could not be started, from 0, and want
+/// of memory is answered as `Memory`.
+pub fn print_execution<R: Threads + Wait + Sync, G: Gate + Sync>(
     rt: &R,
     alloc: Global,
     chart: &Chart,

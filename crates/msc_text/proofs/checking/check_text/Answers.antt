@@ -1,23 +1,32 @@
-use Rattle.std.proofs.Common.{◌≡◌, ℕ, Bool, List, subst}
-use Rattle.std.proofs.lemmas.Result.{IfOk-weaker}
+use Rattle.std.proofs.Common.{◌≡◌, ℕ, Bool, List, sym, subst}
+use Rattle.std.proofs.lemmas.Result.{err_from_is_err_and}
 use Rattle.msc_judge.specs.declared.question.Question.{Question}
-use Rattle.msc_text.proofs.Judged.{begins_verdict, begun_so, writes_verdict}
-use Rattle.msc_text.specs.Judging.{BeginsJudged, WritesJudged}
-use Rattle.msc_text.specs.declared.judging.Format.TheVariants.{Lines}
+use Rattle.msc_text.proofs.Judged.{begins_verdict, writes_verdict}
+use Rattle.msc_text.proofs.Refusals.{draft_charted, draft_refused, text_drafted, text_refused, write_refuses_no_draft, write_refuses_no_text}
 use Rattle.msc_text.proofs.checking.check_text.Goals as goal
 
-pub returns-clause-written : goal.returns-clause-written
-returns-clause-written g c =
-    let laws = c.the_chosen_run_reverses.ensures in
-    IfOk-weaker c.judge_text.result _ _
-    (λ passed wrote. writes_verdict c.args.text.now c.args.queues c.args.show c.enforced_orders_tell_verdicts.ensures laws.whole laws.races passed _ _
-    (subst (λ (q : Question). WritesJudged c.args.text.now c.args.queues q Lines passed (g.W.Write.contents c.args.writer.now) (g.W.Write.contents c.judge_text.new.writer)) c.all_races.ensures wrote))
-    c.judge_text.ensures.written
+pub returns-in_err-source-clause-refused : goal.returns-in_err-source-clause-refused
+returns-in_err-source-clause-refused g c =
+    let exit = err_from_is_err_and c.from_residual.result c.from_residual.ensures.1 in
+    rw (exit.1, exit.2) (text_refused c.one_parsing.ensures c.args.text.now _ c.in_err-source.ensures)
 
-pub returns-clause-begun : goal.returns-clause-begun
-returns-clause-begun g c =
-    let laws = c.the_chosen_run_reverses.ensures in
-    begun_so _ _ _ c.judge_text.result
-    (λ begun. begins_verdict c.args.text.now c.args.queues c.args.show c.enforced_orders_tell_verdicts.ensures laws.whole laws.races _ _
-    (subst (λ (q : Question). BeginsJudged c.args.text.now c.args.queues q Lines (g.W.Write.contents c.args.writer.now) (g.W.Write.contents c.judge_text.new.writer)) c.all_races.ensures begun))
-    c.judge_text.ensures.begun
+pub returns-in_err-source-clause-no_chart : goal.returns-in_err-source-clause-no_chart
+returns-in_err-source-clause-no_chart g c =
+    let exit = err_from_is_err_and c.from_residual.result c.from_residual.ensures.1 in
+    rw (exit.1, exit.2) (draft_refused c.one_parsing.ensures c.args.text.now _ c.in_err-source.ensures)
+
+pub returns-in_err-judge_chart-clause-refused : goal.returns-in_err-judge_chart-clause-refused
+returns-in_err-judge_chart-clause-refused g c =
+    let exit = err_from_is_err_and c.from_residual-in_err-judge_chart.result c.from_residual-in_err-judge_chart.ensures.1 in
+    rw (exit.1, exit.2) (text_drafted c.one_parsing.ensures c.args.text.now _ _ c.in_ok-source.ensures.2.has (write_refuses_no_text c.in_err-judge_chart.field-0.0))
+
+pub returns-in_err-judge_chart-clause-no_chart : goal.returns-in_err-judge_chart-clause-no_chart
+returns-in_err-judge_chart-clause-no_chart g c =
+    let exit = err_from_is_err_and c.from_residual-in_err-judge_chart.result c.from_residual-in_err-judge_chart.ensures.1 in
+    rw (exit.1, exit.2) (draft_charted c.one_parsing.ensures c.args.text.now _ _ c.in_ok-source.ensures.2 (write_refuses_no_draft c.in_err-judge_chart.field-0.0))
+
+pub returns-clause-refused : goal.returns-clause-refused
+returns-clause-refused g c = text_drafted c.one_parsing.ensures c.args.text.now _ _ c.in_ok-source.ensures.2.has (λ f e. cc)
+
+pub returns-clause-no_chart : goal.returns-clause-no_chart
+returns-clause-no_chart g c = draft_charted c.one_parsing.ensures c.args.text.now _ _ c.in_ok-source.ensures.2 (λ f e. cc)

@@ -1,0 +1,99 @@
+-- What is answered for a task.
+use Rattle.std.specs.Prelude.{◌≡◌, ◌<◌, ◌⊎◌, ℕ, Bool, true, List, [], length, Option, Result, Ok, Err}
+use Rattle.std.specs.Io.KnownBytes.{Appends}
+use Rattle.msc_chart.specs.Drawings.{Drawing}
+use Rattle.msc_chart.specs.Faults.{IsFirstFault}
+use Rattle.msc_parser.specs.Canonical.{canonical}
+use Rattle.msc_parser.specs.Grammar.{Tree}
+use Rattle.msc_parser.specs.Parsing.{HasDraft, HasParseFault}
+use Rattle.msc_reason.specs.Pairs.{IsPairFault}
+use Rattle.msc_judge.specs.Pages.{WritesBeginning}
+use Rattle.msc_report.specs.declared.fault.Fault.TheVariants.{Parse, NotStarted, Memory, Device}
+use Rattle.msc_report.specs.declared.fault.Fault.TheVariants as faults
+use Rattle.msc_source.specs.Texts.{IsChartOf}
+use Rattle.msc_text.specs.Explaining.{PrintsReason}
+use Rattle.msc_text.specs.Judging.{JudgesChart, Passes}
+use Rattle.msc_text.specs.declared.judging.Format.{Format}
+use Rattle.msc_tool.specs.Running.{PrintsExecution}
+use Rattle.msc_command.specs.Ending.{ended_by, finished_by}
+use Rattle.msc_command.specs.Formats.{IsFormat}
+use Rattle.msc_command.specs.declared.ending.Refusal.{Refusal}
+use Rattle.msc_command.specs.declared.ending.Refusal.TheVariants as refusals
+use Rattle.msc_command.specs.declared.ending.Status.{Status}
+use Rattle.msc_command.specs.declared.ending.Status.TheVariants.{Done}
+use Rattle.msc_command.specs.declared.tasks.Ask.{Ask}
+use Rattle.msc_command.specs.declared.tasks.Ask.TheVariants.{Check, Quiet, Explain, Run}
+use Rattle.msc_command.specs.declared.tasks.Task.{Task}
+use Rattle.msc_command.specs.declared.tasks.Task.TheVariants.{Read, Chart}
+
+-- What is printed of a chart, the one of the file of this name, for what is asked of it, and how the
+-- run ends. A chart is run with a gate that is known to be open.
+abbrev pub PrintsOf : Ask → List ℕ → Drawing → Status → List ℕ → Type 0
+PrintsOf (Check queues q form) file d status printed =
+    (format : Format) × IsFormat form file format
+    × (passed : Bool) × (status ≡ ended_by passed) × JudgesChart d queues q format passed printed
+PrintsOf (Quiet queues allowed) file d status printed =
+    (passed : Bool) × (status ≡ ended_by passed) × Passes d queues allowed passed × (printed ≡ [])
+PrintsOf (Explain queues e f) file d status printed =
+    (enforced : Bool) × (status ≡ ended_by enforced) × PrintsReason d queues e f enforced printed
+PrintsOf (Run queues patience) file d status printed =
+    (finished : Bool) × (status ≡ finished_by finished) × PrintsExecution d queues true patience finished printed
+
+-- why there is nothing to print: the numbers are no two events of the chart, or an instance of it
+-- could not be started
+abbrev pub RefusesOf : Ask → Drawing → Refusal → Type 0
+RefusesOf (Explain queues e f) d (refusals.Pair fault) = IsPairFault d e f fault
+RefusesOf (Run queues patience) d (refusals.Fault (NotStarted i)) = i < length d.instances
+RefusesOf ask d refusal = ⊥
+
+-- what is printed of the text of a file for a task: its draft's canonical text, or what is asked of
+-- its chart
+abbrev pub Prints : Task → List ℕ → List ℕ → Status → List ℕ → Type 0
+Prints Read file text status printed =
+    (draft : Tree) × HasDraft text draft × (status ≡ Done) × (printed ≡ canonical draft)
+Prints (Chart ask) file text status printed = (d : Drawing) × IsChartOf text d × PrintsOf ask file d status printed
+
+-- why a text is refused for a task, with its first fault: it has no draft, or its draft is no chart,
+-- or of its chart that is not to be had which is asked
+abbrev pub Refuses : Task → List ℕ → Refusal → Type 0
+Refuses task text (refusals.Fault (Parse f)) = HasParseFault text f
+Refuses (Chart ask) text (refusals.Fault (faults.Chart f)) = (draft : Tree) × HasDraft text draft × IsFirstFault draft f
+Refuses (Chart ask) text refusal = (d : Drawing) × IsChartOf text d × RefusesOf ask d refusal
+Refuses Read text refusal = ⊥
+
+-- A task was done, where it is known what is right to print, with how the run ends then, and when it
+-- is refused: such a text went behind the known bytes of a writer; or memory ran out, and the writer
+-- has had no call or has a beginning of such a text; or the writer failed; or it is refused, and the
+-- writer has had no call.
+abbrev pub Answers : {W : Type 0} → (W → Option (List ℕ)) → (Status → List ℕ → Type 0) → (Refusal → Type 0)
+    → Result Status Refusal → W → W → Type 0
+Answers contents prints refuses (Ok status) old new =
+    (printed : List ℕ) × prints status printed × Appends (contents old) (contents new) printed
+Answers {W} contents prints refuses (Err (refusals.Fault Memory)) old new =
+    (new ≡ old) ⊎ ((status : Status) × (printed : List ℕ) × prints status printed × WritesBeginning (contents old) (contents new) printed)
+Answers contents prints refuses (Err (refusals.Fault Device)) old new = Unit {0}
+Answers contents prints refuses (Err refusal) old new = refuses refusal × (new ≡ old)
+
+-- what is asked of a chart was answered
+abbrev pub AnswersOf : {W : Type 0} → (W → Option (List ℕ)) → Ask → List ℕ → Drawing → Result Status Refusal → W → W → Type 0
+AnswersOf contents ask file d = Answers contents (PrintsOf ask file d) (RefusesOf ask d)
+
+-- a task was done for the text of a file
+abbrev pub Does : {W : Type 0} → (W → Option (List ℕ)) → Task → List ℕ → List ℕ → Result Status Refusal → W → W → Type 0
+Does contents task file text = Answers contents (Prints task file text) (Refuses task text)
+
+-- a file was not read: memory ran out, or a device failed
+abbrev pub IsUnread : Result Status Refusal → Type 0
+IsUnread (Err (refusals.Fault Memory)) = Unit {0}
+IsUnread (Err (refusals.Fault Device)) = Unit {0}
+IsUnread answer = ⊥
+
+-- a task was done for a text that was read so, or nothing was read, and the writer has had no call
+abbrev pub Performs : {W : Type 0} → (W → Option (List ℕ)) → Task → List ℕ → (List ℕ → Type 0) → Result Status Refusal → W → W → Type 0
+Performs contents task file reads answer old new =
+    ((text : List ℕ) × reads text × Does contents task file text answer old new) ⊎ (IsUnread answer × (new ≡ old))
+
+-- these bytes went behind the known bytes of a writer, and the run ends so, or the writer failed
+abbrev pub IsPut : {W : Type 0} → (W → Option (List ℕ)) → List ℕ → Status → Result Status Refusal → W → W → Type 0
+IsPut contents bytes status (Ok s) old new = (s ≡ status) × Appends (contents old) (contents new) bytes
+IsPut contents bytes status (Err refusal) old new = refusal ≡ refusals.Fault Device

@@ -1,0 +1,124 @@
+-- What the words behind a command ask for, by what `clap` found of them.
+use Rattle.std.specs.Prelude.{◌≡◌, ◌≢◌, ◌<◌, ◌⊎◌, ◌^◌, ℕ, Bool, true, false, cond, List, [], Option, Some, None, codes}
+use Rattle.std.specs.Prelude.{option_and_then}
+use Rattle.std.specs.List.{list_any}
+use Rattle.std.specs.Option.{option_map_or}
+use Rattle.std.specs.Str.{bytes_eq}
+use Rattle.std.specs.Str.Parse.{IsNumeral, digits_value, without_leading_plus}
+use Rattle.clap.specs.Matches.{first_value, matched_of, one_text, raw_values}
+use Rattle.clap.specs.declared.parser.matches.Found.{Found}
+use Rattle.msc_chart.specs.Architectures.{queues_of_word}
+use Rattle.msc_chart.specs.declared.queue.Queues.{Queues}
+use Rattle.msc_reason.specs.Lacks.{kind_word}
+use Rattle.msc_reason.specs.declared.lack.RaceKind.{RaceKind}
+use Rattle.msc_reason.specs.Kinds.{has_kind}
+use Rattle.msc_reason.specs.declared.kinds.KindSet.{KindSet}
+use Rattle.msc_judge.specs.declared.question.Question.{Question}
+use Rattle.msc_command.specs.declared.tasks.Ask.TheVariants.{Check, Quiet, Explain, Run}
+use Rattle.msc_command.specs.declared.tasks.Form.{Form}
+use Rattle.msc_command.specs.declared.tasks.Form.TheVariants as forms
+use Rattle.msc_command.specs.declared.tasks.Task.{Task}
+use Rattle.msc_command.specs.declared.tasks.Task.TheVariants.{Read, Chart}
+use Rattle.msc_command.specs.declared.words.Verb.{Verb}
+use Rattle.msc_command.specs.declared.words.Verb.TheVariants as verbs
+use Rattle.msc_command.specs.declared.words.Word.TheVariants as words
+use Rattle.msc_command.specs.Words.{form_word, word_name}
+
+-- the architecture that the words name
+abbrev pub architecture : Found → Option Queues
+architecture found = option_and_then queues_of_word (first_value found (word_name words.Queues))
+
+-- whether a flag stands among the words
+pub record IsFlag (found : Found) (id : List ℕ) (given : Bool) : Type 0 where
+  pub absent : one_text found id ≡ None → given ≡ false
+  pub yes : one_text found id ≡ Some (codes "true") → given ≡ true
+  pub no : one_text found id ≡ Some (codes "false") → given ≡ false
+
+-- the word of an argument is the numeral of a number of 32 bits
+pub record IsEventWord (found : Found) (id : List ℕ) (n : ℕ) : Type 0 where
+  pub text : List ℕ
+  pub word : one_text found id ≡ Some text
+  pub numeral : IsNumeral 10 (without_leading_plus text)
+  pub value : n ≡ digits_value 10 (without_leading_plus text)
+  pub fits : n < 2 ^ 32
+
+-- an argument has no such word
+abbrev pub LacksEvent : Found → List ℕ → Type 0
+LacksEvent found id = (n : ℕ) → IsEventWord found id n → ⊥
+
+-- the number of an option, and what it is without it
+pub record IsOptionNumber (found : Found) (id : List ℕ) (without n : ℕ) : Type 0 where
+  pub absent : one_text found id ≡ None → n ≡ without
+  pub given : (text : List ℕ) → one_text found id ≡ Some text
+      → IsNumeral 10 (without_leading_plus text) → digits_value 10 (without_leading_plus text) < 2 ^ 32
+      → n ≡ digits_value 10 (without_leading_plus text)
+
+-- the values of an option, of all its uses
+abbrev pub words_of : Found → List ℕ → List (List ℕ)
+words_of found id = option_map_or raw_values (matched_of found id) []
+
+-- a kind of races is among these words
+abbrev pub names_kind : List (List ℕ) → RaceKind → Bool
+names_kind words kind = list_any (λ word. bytes_eq word (kind_word kind)) words
+
+-- the kinds of races that the words leave out
+abbrev pub AreAllowed : Found → KindSet → Type 0
+AreAllowed found set = (kind : RaceKind) → has_kind set kind ≡ names_kind (words_of found (word_name words.Allow)) kind
+
+-- how many races are listed and shown where no option says: more than any chart has
+abbrev pub unlimited : ℕ
+unlimited = 4294967295
+
+-- after how many rounds of takes in a row without a find an instance gives up, where no option says
+abbrev pub default_patience : ℕ
+default_patience = 1000000000
+
+-- what the words ask of a chart's races
+pub record IsQuestion (found : Found) (q : Question) : Type 0 where
+  pub closest : IsFlag found (word_name words.Closest) q.closest
+  pub why : IsFlag found (word_name words.Why) q.why
+  pub allowed : AreAllowed found q.allowed
+  pub most : IsOptionNumber found (word_name words.Most) unlimited q.most
+  pub show : IsOptionNumber found (word_name words.Show) unlimited q.show
+
+-- the form that a word names: text, where none does
+abbrev pub form_of_word : Option (List ℕ) → Form
+form_of_word None = forms.Text
+form_of_word (Some word) = cond (bytes_eq word (form_word forms.Count)) forms.Count forms.Text
+
+-- the form of the answer that the words name
+abbrev pub form : Found → Form
+form found = form_of_word (first_value found (word_name words.Format))
+
+-- the file that a word names: the input, where none does
+abbrev pub file_of_word : Option (List ℕ) → List ℕ
+file_of_word None = codes "-"
+file_of_word (Some word) = word
+
+-- the file that the words name
+abbrev pub file_of : Found → List ℕ
+file_of found = file_of_word (first_value found (word_name words.File))
+
+-- What the words behind a command ask for. What is to be quiet is told by the status alone.
+abbrev pub AsksFor : Verb → Found → Task → Type 0
+AsksFor verbs.Read found Read = Unit {0}
+AsksFor verbs.Check found (Chart (Check queues q its)) =
+    IsQuestion found q × (its ≡ form found) × IsFlag found (word_name words.Quiet) false
+    × (architecture found ≡ Some queues)
+AsksFor verbs.Check found (Chart (Quiet queues allowed)) =
+    AreAllowed found allowed × IsFlag found (word_name words.Quiet) true × (architecture found ≡ Some queues)
+AsksFor verbs.Explain found (Chart (Explain queues e f)) =
+    IsEventWord found (word_name words.FirstEvent) e × IsEventWord found (word_name words.SecondEvent) f
+    × (architecture found ≡ Some queues)
+AsksFor verbs.Run found (Chart (Run queues patience)) =
+    IsOptionNumber found (word_name words.Patience) default_patience patience
+    × (architecture found ≡ Some queues)
+AsksFor verb found task = ⊥
+
+-- the words behind a command lack the architecture, or one of two events, where it takes them
+abbrev pub IsNoCommand : Verb → Found → Type 0
+IsNoCommand verbs.Read found = ⊥
+IsNoCommand verbs.Explain found =
+    (architecture found ≡ None)
+    ⊎ (LacksEvent found (word_name words.FirstEvent) ⊎ LacksEvent found (word_name words.SecondEvent))
+IsNoCommand verb found = architecture found ≡ None

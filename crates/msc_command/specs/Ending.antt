@@ -1,0 +1,45 @@
+-- How a run of the program ends.
+use Rattle.std.specs.Prelude.{ℕ, Bool, true, false, List}
+use Rattle.msc_report.specs.declared.fault.Fault.{Fault}
+use Rattle.msc_report.specs.declared.fault.Fault.TheVariants.{Parse, Chart, NotStarted, Memory, Device}
+use Rattle.msc_report.specs.Texts.{fault_line, pair_fault_line}
+use Rattle.msc_command.specs.declared.ending.Status.{Status}
+use Rattle.msc_command.specs.declared.ending.Status.TheVariants.{Done, Races, Refused, Unfinished, Failed}
+use Rattle.msc_command.specs.declared.ending.Refusal.{Refusal}
+use Rattle.msc_command.specs.declared.ending.Refusal.TheVariants as refusals
+
+-- the exit status for how a run ended
+abbrev pub status_code : Status → ℕ
+status_code Done = 0
+status_code Races = 1
+status_code Refused = 2
+status_code Unfinished = 3
+status_code Failed = 4
+
+-- how a run ends that tells whether something holds: no race counts, or a pair is enforced
+abbrev pub ended_by : Bool → Status
+ended_by true = Done
+ended_by false = Races
+
+-- how a run ends of a chart whose instances have all finished, or not
+abbrev pub finished_by : Bool → Status
+finished_by true = Done
+finished_by false = Unfinished
+
+-- how a run ends that meets a fault
+abbrev pub status_of : Fault → Status
+status_of (Parse f) = Refused
+status_of (Chart f) = Refused
+status_of (NotStarted i) = Failed
+status_of Memory = Failed
+status_of Device = Failed
+
+-- how a run ends that is refused
+abbrev pub ends_as : Refusal → Status
+ends_as (refusals.Fault f) = status_of f
+ends_as (refusals.Pair f) = Refused
+
+-- the line of a refusal
+abbrev pub refusal_line : Refusal → List ℕ
+refusal_line (refusals.Fault f) = fault_line f
+refusal_line (refusals.Pair f) = pair_fault_line f

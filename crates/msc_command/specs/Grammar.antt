@@ -1,0 +1,164 @@
+-- The commands of the program and their words, as `clap` reads them.
+use Rattle.std.specs.Prelude.{◌≡◌, List, [], ◌∷◌, Some, codes, map, pos, true, false}
+use Rattle.std.specs.Borrow.{Bor}
+use Rattle.clap.specs.Words.{App, IsAmong, Row, Rule, Text, app_of, fault_of, new_app, new_rule, rule_of, subcommand_of, with_rule, with_subcommand}
+use Rattle.clap.specs.declared.builder.action.ArgAction.TheVariants.{Append, SetTrue}
+use Rattle.clap.specs.declared.builder.arg.Arg.{Arg}
+use Rattle.clap.specs.declared.builder.command.Command.{Command}
+use Rattle.clap.specs.declared.builder.command.Command.TheViews.{out-Command}
+use Rattle.clap.specs.declared.builder.value_parser.ValueParser.{ValueParser}
+use Rattle.clap.specs.declared.builder.value_parser.ValueParser.TheVariants.{Names, Signed}
+use Rattle.clap.specs.declared.error.kind.ErrorKind.{ErrorKind}
+use Rattle.msc_chart.specs.Architectures.{queues_word}
+use Rattle.msc_chart.specs.declared.queue.Queues.TheVariants.{Pair, Mailbox, Single}
+use Rattle.msc_command.specs.declared.grammar.Choices.{Choices}
+use Rattle.msc_command.specs.declared.tasks.Form.TheVariants as forms
+use Rattle.msc_command.specs.declared.words.Takes.{Takes}
+use Rattle.msc_command.specs.declared.words.Takes.TheVariants as takes
+use Rattle.msc_command.specs.declared.words.Verb.{Verb}
+use Rattle.msc_command.specs.declared.words.Word.{Word}
+use Rattle.msc_command.specs.Words.{form_word, takes_of, verb_name, verbs, word_name, words_of}
+use Rattle.msc_reason.specs.Lacks.{kind_word}
+use Rattle.msc_reason.specs.declared.lack.RaceKind.TheVariants.{Early, Queues, Unordered, Overtaken}
+
+-- the words of the architectures
+abbrev pub architecture_words : List Text
+architecture_words = queues_word Pair ∷ queues_word Mailbox ∷ queues_word Single ∷ []
+
+-- the words of the kinds of races
+abbrev pub kind_words : List Text
+kind_words = kind_word Early ∷ kind_word Queues ∷ kind_word Unordered ∷ kind_word Overtaken ∷ []
+
+-- the words of the forms of an answer
+abbrev pub form_words : List Text
+form_words = form_word forms.Text ∷ form_word forms.Count ∷ []
+
+-- an argument is read by a rule
+abbrev pub IsArgument : Rule → Arg → Type 0
+IsArgument rule argument = (rule_of argument ≡ rule) × (argument.global ≡ false)
+
+-- a command is read as one with these rules and subcommands
+abbrev pub IsCommand : App → Command → Type 0
+IsCommand app command = (app_of command ≡ app) × ((out-Command command).has_globals ≡ false)
+
+-- a number of 32 bits
+abbrev pub number_parser : ValueParser
+number_parser = Signed (pos 0) (pos 4294967295)
+
+-- an argument that names a file
+abbrev pub file_rule : Text → Rule
+file_rule name = record (new_rule name) { required = true }
+
+-- an argument that is the number of an event
+abbrev pub event_rule : Text → Rule
+event_rule name = record (new_rule name) { parser = Some number_parser; required = true }
+
+-- an option that stands alone
+abbrev pub flag_rule : Text → Rule
+flag_rule name = record (new_rule name) { long = Some name; action = Some SetTrue }
+
+-- an option that stands alone, also as the letter q
+abbrev pub letter_rule : Text → Rule
+letter_rule name = record (flag_rule name) { short = Some 113 }
+
+-- an option with a number
+abbrev pub number_rule : Text → Rule
+number_rule name = record (new_rule name) {
+  long = Some name;
+  value_names = 1;
+  parser = Some number_parser;
+}
+
+-- an option with one of the words that a parser takes
+abbrev pub choice_rule : Text → ValueParser → Rule
+choice_rule name parser = record (new_rule name) {
+  long = Some name;
+  value_names = 1;
+  parser = Some parser;
+}
+
+-- such an option that has to stand
+abbrev pub needed_rule : Text → ValueParser → Rule
+needed_rule name parser = record (choice_rule name parser) { required = true }
+
+-- such an option that may stand often
+abbrev pub choices_rule : Text → ValueParser → Rule
+choices_rule name parser = record (choice_rule name parser) { action = Some Append }
+
+-- the parsers of the words of which options take one
+pub record Parsers : Type 0 where
+  pub architectures : ValueParser
+  pub kinds : ValueParser
+  pub forms : ValueParser
+
+-- those that take these words
+abbrev pub parsers_of : Choices → Parsers
+parsers_of lent = record {
+  architectures = Names lent.architectures.words;
+  kinds = Names lent.kinds.words;
+  forms = Names lent.forms.words;
+}
+
+-- how a word of this name that takes this is read
+abbrev pub rule_by : Parsers → Text → Takes → Rule
+rule_by p name takes.File = file_rule name
+rule_by p name takes.Event = event_rule name
+rule_by p name takes.Nothing = flag_rule name
+rule_by p name takes.NothingOrQ = letter_rule name
+rule_by p name takes.Number = number_rule name
+rule_by p name takes.Architecture = needed_rule name p.architectures
+rule_by p name takes.Kinds = choices_rule name p.kinds
+rule_by p name takes.Form = choice_rule name p.forms
+
+-- how a word behind a command is read
+abbrev pub rule_of_word : Parsers → Word → Rule
+rule_of_word p word = rule_by p (word_name word) (takes_of word)
+
+-- a command with these words behind it
+abbrev pub with_words : Parsers → App → List Word → App
+with_words p app [] = app
+with_words p app (word ∷ words) = with_words p (with_rule app (rule_of_word p word)) words
+
+-- a command of the program
+abbrev pub command_of : Parsers → Verb → App
+command_of p verb = with_words p (new_app (verb_name verb)) (words_of verb)
+
+-- `msc` alone, which has a version and wants one of its commands
+abbrev pub bare_command : App
+bare_command = record (new_app (codes "msc")) {
+  top = record (new_app (codes "msc")).top { has_version = true; subcommand_required = true };
+}
+
+-- a program with these commands
+abbrev pub with_commands : Parsers → App → List Verb → App
+with_commands p app [] = app
+with_commands p app (verb ∷ rest) = with_commands p (with_subcommand app (command_of p verb).top) rest
+
+-- `msc` with its commands
+abbrev pub whole_command : Parsers → App
+whole_command p = with_commands p bare_command verbs
+
+-- a parser takes just these words
+abbrev pub IsOneOf : List Text → ValueParser → Type 0
+IsOneOf words parser = (names : Bor (List (Bor Text)))
+    × (parser ≡ Names names) × (map (λ name. name.now) names.now ≡ words)
+
+-- the parsers take the words of architectures, of kinds and of forms
+pub record AreParsers (p : Parsers) : Type 0 where
+  pub architectures : IsOneOf architecture_words p.architectures
+  pub kinds : IsOneOf kind_words p.kinds
+  pub forms : IsOneOf form_words p.forms
+
+-- what `clap` is told of the program's words
+abbrev pub IsGrammar : App → Type 0
+IsGrammar grammar = (p : Parsers) × AreParsers p × (grammar ≡ whole_command p)
+
+-- The words of a command line, the program's name first, are taken: they name a command, of whose
+-- words this is found.
+abbrev pub AreTaken : List Text → Text × List Row → Type 0
+AreTaken words named = (grammar : App) × IsGrammar grammar × (fault_of grammar words ≡ [])
+    × (subcommand_of grammar words ≡ Some named)
+
+-- the words are not taken: they ask for help or for the version, or have a fault of this kind
+abbrev pub AreAnswered : List Text → ErrorKind → Type 0
+AreAnswered words kind = (grammar : App) × IsGrammar grammar × IsAmong kind (fault_of grammar words)

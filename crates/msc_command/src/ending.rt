@@ -1,0 +1,165 @@
+//! How a run of the program ends: statuses, and why a task has no answer.
+
+ghost use Rattle.std.specs.Prelude.{◌≡◌, OnOk};
+ghost use Rattle.std.specs.Io.KnownBytes.{Appends};
+ghost use Rattle.msc_command.specs.Ending.{ended_by, ends_as, finished_by, refusal_line, status_code};
+ghost use Rattle.msc_command.specs.Ending.{status_of};
+ghost use Rattle.msc_report.specs.Texts.{fault_line};
+
+use msc_ending::RunFault;
+use msc_judge::WriteFault;
+use msc_reason::PairFault;
+use msc_report::{Fault, write_fault, write_pair_fault};
+use msc_source::{ReadFault, SourceFault};
+use std::alloc::AllocError;
+use std::io;
+use std::io::Write;
+
+/// How a run of the program ended.
+#[derive(Clone, Copy)]
+pub(crate) enum Status {
+    /// The chart has no race that counts, or the pair is enforced, or each instance that was run
+    /// has finished, and the answer was written, where one is wanted.
+    Done,
+    /// The chart has races that count, or the pair is not enforced, and the answer was written,
+    /// where one is wanted.
+    Races,
+    /// The text or the pair was refused, or the words are no command.
+    Refused,
+    /// The answer was written: some instance has not finished.
+    Unfinished,
+    /// Memory, a device or the start of a thread failed.
+    Failed,
+}
+
+impl Status {
+    /// The exit status of the program.
+    pub fn code(self) -> u8
+        ensures { result ≡ status_code self }
+    {
+        match self {
+            Status::Done => 0,
+            Status::Races => 1,
+            Status::Refused => 2,
+            Status::Unfinished => 3,
+            Status::Failed => 4,
+        }
+    }
+}
+
+/// How a run ends that tells whether something holds.
+pub(crate) fn ended_by(holds: bool) -> Status
+    ensures { result ≡ ended_by holds }
+{
+    if holds { Status::Done } else { Status::Races }
+}
+
+/// How a run ends of a chart whose instances have all finished, or not.
+pub(crate) fn finished_by(finished: bool) -> Status
+    ensures { result ≡ finished_by finished }
+{
+    if finished {
+        Status::Done
+    } else {
+        Status::Unfinished
+    }
+}
+
+/// Why a task has no answer: a fault of any phase, or of what was asked.
+#[derive(Clone, Copy)]
+pub(crate) enum Refusal {
+    /// A fault was met.
+    Fault(Fault),
+    /// The numbers are no two events of the chart.
+    Pair(PairFault),
+}
+
+impl From<AllocError> for Refusal {
+    ghost use Rattle.msc_command.specs.declared.ending.Refusal.{Refusal};
+    ghost use Rattle.msc_report.specs.declared.fault.Fault.TheVariants.{Memory};
+
+    ghost from_gives = { λ _ refusal. refusal ≡ Refusal.Fault Memory };
+
+    fn from(_e: AllocError) -> Refusal {
+        Refusal::Fault(Fault::Memory)
+    }
+}
+
+impl From<ReadFault> for Refusal {
+    ghost use Rattle.msc_command.specs.declared.ending.Refusal.{Refusal};
+    ghost use Rattle.msc_report.specs.Refusals.{of_reading};
+
+    ghost from_gives = { λ fault refusal. refusal ≡ Refusal.Fault (of_reading fault) };
+
+    fn from(fault: ReadFault) -> Refusal {
+        Refusal::Fault(fault.into())
+    }
+}
+
+impl From<SourceFault> for Refusal {
+    ghost use Rattle.msc_command.specs.declared.ending.Refusal.{Refusal};
+    ghost use Rattle.msc_report.specs.Refusals.{of_source};
+
+    ghost from_gives = { λ fault refusal. refusal ≡ Refusal.Fault (of_source fault) };
+
+    fn from(fault: SourceFault) -> Refusal {
+        Refusal::Fault(fault.into())
+    }
+}
+
+impl From<RunFault> for Refusal {
+    ghost use Rattle.msc_command.specs.declared.ending.Refusal.{Refusal};
+    ghost use Rattle.msc_report.specs.Refusals.{of_run};
+
+    ghost from_gives = { λ fault refusal. refusal ≡ Refusal.Fault (of_run fault) };
+
+    fn from(fault: RunFault) -> Refusal {
+        Refusal::Fault(fault.into())
+    }
+}
+
+impl From<WriteFault> for Refusal {
+    ghost use Rattle.msc_command.specs.declared.ending.Refusal.{Refusal};
+    ghost use Rattle.msc_report.specs.Refusals.{of_writing};
+
+    ghost from_gives = { λ fault refusal. refusal ≡ Refusal.Fault (of_writing fault) };
+
+    fn from(fault: WriteFault) -> Refusal {
+        Refusal::Fault(fault.into())
+    }
+}
+
+/// How a run ends that meets a fault.
+pub(crate) fn status_of(fault: Fault) -> Status
+    ensures { result ≡ status_of fault }
+{
+    match fault {
+        Fault::Parse(_) | Fault::Chart(_) => Status::Refused,
+        Fault::NotStarted(_) | Fault::Memory | Fault::Device => Status::Failed,
+    }
+}
+
+/// Writes a fault's line, and tells how the run ended, and whether the line went out.
+pub(crate) fn end_with<E: Write>(faults: &mut E, fault: Fault) -> (Status, io::Result<()>)
+    ensures status { result.0 ≡ status_of fault }
+    ensures line { OnOk result.1
+        (Appends (E.contents faults.old) (E.contents faults.new) (fault_line fault)) }
+{
+    let told = write_fault(faults, &fault);
+    (status_of(fault), told)
+}
+
+/// Writes the line of a refusal, and tells how the run ended, and whether the line went out.
+pub(crate) fn end_refused<E: Write>(faults: &mut E, refusal: Refusal) -> (Status, io::Result<()>)
+    ensures status { result.0 ≡ ends_as refusal }
+    ensures line { OnOk result.1
+        (Appends (E.contents faults.old) (E.contents faults.new) (refusal_line refusal)) }
+{
+    match refusal {
+        Refusal::Fault(fault) => end_with(faults, fault),
+        Refusal::Pair(fault) => {
+            let told = write_pair_fault(faults, fault);
+            (Status::Refused, told)
+        }
+    }
+}

@@ -1,0 +1,37 @@
+-- The events that a reason names.
+use Rattle.std.specs.Prelude.{ℕ, ◌<◌, List, length, MatchOption}
+use Rattle.std.specs.List.{All}
+use Rattle.msc_chart.specs.declared.queue.Queues.{Queues}
+use Rattle.msc_chart.specs.Drawings.{Drawing, IsAccepted}
+use Rattle.msc_chart.specs.Orders.{wired}
+use Rattle.msc_reason.specs.Reasons.{IsReason}
+use Rattle.msc_reason.specs.declared.lack.Lack.{Lack}
+use Rattle.msc_reason.specs.declared.reason.Reason.{Reason}
+use Rattle.msc_reason.specs.declared.reason.Reason.TheVariants.{Enforced, Free}
+use Rattle.msc_reason.specs.declared.why.Why.{Why}
+use Rattle.msc_reason.specs.declared.why.Why.TheVariants.{Straight, ByQueue}
+
+-- these are events of the chart
+abbrev pub AreEventsOf : Drawing → List ℕ → Type 0
+AreEventsOf d events = All (λ e. e < length d.events) events
+
+-- what shows that an event is enforced before another names events of the chart
+abbrev pub NamesSteps : Drawing → Why → Type 0
+NamesSteps d (Straight steps) = AreEventsOf d steps
+NamesSteps d (ByQueue u outputs onward) = (u < length d.events) × AreEventsOf d outputs × AreEventsOf d onward
+
+-- a lack names events of the chart
+pub record NamesLack (d : Drawing) (lack : Lack) : Type 0 where
+  pub needed : lack.needed < length d.events
+  pub output : lack.output < length d.events
+
+-- a reason names events of the chart, besides those of its run
+abbrev pub NamesAll : Drawing → Reason → Type 0
+NamesAll d (Enforced why) = NamesSteps d why
+NamesAll d (Free run lack late) = MatchOption lack (Unit {0}) (NamesLack d) × MatchOption late (Unit {0}) (NamesSteps d)
+
+-- a reason that is right does
+abbrev pub AReasonNamesEvents : Type 0
+AReasonNamesEvents =
+    (queues : Queues) (d : Drawing) → IsAccepted d → (e f : ℕ) → e < length d.events → f < length d.events
+    → (reason : Reason) → IsReason (wired queues d) e f reason → NamesAll d reason

@@ -1,8 +1,0 @@
-use Rattle.std.proofs.Common.{refl, inl, inr, arith}
-use Rattle.msc_study.proofs.explaining.pair_fault.Goals as goal
-
-pub returns-then-e-events : goal.returns-then-e-events
-returns-then-e-events c = inl (omega arith, refl)
-
-pub returns-then-f-events : goal.returns-then-f-events
-returns-then-f-events c = inr (omega arith, omega arith, refl)

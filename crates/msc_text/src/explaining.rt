@@ -1,0 +1,85 @@
+//! What is printed of two events of a chart: why the first comes before the second, or how it need
+//! not.
+
+ghost use Rattle.std.specs.Prelude.{◌≡◌, ◌<◌, length, IfOk};
+ghost use Rattle.msc_chart.specs.Orders.{wired};
+ghost use Rattle.msc_reason.specs.Named.{NamesAll};
+ghost use Rattle.msc_reason.specs.Pairs.{AreTwoEvents};
+ghost use Rattle.msc_reason.specs.Reasons.{IsReason};
+ghost use Rattle.msc_report.specs.Reasons.{explained_text};
+ghost use Rattle.msc_text.specs.Explaining.{is_enforced, PrintsReason};
+
+use msc_chart::{Chart, Event, Queues};
+use msc_judge::Page;
+use msc_order::Order;
+use msc_reason::laws::{a_reason_names_events, a_why_is_enough};
+use msc_reason::{Reason, explain};
+use msc_report::write_explained;
+use std::alloc::{AllocError, Global};
+
+/// Why `e` is enforced before `f`, or how it need not be.
+fn reason_of(
+    alloc: Global,
+    chart: &Chart,
+    queues: Queues,
+    e: Event,
+    f: Event,
+) -> Result<Reason, AllocError>
+    requires { AreTwoEvents chart.now e f }
+    ensures { IfOk result (IsReason (wired queues chart.now) e f) }
+{
+    let order = Order::enforced(alloc, chart, queues)?;
+    explain(alloc, chart, queues, &order, e, f)
+}
+
+/// The text of a reason.
+fn page_of(
+    alloc: Global,
+    chart: &Chart,
+    queues: Queues,
+    e: Event,
+    f: Event,
+    reason: &Reason,
+) -> Result<Page, AllocError>
+    requires e_known { e < length chart.now.events }
+    requires f_known { f < length chart.now.events }
+    requires named { NamesAll chart.now reason.now }
+    ensures { IfOk result
+        (λ page. page.bytes.items ≡ explained_text chart.now queues e f reason.now) }
+{
+    let mut page = Page::new(alloc);
+    let written = write_explained(&mut page, chart, queues, e, f, reason);
+    page.if_written(written)
+}
+
+/// Whether it is why the first event is enforced before the second.
+fn is_enforced(reason: &Reason) -> bool
+    ensures { result ≡ is_enforced reason.now }
+{
+    match reason {
+        Reason::Enforced(_) => true,
+        Reason::Free(_, _, _) => false,
+    }
+}
+
+/// What is printed of two events of a chart under an architecture: why `e` comes before `f`, a
+/// chain of steps, each of which is a rule of the enforced order; or how it need not, a run that
+/// has `f` before `e`, with what the pair lacks where it is a race. Answers too whether `e` is
+/// enforced before `f`. An error is a growth of memory that was refused.
+pub fn explain_pair(
+    alloc: Global,
+    chart: &Chart,
+    queues: Queues,
+    e: Event,
+    f: Event,
+) -> Result<(Page, bool), AllocError>
+    requires { AreTwoEvents chart.now e f }
+    ensures { IfOk result (λ p. PrintsReason chart.now queues e f p.1 p.0.bytes.items) }
+{
+    a_reason_names_events();
+    a_why_is_enough();
+    chart.accepted();
+    let reason = reason_of(alloc, chart, queues, e, f)?;
+    let page = page_of(alloc, chart, queues, e, f, &reason)?;
+    Ok((page, is_enforced(&reason)))
+}
