@@ -5,7 +5,7 @@ use Rattle.msc_chart.specs.Chosen.{IsChosenNext}
 use Rattle.msc_race.specs.declared.choosing.Choice.{Choice}
 use Rattle.msc_race.specs.declared.beginning.Beginning.{Beginning}
 use Rattle.bit_rows.specs.Rows.{has}
-use Rattle.msc_race.specs.Choices.{wired_chart, event_count}
+use Rattle.msc_race.specs.Choices.{wired_chart, event_count, IsChoice}
 use Rattle.msc_race.specs.Remainders.{AreRows, AreTold, HasFirstWords}
 use Rattle.msc_race.specs.Fronts.{HoldsLines}
 use Rattle.msc_race.specs.QueuedRuns.{HoldsQueues}
@@ -31,3 +31,8 @@ pub record IsBeginning (c : Choice) (f : Beginning) : Type 0 where
   pub told : AreTold c f.remaining
   pub first : HasFirstWords f.remaining f.lines.left.items
   pub left : HoldsLeft f.lines.left.items (λ y. y < event_count c) (run_of f)
+
+-- the beginning of the chosen run of the choice's event
+pub record IsChosenSoFar (c : Choice) (f : Beginning) : Type 0 where
+  pub settled : IsChoice c
+  pub kept : IsBeginning c f

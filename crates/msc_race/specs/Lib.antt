@@ -3,6 +3,7 @@ pub mod Laws
 pub mod Races
 pub mod Wired
 pub mod Views
+pub mod Reversals
 pub mod Gaps
 pub mod Walks
 pub mod Samples

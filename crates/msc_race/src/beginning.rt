@@ -7,7 +7,8 @@ ghost use Rattle.std.specs.Prelude.{OnOk};
 ghost use Rattle.msc_chart.specs.Runs.{IsWhole};
 ghost use Rattle.msc_chart.specs.Chosen.{IsChosenNext};
 ghost use Rattle.msc_race.specs.Choices.{wired_chart, IsChoice};
-ghost use Rattle.msc_race.specs.Beginnings.{HaveCommon, IsBeginning, run_of};
+ghost use Rattle.msc_race.specs.Beginnings.{HaveCommon, IsBeginning, IsChosenSoFar};
+ghost use Rattle.msc_race.specs.Beginnings.{run_of};
 ghost use Rattle.msc_race.specs.Remainders.{HasFirstWords};
 
 use crate::choosing::Choice;
@@ -68,12 +69,12 @@ impl Beginning {
     }
 
     /// The next event of the chosen run, or none where it is whole.
-    pub fn next(&self, choice: &Choice) -> Option<Event>
-        requires settled { IsChoice choice.now }
-        requires kept { IsBeginning choice.now self.now }
-        ensures some { IfSome result
-            (λ x. IsChosenNext (wired_chart choice.now) choice.now.e (run_of self.now) x) }
-        ensures none { IfNone result (IsWhole (wired_chart choice.now) (run_of self.now)) }
+    pub fn next(&self) -> Option<Event>
+        requires { (choice : Choice) × IsChosenSoFar choice self.now }
+        ensures some { (choice : Choice) → IsChosenSoFar choice self.now → IfSome result
+            (λ x. IsChosenNext (wired_chart choice) choice.e (run_of self.now) x) }
+        ensures none { (choice : Choice) → IsChosenSoFar choice self.now → IfNone result
+            (IsWhole (wired_chart choice) (run_of self.now)) }
     {
         a_chosen_run_goes_on();
         no_run_is_stuck();

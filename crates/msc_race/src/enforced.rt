@@ -1,16 +1,16 @@
 //! A chart under an architecture, with its enforced order.
 
-ghost use Rattle.std.specs.Prelude.{◌≡◌, ◌+◌, ◌<◌, length, IfOk, OnOk};
+ghost use Rattle.std.specs.Prelude.{◌≡◌, ◌+◌, ◌<◌, ◌↔◌, length, IfOk, IsTrue, OnOk};
 ghost use Rattle.msc_chart.specs.Charts.{IsSegmentEnd};
 ghost use Rattle.msc_chart.specs.Drawings.{IsAccepted};
-ghost use Rattle.msc_race.specs.Views.{wiring_of, races_from, races_of, AreFrom, AreRacesOf};
+ghost use Rattle.msc_chart.specs.Orders.{Enforced as IsEnforcedBefore};
+ghost use Rattle.msc_order.specs.Tables.{orders};
+ghost use Rattle.msc_race.specs.Views.{races_from, races_of, wiring_of, AreFrom, AreRacesOf};
 ghost use Rattle.msc_race.specs.Views.{HasEnforcedOrder};
 ghost use Rattle.msc_race.specs.Walks.{HasReached};
-ghost use Rattle.msc_chart.specs.Chosen.{IsChosenRun};
 
 use crate::racing::{Walk, count_races};
-use crate::reversing::chosen_run;
-use msc_chart::{Chart, Event, Queues};
+use msc_chart::{Chart, Event, Queues, Wiring};
 use msc_order::Order;
 use std::alloc::{AllocError, Global};
 use std::marker::Model;
@@ -68,6 +68,27 @@ impl<'a> Enforced<'a> {
         &self.order
     }
 
+    /// The chart under the architecture.
+    pub fn wiring(&self) -> Wiring<'a>
+        ensures chart { result.chart.now ≡ self.now.chart }
+        ensures queues { result.queues ≡ self.now.queues }
+    {
+        Wiring {
+            chart: self.chart,
+            queues: self.queues,
+        }
+    }
+
+    /// Whether `e` is enforced before `f`. Both are numbers of events, from 0. It takes no memory.
+    pub fn holds(&self, e: Event, f: Event) -> bool
+        requires e_known { e < length self.now.chart.events }
+        requires f_known { f < length self.now.chart.events }
+        ensures value { result ≡ orders self.now.order e f }
+        ensures exact { IsTrue result ↔ IsEnforcedBefore (wiring_of self.now) e f }
+    {
+        self.order.holds(e, f)
+    }
+
     /// What every such chart keeps. It does nothing; a caller calls it to rest its own proof on
     /// that.
     pub fn enforced(&self)
@@ -110,14 +131,5 @@ impl<'a> Enforced<'a> {
     {
         list.clear();
         walk.push_races(list, self.chart, &self.order, e)
-    }
-
-    /// The chosen run of an event, which reverses each of its races. An error is a growth of memory
-    /// that was refused.
-    pub fn chosen_run(&self, alloc: Global, e: Event) -> Result<Vec<Event>, AllocError>
-        requires { e < length self.now.chart.events }
-        ensures { IfOk result (λ run. IsChosenRun (wiring_of self.now) e run.items) }
-    {
-        chosen_run(alloc, self.chart, self.queues, &self.order, e)
     }
 }

@@ -9,19 +9,15 @@ ghost use Rattle.std.specs.Prelude.{nat_lt, length, List, IfOk, OnOk};
 ghost use Rattle.msc_chart.specs.declared.event.ChartEvent.{ChartEvent};
 ghost use Rattle.msc_chart.specs.Lists.{pairs_to};
 ghost use Rattle.msc_chart.specs.Charts.{IsLineEnd, IsSegmentEnd};
-ghost use Rattle.msc_chart.specs.Orders.{wired, IsEnforcedOrder};
 ghost use Rattle.bit_rows.specs.Rows.{HasNumbersOf32Bits};
 ghost use Rattle.msc_order.specs.Tables.{orders};
 ghost use Rattle.msc_race.specs.Gaps.{is_gap, is_open};
-ghost use Rattle.msc_race.specs.Races.{all_races, is_raced, IsVerdict, TellsRuns};
+ghost use Rattle.msc_race.specs.Races.{all_races, is_raced};
 ghost use Rattle.msc_race.specs.Walks.{HasReached};
 ghost use Rattle.msc_race.specs.Words.{is_in_word};
 
-use crate::laws::races_are_what_runs_reverse;
-use crate::verdict::Verdict;
 use bit_rows::row::zeros_in;
-use listed::Listed;
-use msc_chart::{Chart, Event, Queues};
+use msc_chart::{Chart, Event};
 use msc_order::Order;
 use std::alloc::{AllocError, Global};
 
@@ -230,37 +226,4 @@ pub fn count_races(chart: &Chart, order: &Order) -> u32
         total += walk.count(chart, order, e);
     }
     total
-}
-
-/// As [`check`], for a caller that has made the enforced order. An error is a growth of memory that
-/// was refused.
-pub fn check_order(
-    alloc: Global,
-    chart: &Chart,
-    queues: Queues,
-    order: &Order,
-) -> Result<Verdict, AllocError>
-    requires enforced { IsEnforcedOrder (wired queues chart.now) (orders order.now) }
-    requires square { length order.now ≡ length chart.now.events }
-    ensures verdict { IfOk result (IsVerdict (wired queues chart.now)) }
-    ensures runs { IfOk result (TellsRuns (wired queues chart.now)) }
-{
-    races_are_what_runs_reverse();
-    chart.accepted();
-    let list = races(alloc, chart, order)?;
-    if list.is_empty() {
-        return Ok(Verdict::Pass);
-    }
-    Ok(Verdict::Races(Listed::from_vec(list)))
-}
-
-/// Whether a chart has races under an architecture, and which: [`Verdict::Pass`] exactly where no
-/// drawn pair is a race, so where every run keeps the drawn order; otherwise all races, which are
-/// the drawn pairs that some run reverses. An error is a growth of memory that was refused.
-pub fn check(alloc: Global, chart: &Chart, queues: Queues) -> Result<Verdict, AllocError>
-    ensures verdict { IfOk result (IsVerdict (wired queues chart.now)) }
-    ensures runs { IfOk result (TellsRuns (wired queues chart.now)) }
-{
-    let order = Order::enforced(alloc, chart, queues)?;
-    check_order(alloc, chart, queues, &order)
 }

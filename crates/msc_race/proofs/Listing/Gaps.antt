@@ -1,12 +1,8 @@
 -- The zeros of a row in a range of numbers, word by word.
-use Rattle.std.proofs.Common.{◌≡◌, ℕ, ◌+◌, ◌-◌, ◌*◌, ◌/◌, ◌%◌, ◌^◌, ◌<◌, ◌≤◌, Bool, false, not, ◌&&◌, inl, inr, List, [], ◌++◌, get_or, leb, ltb, min, sym, ap, ◌∙◌, refl, arith, bit_and, w64}
-use Rattle.std.specs.Int.{bit_not}
+use Rattle.std.proofs.Common.{◌≡◌, ℕ, ◌+◌, ◌*◌, ◌/◌, ◌%◌, ◌<◌, ◌≤◌, Bool, false, not, ◌&&◌, List, [], ◌++◌, get_or, leb, ltb, min, sym, ap, ◌∙◌, refl, arith}
 use Rattle.std.proofs.Math.Bool.{and-false, and-true, and_comm}
-use Rattle.std.proofs.lemmas.Bool.{cases_lt, le-leb, lt-leb, lt-ltb, le-ltb}
-use Rattle.std.proofs.lemmas.Bool.Decides.{nat_tests}
-use Rattle.std.proofs.lemmas.Nat.Bits.{bit_at_mask_inside, bit_at_mask_below, ones_shl}
+use Rattle.std.proofs.lemmas.Bool.{lt-leb, lt-ltb, le-ltb}
 use Rattle.bit_rows.specs.Rows.{bit_of, has}
-use Rattle.bit_rows.proofs.Bits.{bit_meet, bit_other, bit_zero, low_ones}
 use Rattle.msc_chart.specs.Lists.{pairs_to}
 use Rattle.msc_race.specs.Gaps.{is_gap}
 use Rattle.msc_race.specs.Words.{is_in_word}

@@ -1,5 +1,5 @@
 -- What stands in a queue, and which inputs have arrived, when an event of another queue occurs.
-use Rattle.std.proofs.Common.{◌≡◌, ◌≢◌, ℕ, ◌<◌, true, List, [], ◌∷◌, ◌++◌, filter, length, get_or, sym, subst}
+use Rattle.std.proofs.Common.{◌≡◌, ◌≢◌, ℕ, ◌<◌, true, List, [], ◌∷◌, ◌++◌, length, get_or, sym, subst}
 use Rattle.msc_chart.specs.Lists.{occurs, IsFirst}
 use Rattle.msc_chart.specs.Charts.{partner, is_output}
 use Rattle.msc_chart.specs.Orders.{WiredChart, queue}
