@@ -2,36 +2,35 @@
 use Rattle.std.proofs.Common.{◌≡◌, ◌∙◌, ◌&&◌, refl, sym, subst, not, true, false, Bool, List, [], ◌∷◌, is_some, ℕ, Option, Some, None, Box}
 use Rattle.std.proofs.lemmas.Option.{none-some}
 use Rattle.std.specs.Prelude.{MatchOption, map, option_map}
-use Rattle.std.specs.Borrow.{Bor}
 use Rattle.std.specs.Box.{box_value}
 use Rattle.clap.specs.Words.{App, Kinds, Row, Text, built, fault_of, is_simple, is_simple_and_free, subcommand_of, subcommand_rows, subcommand_rows_of}
 use Rattle.clap.specs.Kinds.{check_kinds, or_else}
 use Rattle.clap.specs.Faults.{defaults_fault, level_fault, settle_fault, walk_fault}
 use Rattle.clap.specs.Simple.{Shape}
 use Rattle.clap.specs.Walk.{Held, Names as CommandNames, settled as settled_rows, walk, walk_from}
-use Rattle.clap.specs.declared.builder.value_parser.ValueParser.TheVariants.{Names}
 use Rattle.clap.specs.declared.parser.matches.ArgMatches.{ArgMatches}
 use Rattle.clap.specs.declared.parser.matches.ArgMatches.TheViews.{out-SubCommand}
 use Rattle.clap.specs.declared.parser.matches.SubCommand.{SubCommand}
-use Rattle.msc_command.specs.Commands.{AreTaken, IsGrammar, architecture_words, form_words, kind_words, whole_command}
+use Rattle.msc_command.specs.Grammar.{AreTaken, IsGrammar, architecture_words, form_words, kind_words, parsers_of, whole_command}
+use Rattle.msc_command.specs.declared.grammar.Choices.{Choices}
 use Rattle.msc_command.specs.Program.{ObeysMatches, ObeysNamed}
-use Rattle.msc_command.specs.declared.program.Status.{Status}
-use Rattle.msc_command.specs.declared.program.Status.TheVariants.{Refused}
+use Rattle.msc_command.specs.declared.ending.Status.{Status}
+use Rattle.msc_command.specs.declared.ending.Status.TheVariants.{Refused}
 
 -- the commands are told of with these words
-pub is_grammar : {architectures kinds forms : Bor (List (Bor Text))} {grammar : App}
-    → map (λ word. word.now) architectures.now ≡ architecture_words → map (λ word. word.now) kinds.now ≡ kind_words
-    → map (λ word. word.now) forms.now ≡ form_words
-    → grammar ≡ whole_command (Names architectures) (Names kinds) (Names forms) → IsGrammar grammar
-is_grammar one two three is = (_, _, _, (_, refl, one), (_, refl, two), (_, refl, three), is)
+pub is_grammar : (lent : Choices) (grammar : App)
+    → map (λ word. word.now) lent.architectures.words.now ≡ architecture_words → map (λ word. word.now) lent.kinds.words.now ≡ kind_words
+    → map (λ word. word.now) lent.forms.words.now ≡ form_words → grammar ≡ whole_command (parsers_of lent) → IsGrammar grammar
+is_grammar lent grammar one two three is =
+    (parsers_of lent, record { architectures = (_, refl, one); kinds = (_, refl, two); forms = (_, refl, three) }, is)
 
 -- they are of the kind of which `clap` says all
 pub is_known : (grammar : App) → IsGrammar grammar → is_simple_and_free grammar ≡ true
-is_known grammar known = rw known.6 refl
+is_known grammar known = rw known.2 refl
 
 -- and simple, so that it says their matches
 pub is_simple_grammar : (grammar : App) → IsGrammar grammar → is_simple grammar ≡ true
-is_simple_grammar grammar known = rw known.6 refl
+is_simple_grammar grammar known = rw known.2 refl
 
 -- where neither of two steps fails, the second does not
 second_passes : (first second : Kinds) → or_else first second ≡ [] → second ≡ []
@@ -59,7 +58,7 @@ names_wanted s names held words named below wanted passes =
 -- words that are taken name a command
 names_command : (grammar : App) (words : List Text) → IsGrammar grammar → fault_of grammar words ≡ []
     → is_some (subcommand_of grammar words) ≡ true
-names_command grammar words known taken = names_wanted (built grammar).top _ _ _ _ _ (rw known.6 refl) taken
+names_command grammar words known taken = names_wanted (built grammar).top _ _ _ _ _ (rw known.2 refl) taken
 
 -- what there is
 there_is : {A : Type 0} (n : Option A) → is_some n ≡ true → (a : A) × (n ≡ Some a)
@@ -67,15 +66,16 @@ there_is (Some a) is = (a, refl)
 there_is None is = absurd cc
 
 -- and it is obeyed
-pub obeys_taken : (grammar : App) (words : List Text) (matches : ArgMatches) (status : Status) (rest left before after : Option (List ℕ))
+pub obeys_taken : {R W : Type 0} (remaining : R → Option (List ℕ)) (contents : W → Option (List ℕ)) (grammar : App) (words : List Text)
+    (matches : ArgMatches) (status : Status) (rest left : R) (old new : W)
     → IsGrammar grammar → fault_of grammar words ≡ [] → subcommand_rows_of matches ≡ subcommand_of grammar words
-    → ObeysMatches matches status rest left before after
-    → (named : Text × List Row) × AreTaken words named × ObeysNamed named status rest left before after
-obeys_taken grammar words matches status rest left before after known taken found obeyed =
+    → ObeysMatches remaining contents matches status rest left old new
+    → (named : Text × List Row) × AreTaken words named × ObeysNamed remaining contents named status rest left old new
+obeys_taken remaining contents grammar words matches status rest left old new known taken found obeyed =
     let named = there_is _ (names_command grammar words known taken) in (
       named.0,
       (grammar, known, taken, named.1),
-      subst (λ n. MatchOption n (status ≡ Refused) (λ named. ObeysNamed named status rest left before after))
+      subst (λ n. MatchOption n ((status ≡ Refused) × (new ≡ old)) (λ named. ObeysNamed remaining contents named status rest left old new))
           (found ∙ named.1) obeyed,
     )
 

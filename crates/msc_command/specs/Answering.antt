@@ -7,6 +7,7 @@ use Rattle.msc_parser.specs.Canonical.{canonical}
 use Rattle.msc_parser.specs.Grammar.{Tree}
 use Rattle.msc_parser.specs.Parsing.{HasDraft, HasParseFault}
 use Rattle.msc_reason.specs.Pairs.{IsPairFault}
+use Rattle.msc_reason.specs.declared.pair.PairFault.{PairFault}
 use Rattle.msc_judge.specs.Pages.{WritesBeginning}
 use Rattle.msc_report.specs.declared.fault.Fault.TheVariants.{Parse, NotStarted, Memory, Device}
 use Rattle.msc_report.specs.declared.fault.Fault.TheVariants as faults
@@ -39,11 +40,20 @@ PrintsOf (Explain queues e f) file d status printed =
 PrintsOf (Run queues patience) file d status printed =
     (finished : Bool) × (status ≡ finished_by finished) × PrintsExecution d queues true patience finished printed
 
--- why there is nothing to print: the numbers are no two events of the chart, or an instance of it
--- could not be started
+-- the numbers of a pair that is asked for are no two events of the chart
+abbrev pub RefusesPair : Ask → Drawing → PairFault → Type 0
+RefusesPair (Explain queues e f) d fault = IsPairFault d e f fault
+RefusesPair ask d fault = ⊥
+
+-- an instance of a chart that is to be run could not be started
+abbrev pub FailsToStart : Ask → Drawing → ℕ → Type 0
+FailsToStart (Run queues patience) d i = i < length d.instances
+FailsToStart ask d i = ⊥
+
+-- why there is nothing to print of a chart for what is asked of it
 abbrev pub RefusesOf : Ask → Drawing → Refusal → Type 0
-RefusesOf (Explain queues e f) d (refusals.Pair fault) = IsPairFault d e f fault
-RefusesOf (Run queues patience) d (refusals.Fault (NotStarted i)) = i < length d.instances
+RefusesOf ask d (refusals.Pair fault) = RefusesPair ask d fault
+RefusesOf ask d (refusals.Fault (NotStarted i)) = FailsToStart ask d i
 RefusesOf ask d refusal = ⊥
 
 -- what is printed of the text of a file for a task: its draft's canonical text, or what is asked of

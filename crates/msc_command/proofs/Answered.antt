@@ -1,0 +1,143 @@
+-- What was answered of a chart is answered of its text, and a flush keeps it.
+use Rattle.std.proofs.Common.{◌≡◌, ◌≢◌, ◌<◌, ℕ, Bool, List, [], length, Option, Some, None, Result, Ok, Err, inl, inr, refl, sym, subst, ◌∙◌}
+use Rattle.std.proofs.lemmas.List.{append-nil}
+use Rattle.std.specs.Io.KnownBytes.{Appends, Keeps}
+use Rattle.msc_chart.specs.declared.queue.Queues.{Queues}
+use Rattle.msc_chart.specs.Drawings.{Drawing}
+use Rattle.msc_ending.specs.declared.fault.RunFault.{RunFault}
+use Rattle.msc_ending.specs.declared.fault.RunFault.TheVariants as runs
+use Rattle.msc_judge.specs.Pages as pages
+use Rattle.msc_judge.specs.declared.page.WriteFault.{WriteFault}
+use Rattle.msc_judge.specs.declared.page.WriteFault.TheVariants as writing
+use Rattle.msc_judge.specs.declared.question.Question.{Question}
+use Rattle.msc_report.specs.declared.fault.Fault.TheVariants.{Parse, Chart, NotStarted, Memory, Device}
+use Rattle.msc_report.specs.Refusals.{of_reading, of_run, of_source, of_writing}
+use Rattle.msc_source.specs.Reading as reading
+use Rattle.msc_source.specs.Texts.{IsChartOf}
+use Rattle.msc_source.specs.declared.fault.ReadFault.{ReadFault}
+use Rattle.msc_source.specs.declared.fault.ReadFault.TheVariants as readings
+use Rattle.msc_source.specs.declared.fault.SourceFault.{SourceFault}
+use Rattle.msc_source.specs.declared.fault.SourceFault.TheVariants as sources
+use Rattle.msc_source.specs.declared.language.Language.TheVariants.{MscPr}
+use Rattle.msc_text.specs.Judging.{JudgesChart}
+use Rattle.msc_text.specs.declared.judging.Format.{Format}
+use Rattle.msc_command.specs.declared.ending.Refusal.{Refusal}
+use Rattle.msc_command.specs.declared.ending.Refusal.TheVariants as refusals
+use Rattle.msc_command.specs.declared.ending.Status.{Status}
+use Rattle.msc_command.specs.declared.tasks.Ask.{Ask}
+use Rattle.msc_command.specs.declared.tasks.Ask.TheVariants as asks
+use Rattle.msc_command.specs.declared.tasks.Form.{Form}
+use Rattle.msc_command.specs.declared.tasks.Task.{Task}
+use Rattle.msc_command.specs.declared.tasks.Task.TheVariants as tasks
+use Rattle.msc_command.specs.Answering.{Answers, AnswersOf, Does, IsPut, IsUnread, Performs, Prints, PrintsOf, Refuses, RefusesOf}
+use Rattle.msc_command.specs.Ending.{ended_by}
+use Rattle.msc_command.specs.Formats.{IsFormat}
+
+-- nothing more stands behind known bytes
+pub nothing_more : (now : Option (List ℕ)) → Appends now now []
+nothing_more None = tt
+nothing_more (Some xs) = sym (append-nil xs)
+
+-- bytes that are kept were written
+pub kept : (before mid after : Option (List ℕ)) (bytes : List ℕ) → Appends before mid bytes → Keeps mid after → Appends before after bytes
+kept None mid after bytes wrote keeps = tt
+kept (Some xs) None after bytes wrote keeps = absurd wrote
+kept (Some xs) (Some ys) None bytes wrote keeps = absurd keeps
+kept (Some xs) (Some ys) (Some zs) bytes wrote keeps = keeps ∙ wrote
+
+module _ {W : Type 0} (contents : W → Option (List ℕ)) where
+  -- what was answered of one thing was answered of another, where what is right of it is right there
+  pub answers_so : (prints so : Status → List ℕ → Type 0) (refuses not_so : Refusal → Type 0)
+      → ((status : Status) (printed : List ℕ) → prints status printed → so status printed) → ((r : Refusal) → refuses r → not_so r)
+      → (answer : Result Status Refusal) (old new : W) → Answers contents prints refuses answer old new → Answers contents so not_so answer old new
+  answers_so prints so refuses not_so right wrong (Ok status) old new (printed, says, wrote) = (printed, right status printed says, wrote)
+  answers_so prints so refuses not_so right wrong (Err (refusals.Fault Memory)) old new (inl same) = inl same
+  answers_so prints so refuses not_so right wrong (Err (refusals.Fault Memory)) old new (inr (status, printed, says, begun)) =
+      inr (status, printed, right status printed says, begun)
+  answers_so prints so refuses not_so right wrong (Err (refusals.Fault Device)) old new said = tt
+  answers_so prints so refuses not_so right wrong (Err (refusals.Fault (Parse f))) old new (no, same) = (wrong _ no, same)
+  answers_so prints so refuses not_so right wrong (Err (refusals.Fault (Chart f))) old new (no, same) = (wrong _ no, same)
+  answers_so prints so refuses not_so right wrong (Err (refusals.Fault (NotStarted i))) old new (no, same) = (wrong _ no, same)
+  answers_so prints so refuses not_so right wrong (Err (refusals.Pair f)) old new (no, same) = (wrong _ no, same)
+
+  -- what is right to print was put
+  pub put_so : (prints : Status → List ℕ → Type 0) (refuses : Refusal → Type 0) (bytes : List ℕ) (status : Status) → prints status bytes
+      → (answer : Result Status Refusal) (old new : W) → IsPut contents bytes status answer old new → Answers contents prints refuses answer old new
+  put_so prints refuses bytes status says (Ok s) old new (same, wrote) = (bytes, subst (λ (s : Status). prints s bytes) (sym same) says, wrote)
+  put_so prints refuses bytes status says (Err r) old new is = rw is tt
+
+  module _ (queues : Queues) (q : Question) (form : Form) (file : List ℕ) (format : Format) (its : IsFormat form file format) (d : Drawing) where
+    -- what was judged of a chart was answered of it
+    pub judged : (passed : Bool) (old new : W) → pages.Tells contents (JudgesChart d queues q format) (Ok passed) old new
+        → AnswersOf contents (asks.Check queues q form) file d (Ok (ended_by passed)) old new
+    judged passed old new (printed, says, wrote) = (printed, (format, its, passed, refl, says), wrote)
+
+    -- and so it was where it was not written to its end
+    pub not_judged : (f : WriteFault) (old new : W) → pages.Tells contents (JudgesChart d queues q format) (Err f) old new
+        → AnswersOf contents (asks.Check queues q form) file d (Err (refusals.Fault (of_writing f))) old new
+    not_judged writing.Memory old new (inl same) = inl same
+    not_judged writing.Memory old new (inr (passed, printed, says, begun)) =
+        inr (ended_by passed, printed, (format, its, passed, refl, says), begun)
+    not_judged writing.Device old new said = tt
+
+  -- a chart that was not run is answered so
+  pub not_run : (queues : Queues) (patience : ℕ) (file : List ℕ) (d : Drawing) (f : RunFault) (now : W)
+      → ((i : ℕ) → f ≡ runs.NotStarted i → i < length d.instances)
+      → AnswersOf contents (asks.Run queues patience) file d (Err (refusals.Fault (of_run f))) now now
+  not_run queues patience file d (runs.NotStarted i) now known = (known i refl, refl)
+  not_run queues patience file d runs.Memory now known = inl refl
+
+  module _ (file text : List ℕ) where
+    -- a text without a draft is refused
+    pub no_draft : (f : SourceFault) (now : W) → reading.RefusesDraft MscPr text f
+        → Does contents tasks.Read file text (Err (refusals.Fault (of_source f))) now now
+    no_draft (sources.Parse f) now has = (has, refl)
+    no_draft (sources.Chart f) now no = absurd no
+    no_draft sources.Memory now said = inl refl
+
+    -- and one without a chart
+    pub no_chart : (ask : Ask) (f : SourceFault) (now : W) → reading.Refuses MscPr text f
+        → Does contents (tasks.Chart ask) file text (Err (refusals.Fault (of_source f))) now now
+    no_chart ask (sources.Parse f) now has = (has, refl)
+    no_chart ask (sources.Chart f) now has = (has, refl)
+    no_chart ask sources.Memory now said = inl refl
+
+    -- a draft that was not written to its end is answered so
+    pub not_written : (f : WriteFault) (old new : W) → (f ≢ writing.Device → new ≡ old)
+        → Does contents tasks.Read file text (Err (refusals.Fault (of_writing f))) old new
+    not_written writing.Memory old new same = inl (same (λ e. cc))
+    not_written writing.Device old new same = tt
+
+    -- what is refused of a chart is refused of its text
+    refuses_so : (d : Drawing) → IsChartOf text d → (ask : Ask) (r : Refusal) → RefusesOf ask d r → Refuses (tasks.Chart ask) text r
+    refuses_so d of_text ask (refusals.Fault (Parse f)) no = absurd no
+    refuses_so d of_text ask (refusals.Fault (Chart f)) no = absurd no
+    refuses_so d of_text ask (refusals.Fault (NotStarted i)) no = (d, of_text, no)
+    refuses_so d of_text ask (refusals.Fault Memory) no = absurd no
+    refuses_so d of_text ask (refusals.Fault Device) no = absurd no
+    refuses_so d of_text ask (refusals.Pair f) no = (d, of_text, no)
+
+    -- what was answered of a chart was answered of its text
+    pub charted : (d : Drawing) → IsChartOf text d → (ask : Ask) (answer : Result Status Refusal) (old new : W)
+        → AnswersOf contents ask file d answer old new → Does contents (tasks.Chart ask) file text answer old new
+    charted d of_text ask answer old new said =
+        answers_so (PrintsOf ask file d) (Prints (tasks.Chart ask) file text) (RefusesOf ask d) (Refuses (tasks.Chart ask) text)
+        (λ status printed says. (d, of_text, says)) (refuses_so d of_text ask) answer old new said
+
+  -- an answer that went out is kept by a flush
+  pub flushed : (task : Task) (file text : List ℕ) (status : Status) (old mid new : W)
+      → Does contents task file text (Ok status) old mid → Keeps (contents mid) (contents new) → Does contents task file text (Ok status) old new
+  flushed task file text status old mid new (printed, says, wrote) keeps =
+      (printed, says, kept (contents old) (contents mid) (contents new) printed wrote keeps)
+
+  -- what was not read leaves every task undone
+  pub unread : (task : Task) (file : List ℕ) (reads : List ℕ → Type 0) (f : ReadFault) (now : W)
+      → Performs contents task file reads (Err (refusals.Fault (of_reading f))) now now
+  unread task file reads readings.Memory now = inr (tt, refl)
+  unread task file reads (readings.Device e) now = inr (tt, refl)
+
+  -- a task that was performed was so for texts of which less is known
+  pub performs_so : (task : Task) (file : List ℕ) (reads so : List ℕ → Type 0) (answer : Result Status Refusal) (old new : W)
+      → ((text : List ℕ) → reads text → so text) → Performs contents task file reads answer old new → Performs contents task file so answer old new
+  performs_so task file reads so answer old new less (inl (text, read, does)) = inl (text, less text read, does)
+  performs_so task file reads so answer old new less (inr unread) = inr unread

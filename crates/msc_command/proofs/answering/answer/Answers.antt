@@ -1,0 +1,28 @@
+use Rattle.std.proofs.Common.{refl}
+use Rattle.std.proofs.lemmas.Result.{err_from_is_err_and}
+use Rattle.msc_command.proofs.Answered.{charted, no_chart, no_draft, not_written}
+use Rattle.msc_command.proofs.answering.answer.Goals as goal
+
+pub returns-in_err-read-in-Read : goal.returns-in_err-read-in-Read
+returns-in_err-read-in-Read g c =
+    let p = err_from_is_err_and c.from_residual.result c.from_residual.ensures.1 in
+    rw (c.in-Read.is, p.1, p.2) (no_draft g.O.Write.contents c.args.file.now c.args.text.now _ c.args.output.now c.in_err-read-in-Read.ensures)
+
+pub returns-in_err-write_reading-in-Read : goal.returns-in_err-write_reading-in-Read
+returns-in_err-write_reading-in-Read g c =
+    let p = err_from_is_err_and c.from_residual-in_err-write_reading-in-Read.result c.from_residual-in_err-write_reading-in-Read.ensures.1 in
+    rw (c.in-Read.is, p.1, p.2) (not_written g.O.Write.contents c.args.file.now c.args.text.now _ c.args.output.now _ c.in_err-write_reading-in-Read.ensures.untouched)
+
+pub returns-in_ok-write_reading-in-Read : goal.returns-in_ok-write_reading-in-Read
+returns-in_ok-write_reading-in-Read g c =
+    rw c.in-Read.is (_, (c.in_ok-read-in-Read.read.draft, c.in_ok-read-in-Read.ensures.2, refl, refl), c.in_ok-write_reading-in-Read.ensures.written)
+
+pub returns-in_err-source-in-Chart : goal.returns-in_err-source-in-Chart
+returns-in_err-source-in-Chart g c =
+    let p = err_from_is_err_and c.from_residual-in_err-source-in-Chart.result c.from_residual-in_err-source-in-Chart.ensures.1 in
+    rw (c.in-Chart.is, p.1, p.2) (no_chart g.O.Write.contents c.args.file.now c.args.text.now c.in-Chart.ask _ c.args.output.now c.in_err-source-in-Chart.ensures)
+
+pub returns-in_ok-source-in-Chart : goal.returns-in_ok-source-in-Chart
+returns-in_ok-source-in-Chart g c =
+    rw c.in-Chart.is (charted g.O.Write.contents c.args.file.now c.args.text.now c.chart.result.now (rw c.chart.ensures c.in_ok-source-in-Chart.ensures.2) c.in-Chart.ask
+    c.answer_chart.result _ _ c.answer_chart.ensures)

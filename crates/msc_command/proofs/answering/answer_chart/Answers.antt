@@ -1,0 +1,13 @@
+use Rattle.std.proofs.Common.{inl, refl}
+use Rattle.std.proofs.lemmas.Result.{err_from_is_err_and}
+use Rattle.msc_command.proofs.Answered.{judged, not_judged, not_run, nothing_more, put_so}
+use Rattle.msc_command.proofs.answering.answer_chart.Goals as goal
+
+pub returns-in_err-passed-in-Check : goal.returns-in_err-passed-in-Check
+returns-in_err-passed-in-Check g c =
+    let p = err_from_is_err_and c.from_residual.result c.from_residual.ensures.1 in
+    rw (c.in-Check.is, p.1, p.2) (not_judged g.O.Write.contents c.in-Check.queues c.in-Check.question c.in-Check.form c.args.file.now c.format-format.result c.format-format.ensures c.args.chart.now _ _ _ c.in_err-passed-in-Check.ensures)
+
+pub returns-in_ok-passed-in-Check : goal.returns-in_ok-passed-in-Check
+returns-in_ok-passed-in-Check g c =
+    rw (c.in-Check.is, c.ended_by.ensures) (judged g.O.Write.contents c.in-Check.queues c.in-Check.question c.in-Check.form c.args.file.now c.format-format.result c.format-format.ensures c.args.chart.now _ _ _ c.in_ok-passed-in-Check.ensures)
