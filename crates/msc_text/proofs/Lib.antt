@@ -1,4 +1,5 @@
 pub mod Refusals
+pub mod Shown
 pub mod Told
 pub mod Plain
 pub mod Judged

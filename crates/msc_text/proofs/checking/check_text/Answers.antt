@@ -1,6 +1,10 @@
-use Rattle.std.proofs.Common.{◌≡◌, ℕ, Bool, List, sym, subst}
+use Rattle.std.proofs.Common.{Ok, Err, sym, subst}
 use Rattle.std.proofs.lemmas.Result.{err_from_is_err_and}
 use Rattle.msc_judge.specs.declared.question.Question.{Question}
+use Rattle.msc_judge.specs.Pages.{Tells}
+use Rattle.msc_source.specs.Texts.{IsChartOf}
+use Rattle.msc_text.specs.Judging.{JudgesChart}
+use Rattle.msc_text.specs.declared.judging.Format.TheVariants.{Lines}
 use Rattle.msc_text.proofs.Judged.{begins_verdict, writes_verdict}
 use Rattle.msc_text.proofs.Refusals.{draft_charted, draft_refused, text_drafted, text_refused, write_refuses_no_draft, write_refuses_no_text}
 use Rattle.msc_text.proofs.checking.check_text.Goals as goal
@@ -30,3 +34,22 @@ returns-clause-refused g c = text_drafted c.one_parsing.ensures c.args.text.now 
 
 pub returns-clause-no_chart : goal.returns-clause-no_chart
 returns-clause-no_chart g c = draft_charted c.one_parsing.ensures c.args.text.now _ _ c.in_ok-source.ensures.2 (λ f e. cc)
+
+pub returns-in_err-judge_chart-clause-begun : goal.returns-in_err-judge_chart-clause-begun
+returns-in_err-judge_chart-clause-begun g c =
+    let exit = err_from_is_err_and c.from_residual-in_err-judge_chart.result c.from_residual-in_err-judge_chart.ensures.1 in
+    let of_text = subst (IsChartOf c.args.text.now) (sym c.chart.ensures) c.in_ok-source.ensures.2 in
+    let laws = c.the_chosen_run_reverses.ensures in
+    rw (exit.1, exit.2) (begins_verdict c.args.text.now c.args.queues c.args.show c.chart.result.now of_text c.enforced_orders_tell_verdicts.ensures laws.whole laws.races
+    g.W.Write.contents c.in_err-judge_chart.field-0.0 c.args.writer.now _
+    (subst (λ (q : Question). Tells g.W.Write.contents (JudgesChart c.chart.result.now c.args.queues q Lines) (Err c.in_err-judge_chart.field-0.0) c.args.writer.now c.judge_chart.new.writer)
+    c.all_races-question.ensures c.in_err-judge_chart.ensures))
+
+pub returns-clause-written : goal.returns-clause-written
+returns-clause-written g c =
+    let of_text = subst (IsChartOf c.args.text.now) (sym c.chart.ensures) c.in_ok-source.ensures.2 in
+    let laws = c.the_chosen_run_reverses.ensures in
+    writes_verdict c.args.text.now c.args.queues c.args.show c.chart.result.now of_text c.enforced_orders_tell_verdicts.ensures laws.whole laws.races
+    g.W.Write.contents c.in_ok-judge_chart.field-0 c.args.writer.now _
+    (subst (λ (q : Question). Tells g.W.Write.contents (JudgesChart c.chart.result.now c.args.queues q Lines) (Ok c.in_ok-judge_chart.field-0) c.args.writer.now c.judge_chart.new.writer)
+    c.all_races-question.ensures c.in_ok-judge_chart.ensures)
