@@ -11,5 +11,4 @@ pub mod Rules
 pub mod Reasons
 pub mod Laws
 -- what the code keeps
-pub mod Ranges
 pub mod Marked
