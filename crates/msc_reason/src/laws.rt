@@ -51,8 +51,8 @@ pub fn a_why_is_enough()
 }
 
 /// The races that count are those of no kind that is left out, and the closest of them those within
-/// whose span no other one lies. These are told by ascending lists, whatever table of lacks they are
-/// made by; the enforced order makes one.
+/// whose span no other one lies. These are told by ascending lists, whatever table of lacks they
+/// are made by; the enforced order makes one.
 pub fn what_counts_is_listed()
     ensures counting { CountingRacesAreListed }
     ensures closest { ClosestRacesAreListed }

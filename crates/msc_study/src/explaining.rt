@@ -13,8 +13,8 @@ use crate::explained::Explained;
 use crate::reasons::write_explained;
 use msc_chart::{Chart, Event, Queues};
 use msc_judge::Page;
-use msc_order::Order;
 use msc_parser::laws::one_parsing;
+use msc_race::Enforced;
 use msc_reason::laws::a_why_is_enough;
 use msc_reason::{Reason, explain};
 use msc_report::{Fault, PairFault};
@@ -79,8 +79,8 @@ fn reason_of(
     requires { AreTwoEvents chart.now e f }
     ensures { IfOk result (IsReason (wired queues chart.now) e f) }
 {
-    let order = Order::enforced(alloc, chart, queues)?;
-    explain(alloc, chart, queues, &order, e, f)
+    let enforced = Enforced::of(alloc, chart, queues)?;
+    explain(alloc, &enforced, e, f)
 }
 
 /// Why `e` is enforced before `f`, or how it need not be: what is printed of it, and which of both
