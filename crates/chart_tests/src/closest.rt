@@ -7,9 +7,8 @@ use example_charts::{
     BELOW_COREGION, CROSSING, OVERTAKING, RELAY, TWO_MAILBOXES, TWO_SENDERS, WAITS,
 };
 use msc_chart::{Chart, Event, Queues};
-use msc_order::Order;
-use msc_race::races;
-use msc_reason::closest;
+use msc_race::Enforced;
+use msc_reason::{KindSet, Listing, Stream};
 
 /// An output between two inputs of one queue, which are taken in the order in which they were not
 /// sent: the later input always comes first, and before the output.
@@ -37,13 +36,28 @@ const CLOSEST: &[(&[u8], Queues, &[(Event, Event)])] = &[
     (OUTPUT_BETWEEN, Queues::Single, &[(3, 4)]),
 ];
 
+/// What a listing lists, event by event.
+fn listed(rt: &impl Host, listing: &Listing) -> Vec<(Event, Event)> {
+    let mut list = Vec::new(rt.alloc());
+    let mut stream = Stream::new(rt.alloc());
+    for e in 0..listing.events() {
+        listing.next(&mut stream, e).expect(rt, "races");
+        list.extend_from_slice(stream.races.as_slice())
+            .expect(rt, "memory");
+    }
+    list
+}
+
+/// The closest races of a chart, whatever their kinds.
+fn near_of(rt: &impl Host, enforced: Enforced) -> Vec<(Event, Event)> {
+    let listing = Listing::of(rt.alloc(), enforced, KindSet::NONE, true).expect(rt, "memory");
+    listed(rt, &listing)
+}
+
 /// Whether these are the closest races of a chart under an architecture.
 fn are_near(rt: &impl Host, chart: &Chart, queues: Queues, wanted: &[(Event, Event)]) -> bool {
-    let order = Order::enforced(rt.alloc(), chart, queues).expect(rt, "an order");
-    closest(rt.alloc(), chart, queues, &order)
-        .expect(rt, "races")
-        .as_slice()
-        == wanted
+    let enforced = Enforced::of(rt.alloc(), chart, queues).expect(rt, "an order");
+    near_of(rt, enforced).as_slice() == wanted
 }
 
 /// The same of a text's chart.
@@ -61,7 +75,7 @@ fn closest_races(rt: HostRuntime) {
 
 /// Texts with as many messages from each of two senders, drawn one stream below the other; how many
 /// races their charts have, and the one closest race.
-const STREAMS: &[(&[Part], usize, (Event, Event))] = &[
+const STREAMS: &[(&[Part], u32, (Event, Event))] = &[
     (
         &[
             ("msc t;instance a;", 20, "out m", " to b;"),
@@ -87,13 +101,13 @@ const STREAMS: &[(&[Part], usize, (Event, Event))] = &[
 ];
 
 /// How many races and how many closest races there are, and the first of these.
-type Counted = (usize, usize, Option<(Event, Event)>);
+type Counted = (u32, usize, Option<(Event, Event)>);
 
 /// How many races and how many closest races a chart has, and the first of these.
 fn counted(rt: &impl Host, chart: &Chart) -> Counted {
-    let order = Order::enforced(rt.alloc(), chart, Queues::Pair).expect(rt, "an order");
-    let near = closest(rt.alloc(), chart, Queues::Pair, &order).expect(rt, "races");
-    let all = races(rt.alloc(), chart, &order).expect(rt, "races").len();
+    let enforced = Enforced::of(rt.alloc(), chart, Queues::Pair).expect(rt, "an order");
+    let all = enforced.count_races();
+    let near = near_of(rt, enforced);
     (all, near.len(), near.first().copied())
 }
 

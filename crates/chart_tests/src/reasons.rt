@@ -8,7 +8,7 @@ use example_charts::{
     CROSSING, LOCAL_EVENTS, OVERTAKING, RELAY, TWO_MAILBOXES, TWO_SENDERS, WAITS,
 };
 use msc_chart::{Chart, Event, Queues};
-use msc_order::Order;
+use msc_race::Enforced;
 use msc_reason::{Lack, RaceKind, Reason, Why, explain, is_race, lack_of};
 
 /// The kind of a race, what it needs before which output, and whether it is reversed always.
@@ -114,14 +114,14 @@ const REASONS: &[(&[u8], Queues, (Event, Event), Option<Cause>)] = &[
 /// Why a pair of events of a chart is a race under an architecture, where it is one.
 fn reason_in(rt: &impl Host, chart: &Chart, queues: Queues, pair: (Event, Event)) -> Option<Cause> {
     let (e, f) = pair;
-    if e >= chart.events() || f >= chart.events() {
+    let enforced = Enforced::of(rt.alloc(), chart, queues).expect(rt, "an order");
+    if e >= enforced.events() || f >= enforced.events() {
         return None;
     }
-    let order = Order::enforced(rt.alloc(), chart, queues).expect(rt, "an order");
-    if !is_race(chart, queues, &order, e, f) {
+    if !is_race(&enforced, e, f) {
         return None;
     }
-    let lack = lack_of(chart, queues, &order, e, f);
+    let lack = lack_of(&enforced, e, f);
     Some((lack.kind, lack.needed, lack.output, lack.always))
 }
 
@@ -211,11 +211,11 @@ fn shown(why: &Why) -> Shown<'_> {
 /// they are two.
 fn said_of(rt: &impl Host, chart: &Chart, queues: Queues, pair: (Event, Event)) -> Option<Reason> {
     let (e, f) = pair;
-    if e >= chart.events() || f >= chart.events() || e == f {
+    let enforced = Enforced::of(rt.alloc(), chart, queues).expect(rt, "an order");
+    if e >= enforced.events() || f >= enforced.events() || e == f {
         return None;
     }
-    let order = Order::enforced(rt.alloc(), chart, queues).expect(rt, "an order");
-    Some(explain(rt.alloc(), chart, queues, &order, e, f).expect(rt, "a reason"))
+    Some(explain(rt.alloc(), &enforced, e, f).expect(rt, "a reason"))
 }
 
 /// The same of a text's chart.

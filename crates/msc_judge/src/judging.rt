@@ -105,11 +105,7 @@ impl<'t, 'a, R: Renderer> Teller<'t, 'a, R> {
         if !self.question.why {
             return None;
         }
-        let enforced = self.listing.enforced();
-        enforced.enforced();
-        let chart = enforced.chart();
-        let queues = enforced.queues();
-        Some(lack_of(chart, queues, enforced.order(), race.0, race.1))
+        Some(lack_of(self.listing.enforced(), race.0, race.1))
     }
 
     /// A race as a finding, with so many before it.

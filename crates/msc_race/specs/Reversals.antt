@@ -9,10 +9,11 @@ use Rattle.msc_chart.specs.Runs.{Run, IsWhole, Reverses}
 abbrev pub ComesFirst : WiredChart → ℕ → ℕ → Type 0
 ComesFirst chart e f = (e ≡ f) ⊎ Enforced chart e f
 
--- a whole run that has f before e: the chosen run of e
+-- a whole run that has f before e: the chosen run of e, which does not come first
 pub record IsReversingRun (chart : WiredChart) (e f : ℕ) (events : List ℕ) : Type 0 where
   pub chosen : IsChosenRun chart e events
   pub run : Run chart events
   pub whole : IsWhole chart events
   pub reverses : Reverses events e f
+  pub apart : ComesFirst chart e f → ⊥
   pub before : IsTrue (occurs (until events e) f)

@@ -1,11 +1,11 @@
 //! Races and runs of a chart under an architecture.
 //!
-//! [`check`] says whether a chart has races, and which; [`Enforced`] is a chart under an
-//! architecture with its enforced order, of which further questions are asked, and its
-//! [`Enforced::reversing_run`] shows that a race happens. The runs, the enforced order, races and the chosen run are defined in `msc_chart`; the
-//! module of laws says what they have to do with one another. The words are those of Z.120; races
-//! are after Alur, Holzmann and Peled (1996), the enforced order and the chosen run are this
-//! project's own. Events are numbered from 0, over all lines.
+//! [`check`] says whether a chart has races, and which. [`Enforced`] is a chart under an
+//! architecture with its enforced order, of which all else is asked; [`Enforced::reversing_run`]
+//! shows that a race happens. The runs, the enforced order, races and the chosen run are defined in
+//! `msc_chart`; the module of laws says what they have to do with one another. The words are those
+//! of Z.120; races are after Alur, Holzmann and Peled (1996), the enforced order and the chosen run
+//! are this project's own. Events are numbered from 0, over all lines.
 #![tactic(auto)]
 
 mod beginning;

@@ -1,5 +1,5 @@
 -- Laws of the races that count: which they are, and that each spans a closest one.
-use Rattle.std.proofs.Common.{◌≡◌, ℕ, zero, suc, ◌+◌, ◌≤◌, ◌⊎◌, Bool, true, false, ◌&&◌, ◌||◌, not, inl, inr, List, [], ◌∷◌, length, refl, sym, ap, ◌∙◌, subst, arith}
+use Rattle.std.proofs.Common.{◌≡◌, ℕ, zero, suc, ◌+◌, ◌≤◌, ◌⊎◌, true, not, inl, inr, List, [], ◌∷◌, length, refl, sym, ap, ◌∙◌, subst, arith}
 use Rattle.std.specs.Prelude.{◌↔◌}
 use Rattle.std.specs.List.{list_any}
 use Rattle.std.proofs.lemmas.Bool.{and_parts, and_from, false_from_ne_true, not-true, not_from_false}
@@ -19,7 +19,7 @@ use Rattle.msc_reason.proofs.Spans.{before_trans, parted}
 use Rattle.msc_reason.proofs.Within.{before_apart, within_from, within_parts, Within}
 use Rattle.msc_reason.specs.Closest.{IsClosest, StandsWithin}
 use Rattle.msc_reason.specs.Counting.{counting, counts, is_alone, is_listed, is_within, listed, AreLacks}
-use Rattle.msc_reason.specs.CountingLaws.{IsClosestCounting, IsCounting, IsLeftOut}
+use Rattle.msc_reason.specs.CountingLaws.{IsClosestCounting, IsCounting}
 use Rattle.msc_reason.specs.Kinds.{has_kind, is_empty}
 use Rattle.msc_reason.specs.Laws.{EachRaceHasOneKind}
 use Rattle.msc_reason.specs.declared.kinds.KindSet.{KindSet}

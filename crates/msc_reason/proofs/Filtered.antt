@@ -1,9 +1,11 @@
 -- What stands in a list that passes a test.
-use Rattle.std.proofs.Common.{◌≡◌, ℕ, zero, suc, Bool, true, false, cond, ◌||◌, ◌&&◌, List, [], ◌∷◌, refl, sym, ap, ◌∙◌, subst, Some, slice_get}
+use Rattle.std.proofs.Common.{◌≡◌, ◌≢◌, ℕ, zero, suc, Bool, true, false, cond, ◌||◌, ◌&&◌, List, [], ◌∷◌, refl, sym, ap, ◌∙◌, subst, arith}
 use Rattle.std.specs.List.{filter, list_any}
 use Rattle.std.proofs.lemmas.Bool.{or_left, or_right}
-use Rattle.msc_chart.proofs.ListLemmas.{by_test}
+use Rattle.msc_chart.proofs.ListLemmas.{by_test, clash}
 use Rattle.msc_chart.specs.Lists.{Occurs}
+use Rattle.msc_race.specs.Races.{AreAscending}
+use Rattle.msc_race.proofs.Listing.Ascending.{first_ascends}
 
 -- a list of which all passes stays as it is
 pub filter_all : {X : Type 0} (test : X → Bool) (xs : List X) → ((x : X) → test x ≡ true) → filter test xs ≡ xs
@@ -61,3 +63,27 @@ filter_both one two [] = refl
 filter_both {X} one two (x ∷ xs) = by_test (one x)
     (λ passes. rw passes (ap (λ (l : List X). cond (two x) (x ∷ l) l) (filter_both one two xs)))
     (λ fails. rw fails (filter_both one two xs))
+
+-- where none passes, none is kept
+pub filter_none : {X : Type 0} (test : X → Bool) (xs : List X) → list_any test xs ≡ false → filter test xs ≡ []
+filter_none test [] none = refl
+filter_none {X} test (x ∷ xs) none = by_test (test x)
+    (λ passes. clash (or_left (test x) (list_any test xs) passes) none)
+    (λ fails. rw fails (filter_none test xs (sym (ap (λ (b : Bool). b || list_any test xs) fails) ∙ none)))
+
+-- and where one does, some is
+pub filter_some : {X : Type 0} (test : X → Bool) (xs : List X) → list_any test xs ≡ true → filter test xs ≢ []
+filter_some {X} test xs some none =
+    let one = any_parts test xs some in
+    let kept = filter_from test xs one.0 one.1 one.2 in
+    absurd (let empty : Occurs {T = X} [] one.0 = subst (λ (l : List X). Occurs l one.0) none kept in cc)
+
+-- what is kept of an ascending list is ascending
+pub filter_ascends : (test : ℕ × ℕ → Bool) (xs : List (ℕ × ℕ)) → AreAscending xs → AreAscending (filter test xs)
+filter_ascends test [] all = all
+filter_ascends test (x ∷ xs) all =
+    let rest = filter_ascends test xs (λ i j p q less h k. all (suc i) (suc j) p q (omega arith) h k) in
+    by_test (test x)
+    (λ passes. rw passes (first_ascends x (filter test xs)
+    (λ q there. let was = (filter_parts test xs q there).0 in all zero (suc was.0) x q (omega arith) refl was.1) rest))
+    (λ fails. rw fails rest)

@@ -1,10 +1,10 @@
 -- How marks are made, and what they tell of the races of a chart.
-use Rattle.std.proofs.Common.{set, ◌≡◌, ◌≢◌, ℕ, ◌+◌, ◌-◌, ◌<◌, ◌≤◌, ◌⊎◌, min, Bool, true, false, cond, inl, inr, List, [], ◌∷◌, ◌++◌, length, get_or, take, drop, eqb, refl, sym, ap, ◌∙◌, subst, arith}
+use Rattle.std.proofs.Common.{set, ◌≡◌, ◌≢◌, ℕ, ◌+◌, ◌<◌, ◌≤◌, ◌⊎◌, min, Bool, true, false, cond, inl, inr, List, length, get_or, eqb, refl, sym, ap, ◌∙◌, subst, arith}
 use Rattle.std.specs.List.{list_any, All}
 use Rattle.std.proofs.Math.Nat.{min-le_left, min-le_right}
 use Rattle.std.proofs.lemmas.Option.{get_or_from_slice_get, slice_get_within}
 use Rattle.std.proofs.lemmas.Bool.{cases_lt, cases_eq, eqb-true, eq-eqb, false_from_ne_true}
-use Rattle.std.proofs.lemmas.List.{append-nil, get_or-set_same, get_or-set_other, take_all, length-append}
+use Rattle.std.proofs.lemmas.List.{get_or-set_same, get_or-set_other}
 use Rattle.msc_chart.specs.Lists.{Occurs}
 use Rattle.msc_chart.proofs.ListLemmas.{by_test}
 use Rattle.msc_race.specs.Wired.{EnforcedChart}
@@ -12,7 +12,7 @@ use Rattle.msc_reason.proofs.Counted.{counted_in, counted_parts, counting_in, co
 use Rattle.msc_reason.proofs.Filtered.{any_in, any_parts}
 use Rattle.msc_reason.proofs.Within.{Within, within_from, within_parts}
 use Rattle.msc_reason.specs.Counting.{counting, is_within}
-use Rattle.msc_reason.specs.Marked.{counted_from, is_counted, lack_in, AreMarks, IsLeastSecond}
+use Rattle.msc_reason.specs.Marked.{counted_from, is_counted, lack_in, IsLeastSecond}
 use Rattle.msc_reason.specs.declared.kinds.KindSet.{KindSet}
 
 -- the last k numbers have the least of what stood there and behind, the others what they had

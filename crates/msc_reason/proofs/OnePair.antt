@@ -11,13 +11,7 @@ use Rattle.msc_race.proofs.Runs.EnforcedPairs.{into_input}
 use Rattle.msc_reason.specs.declared.lack.RaceKind.{RaceKind}
 use Rattle.msc_reason.specs.declared.lack.RaceKind.TheVariants.{Early, Queues, Unordered, Overtaken}
 use Rattle.msc_reason.specs.Lacks.{IsKindOf, share_queue, needed}
-
--- an event or its output, by the kind of its race
-abbrev pub needed_first : RaceKind → ℕ → ℕ → ℕ
-needed_first Early e output = e
-needed_first Queues e output = e
-needed_first Unordered e output = output
-needed_first Overtaken e output = output
+use Rattle.msc_reason.specs.Marked.{needed_in}
 
 module _ (chart : WiredChart) where
   -- what the test for inputs of one queue says
@@ -44,7 +38,7 @@ module _ (chart : WiredChart) where
   needed_itself e f apart = rw apart refl
 
   -- what a race of a kind needs
-  pub needed_by : (e f : ℕ) (kind : RaceKind) → IsKindOf chart e f kind → needed chart e f ≡ needed_first kind e (partner chart.events e)
+  pub needed_by : (e f : ℕ) (kind : RaceKind) → IsKindOf chart e f kind → needed chart e f ≡ needed_in chart.events kind e
   needed_by e f Early h = needed_itself e f (false_from_ne_true _ (λ share. controlled_no_input chart.events e h (share_parts e f share).0))
   needed_by e f Queues h = needed_itself e f (false_from_ne_true _ (λ share. h.1 (share_parts e f share).2))
   needed_by e f Unordered h = needed_output e f h.0

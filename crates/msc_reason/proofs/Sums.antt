@@ -1,10 +1,9 @@
 -- How many races pass a test, event by event.
-use Rattle.std.proofs.Common.{◌≡◌, ℕ, ◌+◌, ◌<◌, ◌≤◌, Bool, true, false, ◌&&◌, ◌||◌, not, List, [], ◌++◌, length, refl, sym, ap, ◌∙◌, subst, arith}
+use Rattle.std.proofs.Common.{◌≡◌, ℕ, ◌+◌, ◌≤◌, Bool, true, false, ◌&&◌, ◌||◌, not, List, [], ◌++◌, length, refl, ap, ◌∙◌, arith}
 use Rattle.std.specs.List.{filter}
-use Rattle.std.proofs.lemmas.List.{append-nil, length-append}
+use Rattle.std.proofs.lemmas.List.{length-append}
 use Rattle.std.proofs.lemmas.List.Elements.{filter-append, filter_agree}
 use Rattle.std.proofs.lemmas.List.Sums.{count_by-le-length, length-filter}
-use Rattle.msc_chart.proofs.ListLemmas.{by_test}
 use Rattle.msc_race.specs.Views.{races_from, races_of}
 use Rattle.msc_race.specs.Wired.{EnforcedChart}
 use Rattle.msc_race.proofs.Listing.Raced.{no_races_below, races_after, races_below, races_below_all, races_below_more}

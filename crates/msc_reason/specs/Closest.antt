@@ -6,11 +6,6 @@ use Rattle.msc_chart.specs.Lists.{Occurs}
 use Rattle.msc_chart.specs.Orders.{WiredChart, IsRace}
 use Rattle.msc_race.specs.Races.{AreAscending}
 
--- f is drawn after e, and nothing is drawn between them
-pub record IsDrawnNext (events : List ChartEvent) (e f : ℕ) : Type 0 where
-  pub drawn : IsTrue (before events e f)
-  pub none_between : (x : ℕ) → IsTrue (before events e x) → IsTrue (before events x f) → ⊥
-
 -- a race between whose events nothing is drawn
 pub record IsClosest (chart : WiredChart) (e f : ℕ) : Type 0 where
   pub race : IsRace chart e f

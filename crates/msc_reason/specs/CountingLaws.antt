@@ -1,15 +1,16 @@
 -- Laws of the races that count, of an accepted chart with its enforced order.
-use Rattle.std.specs.Prelude.{◌≡◌, ℕ, ◌↔◌, List, [], true}
+use Rattle.std.specs.Prelude.{◌≡◌, ℕ, ◌↔◌, Bool, [], true}
 use Rattle.msc_chart.specs.Drawings.{IsAccepted}
 use Rattle.msc_chart.specs.Lists.{Occurs}
 use Rattle.msc_chart.specs.Orders.{IsRace, WiredChart}
 use Rattle.msc_race.specs.Races.{AreAscending}
 use Rattle.msc_race.specs.Views.{wiring_of}
 use Rattle.msc_race.specs.Wired.{EnforcedChart, IsEnforced}
-use Rattle.msc_reason.specs.Closest.{IsClosest, StandsWithin}
+use Rattle.msc_reason.specs.Closest.{IsClosest, IsClosestList, StandsWithin}
 use Rattle.msc_reason.specs.Counting.{counting, listed, AreLacks}
 use Rattle.msc_reason.specs.Kinds.{has_kind, is_empty}
 use Rattle.msc_reason.specs.Lacks.{IsKindOf}
+use Rattle.msc_reason.specs.Marked.{lack_in}
 use Rattle.msc_reason.specs.declared.kinds.KindSet.{KindSet}
 use Rattle.msc_reason.specs.declared.lack.Lack.{Lack}
 use Rattle.msc_reason.specs.declared.lack.RaceKind.{RaceKind}
@@ -46,6 +47,16 @@ abbrev pub ClosestRacesAreListed : Type 0
 ClosestRacesAreListed = OfCharts (λ e allowed lacks.
     (x y : ℕ) → IsClosestCounting (wiring_of e) allowed x y ↔ Occurs (listed e allowed true lacks) (x, y))
 
+-- both lists are ascending, so no race stands twice
+abbrev pub ListedRacesAreAscending : Type 0
+ListedRacesAreAscending =
+    (e : EnforcedChart) (allowed : KindSet) (closest : Bool) (lacks : ℕ → ℕ → Lack)
+    → AreAscending (counting e allowed lacks) × AreAscending (listed e allowed closest lacks)
+
+-- the enforced order tells what each race lacks
+abbrev pub TheOrderTellsLacks : Type 0
+TheOrderTellsLacks = (e : EnforcedChart) → IsEnforced e → IsAccepted e.chart → AreLacks e (lack_in e)
+
 -- within each race that counts stands a closest one that counts
 abbrev pub EveryRaceThatCountsSpansAClosestOne : Type 0
 EveryRaceThatCountsSpansAClosestOne = OfCharts (λ e allowed lacks.
@@ -62,3 +73,8 @@ abbrev pub WithoutKindsTheClosestAreTheClosest : Type 0
 WithoutKindsTheClosestAreTheClosest =
     (e : EnforcedChart) → IsEnforced e → IsAccepted e.chart → (allowed : KindSet) → is_empty allowed ≡ true
     → (x y : ℕ) → IsClosestCounting (wiring_of e) allowed x y ↔ IsClosest (wiring_of e) x y
+
+-- and what is listed as closest is the list of all closest races, ascending, each once
+abbrev pub AllClosestRacesAreListed : Type 0
+AllClosestRacesAreListed = OfCharts (λ e allowed lacks.
+    is_empty allowed ≡ true → IsClosestList (wiring_of e) (listed e allowed true lacks))

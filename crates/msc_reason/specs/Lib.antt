@@ -13,5 +13,4 @@ pub mod Pairs
 pub mod Named
 pub mod Laws
 -- what the code keeps
-pub mod Ranges
 pub mod Marked

@@ -1,7 +1,8 @@
 -- What the code keeps of the races that count: their lacks by the order, and where they begin and end.
 use Rattle.std.specs.Prelude.{◌≡◌, ℕ, ◌+◌, ◌<◌, ◌≤◌, Bool, ◌&&◌, not, cond, List, length, get_or, nat_eq, IsTrue}
 use Rattle.std.specs.List.{filter}
-use Rattle.msc_chart.specs.Charts.{partner, is_controlled}
+use Rattle.msc_chart.specs.declared.event.ChartEvent.{ChartEvent}
+use Rattle.msc_chart.specs.Charts.{partner, is_controlled, IsSegmentEnd}
 use Rattle.msc_chart.specs.Orders.{queue}
 use Rattle.msc_order.specs.Tables.{orders}
 use Rattle.msc_race.specs.Races.{is_raced}
@@ -20,6 +21,14 @@ kind_in e x y =
     cond (is_controlled e.chart.events x) Early
     (cond (not (nat_eq (queue (wiring_of e) x) (queue (wiring_of e) y))) Queues
     (cond (orders e.order (partner e.chart.events y) (partner e.chart.events x)) Overtaken Unordered))
+
+-- what would have to come before the output of the second event of a race, by its kind and its first
+-- event
+abbrev pub needed_in : List ChartEvent → RaceKind → ℕ → ℕ
+needed_in events Early x = x
+needed_in events Queues x = x
+needed_in events Unordered x = partner events x
+needed_in events Overtaken x = partner events x
 
 -- the lack of a race, by this order
 abbrev pub lack_in : EnforcedChart → ℕ → ℕ → Lack
@@ -56,3 +65,19 @@ pub record AreMarks (test : ℕ → ℕ → Bool) (events : ℕ) (last least : L
   pub none_below : (s x y : ℕ) → s ≤ x → IsTrue (test x y) → get_or least s 0 ≤ y
   pub itself : (s : ℕ) → s ≤ events → get_or least s 0 < events
       → (x : ℕ) × (s ≤ x) × IsTrue (test x (get_or least s 0))
+
+-- The marks are those of the races that count, p is such a race, low the least event in which one of its
+-- first event ends, and the segment of that ends before this number.
+pub record IsMarked (e : EnforcedChart) (allowed : KindSet) (last least : List ℕ) (low past : ℕ) (p : ℕ × ℕ) : Type 0 where
+  pub marks : AreMarks (is_counted e allowed) (length e.chart.events) last least
+  pub race : IsTrue (is_counted e allowed p.0 p.1)
+  pub first : IsLeastSecond (is_counted e allowed) (length e.chart.events) p.0 low
+  pub end : IsSegmentEnd e.chart.events p.0 past
+
+-- the marks are those of the races that count, the pairs are such races of one event, and the segment of
+-- the event ends before this number
+pub record AreOfOneEvent (e : EnforcedChart) (allowed : KindSet) (last least : List ℕ) (past : ℕ) (pairs : List (ℕ × ℕ)) : Type 0 where
+  pub event : ℕ
+  pub marks : AreMarks (is_counted e allowed) (length e.chart.events) last least
+  pub end : IsSegmentEnd e.chart.events event past
+  pub races : pairs ≡ counted_from e allowed event

@@ -6,9 +6,9 @@
 
 ghost use Rattle.std.specs.Prelude.{◌≡◌, ◌<◌, ◌↔◌, ℕ, length, IsTrue, IfOk, MatchOption};
 ghost use Rattle.msc_chart.specs.Charts.{is_input};
-ghost use Rattle.msc_chart.specs.Orders.{wired, Enforced, IsEnforcedOrder};
+ghost use Rattle.msc_chart.specs.Orders.{Enforced as IsEnforcedBefore};
 ghost use Rattle.msc_order.specs.Caused.{Caused, InQueueOrder, IsFollowedBy};
-ghost use Rattle.msc_order.specs.Tables.{orders};
+ghost use Rattle.msc_race.specs.Views.{wiring_of};
 ghost use Rattle.msc_reason.specs.Chains.{LeadsTo, Step};
 ghost use Rattle.msc_reason.specs.Links.{HasNoLink, IsMate, Reaches};
 ghost use Rattle.msc_reason.specs.Rules.{IsChosenStep, IsChosenWhy, IsFirstMate, IsLastLink};
@@ -16,38 +16,35 @@ ghost use Rattle.msc_reason.specs.Rules.{LeadsByRule};
 
 use crate::why::Why;
 use listed::Listed;
+use msc_chart::Event;
 use msc_chart::laws::ends_share_queues;
-use msc_chart::{Chart, Event, Queues, Wiring};
-use msc_order::Order;
+use msc_race::Enforced;
 use msc_race::laws::the_enforced_order_has_no_cycle;
 use std::alloc::{AllocError, Global};
 
 /// Whether `z` is controlled, and is `y` or enforced before it.
-fn reaches(chart: &Chart, queues: Queues, order: &Order, y: Event, z: Event) -> bool
-    requires enforced { IsEnforcedOrder (wired queues chart.now) (orders order.now) }
-    requires square { length order.now ≡ length chart.now.events }
-    requires y_known { y < length chart.now.events }
-    requires z_known { z < length chart.now.events }
-    ensures { IsTrue result ↔ Reaches (wired queues chart.now) y z }
+fn reaches(enforced: &Enforced, y: Event, z: Event) -> bool
+    requires y_known { y < length enforced.now.chart.events }
+    requires z_known { z < length enforced.now.chart.events }
+    ensures { IsTrue result ↔ Reaches (wiring_of enforced.now) y z }
 {
-    chart.is_controlled(z) && (z == y || order.holds(z, y))
+    enforced.chart().is_controlled(z) && (z == y || enforced.holds(z, y))
 }
 
 /// The last event below `x` that is a link to `y`, if there is one.
-fn last_link(chart: &Chart, queues: Queues, order: &Order, x: Event, y: Event) -> Option<Event>
-    requires enforced { IsEnforcedOrder (wired queues chart.now) (orders order.now) }
-    requires square { length order.now ≡ length chart.now.events }
-    requires x_known { x < length chart.now.events }
-    requires y_known { y < length chart.now.events }
-    ensures { MatchOption result (HasNoLink (wired queues chart.now) x y)
-        (IsLastLink (wired queues chart.now) x y) }
+fn last_link(enforced: &Enforced, x: Event, y: Event) -> Option<Event>
+    requires x_known { x < length enforced.now.chart.events }
+    requires y_known { y < length enforced.now.chart.events }
+    ensures { MatchOption result (HasNoLink (wiring_of enforced.now) x y)
+        (IsLastLink (wiring_of enforced.now) x y) }
 {
-    chart.accepted();
+    enforced.enforced();
+    let chart = enforced.chart();
     let start = chart.segment_end(x);
     let end = chart.line_end(x);
     for k in 0..end.saturating_sub(start) {
         let z = end - 1 - k;
-        if reaches(chart, queues, order, y, z) {
+        if reaches(enforced, y, z) {
             return Some(z);
         }
     }
@@ -55,108 +52,90 @@ fn last_link(chart: &Chart, queues: Queues, order: &Order, x: Event, y: Event) -
 }
 
 /// The next event of the chain from `x` to `y`.
-fn next_step(chart: &Chart, queues: Queues, order: &Order, x: Event, y: Event) -> Event
-    requires enforced { IsEnforcedOrder (wired queues chart.now) (orders order.now) }
-    requires square { length order.now ≡ length chart.now.events }
-    requires caused { Caused chart.now.events x y }
-    ensures step { Step chart.now.events x result }
-    ensures onward { IsFollowedBy chart.now.events result y }
-    ensures chosen { IsChosenStep (wired queues chart.now) x y result }
+fn next_step(enforced: &Enforced, x: Event, y: Event) -> Event
+    requires { Caused enforced.now.chart.events x y }
+    ensures step { Step enforced.now.chart.events x result }
+    ensures onward { IsFollowedBy enforced.now.chart.events result y }
+    ensures chosen { IsChosenStep (wiring_of enforced.now) x y result }
 {
     ends_share_queues();
-    chart.accepted();
-    match last_link(chart, queues, order, x, y) {
+    enforced.enforced();
+    match last_link(enforced, x, y) {
         Some(z) => z,
-        None => chart.other_end(x),
+        None => enforced.chart().other_end(x),
     }
 }
 
 /// The events of a chain from `x` to `y` behind `x`: none where `x` is `y`.
-fn walk(
-    alloc: Global,
-    chart: &Chart,
-    queues: Queues,
-    order: &Order,
-    x: Event,
-    y: Event,
-) -> Result<Listed<Event>, AllocError>
-    requires enforced { IsEnforcedOrder (wired queues chart.now) (orders order.now) }
-    requires square { length order.now ≡ length chart.now.events }
-    requires onward { IsFollowedBy chart.now.events x y }
-    ensures { IfOk result (λ steps. LeadsTo chart.now.events x steps y
-        × LeadsByRule (wired queues chart.now) y x steps y) }
+fn walk(alloc: Global, enforced: &Enforced, x: Event, y: Event) -> Result<Listed<Event>, AllocError>
+    requires { IsFollowedBy enforced.now.chart.events x y }
+    ensures { IfOk result (λ steps. LeadsTo enforced.now.chart.events x steps y
+        × LeadsByRule (wiring_of enforced.now) y x steps y) }
 {
     the_enforced_order_has_no_cycle();
     ends_share_queues();
-    chart.accepted();
+    enforced.enforced();
     let mut steps = Vec::new(alloc);
     let mut at = x;
     while at != y {
-        at = next_step(chart, queues, order, at, y);
+        at = next_step(enforced, at, y);
         steps.push(at)?;
     }
     Ok(Listed::from_vec(steps))
 }
 
 /// Whether lines and messages alone enforce `x` before `y`.
-fn is_caused(chart: &Chart, queues: Queues, order: &Order, x: Event, y: Event) -> bool
-    requires enforced { IsEnforcedOrder (wired queues chart.now) (orders order.now) }
-    requires square { length order.now ≡ length chart.now.events }
-    requires x_known { x < length chart.now.events }
-    requires y_known { y < length chart.now.events }
-    ensures { IsTrue result ↔ Caused chart.now.events x y }
+fn is_caused(enforced: &Enforced, x: Event, y: Event) -> bool
+    requires x_known { x < length enforced.now.chart.events }
+    requires y_known { y < length enforced.now.chart.events }
+    ensures { IsTrue result ↔ Caused enforced.now.chart.events x y }
 {
     ends_share_queues();
-    chart.accepted();
-    if chart.is_controlled(x) {
-        return order.holds(x, y);
+    enforced.enforced();
+    if enforced.chart().is_controlled(x) {
+        return enforced.holds(x, y);
     }
-    last_link(chart, queues, order, x, y).is_some()
+    last_link(enforced, x, y).is_some()
 }
 
 /// Whether input `e` comes before `u` by the rule of queues alone.
-fn comes_by_queue(chart: &Chart, queues: Queues, order: &Order, e: Event, u: Event) -> bool
-    requires enforced { IsEnforcedOrder (wired queues chart.now) (orders order.now) }
-    requires square { length order.now ≡ length chart.now.events }
-    requires input { IsTrue (is_input chart.now.events e) }
-    requires u_known { u < length chart.now.events }
-    ensures { IsTrue result ↔ InQueueOrder (wired queues chart.now) e u }
+fn comes_by_queue(enforced: &Enforced, e: Event, u: Event) -> bool
+    requires input { IsTrue (is_input enforced.now.chart.events e) }
+    requires u_known { u < length enforced.now.chart.events }
+    ensures { IsTrue result ↔ InQueueOrder (wiring_of enforced.now) e u }
 {
     ends_share_queues();
-    chart.accepted();
-    let wiring = Wiring { chart, queues };
+    enforced.enforced();
+    let wiring = enforced.wiring();
+    let chart = wiring.chart;
     if chart.is_controlled(u) {
         return false;
     }
     if wiring.queue(e) != wiring.queue(u) {
         return false;
     }
-    order.holds(chart.other_end(e), chart.other_end(u))
+    enforced.holds(chart.other_end(e), chart.other_end(u))
 }
 
 /// Whether `u` comes after input `e` by the rule of queues, and is `f` or leads to it.
-fn is_mate(chart: &Chart, queues: Queues, order: &Order, e: Event, f: Event, u: Event) -> bool
-    requires enforced { IsEnforcedOrder (wired queues chart.now) (orders order.now) }
-    requires square { length order.now ≡ length chart.now.events }
-    requires input { IsTrue (is_input chart.now.events e) }
-    requires f_known { f < length chart.now.events }
-    requires u_known { u < length chart.now.events }
-    ensures { IsTrue result ↔ IsMate (wired queues chart.now) e f u }
+fn is_mate(enforced: &Enforced, e: Event, f: Event, u: Event) -> bool
+    requires input { IsTrue (is_input enforced.now.chart.events e) }
+    requires f_known { f < length enforced.now.chart.events }
+    requires u_known { u < length enforced.now.chart.events }
+    ensures { IsTrue result ↔ IsMate (wiring_of enforced.now) e f u }
 {
-    comes_by_queue(chart, queues, order, e, u) && (u == f || is_caused(chart, queues, order, u, f))
+    comes_by_queue(enforced, e, u) && (u == f || is_caused(enforced, u, f))
 }
 
 /// The first event that comes after input `e` by the rule of queues, and is `f` or leads to it.
-fn first_mate(chart: &Chart, queues: Queues, order: &Order, e: Event, f: Event) -> Event
-    requires enforced { IsEnforcedOrder (wired queues chart.now) (orders order.now) }
-    requires square { length order.now ≡ length chart.now.events }
-    requires input { IsTrue (is_input chart.now.events e) }
-    requires f_known { f < length chart.now.events }
-    requires some { (u : ℕ) × IsMate (wired queues chart.now) e f u }
-    ensures { IsFirstMate (wired queues chart.now) e f result }
+fn first_mate(enforced: &Enforced, e: Event, f: Event) -> Event
+    requires input { IsTrue (is_input enforced.now.chart.events e) }
+    requires f_known { f < length enforced.now.chart.events }
+    requires some { (u : ℕ) × IsMate (wiring_of enforced.now) e f u }
+    ensures { IsFirstMate (wiring_of enforced.now) e f result }
 {
-    for u in 0..chart.events() {
-        if is_mate(chart, queues, order, e, f, u) {
+    for u in 0..enforced.events() {
+        if is_mate(enforced, e, f, u) {
             return u;
         }
     }
@@ -165,30 +144,21 @@ fn first_mate(chart: &Chart, queues: Queues, order: &Order, e: Event, f: Event) 
 
 /// What shows that `e` is enforced before `f`, step by step; of several the one that the rule
 /// gives: a chain where there is one, otherwise the first input that serves, and of each chain the
-/// last events that lead on. `order` is the enforced order of the
-/// chart, and holds the pair. An error is a growth of memory that was refused.
-pub fn why_of(
-    alloc: Global,
-    chart: &Chart,
-    queues: Queues,
-    order: &Order,
-    e: Event,
-    f: Event,
-) -> Result<Why, AllocError>
-    requires enforced { IsEnforcedOrder (wired queues chart.now) (orders order.now) }
-    requires square { length order.now ≡ length chart.now.events }
-    requires pair { Enforced (wired queues chart.now) e f }
-    ensures { IfOk result (IsChosenWhy (wired queues chart.now) e f) }
+/// last events that lead on. The pair is enforced. An error is a growth of memory that was refused.
+pub fn why_of(alloc: Global, enforced: &Enforced, e: Event, f: Event) -> Result<Why, AllocError>
+    requires { IsEnforcedBefore (wiring_of enforced.now) e f }
+    ensures { IfOk result (IsChosenWhy (wiring_of enforced.now) e f) }
 {
     the_enforced_order_has_no_cycle();
     ends_share_queues();
-    chart.accepted();
-    if is_caused(chart, queues, order, e, f) {
-        return Ok(Why::Straight(walk(alloc, chart, queues, order, e, f)?));
+    enforced.enforced();
+    if is_caused(enforced, e, f) {
+        return Ok(Why::Straight(walk(alloc, enforced, e, f)?));
     }
-    let u = first_mate(chart, queues, order, e, f);
+    let u = first_mate(enforced, e, f);
+    let chart = enforced.chart();
     let output = chart.other_end(e);
-    let outputs = walk(alloc, chart, queues, order, output, chart.other_end(u))?;
-    let onward = walk(alloc, chart, queues, order, u, f)?;
+    let outputs = walk(alloc, enforced, output, chart.other_end(u))?;
+    let onward = walk(alloc, enforced, u, f)?;
     Ok(Why::ByQueue(u, outputs, onward))
 }

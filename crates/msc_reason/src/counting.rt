@@ -1,7 +1,7 @@
 //! Which races count, event by event.
 
 ghost use Rattle.std.specs.Prelude.{◌≡◌, ◌+◌, ◌<◌, ◌++◌, length, OnOk};
-ghost use Rattle.std.specs.List.{filter};
+ghost use Rattle.std.specs.List.{filter, list_any};
 ghost use Rattle.msc_chart.specs.Charts.{IsSegmentEnd};
 ghost use Rattle.msc_chart.specs.Orders.{IsRace};
 ghost use Rattle.msc_race.specs.Views.{wiring_of, AreRacesOf};
@@ -24,15 +24,7 @@ pub fn counts(enforced: &Enforced, allowed: KindSet, race: (Event, Event)) -> bo
     if allowed.is_empty() {
         return true;
     }
-    enforced.enforced();
-    let kind = kind_of(
-        enforced.chart(),
-        enforced.queues(),
-        enforced.order(),
-        race.0,
-        race.1,
-    );
-    !allowed.has(kind)
+    !allowed.has(kind_of(enforced, race.0, race.1))
 }
 
 /// Appends those of these races that count.
@@ -52,6 +44,19 @@ fn push_counting(
         }
     }
     Ok(())
+}
+
+/// Whether one of these races counts. It looks at none behind the first that does.
+pub(crate) fn some_counts(enforced: &Enforced, allowed: KindSet, races: &[(Event, Event)]) -> bool
+    requires { AreRacesOf enforced.now races.now }
+    ensures { result ≡ list_any (counts allowed (lack_in enforced.now)) races.now }
+{
+    for race in races {
+        if counts(enforced, allowed, *race) {
+            return true;
+        }
+    }
+    false
 }
 
 /// Goes on to event `e` of a walk: the list has its races that count then. `room` is for all of its

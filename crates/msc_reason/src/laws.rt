@@ -2,9 +2,10 @@
 //! nothing when they run: a caller calls one to rest its own proof on the law. Each law holds of
 //! every accepted chart under each architecture.
 
-ghost use Rattle.msc_reason.specs.CountingLaws.{ClosestRacesAreListed, CountingRacesAreListed};
+ghost use Rattle.msc_reason.specs.CountingLaws.{AllClosestRacesAreListed, ClosestRacesAreListed};
+ghost use Rattle.msc_reason.specs.CountingLaws.{CountingRacesAreListed, ListedRacesAreAscending};
 ghost use Rattle.msc_reason.specs.CountingLaws.{EveryRaceThatCountsSpansAClosestOne};
-ghost use Rattle.msc_reason.specs.CountingLaws.{NoneIsClosestWhereNoneCounts};
+ghost use Rattle.msc_reason.specs.CountingLaws.{NoneIsClosestWhereNoneCounts, TheOrderTellsLacks};
 ghost use Rattle.msc_reason.specs.CountingLaws.{WithoutKindsTheClosestAreTheClosest};
 ghost use Rattle.msc_reason.specs.Laws.{ARaceLacksOnePair, AWhyExists, AWhyIsEnough};
 ghost use Rattle.msc_reason.specs.Laws.{EachRaceHasOneKind};
@@ -51,21 +52,26 @@ pub fn a_why_is_enough()
 }
 
 /// The races that count are those of no kind that is left out, and the closest of them those within
-/// whose span no other one lies. These are told by lists, whatever table of lacks they are made by.
+/// whose span no other one lies. These are told by ascending lists, whatever table of lacks they
+/// are made by; the enforced order makes one.
 pub fn what_counts_is_listed()
     ensures counting { CountingRacesAreListed }
     ensures closest { ClosestRacesAreListed }
+    ensures ascending { ListedRacesAreAscending }
+    ensures lacks { TheOrderTellsLacks }
 {
     each_race_has_one_kind();
 }
 
 /// Within each race that counts stands a closest one that counts, so none is closest exactly where
-/// none counts. Where no kind is left out these are the closest races.
+/// none counts. Where no kind is left out these are the closest races, and all of them are listed.
 pub fn every_race_that_counts_spans_a_closest_one()
     ensures spans { EveryRaceThatCountsSpansAClosestOne }
     ensures none { NoneIsClosestWhereNoneCounts }
     ensures all { WithoutKindsTheClosestAreTheClosest }
+    ensures list { AllClosestRacesAreListed }
 {
+    what_counts_is_listed();
     each_race_has_one_kind();
     ends_share_queues();
 }

@@ -1,6 +1,7 @@
 //! Which races of a chart to look at, and why they are races.
 //!
-//! [`closest`] lists the races between whose events nothing is drawn: every race spans one of them.
+//! A [`Listing`] tells the races that count, or the closest of them, event by event. Where all
+//! count, these are the races between whose events nothing is drawn: every race spans one of them.
 //! [`lack_of`] says of a race of which kind it is, and which one pair of events would have to be
 //! enforced so that it were none. [`explain`] shows why a pair of events is enforced, or a run that
 //! reverses it. Races are after Alur, Holzmann and Peled (1996); closest races, kinds, lacks and
@@ -14,7 +15,6 @@ mod kinds;
 mod lack;
 mod lacking;
 pub mod laws;
-mod listing;
 mod marks;
 mod pair;
 mod reason;
@@ -27,7 +27,6 @@ pub use explaining::explain;
 pub use kinds::KindSet;
 pub use lack::{Lack, RaceKind};
 pub use lacking::{is_race, kind_of, lack_of};
-pub use listing::closest;
 pub use pair::{PairFault, pair_fault};
 pub use reason::Reason;
 pub use selecting::{Listing, Stream, count_counting, none_counts};

@@ -6,10 +6,10 @@
 ghost use Rattle.std.specs.Prelude.{◌≡◌, ◌⊎◌, ℕ, ◌+◌, ◌<◌, ◌≤◌, cond, get_or, length, nat_eq, IfOk};
 ghost use Rattle.std.specs.Prelude.{IsTrue};
 ghost use Rattle.std.specs.List.{list_any, All};
-ghost use Rattle.msc_chart.specs.Charts.{IsSegmentEnd};
 ghost use Rattle.msc_chart.specs.Lists.{Occurs};
 ghost use Rattle.msc_reason.specs.Counting.{counting, is_within};
-ghost use Rattle.msc_reason.specs.Marked.{is_counted, lack_in, AreMarks, IsLeastSecond};
+ghost use Rattle.msc_reason.specs.Marked.{is_counted, lack_in, AreMarks, IsMarked};
+ghost use Rattle.msc_reason.specs.declared.kinds.KindSet.{KindSet};
 
 use crate::counting::next_counting;
 use crate::kinds::KindSet;
@@ -90,22 +90,20 @@ impl Marks {
     }
 
     /// Whether another race that counts stands within one that does: `first` is the least event in
-    /// which one of its first event ends, and `end` the number past the segment of that.
+    /// which one of its first event ends, and `end` the number past the segment of that. The marks
+    /// know which races count.
     pub fn has_within(
         &self,
         enforced: &Enforced,
-        allowed: KindSet,
         first: Event,
         end: Event,
         race: (Event, Event),
     ) -> bool
-        requires marks { AreMarks (is_counted enforced.now allowed)
-            (length enforced.now.chart.events) self.now.last.items self.now.least.items }
-        requires race { IsTrue (is_counted enforced.now allowed race.0 race.1) }
-        requires first { IsLeastSecond (is_counted enforced.now allowed)
-            (length enforced.now.chart.events) race.0 first }
-        requires end { IsSegmentEnd enforced.now.chart.events race.0 end }
-        ensures { result ≡ list_any (is_within enforced.now.chart.events race)
+        requires { (allowed : KindSet) × IsMarked enforced.now allowed
+            self.now.last.items self.now.least.items first end race }
+        ensures { (allowed : KindSet) → IsMarked enforced.now allowed
+            self.now.last.items self.now.least.items first end race
+            → result ≡ list_any (is_within enforced.now.chart.events race)
             (counting enforced.now allowed (lack_in enforced.now)) }
     {
         enforced.enforced();

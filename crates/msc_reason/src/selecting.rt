@@ -2,15 +2,15 @@
 
 ghost use Rattle.std.specs.Prelude.{◌≡◌, ◌+◌, ◌<◌, ◌≤◌, ◌++◌, List, length, nat_eq, IfOk, OnOk};
 ghost use Rattle.std.specs.List.{filter};
-ghost use Rattle.msc_chart.specs.Charts.{IsSegmentEnd};
 ghost use Rattle.msc_race.specs.Views.{races_of};
 ghost use Rattle.msc_race.specs.Walks.{HasReached};
 ghost use Rattle.msc_chart.specs.declared.event.ChartEvent.{ChartEvent};
 ghost use Rattle.msc_reason.specs.Counting.{counting, is_alone, listed};
-ghost use Rattle.msc_reason.specs.Marked.{counted_from, is_counted, lack_in, listed_from, AreMarks};
+ghost use Rattle.msc_reason.specs.Marked.{lack_in, listed_from, AreOfOneEvent};
 ghost use Rattle.msc_reason.specs.Selected.{selected};
+ghost use Rattle.msc_reason.specs.declared.kinds.KindSet.{KindSet};
 
-use crate::counting::next_counting;
+use crate::counting::{next_counting, some_counts};
 use crate::kinds::KindSet;
 use crate::marks::{Marks, least_second};
 use msc_chart::Event;
@@ -66,28 +66,26 @@ impl<'a> Model for Listing<'a> {
         m.last.items m.least.items) };
 }
 
-/// Appends those of these races of an event which count that no other one stands within. `end` is
-/// the number past its segment.
+/// Appends those of these races, all of one event which count, that no other one stands within.
+/// `end` is the number past the segment of the event. The marks know which races count.
 fn push_alone(
     list: &mut Vec<(Event, Event)>,
     marks: &Marks,
     enforced: &Enforced,
-    allowed: KindSet,
     end: Event,
-    e: Event,
     races: &[(Event, Event)],
 ) -> Result<(), AllocError>
-    requires marks { AreMarks (is_counted enforced.now allowed)
-        (length enforced.now.chart.events) marks.now.last.items marks.now.least.items }
-    requires end { IsSegmentEnd enforced.now.chart.events e end }
-    requires races { races.now ≡ counted_from enforced.now allowed e }
-    ensures { OnOk result (list.new.items ≡ list.old.items ++ filter
-        (is_alone enforced.now.chart.events (counting enforced.now allowed (lack_in enforced.now)))
+    requires { (allowed : KindSet) × AreOfOneEvent enforced.now allowed
+        marks.now.last.items marks.now.least.items end races.now }
+    ensures { (allowed : KindSet) → AreOfOneEvent enforced.now allowed
+        marks.now.last.items marks.now.least.items end races.now
+        → OnOk result (list.new.items ≡ list.old.items ++ filter (is_alone
+        enforced.now.chart.events (counting enforced.now allowed (lack_in enforced.now)))
         races.now) }
 {
     let first = least_second(races, enforced.events());
     for race in races {
-        if !marks.has_within(enforced, allowed, first, end, *race) {
+        if !marks.has_within(enforced, first, end, *race) {
             list.push(*race)?;
         }
     }
@@ -171,9 +169,7 @@ impl<'a> Listing<'a> {
             &mut stream.races,
             marks,
             &self.enforced,
-            self.allowed,
             stream.walk.segment_end,
-            e,
             stream.counted.as_slice(),
         )
     }
@@ -221,18 +217,17 @@ pub fn count_counting(
     Ok(count)
 }
 
-/// Whether no race of a chart counts. It stops at the first event with one that does. An error is a
-/// growth of memory that was refused.
+/// Whether no race of a chart counts. It stops at the first race that does. An error is a growth of
+/// memory that was refused.
 pub fn none_counts(alloc: Global, enforced: &Enforced, allowed: KindSet) -> Result<bool, AllocError>
     ensures { IfOk result (λ none. none
         ≡ nat_eq (length (counting enforced.now allowed (lack_in enforced.now))) 0) }
 {
     let mut list = Vec::new(alloc);
-    let mut room = Vec::new(alloc);
     let mut walk = Walk::new();
     for e in 0..enforced.events() {
-        next_counting(&mut walk, &mut list, &mut room, enforced, allowed, e)?;
-        if !list.is_empty() {
+        enforced.next_races(&mut walk, &mut list, e)?;
+        if some_counts(enforced, allowed, list.as_slice()) {
             return Ok(false);
         }
     }

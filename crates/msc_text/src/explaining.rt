@@ -11,7 +11,7 @@ ghost use Rattle.msc_text.specs.Explaining.{is_enforced, PrintsReason};
 
 use msc_chart::{Chart, Event, Queues};
 use msc_judge::Page;
-use msc_order::Order;
+use msc_race::Enforced;
 use msc_reason::laws::{a_reason_names_events, a_why_is_enough};
 use msc_reason::{Reason, explain};
 use msc_report::write_explained;
@@ -28,8 +28,8 @@ fn reason_of(
     requires { AreTwoEvents chart.now e f }
     ensures { IfOk result (IsReason (wired queues chart.now) e f) }
 {
-    let order = Order::enforced(alloc, chart, queues)?;
-    explain(alloc, chart, queues, &order, e, f)
+    let enforced = Enforced::of(alloc, chart, queues)?;
+    explain(alloc, &enforced, e, f)
 }
 
 /// The text of a reason.

@@ -5,5 +5,5 @@ use Rattle.msc_reason.proofs.chaining.first_mate.Goals as goal
 pub returns : goal.returns
 returns c =
     let mate = c.requires.some in
-    let known = (input_parts c.args.chart.now.events mate.0 mate.1.0.second).0 in
-    absurd (c.loop-u.invariant mate.0 (omega (arith, known, c.events-u-end.ensures.number, c.loop-u-test.false)) mate.1)
+    let known = (input_parts c.args.enforced.now.chart.events mate.0 mate.1.0.second).0 in
+    absurd (c.loop-u.invariant mate.0 (omega (arith, known, c.events-u-end.ensures, c.loop-u-test.false)) mate.1)

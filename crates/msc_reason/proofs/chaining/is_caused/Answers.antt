@@ -2,11 +2,12 @@ use Rattle.std.proofs.Common.{◌≡◌, ℕ, true, false, ◌↔◌, refl, sym,
 use Rattle.std.specs.Prelude.{Option, None, Some, MatchOption}
 use Rattle.std.specs.Option.{is_some}
 use Rattle.msc_chart.specs.Charts.{is_controlled}
-use Rattle.msc_chart.specs.Orders.{wired, WiredChart, IsWired}
+use Rattle.msc_chart.specs.Orders.{WiredChart, IsWired}
 use Rattle.msc_chart.proofs.Drawn.{output_controlled}
 use Rattle.msc_chart.proofs.ListLemmas.{clash}
 use Rattle.msc_order.specs.Caused.{Caused}
 use Rattle.msc_order.proofs.Once.{caused_enforced}
+use Rattle.msc_race.specs.Views.{wiring_of}
 use Rattle.msc_reason.specs.Links.{HasNoLink}
 use Rattle.msc_reason.specs.Rules.{IsLastLink}
 use Rattle.msc_reason.proofs.Walking.{controlled_caused, link_caused, over_step}
@@ -14,11 +15,11 @@ use Rattle.msc_reason.proofs.chaining.is_caused.Goals as goal
 
 pub returns-then-is_controlled : goal.returns-then-is_controlled
 returns-then-is_controlled c =
-    let chart = wired c.args.queues c.args.chart.now in
-    let is_wired = c.ends_share_queues.ensures c.args.queues c.args.chart.now c.accepted.ensures in (
-      λ holds. controlled_caused chart is_wired c.args.x c.args.y (sym c.is_controlled.ensures ∙ c.if-is_controlled.true)
-          (c.requires.enforced.holds c.args.x c.args.y c.requires.x_known c.requires.y_known (sym c.holds.ensures ∙ holds)),
-      λ caused. c.holds.ensures ∙ c.requires.enforced.complete c.args.x c.args.y (caused_enforced chart c.args.x c.args.y caused),
+    let chart = wiring_of c.args.enforced.now in
+    let is_wired = c.ends_share_queues.ensures c.args.enforced.now.queues c.args.enforced.now.chart c.enforced.ensures.chart in
+    let told = rw c.chart.ensures at c.is_controlled.ensures in (
+      λ holds. controlled_caused chart is_wired c.args.x c.args.y (sym told ∙ c.if-is_controlled.true) (c.holds.ensures.exact.0 holds),
+      λ caused. c.holds.ensures.exact.1 (caused_enforced chart c.args.x c.args.y caused),
     )
 
 -- an event that is not controlled is caused before another exactly where a link was found
@@ -33,5 +34,7 @@ told chart is_wired x y none (Some z) h = (λ yes. link_caused chart is_wired x 
 
 pub returns : goal.returns
 returns c =
-    rw c.is_some.ensures (told (wired c.args.queues c.args.chart.now) (c.ends_share_queues.ensures c.args.queues c.args.chart.now c.accepted.ensures) c.args.x c.args.y
-    (sym c.is_controlled.ensures ∙ c.if-is_controlled.false) c.last_link.result c.last_link.ensures)
+    let is_wired = c.ends_share_queues.ensures c.args.enforced.now.queues c.args.enforced.now.chart c.enforced.ensures.chart in
+    let is = rw c.chart.ensures at c.is_controlled.ensures in
+    rw c.is_some.ensures (told (wiring_of c.args.enforced.now) is_wired c.args.x c.args.y (sym is ∙ c.if-is_controlled.false)
+    c.last_link.result c.last_link.ensures)

@@ -1,12 +1,20 @@
+use Rattle.std.proofs.Common.{inl, inr}
 use Rattle.msc_reason.proofs.explaining.explain.Goals as goal
 
+pub why_of-requires : goal.why_of-requires
+why_of-requires c =
+    let first = rw c.in_default.is at c.in_ok-run.ensures in
+    elim first [ inl same ↦ absurd (c.requires.other same) | inr before ↦ before ]
+
 pub returns : goal.returns
-returns c = rw c.from_vec.ensures record {
-  free = rw c.in_default.is at c.in_ok-why.ensures;
-  chosen = c.in_ok-run.ensures.chosen;
-  is_run = c.in_ok-run.ensures.run;
-  whole = c.in_ok-run.ensures.whole;
-  reverses = c.in_ok-run.ensures.reverses;
-  race = c.lack_if_race-lack.ensures;
-  turned = c.in_ok-late.ensures;
-}
+returns c =
+    let run = rw c.in-Some.is at c.in_ok-run.ensures in
+    rw c.from_vec.ensures record {
+      free = λ before. run.apart (inr before);
+      chosen = run.chosen;
+      is_run = run.run;
+      whole = run.whole;
+      reverses = run.reverses;
+      race = c.lack_if_race-lack.ensures;
+      turned = c.in_ok-late.ensures;
+    }

@@ -1,32 +1,53 @@
-use Rattle.std.proofs.Common.{sym, ◌∙◌, arith}
+use Rattle.std.proofs.Common.{inl, inr, refl, sym, ◌∙◌}
 use Rattle.msc_chart.proofs.Drawn.{before_parts}
+use Rattle.msc_race.specs.Views.{wiring_of}
+use Rattle.msc_reason.proofs.OnePair.{needed_by}
 use Rattle.msc_reason.proofs.lacking.lack_of.Goals as goal
 
-pub needed_of-requires-clause-known : goal.needed_of-requires-clause-known
-needed_of-requires-clause-known c = (before_parts c.args.chart.now.events c.args.e c.args.f c.requires.race.0).0
+pub needed_of-requires : goal.needed_of-requires
+needed_of-requires c = rw c.chart-chart.ensures (before_parts c.args.enforced.now.chart.events c.args.e c.args.f c.requires.0).0
 
 pub other_end-requires : goal.other_end-requires
-other_end-requires c = (before_parts c.args.chart.now.events c.args.e c.args.f c.requires.race.0).1
+other_end-requires c = rw c.chart-chart.ensures (before_parts c.args.enforced.now.chart.events c.args.e c.args.f c.requires.0).1
 
 pub holds-requires-clause-e_known : goal.holds-requires-clause-e_known
-holds-requires-clause-e_known c =
-    let p = before_parts c.args.chart.now.events c.args.e c.args.f c.requires.race.0 in
-    omega (arith, c.requires.square, p.0, p.1)
+holds-requires-clause-e_known c = (before_parts c.args.enforced.now.chart.events c.args.e c.args.f c.requires.0).1
 
 pub holds-requires-clause-f_known : goal.holds-requires-clause-f_known
-holds-requires-clause-f_known c =
-    let p = before_parts c.args.chart.now.events c.args.e c.args.f c.requires.race.0 in
-    omega (arith, c.requires.square, p.0, p.1)
+holds-requires-clause-f_known c = (before_parts c.args.enforced.now.chart.events c.args.e c.args.f c.requires.0).0
 
 pub returns-clause-lack : goal.returns-clause-lack
 returns-clause-lack c =
-    let p = before_parts c.args.chart.now.events c.args.e c.args.f c.requires.race.0 in
-    record {
-      kind = c.kind_of-kind.ensures.kind;
-      first = c.needed_of.ensures.value;
-      second = c.other_end.ensures.value;
-      always = (
-        λ holds. c.requires.enforced.holds c.args.f c.args.e p.1 p.0 (sym c.holds.ensures ∙ holds),
-        λ late. c.holds.ensures ∙ c.requires.enforced.complete c.args.f c.args.e late,
-      );
-    }
+    let self = c.args.enforced.now in
+    let by_kind = rw c.chart-chart.ensures at c.needed_of.ensures.value in
+    let needed = by_kind ∙ sym (needed_by (wiring_of self) c.args.e c.args.f c.kind_of-kind.result c.kind_of-kind.ensures.kind) in
+    let output = rw c.chart-chart.ensures at c.other_end.ensures.value in
+    record { kind = c.kind_of-kind.ensures.kind; first = needed; second = output; always = c.holds.ensures.exact }
+
+pub returns-clause-by_order : goal.returns-clause-by_order
+returns-clause-by_order c =
+    let self = c.args.enforced.now in
+    let by_kind = rw c.chart-chart.ensures at c.needed_of.ensures.value in
+    let needed = by_kind ∙ sym (needed_by (wiring_of self) c.args.e c.args.f c.kind_of-kind.result c.kind_of-kind.ensures.kind) in
+    let output = rw c.chart-chart.ensures at c.other_end.ensures.value in
+    rw (needed, output, c.holds.ensures.value, c.kind_of-kind.ensures.by_order) refl
+
+pub returns-clause-apart : goal.returns-clause-apart
+returns-clause-apart c =
+    let self = c.args.enforced.now in
+    let by_kind = rw c.chart-chart.ensures at c.needed_of.ensures.value in
+    let needed = by_kind ∙ sym (needed_by (wiring_of self) c.args.e c.args.f c.kind_of-kind.result c.kind_of-kind.ensures.kind) in
+    let output = rw c.chart-chart.ensures at c.other_end.ensures.value in
+    let input = c.a_race_lacks_one_pair.ensures.input self.queues self.chart c.enforced.ensures.chart c.args.e c.args.f c.requires in
+    let one = c.a_race_lacks_one_pair.ensures.lacks self.queues self.chart c.enforced.ensures.chart c.args.e c.args.f c.requires.0 input in
+    λ same. c.requires.1 (one.1 (inl (sym needed ∙ same ∙ output)))
+
+pub returns-clause-lacks : goal.returns-clause-lacks
+returns-clause-lacks c =
+    let self = c.args.enforced.now in
+    let by_kind = rw c.chart-chart.ensures at c.needed_of.ensures.value in
+    let needed = by_kind ∙ sym (needed_by (wiring_of self) c.args.e c.args.f c.kind_of-kind.result c.kind_of-kind.ensures.kind) in
+    let output = rw c.chart-chart.ensures at c.other_end.ensures.value in
+    let input = c.a_race_lacks_one_pair.ensures.input self.queues self.chart c.enforced.ensures.chart c.args.e c.args.f c.requires in
+    let one = c.a_race_lacks_one_pair.ensures.lacks self.queues self.chart c.enforced.ensures.chart c.args.e c.args.f c.requires.0 input in
+    λ before. c.requires.1 (one.1 (inr (rw (needed, output) at before)))

@@ -1,2 +1,0 @@
-use Rattle.std.proofs.Common.{arith}
-use Rattle.msc_reason.proofs.marks.mark_seconds.Goals as goal

@@ -1,4 +1,4 @@
-use Rattle.std.proofs.Common.{ℕ, ◌-◌, ◌+◌, ◌<◌, ◌≡◌, ◌≤◌, List, length, get_or, min, refl, sym, ap₂, ◌∙◌, arith}
+use Rattle.std.proofs.Common.{ℕ, ◌-◌, ◌+◌, ◌<◌, ◌≡◌, ◌≤◌, List, length, get_or, min, refl, ap₂, ◌∙◌, arith}
 use Rattle.std.proofs.lemmas.List.{length-set}
 use Rattle.msc_race.proofs.Making.LinkLemmas.{any_default}
 use Rattle.msc_reason.proofs.Marking.{sunk_more}

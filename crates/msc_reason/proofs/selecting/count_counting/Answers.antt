@@ -1,4 +1,4 @@
-use Rattle.std.proofs.Common.{◌≡◌, ◌≤◌, ℕ, ◌+◌, List, length, sym, ap, ◌∙◌, arith}
+use Rattle.std.proofs.Common.{◌+◌, length, sym, ap, ◌∙◌, arith}
 use Rattle.msc_race.specs.Views.{races_of}
 use Rattle.msc_reason.proofs.Counted.{all_counted}
 use Rattle.msc_reason.proofs.Sums.{count_more, kept_all, kept_few, kept_none}

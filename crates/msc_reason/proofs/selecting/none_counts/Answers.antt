@@ -1,7 +1,9 @@
-use Rattle.std.proofs.Common.{true, false, ap₂, ◌≡◌, ◌≤◌, ℕ, ◌+◌, List, [], ◌++◌, length, nat_eq, sym, ap, ◌∙◌, arith}
-use Rattle.std.proofs.lemmas.Bool.{eq-eqb, eqb-true, ne_eqb}
+use Rattle.std.proofs.Common.{ℕ, ◌+◌, List, ◌++◌, length, nat_eq, sym, ap, ap₂, ◌∙◌, subst, arith}
+use Rattle.std.specs.List.{filter, list_any}
+use Rattle.std.proofs.lemmas.Bool.{ne_eqb}
 use Rattle.std.proofs.lemmas.List.{length-append, nil_from_length}
-use Rattle.msc_chart.proofs.ListLemmas.{clash}
+use Rattle.msc_race.specs.Views.{races_from, AreRacesOf}
+use Rattle.msc_reason.proofs.Filtered.{filter_none, filter_some}
 use Rattle.msc_reason.proofs.Sums.{kept_all, kept_below, kept_more, kept_none, kept_rest}
 use Rattle.msc_reason.specs.Counting.{counts}
 use Rattle.msc_reason.specs.Marked.{lack_in}
@@ -13,29 +15,30 @@ loop-e-init c = record {
   none = let e = c.args.enforced.now in kept_none e (counts c.args.allowed (lack_in e));
 }
 
-pub returns-then-not-is_empty : goal.returns-then-not-is_empty
-returns-then-not-is_empty c =
+pub some_counts-requires : goal.some_counts-requires
+some_counts-requires c =
+    subst (AreRacesOf c.args.enforced.now) (sym (c.as_slice.ensures.value ∙ c.in_ok-next_races.ensures.list)) c.in_ok-next_races.ensures.races
+
+pub returns-then-some_counts : goal.returns-then-some_counts
+returns-then-some_counts c =
     let e = c.args.enforced.now in
     let test = counts c.args.allowed (lack_in e) in
     let within = c.loop-e-test.true in
     let more = ap length (kept_more e test c.loop-e.e) ∙ length-append (kept_below e test c.loop-e.e) _ in
     let all = kept_rest e test (c.loop-e.e + 1) (omega (arith, within, c.events-e-end.ensures)) in
-    let size = ap length c.in_ok-next_counting.ensures.list in
-    let some : length c.next_counting.new.list.items ≡ 0 → ⊥ = λ none.
-    let zero : c.next_counting.new.list.len ≡ 0 = omega (arith, none, c.next_counting.new.list.ok) in
-    let empty : nat_eq c.next_counting.new.list.len 0 ≡ true = eq-eqb c.next_counting.new.list.len 0 zero in
-    clash empty (sym c.is_empty.ensures ∙ c.if-not-is_empty.true) in
-    sym (ne_eqb _ 0 (λ none. some (omega (arith, more, all, size, none))))
+    let is = ap (list_any test) (sym (c.as_slice.ensures.value ∙ c.in_ok-next_races.ensures.list)) ∙ sym c.some_counts.ensures ∙ c.if-some_counts.true in
+    let some = filter_some test (races_from e c.loop-e.e) is in
+    sym (ne_eqb _ 0 (λ none. some (nil_from_length (filter test (races_from e c.loop-e.e)) (omega (arith, more, all, none)))))
 
 pub loop-e-preserved : goal.loop-e-preserved
 loop-e-preserved c =
     let e = c.args.enforced.now in
     let test = counts c.args.allowed (lack_in e) in
-    let zero = eqb-true c.next_counting.new.list.len 0 (sym c.is_empty.ensures ∙ c.if-not-is_empty.false) in
-    let empty : c.next_counting.new.list.items ≡ [] = nil_from_length c.next_counting.new.list.items (omega (arith, zero, c.next_counting.new.list.ok)) in
+    let is = ap (list_any test) (sym (c.as_slice.ensures.value ∙ c.in_ok-next_races.ensures.list)) ∙ sym c.some_counts.ensures ∙ c.if-some_counts.false in
     record {
-      reached = c.in_ok-next_counting.ensures.reached;
-      none = kept_more e test c.loop-e.e ∙ ap₂ (λ (xs ys : List (ℕ × ℕ)). xs ++ ys) c.loop-e.invariant.none (sym c.in_ok-next_counting.ensures.list ∙ empty);
+      reached = c.in_ok-next_races.ensures.reached;
+      none = kept_more e test c.loop-e.e
+          ∙ ap₂ (λ (xs ys : List (ℕ × ℕ)). xs ++ ys) c.loop-e.invariant.none (filter_none test (races_from e c.loop-e.e) is);
     }
 
 pub returns : goal.returns

@@ -1,4 +1,4 @@
-use Rattle.std.proofs.Common.{sym}
+use Rattle.std.proofs.Common.{inl, inr, sym}
 use Rattle.msc_chart.specs.Chosen.{IsFree}
 use Rattle.msc_chart.specs.Orders.{Enforced}
 use Rattle.msc_race.specs.Views.{wiring_of}
@@ -12,8 +12,15 @@ returns c =
     let laws = c.the_chosen_run_reverses.ensures in
     let run = c.in_ok-chosen_run.field-0.items in
     let chosen = c.in_ok-chosen_run.ensures in
-    let free : IsFree chart c.args.e c.args.f =
-    (c.requires.f_known, λ same. c.if-e-f.false (sym same), λ (after : Enforced chart c.args.e c.args.f). clash (c.holds.ensures.exact.1 after) c.if-holds.false) in
+    let apart = λ (after : Enforced chart c.args.e c.args.f). clash (c.holds.ensures.exact.1 after) c.if-holds.false in
+    let free : IsFree chart c.args.e c.args.f = (c.requires.f_known, λ same. c.if-e-f.false (sym same), apart) in
     let whole = laws.whole self.queues self.chart c.args.e run chosen in
     let reverses = laws.reverses self.queues self.chart c.args.e run chosen c.args.f free in
-    record { chosen = chosen; run = whole.0; whole = whole.1; reverses = reverses.0; before = reverses.1 }
+    record {
+      chosen = chosen;
+      run = whole.0;
+      whole = whole.1;
+      reverses = reverses.0;
+      apart = λ first. elim first [ inl same ↦ c.if-e-f.false same | inr after ↦ apart after ];
+      before = reverses.1;
+    }

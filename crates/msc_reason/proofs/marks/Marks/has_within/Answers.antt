@@ -1,5 +1,4 @@
-use Rattle.std.proofs.Common.{◌≡◌, ◌<◌, ◌+◌, ℕ, List, Bool, true, false, inl, inr, length, get_or, sym, ap, ◌∙◌, subst, arith}
-use Rattle.std.specs.List.{list_any}
+use Rattle.std.proofs.Common.{◌≡◌, ◌<◌, ◌+◌, ℕ, List, true, inl, inr, length, get_or, sym, ◌∙◌, subst, arith}
 use Rattle.msc_chart.proofs.Drawn.{before_parts}
 use Rattle.msc_chart.proofs.ListLemmas.{by_test, clash}
 use Rattle.msc_chart.specs.Charts.{before, IsSegmentEnd}
@@ -23,65 +22,65 @@ least_is events xs e end x long past is = last_is xs end x is (let w = past.with
 pub before-requires-clause-e_known : goal.before-requires-clause-e_known
 before-requires-clause-e_known c =
     let e = c.args.enforced.now in
-    let own = before_parts e.chart.events _ _ (counted_drawn e c.args.allowed c.args.race.0 c.args.race.1 c.requires.race) in
-    let le = c.requires.first.none_below c.args.race.1 c.requires.race in
+    let own = before_parts e.chart.events _ _ (counted_drawn e c.requires.0 c.args.race.0 c.args.race.1 c.requires.1.race) in
+    let le = c.requires.1.first.none_below c.args.race.1 c.requires.1.race in
     rw c.chart-chart.ensures (omega (arith, le, own.1))
 
 pub before-requires-clause-f_known : goal.before-requires-clause-f_known
 before-requires-clause-f_known c =
     let e = c.args.enforced.now in
-    rw c.chart-chart.ensures (before_parts e.chart.events _ _ (counted_drawn e c.args.allowed c.args.race.0 c.args.race.1 c.requires.race)).1
+    rw c.chart-chart.ensures (before_parts e.chart.events _ _ (counted_drawn e c.requires.0 c.args.race.0 c.args.race.1 c.requires.1.race)).1
 
 pub before-requires-then-least-events-clause-f_known : goal.before-requires-then-least-events-clause-f_known
 before-requires-then-least-events-clause-f_known c =
     let e = c.args.enforced.now in
-    rw c.chart-chart.ensures (before_parts e.chart.events _ _ (counted_drawn e c.args.allowed c.args.race.0 c.args.race.1 c.requires.race)).1
+    rw c.chart-chart.ensures (before_parts e.chart.events _ _ (counted_drawn e c.requires.0 c.args.race.0 c.args.race.1 c.requires.1.race)).1
 
 pub index-requires : goal.index-requires
 index-requires c =
     let e = c.args.enforced.now in
-    let own = before_parts e.chart.events _ _ (counted_drawn e c.args.allowed c.args.race.0 c.args.race.1 c.requires.race) in
-    let h = c.requires.marks.lasts in
+    let own = before_parts e.chart.events _ _ (counted_drawn e c.requires.0 c.args.race.0 c.args.race.1 c.requires.1.race) in
+    let h = c.requires.1.marks.lasts in
     omega (arith, own.1, h)
 
 pub before-requires-2-clause-f_known : goal.before-requires-2-clause-f_known
 before-requires-2-clause-f_known c =
     let e = c.args.enforced.now in
-    let end = c.requires.marks.end c.args.race.0 c.args.race.1 c.requires.race in
-    let own = before_parts e.chart.events _ _ (counted_drawn e c.args.allowed _ c.args.race.1 end.1) in
-    let same = last_is c.args.self.now.last.items c.args.race.1 c.index.result.now c.index.ensures (omega (arith, own.1, c.requires.marks.lasts)) in
+    let end = c.requires.1.marks.end c.args.race.0 c.args.race.1 c.requires.1.race in
+    let own = before_parts e.chart.events _ _ (counted_drawn e c.requires.0 _ c.args.race.1 end.1) in
+    let same = last_is c.args.self.now.last.items c.args.race.1 c.index.result.now c.index.ensures (omega (arith, own.1, c.requires.1.marks.lasts)) in
     rw c.chart-chart.ensures (omega (arith, same, own.0))
 
 pub returns-then-before : goal.returns-then-before
-returns-then-before c =
+returns-then-before c allowed asked =
     let e = c.args.enforced.now in
     let drawn = rw c.chart-chart.ensures at c.before-2.ensures in
-    let found = found_first e.chart.events c.enforced.ensures.chart.in_text_order (is_counted e c.args.allowed) (counted_drawn e c.args.allowed) _ _ c.requires.marks
-    c.args.race.0 c.args.race.1 c.args.first c.args.end c.requires.race c.requires.first c.requires.end (drawn.0 c.if-before.true) in
-    sym (some_within e c.args.allowed c.args.race found.0 found.1 found.2)
+    let found = found_first e.chart.events c.enforced.ensures.chart.in_text_order (is_counted e allowed) (counted_drawn e allowed) _ _ asked.marks
+    c.args.race.0 c.args.race.1 c.args.first c.args.end asked.race asked.first asked.end (drawn.0 c.if-before.true) in
+    sym (some_within e allowed c.args.race found.0 found.1 found.2)
 
 pub returns-then-before-2 : goal.returns-then-before-2
-returns-then-before-2 c =
+returns-then-before-2 c allowed asked =
     let e = c.args.enforced.now in
     let n = rw c.chart-chart.ensures at c.events.ensures.number in
     let drawn = rw c.chart-chart.ensures at c.before-then-least-events.ensures in
-    let same = least_is e.chart.events c.args.self.now.least.items c.args.race.0 c.args.end c.index-least.result.now c.requires.marks.leasts c.requires.end c.index-least.ensures in
-    let found = found_least e.chart.events c.enforced.ensures.chart.in_text_order (is_counted e c.args.allowed) (counted_drawn e c.args.allowed) _ _ c.requires.marks
-    c.args.race.0 c.args.race.1 c.args.first c.args.end c.requires.race c.requires.first c.requires.end
+    let same = least_is e.chart.events c.args.self.now.least.items c.args.race.0 c.args.end c.index-least.result.now asked.marks.leasts asked.end c.index-least.ensures in
+    let found = found_least e.chart.events c.enforced.ensures.chart.in_text_order (is_counted e allowed) (counted_drawn e allowed) _ _ asked.marks
+    c.args.race.0 c.args.race.1 c.args.first c.args.end asked.race asked.first asked.end
     (let low = c.if-least-events.true in omega (arith, low, same, n))
     (subst (λ (x : ℕ). before e.chart.events x c.args.race.1 ≡ true) same (drawn.0 c.if-before-2.true)) in
-    sym (some_within e c.args.allowed c.args.race found.0 found.1 found.2)
+    sym (some_within e allowed c.args.race found.0 found.1 found.2)
 
 pub returns : goal.returns
-returns c =
+returns c allowed asked =
     let e = c.args.enforced.now in
     let n = rw c.chart-chart.ensures at c.events.ensures.number in
     let ahead = rw c.chart-chart.ensures at c.before-2.ensures in
     let drawn = rw c.chart-chart.ensures at c.before-3.ensures in
     let text = c.enforced.ensures.chart.in_text_order in
-    let own = before_parts e.chart.events _ _ (counted_drawn e c.args.allowed c.args.race.0 c.args.race.1 c.requires.race) in
-    let last = last_is c.args.self.now.last.items c.args.race.1 c.index.result.now c.index.ensures (omega (arith, own.1, c.requires.marks.lasts)) in
-    let least = least_is e.chart.events c.args.self.now.least.items c.args.race.0 c.args.end c.index-least.result.now c.requires.marks.leasts c.requires.end c.index-least.ensures in
+    let own = before_parts e.chart.events _ _ (counted_drawn e allowed c.args.race.0 c.args.race.1 asked.race) in
+    let last = last_is c.args.self.now.last.items c.args.race.1 c.index.result.now c.index.ensures (omega (arith, own.1, asked.marks.lasts)) in
+    let least = least_is e.chart.events c.args.self.now.least.items c.args.race.0 c.args.end c.index-least.result.now asked.marks.leasts asked.end c.index-least.ensures in
     let none : get_or c.args.self.now.least.items c.args.end 0 < length e.chart.events → before e.chart.events (get_or c.args.self.now.least.items c.args.end 0) c.args.race.1 ≡ true → ⊥ =
     λ low high. elim c.else-least-events.branch [
       | else-least-events-via-then-least-events+else-before-2 w ↦
@@ -91,12 +90,12 @@ returns c =
     ] in
     by_test c.before-3.result
     (λ yes.
-    let found = found_last e.chart.events text (is_counted e c.args.allowed) (counted_drawn e c.args.allowed) _ _ c.requires.marks
-    c.args.race.0 c.args.race.1 c.args.first c.args.end c.requires.race c.requires.first c.requires.end (subst (λ (x : ℕ). before e.chart.events c.args.race.0 x ≡ true) last (drawn.0 yes)) in
-    yes ∙ sym (some_within e c.args.allowed c.args.race found.0 found.1 found.2))
-    (λ no. no ∙ sym (none_within e c.args.allowed c.args.race (λ q its within.
-    elim (told_by e.chart.events text (is_counted e c.args.allowed) (counted_drawn e c.args.allowed) _ _ c.requires.marks
-    c.args.race.0 c.args.race.1 c.args.first c.args.end c.requires.race c.requires.first c.requires.end (q, its, within)) [
+    let found = found_last e.chart.events text (is_counted e allowed) (counted_drawn e allowed) _ _ asked.marks
+    c.args.race.0 c.args.race.1 c.args.first c.args.end asked.race asked.first asked.end (subst (λ (x : ℕ). before e.chart.events c.args.race.0 x ≡ true) last (drawn.0 yes)) in
+    yes ∙ sym (some_within e allowed c.args.race found.0 found.1 found.2))
+    (λ no. no ∙ sym (none_within e allowed c.args.race (λ q its within.
+    elim (told_by e.chart.events text (is_counted e allowed) (counted_drawn e allowed) _ _ asked.marks
+    c.args.race.0 c.args.race.1 c.args.first c.args.end asked.race asked.first asked.end (q, its, within)) [
       | inl one ↦ clash (ahead.1 one) c.if-before.false
       | inr rest ↦ elim rest [
         | inl two ↦ none two.0 two.1

@@ -1,4 +1,4 @@
-use Rattle.std.proofs.Common.{◌≡◌, ◌≤◌, ℕ, ◌+◌, List, length, sym, ap, ◌∙◌, arith}
+use Rattle.std.proofs.Common.{◌+◌, length, sym, ap, ◌∙◌, arith}
 use Rattle.msc_reason.proofs.Sums.{count_more, kept_all, kept_few, kept_none}
 use Rattle.msc_reason.specs.Counting.{is_listed}
 use Rattle.msc_reason.specs.Marked.{lack_in}

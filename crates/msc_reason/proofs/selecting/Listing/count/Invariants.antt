@@ -1,4 +1,4 @@
-use Rattle.std.proofs.Common.{◌≡◌, ◌≤◌, length}
+use Rattle.std.proofs.Common.{◌≡◌, length}
 use Rattle.std.specs.List.{filter}
 use Rattle.msc_race.specs.Walks.{HasReached}
 use Rattle.msc_race.proofs.Listing.Raced.{races_below}

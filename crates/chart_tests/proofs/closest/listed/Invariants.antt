@@ -1,0 +1,5 @@
+use Rattle.msc_race.specs.Walks.{HasReached}
+use Rattle.chart_tests.proofs.closest.listed.Given as goal
+
+abbrev pub invariant-loop-e : goal.invariant-loop-e
+invariant-loop-e l = HasReached l.listing.judged.chart.events l.e l.stream.walk
