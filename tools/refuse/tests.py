@@ -30,7 +30,7 @@ AGAIN = "program_tests::queues::one_thread"
 ROOMS = {
     "chart_tests::orders::what_is_drawn_is_in_the_visual_order": 4,  # Order::visual
     "chart_tests::races::what_follows_the_queue_rule_is_enforced": 3,  # check
-    "chart_tests::runs::reversing_runs": 18,  # reversing_run
+    "chart_tests::runs::reversing_runs": 24,  # reversing_run
     "chart_tests::reasons::reasons_of_enforced_pairs": 27,  # explain
     "chart_tests::reasons::reasons_of_free_pairs": 8,  # explain
 }

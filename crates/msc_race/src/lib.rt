@@ -21,5 +21,5 @@ mod rows;
 mod verdict;
 
 pub use enforced::Enforced;
-pub use racing::{Walk, count_races, push_open, races};
+pub use racing::{Walk, count_races, races};
 pub use verdict::{Verdict, check};

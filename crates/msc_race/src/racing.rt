@@ -60,7 +60,7 @@ fn push_gaps(
 
 /// Appends the pairs of `e` with those events from `start` up to `end` before which `order` does
 /// not have it, where `order` is one of the chart. An error is a growth of memory that was refused.
-pub fn push_open(
+fn push_open(
     list: &mut Vec<(Event, Event)>,
     chart: &Chart,
     order: &Order,
