@@ -6,6 +6,8 @@ ghost use Rattle.msc_command.specs.Grammar.{choices_rule, command_of, event_rule
 ghost use Rattle.msc_command.specs.Grammar.{flag_rule, form_words, kind_words, letter_rule};
 ghost use Rattle.msc_command.specs.Grammar.{needed_rule, number_rule, parsers_of, rule_of_word};
 ghost use Rattle.msc_command.specs.Grammar.{whole_command, IsArgument, IsCommand};
+ghost use Rattle.msc_command.specs.Words.{verb_name};
+ghost use Rattle.clap.specs.Words.{new_app};
 ghost use Rattle.clap.specs.declared.builder.value_parser.ValueParser.TheVariants.{Names};
 
 use crate::tasks::Form;
@@ -278,6 +280,15 @@ fn argument<'a>(alloc: Global, word: Word, lent: Choices<'a>) -> Arg<'a>
     }
 }
 
+/// A command without its words.
+fn named<'a>(alloc: Global, verb: Verb) -> Command<'a>
+    ensures { IsCommand (new_app (verb_name verb)) result }
+{
+    Command::new(alloc, verb.name())
+        .about(verb.about())
+        .after_help(verb.notes())
+}
+
 /// A command with its words. An error is a growth of memory that was refused.
 fn command_of<'a>(
     alloc: Global,
@@ -286,9 +297,7 @@ fn command_of<'a>(
 ) -> Result<Command<'a>, AllocError>
     ensures { IfOk result (IsCommand (command_of (parsers_of lent.entry) verb)) }
 {
-    let mut command = Command::new(alloc, verb.name())
-        .about(verb.about())
-        .after_help(verb.notes());
+    let mut command = named(alloc, verb);
     for word in verb.words() {
         command = command.arg(argument(alloc, *word, lent))?;
     }

@@ -209,7 +209,8 @@ Example:
 
 /// What stands below the help of `msc check`.
 const CHECK_NOTES: &str = "\
-A race is closest where nothing is drawn between its two events; every race spans a closest one.
+A race is closest where no other that counts stands within it; every race that counts spans a closest
+one. Without --allow nothing is drawn between the two events of a closest race.
 
 Kinds of races:
   early      the input can come before the output or action that is drawn above it
