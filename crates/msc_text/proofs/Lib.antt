@@ -3,4 +3,3 @@ pub mod Shown
 pub mod Told
 pub mod Plain
 pub mod Judged
-pub mod Pairs

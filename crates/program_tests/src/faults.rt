@@ -4,7 +4,8 @@ use crate::host::Host;
 use msc_chart::ChartFault;
 use msc_lexer::LexFault;
 use msc_parser::ParseFault;
-use msc_report::{PairFault, write_pair_fault};
+use msc_reason::PairFault;
+use msc_report::write_pair_fault;
 use msc_tool::{Fault, write_fault};
 
 /// A fault of charts of each kind that has a number, the number, and its line.

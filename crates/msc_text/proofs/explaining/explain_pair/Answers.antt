@@ -1,5 +1,34 @@
-use Rattle.msc_text.proofs.Pairs.{prints_reason}
+use Rattle.std.proofs.Common.{◌≡◌, ℕ, List, refl}
+use Rattle.msc_chart.specs.declared.queue.Queues.{Queues}
+use Rattle.msc_chart.specs.Drawings.{Drawing, IsAccepted}
+use Rattle.msc_chart.specs.Orders.{wired}
+use Rattle.msc_reason.specs.Laws.{AWhyIsEnough}
+use Rattle.msc_reason.specs.Pairs.{AreTwoEvents}
+use Rattle.msc_reason.specs.Reasons.{IsReason}
+use Rattle.msc_reason.specs.declared.reason.Reason.{Reason}
+use Rattle.msc_reason.specs.declared.reason.Reason.TheVariants as reasons
+use Rattle.msc_report.specs.Reasons.{explained_text}
+use Rattle.msc_text.specs.Explaining.{is_enforced, PrintsReason}
 use Rattle.msc_text.proofs.explaining.explain_pair.Goals as goal
+
+-- a reason that is right, and its text, are what is printed of a pair
+prints_reason : (queues : Queues) (d : Drawing) (e f : ℕ) (reason : Reason) (printed : List ℕ)
+    → IsAccepted d → AWhyIsEnough → AreTwoEvents d e f → IsReason (wired queues d) e f reason → printed ≡ explained_text d queues e f reason
+    → PrintsReason d queues e f (is_enforced reason) printed
+prints_reason queues d e f (reasons.Enforced why) printed accepted enough two right text = record {
+  two = two;
+  reason = reasons.Enforced why;
+  right = right;
+  answered = (λ yes. enough queues d accepted e f why right.0, λ enforced. refl);
+  text = text;
+}
+prints_reason queues d e f (reasons.Free run lack late) printed accepted enough two right text = record {
+  two = two;
+  reason = reasons.Free run lack late;
+  right = right;
+  answered = (λ yes. absurd cc, λ enforced. absurd (right.free enforced));
+  text = text;
+}
 
 pub page_of-requires-clause-named : goal.page_of-requires-clause-named
 page_of-requires-clause-named c =
