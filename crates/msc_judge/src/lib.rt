@@ -10,6 +10,6 @@ mod question;
 mod renderer;
 
 pub use judging::judge;
-pub use page::{Page, WriteFault};
+pub use page::{PAGE_SIZE, Page, WriteFault};
 pub use question::Question;
 pub use renderer::{Finding, Heading, Renderer};

@@ -1,6 +1,6 @@
 //! The one place where an answer goes out in pages, and what may come in between.
 
-ghost use Rattle.std.specs.Prelude.{◌≡◌, ◌↔◌, [], IfOk, IsOk, OnOk, Some};
+ghost use Rattle.std.specs.Prelude.{◌≡◌, ◌↔◌, ◌<◌, ◌≤◌, [], length, IfOk, IsOk, OnOk, Some};
 ghost use Rattle.std.specs.Io.{WritesAtMost};
 ghost use Rattle.std.specs.Io.KnownBytes.{Appends, Keeps, WriteAppends};
 ghost use Rattle.msc_judge.specs.Pages.{Puts};
@@ -39,7 +39,7 @@ impl From<io::Error> for WriteFault {
 }
 
 /// How many bytes of an answer go out at once: some lines of runs, which have up to 10,000 bytes.
-const PAGE_SIZE: usize = 65_536;
+pub const PAGE_SIZE: usize = 65_536;
 
 /// A page. What is written to it stands behind what it has; want of memory is the only error.
 #[derive(Drop)]
@@ -57,10 +57,15 @@ impl Page {
         }
     }
 
-    /// Lets it go out where as much stands on it as goes out at once.
+    /// Lets it go out where as much stands on it as goes out at once; else nothing is done.
     pub fn turn<W: Write>(&mut self, writer: &mut W) -> Result<(), WriteFault>
-        ensures { Puts result (W.contents writer.old) (W.contents writer.new)
+        ensures put { Puts result (W.contents writer.old) (W.contents writer.new)
             self.old.bytes.items self.new.bytes.items [] }
+        ensures full { OnOk result
+            (PAGE_SIZE ≤ length self.old.bytes.items → self.new.bytes.items ≡ []) }
+        ensures page { length self.old.bytes.items < PAGE_SIZE
+            → self.new.bytes.items ≡ self.old.bytes.items }
+        ensures writer { length self.old.bytes.items < PAGE_SIZE → writer.new ≡ writer.old }
     {
         if self.bytes.len() < PAGE_SIZE {
             return Ok(());

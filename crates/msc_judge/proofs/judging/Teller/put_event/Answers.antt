@@ -43,7 +43,7 @@ returns-in_err-turn g c runs are =
     let whole = ap (told_from text q.most c.args.number) (sym (take-append-drop i races))
     ∙ told_behind text q.most c.args.number c.loop-race.next (take i races) (drop i races) next
     ∙ ap (λ (t : List ℕ). t ++ rest) (sym (append-nil first)) in
-    rw (exit.1, exit.2) (fails_within (Unit {0}) (Unit {0}) _ _ _ _ _ _ c.turn.new.self.bytes.items _ first [] rest _ whole (c.loop-race.invariant.put runs are) c.in_err-turn.ensures)
+    rw (exit.1, exit.2) (fails_within (Unit {0}) (Unit {0}) _ _ _ _ _ _ c.turn.new.self.bytes.items _ first [] rest _ whole (c.loop-race.invariant.put runs are) c.in_err-turn.ensures.put)
 
 pub returns-in_err-put_race : goal.returns-in_err-put_race
 returns-in_err-put_race g c runs are =
@@ -61,7 +61,7 @@ returns-in_err-put_race g c runs are =
     ∙ told_behind text q.most c.args.number c.loop-race.next (take i races) (drop i races) next
     ∙ ap (λ (t : List ℕ). t ++ rest) (sym (append-nil first)) in
     rw (exit.1, exit.2) (stops_within _ _ _ _ (first ++ []) rest _ whole
-    (pages_then _ _ _ _ _ _ first [] (c.loop-race.invariant.put runs are) c.in_ok-turn.ensures))
+    (pages_then _ _ _ _ _ _ first [] (c.loop-race.invariant.put runs are) c.in_ok-turn.ensures.put))
 
 pub loop-race-preserved : goal.loop-race-preserved
 loop-race-preserved g c =
@@ -84,7 +84,7 @@ loop-race-preserved g c =
           ∙ told_behind text q.most c.args.number c.loop-race.next (take i races) (here ∷ []) next in
           subst (Pages _ _ _ _) (sym both)
           (pages_then _ _ _ _ _ _ first now (c.loop-race.invariant.put runs are)
-          (pages_then _ _ _ _ _ _ [] now c.in_ok-turn.ensures (pages_in _ _ _ now (c.in_ok-put_race.ensures runs are))));
+          (pages_then _ _ _ _ _ _ [] now c.in_ok-turn.ensures.put (pages_in _ _ _ now (c.in_ok-put_race.ensures runs are))));
     }
 
 pub returns : goal.returns
