@@ -57,7 +57,14 @@ fn answer_chart<R: Threads + Wait + Sync, O: Write>(
             put(output, &page, ended_by(enforced))
         }
         Ask::Run(queues, patience) => {
-            let (page, finished) = print_execution(rt, alloc, chart, queues, &AlwaysOpen, patience)?;
+            let (page, finished) = print_execution(
+                rt,
+                alloc,
+                chart,
+                queues,
+                &AlwaysOpen,
+                patience,
+            )?;
             put(output, &page, finished_by(finished))
         }
     }

@@ -290,11 +290,7 @@ fn named<'a>(alloc: Global, verb: Verb) -> Command<'a>
 }
 
 /// A command with its words. An error is a growth of memory that was refused.
-fn command_of<'a>(
-    alloc: Global,
-    verb: Verb,
-    lent: Choices<'a>,
-) -> Result<Command<'a>, AllocError>
+fn command_of<'a>(alloc: Global, verb: Verb, lent: Choices<'a>) -> Result<Command<'a>, AllocError>
     ensures { IfOk result (IsCommand (command_of (parsers_of lent.entry) verb)) }
 {
     let mut command = named(alloc, verb);

@@ -79,5 +79,4 @@ pub fn every_race_that_counts_spans_a_closest_one()
 /// A reason that is right names events of the chart alone, so it can be printed.
 pub fn a_reason_names_events()
     ensures { AReasonNamesEvents }
-{
-}
+{}

@@ -59,5 +59,12 @@ pub fn check_text<W: Write>(
     enforced_orders_tell_verdicts();
     let source = Source::of(alloc, Language::MscPr, text)?;
     let question = all_races(show);
-    Ok(judge_chart(alloc, source.chart(), queues, question, Format::Lines, writer)?)
+    Ok(judge_chart(
+        alloc,
+        source.chart(),
+        queues,
+        question,
+        Format::Lines,
+        writer,
+    )?)
 }

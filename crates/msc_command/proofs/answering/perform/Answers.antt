@@ -12,14 +12,20 @@ returns-in_err-text g c =
 pub returns-in_err-status : goal.returns-in_err-status
 returns-in_err-status g c =
     let p = err_from_is_err_and c.from_residual-in_err-status.result c.from_residual-in_err-status.ensures.1 in
-    rw (p.1, p.2) (inl (c.in_ok-text.text.items, c.in_ok-text.ensures.rest,
-    subst (λ (t : List ℕ). Does g.O.Write.contents c.args.task c.args.file.now t (Err c.in_err-status.field-0.0) c.args.output.now c.answer.new.output) c.as_slice.ensures.value c.in_err-status.ensures))
+    rw (p.1, p.2) (inl (
+      c.in_ok-text.text.items,
+      c.in_ok-text.ensures.rest,
+      subst (λ (t : List ℕ). Does g.O.Write.contents c.args.task c.args.file.now t (Err c.in_err-status.field-0.0) c.args.output.now c.answer.new.output) c.as_slice.ensures.value c.in_err-status.ensures,
+    ))
 
 pub returns-in-Ok : goal.returns-in-Ok
 returns-in-Ok g c =
-    inl (c.in_ok-text.text.items, c.in_ok-text.ensures.rest,
-    subst (λ (t : List ℕ). Does g.O.Write.contents c.args.task c.args.file.now t (Ok c.in_ok-status.status) c.args.output.now c.flush.new.self) c.as_slice.ensures.value
-    (flushed g.O.Write.contents c.args.task c.args.file.now _ c.in_ok-status.status _ _ _ c.in_ok-status.ensures c.flush.ensures.bytes))
+    inl (
+      c.in_ok-text.text.items,
+      c.in_ok-text.ensures.rest,
+      subst (λ (t : List ℕ). Does g.O.Write.contents c.args.task c.args.file.now t (Ok c.in_ok-status.status) c.args.output.now c.flush.new.self) c.as_slice.ensures.value
+          (flushed g.O.Write.contents c.args.task c.args.file.now _ c.in_ok-status.status _ _ _ c.in_ok-status.ensures c.flush.ensures.bytes),
+    )
 
 pub returns-in-Err : goal.returns-in-Err
 returns-in-Err g c = inl (c.in_ok-text.text.items, c.in_ok-text.ensures.rest, tt)
