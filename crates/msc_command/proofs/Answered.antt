@@ -55,10 +55,10 @@ module _ {W : Type 0} (contents : W → Option (List ℕ)) where
   answers_so prints so refuses not_so right wrong (Err (refusals.Fault Memory)) old new (inr (status, printed, says, begun)) =
       inr (status, printed, right status printed says, begun)
   answers_so prints so refuses not_so right wrong (Err (refusals.Fault Device)) old new said = tt
-  answers_so prints so refuses not_so right wrong (Err (refusals.Fault (Parse f))) old new (no, same) = (wrong _ no, same)
-  answers_so prints so refuses not_so right wrong (Err (refusals.Fault (Chart f))) old new (no, same) = (wrong _ no, same)
-  answers_so prints so refuses not_so right wrong (Err (refusals.Fault (NotStarted i))) old new (no, same) = (wrong _ no, same)
-  answers_so prints so refuses not_so right wrong (Err (refusals.Pair f)) old new (no, same) = (wrong _ no, same)
+  answers_so prints so refuses not_so right wrong (Err (refusals.Fault (Parse f))) old new (fails, same) = (wrong _ fails, same)
+  answers_so prints so refuses not_so right wrong (Err (refusals.Fault (Chart f))) old new (fails, same) = (wrong _ fails, same)
+  answers_so prints so refuses not_so right wrong (Err (refusals.Fault (NotStarted i))) old new (fails, same) = (wrong _ fails, same)
+  answers_so prints so refuses not_so right wrong (Err (refusals.Pair f)) old new (fails, same) = (wrong _ fails, same)
 
   -- what is right to print was put
   pub put_so : (prints : Status → List ℕ → Type 0) (refuses : Refusal → Type 0) (bytes : List ℕ) (status : Status) → prints status bytes
@@ -92,7 +92,7 @@ module _ {W : Type 0} (contents : W → Option (List ℕ)) where
     pub no_draft : (f : SourceFault) (now : W) → reading.RefusesDraft MscPr text f
         → Does contents tasks.Read file text (Err (refusals.Fault (of_source f))) now now
     no_draft (sources.Parse f) now has = (has, refl)
-    no_draft (sources.Chart f) now no = absurd no
+    no_draft (sources.Chart f) now never = absurd never
     no_draft sources.Memory now said = inl refl
 
     -- and one without a chart
@@ -110,12 +110,12 @@ module _ {W : Type 0} (contents : W → Option (List ℕ)) where
 
     -- what is refused of a chart is refused of its text
     refuses_so : (d : Drawing) → IsChartOf text d → (ask : Ask) (r : Refusal) → RefusesOf ask d r → Refuses (tasks.Chart ask) text r
-    refuses_so d of_text ask (refusals.Fault (Parse f)) no = absurd no
-    refuses_so d of_text ask (refusals.Fault (Chart f)) no = absurd no
-    refuses_so d of_text ask (refusals.Fault (NotStarted i)) no = (d, of_text, no)
-    refuses_so d of_text ask (refusals.Fault Memory) no = absurd no
-    refuses_so d of_text ask (refusals.Fault Device) no = absurd no
-    refuses_so d of_text ask (refusals.Pair f) no = (d, of_text, no)
+    refuses_so d of_text ask (refusals.Fault (Parse f)) fails = absurd fails
+    refuses_so d of_text ask (refusals.Fault (Chart f)) fails = absurd fails
+    refuses_so d of_text ask (refusals.Fault (NotStarted i)) fails = (d, of_text, fails)
+    refuses_so d of_text ask (refusals.Fault Memory) fails = absurd fails
+    refuses_so d of_text ask (refusals.Fault Device) fails = absurd fails
+    refuses_so d of_text ask (refusals.Pair f) fails = (d, of_text, fails)
 
     -- what was answered of a chart was answered of its text
     pub charted : (d : Drawing) → IsChartOf text d → (ask : Ask) (answer : Result Status Refusal) (old new : W)

@@ -27,32 +27,32 @@ never_finished false same = cc
 -- so nothing that is printed for a task is
 never_printed : (task : Task) (file text printed : List ℕ) → Prints task file text Refused printed → ⊥
 never_printed tasks.Read file text printed (draft, has, same, is) = cc
-never_printed (tasks.Chart (asks.Check queues q form)) file text printed (d, of_text, format, its, passed, same, says) = never_ended passed same
-never_printed (tasks.Chart (asks.Quiet queues allowed)) file text printed (d, of_text, passed, same, says, none) = never_ended passed same
-never_printed (tasks.Chart (asks.Explain queues e f)) file text printed (d, of_text, enforced, same, says) = never_ended enforced same
-never_printed (tasks.Chart (asks.Run queues patience)) file text printed (d, of_text, finished, same, says) = never_finished finished same
+never_printed (tasks.Chart (asks.Check queues q form)) file text printed (d, of_text, (format, its, passed, same, says)) = never_ended passed same
+never_printed (tasks.Chart (asks.Quiet queues allowed)) file text printed (d, of_text, (passed, same, says, none)) = never_ended passed same
+never_printed (tasks.Chart (asks.Explain queues e f)) file text printed (d, of_text, (enforced, same, says)) = never_ended enforced same
+never_printed (tasks.Chart (asks.Run queues patience)) file text printed (d, of_text, (finished, same, says)) = never_finished finished same
 
 module _ {W : Type 0} (contents : W → Option (List ℕ)) where
   -- the status tells of what was performed
   tells : (task : Task) (file : List ℕ) (reads : List ℕ → Type 0) (answer : Result Status Refusal) (old new : W)
       → Performs contents task file reads answer old new → TellsAnswer contents (ends_with answer) old new
   tells task file reads (Ok Done) old new said = tt
-  tells task file reads (Ok Races) old new (inl (text, read, printed, says, wrote)) = (task, file, text, printed, says, wrote)
-  tells task file reads (Ok Races) old new (inr (no, same)) = absurd no
-  tells task file reads (Ok Refused) old new (inl (text, read, printed, says, wrote)) = absurd (never_printed task file text printed says)
-  tells task file reads (Ok Refused) old new (inr (no, same)) = absurd no
-  tells task file reads (Ok Unfinished) old new (inl (text, read, printed, says, wrote)) = (task, file, text, printed, says, wrote)
-  tells task file reads (Ok Unfinished) old new (inr (no, same)) = absurd no
+  tells task file reads (Ok Races) old new (inl (text, read, (printed, says, wrote))) = (task, file, text, printed, says, wrote)
+  tells task file reads (Ok Races) old new (inr (never, same)) = absurd never
+  tells task file reads (Ok Refused) old new (inl (text, read, (printed, says, wrote))) = absurd (never_printed task file text printed says)
+  tells task file reads (Ok Refused) old new (inr (never, same)) = absurd never
+  tells task file reads (Ok Unfinished) old new (inl (text, read, (printed, says, wrote))) = (task, file, text, printed, says, wrote)
+  tells task file reads (Ok Unfinished) old new (inr (never, same)) = absurd never
   tells task file reads (Ok Failed) old new said = tt
-  tells task file reads (Err (refusals.Fault (Parse f))) old new (inl (text, read, refused, same)) = same
-  tells task file reads (Err (refusals.Fault (Parse f))) old new (inr (no, same)) = absurd no
-  tells task file reads (Err (refusals.Fault (Chart f))) old new (inl (text, read, refused, same)) = same
-  tells task file reads (Err (refusals.Fault (Chart f))) old new (inr (no, same)) = absurd no
+  tells task file reads (Err (refusals.Fault (Parse f))) old new (inl (text, read, (refused, same))) = same
+  tells task file reads (Err (refusals.Fault (Parse f))) old new (inr (never, same)) = absurd never
+  tells task file reads (Err (refusals.Fault (Chart f))) old new (inl (text, read, (refused, same))) = same
+  tells task file reads (Err (refusals.Fault (Chart f))) old new (inr (never, same)) = absurd never
   tells task file reads (Err (refusals.Fault (NotStarted i))) old new said = tt
   tells task file reads (Err (refusals.Fault Memory)) old new said = tt
   tells task file reads (Err (refusals.Fault Device)) old new said = tt
-  tells task file reads (Err (refusals.Pair f)) old new (inl (text, read, refused, same)) = same
-  tells task file reads (Err (refusals.Pair f)) old new (inr (no, same)) = absurd no
+  tells task file reads (Err (refusals.Pair f)) old new (inl (text, read, (refused, same))) = same
+  tells task file reads (Err (refusals.Pair f)) old new (inr (never, same)) = absurd never
 
   -- and of words that were obeyed
   pub obeyed : (name : List ℕ) (found : Found) (status : Status) (reads : List ℕ → Type 0) (old new : W)

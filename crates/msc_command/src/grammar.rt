@@ -6,8 +6,7 @@ ghost use Rattle.msc_command.specs.Grammar.{choices_rule, command_of, event_rule
 ghost use Rattle.msc_command.specs.Grammar.{flag_rule, form_words, kind_words, letter_rule};
 ghost use Rattle.msc_command.specs.Grammar.{needed_rule, number_rule, parsers_of, rule_of_word};
 ghost use Rattle.msc_command.specs.Grammar.{whole_command, IsArgument, IsCommand};
-ghost use Rattle.msc_command.specs.Words.{verb_name};
-ghost use Rattle.clap.specs.Words.{new_app};
+ghost use Rattle.clap.specs.Words.{App, Rule, new_app, with_rule, with_subcommand};
 ghost use Rattle.clap.specs.declared.builder.value_parser.ValueParser.TheVariants.{Names};
 
 use crate::tasks::Form;
@@ -280,22 +279,33 @@ fn argument<'a>(alloc: Global, word: Word, lent: Choices<'a>) -> Arg<'a>
     }
 }
 
-/// A command without its words.
-fn named<'a>(alloc: Global, verb: Verb) -> Command<'a>
-    ensures { IsCommand (new_app (verb_name verb)) result }
+/// A command without its words, with what its help says of it.
+fn named<'a>(
+    alloc: Global,
+    name: &'static str,
+    about: &'static str,
+    notes: &'static str,
+) -> Result<Command<'a>, AllocError>
+    ensures { IfOk result (IsCommand (new_app name.now)) }
 {
-    Command::new(alloc, verb.name())
-        .about(verb.about())
-        .after_help(verb.notes())
+    Ok(Command::new(alloc, name).about(about).after_help(notes))
+}
+
+/// A command with an argument more. An error is a growth of memory that was refused.
+fn and<'a>(command: Command<'a>, argument: Arg<'a>) -> Result<Command<'a>, AllocError>
+    ensures { (app : App) (rule : Rule) → IsCommand app command.entry
+        → IsArgument rule argument.entry → IfOk result (IsCommand (with_rule app rule)) }
+{
+    command.arg(argument)
 }
 
 /// A command with its words. An error is a growth of memory that was refused.
 fn command_of<'a>(alloc: Global, verb: Verb, lent: Choices<'a>) -> Result<Command<'a>, AllocError>
     ensures { IfOk result (IsCommand (command_of (parsers_of lent.entry) verb)) }
 {
-    let mut command = named(alloc, verb);
+    let mut command = named(alloc, verb.name(), verb.about(), verb.notes())?;
     for word in verb.words() {
-        command = command.arg(argument(alloc, *word, lent))?;
+        command = and(command, argument(alloc, *word, lent))?;
     }
     Ok(command)
 }
@@ -310,13 +320,21 @@ fn bare<'a>(alloc: Global) -> Result<Command<'a>, AllocError>
     Ok(command.subcommand_required(true))
 }
 
+/// A program with a command more. An error is a growth of memory that was refused.
+fn with<'a>(program: Command<'a>, command: Command<'a>) -> Result<Command<'a>, AllocError>
+    ensures { (app below : App) → IsCommand app program.entry → IsCommand below command.entry
+        → IfOk result (IsCommand (with_subcommand app below.top)) }
+{
+    program.subcommand(command)
+}
+
 /// The words that the program takes. An error is a growth of memory that was refused.
 pub(crate) fn grammar<'a>(alloc: Global, lent: Choices<'a>) -> Result<Command<'a>, AllocError>
     ensures { IfOk result (IsCommand (whole_command (parsers_of lent.entry))) }
 {
     let mut command = bare(alloc)?;
     for verb in Verb::ALL {
-        command = command.subcommand(command_of(alloc, verb, lent)?)?;
+        command = with(command, command_of(alloc, verb, lent)?)?;
     }
     Ok(command)
 }

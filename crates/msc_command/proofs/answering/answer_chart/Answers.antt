@@ -16,10 +16,10 @@ returns-in_ok-passed-in-Check g c =
 
 pub returns-in_ok-passes_chart-in-Quiet : goal.returns-in_ok-passes_chart-in-Quiet
 returns-in_ok-passes_chart-in-Quiet g c =
-    rw c.in-Quiet.is ([], (c.in_ok-passes_chart-in-Quiet.field-0, c.ended_by-2.ensures, c.in_ok-passes_chart-in-Quiet.ensures, refl), nothing_more _)
+    rw c.in-Quiet.is ([], (c.in_ok-passes_chart-in-Quiet.field-0, c.ended_by-in-Quiet.ensures, c.in_ok-passes_chart-in-Quiet.ensures, refl), nothing_more _)
 
 pub returns-in_ok-page-in-Run : goal.returns-in_ok-page-in-Run
 returns-in_ok-page-in-Run g c =
     let asked = asks.Run c.in-Run.queues c.in-Run.patience in
     rw c.in-Run.is (put_so g.O.Write.contents (PrintsOf asked c.args.file.now c.args.chart.now) (RefusesOf asked c.args.chart.now) _ c.finished_by.result
-    (c.in_ok-page-in-Run.finished, c.finished_by.ensures, c.in_ok-page-in-Run.ensures.printed) c.put-2.result _ _ c.put-2.ensures)
+    (c.in_ok-page-in-Run.finished, c.finished_by.ensures, c.in_ok-page-in-Run.ensures.printed) c.put-in-Run.result _ _ c.put-in-Run.ensures)

@@ -27,5 +27,5 @@ returns-in-Ok g c =
           (flushed g.O.Write.contents c.args.task c.args.file.now _ c.in_ok-status.status _ _ _ c.in_ok-status.ensures c.flush.ensures.bytes),
     )
 
-pub returns-in-Err : goal.returns-in-Err
-returns-in-Err g c = inl (c.in_ok-text.text.items, c.in_ok-text.ensures.rest, tt)
+pub returns : goal.returns
+returns g c = inl (c.in_ok-text.text.items, c.in_ok-text.ensures.rest, tt)

@@ -1,5 +1,6 @@
-use Rattle.std.proofs.Common.{Ok, Err, inl, inr, refl, subst, sym}
-use Rattle.msc_command.proofs.Answered.{performs_so}
+use Rattle.std.proofs.Common.{◌≡◌, ℕ, List, Result, Ok, Err, inl, inr, refl, codes, subst}
+use Rattle.msc_source.specs.Inputs.{IsReadFrom}
+use Rattle.msc_command.specs.Answering.{Performs}
 use Rattle.msc_command.proofs.program.obey.Goals as goal
 
 pub returns-in_default-clause-obeyed : goal.returns-in_default-clause-obeyed
@@ -11,7 +12,9 @@ returns-in-Ok-clause-obeyed g c = inr (record {
   answer = Ok c.in-Ok.status;
   asked = c.in-Some.ensures;
   ends = refl;
-  performed = rw c.file_of-file.ensures at c.in-Ok.ensures.performed;
+  performed = subst (λ (file : List ℕ). Performs g.O.Write.contents c.in-Some.task file (λ text. file ≡ codes "-"
+      → IsReadFrom (g.I.Read.remaining c.args.input.now) (g.I.Read.remaining c.perform_on.new.input) text) (Ok c.in-Ok.status) c.args.output.now c.perform_on.new.output)
+      c.file_of-file.ensures c.in-Ok.ensures.performed;
 })
 
 pub returns-in-Err-clause-obeyed : goal.returns-in-Err-clause-obeyed
@@ -20,5 +23,7 @@ returns-in-Err-clause-obeyed g c = inr (record {
   answer = Err c.in-Err.refusal;
   asked = c.in-Some.ensures;
   ends = c.end_refused.ensures.status;
-  performed = rw c.file_of-file.ensures at c.in-Err.ensures.performed;
+  performed = subst (λ (file : List ℕ). Performs g.O.Write.contents c.in-Some.task file (λ text. file ≡ codes "-"
+      → IsReadFrom (g.I.Read.remaining c.args.input.now) (g.I.Read.remaining c.perform_on.new.input) text) (Err c.in-Err.refusal) c.args.output.now c.perform_on.new.output)
+      c.file_of-file.ensures c.in-Err.ensures.performed;
 })
