@@ -29,7 +29,7 @@ use Rattle.msc_command.specs.declared.tasks.Ask.TheVariants as asks
 use Rattle.msc_command.specs.declared.tasks.Form.{Form}
 use Rattle.msc_command.specs.declared.tasks.Task.{Task}
 use Rattle.msc_command.specs.declared.tasks.Task.TheVariants as tasks
-use Rattle.msc_command.specs.Answering.{Answers, AnswersOf, Does, IsPut, IsUnread, Performs, Prints, PrintsOf, Refuses, RefusesOf}
+use Rattle.msc_command.specs.Answering.{Answers, AnswersOf, Does, IsPut, Performs, Prints, PrintsOf, Refuses, RefusesOf}
 use Rattle.msc_command.specs.Ending.{ended_by}
 use Rattle.msc_command.specs.Formats.{IsFormat}
 

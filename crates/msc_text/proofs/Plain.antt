@@ -1,22 +1,20 @@
 -- What is asked for a verdict is printed as the verdict and its races.
-use Rattle.std.proofs.Common.{◌≡◌, zero, suc, ℕ, ◌+◌, ◌<◌, ◌≤◌, Bool, true, false, cond, not, nat_eq, nat_lt, List, [], ◌∷◌, ◌++◌, None, Some, length, take, drop, refl, sym, ap, ap₂, ◌∙◌, append_assoc, arith}
-use Rattle.std.specs.List.{filter, flat_map}
+use Rattle.std.proofs.Common.{◌≡◌, zero, suc, ℕ, ◌+◌, ◌<◌, ◌≤◌, true, false, not, List, [], ◌∷◌, ◌++◌, None, Some, length, take, drop, refl, sym, ap, ap₂, ◌∙◌, append_assoc, arith}
+use Rattle.std.specs.List.{flat_map}
 use Rattle.std.proofs.lemmas.Bool.{and_from, le-ltb, lt-ltb}
 use Rattle.std.proofs.lemmas.List.{append-nil, take_all}
 use Rattle.std.proofs.Math.Seq.{drop-nil, take-nil}
-use Rattle.msc_chart.specs.declared.queue.Queues.{Queues}
 use Rattle.msc_chart.specs.Drawings.{Drawing}
 use Rattle.msc_race.specs.Races.{verdict_of}
 use Rattle.msc_race.specs.Views.{races_of}
 use Rattle.msc_race.specs.Wired.{EnforcedChart}
 use Rattle.msc_reason.proofs.Filtered.{filter_all}
-use Rattle.msc_reason.specs.Counting.{counting, counts, is_alone, is_listed, listed}
+use Rattle.msc_reason.specs.Counting.{counting, counts, is_listed, listed}
 use Rattle.msc_reason.specs.Kinds.{has_kind}
 use Rattle.msc_reason.specs.declared.lack.Lack.{Lack}
 use Rattle.msc_reason.specs.declared.lack.RaceKind.{RaceKind}
 use Rattle.msc_reason.specs.declared.lack.RaceKind.TheVariants.{Early, Queues as TwoQueues, Unordered, Overtaken}
 use Rattle.msc_judge.specs.Findings.{answer_text, findings_from, shown_text as finding_shown, Tables}
-use Rattle.msc_judge.specs.declared.question.Question.{Question}
 use Rattle.msc_report.specs.Lines.{finding_text}
 use Rattle.msc_report.specs.Verdicts.{head_text, race_text, run_line}
 use Rattle.msc_text.proofs.Shown.{race_and_run}

@@ -1,10 +1,10 @@
 -- How the faults of texts and drafts are answered.
-use Rattle.std.proofs.Common.{◌≡◌, ◌≢◌, ℕ, List, Result, Ok, Err, refl, ap, sym, ◌∙◌, subst, inl, inr}
+use Rattle.std.proofs.Common.{◌≡◌, ◌≢◌, ℕ, List, Result, Err, refl, ap, subst, inl, inr}
 use Rattle.msc_parser.specs.declared.fault.ParseFault.{ParseFault}
 use Rattle.msc_parser.specs.Grammar.{Tree}
 use Rattle.msc_parser.specs.Parsing.{HasDraft, HasParseFault, OneParsing}
 use Rattle.msc_chart.specs.declared.fault.ChartFault.{ChartFault}
-use Rattle.msc_chart.specs.Drawings.{Drawing, chart_of}
+use Rattle.msc_chart.specs.Drawings.{Drawing}
 use Rattle.msc_chart.specs.Faults.{Stands, IsFirstFault}
 use Rattle.msc_source.specs.declared.fault.SourceFault.{SourceFault}
 use Rattle.msc_source.specs.declared.fault.SourceFault.TheVariants as sources

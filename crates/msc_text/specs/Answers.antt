@@ -7,7 +7,7 @@ use Rattle.msc_parser.specs.Grammar.{Tree}
 use Rattle.msc_parser.specs.Canonical.{canonical}
 use Rattle.msc_parser.specs.Parsing.{HasDraft, HasParseFault}
 use Rattle.msc_report.specs.declared.fault.Fault.{Fault}
-use Rattle.msc_report.specs.declared.fault.Fault.TheVariants.{Parse, Chart, NotStarted, Memory, Device}
+use Rattle.msc_report.specs.declared.fault.Fault.TheVariants.{Parse, Chart, NotStarted, Memory}
 
 -- the text has a draft, whose canonical text went behind the known bytes of a writer
 pub record WritesDraft (text : List ℕ) (before after : Option (List ℕ)) : Type 0 where

@@ -1,6 +1,6 @@
 use Rattle.std.proofs.Common.{[], refl}
 use Rattle.std.proofs.lemmas.Result.{err_from_is_err_and}
-use Rattle.msc_command.proofs.Answered.{judged, not_judged, not_run, nothing_more, put_so}
+use Rattle.msc_command.proofs.Answered.{judged, not_judged, nothing_more, put_so}
 use Rattle.msc_command.specs.Answering.{PrintsOf, RefusesOf}
 use Rattle.msc_command.specs.declared.tasks.Ask.TheVariants as asks
 use Rattle.msc_command.proofs.answering.answer_chart.Goals as goal

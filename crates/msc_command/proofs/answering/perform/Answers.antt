@@ -1,4 +1,4 @@
-use Rattle.std.proofs.Common.{ℕ, List, Ok, Err, inl, inr, refl, subst}
+use Rattle.std.proofs.Common.{ℕ, List, Ok, Err, inl, subst}
 use Rattle.std.proofs.lemmas.Result.{err_from_is_err_and}
 use Rattle.msc_command.proofs.Answered.{flushed, unread}
 use Rattle.msc_command.specs.Answering.{Does}

@@ -1,6 +1,6 @@
-use Rattle.std.proofs.Common.{◌≡◌, ◌<◌, ◌∙◌, ℕ, List, length, ap, sym, arith}
+use Rattle.std.proofs.Common.{◌<◌, ◌∙◌, ℕ, List, length, ap, sym, arith}
 use Rattle.std.proofs.lemmas.List.{drop_more}
-use Rattle.std.specs.Prelude.{drop, get_or}
+use Rattle.std.specs.Prelude.{get_or}
 use Rattle.clap.specs.Words.{with_rule}
 use Rattle.msc_command.specs.declared.words.Word.{Word}
 use Rattle.msc_command.specs.declared.words.Word.TheVariants.{File}

@@ -1,8 +1,7 @@
-use Rattle.std.proofs.Common.{◌≡◌, ◌<◌, ◌∙◌, ℕ, List, length, ap, sym, subst, arith}
+use Rattle.std.proofs.Common.{◌<◌, ◌∙◌, ℕ, length, ap, sym, subst, arith}
 use Rattle.std.proofs.lemmas.List.{at_drop_all, drop_more}
-use Rattle.std.specs.Prelude.{drop, get_or}
+use Rattle.std.specs.Prelude.{get_or}
 use Rattle.clap.specs.Words.{App, with_subcommand}
-use Rattle.msc_command.specs.declared.words.Verb.{Verb}
 use Rattle.msc_command.specs.declared.words.Verb.TheVariants.{Read}
 use Rattle.msc_command.specs.Grammar.{command_of, parsers_of, with_commands, IsCommand}
 use Rattle.msc_command.specs.Words.{verbs}

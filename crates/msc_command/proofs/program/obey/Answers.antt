@@ -1,4 +1,4 @@
-use Rattle.std.proofs.Common.{◌≡◌, ℕ, List, Result, Ok, Err, inl, inr, refl, codes, subst}
+use Rattle.std.proofs.Common.{◌≡◌, ℕ, List, Ok, Err, inl, inr, refl, codes, subst}
 use Rattle.msc_source.specs.Inputs.{IsReadFrom}
 use Rattle.msc_command.specs.Answering.{Performs}
 use Rattle.msc_command.proofs.program.obey.Goals as goal
