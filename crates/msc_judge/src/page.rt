@@ -70,6 +70,17 @@ impl Page {
         if self.bytes.len() < PAGE_SIZE {
             return Ok(());
         }
+        self.go_out(writer)
+    }
+
+    /// Lets it go out, and nothing stands on it then.
+    // Apart from `turn`, which is called for each race: room for a write is made only here.
+    #[inline(never)]
+    fn go_out<W: Write>(&mut self, writer: &mut W) -> Result<(), WriteFault>
+        ensures put { Puts result (W.contents writer.old) (W.contents writer.new)
+            self.old.bytes.items self.new.bytes.items [] }
+        ensures empty { OnOk result (self.new.bytes.items ≡ []) }
+    {
         writer.write_all(self.bytes.as_slice())?;
         self.bytes.clear();
         Ok(())

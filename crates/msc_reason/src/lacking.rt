@@ -55,6 +55,8 @@ fn needed_of(chart: &Chart, kind: RaceKind, e: Event) -> Event
 }
 
 /// Why the race (`e`, `f`) is one: its kind, and what is not enforced. It takes no memory.
+// Copied into the loop over races, its room is made anew for each.
+#[inline(never)]
 pub fn lack_of(enforced: &Enforced, e: Event, f: Event) -> Lack
     requires { IsRace (wiring_of enforced.now) e f }
     ensures lack { IsLackOf (wiring_of enforced.now) e f result }

@@ -95,6 +95,35 @@ fn write_heading<W: Write>(writer: &mut W, chart: &Chart, heading: Heading) -> i
     write_closest(writer, heading.closest)
 }
 
+/// Puts why a pair is a race behind a page.
+// Apart from `put_lack`, which is called for each race: room for it is made only here.
+#[inline(never)]
+fn put_why(page: &mut Page, chart: &Chart, lack: &Lack) -> Result<(), AllocError>
+    requires { NamesLack chart.now lack.now }
+    ensures { OnOk result (page.new.bytes.items
+        ≡ page.old.bytes.items ++ why_text chart.now lack.now) }
+{
+    match write_why(page, chart, lack) {
+        Ok(()) => Ok(()),
+        Err(_) => Err(AllocError),
+    }
+}
+
+/// Puts the line of a race behind a page, where no texts were made.
+// Apart from the line that is put together of texts: room for it is made only here.
+#[inline(never)]
+fn put_bare_race(page: &mut Page, chart: &Chart, e: Event, f: Event) -> Result<(), AllocError>
+    requires e_known { e < length chart.now.events }
+    requires f_known { f < length chart.now.events }
+    ensures { OnOk result (page.new.bytes.items
+        ≡ page.old.bytes.items ++ race_text chart.now e f None) }
+{
+    match write_race(page, chart, e, f, None) {
+        Ok(()) => Ok(()),
+        Err(_) => Err(AllocError),
+    }
+}
+
 /// Puts why a pair is a race behind a page, where that is told.
 fn put_lack(page: &mut Page, chart: &Chart, lack: Option<Lack>) -> Result<(), AllocError>
     requires { MatchOption lack (Unit {0}) (NamesLack chart.now) }
@@ -104,10 +133,7 @@ fn put_lack(page: &mut Page, chart: &Chart, lack: Option<Lack>) -> Result<(), Al
     let Some(lack) = lack else {
         return Ok(());
     };
-    match write_why(page, chart, &lack) {
-        Ok(()) => Ok(()),
-        Err(_) => Err(AllocError),
-    }
+    put_why(page, chart, &lack)
 }
 
 /// Lines of races. The texts of the chart's events are made once, where it has races.
@@ -140,10 +166,7 @@ impl Lines {
         if let Some(texts) = &self.texts {
             return texts.put_race(&mut page.bytes, e, f);
         }
-        match write_race(page, chart, e, f, None) {
-            Ok(()) => Ok(()),
-            Err(_) => Err(AllocError),
-        }
+        put_bare_race(page, chart, e, f)
     }
 }
 
