@@ -21,9 +21,13 @@ mod host;
 #[cfg(test)]
 mod orders;
 #[cfg(test)]
+mod positions;
+#[cfg(test)]
 mod races;
 #[cfg(test)]
 mod reasons;
+#[cfg(test)]
+mod rings;
 #[cfg(test)]
 mod runs;
 #[cfg(test)]

@@ -1,0 +1,4 @@
+use Rattle.msc_place.proofs.places.tokens_of.Goals as goal
+
+pub returns-in_default : goal.returns-in_default
+returns-in_default c = λ ts h. absurd (c.in_default.not-Memory (c.in-Err.ensures.only_tokens ts h))
