@@ -8,7 +8,7 @@ use Rattle.msc_lexer.specs.Lexemes.{Symbol, Lexeme, lexemes, lexeme_of}
 use Rattle.msc_place.specs.Collecting.{collected, is_semicolon, leads_address, first_place, end_of, address_of}
 
 -- the token that is read past the end of a list
-abbrev no_token : Token
+abbrev pub no_token : Token
 no_token = record { kind = kinds.Word words.Msc; start = 0; «end» = 0 }
 
 -- token i of a text, as a grammar sees it

@@ -1,5 +1,7 @@
 -- where lines begin and end
 pub mod LineLemmas
+pub mod PositionLemmas
+pub mod MarkLemmas
 -- what the walks over tokens collect
 pub mod Collected
 pub mod Walks
@@ -11,4 +13,6 @@ pub mod HeaderWalks
 -- where the parts of a draft stand
 pub mod EventParts
 pub mod StandingLemmas
+pub mod InsideLemmas
 pub mod OneBeginning
+pub mod OnLines

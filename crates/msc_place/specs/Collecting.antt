@@ -50,6 +50,10 @@ address_of [] = None
 address_of (l ∷ ls) =
     if is_semicolon l.symbol then None else (if leads_address l.symbol then Some (first_place ls) else address_of ls)
 
+-- what is read past the last place
+abbrev pub no_place : EventPlace
+no_place = record { start = 0; «end» = 0; address = None }
+
 -- the place of the statement that these tokens begin with
 abbrev pub event_place : List Lexeme → EventPlace
 event_place ls = record { start = first_place ls; «end» = end_of ls; address = address_of ls }

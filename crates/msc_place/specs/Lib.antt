@@ -2,5 +2,7 @@
 pub mod Positions
 pub mod Excerpts
 pub mod Standing
+pub mod Spots
 -- what the code keeps
 pub mod Collecting
+pub mod Marks

@@ -26,10 +26,14 @@ pub record BeginsLine (before : List ℕ) (at : ℕ) : Type 0 where
   pub within : at ≤ length before
   pub cut : IsCut before (take at before) (drop at before)
 
--- the place is on this line, in this column, both from 1
-pub record IsPosition (text : List ℕ) (at line column : ℕ) : Type 0 where
+-- what follows these bytes is on this line, in this column, both from 1
+pub record EndsAt (before : List ℕ) (line column : ℕ) : Type 0 where
   pub above : List ℕ
   pub start : List ℕ
-  pub cut : IsCut (take at text) above start
+  pub cut : IsCut before above start
   pub line_is : line ≡ count_by (is_line_end) above + 1
   pub column_is : column ≡ count_by begins_character start + 1
+
+-- the place is on this line, in this column, both from 1
+abbrev pub IsPosition : List ℕ → ℕ → ℕ → ℕ → Type 0
+IsPosition text at line column = EndsAt (take at text) line column

@@ -1,5 +1,5 @@
 -- Where the parts of a draft stand in its text. A place is that of the first byte of a token.
-use Rattle.std.specs.Prelude.{◌≡◌, ℕ, ◌+◌, ◌≤◌, Bool, true, false, List, [], ◌∷◌, ◌++◌, length, count_by, slice_get, Some, MatchOption}
+use Rattle.std.specs.Prelude.{◌≡◌, ℕ, ◌+◌, ◌<◌, ◌≤◌, Bool, true, false, List, [], ◌∷◌, ◌++◌, length, count_by, slice_get, Some, All, IfSome, MatchOption}
 use Rattle.msc_lexer.specs.declared.word.Word.TheVariants as words
 use Rattle.msc_lexer.specs.declared.token.Token.{Token}
 use Rattle.msc_lexer.specs.Lexemes.{Symbol, Reserved, Named, Semicolon, Comma, Lexeme, lexemes}
@@ -11,7 +11,9 @@ use Rattle.msc_parser.specs.declared.tree.Statement.TheVariants.{Message, Action
 use Rattle.msc_parser.specs.declared.tree.Section.{Section}
 use Rattle.msc_parser.specs.Drafts.{statements_of}
 use Rattle.msc_parser.specs.Grammar.{Tree, address_word, IsDecl, IsEvent, IsSection}
+use Rattle.msc_parser.specs.Parsing.{HasDraft}
 use Rattle.msc_place.specs.declared.places.EventPlace.{EventPlace}
+use Rattle.msc_place.specs.Positions.{IsPosition}
 
 -- `out`, `in` or `action`, which begin the statements of events and stand nowhere else
 abbrev pub begins_event : Symbol → Bool
@@ -135,6 +137,48 @@ pub record HasPlaces (text : List ℕ) (t : Tree) (p : Stand) : Type 0 where
       → MatchOption (slice_get p.sections i) (length t.sections ≤ i) (NamesSection text t i)
   pub header : (k : ℕ)
       → MatchOption (slice_get p.header k) (length t.header ≤ k) (NamesDecl text t k)
+
+-- the statement begins at a place of a text of so many bytes, and so does its address
+pub record IsInside (n : ℕ) (p : EventPlace) : Type 0 where
+  pub start : p.start ≤ n
+  pub address : IfSome p.address (λ at. at ≤ n)
+
+-- all are places of a text of so many bytes
+pub record AreInside (n : ℕ) (p : Stand) : Type 0 where
+  pub events : All (IsInside n) p.events
+  pub sections : All (λ at. at ≤ n) p.sections
+  pub header : All (λ at. at ≤ n) p.header
+
+-- a text, and the places of its parts
+pub record TextPlaces : Type 0 where
+  pub text : List ℕ
+  pub stand : Stand
+
+-- these two
+abbrev pub text_places : List ℕ → List EventPlace → List ℕ → List ℕ → TextPlaces
+text_places text events sections header =
+    record { text = text; stand = record { events = events; sections = sections; header = header } }
+
+-- they are the places of the text's draft, if it has one
+pub record ArePlaces (p : TextPlaces) : Type 0 where
+  pub inside : AreInside (length p.text) p.stand
+  pub stand : (t : Tree) → HasDraft p.text t → HasPlaces p.text t p.stand
+
+-- the statement of event e begins on this line
+pub record BeginsOnLine (text : List ℕ) (t : Tree) (line e : ℕ) : Type 0 where
+  pub at : ℕ
+  pub column : ℕ
+  pub begins : BeginsEvent text t e at
+  pub position : IsPosition text at line column
+
+-- e is the first event whose statement begins on this line
+pub record IsFirstOnLine (text : List ℕ) (t : Tree) (line e : ℕ) : Type 0 where
+  pub begins : BeginsOnLine text t line e
+  pub first : (f : ℕ) → f < e → BeginsOnLine text t line f → ⊥
+
+-- no statement of an event begins on this line
+abbrev pub HasNoneOnLine : List ℕ → Tree → ℕ → Type 0
+HasNoneOnLine text t line = (e : ℕ) → BeginsOnLine text t line e → ⊥
 
 -- Each event's statement begins at one place of its text.
 abbrev pub EachEventBeginsOnce : Type 0

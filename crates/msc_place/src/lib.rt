@@ -7,12 +7,16 @@
 #![tactic(auto)]
 
 mod excerpting;
+mod index;
 pub mod laws;
 mod naming;
 mod places;
 mod position;
+mod spots;
 mod statements;
 
 pub use excerpting::excerpt;
+pub use index::Lines;
 pub use places::{EventPlace, Places};
 pub use position::Position;
+pub use spots::{Spot, spot_at};

@@ -1,7 +1,7 @@
 //! Lines and columns.
 
-ghost use Rattle.std.specs.Prelude.{◌≡◌, ◌≤◌, length, count_by};
-ghost use Rattle.msc_place.specs.Positions.{IsPosition};
+ghost use Rattle.std.specs.Prelude.{◌≡◌, ℕ, List, ◌+◌, ◌≤◌, ◌++◌, length, count_by};
+ghost use Rattle.msc_place.specs.Positions.{EndsAt, IsPosition};
 ghost use Rattle.msc_place.specs.Positions.{is_line_end, begins_character, BeginsLine};
 
 use memchr::memrchr;
@@ -58,6 +58,22 @@ impl Position {
         Position {
             line: line_ends(&before[..start]) + 1,
             column: columns(&before[start..]) + 1,
+        }
+    }
+
+    /// The position behind these bytes, which begin at this one.
+    pub(crate) fn moved(self, bytes: &[u8]) -> Position
+        requires line { self.line + length bytes.now ≤ usize.MAX }
+        requires column { self.column + length bytes.now ≤ usize.MAX }
+        requires first { 1 ≤ self.column }
+        ensures { (before : List ℕ) → EndsAt before self.line self.column
+            → EndsAt (before ++ bytes.now) result.line result.column }
+    {
+        let start = line_start(bytes);
+        let column = if start == 0 { self.column } else { 1 };
+        Position {
+            line: self.line + line_ends(&bytes[..start]),
+            column: column + columns(&bytes[start..]),
         }
     }
 }
