@@ -1,7 +1,7 @@
 //! Where things stand in texts: lines, columns, excerpts, and the places of events and names.
 
 use crate::host::Host;
-use msc_place::{EventPlace, Places, Position, excerpt};
+use msc_place::{EventPlace, Lines, Places, Position, excerpt, spot_at};
 
 /// Texts, places, and the line and the column of each.
 const POSITIONS: &[(&[u8], usize, usize, usize)] = &[
@@ -31,6 +31,48 @@ fn lines_and_columns(rt: HostRuntime) {
             );
         }
     }
+}
+
+/// The position of a place by an index of the text's lines.
+fn position(rt: &impl Host, text: &[u8], at: usize) -> Position {
+    let lines = Lines::of(rt.alloc(), text).expect(rt, "memory");
+    lines.position(at.min(text.len()))
+}
+
+#[test]
+fn positions_by_an_index(rt: HostRuntime) {
+    for &(text, at, line, column) in POSITIONS {
+        assert_eq!(rt;
+            position(&rt, text, at),
+            Position { line, column },
+            "{text:?} at {at}"
+        );
+    }
+}
+
+/// A text of so many lines of three bytes each.
+fn ruled(rt: &impl Host, count: usize) -> Vec<u8> {
+    let mut text = Vec::new(rt.alloc());
+    for _ in 0..count {
+        text.extend_from_slice(b"\xC3\xA9\n").expect(rt, "memory");
+    }
+    text
+}
+
+/// Whether each place of a text has one position, counted from the beginning and by an index.
+fn agrees(rt: &impl Host, text: &[u8]) -> bool {
+    let lines = Lines::of(rt.alloc(), text).expect(rt, "memory");
+    for at in 0..=text.len() {
+        if at > text.len() || lines.position(at) != Position::of(text, at) {
+            return false;
+        }
+    }
+    true
+}
+
+#[test]
+fn an_index_and_a_count_agree(rt: HostRuntime) {
+    assert!(rt; agrees(&rt, &ruled(&rt, 700)));
 }
 
 /// Whether these are the two lines of a place.
@@ -129,7 +171,7 @@ const SECTIONS: &[&[u8]] = &[b"a : p q comment", b"b; in m", b"c; concurrent;"];
 const HEADER: &[&[u8]] = &[b"a /* inst x", b"b comment 'inst y", b"c;\n/*"];
 
 /// The places of a text.
-fn places_of(rt: &impl Host, text: &[u8]) -> Places {
+fn places_of<'t>(rt: &impl Host, text: &'t [u8]) -> Places<'t> {
     Places::of(rt.alloc(), text).expect(rt, "memory")
 }
 
@@ -186,4 +228,60 @@ fn names_of_sections_and_of_the_header(rt: HostRuntime) {
         "no more sections"
     );
     assert!(rt; places.header(HEADER.len()).is_none(), "no more names");
+}
+
+/// Lines of `TEXT`, and the first event of each.
+const LINES: &[(usize, Option<usize>)] = &[
+    (0, None),
+    (2, None),
+    (3, Some(0)),
+    (4, Some(1)),
+    (5, Some(2)),
+    (6, None),
+    (7, Some(4)),
+    (8, Some(6)),
+    (9, None),
+];
+
+/// The first event of a line of `TEXT`.
+fn event_at_line(rt: &impl Host, line: usize) -> Option<usize> {
+    let lines = Lines::of(rt.alloc(), TEXT).expect(rt, "memory");
+    places_of(rt, TEXT).event_at_line(&lines, line)
+}
+
+#[test]
+fn first_events_of_lines(rt: HostRuntime) {
+    for &(line, wanted) in LINES {
+        assert_eq!(rt; event_at_line(&rt, line), wanted, "line {line}");
+    }
+}
+
+/// Texts, places, where the token there begins, and where the token before it ends.
+const SPOTS: &[(&[u8], usize, Option<u32>, Option<usize>)] = &[
+    (b"msc t; /* x */ instance a;", 0, Some(0), None),
+    (b"msc t; /* x */ instance a;", 15, Some(15), Some(6)),
+    (b"msc t; /* x */ instance a;", 16, Some(24), Some(23)),
+    (b"msc t; /* x */ instance a; ", 27, None, Some(26)),
+    (b"", 0, None, None),
+    // A text without tokens has nothing.
+    (b"msc t; ?", 4, None, None),
+];
+
+/// Whether this token begins at a place of a text or behind it, behind one that ends there.
+fn is_spot(
+    rt: &impl Host,
+    text: &[u8],
+    at: usize,
+    start: Option<u32>,
+    behind: Option<usize>,
+) -> bool {
+    let spot = spot_at(rt.alloc(), text, at).expect(rt, "memory");
+    spot.token.map(|token| token.start) == start && spot.behind == behind
+}
+
+#[test]
+fn what_stands_at_places(rt: HostRuntime) {
+    for &(text, at, start, behind) in SPOTS {
+        assert!(rt; is_spot(&rt, text, at, start, behind), "{text:?} at {at}");
+    }
 }

@@ -16,3 +16,4 @@ pub mod StandingLemmas
 pub mod InsideLemmas
 pub mod OneBeginning
 pub mod OnLines
+pub mod SpotLemmas

@@ -1,7 +1,8 @@
 //! What stands at a place of a text that need have no draft.
 
-ghost use Rattle.std.specs.Prelude.{List, IfOk};
+ghost use Rattle.std.specs.Prelude.{◌≤◌, List, length, IfOk, IfSome};
 ghost use Rattle.msc_lexer.specs.declared.token.Token.{Token};
+ghost use Rattle.msc_lexer.specs.Lexemes.{IsWithin};
 ghost use Rattle.msc_lexer.specs.Lexing.{HasTokens};
 ghost use Rattle.msc_place.specs.Spots.{IsSpot};
 
@@ -40,8 +41,10 @@ fn parted(tokens: &[Token], at: usize) -> Spot
 /// What stands at a place of a text, by its tokens; of a text that has none, nothing. The only
 /// error is want of memory.
 pub fn spot_at(alloc: Global, text: &[u8], at: usize) -> Result<Spot, AllocError>
-    ensures { IfOk result
+    ensures spot { IfOk result
         (λ spot. (ts : List Token) → HasTokens text.now ts → IsSpot ts at spot) }
+    ensures behind { IfOk result (λ spot. IfSome spot.behind (λ b. b ≤ length text.now)) }
+    ensures token { IfOk result (λ spot. IfSome spot.token (IsWithin text.now)) }
 {
     let tokens = tokens_of(alloc, text)?;
     Ok(parted(&tokens, at))

@@ -8,5 +8,5 @@ abbrev pub invariant-loop-k : goal.invariant-loop-k
 invariant-loop-k l = record {
   here : IsPosition l.text (l.k * STEP) l.here.line l.here.column;
   each : length l.marks.items ≡ l.k + 1;
-  known : AreMarksTo l.text l.marks.items (l.k + 1)
+  known : AreMarksTo l.text l.marks.items (l.k + 1);
 }

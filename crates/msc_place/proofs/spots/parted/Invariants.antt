@@ -6,5 +6,5 @@ use Rattle.msc_place.proofs.spots.parted.Given as goal
 abbrev pub invariant-loop-i : goal.invariant-loop-i
 invariant-loop-i l = record {
   before : All (λ (t : Token). t.start < l.at) (take l.i l.tokens);
-  behind : IsBehind (take l.i l.tokens) l.behind
+  behind : IsBehind (take l.i l.tokens) l.behind;
 }

@@ -1,0 +1,5 @@
+-- what is promised
+pub mod Notes
+pub mod Faults
+-- what the code keeps
+pub mod Events
