@@ -1,0 +1,2 @@
+-- where faults stand
+pub mod FaultPlaces

@@ -2,7 +2,7 @@
 
 ghost use Rattle.std.specs.Prelude.{◌≡◌, ◌≤◌, length, IfOk, IfSome};
 ghost use Rattle.msc_parser.specs.Parsing.{HasParseFault};
-ghost use Rattle.msc_notes.specs.Faults.{parse_place};
+ghost use Rattle.msc_notes.specs.Faults.{lexical_place, parse_place};
 
 use crate::grammar::{expected_notes, unsupported_notes};
 use crate::lexical::lexical_notes;
@@ -13,7 +13,9 @@ use msc_parser::ParseFault;
 use std::alloc::{AllocError, Global};
 
 /// The place of a lexical fault, if it has one.
-fn lexical_place(fault: LexFault) -> Option<usize> {
+fn lexical_place(fault: LexFault) -> Option<usize>
+    ensures { result ≡ lexical_place fault }
+{
     match fault {
         LexFault::BadByte(at)
         | LexFault::OpenNote(at)
@@ -46,6 +48,17 @@ fn notes(alloc: Global, text: &[u8], fault: ParseFault) -> Result<Vec<Note>, All
     }
 }
 
+/// The place, where a text of so many bytes has it.
+fn kept(place: Option<usize>, len: usize) -> Option<usize>
+    ensures inside { IfSome result (λ at. at ≤ len) }
+    ensures same { IfSome place (λ at. at ≤ len) → result ≡ place }
+{
+    match place {
+        Some(at) if at <= len => Some(at),
+        _ => None,
+    }
+}
+
 /// What is said of the first fault of a text. The only error is want of memory.
 pub fn tell_parse(alloc: Global, text: &[u8], fault: ParseFault) -> Result<Told, AllocError>
     ensures place { IfOk result (λ told. HasParseFault text.now fault
@@ -53,7 +66,7 @@ pub fn tell_parse(alloc: Global, text: &[u8], fault: ParseFault) -> Result<Told,
     ensures inside { IfOk result (λ told. IfSome told.place (λ at. at ≤ length text.now)) }
 {
     Ok(Told {
-        place: place(fault).filter(|at| *at <= text.len()),
+        place: kept(place(fault), text.len()),
         notes: Listed::from_vec(notes(alloc, text, fault)?),
     })
 }
