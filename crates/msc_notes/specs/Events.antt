@@ -26,3 +26,7 @@ owned_of ss = flat_map owned_in ss
 -- what an event of the code shows
 abbrev pub drawn_view : code.Drawn → OwnStatement
 drawn_view d = record { own = d.own.now; statement = d.statement.now }
+
+-- the statement of an event of the code
+abbrev pub statement_view : code.Drawn → Statement
+statement_view d = d.statement.now

@@ -1,5 +1,12 @@
 //! What is said of a fault of a draft.
 
+ghost use Rattle.std.specs.Prelude.{◌≡◌, ◌≤◌, None, map, length, IfOk, IfSome, MatchOption};
+ghost use Rattle.msc_parser.specs.Grammar.{Tree};
+ghost use Rattle.msc_parser.specs.Parsing.{HasDraft};
+ghost use Rattle.msc_place.specs.Standing.{NamesAddress};
+ghost use Rattle.msc_notes.specs.Events.{drawn_view, owned_of};
+ghost use Rattle.msc_notes.specs.Faults.{BeginsOrNone, HasNoMessage, IsChartPlace};
+
 use crate::counting::{last_action, last_message};
 use crate::draft::{apart_hint, first_event, first_section};
 use crate::event::{Drawn, events_of};
@@ -14,31 +21,54 @@ use msc_place::Places;
 use std::alloc::{AllocError, Global};
 
 /// Where the statement of an event begins.
-fn event_place(places: &Places, e: u32) -> Option<usize> {
-    places.event(e as usize).map(|place| place.start)
+fn event_place(places: &Places, e: usize) -> Option<usize>
+    ensures { (t : Tree) → HasDraft places.now.text t → BeginsOrNone places.now.text t e result }
+{
+    match places.event(e) {
+        Some(place) => Some(place.start),
+        None => None,
+    }
+}
+
+/// Where the address of an event stands.
+fn address_place(places: &Places, e: usize) -> Option<usize>
+    ensures { (t : Tree) → HasDraft places.now.text t
+        → MatchOption result (HasNoMessage t e) (NamesAddress places.now.text t e) }
+{
+    match places.event(e) {
+        Some(place) => place.address,
+        None => None,
+    }
+}
+
+/// Where the statement of an event begins, if there is such an event.
+fn some_place(places: &Places, e: Option<usize>) -> Option<usize>
+    ensures { (t : Tree) → HasDraft places.now.text t
+        → MatchOption e (result ≡ None) (λ e. BeginsOrNone places.now.text t e result) }
+{
+    match e {
+        Some(e) => event_place(places, e),
+        None => None,
+    }
 }
 
 /// The place of a fault of a draft, if it has one.
-fn place(events: &[Drawn], places: &Places, fault: ChartFault) -> Option<usize> {
+fn place(draft: &Draft, events: &[Drawn], places: &Places, fault: ChartFault) -> Option<usize>
+    requires { map drawn_view events.now ≡ owned_of draft.now.sections }
+    ensures { HasDraft places.now.text draft.now
+        → IsChartPlace places.now.text draft.now fault result }
+{
     match fault {
         ChartFault::TooManyInstances => places.section(INSTANCE_LIMIT as usize),
         ChartFault::TwiceInstance(i) => places.section(i as usize),
         ChartFault::HeaderWithoutBody(k) => places.header(k as usize),
-        ChartFault::UnknownAddress(e) => places.event(e as usize).and_then(|place| place.address),
-        ChartFault::TooManyMessages => {
-            last_message(events)
-                .and_then(|e| places.event(e))
-                .map(|place| place.start)
-        }
-        ChartFault::TooManyActions => {
-            last_action(events)
-                .and_then(|e| places.event(e))
-                .map(|place| place.start)
-        }
+        ChartFault::UnknownAddress(e) => address_place(places, e as usize),
+        ChartFault::TooManyMessages => some_place(places, last_message(events)),
+        ChartFault::TooManyActions => some_place(places, last_action(events)),
         ChartFault::TwiceEvent(e)
         | ChartFault::UnmatchedOut(e)
         | ChartFault::UnmatchedIn(e)
-        | ChartFault::Cyclic(e) => event_place(places, e),
+        | ChartFault::Cyclic(e) => event_place(places, e as usize),
         ChartFault::Memory => None,
     }
 }
@@ -143,10 +173,13 @@ pub fn tell_chart(
     draft: &Draft,
     places: &Places,
     fault: ChartFault,
-) -> Result<Told, AllocError> {
+) -> Result<Told, AllocError>
+    ensures place { IfOk result (λ told. HasDraft places.now.text draft.now
+        → IsChartPlace places.now.text draft.now fault told.place) }
+{
     let events = events_of(alloc, draft)?;
     Ok(Told {
-        place: place(&events, places, fault),
+        place: place(draft, &events, places, fault),
         notes: Listed::from_vec(notes(alloc, draft, &events, places, fault)?),
     })
 }
