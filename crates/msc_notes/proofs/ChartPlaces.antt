@@ -23,7 +23,7 @@ own_statements name [] = refl
 own_statements name (x ∷ xs) = ap (λ ys. x ∷ ys) (own_statements name xs)
 
 -- and so are those of a draft
-owned_statements : (ss : List Section) → map statement_in (owned_of ss) ≡ statements_of ss
+pub owned_statements : (ss : List Section) → map statement_in (owned_of ss) ≡ statements_of ss
 owned_statements [] = refl
 owned_statements (s ∷ ss) =
     map-append statement_in (owned_in s) (owned_of ss)

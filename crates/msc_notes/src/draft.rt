@@ -1,39 +1,47 @@
 //! Names and first occurrences in a draft.
 
-ghost use Rattle.std.specs.Prelude.{◌≡◌};
+ghost use Rattle.std.specs.Prelude.{◌≡◌, map, MatchOption};
+ghost use Rattle.msc_chart.specs.Events.{same_name};
+ghost use Rattle.msc_notes.specs.Events.{act_view};
+ghost use Rattle.msc_notes.specs.Told.{HasNoMessageAt, HasNoneNamed, IsFirstLike, IsFirstNamed};
 
-use crate::alike::End;
+use crate::alike::{End, first_end};
 use crate::event::Drawn;
 use msc_parser::Section;
 use std::alloc::{AllocError, Global};
 
+/// Whether a section has a name.
+fn is_named(section: &Section, name: &[u8]) -> bool
+    ensures { result ≡ same_name section.now.decl.name name.now }
+{
+    section.decl.name.as_slice() == name
+}
+
 /// The first section of a name.
-pub(crate) fn first_section(sections: &[Section], name: &[u8]) -> Option<usize> {
+pub(crate) fn first_section(sections: &[Section], name: &[u8]) -> Option<usize>
+    ensures { MatchOption result (HasNoneNamed sections.now name.now)
+        (IsFirstNamed sections.now name.now) }
+{
     for (i, section) in sections.iter().enumerate() {
-        if section.decl.name.as_slice() == name {
+        if is_named(section, name) {
             return Some(i);
         }
     }
     None
 }
 
-/// Whether two events are of one kind and key.
-fn is_repeat(a: &Drawn, b: &Drawn) -> bool {
-    match (End::of(a), End::of(b)) {
-        (Some(a), Some(b)) => a.is_alike(&b, true),
-        _ => false,
-    }
-}
-
 /// The first event of the kind and key of event `e`.
-pub(crate) fn first_event(events: &[Drawn], e: usize) -> Option<usize> {
-    let event = events.get(e)?;
-    for (f, other) in events.iter().enumerate() {
-        if is_repeat(event, other) {
-            return Some(f);
-        }
+pub(crate) fn first_event(events: &[Drawn], e: usize) -> Option<usize>
+    ensures { MatchOption result (HasNoMessageAt (map act_view events.now) e)
+        (IsFirstLike (map act_view events.now) e) }
+{
+    match events.get(e) {
+        Some(event) => match End::of(event) {
+            Some(end) => first_end(events, &end),
+            None => None,
+        },
+        None => None,
     }
-    None
 }
 
 /// Whether an event has this message name and message instance name.

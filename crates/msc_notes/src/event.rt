@@ -1,10 +1,11 @@
 //! The events of a draft, in the order of its text, and what is shown of them.
 
-ghost use Rattle.std.specs.Prelude.{◌≡◌, ◌++◌, map, IfOk, OnOk};
+ghost use Rattle.std.specs.Prelude.{◌≡◌, ◌++◌, map, IfOk, OnOk, MatchOption};
+ghost use Rattle.msc_parser.specs.declared.tree.Statement.TheVariants.{Message};
 ghost use Rattle.std.specs.List.{flat_map};
 ghost use Rattle.msc_parser.specs.Drafts.{statements_in};
 ghost use Rattle.msc_notes.specs.Events.{drawn_view, owned_in, owned_of};
-ghost use Rattle.msc_notes.specs.Events.{own_statement};
+ghost use Rattle.msc_notes.specs.Events.{own_statement, IsAction};
 
 use msc_parser::{Draft, Item, Section, Signal, Statement, Way};
 use std::alloc::{AllocError, Global};
@@ -22,7 +23,10 @@ pub(crate) struct Drawn<'d> {
 
 impl<'d> Drawn<'d> {
     /// The message event, if it is one.
-    pub fn signal(&self) -> Option<&'d Signal> {
+    pub fn signal(&self) -> Option<&'d Signal>
+        ensures { MatchOption result (IsAction self.entry.now.statement.now)
+            (λ s. self.entry.now.statement.now ≡ Message s.now) }
+    {
         match self.statement {
             Statement::Message(signal) => Some(signal),
             Statement::Action(_) => None,
@@ -92,13 +96,25 @@ pub(crate) fn events_of<'d>(alloc: Global, draft: &'d Draft) -> Result<Vec<Drawn
 }
 
 /// Puts the name of a message at the back, and its message instance name where it has one.
-pub(crate) fn put_message(text: &mut Vec<u8>, signal: &Signal) -> Result<(), AllocError> {
-    text.extend_from_slice(signal.name.as_slice())?;
-    if let Some(number) = &signal.number {
+pub(crate) fn put_message(
+    text: &mut Vec<u8>,
+    name: &[u8],
+    number: Option<&[u8]>,
+) -> Result<(), AllocError> {
+    text.extend_from_slice(name)?;
+    if let Some(number) = number {
         text.extend_from_slice(b", ")?;
-        text.extend_from_slice(number.as_slice())?;
+        text.extend_from_slice(number)?;
     }
     Ok(())
+}
+
+/// The message instance name, if there is one.
+fn number_of(signal: &Signal) -> Option<&[u8]> {
+    match &signal.number {
+        Some(number) => Some(number.as_slice()),
+        None => None,
+    }
 }
 
 /// Puts a message event at the back, in the words of its statement.
@@ -108,7 +124,7 @@ fn put_signal(text: &mut Vec<u8>, signal: &Signal) -> Result<(), AllocError> {
         Way::Input => (b"in ", b" from "),
     };
     text.extend_from_slice(word)?;
-    put_message(text, signal)?;
+    put_message(text, signal.name.as_slice(), number_of(signal))?;
     text.extend_from_slice(preposition)?;
     text.extend_from_slice(signal.address.as_slice())?;
     Ok(())

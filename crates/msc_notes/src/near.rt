@@ -1,9 +1,8 @@
 //! The other end that a message lacks, and the event that may have been meant.
 
-use crate::alike::{End, are_partners, same_message};
+use crate::alike::{End, are_partners};
 use crate::event::{Drawn, put_event, put_message};
 use crate::note::{Note, Tag, placed, worded};
-use msc_parser::Way;
 use msc_place::Places;
 use std::alloc::{AllocError, Global};
 
@@ -23,9 +22,9 @@ const TOO_FAR: u32 = 3;
 /// How far an end is from being the other end of a message; less is nearer.
 fn distance(end: &End, other: &End) -> u32 {
     let instances = end.has_instances_of(other);
-    if instances && end.signal.name.as_slice() == other.signal.name.as_slice() {
+    if instances && end.name == other.name {
         0
-    } else if same_message(end.signal, other.signal) {
+    } else if end.has_message_of(other) {
         1
     } else if instances {
         2
@@ -38,7 +37,7 @@ fn distance(end: &End, other: &End) -> u32 {
 /// itself may have been meant.
 fn distance_of(events: &[Drawn], end: &End, event: &Drawn) -> u32 {
     match End::of(event) {
-        Some(other) if other.signal.way != end.signal.way && is_alone(events, event) => {
+        Some(other) if other.sends != end.sends && is_alone(events, event) => {
             distance(end, &other)
         }
         _ => TOO_FAR,
@@ -61,12 +60,13 @@ fn near(events: &[Drawn], end: &End) -> Option<usize> {
 
 /// The other end that is missing, in words.
 fn wanted(alloc: Global, end: &End) -> Result<Vec<u8>, AllocError> {
-    let (word, preposition, address, own): (&[u8], &[u8], &[u8], &[u8]) = match end.signal.way {
-        Way::Output => (b"in ", b" from ", end.sender, end.receiver),
-        Way::Input => (b"out ", b" to ", end.receiver, end.sender),
+    let (word, preposition, address, own): (&[u8], &[u8], &[u8], &[u8]) = if end.sends {
+        (b"in ", b" from ", end.sender, end.receiver)
+    } else {
+        (b"out ", b" to ", end.receiver, end.sender)
     };
     let mut text = Vec::from_slice(alloc, word)?;
-    put_message(&mut text, end.signal)?;
+    put_message(&mut text, end.name, end.number)?;
     text.extend_from_slice(preposition)?;
     text.extend_from_slice(address)?;
     text.extend_from_slice(b" on ")?;

@@ -3,20 +3,19 @@
 ghost use Rattle.std.specs.Prelude.{◌≡◌, ◌*◌, ◌<◌, ◌≤◌, length, IfOk};
 ghost use Rattle.bit_rows.specs.Rows.{word_count};
 
-use crate::alike::are_partners;
+use crate::alike::{End, are_partners};
 use crate::event::{Drawn, put_event};
 use crate::note::{Note, Tag, paired};
 use bit_rows::table;
 use msc_chart::EVENT_LIMIT;
-use msc_parser::Way;
 use msc_place::Places;
 use rings::ring;
 use std::alloc::{AllocError, Global};
 
 /// Whether the first event is an output, and the second its input.
 fn is_sent(a: &Drawn, b: &Drawn) -> bool {
-    match a.signal() {
-        Some(signal) => signal.way == Way::Output && are_partners(a, b),
+    match End::of(a) {
+        Some(end) => end.sends && are_partners(a, b),
         None => false,
     }
 }

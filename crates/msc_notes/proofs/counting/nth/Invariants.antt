@@ -7,5 +7,5 @@ use Rattle.msc_notes.proofs.counting.nth.Given as goal
 abbrev pub invariant-loop-e : goal.invariant-loop-e
 invariant-loop-e l = record {
   left : l.left + count_by (is_of l.sort) (take l.e (map statement_view l.events)) ≡ l.count;
-  none : (f : ℕ) → f < l.e → IsNth l.sort l.count (map statement_view l.events) f → ⊥
+  none : (f : ℕ) → f < l.e → IsNth l.sort l.count (map statement_view l.events) f → ⊥;
 }
