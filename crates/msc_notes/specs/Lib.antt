@@ -3,5 +3,7 @@ pub mod Notes
 pub mod Sorts
 pub mod Faults
 pub mod Told
+pub mod Behind
+pub mod Texts
 -- what the code keeps
 pub mod Events

@@ -1,8 +1,12 @@
 //! Notes of grammar faults.
 
-ghost use Rattle.std.specs.Prelude.{◌≡◌, ◌≤◌, length, IfOk, IfSome};
+ghost use Rattle.std.specs.Prelude.{◌≡◌, ◌≤◌, List, length, IfOk, IfSome};
+ghost use Rattle.msc_lexer.specs.declared.token.Token.{Token};
+ghost use Rattle.msc_lexer.specs.Lexing.{HasTokens};
+ghost use Rattle.msc_notes.specs.Behind.{AreExpected, IsOnAnotherLine, expected_notes};
 
 use crate::note::{Note, Tag, placed, worded};
+use listed::Listed;
 use msc_lexer::{Kind, Token};
 use msc_parser::{ParseFault, What, parse};
 use msc_place::{Position, Spot, spot_at};
@@ -62,30 +66,41 @@ fn reserved_hint(alloc: Global, word: &[u8]) -> Result<Vec<u8>, AllocError> {
     Ok(hint)
 }
 
-/// Puts the hint at the back, where the token is a reserved word.
-fn push_reserved(
-    notes: &mut Vec<Note>,
+/// The hint on a token that is a reserved word.
+fn hint(
     alloc: Global,
     text: &[u8],
     token: Option<Token>,
-) -> Result<(), AllocError> {
-    if let Some(token) = token
-        && let Kind::Word(_) = token.kind
-    {
-        let hint = reserved_hint(alloc, bytes_of(text, token))?;
-        notes.push(worded(Tag::Hint, hint))?;
+) -> Result<Option<Listed<u8>>, AllocError> {
+    let Some(token) = token else {
+        return Ok(None);
+    };
+    match token.kind {
+        Kind::Word(_) => {
+            let hint = reserved_hint(alloc, bytes_of(text, token))?;
+            Ok(Some(Listed::from_vec(hint)))
+        }
+        _ => Ok(None),
     }
-    Ok(())
 }
 
 /// The place behind the token before a fault, where that is on another line than the fault.
 fn behind(text: &[u8], at: usize, spot: Spot) -> Option<usize>
     requires at { at ≤ length text.now }
     requires behind { IfSome spot.behind (λ b. b ≤ length text.now) }
+    ensures { IsOnAnotherLine text.now at spot.behind result }
 {
     match spot.behind {
-        Some(end) if Position::of(text, end).line != Position::of(text, at).line => Some(end),
-        _ => None,
+        Some(end) => {
+            let before = Position::of(text, end);
+            let here = Position::of(text, at);
+            if before.line == here.line {
+                None
+            } else {
+                Some(end)
+            }
+        }
+        None => None,
     }
 }
 
@@ -98,9 +113,44 @@ pub(crate) fn unsupported_notes(
     let mut notes = Vec::new(alloc);
     if expects_name(alloc, text, at)? {
         let spot = spot_at(alloc, text, at)?;
-        push_reserved(&mut notes, alloc, text, spot.token)?;
+        if let Some(hint) = hint(alloc, text, spot.token)? {
+            notes.push(worded(Tag::Hint, hint.into_vec()))?;
+        }
     }
     Ok(notes)
+}
+
+/// The notes of what was found, of what stands before it, and of a hint.
+fn assembled(
+    alloc: Global,
+    found: Vec<u8>,
+    behind: Option<usize>,
+    hint: Option<Listed<u8>>,
+) -> Result<Vec<Note>, AllocError>
+    ensures { IfOk result (λ notes. notes.items ≡ expected_notes found.items behind hint) }
+{
+    let mut notes = Vec::new(alloc);
+    notes.push(worded(Tag::Found, found))?;
+    if let Some(at) = behind {
+        notes.push(placed(Tag::Behind, Vec::new(alloc), at))?;
+    }
+    if let Some(hint) = hint {
+        notes.push(worded(Tag::Hint, hint.into_vec()))?;
+    }
+    Ok(notes)
+}
+
+/// The hint where something else was expected: on a reserved word where that is a name.
+fn expected_hint(
+    alloc: Global,
+    text: &[u8],
+    token: Option<Token>,
+    what: What,
+) -> Result<Option<Listed<u8>>, AllocError> {
+    match what {
+        What::Name => hint(alloc, text, token),
+        _ => Ok(None),
+    }
 }
 
 /// The notes where something else was expected.
@@ -111,15 +161,11 @@ pub(crate) fn expected_notes(
     what: What,
 ) -> Result<Vec<Note>, AllocError>
     requires { at ≤ length text.now }
+    ensures { IfOk result (λ notes. (ts : List Token) → HasTokens text.now ts
+        → AreExpected text.now at notes.items) }
 {
     let spot = spot_at(alloc, text, at)?;
-    let mut notes = Vec::new(alloc);
-    notes.push(worded(Tag::Found, found(alloc, text, spot.token)?))?;
-    if let Some(end) = behind(text, at, spot) {
-        notes.push(placed(Tag::Behind, Vec::new(alloc), end))?;
-    }
-    if what == What::Name {
-        push_reserved(&mut notes, alloc, text, spot.token)?;
-    }
-    Ok(notes)
+    let found = found(alloc, text, spot.token)?;
+    let hint = expected_hint(alloc, text, spot.token, what)?;
+    assembled(alloc, found, behind(text, at, spot), hint)
 }

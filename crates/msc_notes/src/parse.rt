@@ -2,6 +2,7 @@
 
 ghost use Rattle.std.specs.Prelude.{◌≡◌, ◌≤◌, length, IfOk, IfSome};
 ghost use Rattle.msc_parser.specs.Parsing.{HasParseFault};
+ghost use Rattle.msc_notes.specs.Behind.{AreParseNotes};
 ghost use Rattle.msc_notes.specs.Faults.{lexical_place, parse_place};
 
 use crate::grammar::{expected_notes, unsupported_notes};
@@ -37,14 +38,20 @@ fn place(fault: ParseFault) -> Option<usize>
 }
 
 /// The notes of a fault of a text.
-fn notes(alloc: Global, text: &[u8], fault: ParseFault) -> Result<Vec<Note>, AllocError> {
+fn notes(alloc: Global, text: &[u8], fault: ParseFault) -> Result<Vec<Note>, AllocError>
+    ensures { IfOk result (λ notes. HasParseFault text.now fault
+        → AreParseNotes text.now fault notes.items) }
+{
     match fault {
         ParseFault::Lex(fault) => lexical_notes(alloc, text, fault),
         ParseFault::Unsupported(at, _) => unsupported_notes(alloc, text, at),
-        ParseFault::Expected(at, what) if at <= text.len() => {
+        ParseFault::Expected(at, what) => {
+            if at > text.len() {
+                return Ok(Vec::new(alloc));
+            }
             expected_notes(alloc, text, at, what)
         }
-        _ => Ok(Vec::new(alloc)),
+        ParseFault::Memory => Ok(Vec::new(alloc)),
     }
 }
 
@@ -64,6 +71,8 @@ pub fn tell_parse(alloc: Global, text: &[u8], fault: ParseFault) -> Result<Told,
     ensures place { IfOk result (λ told. HasParseFault text.now fault
         → told.place ≡ parse_place fault) }
     ensures inside { IfOk result (λ told. IfSome told.place (λ at. at ≤ length text.now)) }
+    ensures notes { IfOk result (λ told. HasParseFault text.now fault
+        → AreParseNotes text.now fault told.notes) }
 {
     Ok(Told {
         place: kept(place(fault), text.len()),

@@ -1,47 +1,61 @@
 //! Places and notes as they are printed.
 
+ghost use Rattle.std.specs.Prelude.{◌≡◌, map, OnOk};
+ghost use Rattle.std.specs.Io.KnownBytes.{Appends};
+ghost use Rattle.msc_notes.specs.Texts.{pair_line, place_text, shown_byte};
+
 use crate::note::{Note, Told};
-use msc_place::Lines;
+use msc_place::{Lines, Position};
 use std::io;
 use std::io::Write;
 
 /// What is shown for a byte of a file's name: `?` for one that can't be printed.
-fn shown(byte: u8) -> u8 {
+fn shown(byte: u8) -> u8
+    ensures { result ≡ shown_byte byte }
+{
     if byte < 32 || byte == 127 { b'?' } else { byte }
 }
 
 /// Writes the name of a file.
-fn write_file<W: Write>(writer: &mut W, file: &[u8]) -> io::Result<()> {
+fn write_file<W: Write>(writer: &mut W, file: &[u8]) -> io::Result<()>
+    ensures { OnOk result (Appends (W.contents writer.old) (W.contents writer.new)
+        (map shown_byte file.now)) }
+{
     for byte in file {
         writer.write_all(&[shown(*byte)])?;
     }
     Ok(())
 }
 
-/// Writes a place: the file's name, the line and the column. A place past the text is its end.
-pub fn write_place<W: Write>(
-    writer: &mut W,
-    file: &[u8],
-    lines: &Lines,
-    at: usize,
-) -> io::Result<()> {
-    let position = lines.position(at.min(lines.text().len()));
+/// Writes a place: the file's name, the line and the column.
+pub fn write_place<W: Write>(writer: &mut W, file: &[u8], position: Position) -> io::Result<()>
+    ensures { OnOk result (Appends (W.contents writer.old) (W.contents writer.new)
+        (place_text file.now position.line position.column)) }
+{
     write_file(writer, file)?;
     write!(writer, ":{}:{}", position.line, position.column)
 }
 
-/// Writes the line of two places.
-pub fn write_places<W: Write>(
+/// Writes the line of the places of two events.
+pub fn write_pair<W: Write>(
     writer: &mut W,
     file: &[u8],
-    lines: &Lines,
-    pair: (usize, usize),
-) -> io::Result<()> {
+    first: Position,
+    second: Position,
+) -> io::Result<()>
+    ensures { OnOk result (Appends (W.contents writer.old) (W.contents writer.new)
+        (pair_line file.now first second)) }
+{
     writer.write_all(b"at ")?;
-    write_place(writer, file, lines, pair.0)?;
+    write_place(writer, file, first)?;
     writer.write_all(b" ")?;
-    write_place(writer, file, lines, pair.1)?;
+    write_place(writer, file, second)?;
     writer.write_all(b"\n")
+}
+
+/// The position of a place; one past the text is its end.
+fn position_of(lines: &Lines, at: usize) -> Position {
+    lines.position(at.min(lines.text().len()))
 }
 
 /// Writes a note: its line, and the line of its two places where it has such.
@@ -58,11 +72,14 @@ pub fn write_note<W: Write>(
     }
     if let Some(at) = note.place {
         writer.write_all(b" ")?;
-        write_place(writer, file, lines, at)?;
+        write_place(writer, file, position_of(lines, at))?;
     }
     writer.write_all(b"\n")?;
     match note.pair {
-        Some(pair) => write_places(writer, file, lines, pair),
+        Some((first, second)) => {
+            let second = position_of(lines, second);
+            write_pair(writer, file, position_of(lines, first), second)
+        }
         None => Ok(()),
     }
 }
@@ -78,7 +95,7 @@ pub fn write_told<W: Write>(
 ) -> io::Result<()> {
     if let Some(at) = told.place {
         writer.write_all(b"at ")?;
-        write_place(writer, file, lines, at)?;
+        write_place(writer, file, position_of(lines, at))?;
         writer.write_all(b"\n")?;
         writer.write_all(excerpt)?;
     }
