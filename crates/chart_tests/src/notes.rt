@@ -206,6 +206,223 @@ hint names are letters, digits and underscores
         b"msc t;\ninstance a;\n",
         b"at -:3:1\n  \n  ^\nfound the end of the text\nbehind -:2:12\n",
     ),
+    // A byte order mark.
+    (
+        b"\xEF\xBB\xBFmsc t; endmsc;",
+        b"at -:1:1
+  ?msc t; endmsc;
+  ^
+found the byte 239
+hint the text begins with a byte order mark
+",
+    ),
+    (
+        b"msc t; / x",
+        b"at -:1:8
+  msc t; / x
+         ^
+found the character /
+hint notes are /* .. */
+",
+    ),
+    (
+        b"msc \"t\";",
+        b"at -:1:5
+  msc \"t\";
+      ^
+found the character \"
+hint texts are '..'
+",
+    ),
+    // A letter of two bytes, before the place and at it.
+    (
+        b"msc t; /* \xC3\xA9 */ \xC3\xA9;",
+        b"at -:1:16
+  msc t; /* ? */ ?;
+                 ^
+found the byte 195
+hint names are letters, digits and underscores
+",
+    ),
+    (
+        b"msc t;\r\n/* x",
+        b"at -:2:1
+  /* x
+  ^
+",
+    ),
+    (
+        b"msc t; action 'x",
+        b"at -:1:15
+  msc t; action 'x
+                ^
+",
+    ),
+    // Reserved words where a name is expected, and where none is.
+    (
+        b"msc t; instance a; out RESET to b;",
+        b"at -:1:24
+  msc t; instance a; out RESET to b;
+                         ^
+hint RESET is reserved in any case; RESET_ is a name
+",
+    ),
+    (
+        b"msc t; instance a; out m to env;",
+        b"at -:1:29
+  msc t; instance a; out m to env;
+                              ^
+hint env is reserved in any case; env_ is a name
+",
+    ),
+    (
+        b"msc t; condition x;",
+        b"at -:1:8
+  msc t; condition x;
+         ^
+",
+    ),
+    (
+        b"msc t; instance a; out IN to b;",
+        b"at -:1:24
+  msc t; instance a; out IN to b;
+                         ^
+found the reserved word in
+hint IN is reserved in any case; IN_ is a name
+",
+    ),
+    // What else was found.
+    (
+        b"msc t; instance a; out m b;",
+        b"at -:1:26
+  msc t; instance a; out m b;
+                           ^
+found the name b
+",
+    ),
+    (
+        b"msc 'it''s';",
+        b"at -:1:5
+  msc 'it''s';
+      ^
+found a text
+",
+    ),
+    (
+        b"msc ;",
+        b"at -:1:5
+  msc ;
+      ^
+found ;
+",
+    ),
+    (
+        b"msc t; instance a",
+        b"at -:1:18
+  msc t; instance a
+                   ^
+found the end of the text
+",
+    ),
+    // Lines that end in CR LF.
+    (
+        b"msc t;\r\ninstance a;\r\n  out m to b\r\nendinstance;\r\nendmsc;\r\n",
+        b"at -:4:1
+  endinstance;
+  ^
+found the reserved word endinstance
+behind -:3:13
+",
+    ),
+    // A statement lost behind a note that holds one.
+    (
+        b"msc t;\ninstance a /* ; */\n  out m to b;",
+        b"at -:3:3
+    out m to b;
+    ^
+found the reserved word out
+behind -:2:11
+",
+    ),
+    // Names of instances.
+    (
+        b"msc t; instance a; endinstance;\ninstance a; endinstance; endmsc;",
+        b"at -:2:10
+  instance a; endinstance; endmsc;
+           ^
+name a
+first -:1:17
+",
+    ),
+    (
+        b"msc t; inst b, Kaller;\ninstance caller; endinstance; instance b; endinstance; endmsc;",
+        b"at -:1:16
+  msc t; inst b, Kaller;
+                 ^
+name Kaller
+nearest caller -:2:10
+",
+    ),
+    (
+        b"msc t; instance a; out m to zz; endinstance; endmsc;",
+        b"at -:1:29
+  msc t; instance a; out m to zz; endinstance; endmsc;
+                              ^
+name zz
+",
+    ),
+    // Ends of messages.
+    (
+        b"msc t;\ninstance a; in m from b; endinstance;\ninstance b; out n, 7 to a; endinstance; endmsc;",
+        b"at -:3:13
+  instance b; out n, 7 to a; endinstance; endmsc;
+              ^
+wanted in n, 7 from b on a
+near a in m from b -:2:13
+",
+    ),
+    (
+        b"msc t;\ninstance a; in m from b; endinstance;\ninstance b; endinstance; endmsc;",
+        b"at -:2:13
+  instance a; in m from b; endinstance;
+              ^
+wanted out m to a on b
+",
+    ),
+    (
+        b"msc t;\ninstance a; out m to b; in m from b; endinstance;\ninstance b; out m, 1 to c; out n to a; in m from c; endinstance;\ninstance c; endinstance; endmsc;",
+        b"at -:2:13
+  instance a; out m to b; in m from b; endinstance;
+              ^
+wanted in m from a on b
+near a in m from b -:2:25
+",
+    ),
+    (
+        b"msc t; instance a;\nout m to b;\nout m, 2 to b;\nout m to b;\nendinstance; instance b; endinstance; endmsc;",
+        b"at -:4:1
+  out m to b;
+  ^
+first -:2:1
+hint m, 3 tells them apart
+",
+    ),
+    // The shortest ring passes by the action.
+    (
+        b"msc t;\ninstance a;\nin p from b;\naction 'go';\nout q to b;\nendinstance;\ninstance b;\nin q from a;\nout p to a;\nendinstance;\nendmsc;",
+        b"at -:3:1
+  in p from b;
+  ^
+drawn 0 2: a in p from b; a out q to b
+at -:3:1 -:5:1
+sent 2 3: a out q to b; b in q from a
+at -:5:1 -:8:1
+drawn 3 4: b in q from a; b out p to a
+at -:8:1 -:9:1
+sent 4 0: b out p to a; a in p from b
+at -:9:1 -:3:1
+",
+    ),
     (b"msc t; endmsc;", b""),
 ];
 
@@ -218,5 +435,109 @@ fn tells_of(rt: &impl Host, text: &[u8], wanted: &[u8]) -> bool {
 fn faults_of_texts(rt: HostRuntime) {
     for &(text, wanted) in TEXTS {
         assert!(rt; tells_of(&rt, text, wanted), "{text:?}");
+    }
+}
+
+/// A text of some lines between two others.
+fn repeated(rt: &impl Host, before: &[u8], line: &[u8], count: usize, behind: &[u8]) -> Vec<u8> {
+    let mut text = Vec::from_slice(rt.alloc(), before).expect(rt, "memory");
+    for _ in 0..count {
+        text.extend_from_slice(line).expect(rt, "memory");
+    }
+    text.extend_from_slice(behind).expect(rt, "memory");
+    text
+}
+
+/// What stands behind the events of one instance.
+const REST: &[u8] = b"endinstance; instance b; endinstance; endmsc;";
+
+/// Texts with many lines that are alike: what stands before them, the line, how often it stands
+/// there, what stands behind, and what is printed.
+const MANY: &[(&[u8], &[u8], usize, &[u8], &[u8])] = &[
+    (
+        b"msc t; instance a;\n",
+        b"out m to b;\n",
+        1_025,
+        REST,
+        b"at -:1026:1
+  out m to b;
+  ^
+",
+    ),
+    (
+        b"msc t; instance a;\nout n to b; action 'x';\n",
+        b"in m from b;\n",
+        1_025,
+        REST,
+        b"at -:1027:1
+  in m from b;
+  ^
+",
+    ),
+    (
+        b"msc t; instance a;\n",
+        b"action 'x';\n",
+        1_025,
+        REST,
+        b"at -:1026:1
+  action 'x';
+  ^
+",
+    ),
+    (
+        b"msc t;\n",
+        b"instance a; endinstance;\n",
+        33,
+        b"endmsc;",
+        b"at -:34:10
+  instance a; endinstance;
+           ^
+",
+    ),
+    (
+        b"msc ",
+        b"a",
+        65,
+        b"; endmsc;",
+        b"at -:1:5
+  msc aaaaaaaaaaaaaaaaaaaaaaaaaaaaaaaaaaaaaaaaaaaaaaaaaaaaaaaaaaaaaaaaa; endmsc;
+      ^
+found 65 bytes
+",
+    ),
+    // A line of a million bytes.
+    (
+        b"msc t;",
+        b" ",
+        1_000_000,
+        b"?",
+        b"at -:1:1000007
+                                                   ?
+                                                   ^
+found the character ?
+hint names are letters, digits and underscores
+",
+    ),
+];
+
+/// Whether this is printed of such a text.
+fn tells_of_many(
+    rt: &impl Host,
+    before: &[u8],
+    line: &[u8],
+    count: usize,
+    behind: &[u8],
+    wanted: &[u8],
+) -> bool {
+    tells_of(rt, &repeated(rt, before, line, count, behind), wanted)
+}
+
+#[test]
+fn limits_and_long_lines(rt: HostRuntime) {
+    for &(before, line, count, behind, wanted) in MANY {
+        assert!(rt;
+            tells_of_many(&rt, before, line, count, behind, wanted),
+            "{line:?}"
+        );
     }
 }

@@ -1,5 +1,5 @@
 -- Where faults of a draft stand.
-use Rattle.std.proofs.Common.{◌≡◌, ◌⊎◌, ℕ, ◌<◌, ◌≤◌, inl, inr, List, [], ◌∷◌, ◌++◌, length, map, Option, Some, None, MatchOption, refl, sym, ap, subst, ◌∙◌, arith}
+use Rattle.std.proofs.Common.{◌≡◌, ℕ, ◌<◌, inl, inr, List, [], ◌∷◌, ◌++◌, length, map, Option, Some, None, MatchOption, refl, sym, ap, subst, ◌∙◌, arith}
 use Rattle.std.specs.List.{flat_map}
 use Rattle.std.proofs.lemmas.List.{map-append}
 use Rattle.std.proofs.lemmas.Option.{slice_get_within}
@@ -7,7 +7,6 @@ use Rattle.msc_parser.specs.declared.tree.Statement.{Statement}
 use Rattle.msc_parser.specs.declared.tree.Section.{Section}
 use Rattle.msc_parser.specs.Drafts.{statements_in, statements_of}
 use Rattle.msc_parser.specs.Grammar.{Tree}
-use Rattle.msc_place.specs.Standing.{BeginsEvent}
 use Rattle.msc_notes.specs.declared.event.Drawn.{Drawn}
 use Rattle.msc_notes.specs.declared.counting.Sort.{Sort}
 use Rattle.msc_notes.specs.Events.{OwnStatement, own_statement, owned_in, owned_of, drawn_view, statement_view}

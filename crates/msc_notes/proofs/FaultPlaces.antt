@@ -1,11 +1,10 @@
 -- Where the first fault of a text stands.
-use Rattle.std.proofs.Common.{◌≡◌, ℕ, ◌+◌, ◌≤◌, Bool, true, false, List, [], ◌∷◌, ◌++◌, length, Option, Some, None, IfSome, refl, sym, ap, subst, ◌∙◌, arith, length-append}
-use Rattle.std.specs.List.{AllByRecursion}
+use Rattle.std.proofs.Common.{◌≡◌, ℕ, ◌≤◌, Bool, true, false, List, [], ◌∷◌, ◌++◌, length, Some, IfSome, refl, sym, ap, subst, arith, length-append}
 use Rattle.msc_lexer.specs.declared.fault.LexFault.{LexFault}
 use Rattle.msc_lexer.specs.declared.fault.LexFault.TheVariants as lexical
 use Rattle.msc_lexer.specs.declared.word.Word.{Word}
 use Rattle.msc_lexer.specs.Pieces.{text_of}
-use Rattle.msc_lexer.specs.Lexemes.{Symbol, Reserved, Lexeme, lexemes}
+use Rattle.msc_lexer.specs.Lexemes.{Symbol, Reserved, Lexeme}
 use Rattle.msc_lexer.specs.Lexing.{HasFault, IsFirstFlaw}
 use Rattle.msc_lexer.proofs.Placed.{are_within}
 use Rattle.msc_parser.specs.declared.fault.What.{What}

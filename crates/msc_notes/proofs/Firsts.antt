@@ -1,12 +1,12 @@
 -- The first of several that are alike.
-use Rattle.std.proofs.Common.{◌≡◌, ℕ, ◌+◌, ◌<◌, Bool, true, false, List, length, get_or, map, Option, Some, None, slice_get, refl, sym, ap, ◌∙◌, arith, below_more}
+use Rattle.std.proofs.Common.{◌≡◌, ℕ, ◌+◌, ◌<◌, true, false, List, length, get_or, map, Some, slice_get, sym, ap, ◌∙◌, below_more}
 use Rattle.std.specs.Cmp.Lexicographic.{bytes_decides}
 use Rattle.std.proofs.Math.ListN.{get_or-map}
 use Rattle.std.proofs.lemmas.List.{length-map}
 use Rattle.std.proofs.lemmas.Option.{slice_get_read}
 use Rattle.std.proofs.lemmas.Bool.{true≢false}
 use Rattle.msc_parser.specs.declared.tree.Section.{Section}
-use Rattle.msc_chart.specs.Events.{Act, MessageEnd, is_end, same_end, same_name}
+use Rattle.msc_chart.specs.Events.{Act, MessageEnd, is_end, same_name}
 use Rattle.msc_chart.specs.Events.Act.{OfMessage}
 use Rattle.msc_chart.proofs.MatchingLemmas.{is_end-true, same_end-refl}
 use Rattle.msc_notes.specs.declared.event.Drawn.{Drawn}

@@ -1,5 +1,5 @@
 -- What a note says.
-use Rattle.std.specs.Prelude.{◌≡◌, ℕ, List, codes}
+use Rattle.std.specs.Prelude.{ℕ, List, codes}
 use Rattle.msc_notes.specs.declared.note.Tag.{Tag}
 use Rattle.msc_notes.specs.declared.note.Tag.TheVariants as tags
 

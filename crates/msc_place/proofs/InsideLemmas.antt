@@ -1,10 +1,9 @@
 -- The places that are collected are places of the text.
-use Rattle.std.proofs.Common.{◌≡◌, ℕ, zero, suc, ◌<◌, ◌≤◌, Bool, true, false, List, [], ◌∷◌, length, Option, Some, None, All, IfSome, refl, sym, subst, arith}
+use Rattle.std.proofs.Common.{◌≡◌, ℕ, suc, ◌≤◌, Bool, true, false, List, [], ◌∷◌, length, Some, All, IfSome, refl, sym, subst, arith}
 use Rattle.std.specs.List.{AllByRecursion}
 use Rattle.std.proofs.lemmas.List.Elements.{All-nil, All-cons}
 use Rattle.msc_lexer.specs.declared.token.Token.{Token}
 use Rattle.msc_lexer.specs.Lexemes.{Symbol, Lexeme, lexemes, AreWithin, IsWithin}
-use Rattle.msc_place.specs.declared.places.EventPlace.{EventPlace}
 use Rattle.msc_place.specs.declared.naming.Part.{Part}
 use Rattle.msc_place.specs.declared.naming.Part.TheVariants.{Header, Sections}
 use Rattle.msc_place.specs.Standing.{begins_event, IsInside, AreInside, Stand}

@@ -1,8 +1,7 @@
-use Rattle.std.proofs.Common.{◌≡◌, map, MatchOption, sym, subst}
+use Rattle.std.proofs.Common.{MatchOption, sym, subst}
 use Rattle.msc_parser.specs.Drafts.{statements_of}
 use Rattle.msc_chart.specs.declared.TheConstants.{ACTION_LIMIT}
 use Rattle.msc_notes.specs.declared.counting.Sort.TheVariants.{Action}
-use Rattle.msc_notes.specs.Events.{statement_view}
 use Rattle.msc_notes.specs.Faults.{HasNone, IsNth, IsFirstTooMany, IsChartPlace}
 use Rattle.msc_notes.proofs.ChartPlaces.{statements_same, nth_inside, first_inside, some_begins}
 use Rattle.msc_notes.proofs.chart.place.Goals as goal

@@ -1,4 +1,4 @@
-use Rattle.std.proofs.Common.{◌≡◌, map, MatchOption, sym, subst}
+use Rattle.std.proofs.Common.{map, MatchOption, sym, subst}
 use Rattle.msc_notes.specs.Events.{statement_view}
 use Rattle.msc_notes.specs.Faults.{HasNone, IsFirstTooMany}
 use Rattle.msc_notes.proofs.Counted.{lesser_first}

@@ -1,4 +1,4 @@
-use Rattle.std.proofs.Common.{◌≡◌, ◌≤◌, length, IfSome, sym, subst, ◌∙◌}
+use Rattle.std.proofs.Common.{◌≤◌, length, IfSome, sym, subst, ◌∙◌}
 use Rattle.msc_notes.proofs.FaultPlaces.{fault_inside}
 use Rattle.msc_notes.proofs.parse.tell_parse.Goals as goal
 

@@ -1,4 +1,4 @@
-use Rattle.std.proofs.Common.{◌≡◌, ◌≢◌, ◌<◌, ◌≤◌, length, get_or, sym, ap, subst, ◌∙◌, arith, below_more}
+use Rattle.std.proofs.Common.{◌≡◌, ◌≢◌, ◌<◌, ◌≤◌, length, get_or, ap, subst, ◌∙◌, arith, below_more}
 use Rattle.msc_place.specs.Positions.{IsPosition}
 use Rattle.msc_place.specs.Collecting.{no_place}
 use Rattle.msc_place.proofs.PositionLemmas.{line_told}

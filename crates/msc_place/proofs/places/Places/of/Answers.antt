@@ -1,4 +1,4 @@
-use Rattle.std.proofs.Common.{◌≡◌, ap, ◌∙◌}
+use Rattle.std.proofs.Common.{ap, ◌∙◌}
 use Rattle.msc_lexer.specs.Lexemes.{lexemes}
 use Rattle.msc_place.specs.declared.naming.Part.TheVariants.{Header, Sections}
 use Rattle.msc_place.specs.Collecting.{event_places, name_places}
