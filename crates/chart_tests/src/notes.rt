@@ -2,7 +2,7 @@
 
 use crate::host::Host;
 use msc_chart::Chart;
-use msc_notes::writing::write_told;
+use msc_notes::writing::{write_note_line, write_told};
 use msc_notes::{Told, tell_chart, tell_parse};
 use msc_parser::parse;
 use msc_place::{Lines, Places, excerpt};
@@ -425,6 +425,58 @@ at -:9:1 -:3:1
     ),
     (b"msc t; endmsc;", b""),
 ];
+
+/// The notes of the fault of a text as lines by themselves.
+fn lines_of(rt: &impl Host, file: &[u8], text: &[u8]) -> Vec<u8> {
+    let mut bytes = Vec::new(rt.alloc());
+    let lines = Lines::of(rt.alloc(), text).expect(rt, "memory");
+    if let Some(told) = told(rt, text) {
+        for note in told.notes.as_slice() {
+            write_note_line(&mut bytes, file, &lines, note, told.place).expect(rt, "memory");
+        }
+    }
+    bytes
+}
+
+/// Mistakes in the ISDN call as above, and their notes as lines by themselves.
+const LINES: &[(&[u8], &[u8], &[u8], &[u8])] = &[
+    (
+        b"typo.msc",
+        b"out CONNECT to caller;",
+        b"out CONNECT to caler;",
+        b"typo.msc:23:18: note: name caler
+typo.msc:5:10: note: nearest caller
+",
+    ),
+    (
+        b"lost_semicolon.msc",
+        b"in CONNECT from network;",
+        b"in CONNECT from network",
+        b"lost_semicolon.msc:10:3: note: found the reserved word out
+lost_semicolon.msc:9:26: note: what stands before ends here
+",
+    ),
+    (
+        b"twice\x1B.msc",
+        b"  out CONNECT_ACK to callee;\n",
+        b"  out CONNECT_ACK to callee;\n  out CONNECT_ACK to callee;\n",
+        b"twice?.msc:22:3: note: the first one stands here
+twice?.msc:23:3: note: hint CONNECT_ACK, 2 tells them apart
+",
+    ),
+];
+
+/// Whether these are the notes of the ISDN call with a mistake as lines by themselves.
+fn tells_lines(rt: &impl Host, file: &[u8], old: &[u8], new: &[u8], wanted: &[u8]) -> bool {
+    lines_of(rt, file, &changed(rt, ISDN_CALL, old, new)).as_slice() == wanted
+}
+
+#[test]
+fn notes_as_lines(rt: HostRuntime) {
+    for &(file, old, new, wanted) in LINES {
+        assert!(rt; tells_lines(&rt, file, old, new, wanted), "{file:?}");
+    }
+}
 
 /// Whether this is printed of a text.
 fn tells_of(rt: &impl Host, text: &[u8], wanted: &[u8]) -> bool {

@@ -2,9 +2,9 @@
 
 ghost use Rattle.std.specs.Prelude.{◌≡◌, map, OnOk};
 ghost use Rattle.std.specs.Io.KnownBytes.{Appends};
-ghost use Rattle.msc_notes.specs.Texts.{pair_line, place_text, shown_byte};
+ghost use Rattle.msc_notes.specs.Texts.{note_words, pair_line, place_text, shown_byte};
 
-use crate::note::{Note, Told};
+use crate::note::{Note, Tag, Told};
 use msc_place::{Lines, Position};
 use std::io;
 use std::io::Write;
@@ -58,6 +58,19 @@ fn position_of(lines: &Lines, at: usize) -> Position {
     lines.position(at.min(lines.text().len()))
 }
 
+/// Writes the words of a note: the first, and its text.
+fn write_words<W: Write>(writer: &mut W, note: &Note) -> io::Result<()>
+    ensures { OnOk result (Appends (W.contents writer.old) (W.contents writer.new)
+        (note_words note.now)) }
+{
+    writer.write_all(note.tag.word().as_bytes())?;
+    if !note.text.as_slice().is_empty() {
+        writer.write_all(b" ")?;
+        writer.write_all(note.text.as_slice())?;
+    }
+    Ok(())
+}
+
 /// Writes a note: its line, and the line of its two places where it has such.
 pub fn write_note<W: Write>(
     writer: &mut W,
@@ -65,11 +78,7 @@ pub fn write_note<W: Write>(
     lines: &Lines,
     note: &Note,
 ) -> io::Result<()> {
-    writer.write_all(note.tag.word().as_bytes())?;
-    if !note.text.as_slice().is_empty() {
-        writer.write_all(b" ")?;
-        writer.write_all(note.text.as_slice())?;
-    }
+    write_words(writer, note)?;
     if let Some(at) = note.place {
         writer.write_all(b" ")?;
         write_place(writer, file, position_of(lines, at))?;
@@ -82,6 +91,36 @@ pub fn write_note<W: Write>(
         }
         None => Ok(()),
     }
+}
+
+/// Where a note stands by itself: at its own place, at the first of its two, or at that of its fault;
+/// of a fault without a place at the beginning of the text.
+fn stands_at(note: &Note, fault: Option<usize>) -> usize {
+    match (note.place, note.pair, fault) {
+        (Some(at), _, _) => at,
+        (None, Some((first, _)), _) => first,
+        (None, None, Some(at)) => at,
+        (None, None, None) => 0,
+    }
+}
+
+/// Writes a note as a line by itself, for editors: its place, that it is a note, and its words. The
+/// fault stands at the place that is given, if it has one.
+pub fn write_note_line<W: Write>(
+    writer: &mut W,
+    file: &[u8],
+    lines: &Lines,
+    note: &Note,
+    fault: Option<usize>,
+) -> io::Result<()> {
+    write_place(writer, file, position_of(lines, stands_at(note, fault)))?;
+    writer.write_all(b": note: ")?;
+    match note.tag {
+        Tag::Behind => writer.write_all(b"what stands before ends here")?,
+        Tag::First => writer.write_all(b"the first one stands here")?,
+        _ => write_words(writer, note)?,
+    }
+    writer.write_all(b"\n")
 }
 
 /// Writes what is said of a fault, behind its line: its place and the line of that, as
