@@ -1,5 +1,7 @@
 //! Where things stand in texts: lines, columns, excerpts, and the places of events and names.
 
+ghost use Rattle.std.specs.Prelude.{◌≡◌};
+
 use crate::host::Host;
 use msc_place::{EventPlace, Lines, Places, Position, excerpt, spot_at};
 
@@ -33,9 +35,16 @@ fn lines_and_columns(rt: HostRuntime) {
     }
 }
 
+/// The lines of a text.
+fn lines_of<'t>(rt: &impl Host, text: &'t [u8]) -> Lines<'t>
+    ensures { result ≡ text.entry.now }
+{
+    Lines::of(rt.alloc(), text).expect(rt, "memory")
+}
+
 /// The position of a place by an index of the text's lines.
 fn position(rt: &impl Host, text: &[u8], at: usize) -> Position {
-    let lines = Lines::of(rt.alloc(), text).expect(rt, "memory");
+    let lines = lines_of(rt, text);
     lines.position(at.min(text.len()))
 }
 
@@ -61,7 +70,7 @@ fn ruled(rt: &impl Host, count: usize) -> Vec<u8> {
 
 /// Whether each place of a text has one position, counted from the beginning and by an index.
 fn agrees(rt: &impl Host, text: &[u8]) -> bool {
-    let lines = Lines::of(rt.alloc(), text).expect(rt, "memory");
+    let lines = lines_of(rt, text);
     for at in 0..=text.len() {
         if at > text.len() || lines.position(at) != Position::of(text, at) {
             return false;
@@ -171,7 +180,9 @@ const SECTIONS: &[&[u8]] = &[b"a : p q comment", b"b; in m", b"c; concurrent;"];
 const HEADER: &[&[u8]] = &[b"a /* inst x", b"b comment 'inst y", b"c;\n/*"];
 
 /// The places of a text.
-fn places_of<'t>(rt: &impl Host, text: &'t [u8]) -> Places<'t> {
+fn places_of<'t>(rt: &impl Host, text: &'t [u8]) -> Places<'t>
+    ensures { result.text ≡ text.entry.now }
+{
     Places::of(rt.alloc(), text).expect(rt, "memory")
 }
 
@@ -245,7 +256,7 @@ const LINES: &[(usize, Option<usize>)] = &[
 
 /// The first event of a line of `TEXT`.
 fn event_at_line(rt: &impl Host, line: usize) -> Option<usize> {
-    let lines = Lines::of(rt.alloc(), TEXT).expect(rt, "memory");
+    let lines = lines_of(rt, TEXT);
     places_of(rt, TEXT).event_at_line(&lines, line)
 }
 

@@ -12,8 +12,8 @@ use Rattle.msc_parser.specs.Grammar.{Tree}
 use Rattle.msc_chart.specs.Events.{Act, DraftEvent, act_of, acts_of, events_of, drawn, events_of_item, events_of_items, events_of_sections, next_segment}
 use Rattle.msc_chart.specs.Events.Act.{OfMessage}
 use Rattle.msc_place.specs.Standing.{BeginsEvent}
-use Rattle.msc_notes.specs.declared.event.Drawn.{Drawn}
-use Rattle.msc_notes.specs.Events.{own_statement, owned_in, owned_of, act_in, act_view, drawn_view}
+use Rattle.msc_notes.specs.declared.event.OwnEvent.{OwnEvent}
+use Rattle.msc_notes.specs.Events.{own_statement, owned_in, owned_of, act_in, act_view, own_view}
 use Rattle.msc_notes.specs.Faults.{BeginsOrNone}
 use Rattle.msc_notes.specs.Told.{HasNoMessageAt, IsFirstLike}
 use Rattle.msc_notes.proofs.ChartPlaces.{statement_in, owned_statements}
@@ -64,11 +64,11 @@ pub acts_owned : (t : Tree) → acts_of t ≡ map act_in (owned_of t.sections)
 unfolding acts_of events_of
 acts_owned t = sections_acts 0 t.sections
 
-viewed_acts : (events : List Drawn) → map act_view events ≡ map act_in (map drawn_view events)
+viewed_acts : (events : List OwnEvent) → map act_view events ≡ map act_in (map own_view events)
 viewed_acts [] = refl
 viewed_acts (d ∷ ds) = ap (λ xs. act_view d ∷ xs) (viewed_acts ds)
 
-pub acts_same : (events : List Drawn) (t : Tree) → map drawn_view events ≡ owned_of t.sections
+pub acts_same : (events : List OwnEvent) (t : Tree) → map own_view events ≡ owned_of t.sections
     → map act_view events ≡ acts_of t
 acts_same events t e = viewed_acts events ∙ ap (map act_in) e ∙ sym (acts_owned t)
 

@@ -7,9 +7,9 @@ use Rattle.msc_parser.specs.declared.tree.Statement.{Statement}
 use Rattle.msc_parser.specs.declared.tree.Section.{Section}
 use Rattle.msc_parser.specs.Drafts.{statements_in, statements_of}
 use Rattle.msc_parser.specs.Grammar.{Tree}
-use Rattle.msc_notes.specs.declared.event.Drawn.{Drawn}
+use Rattle.msc_notes.specs.declared.event.OwnEvent.{OwnEvent}
 use Rattle.msc_notes.specs.declared.counting.Sort.{Sort}
-use Rattle.msc_notes.specs.Events.{OwnStatement, own_statement, owned_in, owned_of, drawn_view, statement_view}
+use Rattle.msc_notes.specs.Events.{OwnStatement, own_statement, owned_in, owned_of, own_view, statement_view}
 use Rattle.msc_notes.specs.Faults.{IsNth, IsFirstTooMany, HasNone, BeginsSome, BeginsOrNone}
 
 -- the statement of one
@@ -29,11 +29,11 @@ owned_statements (s ∷ ss) =
     ∙ ap (λ xs. xs ++ map statement_in (owned_of ss)) (own_statements s.decl.name (flat_map statements_in s.items))
     ∙ ap (λ xs. flat_map statements_in s.items ++ xs) (owned_statements ss)
 
-viewed : (events : List Drawn) → map statement_view events ≡ map statement_in (map drawn_view events)
+viewed : (events : List OwnEvent) → map statement_view events ≡ map statement_in (map own_view events)
 viewed [] = refl
 viewed (d ∷ ds) = ap (λ xs. d.statement.now ∷ xs) (viewed ds)
 
-pub statements_same : (events : List Drawn) (ss : List Section) → map drawn_view events ≡ owned_of ss
+pub statements_same : (events : List OwnEvent) (ss : List Section) → map own_view events ≡ owned_of ss
     → map statement_view events ≡ statements_of ss
 statements_same events ss e = viewed events ∙ ap (map statement_in) e ∙ owned_statements ss
 

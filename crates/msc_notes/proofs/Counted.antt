@@ -7,7 +7,7 @@ use Rattle.std.proofs.lemmas.Option.{slice_get_read, slice_get_within, get_or_fr
 use Rattle.std.proofs.Math.Seq.{take-add}
 use Rattle.msc_parser.specs.declared.tree.Statement.{Statement}
 use Rattle.msc_chart.specs.declared.TheConstants.{MESSAGE_LIMIT}
-use Rattle.msc_notes.specs.declared.event.Drawn.{Drawn}
+use Rattle.msc_notes.specs.declared.event.OwnEvent.{OwnEvent}
 use Rattle.msc_notes.specs.declared.counting.Sort.{Sort}
 use Rattle.msc_notes.specs.declared.counting.Sort.TheVariants.{Output, Input}
 use Rattle.msc_notes.specs.Events.{statement_view}
@@ -15,7 +15,7 @@ use Rattle.msc_notes.specs.Sorts.{is_of, lesser}
 use Rattle.msc_notes.specs.Faults.{IsNth, IsMessageTooMany, IsFirstTooMany, HasNone}
 
 -- the statement of an event that was read
-pub listed_at : (events : List Drawn) (e : ℕ) (d : Drawn) → e < length events
+pub listed_at : (events : List OwnEvent) (e : ℕ) (d : OwnEvent) → e < length events
     → d ≡ get_or events e d → slice_get (map statement_view events) e ≡ Some (statement_view d)
 listed_at events e d inside is =
     let long : length (map statement_view events) ≡ length events = simp length-map in

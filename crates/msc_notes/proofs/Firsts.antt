@@ -9,12 +9,12 @@ use Rattle.msc_parser.specs.declared.tree.Section.{Section}
 use Rattle.msc_chart.specs.Events.{Act, MessageEnd, is_end, same_name}
 use Rattle.msc_chart.specs.Events.Act.{OfMessage}
 use Rattle.msc_chart.proofs.MatchingLemmas.{is_end-true, same_end-refl}
-use Rattle.msc_notes.specs.declared.event.Drawn.{Drawn}
+use Rattle.msc_notes.specs.declared.event.OwnEvent.{OwnEvent}
 use Rattle.msc_notes.specs.Events.{act_view}
 use Rattle.msc_notes.specs.Told.{IsFirstEnd, IsFirstNamed}
 
 -- what an event that was read does
-pub act_at : (events : List Drawn) (e : ℕ) (d : Drawn) → e < length events
+pub act_at : (events : List OwnEvent) (e : ℕ) (d : OwnEvent) → e < length events
     → d ≡ get_or events e d → slice_get (map act_view events) e ≡ Some (act_view d)
 act_at events e d inside is =
     let long : length (map act_view events) ≡ length events = simp length-map in

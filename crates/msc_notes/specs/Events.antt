@@ -9,7 +9,7 @@ use Rattle.msc_parser.specs.declared.tree.Section.{Section}
 use Rattle.msc_parser.specs.Drafts.{statements_in}
 use Rattle.msc_chart.specs.Events.{Act, MessageEnd, act_of, end_of}
 use Rattle.msc_notes.specs.declared.alike.End as coded
-use Rattle.msc_notes.specs.declared.event.Drawn as code
+use Rattle.msc_notes.specs.declared.event.OwnEvent as code
 
 -- a statement of an event, and the name of its instance
 pub record OwnStatement : Type 0 where
@@ -29,11 +29,11 @@ abbrev pub owned_of : List Section → List OwnStatement
 owned_of ss = flat_map owned_in ss
 
 -- what an event of the code shows
-abbrev pub drawn_view : code.Drawn → OwnStatement
-drawn_view d = record { own = d.own.now; statement = d.statement.now }
+abbrev pub own_view : code.OwnEvent → OwnStatement
+own_view d = record { own = d.own.now; statement = d.statement.now }
 
 -- the statement of an event of the code
-abbrev pub statement_view : code.Drawn → Statement
+abbrev pub statement_view : code.OwnEvent → Statement
 statement_view d = d.statement.now
 
 -- the statement is an action
@@ -46,7 +46,7 @@ abbrev pub act_in : OwnStatement → Act
 act_in o = act_of o.own o.statement
 
 -- what an event of the code does
-abbrev pub act_view : code.Drawn → Act
+abbrev pub act_view : code.OwnEvent → Act
 act_view d = act_of d.own.now d.statement.now
 
 -- the end of a message that a statement of an instance of this name draws, if it draws one
@@ -55,7 +55,7 @@ end_by own (Message s) = Some (end_of own s)
 end_by own (Action label) = None
 
 -- the same of an event of the code
-abbrev pub end_in : code.Drawn → Option MessageEnd
+abbrev pub end_in : code.OwnEvent → Option MessageEnd
 end_in d = end_by d.own.now d.statement.now
 
 -- what an end of the code shows

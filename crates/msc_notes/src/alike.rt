@@ -7,7 +7,7 @@ ghost use Rattle.msc_chart.specs.Events.{same_number};
 ghost use Rattle.msc_notes.specs.Events.{act_view, end_in, end_view};
 ghost use Rattle.msc_notes.specs.Told.{IsFirstEnd, HasNoEnd};
 
-use crate::event::Drawn;
+use crate::event::OwnEvent;
 use msc_parser::{Signal, Statement, Way};
 
 /// An end of a message, with its names in the draft.
@@ -68,7 +68,7 @@ fn same_number(a: Option<&[u8]>, b: Option<&[u8]>) -> bool
 
 impl<'d> End<'d> {
     /// The end of a message that an event is, if it is one.
-    pub fn of(event: &Drawn<'d>) -> Option<End<'d>>
+    pub fn of(event: &OwnEvent<'d>) -> Option<End<'d>>
         ensures { option_map end_view result ≡ end_in event.now }
     {
         match event.statement {
@@ -100,7 +100,7 @@ fn same_end(a: &End, b: &End) -> bool
 }
 
 /// Whether an event is this end.
-fn is_end(event: &Drawn, end: &End) -> bool
+fn is_end(event: &OwnEvent, end: &End) -> bool
     ensures { result ≡ is_end (end_view end.now) (act_view event.now) }
 {
     match End::of(event) {
@@ -110,7 +110,7 @@ fn is_end(event: &Drawn, end: &End) -> bool
 }
 
 /// The first event that is this end.
-pub(crate) fn first_end(events: &[Drawn], end: &End) -> Option<usize>
+pub(crate) fn first_end(events: &[OwnEvent], end: &End) -> Option<usize>
     ensures { MatchOption result (HasNoEnd (map act_view events.now) (end_view end.now))
         (IsFirstEnd (map act_view events.now) (end_view end.now)) }
 {
@@ -123,7 +123,7 @@ pub(crate) fn first_end(events: &[Drawn], end: &End) -> Option<usize>
 }
 
 /// Whether both events are the two ends of one message.
-pub(crate) fn are_partners(a: &Drawn, b: &Drawn) -> bool {
+pub(crate) fn are_partners(a: &OwnEvent, b: &OwnEvent) -> bool {
     match End::of(a) {
         Some(end) => is_end(
             b,

@@ -7,7 +7,7 @@ ghost use Rattle.msc_chart.specs.Events.{acts_of};
 ghost use Rattle.msc_parser.specs.Grammar.{Tree};
 ghost use Rattle.msc_parser.specs.Parsing.{HasDraft};
 ghost use Rattle.msc_place.specs.Standing.{BeginsEvent, NamesAddress, NamesSection};
-ghost use Rattle.msc_notes.specs.Events.{HasNoSignal, drawn_view, owned_of, statement_view};
+ghost use Rattle.msc_notes.specs.Events.{HasNoSignal, own_view, owned_of, statement_view};
 ghost use Rattle.msc_notes.specs.Faults.{BeginsOrNone, HasNoMessage, IsChartPlace};
 ghost use Rattle.msc_notes.specs.Told.{AreChartNotes, AreOfAddress, AreOfHeader, AreOfName};
 ghost use Rattle.msc_notes.specs.Told.{AreRepeated, AreTwice, BeginWith, HasNoMessageAt, HasNoneNamed};
@@ -15,7 +15,7 @@ ghost use Rattle.msc_notes.specs.Told.{IsFirstLike, IsFirstNamed, first_note, na
 
 use crate::counting::{last_action, last_message};
 use crate::draft::{apart_hint, first_event, first_section};
-use crate::event::{Drawn, events_of};
+use crate::event::{OwnEvent, events_of};
 use crate::near::unmatched_notes;
 use crate::nearest::nearest;
 use crate::note::{Note, Tag, Told, placed, worded};
@@ -59,8 +59,8 @@ fn some_place(places: &Places, e: Option<usize>) -> Option<usize>
 }
 
 /// The place of a fault of a draft, if it has one.
-fn place(draft: &Draft, events: &[Drawn], places: &Places, fault: ChartFault) -> Option<usize>
-    requires { map drawn_view events.now ≡ owned_of draft.now.sections }
+fn place(draft: &Draft, events: &[OwnEvent], places: &Places, fault: ChartFault) -> Option<usize>
+    requires { map own_view events.now ≡ owned_of draft.now.sections }
     ensures { HasDraft places.now.text draft.now
         → IsChartPlace places.now.text draft.now fault result }
 {
@@ -180,8 +180,8 @@ fn repeated_notes(
 }
 
 /// The place of the first event of the kind and key of event `e`.
-fn first_like(draft: &Draft, events: &[Drawn], places: &Places, e: usize) -> Option<usize>
-    requires { map drawn_view events.now ≡ owned_of draft.now.sections }
+fn first_like(draft: &Draft, events: &[OwnEvent], places: &Places, e: usize) -> Option<usize>
+    requires { map own_view events.now ≡ owned_of draft.now.sections }
     ensures { HasDraft places.now.text draft.now
         → MatchOption result (HasNoMessageAt (acts_of draft.now) e)
         (λ at. (j : ℕ) × IsFirstLike (acts_of draft.now) e j
@@ -194,7 +194,7 @@ fn first_like(draft: &Draft, events: &[Drawn], places: &Places, e: usize) -> Opt
 }
 
 /// The hint of a message that is there twice, if event `e` is one.
-fn apart_note(alloc: Global, events: &[Drawn], e: usize) -> Result<Option<Note>, AllocError> {
+fn apart_note(alloc: Global, events: &[OwnEvent], e: usize) -> Result<Option<Note>, AllocError> {
     match signal_at(events, e) {
         Some(signal) => {
             let hint = apart_hint(alloc, events, signal.name.as_slice())?;
@@ -207,7 +207,7 @@ fn apart_note(alloc: Global, events: &[Drawn], e: usize) -> Result<Option<Note>,
 /// The place of the first event of a kind and key, and what tells event `e` apart from it.
 fn apart_notes(
     alloc: Global,
-    events: &[Drawn],
+    events: &[OwnEvent],
     e: usize,
     place: usize,
 ) -> Result<Vec<Note>, AllocError>
@@ -225,11 +225,11 @@ fn apart_notes(
 fn twice_notes(
     alloc: Global,
     draft: &Draft,
-    events: &[Drawn],
+    events: &[OwnEvent],
     places: &Places,
     e: usize,
 ) -> Result<Vec<Note>, AllocError>
-    requires { map drawn_view events.now ≡ owned_of draft.now.sections }
+    requires { map own_view events.now ≡ owned_of draft.now.sections }
     ensures { IfOk result (λ notes. HasDraft places.now.text draft.now
         → AreTwice places.now.text draft.now e notes.items) }
 {
@@ -240,7 +240,7 @@ fn twice_notes(
 }
 
 /// Event `e`, if it is a message event.
-fn signal_at<'d>(events: &[Drawn<'d>], e: usize) -> Option<&'d Signal>
+fn signal_at<'d>(events: &[OwnEvent<'d>], e: usize) -> Option<&'d Signal>
     ensures { MatchOption result (HasNoSignal (map statement_view events.now) e)
         (λ s. slice_get (map statement_view events.now) e ≡ Some (Message s.now)) }
 {
@@ -254,11 +254,11 @@ fn signal_at<'d>(events: &[Drawn<'d>], e: usize) -> Option<&'d Signal>
 fn address_notes(
     alloc: Global,
     draft: &Draft,
-    events: &[Drawn],
+    events: &[OwnEvent],
     places: &Places,
     e: usize,
 ) -> Result<Vec<Note>, AllocError>
-    requires { map drawn_view events.now ≡ owned_of draft.now.sections }
+    requires { map own_view events.now ≡ owned_of draft.now.sections }
     ensures { IfOk result (λ notes. AreOfAddress draft.now e notes.items) }
 {
     match signal_at(events, e) {
@@ -286,11 +286,11 @@ fn header_notes(
 fn notes(
     alloc: Global,
     draft: &Draft,
-    events: &[Drawn],
+    events: &[OwnEvent],
     places: &Places,
     fault: ChartFault,
 ) -> Result<Vec<Note>, AllocError>
-    requires { map drawn_view events.now ≡ owned_of draft.now.sections }
+    requires { map own_view events.now ≡ owned_of draft.now.sections }
     ensures { IfOk result (λ notes. HasDraft places.now.text draft.now
         → AreChartNotes places.now.text draft.now fault notes.items) }
 {

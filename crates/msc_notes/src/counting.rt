@@ -6,7 +6,7 @@ ghost use Rattle.msc_notes.specs.Faults.{HasNone, IsFirstTooMany, IsNth};
 ghost use Rattle.msc_notes.specs.Sorts.{is_of, lesser};
 ghost use Rattle.msc_notes.specs.declared.counting.Sort.TheVariants.{Action};
 
-use crate::event::Drawn;
+use crate::event::OwnEvent;
 use msc_chart::{ACTION_LIMIT, MESSAGE_LIMIT};
 use msc_parser::{Statement, Way};
 
@@ -31,7 +31,7 @@ fn is_of(sort: Sort, statement: &Statement) -> bool
 }
 
 /// The event of a sort before which stand so many of it.
-fn nth(events: &[Drawn], sort: Sort, count: u32) -> Option<usize>
+fn nth(events: &[OwnEvent], sort: Sort, count: u32) -> Option<usize>
     ensures { MatchOption result (HasNone (IsNth sort count (map statement_view events.now)))
         (IsNth sort count (map statement_view events.now)) }
 {
@@ -59,7 +59,7 @@ fn lesser(a: Option<usize>, b: Option<usize>) -> Option<usize>
 }
 
 /// The first output or input that is one too many.
-pub(crate) fn last_message(events: &[Drawn]) -> Option<usize>
+pub(crate) fn last_message(events: &[OwnEvent]) -> Option<usize>
     ensures { MatchOption result (HasNone (IsFirstTooMany (map statement_view events.now)))
         (IsFirstTooMany (map statement_view events.now)) }
 {
@@ -69,7 +69,7 @@ pub(crate) fn last_message(events: &[Drawn]) -> Option<usize>
 }
 
 /// The first action that is one too many.
-pub(crate) fn last_action(events: &[Drawn]) -> Option<usize>
+pub(crate) fn last_action(events: &[OwnEvent]) -> Option<usize>
     ensures { MatchOption result
         (HasNone (IsNth Action ACTION_LIMIT (map statement_view events.now)))
         (IsNth Action ACTION_LIMIT (map statement_view events.now)) }

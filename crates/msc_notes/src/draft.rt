@@ -6,7 +6,7 @@ ghost use Rattle.msc_notes.specs.Events.{act_view};
 ghost use Rattle.msc_notes.specs.Told.{HasNoMessageAt, HasNoneNamed, IsFirstLike, IsFirstNamed};
 
 use crate::alike::{End, first_end};
-use crate::event::Drawn;
+use crate::event::OwnEvent;
 use msc_parser::Section;
 use std::alloc::{AllocError, Global};
 
@@ -31,7 +31,7 @@ pub(crate) fn first_section(sections: &[Section], name: &[u8]) -> Option<usize>
 }
 
 /// The first event of the kind and key of event `e`.
-pub(crate) fn first_event(events: &[Drawn], e: usize) -> Option<usize>
+pub(crate) fn first_event(events: &[OwnEvent], e: usize) -> Option<usize>
     ensures { MatchOption result (HasNoMessageAt (map act_view events.now) e)
         (IsFirstLike (map act_view events.now) e) }
 {
@@ -45,7 +45,7 @@ pub(crate) fn first_event(events: &[Drawn], e: usize) -> Option<usize>
 }
 
 /// Whether an event has this message name and message instance name.
-fn is_called(event: &Drawn, name: &[u8], number: &[u8]) -> bool {
+fn is_called(event: &OwnEvent, name: &[u8], number: &[u8]) -> bool {
     match event.signal() {
         Some(signal) => {
             signal.name.as_slice() == name
@@ -59,7 +59,7 @@ fn is_called(event: &Drawn, name: &[u8], number: &[u8]) -> bool {
 }
 
 /// Whether some event has them.
-fn is_taken(events: &[Drawn], name: &[u8], number: &[u8]) -> bool {
+fn is_taken(events: &[OwnEvent], name: &[u8], number: &[u8]) -> bool {
     for event in events {
         if is_called(event, name, number) {
             return true;
@@ -72,7 +72,7 @@ fn is_taken(events: &[Drawn], name: &[u8], number: &[u8]) -> bool {
 /// message instance name of no event with it.
 pub(crate) fn apart_hint(
     alloc: Global,
-    events: &[Drawn],
+    events: &[OwnEvent],
     name: &[u8],
 ) -> Result<Vec<u8>, AllocError> {
     let mut digits = itoa::Buffer::new();

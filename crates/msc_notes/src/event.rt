@@ -4,24 +4,24 @@ ghost use Rattle.std.specs.Prelude.{◌≡◌, ◌++◌, map, IfOk, OnOk, MatchO
 ghost use Rattle.msc_parser.specs.declared.tree.Statement.TheVariants.{Message};
 ghost use Rattle.std.specs.List.{flat_map};
 ghost use Rattle.msc_parser.specs.Drafts.{statements_in};
-ghost use Rattle.msc_notes.specs.Events.{drawn_view, owned_in, owned_of};
+ghost use Rattle.msc_notes.specs.Events.{own_view, owned_in, owned_of};
 ghost use Rattle.msc_notes.specs.Events.{own_statement, IsAction};
 
 use msc_parser::{Draft, Item, Section, Signal, Statement, Way};
 use std::alloc::{AllocError, Global};
 use std::slice;
 
-/// A statement of an event: the name and the number of its instance, and the number of its item
+/// An event with its instance: the name and the number of its instance, and the number of its item
 /// there; a coregion is one item.
 #[derive(Clone, Copy)]
-pub(crate) struct Drawn<'d> {
+pub(crate) struct OwnEvent<'d> {
     pub line: usize,
     pub item: usize,
     pub own: &'d [u8],
     pub statement: &'d Statement,
 }
 
-impl<'d> Drawn<'d> {
+impl<'d> OwnEvent<'d> {
     /// The message event, if it is one.
     pub fn signal(&self) -> Option<&'d Signal>
         ensures { MatchOption result (IsAction self.entry.now.statement.now)
@@ -46,18 +46,18 @@ fn statements_in(item: &Item) -> &[Statement]
 
 /// Puts the events of an item at the back.
 fn push_item<'d>(
-    events: &mut Vec<Drawn<'d>>,
+    events: &mut Vec<OwnEvent<'d>>,
     line: usize,
     own: &'d [u8],
     place: usize,
     item: &'d Item,
 ) -> Result<(), AllocError>
-    ensures { OnOk result (map drawn_view events.new.items
-        ≡ map drawn_view events.old.items
+    ensures { OnOk result (map own_view events.new.items
+        ≡ map own_view events.old.items
         ++ map (own_statement own.entry.now) (statements_in item.entry.now)) }
 {
     for statement in statements_in(item) {
-        events.push(Drawn {
+        events.push(OwnEvent {
             line,
             item: place,
             own,
@@ -69,12 +69,12 @@ fn push_item<'d>(
 
 /// Puts the events of a section at the back.
 fn push_section<'d>(
-    events: &mut Vec<Drawn<'d>>,
+    events: &mut Vec<OwnEvent<'d>>,
     line: usize,
     section: &'d Section,
 ) -> Result<(), AllocError>
-    ensures { OnOk result (map drawn_view events.new.items
-        ≡ map drawn_view events.old.items ++ owned_in section.entry.now) }
+    ensures { OnOk result (map own_view events.new.items
+        ≡ map own_view events.old.items ++ owned_in section.entry.now) }
 {
     let own = section.decl.name.as_slice();
     for (place, item) in section.items.as_slice().iter().enumerate() {
@@ -84,9 +84,12 @@ fn push_section<'d>(
 }
 
 /// The events of a draft.
-pub(crate) fn events_of<'d>(alloc: Global, draft: &'d Draft) -> Result<Vec<Drawn<'d>>, AllocError>
+pub(crate) fn events_of<'d>(
+    alloc: Global,
+    draft: &'d Draft,
+) -> Result<Vec<OwnEvent<'d>>, AllocError>
     ensures { IfOk result (λ events.
-        map drawn_view events.items ≡ owned_of draft.entry.now.sections) }
+        map own_view events.items ≡ owned_of draft.entry.now.sections) }
 {
     let mut events = Vec::new(alloc);
     for (line, section) in draft.sections().iter().enumerate() {
@@ -152,7 +155,7 @@ fn put_action(text: &mut Vec<u8>, label: &[u8]) -> Result<(), AllocError> {
 }
 
 /// Puts an event at the back, behind the name of its instance, as a trace has it.
-pub(crate) fn put_event(text: &mut Vec<u8>, event: &Drawn) -> Result<(), AllocError> {
+pub(crate) fn put_event(text: &mut Vec<u8>, event: &OwnEvent) -> Result<(), AllocError> {
     text.extend_from_slice(event.own)?;
     text.push(b' ')?;
     match event.statement {

@@ -1,13 +1,13 @@
 //! The other end that a message lacks, and the event that may have been meant.
 
 use crate::alike::{End, are_partners};
-use crate::event::{Drawn, put_event, put_message};
+use crate::event::{OwnEvent, put_event, put_message};
 use crate::note::{Note, Tag, placed, worded};
 use msc_place::Places;
 use std::alloc::{AllocError, Global};
 
 /// Whether an event has no other end.
-fn is_alone(events: &[Drawn], event: &Drawn) -> bool {
+fn is_alone(events: &[OwnEvent], event: &OwnEvent) -> bool {
     for other in events {
         if are_partners(event, other) {
             return false;
@@ -35,7 +35,7 @@ fn distance(end: &End, other: &End) -> u32 {
 
 /// How far an event is from being the other end: only what is of the other way and has no other end
 /// itself may have been meant.
-fn distance_of(events: &[Drawn], end: &End, event: &Drawn) -> u32 {
+fn distance_of(events: &[OwnEvent], end: &End, event: &OwnEvent) -> u32 {
     match End::of(event) {
         Some(other) if other.sends != end.sends && is_alone(events, event) => {
             distance(end, &other)
@@ -45,7 +45,7 @@ fn distance_of(events: &[Drawn], end: &End, event: &Drawn) -> u32 {
 }
 
 /// The event that may have been meant as the other end: of the nearest the first.
-fn near(events: &[Drawn], end: &End) -> Option<usize> {
+fn near(events: &[OwnEvent], end: &End) -> Option<usize> {
     let mut least = TOO_FAR;
     let mut found = None;
     for (f, event) in events.iter().enumerate() {
@@ -77,7 +77,7 @@ fn wanted(alloc: Global, end: &End) -> Result<Vec<u8>, AllocError> {
 /// The notes of event `e`, a message's end without the other.
 pub(crate) fn unmatched_notes(
     alloc: Global,
-    events: &[Drawn],
+    events: &[OwnEvent],
     places: &Places,
     e: usize,
 ) -> Result<Vec<Note>, AllocError> {

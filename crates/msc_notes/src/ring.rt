@@ -4,7 +4,7 @@ ghost use Rattle.std.specs.Prelude.{◌≡◌, ◌*◌, ◌<◌, ◌≤◌, leng
 ghost use Rattle.bit_rows.specs.Rows.{word_count};
 
 use crate::alike::{End, are_partners};
-use crate::event::{Drawn, put_event};
+use crate::event::{OwnEvent, put_event};
 use crate::note::{Note, Tag, paired};
 use bit_rows::table;
 use msc_chart::EVENT_LIMIT;
@@ -13,7 +13,7 @@ use rings::ring;
 use std::alloc::{AllocError, Global};
 
 /// Whether the first event is an output, and the second its input.
-fn is_sent(a: &Drawn, b: &Drawn) -> bool {
+fn is_sent(a: &OwnEvent, b: &OwnEvent) -> bool {
     match End::of(a) {
         Some(end) => end.sends && are_partners(a, b),
         None => false,
@@ -21,12 +21,12 @@ fn is_sent(a: &Drawn, b: &Drawn) -> bool {
 }
 
 /// Whether the second event is drawn below the first.
-fn is_drawn(a: &Drawn, b: &Drawn) -> bool {
+fn is_drawn(a: &OwnEvent, b: &OwnEvent) -> bool {
     a.line == b.line && a.item < b.item
 }
 
 /// The steps of each event.
-fn steps(alloc: Global, events: &[Drawn]) -> Result<Vec<u64>, AllocError>
+fn steps(alloc: Global, events: &[OwnEvent]) -> Result<Vec<u64>, AllocError>
     requires { length events.now ≤ EVENT_LIMIT }
     ensures { IfOk result
         (λ words. length words.items ≡ length events.now * word_count (length events.now)) }
@@ -40,7 +40,7 @@ fn steps(alloc: Global, events: &[Drawn]) -> Result<Vec<u64>, AllocError>
 }
 
 /// Puts the steps of an event into the table.
-fn put_steps(words: &mut [u64], events: &[Drawn], x: u32)
+fn put_steps(words: &mut [u64], events: &[OwnEvent], x: u32)
     requires few { length events.now ≤ EVENT_LIMIT }
     requires square { length words.old ≡ length events.now * word_count (length events.now) }
     requires event { x < length events.now }
@@ -58,7 +58,7 @@ fn put_steps(words: &mut [u64], events: &[Drawn], x: u32)
 /// A step of the ring: what it is, its events, and their places.
 fn step_note(
     alloc: Global,
-    events: &[Drawn],
+    events: &[OwnEvent],
     places: &Places,
     x: u32,
     y: u32,
@@ -80,7 +80,7 @@ fn step_note(
 
 /// The ring through event `e`: of the shortest the least, event by event; none where there is none,
 /// or where the draft has more events than a chart may have.
-fn ring_of(alloc: Global, events: &[Drawn], e: u32) -> Result<Vec<u32>, AllocError> {
+fn ring_of(alloc: Global, events: &[OwnEvent], e: u32) -> Result<Vec<u32>, AllocError> {
     if events.len() > EVENT_LIMIT as usize || e as usize >= events.len() {
         return Ok(Vec::new(alloc));
     }
@@ -92,7 +92,7 @@ fn ring_of(alloc: Global, events: &[Drawn], e: u32) -> Result<Vec<u32>, AllocErr
 /// The notes of an event that precedes itself: the steps of its ring.
 pub(crate) fn ring_notes(
     alloc: Global,
-    events: &[Drawn],
+    events: &[OwnEvent],
     places: &Places,
     e: u32,
 ) -> Result<Vec<Note>, AllocError> {
