@@ -1,7 +1,7 @@
 //! What is said of a fault of a draft.
 
 ghost use Rattle.std.specs.Prelude.{◌≡◌, ℕ, ◌≤◌, None, Some, length, map, slice_get, IfOk};
-ghost use Rattle.std.specs.Prelude.{MatchOption};
+ghost use Rattle.std.specs.Prelude.{IfSome, MatchOption};
 ghost use Rattle.msc_parser.specs.declared.tree.Statement.TheVariants.{Message};
 ghost use Rattle.msc_chart.specs.Events.{acts_of};
 ghost use Rattle.msc_parser.specs.Grammar.{Tree};
@@ -28,7 +28,9 @@ use std::alloc::{AllocError, Global};
 
 /// Where the statement of an event begins.
 fn event_place(places: &Places, e: usize) -> Option<usize>
-    ensures { (t : Tree) → HasDraft places.now.text t → BeginsOrNone places.now.text t e result }
+    ensures stands { (t : Tree) → HasDraft places.now.text t
+        → BeginsOrNone places.now.text t e result }
+    ensures inside { IfSome result (λ at. at ≤ length places.now.text) }
 {
     match places.event(e) {
         Some(place) => Some(place.start),
@@ -38,8 +40,9 @@ fn event_place(places: &Places, e: usize) -> Option<usize>
 
 /// Where the address of an event stands.
 fn address_place(places: &Places, e: usize) -> Option<usize>
-    ensures { (t : Tree) → HasDraft places.now.text t
+    ensures stands { (t : Tree) → HasDraft places.now.text t
         → MatchOption result (HasNoMessage t e) (NamesAddress places.now.text t e) }
+    ensures inside { IfSome result (λ at. at ≤ length places.now.text) }
 {
     match places.event(e) {
         Some(place) => place.address,
@@ -49,8 +52,9 @@ fn address_place(places: &Places, e: usize) -> Option<usize>
 
 /// Where the statement of an event begins, if there is such an event.
 fn some_place(places: &Places, e: Option<usize>) -> Option<usize>
-    ensures { (t : Tree) → HasDraft places.now.text t
+    ensures stands { (t : Tree) → HasDraft places.now.text t
         → MatchOption e (result ≡ None) (λ e. BeginsOrNone places.now.text t e result) }
+    ensures inside { IfSome result (λ at. at ≤ length places.now.text) }
 {
     match e {
         Some(e) => event_place(places, e),
@@ -61,8 +65,9 @@ fn some_place(places: &Places, e: Option<usize>) -> Option<usize>
 /// The place of a fault of a draft, if it has one.
 fn place(draft: &Draft, events: &[OwnEvent], places: &Places, fault: ChartFault) -> Option<usize>
     requires { map own_view events.now ≡ owned_of draft.now.sections }
-    ensures { HasDraft places.now.text draft.now
+    ensures stands { HasDraft places.now.text draft.now
         → IsChartPlace places.now.text draft.now fault result }
+    ensures inside { IfSome result (λ at. at ≤ length places.now.text) }
 {
     match fault {
         ChartFault::TooManyInstances => places.section(INSTANCE_LIMIT as usize),
@@ -317,6 +322,8 @@ pub fn tell_chart(
 ) -> Result<Told, AllocError>
     ensures place { IfOk result (λ told. HasDraft places.now.text draft.now
         → IsChartPlace places.now.text draft.now fault told.place) }
+    ensures inside { IfOk result
+        (λ told. IfSome told.place (λ at. at ≤ length places.now.text)) }
     ensures notes { IfOk result (λ told. HasDraft places.now.text draft.now
         → AreChartNotes places.now.text draft.now fault told.notes) }
 {

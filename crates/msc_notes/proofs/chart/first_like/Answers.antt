@@ -8,7 +8,7 @@ returns-in-Some c = λ d.
     let t = c.args.draft.now in
     let same = acts_same c.args.events.now t c.requires in
     like_begins c.args.places.now.text t c.args.e c.in-Some.j c.event_place.result
-    (subst (λ acts. IsFirstLike acts c.args.e c.in-Some.j) same c.in-Some.ensures) (c.event_place.ensures t d)
+    (subst (λ acts. IsFirstLike acts c.args.e c.in-Some.j) same c.in-Some.ensures) (c.event_place.ensures.stands t d)
 
 pub returns-in-None : goal.returns-in-None
 returns-in-None c = λ d.
