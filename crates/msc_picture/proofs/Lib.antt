@@ -1,0 +1,5 @@
+mod Events
+mod Following
+mod Drawing
+mod Wholes
+mod Ranges

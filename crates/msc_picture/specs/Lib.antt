@@ -1,0 +1,4 @@
+-- what is promised
+pub mod Frames
+-- what the code keeps
+pub mod Drawn
