@@ -3,3 +3,5 @@ mod Following
 mod Drawing
 mod Wholes
 mod Ranges
+mod Parts
+mod Lines

@@ -1,4 +1,9 @@
 -- what is promised
 pub mod Frames
+pub mod Rows
+pub mod Marks
+pub mod Scenes
+pub mod Columns
+pub mod Texts
 -- what the code keeps
 pub mod Drawn

@@ -4,10 +4,18 @@
 //! project's own. Events are numbered from 0, over all lines; rows and columns from 0.
 #![tactic(auto)]
 
+mod band;
+mod columns;
 mod frame;
+mod mark;
 mod ordering;
+mod part;
+mod piece;
+mod row;
 mod rule;
+mod scene;
+mod text;
 
-pub use frame::Framed;
 pub use ordering::drawing_order;
-pub use rule::Rule;
+pub use scene::{Act, Arrow, Band, Head, Mark, Row, Scene, Spot, chart_scene};
+pub use text::put_text;

@@ -1,0 +1,8 @@
+use Rattle.std.proofs.Common.{◌≡◌, ℕ, ◌+◌, ◌<◌, ◌∷◌, ◌++◌, [], Bool, false, cond, get_or, length, take, drop, map, filter, fold, max, nat_eq, None}
+use Rattle.std.specs.List.{range_with_len, flat_map, list_any}
+use Rattle.msc_picture.specs.Columns.{column_after}
+use Rattle.msc_picture.proofs.columns.columns_after.Given as goal
+
+abbrev pub invariant-loop-i : goal.invariant-loop-i
+invariant-loop-i l =
+    l.columns.items ≡ map (column_after l.first l.gaps) (range_with_len 0 l.i)
