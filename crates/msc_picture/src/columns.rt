@@ -23,10 +23,10 @@ pub struct Columns {
 
 impl Columns {
     /// The column of instance `i`, or 0 past the last.
-    pub fn column(&self, i: u32) -> usize
+    pub fn column(&self, i: usize) -> usize
         ensures { result ≡ column self.now i }
     {
-        gap_at(self.columns.as_slice(), i as usize)
+        gap_at(self.columns.as_slice(), i)
     }
 }
 
@@ -60,20 +60,20 @@ fn shown_length(text: &[u8]) -> usize
 }
 
 /// The room that an arrow takes right of instance `i`.
-fn arrow_room(arrow: &Arrow, i: u32) -> Result<usize, AllocError>
+fn arrow_room(arrow: &Arrow, i: usize) -> Result<usize, AllocError>
     ensures { IfOk result (λ room. room ≡ arrow_room i arrow.now) }
 {
-    if arrow.from == i && arrow.to == i {
+    if arrow.from as usize == i && arrow.to as usize == i {
         return plus(arrow.label.as_slice().len(), 8);
     }
     Ok(0)
 }
 
 /// The room that an event takes right of instance `i`.
-fn spot_room(spot: &Spot, i: u32) -> Result<usize, AllocError>
+fn spot_room(spot: &Spot, i: usize) -> Result<usize, AllocError>
     ensures { IfOk result (λ room. room ≡ spot_room i spot.now) }
 {
-    if spot.instance != i {
+    if spot.instance as usize != i {
         return Ok(0);
     }
     match &spot.act {
@@ -83,7 +83,7 @@ fn spot_room(spot: &Spot, i: u32) -> Result<usize, AllocError>
 }
 
 /// The greatest room that an arrow takes right of instance `i`.
-fn room_of_arrows(arrows: &[Arrow], i: u32) -> Result<usize, AllocError>
+fn room_of_arrows(arrows: &[Arrow], i: usize) -> Result<usize, AllocError>
     ensures { IfOk result (λ room.
         room ≡ fold (λ most a. max most (arrow_room i a)) 0 arrows.now) }
 {
@@ -95,7 +95,7 @@ fn room_of_arrows(arrows: &[Arrow], i: u32) -> Result<usize, AllocError>
 }
 
 /// The greatest room that an arrow or an event takes right of instance `i`.
-fn room(scene: &Scene, i: u32) -> Result<usize, AllocError>
+fn room(scene: &Scene, i: usize) -> Result<usize, AllocError>
     ensures { IfOk result (λ r. r ≡ room scene.now i) }
 {
     let mut most = room_of_arrows(scene.arrows.as_slice(), i)?;
@@ -119,21 +119,18 @@ fn name_length(scene: &Scene, i: usize) -> usize
 }
 
 /// The gap behind instance `i`, as far as names, actions and messages to oneself ask for it.
-fn first_gap(scene: &Scene, i: u32) -> Result<usize, AllocError>
-    requires { i < 4294967295 }
+fn first_gap(scene: &Scene, i: usize) -> Result<usize, AllocError>
+    requires { i < usize.MAX }
     ensures { IfOk result (λ gap. gap ≡ first_gap scene.now i) }
 {
-    let names = plus(
-        name_length(scene, i as usize),
-        name_length(scene, i as usize + 1),
-    )?;
+    let names = plus(name_length(scene, i), name_length(scene, i + 1))?;
     let least = plus(names / 2, 3)?.max(14);
     let own = plus(room(scene, i)?, 1)?;
     Ok(least.max(own))
 }
 
 /// The first gaps of so many.
-fn first_gaps(alloc: Global, scene: &Scene, many: u32) -> Result<Vec<usize>, AllocError>
+fn first_gaps(alloc: Global, scene: &Scene, many: usize) -> Result<Vec<usize>, AllocError>
     ensures { IfOk result (λ gaps.
         gaps.items ≡ map (first_gap scene.now) (range_with_len 0 many)) }
 {
@@ -146,19 +143,19 @@ fn first_gaps(alloc: Global, scene: &Scene, many: u32) -> Result<Vec<usize>, All
 }
 
 /// Over how many gaps an arrow goes.
-fn span(arrow: &Arrow) -> u32
+fn span(arrow: &Arrow) -> usize
     ensures { result ≡ span arrow.now }
 {
-    arrow.from.max(arrow.to) - arrow.from.min(arrow.to)
+    (arrow.from.max(arrow.to) - arrow.from.min(arrow.to)) as usize
 }
 
 /// What the gaps from this one on, so many, add up to.
-fn added_up(gaps: &[usize], start: usize, many: u32) -> Result<usize, AllocError>
+fn added_up(gaps: &[usize], start: usize, many: usize) -> Result<usize, AllocError>
     ensures { IfOk result (λ total. total ≡ added_up gaps.now start many) }
 {
     let mut total = 0;
     for k in 0..many {
-        let at = plus(start, k as usize)?;
+        let at = plus(start, k)?;
         let next = plus(total, gap_at(gaps, at))?;
         total = next;
     }
@@ -180,7 +177,7 @@ fn widen(gaps: &mut Vec<usize>, arrow: &Arrow, last: usize) -> Result<(), AllocE
 }
 
 /// The gaps grow by what the arrows over so many gaps ask for.
-fn widen_by(gaps: &mut Vec<usize>, arrows: &[Arrow], many: u32) -> Result<(), AllocError>
+fn widen_by(gaps: &mut Vec<usize>, arrows: &[Arrow], many: usize) -> Result<(), AllocError>
     ensures { OnOk result (gaps.new.items ≡ widened_by arrows.now gaps.old.items many) }
 {
     for arrow in arrows {
@@ -193,7 +190,7 @@ fn widen_by(gaps: &mut Vec<usize>, arrows: &[Arrow], many: u32) -> Result<(), Al
 }
 
 /// The gaps between so many columns and the first one.
-fn gaps_of(alloc: Global, scene: &Scene, many: u32) -> Result<Vec<usize>, AllocError>
+fn gaps_of(alloc: Global, scene: &Scene, many: usize) -> Result<Vec<usize>, AllocError>
     requires { many ≡ length scene.now.heads - 1 }
     ensures { IfOk result (λ gaps. gaps.items ≡ gaps_of scene.now) }
 {
@@ -209,7 +206,7 @@ fn columns_after(
     alloc: Global,
     first: usize,
     gaps: &[usize],
-    many: u32,
+    many: usize,
 ) -> Result<Listed<usize>, AllocError>
     ensures { IfOk result (λ columns.
         columns ≡ map (column_after first gaps.now) (range_with_len 0 many)) }
@@ -224,15 +221,15 @@ fn columns_after(
 }
 
 /// What stands behind the last column.
-fn end_room(scene: &Scene, last: u32) -> Result<usize, AllocError>
+fn end_room(scene: &Scene, last: usize) -> Result<usize, AllocError>
     ensures { IfOk result (λ r. r ≡ end_room scene.now last) }
 {
-    let half = plus(name_length(scene, last as usize) / 2, 2)?;
+    let half = plus(name_length(scene, last) / 2, 2)?;
     Ok(half.max(2).max(room(scene, last)?))
 }
 
 /// The columns of a picture of so many instances. An error is a growth of memory that was refused.
-pub fn columns_of(alloc: Global, scene: &Scene, many: u32) -> Result<Columns, AllocError>
+pub fn columns_of(alloc: Global, scene: &Scene, many: usize) -> Result<Columns, AllocError>
     requires { many ≡ length scene.now.heads }
     ensures { IfOk result (λ c. c ≡ columns_of scene.now) }
 {

@@ -179,8 +179,8 @@ fn message_piece(
     let Some(arrow) = scene.arrows.as_slice().get(m as usize) else {
         return Ok(no_piece(alloc));
     };
-    let a = c.column(arrow.from);
-    let b = c.column(arrow.to);
+    let a = c.column(arrow.from as usize);
+    let b = c.column(arrow.to as usize);
     match ends {
         Ends::Output => output_piece(alloc, a, b, arrow.label.as_slice()),
         Ends::Input => input_piece(alloc, a, b, arrow.label.as_slice()),
@@ -198,6 +198,6 @@ pub fn row_piece(alloc: Global, scene: &Scene, c: &Columns, row: Row) -> Result<
     match &spot.act {
         Act::Sends(m) => message_piece(alloc, scene, c, *m, ends_of(row.second)),
         Act::Takes(m) => message_piece(alloc, scene, c, *m, Ends::Input),
-        Act::Does(text) => action_piece(alloc, c.column(spot.instance), text.as_slice()),
+        Act::Does(text) => action_piece(alloc, c.column(spot.instance as usize), text.as_slice()),
     }
 }

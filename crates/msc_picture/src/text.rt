@@ -1,6 +1,6 @@
 //! The picture in text.
 
-ghost use Rattle.std.specs.Prelude.{◌≡◌, ◌<◌, ◌≤◌, ◌+◌, ◌++◌, IfOk, OnOk, fold};
+ghost use Rattle.std.specs.Prelude.{◌≡◌, ◌<◌, ◌+◌, ◌++◌, IfOk, OnOk, fold};
 ghost use Rattle.std.specs.Prelude.{length, slice_set};
 ghost use Rattle.std.specs.Prelude.{nat_eq};
 ghost use Rattle.std.specs.List.{list_any};
@@ -14,7 +14,7 @@ use crate::columns::{Columns, columns_of, plus};
 use crate::piece::{Piece, row_piece};
 use crate::scene::{Band, Mark, Row, Scene};
 use itoa::Buffer;
-use msc_chart::{Event, INSTANCE_LIMIT};
+use msc_chart::Event;
 use std::alloc::{AllocError, Global};
 
 /// Puts a byte into a line. A place behind the line takes none.
@@ -60,7 +60,7 @@ fn put_bands(line: &mut Vec<u8>, c: &Columns, bands: &[Band], r: usize)
 {
     for band in bands {
         if in_band(r, band) {
-            put(line, c.column(band.instance), b':');
+            put(line, c.column(band.instance as usize), b':');
         }
     }
 }
@@ -103,7 +103,7 @@ fn put_marks(line: &mut Vec<u8>, c: &Columns, marks: &[Mark], row: Row)
 {
     for mark in marks {
         if has_marked(mark, row) {
-            put(line, c.column(mark.instance), b'*');
+            put(line, c.column(mark.instance as usize), b'*');
         }
     }
 }
@@ -155,12 +155,12 @@ fn put_name(
     line: &mut Vec<u8>,
     scene: &Scene,
     c: &Columns,
-    i: u32,
+    i: usize,
 ) -> Result<(), AllocError>
     requires { i < length scene.now.heads }
     ensures { OnOk result (line.new.items ≡ with_name scene.now c.now line.old.items i) }
 {
-    let name = scene.heads.as_slice()[i as usize].name.as_slice();
+    let name = scene.heads.as_slice()[i].name.as_slice();
     let start = c.column(i).saturating_sub(name.len() / 2);
     let lacks = start.saturating_sub(line.len());
     let blanks = vec![in alloc; b' '; lacks]?;
@@ -169,7 +169,7 @@ fn put_name(
 }
 
 /// The line of the names.
-fn head_line(alloc: Global, scene: &Scene, c: &Columns, many: u32) -> Result<Vec<u8>, AllocError>
+fn head_line(alloc: Global, scene: &Scene, c: &Columns, many: usize) -> Result<Vec<u8>, AllocError>
     requires { many ≡ length scene.now.heads }
     ensures { IfOk result (λ line. line.items ≡ head_line scene.now c.now) }
 {
@@ -197,10 +197,9 @@ fn put_rows(alloc: Global, page: &mut Vec<u8>, scene: &Scene, c: &Columns) -> Re
 /// Puts the picture in text behind a page. An error is a growth of memory that was refused; what
 /// stands in the page is not said then.
 pub fn put_text(alloc: Global, page: &mut Vec<u8>, scene: &Scene) -> Result<(), AllocError>
-    requires { length scene.now.heads ≤ INSTANCE_LIMIT }
     ensures { OnOk result (page.new.items ≡ page.old.items ++ picture_text scene.now) }
 {
-    let many = scene.heads.as_slice().len() as u32;
+    let many = scene.heads.as_slice().len();
     if many == 0 {
         return page.extend_from_slice(b"\n");
     }
