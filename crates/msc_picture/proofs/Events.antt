@@ -1,10 +1,10 @@
 -- What the tests of charts say of events.
-use Rattle.std.proofs.Common.{◌≡◌, ℕ, ◌<◌, true, false, List, length, sym, ◌∙◌, true≢false}
+use Rattle.std.proofs.Common.{◌≡◌, ℕ, ◌<◌, Bool, true, false, List, length, refl, sym, ◌∙◌, true≢false}
 use Rattle.std.proofs.lemmas.Bool.{and_parts, and_from, ltb-true, lt-ltb, eqb-true, eq-eqb}
 use Rattle.msc_chart.specs.declared.event.EventKind.{EventKind}
 use Rattle.msc_chart.specs.declared.event.EventKind.TheVariants.{Output, Input, Local}
 use Rattle.msc_chart.specs.declared.event.ChartEvent.{ChartEvent}
-use Rattle.msc_chart.specs.Charts.{line, segment, kind, sends, takes, is_output, is_input, before}
+use Rattle.msc_chart.specs.Charts.{line, segment, kind, sends, takes, acts, is_output, is_input, is_local, before}
 
 -- no kind both sends and takes
 one_kind : (k : EventKind) → sends k ≡ true → takes k ≡ true → ⊥
@@ -12,7 +12,21 @@ one_kind Output h k = true≢false (sym k)
 one_kind Input h k = true≢false (sym h)
 one_kind Local h k = true≢false (sym h)
 
+-- nor does one that sends act
+quiet_kind : (k : EventKind) → sends k ≡ true → acts k ≡ false
+quiet_kind Output h = refl
+quiet_kind Input h = refl
+quiet_kind Local h = absurd (true≢false (sym h))
+
 module _ (events : List ChartEvent) where
+  -- an output is no local event
+  pub output_quiet : (e : ℕ) (b : Bool) → e < length events → b ≡ is_output events e
+      → b ≡ true → is_local events e ≡ false
+  unfolding is_output is_local
+  output_quiet e b below is h =
+      let o = and_parts _ _ (sym is ∙ h) in
+      rw (lt-ltb e (length events) below) (quiet_kind (kind events e) o.1)
+
   -- no event is both an output and an input
   pub not_both : (e : ℕ) → is_output events e ≡ true → is_input events e ≡ true → ⊥
   unfolding is_output is_input

@@ -5,3 +5,4 @@ mod Wholes
 mod Ranges
 mod Parts
 mod Lines
+mod RunWitness

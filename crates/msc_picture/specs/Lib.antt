@@ -1,5 +1,6 @@
 -- what is promised
 pub mod Frames
+pub mod RunFrames
 pub mod Rows
 pub mod Marks
 pub mod Scenes

@@ -6,6 +6,9 @@ use Rattle.msc_chart.specs.declared.event.EventKind.TheVariants.{Output, Input, 
 use Rattle.msc_chart.specs.declared.message.Message.{Message}
 use Rattle.msc_chart.specs.Charts.{kind, line, message}
 use Rattle.msc_chart.specs.Drawings.{Drawing, input_of, label_of, message_at, output_of, receiver_of, sender_of}
+use Rattle.msc_chart.specs.declared.wiring.Wiring.{Wiring}
+use Rattle.msc_chart.specs.Orders.{WiredChart}
+use Rattle.msc_chart.specs.Wirings.{wired_by}
 use Rattle.msc_parser.specs.declared.tree.Section.{Section}
 use Rattle.msc_parser.specs.Grammar.{Tree}
 use Rattle.msc_picture.specs.declared.scene.Act.{Act}
@@ -15,6 +18,7 @@ use Rattle.msc_picture.specs.declared.scene.Head.{Head}
 use Rattle.msc_picture.specs.declared.scene.Scene.{Scene}
 use Rattle.msc_picture.specs.declared.scene.Spot.{Spot}
 use Rattle.msc_picture.specs.Frames.{chart_frame, IsDrawingOrder}
+use Rattle.msc_picture.specs.RunFrames.{run_frame, run_mark}
 use Rattle.msc_picture.specs.Rows.{bands_of, rows_of}
 use Rattle.msc_picture.specs.Marks.{marks_of}
 
@@ -65,6 +69,14 @@ act_by d e Local = Does (map shown_byte (label_of d e))
 abbrev pub spot_of : Drawing → ℕ → Spot
 spot_of d e = record { instance = line d.events e; act = act_by d e (kind d.events e) }
 
+-- what each picture of a chart shows: a head for each instance, an arrow for each message, and what
+-- each event does
+pub record IsPopulated (draft : Tree) (d : Drawing) (s : Scene) : Type 0 where
+  pub name : s.name ≡ d.name
+  pub heads : s.heads ≡ map head_of draft.sections
+  pub arrows : s.arrows ≡ map (arrow_of d) (range_with_len 0 (length d.messages))
+  pub spots : s.spots ≡ map (spot_of d) (range_with_len 0 (length d.events))
+
 -- the rows, the bands and the marks of a chart, of which these races are closest
 pub record IsLaidOut (d : Drawing) (closest : List (ℕ × ℕ)) (s : Scene) : Type 0 where
   pub order : List ℕ
@@ -75,8 +87,20 @@ pub record IsLaidOut (d : Drawing) (closest : List (ℕ × ℕ)) (s : Scene) : T
 
 -- the picture of the chart of a draft, of which these races are closest
 pub record IsSceneOf (draft : Tree) (d : Drawing) (closest : List (ℕ × ℕ)) (s : Scene) : Type 0 where
-  pub name : s.name ≡ d.name
-  pub heads : s.heads ≡ map head_of draft.sections
-  pub arrows : s.arrows ≡ map (arrow_of d) (range_with_len 0 (length d.messages))
-  pub spots : s.spots ≡ map (spot_of d) (range_with_len 0 (length d.events))
+  pub shows : IsPopulated draft d s
   pub laid_out : IsLaidOut d closest s
+
+-- the rows and the mark of a run of a chart under an architecture that reverses the race (e, f) of this
+-- number; there are no bands
+pub record IsRunLaidOut (chart : WiredChart) (run : List ℕ) (e f number : ℕ) (s : Scene) : Type 0 where
+  pub order : List ℕ
+  pub drawn : IsDrawingOrder (run_frame chart run) order
+  pub rows : s.rows ≡ rows_of chart.events order
+  pub bands : s.bands ≡ []
+  pub marks : s.marks ≡ run_mark chart e f number ∷ []
+
+-- the picture of such a run of the chart of a draft
+pub record IsRunSceneOf (draft : Tree) (w : Wiring) (run : List ℕ) (e f number : ℕ) (s : Scene)
+    : Type 0 where
+  pub shows : IsPopulated draft w.chart.now s
+  pub laid_out : IsRunLaidOut (wired_by w) run e f number s

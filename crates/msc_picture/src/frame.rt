@@ -12,7 +12,7 @@ use std::alloc::{AllocError, Global};
 #[derive(Drop)]
 pub struct Framed<'a> {
     pub chart: &'a Chart,
-    pub levels: Vec<u32>,
+    pub levels: Vec<usize>,
     pub after: Vec<Option<Event>>,
 }
 
@@ -65,7 +65,7 @@ pub fn frame_chart(alloc: Global, chart: &Chart) -> Result<Framed, AllocError>
 {
     let mut levels = Vec::with_capacity(alloc, chart.events() as usize)?;
     for e in 0..chart.events() {
-        levels.push(chart.segment(e))?;
+        levels.push(chart.segment(e) as usize)?;
     }
     Ok(Framed {
         chart,

@@ -13,9 +13,11 @@ mod part;
 mod piece;
 mod row;
 mod rule;
+mod run;
 mod scene;
 mod text;
 
 pub use ordering::drawing_order;
-pub use scene::{Act, Arrow, Band, Head, Mark, Row, Scene, Spot, chart_scene};
+pub use run::run_order;
+pub use scene::{Act, Arrow, Band, Head, Mark, Reversed, Row, Scene, Spot, chart_scene, run_scene};
 pub use text::put_text;

@@ -20,8 +20,8 @@ use std::alloc::{AllocError, Global};
 /// What is drawn so far: the events in their order and the last of them, for each event whether it
 /// is drawn, and for each event up to which event none blocks it that is not drawn.
 #[derive(Drop)]
-struct Drawn {
-    past: Vec<Event>,
+pub(crate) struct Drawn {
+    pub past: Vec<Event>,
     last: Option<Event>,
     done: Vec<bool>,
     met: Vec<Event>,
@@ -241,7 +241,7 @@ impl Drawn {
 }
 
 /// The drawing order of a frame: each next event by the rules, until none may follow.
-fn draw_all(alloc: Global, f: &Framed) -> Result<Drawn, AllocError>
+pub(crate) fn draw_all(alloc: Global, f: &Framed) -> Result<Drawn, AllocError>
     requires long { vec_len f.now.levels ≡ length f.now.chart.now.events }
     ensures held { IfOk result (λ d. HoldsSettled f.now d) }
     ensures end { IfOk result (λ d. (e : ℕ) → MayFollow (frame_of f.now) d.past.items e → ⊥) }

@@ -1,17 +1,21 @@
 //! A picture as plain data: what stands where, before it takes a form.
 
-ghost use Rattle.std.specs.Prelude.{◌≡◌, IfOk};
+ghost use Rattle.std.specs.Prelude.{◌≡◌, ◌<◌, IfOk};
+ghost use Rattle.msc_chart.specs.Runs.{IsWhole, Run};
+ghost use Rattle.msc_chart.specs.Wirings.{size, wired_by};
+ghost use Rattle.msc_picture.specs.RunFrames.{run_mark};
 ghost use Rattle.msc_chart.specs.Drawings.{chart_of};
 ghost use Rattle.msc_picture.specs.Marks.{AreEventPairs};
-ghost use Rattle.msc_picture.specs.Scenes.{IsSceneOf};
+ghost use Rattle.msc_picture.specs.Scenes.{IsRunSceneOf, IsSceneOf};
 
 use crate::band::bands_of;
 use crate::mark::marks_of;
 use crate::ordering::drawing_order;
 use crate::part::{arrows_of, heads_of, spots_of};
 use crate::row::rows_of;
+use crate::run::run_order;
 use listed::Listed;
-use msc_chart::{Chart, Event};
+use msc_chart::{Chart, Event, Wiring};
 use msc_parser::{Draft, Label};
 use std::alloc::{AllocError, Global};
 
@@ -110,5 +114,59 @@ pub fn chart_scene(
         rows: Listed::from_vec(rows),
         bands: Listed::from_vec(bands),
         marks: marks_of(alloc, chart, closest)?,
+    })
+}
+
+/// What a run reverses: event `second` comes before event `first` of the race, whose number is
+/// shown where it is not 0.
+#[derive(Clone, Copy)]
+pub struct Reversed {
+    pub first: Event,
+    pub second: Event,
+    pub number: usize,
+}
+
+/// The mark of a race that is reversed.
+fn mark_of(alloc: Global, w: &Wiring, race: Reversed) -> Result<Mark, AllocError>
+    requires { race.first < size w.now }
+    ensures { IfOk result (λ mark.
+        mark ≡ run_mark (wired_by w.now) race.first race.second race.number) }
+{
+    Ok(Mark {
+        instance: w.chart.instance_of(race.first),
+        upper: Listed::from_vec(vec![in alloc; race.second]?),
+        lower: Listed::from_vec(vec![in alloc; race.first]?),
+        first: race.number,
+        last: race.number,
+    })
+}
+
+/// The picture of a whole run of a chart that reverses a race. An error is a growth of memory that
+/// was refused.
+pub fn run_scene(
+    alloc: Global,
+    draft: &Draft,
+    w: &Wiring,
+    run: &[Event],
+    race: Reversed,
+) -> Result<Scene, AllocError>
+    requires drawn { w.now.chart.now ≡ chart_of draft.now }
+    requires run { Run (wired_by w.now) run.now }
+    requires whole { IsWhole (wired_by w.now) run.now }
+    requires known { race.first < size w.now }
+    ensures { IfOk result
+        (IsRunSceneOf draft.now w.now run.now race.first race.second race.number) }
+{
+    let order = run_order(alloc, w, run)?;
+    let rows = rows_of(alloc, w.chart, &order)?;
+    let mark = mark_of(alloc, w, race)?;
+    Ok(Scene {
+        name: Listed::from_vec(Vec::from_slice(alloc, w.chart.name())?),
+        heads: heads_of(alloc, draft)?,
+        arrows: arrows_of(alloc, w.chart)?,
+        spots: spots_of(alloc, w.chart)?,
+        rows: Listed::from_vec(rows),
+        bands: Listed::from_vec(Vec::new(alloc)),
+        marks: Listed::from_vec(vec![in alloc; mark]?),
     })
 }

@@ -1,0 +1,14 @@
+use Rattle.std.proofs.Common.{[]}
+use Rattle.msc_chart.specs.Wirings.{wired_by}
+use Rattle.msc_picture.specs.Drawn.{frame_of}
+use Rattle.msc_picture.proofs.RunWitness.{run_drawn, run_known}
+use Rattle.msc_picture.proofs.run.run_order.Goals as goal
+
+pub frame_run-requires : goal.frame_run-requires
+frame_run-requires c = run_known (wired_by c.args.w.now) [] c.args.run.now c.requires.run
+
+pub returns : goal.returns
+returns c =
+    run_drawn (wired_by c.args.w.now) (frame_of c.in_ok-f.f) c.args.run.now _
+    c.accepted.ensures.matched c.in_ok-f.ensures.frame c.requires.run c.requires.whole
+    c.in_ok-drawn.ensures.held.holds.steps c.in_ok-drawn.ensures.end
