@@ -6,3 +6,6 @@ mod Ranges
 mod Parts
 mod Lines
 mod RunWitness
+mod RowLemmas
+mod RunLaws
+mod MarkLemmas

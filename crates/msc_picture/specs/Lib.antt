@@ -6,5 +6,6 @@ pub mod Marks
 pub mod Scenes
 pub mod Columns
 pub mod Texts
+pub mod Laws
 -- what the code keeps
 pub mod Drawn

@@ -4,10 +4,11 @@ use Rattle.std.specs.List.{flat_map, range_with_len}
 use Rattle.msc_chart.specs.declared.event.EventKind.{EventKind}
 use Rattle.msc_chart.specs.declared.event.EventKind.TheVariants.{Output, Input, Local}
 use Rattle.msc_chart.specs.declared.message.Message.{Message}
-use Rattle.msc_chart.specs.Charts.{kind, line, message}
+use Rattle.msc_chart.specs.Charts.{kind, line, message, IsLinearOrder}
 use Rattle.msc_chart.specs.Drawings.{Drawing, input_of, label_of, message_at, output_of, receiver_of, sender_of}
 use Rattle.msc_chart.specs.declared.wiring.Wiring.{Wiring}
 use Rattle.msc_chart.specs.Orders.{WiredChart}
+use Rattle.msc_chart.specs.Runs.{Run}
 use Rattle.msc_chart.specs.Wirings.{wired_by}
 use Rattle.msc_parser.specs.declared.tree.Section.{Section}
 use Rattle.msc_parser.specs.Grammar.{Tree}
@@ -18,6 +19,7 @@ use Rattle.msc_picture.specs.declared.scene.Head.{Head}
 use Rattle.msc_picture.specs.declared.scene.Scene.{Scene}
 use Rattle.msc_picture.specs.declared.scene.Spot.{Spot}
 use Rattle.msc_picture.specs.Frames.{chart_frame, IsDrawingOrder}
+use Rattle.msc_picture.specs.Laws.{KeepsLinesOf}
 use Rattle.msc_picture.specs.RunFrames.{run_frame, run_mark}
 use Rattle.msc_picture.specs.Rows.{bands_of, rows_of}
 use Rattle.msc_picture.specs.Marks.{marks_of}
@@ -81,6 +83,7 @@ pub record IsPopulated (draft : Tree) (d : Drawing) (s : Scene) : Type 0 where
 pub record IsLaidOut (d : Drawing) (closest : List (ℕ × ℕ)) (s : Scene) : Type 0 where
   pub order : List ℕ
   pub drawn : IsDrawingOrder (chart_frame d.events) order
+  pub linear : IsLinearOrder d.events order
   pub rows : s.rows ≡ rows_of d.events order
   pub bands : s.bands ≡ bands_of d.events s.rows
   pub marks : s.marks ≡ marks_of d.events closest
@@ -95,6 +98,8 @@ pub record IsSceneOf (draft : Tree) (d : Drawing) (closest : List (ℕ × ℕ)) 
 pub record IsRunLaidOut (chart : WiredChart) (run : List ℕ) (e f number : ℕ) (s : Scene) : Type 0 where
   pub order : List ℕ
   pub drawn : IsDrawingOrder (run_frame chart run) order
+  pub is_run : Run chart order
+  pub lines : KeepsLinesOf chart.events run order
   pub rows : s.rows ≡ rows_of chart.events order
   pub bands : s.bands ≡ []
   pub marks : s.marks ≡ run_mark chart e f number ∷ []

@@ -7,6 +7,7 @@
 mod band;
 mod columns;
 mod frame;
+pub mod laws;
 mod mark;
 mod ordering;
 mod part;

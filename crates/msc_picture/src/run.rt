@@ -6,9 +6,11 @@ ghost use Rattle.msc_chart.specs.Runs.{IsWhole, Run};
 ghost use Rattle.msc_chart.specs.Wirings.{size, wired_by};
 ghost use Rattle.msc_picture.specs.Drawn.{frame_of};
 ghost use Rattle.msc_picture.specs.Frames.{IsDrawingOrder};
+ghost use Rattle.msc_picture.specs.Laws.{KeepsLinesOf};
 ghost use Rattle.msc_picture.specs.RunFrames.{are_queued, place_of, queued_before, run_frame};
 
 use crate::frame::Framed;
+use crate::laws::drawn_runs_are_runs;
 use crate::ordering::draw_all;
 use msc_chart::{Event, Wiring};
 use std::alloc::{AllocError, Global};
@@ -85,9 +87,15 @@ fn frame_run<'a>(alloc: Global, w: &Wiring<'a>, run: &[Event]) -> Result<Framed<
 pub fn run_order(alloc: Global, w: &Wiring, run: &[Event]) -> Result<Vec<Event>, AllocError>
     requires run { Run (wired_by w.now) run.now }
     requires whole { IsWhole (wired_by w.now) run.now }
-    ensures { IfOk result (λ order.
+    ensures rules { IfOk result (λ order.
         IsDrawingOrder (run_frame (wired_by w.now) run.now) order.items) }
+
+    // It is a run too, and has the lines of the run.
+    ensures run { IfOk result (λ order. Run (wired_by w.now) order.items) }
+    ensures lines { IfOk result (λ order.
+        KeepsLinesOf w.now.chart.now.events run.now order.items) }
 {
+    drawn_runs_are_runs();
     w.chart.accepted();
     let f = frame_run(alloc, w, run)?;
     let drawn = draw_all(alloc, &f)?;
