@@ -10,7 +10,9 @@ use Rattle.msc_chart.proofs.ListLemmas.{by_test, clash}
 use Rattle.msc_chart.proofs.Numbers.{find_below}
 use Rattle.msc_picture.specs.declared.scene.Mark.{Mark}
 use Rattle.msc_picture.specs.Laws.{MarksRace, IsEndOf}
-use Rattle.msc_picture.specs.Marks.{AreEventPairs, is_from, end_of, is_end_of, ends_of, mark_over, mark_at, marks_of}
+use Rattle.std.proofs.lemmas.Option.{slice_get-get_or}
+use Rattle.msc_picture.proofs.Events.{before_parts}
+use Rattle.msc_picture.specs.Marks.{AreDrawnPairs, AreEventPairs, is_from, end_of, is_end_of, ends_of, mark_over, mark_at, marks_of}
 use Rattle.msc_picture.specs.Rows.{share_segment, begins_segment, grown, reach_from, reach_of}
 
 module _ (events : List ChartEvent) where
@@ -278,3 +280,12 @@ no_other events closest e x lower h =
     let found = any_where (λ p. is_from events e p && eqb (end_of lower p) x) closest (0, 0)
     passes in
     (found.0, found.1, eqb-true _ _ (and_parts _ _ found.2).1)
+
+-- what is drawn in an order are events
+pub drawn_events : (events : List ChartEvent) (closest : List (ℕ × ℕ)) → AreDrawnPairs events closest
+    → AreEventPairs events closest
+drawn_events events closest drawn k d below =
+    let p = get_or closest k d in
+    let parts = before_parts events p.0 p.1
+    (drawn p.0 p.1 (k, slice_get-get_or closest k d below)) in
+    (parts.0, parts.1)

@@ -11,7 +11,7 @@ use Rattle.msc_chart.specs.Runs.{IsWhole, Run}
 use Rattle.msc_picture.specs.declared.scene.Mark.{Mark}
 use Rattle.msc_picture.specs.declared.scene.Row.{Row}
 use Rattle.msc_picture.specs.Frames.{IsDrawingOrder}
-use Rattle.msc_picture.specs.Marks.{AreEventPairs, end_of, ends_of, marks_of}
+use Rattle.msc_picture.specs.Marks.{AreDrawnPairs, end_of, ends_of, marks_of}
 use Rattle.msc_picture.specs.RunFrames.{run_frame}
 use Rattle.msc_picture.specs.Rows.{answers_to, row_of_one, rows_of}
 
@@ -89,7 +89,7 @@ pub record MarksRace (events : List ChartEvent) (mark : Mark) (k e f : ℕ) : Ty
 -- each closest race has a mark
 abbrev pub EachClosestRaceIsMarked : Type 0
 EachClosestRaceIsMarked =
-    (events : List ChartEvent) (closest : List (ℕ × ℕ)) (k e f : ℕ) → AreEventPairs events closest
+    (events : List ChartEvent) (closest : List (ℕ × ℕ)) (k e f : ℕ) → AreDrawnPairs events closest
     → StandsAt closest k (e, f)
     → (mark : Mark) × Occurs (marks_of events closest) mark × MarksRace events mark k e f
 

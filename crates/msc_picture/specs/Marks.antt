@@ -1,14 +1,19 @@
 -- The marks of closest races (this project's own).
-use Rattle.std.specs.Prelude.{ℕ, ◌+◌, ◌<◌, Bool, true, false, ◌&&◌, cond, List, [], ◌∷◌, Option, None, Some, filter, nat_eq, length}
+use Rattle.std.specs.Prelude.{ℕ, ◌+◌, ◌<◌, Bool, true, false, ◌&&◌, cond, List, [], ◌∷◌, Option, None, Some, filter, nat_eq, length, IsTrue}
 use Rattle.std.specs.List.{flat_map, range_with_len, list_any, All}
 use Rattle.msc_chart.specs.declared.event.ChartEvent.{ChartEvent}
-use Rattle.msc_chart.specs.Charts.{line}
+use Rattle.msc_chart.specs.Charts.{before, line}
+use Rattle.msc_chart.specs.Lists.{Occurs}
 use Rattle.msc_picture.specs.declared.scene.Mark.{Mark}
 use Rattle.msc_picture.specs.Rows.{share_segment, begins_segment, reach_of}
 
 -- both of each pair are events
 abbrev pub AreEventPairs : List ChartEvent → List (ℕ × ℕ) → Type 0
 AreEventPairs events pairs = All (λ p. (p.0 < length events) × (p.1 < length events)) pairs
+
+-- of each pair the first is drawn before the second, as it is of a race
+abbrev pub AreDrawnPairs : List ChartEvent → List (ℕ × ℕ) → Type 0
+AreDrawnPairs events pairs = (e f : ℕ) → Occurs pairs (e, f) → IsTrue (before events e f)
 
 -- the first event of the pair is in the segment of e
 abbrev pub is_from : List ChartEvent → ℕ → ℕ × ℕ → Bool

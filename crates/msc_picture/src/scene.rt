@@ -5,7 +5,7 @@ ghost use Rattle.msc_chart.specs.Runs.{IsWhole, Run};
 ghost use Rattle.msc_chart.specs.Wirings.{size, wired_by};
 ghost use Rattle.msc_picture.specs.RunFrames.{run_mark};
 ghost use Rattle.msc_chart.specs.Drawings.{chart_of};
-ghost use Rattle.msc_picture.specs.Marks.{AreEventPairs};
+ghost use Rattle.msc_picture.specs.Marks.{AreDrawnPairs};
 ghost use Rattle.msc_picture.specs.Scenes.{IsRunSceneOf, IsSceneOf};
 
 use crate::band::bands_of;
@@ -100,7 +100,7 @@ pub fn chart_scene(
     closest: &[(Event, Event)],
 ) -> Result<Scene, AllocError>
     requires drawn { chart.now ≡ chart_of draft.now }
-    requires events { AreEventPairs chart.now.events closest.now }
+    requires races { AreDrawnPairs chart.now.events closest.now }
     ensures { IfOk result (IsSceneOf draft.now chart.now closest.now) }
 {
     let order = drawing_order(alloc, chart)?;
