@@ -21,6 +21,8 @@ mod host;
 #[cfg(test)]
 mod orders;
 #[cfg(test)]
+mod pictures;
+#[cfg(test)]
 mod races;
 #[cfg(test)]
 mod reasons;

@@ -9,3 +9,4 @@ mod RunWitness
 mod RowLemmas
 mod RunLaws
 mod MarkLemmas
+mod BandLemmas

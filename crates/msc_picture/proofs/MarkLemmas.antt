@@ -17,7 +17,7 @@ use Rattle.msc_picture.specs.Rows.{share_segment, begins_segment, grown, reach_f
 
 module _ (events : List ChartEvent) where
   -- what it says that two events share a segment
-  share_parts : (e f : ℕ) → share_segment events e f ≡ true
+  pub share_parts : (e f : ℕ) → share_segment events e f ≡ true
       → (line events e ≡ line events f) × (segment events e ≡ segment events f)
   share_parts e f h =
       let p = and_parts (eqb (line events e) (line events f)) (eqb (segment events e) (segment events f))
@@ -25,7 +25,7 @@ module _ (events : List ChartEvent) where
       (eqb-true (line events e) (line events f) p.0, eqb-true (segment events e) (segment events f) p.1)
 
   -- and what makes them share one
-  share_from : (e f : ℕ) → line events e ≡ line events f → segment events e ≡ segment events f
+  pub share_from : (e f : ℕ) → line events e ≡ line events f → segment events e ≡ segment events f
       → share_segment events e f ≡ true
   share_from e f l s =
       and_from (eqb (line events e) (line events f)) (eqb (segment events e) (segment events f))
@@ -62,12 +62,12 @@ beginner events e = elim (find_below (λ x. share_segment events x e) (e + 1)) [
 ]
 
 -- a range of places has place k
-Reaches : Option (ℕ × ℕ) → ℕ → Type 0
+unfoldable pub Reaches : Option (ℕ × ℕ) → ℕ → Type 0
 Reaches None k = ⊥
 Reaches (Some p) k = (p.0 ≤ k) × (k ≤ p.1)
 
 -- a range begins before place k, where there is one
-Begins : Option (ℕ × ℕ) → ℕ → Type 0
+unfoldable pub Begins : Option (ℕ × ℕ) → ℕ → Type 0
 Begins None k = Unit {0}
 Begins (Some p) k = p.0 < k
 
@@ -101,7 +101,7 @@ begins_on None k within = tt
 begins_on (Some p) k within = omega (arith, within)
 
 -- a place whose item passes is in the range
-reach_has : {X : Type 0} (test : X → Bool) (reach : Option (ℕ × ℕ)) (k i : ℕ) (xs : List X) (x : X)
+pub reach_has : {X : Type 0} (test : X → Bool) (reach : Option (ℕ × ℕ)) (k i : ℕ) (xs : List X) (x : X)
     → Begins reach k → slice_get xs i ≡ Some x → test x ≡ true
     → Reaches (reach_from test reach k xs) (k + i)
 reach_has test reach k i [] x within at passes = let f : ⊥ = cc in absurd f
@@ -121,7 +121,7 @@ reach_has {X} test reach k (suc i) (y ∷ ys) x within at passes =
     (reach_has test reach (k + 1) i ys x (begins_on reach k within) at passes)))
 
 -- an item that stands in a list
-stands : {X : Type 0} (xs : List X) (k : ℕ) (x d : X) → slice_get xs k ≡ Some x
+pub stands : {X : Type 0} (xs : List X) (k : ℕ) (x d : X) → slice_get xs k ≡ Some x
     → (k < length xs) × (get_or xs k d ≡ x)
 stands [] k x d h = let f : ⊥ = cc in absurd f
 stands (y ∷ ys) zero x d h = (omega arith, cc)
@@ -141,7 +141,7 @@ stands_front (z ∷ zs) ys zero x h = h
 stands_front (z ∷ zs) ys (suc k) x h = stands_front zs ys k x h
 
 -- and in what is made of a range, where it is made of a number of that
-stands_flat : {X : Type 0} (g : ℕ → List X) (a n b : ℕ) (x : X) → a ≤ b → b < a + n → Occurs (g b) x
+pub stands_flat : {X : Type 0} (g : ℕ → List X) (a n b : ℕ) (x : X) → a ≤ b → b < a + n → Occurs (g b) x
     → Occurs (flat_map g (range_with_len a n)) x
 stands_flat g a zero b x low high h = absurd (omega arith)
 stands_flat {X} g a (suc n) b x low high h = elim (cases_eq a b) [

@@ -225,3 +225,12 @@ keep_visual events order i j x y linear at_x at_y visible =
             not_below events rows i j x y read at_x at_y visible (omega (arith, ge, other))
       ]
     ]
+
+-- an event of a row is an event of the chart
+pub row_known : (events : List ChartEvent) (order : List ℕ) (i x : ℕ) → IsLinearOrder events order
+    → IsInRow (rows_of events order) i x → x < length events
+row_known events order i x linear at_x =
+    let there : occurs order x ≡ true =
+    subst (λ (l : List ℕ). occurs l x ≡ true) (read_back events None order)
+    (in_all (rows_of events order) i x at_x) in
+    (step_at (Follows events) order x linear.steps there).1.event

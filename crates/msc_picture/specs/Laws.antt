@@ -8,12 +8,13 @@ use Rattle.msc_chart.specs.declared.queue.Queues.{Queues}
 use Rattle.msc_chart.specs.Drawings.{Drawing, IsAccepted}
 use Rattle.msc_chart.specs.Orders.{wired}
 use Rattle.msc_chart.specs.Runs.{IsWhole, Run}
+use Rattle.msc_picture.specs.declared.scene.Band.{Band}
 use Rattle.msc_picture.specs.declared.scene.Mark.{Mark}
 use Rattle.msc_picture.specs.declared.scene.Row.{Row}
 use Rattle.msc_picture.specs.Frames.{IsDrawingOrder}
 use Rattle.msc_picture.specs.Marks.{AreDrawnPairs, end_of, ends_of, marks_of}
 use Rattle.msc_picture.specs.RunFrames.{run_frame}
-use Rattle.msc_picture.specs.Rows.{answers_to, row_of_one, rows_of}
+use Rattle.msc_picture.specs.Rows.{answers_to, bands_of, begins_band, row_of_one, row_passes, rows_of, share_segment}
 
 -- a list of what there is
 abbrev pub as_list : Option ℕ → List ℕ
@@ -102,3 +103,45 @@ abbrev pub MarksHaveNoOther : Type 0
 MarksHaveNoOther =
     (events : List ChartEvent) (closest : List (ℕ × ℕ)) (e x : ℕ) (lower : Bool)
     → IsTrue (occurs (ends_of events closest e lower) x) → IsEndOf lower closest x
+
+-- an event of row r is in the segment of e
+abbrev pub HasOfSegment : List ChartEvent → List Row → ℕ → ℕ → Type 0
+HasOfSegment events rows e r =
+    (row : Row) × StandsAt rows r row × IsTrue (row_passes (share_segment events e) row)
+
+-- a band goes over the rows with events of the segment that e begins: from the first to the last
+pub record IsBandOf (events : List ChartEvent) (rows : List Row) (e : ℕ) (band : Band) : Type 0 where
+  pub instance : band.instance ≡ line events e
+  pub begins : IsTrue (begins_band events e)
+  pub first : HasOfSegment events rows e band.first
+  pub last : HasOfSegment events rows e band.last
+  pub around : (r : ℕ) → HasOfSegment events rows e r → (band.first ≤ r) × (r ≤ band.last)
+
+-- each band is that of a segment of several events
+abbrev pub BandsAreOfCoregions : Type 0
+BandsAreOfCoregions =
+    (events : List ChartEvent) (rows : List Row) (band : Band) → Occurs (bands_of events rows) band
+    → (e : ℕ) × (e < length events) × IsBandOf events rows e band
+
+-- and each such segment that stands in some row has a band
+abbrev pub EachCoregionHasABand : Type 0
+EachCoregionHasABand =
+    (events : List ChartEvent) (rows : List Row) (e r : ℕ) → e < length events
+    → IsTrue (begins_band events e) → HasOfSegment events rows e r
+    → (band : Band) × Occurs (bands_of events rows) band × IsBandOf events rows e band
+
+-- row r has the other end of the message of x, an event of the segment of e
+abbrev pub HasItsOtherEnd : List ChartEvent → List Row → ℕ → ℕ → ℕ → Type 0
+HasItsOtherEnd events rows e r x =
+    (y : ℕ) × IsInRow rows r y × IsTrue (share_segment events e y)
+    × (IsTrue (answers_to events x y) ⊎ IsTrue (answers_to events y x))
+
+-- no other event of its line is in the rows of a band, but one whose message has its other end there, in
+-- the same row
+abbrev pub BandsHaveNoOther : Type 0
+BandsHaveNoOther =
+    (events : List ChartEvent) (order : List ℕ) (e r x : ℕ) (band : Band)
+    → IsLinearOrder events order → IsBandOf events (rows_of events order) e band
+    → IsInRow (rows_of events order) r x → line events x ≡ line events e → band.first ≤ r
+    → r ≤ band.last
+    → IsTrue (share_segment events e x) ⊎ HasItsOtherEnd events (rows_of events order) e r x

@@ -1,7 +1,8 @@
 //! Laws of pictures, over their definitions alone. The functions have no code: a caller calls one
 //! to rest its own proof on the law.
 
-ghost use Rattle.msc_picture.specs.Laws.{DrawnRunsAreRuns, EachClosestRaceIsMarked};
+ghost use Rattle.msc_picture.specs.Laws.{BandsAreOfCoregions, BandsHaveNoOther, DrawnRunsAreRuns};
+ghost use Rattle.msc_picture.specs.Laws.{EachClosestRaceIsMarked, EachCoregionHasABand};
 ghost use Rattle.msc_picture.specs.Laws.{MarksHaveNoOther, OneLabelInARow, RowsAreFull};
 ghost use Rattle.msc_picture.specs.Laws.{RowsKeepTheVisualOrder, RowsReadBack};
 
@@ -32,6 +33,15 @@ pub fn drawn_runs_are_runs()
     ends_share_queues();
     inputs_share_lines();
 }
+
+/// Each band is that of a coregion of several events, from the first to the last row with an event
+/// of it, and each such coregion has one. No other event of its line is in these rows, but one that
+/// shares its row with the other end of its message to oneself.
+pub fn each_coregion_has_a_band()
+    ensures bands { BandsAreOfCoregions }
+    ensures each { EachCoregionHasABand }
+    ensures other { BandsHaveNoOther }
+{}
 
 /// Each closest race joins an upper and a lower event of a mark, which has its number, and no event
 /// of a mark is in no closest race.
