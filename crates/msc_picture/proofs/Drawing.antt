@@ -1,6 +1,6 @@
 -- What is kept while events are drawn.
-use Rattle.std.proofs.Common.{◌≡◌, ℕ, ◌+◌, ◌<◌, ◌≤◌, Bool, true, false, ◌&&◌, not, List, [], ◌∷◌, ◌++◌, length, get_or, set, replicate, Option, Some, None, IfSome, inl, inr, sym, ap, subst, ◌∙◌, refl, arith}
-use Rattle.std.proofs.lemmas.Bool.{and_parts, and_from, cases_lt, cases_eq, not-true, not_from_false, false_from_ne_true}
+use Rattle.std.proofs.Common.{◌≡◌, ℕ, ◌+◌, ◌<◌, ◌≤◌, Bool, true, false, List, [], ◌∷◌, ◌++◌, length, get_or, set, replicate, Option, Some, None, IfSome, inl, inr, sym, ap, subst, ◌∙◌, refl, arith}
+use Rattle.std.proofs.lemmas.Bool.{and_parts, and_from, cases_lt, cases_eq, not-true, not_from_false}
 use Rattle.std.proofs.lemmas.List.{length-replicate, get_or-replicate, length-set, get_or-set_same, get_or-set_other, get_or_default}
 use Rattle.msc_chart.specs.Lists.{Steps, occurs, IsLeast}
 use Rattle.msc_chart.proofs.ListLemmas.{by_test, clash, occurs-left, occurs-push, occurs_other, Steps-push}
@@ -9,7 +9,7 @@ use Rattle.msc_chart.proofs.Numbers.{count_below}
 use Rattle.msc_picture.specs.declared.rule.Rule.{Rule}
 use Rattle.msc_picture.specs.declared.rule.Rule.TheVariants.{Answer, Rest, Level, Send}
 use Rattle.msc_picture.specs.Frames.{Frame, last_of, MayFollow, Fits, HasNone, IsDrawnNext, answering, resting, levelling, sending}
-use Rattle.msc_picture.specs.Drawn.{blocks, holds_up, IsMetBelow, IsStuckAt, IsClear, IsDrawn, AreSettled}
+use Rattle.msc_picture.specs.Drawn.{holds_up, IsMetBelow, IsStuckAt, IsClear, IsDrawn, AreSettled}
 
 -- the last of a list that was put behind others
 last_pushed : (xs : List ℕ) (x : ℕ) → Some x ≡ last_of (xs ++ x ∷ [])

@@ -1,7 +1,7 @@
 -- Which event may follow, told by its output and by what else blocks it.
-use Rattle.std.proofs.Common.{◌≡◌, ℕ, ◌<◌, Bool, true, false, ◌&&◌, ◌||◌, not, List, [], ◌∷◌, ◌++◌, ◌↔◌, length, get_or, None, IsTrue, inl, inr, sym, ap, subst, ◌∙◌, refl, arith}
+use Rattle.std.proofs.Common.{◌≡◌, ℕ, ◌<◌, Bool, true, false, ◌&&◌, ◌||◌, not, List, [], ◌∷◌, ◌++◌, ◌↔◌, length, IsTrue, inl, inr, sym, ap, subst, ◌∙◌}
 use Rattle.std.proofs.lemmas.Bool.{and_parts, and_from, or_left, or_right, eqb-true, eq-eqb, cases_eq, not-true, not_from_false, false_from_ne_true}
-use Rattle.msc_chart.specs.Charts.{partner, is_output, is_input, IsMatched}
+use Rattle.msc_chart.specs.Charts.{partner, is_output, IsMatched}
 use Rattle.msc_chart.specs.Lists.{occurs}
 use Rattle.msc_chart.proofs.ListLemmas.{by_test, clash, occurs-left, occurs-push, occurs_other}
 use Rattle.msc_picture.proofs.Events.{not_both}

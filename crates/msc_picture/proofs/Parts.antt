@@ -1,14 +1,12 @@
 -- What the code reads of charts and texts.
-use Rattle.std.proofs.Common.{◌≡◌, ℕ, ◌+◌, ◌<◌, Bool, true, false, cond, List, [], ◌∷◌, ◌++◌, length, get_or, take, map, codes, Option, Some, None, All, refl, sym, ap, subst, ◌∙◌, length-append, append_assoc, arith}
-use Rattle.std.proofs.lemmas.Bool.{and_parts, and_from, ltb-true, lt-ltb, true≢false, false≢true}
+use Rattle.std.proofs.Common.{◌≡◌, ℕ, ◌<◌, Bool, true, false, cond, List, [], ◌∷◌, ◌++◌, length, take, map, codes, Some, None, All, refl}
+use Rattle.std.proofs.lemmas.Bool.{and_parts, lt-ltb, true≢false, false≢true}
 use Rattle.std.proofs.lemmas.List.Elements.{All-cons, All-nil}
-use Rattle.std.proofs.lemmas.List.{length-take}
 use Rattle.msc_chart.specs.declared.event.EventKind.{EventKind}
 use Rattle.msc_chart.specs.declared.event.EventKind.TheVariants.{Output, Input, Local}
 use Rattle.msc_chart.specs.Charts.{kind, message, sends, acts, is_output, is_local}
 use Rattle.msc_chart.specs.Drawings.{Drawing, label_of}
 use Rattle.msc_chart.specs.Lists.{Steps}
-use Rattle.msc_picture.specs.declared.scene.Act.{Act}
 use Rattle.msc_picture.specs.declared.scene.Act.TheVariants.{Sends, Takes, Does}
 use Rattle.msc_picture.specs.Columns.{short_text}
 use Rattle.msc_picture.specs.Scenes.{act_by, shown_byte}

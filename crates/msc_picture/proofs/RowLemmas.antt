@@ -1,11 +1,9 @@
 -- What the rows of an order come to.
-use Rattle.std.proofs.Common.{◌≡◌, ℕ, zero, suc, ◌+◌, ◌<◌, ◌≤◌, ◌⊎◌, Bool, true, false, cond, ◌||◌, List, [], ◌∷◌, ◌++◌, length, get_or, take, drop, Option, None, Some, All, eqb, inl, inr, sym, ap, subst, ◌∙◌, refl, append_assoc, arith}
-use Rattle.std.specs.List.{flat_map}
-use Rattle.std.proofs.lemmas.Bool.{and_parts, or_left, or_right, or_cases, eqb-true, cases_lt, cases_eq, false≢true, false_from_ne_true}
+use Rattle.std.proofs.Common.{◌≡◌, ℕ, zero, suc, ◌<◌, ◌⊎◌, true, false, List, [], ◌∷◌, ◌++◌, length, get_or, take, drop, Option, None, Some, All, eqb, inl, inr, sym, ap, subst, ◌∙◌, refl, append_assoc, arith}
+use Rattle.std.proofs.lemmas.Bool.{and_parts, or_cases, eqb-true, cases_lt, cases_eq, false≢true, false_from_ne_true}
 use Rattle.std.proofs.lemmas.List.Elements.{All-cons, All-nil}
-use Rattle.std.proofs.lemmas.Grind.{flat_map-append}
 use Rattle.msc_chart.specs.declared.event.ChartEvent.{ChartEvent}
-use Rattle.msc_chart.specs.Charts.{partner, is_output, Visual, seen, passed, linked, Follows, IsLinearOrder}
+use Rattle.msc_chart.specs.Charts.{is_output, Visual, passed, linked, Follows, IsLinearOrder}
 use Rattle.msc_chart.specs.Lists.{Steps, occurs, until}
 use Rattle.msc_chart.proofs.ListLemmas.{by_test, clash, occurs-left, occurs-right, step_at, until-append, until-within, until-self, Steps-parts}
 use Rattle.msc_picture.specs.declared.scene.Row.{Row}

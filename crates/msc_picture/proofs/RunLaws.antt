@@ -1,8 +1,8 @@
 -- The picture of a run is a run too, with the same lines.
-use Rattle.std.proofs.Common.{◌≡◌, ℕ, zero, suc, ◌+◌, ◌<◌, ◌⊎◌, Bool, true, false, cond, ◌&&◌, ◌||◌, not, List, [], ◌∷◌, ◌++◌, length, get_or, Option, None, Some, eqb, nat_eq, inl, inr, sym, ap, subst, ◌∙◌, refl, append_assoc, IsTrue, arith}
+use Rattle.std.proofs.Common.{◌≡◌, ℕ, zero, suc, ◌+◌, ◌<◌, ◌⊎◌, Bool, true, false, cond, ◌&&◌, ◌||◌, List, [], ◌∷◌, ◌++◌, length, get_or, Option, None, Some, eqb, nat_eq, inl, inr, sym, ap, subst, ◌∙◌, refl, append_assoc, arith}
 use Rattle.std.proofs.lemmas.Bool.{and_parts, and_from, or_left, or_right, or_cases, eqb-true, eq-eqb, lt-ltb, cases_eq, false≢true, false_from_ne_true, not-true, not_from_false}
 use Rattle.std.proofs.lemmas.List.FromFn.{get_or-map-range_with_len}
-use Rattle.msc_chart.specs.Charts.{line, partner, is_output, is_input, is_controlled, before, IsMatched}
+use Rattle.msc_chart.specs.Charts.{line, partner, is_output, is_input, before}
 use Rattle.msc_chart.specs.Lists.{Steps, occurs, until, IsFirst}
 use Rattle.msc_chart.specs.Orders.{WiredChart, IsWired, queue}
 use Rattle.msc_chart.specs.Runs.{Run, IsWhole, MayCome, is_waiting, state}

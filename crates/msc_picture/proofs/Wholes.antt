@@ -1,14 +1,13 @@
 -- A drawing order has all events, and that of a chart keeps the visual order.
-use Rattle.std.proofs.Common.{◌≡◌, ℕ, ◌+◌, ◌<◌, Bool, true, false, ◌||◌, ◌⊎◌, List, [], ◌∷◌, ◌++◌, length, get_or, map, Option, None, inl, inr, sym, ap, subst, ◌∙◌, refl, arith}
+use Rattle.std.proofs.Common.{◌≡◌, ℕ, ◌<◌, true, false, ◌⊎◌, List, [], ◌∷◌, ◌++◌, length, inl, inr, sym, subst, ◌∙◌, arith}
 use Rattle.std.proofs.lemmas.Bool.{and_parts, and_from, or_left, or_right, or_cases, eqb-true, eq-eqb, ltb-true, lt-ltb, false≢true}
 use Rattle.std.proofs.lemmas.List.FromFn.{get_or-map-range_with_len}
-use Rattle.std.specs.List.{range_with_len}
 use Rattle.msc_chart.specs.declared.event.ChartEvent.{ChartEvent}
-use Rattle.msc_chart.specs.Charts.{line, segment, partner, before, is_output, Visual, seen, passed, linked, Follows, IsLinearOrder}
+use Rattle.msc_chart.specs.Charts.{segment, before, Visual, seen, passed, linked, Follows, IsLinearOrder}
 use Rattle.msc_chart.specs.Lists.{Steps, occurs}
-use Rattle.msc_chart.proofs.ListLemmas.{by_test, clash, occurs-left, occurs-push, occurs-append, Steps-map}
+use Rattle.msc_chart.proofs.ListLemmas.{by_test, clash, occurs-left, occurs-append, Steps-map}
 use Rattle.msc_picture.proofs.Events.{before_from, before_parts, output_known}
-use Rattle.msc_picture.specs.Frames.{Frame, level, is_sent_as, is_above, is_queued_before, goes_first, MayFollow, chart_frame, IsDrawnNext, IsDrawingOrder}
+use Rattle.msc_picture.specs.Frames.{Frame, level, is_sent_as, is_above, goes_first, MayFollow, chart_frame, IsDrawnNext, IsDrawingOrder}
 use Rattle.msc_picture.proofs.Following.{sent_from}
 use Rattle.msc_picture.proofs.Drawing.{next_may}
 

@@ -1,11 +1,11 @@
 -- What the code keeps while it draws: which events are drawn, and up to which event it is known that
 -- none holds an event up.
-use Rattle.std.specs.Prelude.{◌≡◌, ℕ, ◌<◌, ◌≤◌, Bool, false, ◌&&◌, ◌||◌, not, List, [], length, get_or, Option, Some, IsTrue}
-use Rattle.msc_chart.specs.Charts.{partner, IsMatched}
+use Rattle.std.specs.Prelude.{◌≡◌, ℕ, ◌<◌, Bool, false, ◌&&◌, ◌||◌, not, List, [], length, get_or, Option, Some, IsTrue}
+use Rattle.msc_chart.specs.Charts.{partner}
 use Rattle.msc_chart.specs.Lists.{occurs, Steps}
 use Rattle.msc_picture.specs.declared.frame.Framed.{Framed}
 use Rattle.msc_picture.specs.declared.ordering.Drawn.{Drawn}
-use Rattle.msc_picture.specs.Frames.{Frame, is_sent_as, is_above, is_queued_before, last_of, MayFollow, Fits, IsDrawnNext}
+use Rattle.msc_picture.specs.Frames.{Frame, is_sent_as, is_above, is_queued_before, last_of, IsDrawnNext}
 
 -- what is drawn, as the code holds it
 abbrev pub frame_of : Framed → Frame

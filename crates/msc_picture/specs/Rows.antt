@@ -1,5 +1,5 @@
 -- The rows of a picture (this project's own).
-use Rattle.std.specs.Prelude.{ℕ, ◌+◌, ◌-◌, ◌<◌, Bool, false, ◌&&◌, ◌||◌, cond, List, [], ◌∷◌, ◌++◌, Option, None, Some, nat_eq, nat_lt, get_or, length, not}
+use Rattle.std.specs.Prelude.{ℕ, ◌+◌, ◌-◌, ◌<◌, Bool, false, ◌&&◌, ◌||◌, cond, List, [], ◌∷◌, Option, None, Some, nat_eq, nat_lt, length, not}
 use Rattle.std.specs.List.{All, flat_map, range_with_len}
 use Rattle.msc_chart.specs.declared.event.ChartEvent.{ChartEvent}
 use Rattle.msc_chart.specs.Charts.{line, segment, partner, is_output}

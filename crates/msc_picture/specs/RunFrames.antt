@@ -1,6 +1,6 @@
 -- What a picture of a run keeps of it (this project's own): the order of each line, and for each queue
 -- the order of its outputs.
-use Rattle.std.specs.Prelude.{◌≡◌, ℕ, ◌+◌, Bool, ◌&&◌, cond, List, [], ◌∷◌, Option, None, Some, length, map, nat_eq}
+use Rattle.std.specs.Prelude.{ℕ, ◌+◌, Bool, ◌&&◌, cond, List, [], ◌∷◌, Option, None, Some, length, map, nat_eq}
 use Rattle.std.specs.List.{range_with_len}
 use Rattle.msc_chart.specs.Charts.{line, is_output}
 use Rattle.msc_chart.specs.Orders.{WiredChart, queue}

@@ -1,5 +1,5 @@
 -- The picture in text (this project's own).
-use Rattle.std.specs.Prelude.{ℕ, ◌+◌, ◌-◌, ◌/◌, Bool, ◌&&◌, ◌||◌, not, cond, max, min, List, [], ◌∷◌, ◌++◌, Option, None, Some, codes, fold, get_or, length, nat_eq, nat_lt, slice_get, slice_set, replicate}
+use Rattle.std.specs.Prelude.{ℕ, ◌+◌, ◌-◌, ◌/◌, Bool, ◌&&◌, ◌||◌, not, cond, max, min, List, [], ◌++◌, Option, None, Some, codes, fold, get_or, length, nat_eq, nat_lt, slice_get, slice_set, replicate}
 use Rattle.std.specs.Fmt.{decimal}
 use Rattle.std.specs.List.{flat_map, list_any, range_with_len}
 use Rattle.msc_picture.specs.declared.columns.Columns.{Columns}

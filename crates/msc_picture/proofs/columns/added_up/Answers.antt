@@ -1,4 +1,4 @@
-use Rattle.std.proofs.Common.{ℕ, List, ◌≡◌, ◌+◌, ◌<◌, ◌++◌, get_or, length, refl, sym, ap, ◌∙◌, arith}
+use Rattle.std.proofs.Common.{ℕ, ◌+◌, get_or, sym, ap, ◌∙◌}
 use Rattle.msc_picture.proofs.Ranges.{fold_next}
 use Rattle.msc_picture.proofs.columns.added_up.Goals as goal
 

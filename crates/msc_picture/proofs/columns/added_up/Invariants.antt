@@ -1,4 +1,4 @@
-use Rattle.std.proofs.Common.{◌≡◌, ℕ, ◌+◌, ◌<◌, ◌∷◌, ◌++◌, [], Bool, false, cond, get_or, length, take, drop, map, filter, fold, max, nat_eq, None}
+use Rattle.std.proofs.Common.{◌≡◌}
 use Rattle.msc_picture.specs.Columns.{added_up}
 use Rattle.msc_picture.proofs.columns.added_up.Given as goal
 

@@ -1,4 +1,4 @@
-use Rattle.std.proofs.Common.{ℕ, List, ◌≡◌, ◌+◌, ◌<◌, ◌++◌, get_or, length, refl, sym, ap, ◌∙◌, arith}
+use Rattle.std.proofs.Common.{ℕ, ◌+◌, ap, ◌∙◌}
 use Rattle.msc_picture.proofs.Ranges.{map_next}
 use Rattle.msc_picture.specs.Columns.{column_after}
 use Rattle.msc_picture.proofs.columns.columns_after.Goals as goal

@@ -1,9 +1,9 @@
 use Rattle.msc_picture.specs.declared.scene.Arrow.{Arrow}
-use Rattle.std.proofs.Common.{ℕ, List, ◌≡◌, ◌+◌, ◌<◌, ◌++◌, get_or, length, refl, sym, ap, ◌∙◌, arith}
+use Rattle.std.proofs.Common.{List, ◌+◌, ap, ◌∙◌, arith}
 use Rattle.msc_picture.proofs.Ranges.{fold_next}
 use Rattle.msc_picture.specs.Columns.{first_gap, widened_by}
 use Rattle.std.proofs.Common.{map}
-use Rattle.std.specs.List.{range_with_len, flat_map, list_any}
+use Rattle.std.specs.List.{range_with_len}
 use Rattle.msc_picture.proofs.columns.gaps_of.Goals as goal
 
 pub loop-k-preserved : goal.loop-k-preserved

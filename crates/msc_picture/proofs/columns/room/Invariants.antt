@@ -1,4 +1,4 @@
-use Rattle.std.proofs.Common.{◌≡◌, ℕ, ◌+◌, ◌<◌, ◌∷◌, ◌++◌, [], Bool, false, cond, get_or, length, take, drop, map, filter, fold, max, nat_eq, None}
+use Rattle.std.proofs.Common.{◌≡◌, take, fold, max}
 use Rattle.msc_picture.specs.Columns.{arrow_room, spot_room}
 use Rattle.msc_picture.proofs.columns.room.Given as goal
 

@@ -1,4 +1,4 @@
-use Rattle.std.proofs.Common.{◌≡◌, ℕ, ◌+◌, ◌<◌, ◌∷◌, ◌++◌, [], Bool, false, cond, get_or, length, take, drop, map, filter, fold, max, nat_eq, None}
+use Rattle.std.proofs.Common.{◌≡◌, take}
 use Rattle.msc_picture.specs.Columns.{widened_by}
 use Rattle.msc_picture.proofs.columns.widen_by.Given as goal
 

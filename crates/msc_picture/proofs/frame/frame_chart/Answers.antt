@@ -1,4 +1,4 @@
-use Rattle.std.proofs.Common.{List, ℕ, length, ap, sym, ◌∙◌, arith}
+use Rattle.std.proofs.Common.{List, ℕ, length, ap, ◌∙◌, arith}
 use Rattle.std.proofs.lemmas.List.FromFn.{length-map-range_with_len}
 use Rattle.msc_chart.specs.Charts.{segment}
 use Rattle.msc_picture.proofs.Ranges.{map_next}

@@ -1,4 +1,4 @@
-use Rattle.std.proofs.Common.{ℕ, List, ◌≡◌, ◌+◌, ◌<◌, ◌++◌, get_or, length, refl, sym, ap, ◌∙◌, arith}
+use Rattle.std.proofs.Common.{◌++◌, ap, ◌∙◌, arith}
 use Rattle.msc_picture.proofs.Ranges.{filter_next}
 use Rattle.std.proofs.Common.{Bool, false, cond, [], ◌∷◌}
 use Rattle.std.proofs.lemmas.List.{get_or_default}

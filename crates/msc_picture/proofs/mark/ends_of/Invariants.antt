@@ -1,5 +1,5 @@
-use Rattle.std.proofs.Common.{◌≡◌, ℕ, ◌+◌, ◌<◌, ◌∷◌, ◌++◌, [], Bool, false, cond, get_or, length, take, drop, map, filter, fold, max, nat_eq, None}
-use Rattle.std.specs.List.{range_with_len, flat_map, list_any}
+use Rattle.std.proofs.Common.{◌≡◌, filter}
+use Rattle.std.specs.List.{range_with_len}
 use Rattle.msc_picture.specs.Marks.{is_end_of}
 use Rattle.msc_picture.proofs.mark.ends_of.Given as goal
 

@@ -1,4 +1,4 @@
-use Rattle.std.proofs.Common.{◌≡◌, ℕ, ◌+◌, ◌<◌, ◌∷◌, ◌++◌, [], Bool, false, cond, get_or, length, take, drop, map, filter, fold, max, nat_eq, None}
+use Rattle.std.proofs.Common.{◌≡◌, drop}
 use Rattle.msc_picture.specs.Rows.{reach_from, reach_of}
 use Rattle.msc_picture.specs.Marks.{is_from, IsWithin}
 use Rattle.msc_picture.proofs.mark.reach.Given as goal

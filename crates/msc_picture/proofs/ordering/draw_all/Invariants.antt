@@ -1,4 +1,4 @@
-use Rattle.std.proofs.Common.{ℕ, true, length}
+use Rattle.std.proofs.Common.{true, length}
 use Rattle.msc_chart.proofs.Left.{is_left}
 use Rattle.msc_chart.proofs.Numbers.{count_below}
 use Rattle.msc_picture.specs.Drawn.{HoldsSettled}

@@ -1,4 +1,4 @@
-use Rattle.std.proofs.Common.{◌≡◌, ℕ, ◌+◌, ◌<◌, ◌∷◌, ◌++◌, [], Bool, false, cond, get_or, length, take, drop, map, filter, fold, max, nat_eq, None}
+use Rattle.std.proofs.Common.{◌≡◌, take, map}
 use Rattle.msc_picture.specs.Scenes.{head_of}
 use Rattle.msc_picture.proofs.part.heads_of.Given as goal
 

@@ -1,5 +1,5 @@
-use Rattle.std.proofs.Common.{◌≡◌, ℕ, ◌+◌, ◌<◌, ◌∷◌, ◌++◌, [], Bool, false, cond, get_or, length, take, drop, map, filter, fold, max, nat_eq, None}
-use Rattle.std.specs.List.{range_with_len, flat_map, list_any}
+use Rattle.std.proofs.Common.{◌≡◌, ◌++◌, drop}
+use Rattle.std.specs.List.{flat_map}
 use Rattle.msc_picture.specs.Scenes.{kind_text, next_name}
 use Rattle.msc_picture.proofs.part.kind_of.Given as goal
 

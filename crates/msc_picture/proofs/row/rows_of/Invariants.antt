@@ -1,4 +1,4 @@
-use Rattle.std.proofs.Common.{◌≡◌, ℕ, ◌+◌, ◌<◌, ◌∷◌, ◌++◌, [], Bool, false, cond, get_or, length, take, drop, map, filter, fold, max, nat_eq, None}
+use Rattle.std.proofs.Common.{◌≡◌, ◌++◌, length, drop}
 use Rattle.msc_picture.specs.Rows.{rows_after, rows_of, AreKnownRows, IsNoneOrBelow}
 use Rattle.msc_picture.proofs.row.rows_of.Given as goal
 

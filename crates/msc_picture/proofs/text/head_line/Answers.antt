@@ -1,4 +1,4 @@
-use Rattle.std.proofs.Common.{ℕ, List, ◌≡◌, ◌+◌, ◌<◌, ◌++◌, get_or, length, refl, sym, ap, ◌∙◌, arith}
+use Rattle.std.proofs.Common.{arith}
 use Rattle.msc_picture.proofs.Ranges.{fold_next}
 use Rattle.std.proofs.Common.{[]}
 use Rattle.msc_picture.specs.Texts.{with_name}

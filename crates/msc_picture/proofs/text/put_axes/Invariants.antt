@@ -1,4 +1,4 @@
-use Rattle.std.proofs.Common.{◌≡◌, ℕ, ◌+◌, ◌<◌, ◌∷◌, ◌++◌, [], Bool, false, cond, get_or, length, take, drop, map, filter, fold, max, nat_eq, None}
+use Rattle.std.proofs.Common.{◌≡◌, take, fold}
 use Rattle.msc_picture.specs.Texts.{with_axis}
 use Rattle.msc_picture.proofs.text.put_axes.Given as goal
 

@@ -1,8 +1,7 @@
-use Rattle.std.proofs.Common.{ℕ, List, ◌≡◌, ◌+◌, ◌<◌, ◌++◌, get_or, length, refl, sym, ap, ◌∙◌, arith}
+use Rattle.std.proofs.Common.{ℕ, List, get_or, ap, arith}
 use Rattle.msc_picture.proofs.Ranges.{fold_next}
 use Rattle.msc_picture.specs.Texts.{with_byte}
 use Rattle.msc_picture.proofs.Lines.{byte_over}
-use Rattle.std.proofs.lemmas.List.{get_or_read}
 use Rattle.msc_picture.proofs.text.put_piece.Goals as goal
 
 pub loop-k-preserved : goal.loop-k-preserved

@@ -1,5 +1,5 @@
-use Rattle.std.proofs.Common.{◌≡◌, ℕ, ◌+◌, ◌<◌, ◌∷◌, ◌++◌, [], Bool, false, cond, get_or, length, take, drop, map, filter, fold, max, nat_eq, slice_get, None}
-use Rattle.std.specs.List.{range_with_len, flat_map, list_any}
+use Rattle.std.proofs.Common.{◌≡◌, ◌++◌, slice_get}
+use Rattle.std.specs.List.{range_with_len, flat_map}
 use Rattle.msc_picture.specs.Texts.{line_at}
 use Rattle.msc_picture.proofs.text.put_rows.Given as goal
 

@@ -1,4 +1,3 @@
-use Rattle.std.proofs.Common.{rules}
 use Rattle.msc_picture.proofs.ordering.Drawn.answers.Goals as goal
 
 pub is_sent_as-requires : goal.is_sent_as-requires

@@ -1,6 +1,5 @@
-use Rattle.std.proofs.Common.{ℕ, ◌≡◌, Bool, true, false, ◌↔◌, IsTrue, sym, ap, subst, ◌∙◌}
+use Rattle.std.proofs.Common.{ℕ, ◌↔◌, IsTrue, sym, ap, subst, ◌∙◌}
 use Rattle.std.proofs.lemmas.Bool.{false≢true}
-use Rattle.msc_chart.specs.Charts.{partner}
 use Rattle.msc_chart.specs.Lists.{occurs}
 use Rattle.msc_chart.proofs.ListLemmas.{clash}
 use Rattle.msc_picture.specs.Drawn.{frame_of, IsClear}
