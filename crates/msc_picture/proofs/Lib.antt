@@ -7,6 +7,9 @@ mod Parts
 mod Lines
 mod RunWitness
 mod RowLemmas
+mod RunOrder
 mod RunLaws
+mod Reaching
+mod Standing
 mod MarkLemmas
 mod BandLemmas

@@ -5,6 +5,7 @@ pub mod Rows
 pub mod Marks
 pub mod Scenes
 pub mod Columns
+pub mod Pieces
 pub mod Texts
 pub mod Laws
 -- what the code keeps

@@ -2,9 +2,9 @@
 
 ghost use Rattle.std.specs.Prelude.{◌≡◌, ◌<◌, ◌≤◌, ◌+◌, ◌-◌, ◌++◌, IfOk, codes, length, replicate};
 ghost use Rattle.std.specs.Prelude.{slice_get};
-ghost use Rattle.msc_picture.specs.Texts.{action_piece, arrow_piece, both_piece, dashed, drawn_by};
-ghost use Rattle.msc_picture.specs.Texts.{ends_of, from_column, input_piece, message_piece};
-ghost use Rattle.msc_picture.specs.Texts.{no_piece, output_piece, row_piece, up_to_column};
+ghost use Rattle.msc_picture.specs.Pieces.{action_piece, arrow_piece, both_piece, dashed, drawn_by};
+ghost use Rattle.msc_picture.specs.Pieces.{ends_of, from_column, input_piece, message_piece};
+ghost use Rattle.msc_picture.specs.Pieces.{no_piece, output_piece, row_piece, up_to_column};
 
 use crate::columns::{Columns, SHOWN, plus};
 use crate::scene::{Act, Arrow, Row, Scene};
