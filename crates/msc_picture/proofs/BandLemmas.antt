@@ -1,7 +1,6 @@
 -- What bands have of the segments that they are made of.
-use Rattle.std.proofs.Common.{◌≡◌, ℕ, zero, suc, ◌+◌, ◌<◌, ◌≤◌, ◌⊎◌, Bool, true, false, cond, List, [], ◌∷◌, ◌++◌, length, Option, None, Some, eqb, inl, inr, sym, ap, subst, ◌∙◌, refl, arith}
+use Rattle.std.proofs.Common.{◌≡◌, ℕ, zero, suc, ◌+◌, ◌<◌, ◌≤◌, ◌⊎◌, Bool, true, false, cond, List, [], length, Option, None, Some, eqb, inl, inr, sym, subst, ◌∙◌, refl, arith}
 use Rattle.std.specs.Prelude.{slice_get}
-use Rattle.std.specs.List.{flat_map, range_with_len}
 use Rattle.std.proofs.lemmas.Bool.{cases_lt, eq-eqb, false≢true, or_left, or_right}
 use Rattle.msc_chart.specs.declared.event.ChartEvent.{ChartEvent}
 use Rattle.msc_chart.specs.Charts.{before, line, segment, seen, IsLinearOrder}
@@ -10,7 +9,7 @@ use Rattle.msc_chart.proofs.ListLemmas.{by_test, clash}
 use Rattle.msc_picture.specs.declared.scene.Band.{Band}
 use Rattle.msc_picture.specs.declared.scene.Row.{Row}
 use Rattle.msc_picture.specs.Laws.{as_list, row_events, HasItsOtherEnd, HasOfSegment, IsBandOf, IsInRow}
-use Rattle.msc_picture.specs.Rows.{band_at, band_over, bands_of, begins_band, grown, reach_from, reach_of, row_of_one, row_passes, rows_of, second_passes, share_segment}
+use Rattle.msc_picture.specs.Rows.{band_at, band_over, bands_of, begins_band, reach_of, row_of_one, row_passes, rows_of, second_passes, share_segment}
 use Rattle.msc_picture.proofs.Events.{before_from}
 use Rattle.msc_picture.proofs.MarkLemmas.{share_from, share_parts}
 use Rattle.msc_picture.proofs.RowLemmas.{keep_visual, row_known}

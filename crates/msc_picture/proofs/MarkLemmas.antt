@@ -1,19 +1,18 @@
 -- What marks have of the races that they are made of.
-use Rattle.std.proofs.Common.{◌≡◌, ℕ, zero, suc, ◌+◌, ◌-◌, ◌<◌, ◌≤◌, Bool, true, false, cond, ◌&&◌, ◌||◌, List, [], ◌∷◌, ◌++◌, length, get_or, filter, Option, None, Some, eqb, nat_lt, inl, inr, sym, ap, subst, ◌∙◌, refl, arith}
-use Rattle.std.specs.Prelude.{slice_get}
-use Rattle.std.specs.List.{flat_map, list_any, range_with_len}
-use Rattle.std.proofs.lemmas.Bool.{and_parts, and_from, or_left, or_right, or_cases, eqb-true, eq-eqb, ltb-true, cases_eq, false≢true, false_from_ne_true, not_from_false}
+use Rattle.std.proofs.Common.{◌≡◌, ℕ, ◌+◌, ◌-◌, ◌<◌, ◌≤◌, Bool, true, false, cond, ◌&&◌, List, [], length, get_or, Option, None, Some, eqb, nat_lt, inl, inr, sym, subst, ◌∙◌, refl, arith}
+use Rattle.std.specs.List.{range_with_len}
+use Rattle.std.proofs.lemmas.Bool.{and_parts, and_from, eqb-true, eq-eqb, ltb-true, false_from_ne_true, not_from_false}
 use Rattle.msc_chart.specs.declared.event.ChartEvent.{ChartEvent}
 use Rattle.msc_chart.specs.Charts.{line, segment}
 use Rattle.msc_chart.specs.Lists.{occurs, Occurs, StandsAt}
-use Rattle.msc_chart.proofs.ListLemmas.{by_test, clash}
+use Rattle.msc_chart.proofs.ListLemmas.{clash}
 use Rattle.msc_chart.proofs.Numbers.{find_below}
 use Rattle.msc_picture.specs.declared.scene.Mark.{Mark}
 use Rattle.msc_picture.specs.Laws.{MarksRace, IsEndOf}
 use Rattle.std.proofs.lemmas.Option.{slice_get-get_or}
 use Rattle.msc_picture.proofs.Events.{before_parts}
 use Rattle.msc_picture.specs.Marks.{AreDrawnPairs, AreEventPairs, is_from, end_of, is_end_of, ends_of, mark_over, mark_at, marks_of}
-use Rattle.msc_picture.specs.Rows.{share_segment, begins_segment, grown, reach_from, reach_of}
+use Rattle.msc_picture.specs.Rows.{share_segment, begins_segment, reach_of}
 use Rattle.msc_picture.proofs.Reaching.{Reaches, Begins, reach_has}
 use Rattle.msc_picture.proofs.Standing.{stands, stands_flat, kept, kept_passes, any_there, any_where}
 

@@ -1,14 +1,14 @@
 -- The picture of a run is a run too, with the same lines.
-use Rattle.std.proofs.Common.{◌≡◌, ℕ, zero, suc, ◌+◌, ◌<◌, ◌⊎◌, Bool, true, false, cond, ◌&&◌, ◌||◌, List, [], ◌∷◌, ◌++◌, length, get_or, Option, None, Some, eqb, nat_eq, inl, inr, sym, ap, subst, ◌∙◌, refl, append_assoc, arith}
-use Rattle.std.proofs.lemmas.Bool.{and_parts, and_from, or_left, or_right, or_cases, eqb-true, eq-eqb, lt-ltb, cases_eq, false≢true, false_from_ne_true, not-true, not_from_false}
+use Rattle.std.proofs.Common.{◌≡◌, ℕ, zero, suc, ◌+◌, ◌<◌, Bool, true, false, ◌&&◌, ◌||◌, List, [], ◌∷◌, ◌++◌, length, get_or, Option, None, Some, nat_eq, inl, inr, sym, ap, subst, ◌∙◌, refl, append_assoc, arith}
+use Rattle.std.proofs.lemmas.Bool.{and_parts, and_from, or_left, or_right, eqb-true, eq-eqb, lt-ltb, cases_eq, not-true, not_from_false}
 use Rattle.std.proofs.lemmas.List.FromFn.{get_or-map-range_with_len}
 use Rattle.msc_chart.specs.Charts.{line, partner, is_output, is_input, before}
 use Rattle.msc_chart.specs.Lists.{Steps, occurs, until, IsFirst}
 use Rattle.msc_chart.specs.Orders.{WiredChart, IsWired, queue}
 use Rattle.msc_chart.specs.Runs.{Run, IsWhole, MayCome, is_waiting, state}
-use Rattle.msc_chart.proofs.ListLemmas.{by_test, clash, step_at, parts, until-append, until-within, until-self, filter-first, first_occurs, before_first_fails, occurs-left, occurs-push, Steps-map}
+use Rattle.msc_chart.proofs.ListLemmas.{by_test, clash, step_at, parts, until-append, until-self, filter-first, first_occurs, before_first_fails, Steps-map}
 use Rattle.msc_picture.specs.Frames.{Frame, level, is_some, is_sent_as, is_above, is_queued_before, goes_first, MayFollow, IsDrawnNext, IsDrawingOrder}
-use Rattle.msc_picture.specs.RunFrames.{place_of, are_queued, queued_from, queued_before, run_frame}
+use Rattle.msc_picture.specs.RunFrames.{place_of, are_queued, queued_before, run_frame}
 use Rattle.msc_picture.specs.Laws.{KeepsLinesOf}
 use Rattle.msc_picture.proofs.Drawing.{next_may}
 use Rattle.msc_picture.proofs.Events.{before_parts, output_known}

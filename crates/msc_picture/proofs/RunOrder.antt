@@ -1,5 +1,5 @@
 -- In which order the events of a run and the outputs of its queues stand.
-use Rattle.std.proofs.Common.{◌≡◌, ℕ, ◌+◌, ◌<◌, ◌⊎◌, Bool, true, false, cond, ◌||◌, List, [], ◌∷◌, ◌++◌, Option, None, Some, eqb, inl, inr, sym, ap, subst, ◌∙◌, refl, arith}
+use Rattle.std.proofs.Common.{◌≡◌, ℕ, ◌<◌, ◌⊎◌, true, false, cond, ◌||◌, List, [], ◌∷◌, ◌++◌, Option, Some, eqb, inl, inr, sym, ap, subst, ◌∙◌, refl, arith}
 use Rattle.std.proofs.lemmas.Bool.{or_left, or_right, or_cases, eqb-true, eq-eqb, false≢true, false_from_ne_true}
 use Rattle.msc_chart.specs.Lists.{Steps, occurs, until}
 use Rattle.msc_chart.specs.Orders.{WiredChart}
