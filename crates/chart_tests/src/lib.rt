@@ -19,11 +19,17 @@ mod grammar;
 #[cfg(test)]
 mod host;
 #[cfg(test)]
+mod notes;
+#[cfg(test)]
 mod orders;
+#[cfg(test)]
+mod positions;
 #[cfg(test)]
 mod races;
 #[cfg(test)]
 mod reasons;
+#[cfg(test)]
+mod rings;
 #[cfg(test)]
 mod runs;
 #[cfg(test)]

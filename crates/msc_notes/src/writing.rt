@@ -1,0 +1,145 @@
+//! Places and notes as they are printed.
+
+ghost use Rattle.std.specs.Prelude.{◌≡◌, map, OnOk};
+ghost use Rattle.std.specs.Io.KnownBytes.{Appends};
+ghost use Rattle.msc_notes.specs.Texts.{note_words, pair_line, place_text, shown_byte};
+
+use crate::note::{Note, Tag, Told};
+use msc_place::{Lines, Position};
+use std::io;
+use std::io::Write;
+
+/// What is shown for a byte of a file's name: `?` for one that can't be printed.
+fn shown(byte: u8) -> u8
+    ensures { result ≡ shown_byte byte }
+{
+    if byte < 32 || byte == 127 { b'?' } else { byte }
+}
+
+/// Writes the name of a file.
+fn write_file<W: Write>(writer: &mut W, file: &[u8]) -> io::Result<()>
+    ensures { OnOk result (Appends (W.contents writer.old) (W.contents writer.new)
+        (map shown_byte file.now)) }
+{
+    for byte in file {
+        writer.write_all(&[shown(*byte)])?;
+    }
+    Ok(())
+}
+
+/// Writes a place: the file's name, the line and the column.
+pub fn write_place<W: Write>(writer: &mut W, file: &[u8], position: Position) -> io::Result<()>
+    ensures { OnOk result (Appends (W.contents writer.old) (W.contents writer.new)
+        (place_text file.now position.line position.column)) }
+{
+    write_file(writer, file)?;
+    write!(writer, ":{}:{}", position.line, position.column)
+}
+
+/// Writes the line of the places of two events.
+pub fn write_pair<W: Write>(
+    writer: &mut W,
+    file: &[u8],
+    first: Position,
+    second: Position,
+) -> io::Result<()>
+    ensures { OnOk result (Appends (W.contents writer.old) (W.contents writer.new)
+        (pair_line file.now first second)) }
+{
+    writer.write_all(b"at ")?;
+    write_place(writer, file, first)?;
+    writer.write_all(b" ")?;
+    write_place(writer, file, second)?;
+    writer.write_all(b"\n")
+}
+
+/// The position of a place; one past the text is its end.
+fn position_of(lines: &Lines, at: usize) -> Position {
+    lines.position(at.min(lines.text().len()))
+}
+
+/// Writes the words of a note: the first, and its text.
+fn write_words<W: Write>(writer: &mut W, note: &Note) -> io::Result<()>
+    ensures { OnOk result (Appends (W.contents writer.old) (W.contents writer.new)
+        (note_words note.now)) }
+{
+    writer.write_all(note.tag.word().as_bytes())?;
+    if !note.text.as_slice().is_empty() {
+        writer.write_all(b" ")?;
+        writer.write_all(note.text.as_slice())?;
+    }
+    Ok(())
+}
+
+/// Writes a note: its line, and the line of its two places where it has such.
+pub fn write_note<W: Write>(
+    writer: &mut W,
+    file: &[u8],
+    lines: &Lines,
+    note: &Note,
+) -> io::Result<()> {
+    write_words(writer, note)?;
+    if let Some(at) = note.place {
+        writer.write_all(b" ")?;
+        write_place(writer, file, position_of(lines, at))?;
+    }
+    writer.write_all(b"\n")?;
+    match note.pair {
+        Some((first, second)) => {
+            let second = position_of(lines, second);
+            write_pair(writer, file, position_of(lines, first), second)
+        }
+        None => Ok(()),
+    }
+}
+
+/// Where a note stands by itself: at its own place, at the first of its two, or at that of its fault;
+/// of a fault without a place at the beginning of the text.
+fn stands_at(note: &Note, fault: Option<usize>) -> usize {
+    match (note.place, note.pair, fault) {
+        (Some(at), _, _) => at,
+        (None, Some((first, _)), _) => first,
+        (None, None, Some(at)) => at,
+        (None, None, None) => 0,
+    }
+}
+
+/// Writes a note as a line by itself, for editors: its place, that it is a note, and its words. The
+/// fault stands at the place that is given, if it has one.
+pub fn write_note_line<W: Write>(
+    writer: &mut W,
+    file: &[u8],
+    lines: &Lines,
+    note: &Note,
+    fault: Option<usize>,
+) -> io::Result<()> {
+    write_place(writer, file, position_of(lines, stands_at(note, fault)))?;
+    writer.write_all(b": note: ")?;
+    match note.tag {
+        Tag::Behind => writer.write_all(b"what stands before ends here")?,
+        Tag::First => writer.write_all(b"the first one stands here")?,
+        _ => write_words(writer, note)?,
+    }
+    writer.write_all(b"\n")
+}
+
+/// Writes what is said of a fault, behind its line: its place and the line of that, as
+/// [`msc_place::excerpt`] makes it, or none, where it has a place; and then its notes.
+pub fn write_told<W: Write>(
+    writer: &mut W,
+    file: &[u8],
+    lines: &Lines,
+    told: &Told,
+    excerpt: &[u8],
+) -> io::Result<()> {
+    if let Some(at) = told.place {
+        writer.write_all(b"at ")?;
+        write_place(writer, file, position_of(lines, at))?;
+        writer.write_all(b"\n")?;
+        writer.write_all(excerpt)?;
+    }
+    for note in told.notes.as_slice() {
+        write_note(writer, file, lines, note)?;
+    }
+    Ok(())
+}

@@ -1,0 +1,5 @@
+-- what is promised
+pub mod Rings
+-- what the code keeps
+pub mod Searching
+pub mod Walking
