@@ -1,7 +1,7 @@
 //! The program `msc`.
 #![tactic(auto)]
 
-use msc_command::{command, refuse_words};
+use msc_command::{Recorded, command, refuse_words};
 use std::process::ExitCode;
 use std::{env, io};
 
@@ -12,7 +12,8 @@ fn words(rt: &HostRuntime) -> io::Result<Vec<String>> {
 
 fn main(rt: HostRuntime) -> ExitCode {
     let alloc = rt.alloc();
-    let (mut input, mut output, mut faults) = (rt.stdin(), rt.stdout(), rt.stderr());
+    let (mut input, mut faults) = (rt.stdin(), rt.stderr());
+    let mut output = Recorded::new(rt.stdout());
     ExitCode::from(match words(&rt) {
         Ok(words) => command(&rt, alloc, words, &mut input, &mut output, &mut faults),
         Err(error) => refuse_words(&mut faults, &error),

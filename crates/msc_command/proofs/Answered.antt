@@ -9,15 +9,15 @@ use Rattle.msc_ending.specs.declared.fault.RunFault.TheVariants as runs
 use Rattle.msc_judge.specs.Pages as pages
 use Rattle.msc_judge.specs.declared.page.WriteFault.{WriteFault}
 use Rattle.msc_judge.specs.declared.page.WriteFault.TheVariants as writing
-use Rattle.msc_judge.specs.declared.question.Question.{Question}
 use Rattle.msc_report.specs.declared.fault.Fault.TheVariants.{Parse, Chart, NotStarted, Memory, Device}
 use Rattle.msc_report.specs.Refusals.{of_reading, of_run, of_source, of_writing}
 use Rattle.msc_source.specs.Reading as reading
-use Rattle.msc_source.specs.Texts.{IsChartOf}
+use Rattle.msc_source.specs.Texts.{IsChartOf, source_text, SourceText}
 use Rattle.msc_source.specs.declared.fault.ReadFault.{ReadFault}
 use Rattle.msc_source.specs.declared.fault.ReadFault.TheVariants as readings
 use Rattle.msc_source.specs.declared.fault.SourceFault.{SourceFault}
 use Rattle.msc_source.specs.declared.fault.SourceFault.TheVariants as sources
+use Rattle.msc_source.specs.declared.language.Language.{Language}
 use Rattle.msc_source.specs.declared.language.Language.TheVariants.{MscPr}
 use Rattle.msc_text.specs.Judging.{JudgesChart}
 use Rattle.msc_text.specs.declared.judging.Format.{Format}
@@ -26,10 +26,10 @@ use Rattle.msc_command.specs.declared.ending.Refusal.TheVariants as refusals
 use Rattle.msc_command.specs.declared.ending.Status.{Status}
 use Rattle.msc_command.specs.declared.tasks.Ask.{Ask}
 use Rattle.msc_command.specs.declared.tasks.Ask.TheVariants as asks
-use Rattle.msc_command.specs.declared.tasks.Form.{Form}
+use Rattle.msc_command.specs.declared.tasks.Checking.{Checking}
 use Rattle.msc_command.specs.declared.tasks.Task.{Task}
 use Rattle.msc_command.specs.declared.tasks.Task.TheVariants as tasks
-use Rattle.msc_command.specs.Answering.{Answers, AnswersOf, Does, IsPut, Performs, Prints, PrintsOf, Refuses, RefusesOf}
+use Rattle.msc_command.specs.Answering.{Answers, AnswersOf, Does, EndsAs, IsPut, Performs, Prints, PrintsOf, Refuses, RefusesOf}
 use Rattle.msc_command.specs.Ending.{ended_by}
 use Rattle.msc_command.specs.Formats.{IsFormat}
 
@@ -66,26 +66,26 @@ module _ {W : Type 0} (contents : W → Option (List ℕ)) where
   put_so prints refuses bytes status says (Ok s) old new (same, wrote) = (bytes, subst (λ (s : Status). prints s bytes) (sym same) says, wrote)
   put_so prints refuses bytes status says (Err r) old new is = rw is tt
 
-  module _ (queues : Queues) (q : Question) (form : Form) (file : List ℕ) (format : Format) (its : IsFormat form file format) (d : Drawing) where
+  module _ (c : Checking) (file : List ℕ) (format : Format) (s : SourceText) (its : IsFormat c file s.text format) where
     -- what was judged of a chart was answered of it
-    pub judged : (passed : Bool) (old new : W) → pages.Tells contents (JudgesChart d queues q format) (Ok passed) old new
-        → AnswersOf contents (asks.Check queues q form) file d (Ok (ended_by passed)) old new
+    pub judged : (passed : Bool) (old new : W) → pages.Tells contents (JudgesChart s.chart c.queues c.question format) (Ok passed) old new
+        → AnswersOf contents (asks.Check c) file s (Ok (ended_by passed)) old new
     judged passed old new (printed, says, wrote) = (printed, (format, its, passed, refl, says), wrote)
 
     -- and so it was where it was not written to its end
-    pub not_judged : (f : WriteFault) (old new : W) → pages.Tells contents (JudgesChart d queues q format) (Err f) old new
-        → AnswersOf contents (asks.Check queues q form) file d (Err (refusals.Fault (of_writing f))) old new
+    pub not_judged : (f : WriteFault) (old new : W) → pages.Tells contents (JudgesChart s.chart c.queues c.question format) (Err f) old new
+        → AnswersOf contents (asks.Check c) file s (Err (refusals.Fault (of_writing f))) old new
     not_judged writing.Memory old new (inl same) = inl same
     not_judged writing.Memory old new (inr (passed, printed, says, begun)) =
         inr (ended_by passed, printed, (format, its, passed, refl, says), begun)
     not_judged writing.Device old new said = tt
 
   -- a chart that was not run is answered so
-  pub not_run : (queues : Queues) (patience : ℕ) (file : List ℕ) (d : Drawing) (f : RunFault) (now : W)
-      → ((i : ℕ) → f ≡ runs.NotStarted i → i < length d.instances)
-      → AnswersOf contents (asks.Run queues patience) file d (Err (refusals.Fault (of_run f))) now now
-  not_run queues patience file d (runs.NotStarted i) now known = (known i refl, refl)
-  not_run queues patience file d runs.Memory now known = inl refl
+  pub not_run : (queues : Queues) (patience : ℕ) (file : List ℕ) (s : SourceText) (f : RunFault) (now : W)
+      → ((i : ℕ) → f ≡ runs.NotStarted i → i < length s.chart.instances)
+      → AnswersOf contents (asks.Run queues patience) file s (Err (refusals.Fault (of_run f))) now now
+  not_run queues patience file s (runs.NotStarted i) now known = (known i refl, refl)
+  not_run queues patience file s runs.Memory now known = inl refl
 
   module _ (file text : List ℕ) where
     -- a text without a draft is refused
@@ -109,7 +109,7 @@ module _ {W : Type 0} (contents : W → Option (List ℕ)) where
     not_written writing.Device old new same = tt
 
     -- what is refused of a chart is refused of its text
-    refuses_so : (d : Drawing) → IsChartOf text d → (ask : Ask) (r : Refusal) → RefusesOf ask d r → Refuses (tasks.Chart ask) text r
+    refuses_so : (d : Drawing) → IsChartOf text d → (ask : Ask) (r : Refusal) → RefusesOf ask (source_text MscPr text d) r → Refuses (tasks.Chart ask) text r
     refuses_so d of_text ask (refusals.Fault (Parse f)) fails = absurd fails
     refuses_so d of_text ask (refusals.Fault (Chart f)) fails = absurd fails
     refuses_so d of_text ask (refusals.Fault (NotStarted i)) fails = (d, of_text, fails)
@@ -118,11 +118,23 @@ module _ {W : Type 0} (contents : W → Option (List ℕ)) where
     refuses_so d of_text ask (refusals.Pair f) fails = (d, of_text, fails)
 
     -- what was answered of a chart was answered of its text
-    pub charted : (d : Drawing) → IsChartOf text d → (ask : Ask) (answer : Result Status Refusal) (old new : W)
-        → AnswersOf contents ask file d answer old new → Does contents (tasks.Chart ask) file text answer old new
-    charted d of_text ask answer old new said =
-        answers_so (PrintsOf ask file d) (Prints (tasks.Chart ask) file text) (RefusesOf ask d) (Refuses (tasks.Chart ask) text)
+    charted_at : (d : Drawing) → IsChartOf text d → (ask : Ask) (answer : Result Status Refusal) (old new : W)
+        → AnswersOf contents ask file (source_text MscPr text d) answer old new → Does contents (tasks.Chart ask) file text answer old new
+    charted_at d of_text ask answer old new said =
+        answers_so (PrintsOf ask file (source_text MscPr text d)) (Prints (tasks.Chart ask) file text)
+        (RefusesOf ask (source_text MscPr text d)) (Refuses (tasks.Chart ask) text)
         (λ status printed says. (d, of_text, says)) (refuses_so d of_text ask) answer old new said
+
+    -- the same of a source of the text
+    pub charted : (s : SourceText) → s.language ≡ MscPr → s.text ≡ text → IsChartOf text s.chart
+        → (ask : Ask) (answer : Result Status Refusal) (old new : W)
+        → AnswersOf contents ask file s answer old new → Does contents (tasks.Chart ask) file text answer old new
+    charted s language_is text_is of_text ask answer old new said =
+        let same : s ≡ source_text MscPr text s.chart =
+        subst (λ (l : Language). s ≡ source_text l text s.chart) language_is
+        (subst (λ (t : List ℕ). s ≡ source_text s.language t s.chart) text_is refl) in
+        charted_at s.chart of_text ask answer old new
+        (subst (λ (s' : SourceText). AnswersOf contents ask file s' answer old new) same said)
 
   -- an answer that went out is kept by a flush
   pub flushed : (task : Task) (file text : List ℕ) (status : Status) (old mid new : W)
@@ -137,7 +149,13 @@ module _ {W : Type 0} (contents : W → Option (List ℕ)) where
   unread task file reads (readings.Device e) now = inr (tt, refl)
 
   -- a task that was performed was so for texts of which less is known
-  pub performs_so : (task : Task) (file : List ℕ) (reads so : List ℕ → Type 0) (answer : Result Status Refusal) (old new : W)
+  performs_so : (task : Task) (file : List ℕ) (reads so : List ℕ → Type 0) (answer : Result Status Refusal) (old new : W)
       → ((text : List ℕ) → reads text → so text) → Performs contents task file reads answer old new → Performs contents task file so answer old new
   performs_so task file reads so answer old new less (inl (text, read, does)) = inl (text, less text read, does)
   performs_so task file reads so answer old new less (inr unread) = inr unread
+
+  -- and ends so
+  pub ends_so : (task : Task) (file : List ℕ) (reads so : List ℕ → Type 0) (status : Status) (old new : W)
+      → ((text : List ℕ) → reads text → so text) → EndsAs contents task file reads status old new → EndsAs contents task file so status old new
+  ends_so task file reads so status old new less (answer, is, performed) =
+      (answer, is, performs_so task file reads so answer old new less performed)

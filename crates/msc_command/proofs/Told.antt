@@ -9,9 +9,9 @@ use Rattle.msc_command.specs.declared.ending.Status.TheVariants.{Done, Races, Re
 use Rattle.msc_command.specs.declared.tasks.Ask.TheVariants as asks
 use Rattle.msc_command.specs.declared.tasks.Task.{Task}
 use Rattle.msc_command.specs.declared.tasks.Task.TheVariants as tasks
-use Rattle.msc_command.specs.Answering.{Performs, Prints}
+use Rattle.msc_command.specs.Answering.{ends_with, Performs, Prints}
 use Rattle.msc_command.specs.Ending.{ended_by, finished_by, status_code}
-use Rattle.msc_command.specs.Program.{ends_with, Obeys, Tells, TellsAnswer}
+use Rattle.msc_command.specs.Program.{Obeys, Tells, TellsAnswer}
 
 -- no run that tells whether something holds ends as refused
 never_ended : (holds : Bool) → Refused ≡ ended_by holds → ⊥
@@ -26,10 +26,11 @@ never_finished false same = cc
 -- so nothing that is printed for a task is
 never_printed : (task : Task) (file text printed : List ℕ) → Prints task file text Refused printed → ⊥
 never_printed tasks.Read file text printed (draft, has, same, is) = cc
-never_printed (tasks.Chart (asks.Check queues q form)) file text printed (d, of_text, (format, its, passed, same, says)) = never_ended passed same
+never_printed (tasks.Chart (asks.Check c)) file text printed (d, of_text, (format, its, passed, same, says)) = never_ended passed same
 never_printed (tasks.Chart (asks.Quiet queues allowed)) file text printed (d, of_text, (passed, same, says, none)) = never_ended passed same
-never_printed (tasks.Chart (asks.Explain queues e f)) file text printed (d, of_text, (enforced, same, says)) = never_ended enforced same
+never_printed (tasks.Chart (asks.Explain x)) file text printed (d, of_text, (e, f, two, style, its, enforced, same, says)) = never_ended enforced same
 never_printed (tasks.Chart (asks.Run queues patience)) file text printed (d, of_text, (finished, same, says)) = never_finished finished same
+never_printed (tasks.Chart (asks.List placed)) file text printed (d, of_text, (sites, are, same, is)) = cc
 
 module _ {W : Type 0} (contents : W → Option (List ℕ)) where
   -- the status tells of what was performed
@@ -58,7 +59,7 @@ module _ {W : Type 0} (contents : W → Option (List ℕ)) where
       → Obeys contents name found status reads old new → TellsAnswer contents status old new
   obeyed name found status reads old new (inl none) = rw (none.ends) none.kept
   obeyed name found status reads old new (inr done) =
-      subst (λ (s : Status). TellsAnswer contents s old new) (sym done.ends) (tells done.task _ reads done.answer old new done.performed)
+      subst (λ (s : Status). TellsAnswer contents s old new) (sym done.ends.1) (tells done.task _ reads done.ends.0 old new done.ends.2)
 
   -- where the exit status is 1, an answer that tells so went out
   pub told_races : (status : Status) (old new : W) → TellsAnswer contents status old new → status_code status ≡ 1 → Tells contents Races old new

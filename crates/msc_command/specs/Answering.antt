@@ -6,44 +6,52 @@ use Rattle.msc_chart.specs.Faults.{IsFirstFault}
 use Rattle.msc_parser.specs.Canonical.{canonical}
 use Rattle.msc_parser.specs.Grammar.{Tree}
 use Rattle.msc_parser.specs.Parsing.{HasDraft, HasParseFault}
-use Rattle.msc_reason.specs.Pairs.{IsPairFault}
-use Rattle.msc_reason.specs.declared.pair.PairFault.{PairFault}
 use Rattle.msc_judge.specs.Pages.{WritesBeginning}
 use Rattle.msc_report.specs.declared.fault.Fault.TheVariants.{Parse, NotStarted, Memory, Device}
 use Rattle.msc_report.specs.declared.fault.Fault.TheVariants as faults
-use Rattle.msc_source.specs.Texts.{IsChartOf}
+use Rattle.msc_place.specs.Sites.{SitesIn}
+use Rattle.msc_report.specs.Lists.{listed_text}
+use Rattle.msc_report.specs.declared.pair.NamedFault.{NamedFault}
+use Rattle.msc_report.specs.declared.style.Style.{Style}
+use Rattle.msc_source.specs.Texts.{IsChartOf, source_text, SourceText}
+use Rattle.msc_source.specs.declared.language.Language.TheVariants.{MscPr}
 use Rattle.msc_text.specs.Explaining.{PrintsReason}
 use Rattle.msc_text.specs.Judging.{JudgesChart, Passes}
 use Rattle.msc_text.specs.declared.judging.Format.{Format}
 use Rattle.msc_tool.specs.Running.{PrintsExecution}
-use Rattle.msc_command.specs.Ending.{ended_by, finished_by}
+use Rattle.msc_command.specs.Ending.{ended_by, ends_as, finished_by}
 use Rattle.msc_command.specs.Formats.{IsFormat}
+use Rattle.msc_command.specs.Naming.{AreTwoNamed, IsNamedFault}
+use Rattle.msc_command.specs.Sited.{AreSited, IsStyle}
 use Rattle.msc_command.specs.declared.ending.Refusal.{Refusal}
 use Rattle.msc_command.specs.declared.ending.Refusal.TheVariants as refusals
 use Rattle.msc_command.specs.declared.ending.Status.{Status}
 use Rattle.msc_command.specs.declared.ending.Status.TheVariants.{Done}
 use Rattle.msc_command.specs.declared.tasks.Ask.{Ask}
-use Rattle.msc_command.specs.declared.tasks.Ask.TheVariants.{Check, Quiet, Explain, Run}
+use Rattle.msc_command.specs.declared.tasks.Ask.TheVariants.{Check, Quiet, Explain, Run, List as Listing}
 use Rattle.msc_command.specs.declared.tasks.Task.{Task}
 use Rattle.msc_command.specs.declared.tasks.Task.TheVariants.{Read, Chart}
 
--- What is printed of a chart, the one of the file of this name, for what is asked of it, and how the
+-- What is printed of the chart of a text, of the file of this name, for what is asked of it, and how the
 -- run ends. A chart is run with a gate that is known to be open.
-abbrev pub PrintsOf : Ask → List ℕ → Drawing → Status → List ℕ → Type 0
-PrintsOf (Check queues q form) file d status printed =
-    (format : Format) × IsFormat form file format
-    × (passed : Bool) × (status ≡ ended_by passed) × JudgesChart d queues q format passed printed
-PrintsOf (Quiet queues allowed) file d status printed =
-    (passed : Bool) × (status ≡ ended_by passed) × Passes d queues allowed passed × (printed ≡ [])
-PrintsOf (Explain queues e f) file d status printed =
-    (enforced : Bool) × (status ≡ ended_by enforced) × PrintsReason d queues e f enforced printed
-PrintsOf (Run queues patience) file d status printed =
-    (finished : Bool) × (status ≡ finished_by finished) × PrintsExecution d queues true patience finished printed
+abbrev pub PrintsOf : Ask → List ℕ → SourceText → Status → List ℕ → Type 0
+PrintsOf (Check c) file s status printed =
+    (format : Format) × IsFormat c file s.text format
+    × (passed : Bool) × (status ≡ ended_by passed) × JudgesChart s.chart c.queues c.question format passed printed
+PrintsOf (Quiet queues allowed) file s status printed =
+    (passed : Bool) × (status ≡ ended_by passed) × Passes s.chart queues allowed passed × (printed ≡ [])
+PrintsOf (Explain x) file s status printed =
+    (e f : ℕ) × AreTwoNamed s x.first x.second e f × (style : Style) × IsStyle x.look file s.text style
+    × (enforced : Bool) × (status ≡ ended_by enforced) × PrintsReason s.chart x.queues e f style enforced printed
+PrintsOf (Run queues patience) file s status printed =
+    (finished : Bool) × (status ≡ finished_by finished) × PrintsExecution s.chart queues true patience finished printed
+PrintsOf (Listing placed) file s status printed =
+    (sites : Option SitesIn) × AreSited placed file s.text sites × (status ≡ Done) × (printed ≡ listed_text s.chart sites)
 
--- the numbers of a pair that is asked for are no two events of the chart
-abbrev pub RefusesPair : Ask → Drawing → PairFault → Type 0
-RefusesPair (Explain queues e f) d fault = IsPairFault d e f fault
-RefusesPair ask d fault = ⊥
+-- the names of a pair that is asked for are those of no two events of the chart
+abbrev pub RefusesPair : Ask → SourceText → NamedFault → Type 0
+RefusesPair (Explain x) s fault = IsNamedFault s x.first x.second fault
+RefusesPair ask s fault = ⊥
 
 -- an instance of a chart that is to be run could not be started
 abbrev pub FailsToStart : Ask → Drawing → ℕ → Type 0
@@ -51,24 +59,25 @@ FailsToStart (Run queues patience) d i = i < length d.instances
 FailsToStart ask d i = ⊥
 
 -- why there is nothing to print of a chart for what is asked of it
-abbrev pub RefusesOf : Ask → Drawing → Refusal → Type 0
-RefusesOf ask d (refusals.Pair fault) = RefusesPair ask d fault
-RefusesOf ask d (refusals.Fault (NotStarted i)) = FailsToStart ask d i
-RefusesOf ask d refusal = ⊥
+abbrev pub RefusesOf : Ask → SourceText → Refusal → Type 0
+RefusesOf ask s (refusals.Pair fault) = RefusesPair ask s fault
+RefusesOf ask s (refusals.Fault (NotStarted i)) = FailsToStart ask s.chart i
+RefusesOf ask s refusal = ⊥
 
 -- what is printed of the text of a file for a task: its draft's canonical text, or what is asked of
 -- its chart
 abbrev pub Prints : Task → List ℕ → List ℕ → Status → List ℕ → Type 0
 Prints Read file text status printed =
     (draft : Tree) × HasDraft text draft × (status ≡ Done) × (printed ≡ canonical draft)
-Prints (Chart ask) file text status printed = (d : Drawing) × IsChartOf text d × PrintsOf ask file d status printed
+Prints (Chart ask) file text status printed =
+    (d : Drawing) × IsChartOf text d × PrintsOf ask file (source_text MscPr text d) status printed
 
 -- why a text is refused for a task, with its first fault: it has no draft, or its draft is no chart,
 -- or of its chart that is not to be had which is asked
 abbrev pub Refuses : Task → List ℕ → Refusal → Type 0
 Refuses task text (refusals.Fault (Parse f)) = HasParseFault text f
 Refuses (Chart ask) text (refusals.Fault (faults.Chart f)) = (draft : Tree) × HasDraft text draft × IsFirstFault draft f
-Refuses (Chart ask) text refusal = (d : Drawing) × IsChartOf text d × RefusesOf ask d refusal
+Refuses (Chart ask) text refusal = (d : Drawing) × IsChartOf text d × RefusesOf ask (source_text MscPr text d) refusal
 Refuses Read text refusal = ⊥
 
 -- A task was done, where it is known what is right to print, with how the run ends then, and when it
@@ -85,8 +94,8 @@ Answers contents prints refuses (Err (refusals.Fault Device)) old new = Unit {0}
 Answers contents prints refuses (Err refusal) old new = refuses refusal × (new ≡ old)
 
 -- what is asked of a chart was answered
-abbrev pub AnswersOf : {W : Type 0} → (W → Option (List ℕ)) → Ask → List ℕ → Drawing → Result Status Refusal → W → W → Type 0
-AnswersOf contents ask file d = Answers contents (PrintsOf ask file d) (RefusesOf ask d)
+abbrev pub AnswersOf : {W : Type 0} → (W → Option (List ℕ)) → Ask → List ℕ → SourceText → Result Status Refusal → W → W → Type 0
+AnswersOf contents ask file s = Answers contents (PrintsOf ask file s) (RefusesOf ask s)
 
 -- a task was done for the text of a file
 abbrev pub Does : {W : Type 0} → (W → Option (List ℕ)) → Task → List ℕ → List ℕ → Result Status Refusal → W → W → Type 0
@@ -102,6 +111,16 @@ IsUnread answer = ⊥
 abbrev pub Performs : {W : Type 0} → (W → Option (List ℕ)) → Task → List ℕ → (List ℕ → Type 0) → Result Status Refusal → W → W → Type 0
 Performs contents task file reads answer old new =
     ((text : List ℕ) × reads text × Does contents task file text answer old new) ⊎ (IsUnread answer × (new ≡ old))
+
+-- how a run ends whose task was done so
+abbrev pub ends_with : Result Status Refusal → Status
+ends_with (Ok status) = status
+ends_with (Err refusal) = ends_as refusal
+
+-- a run ends as it has to whose task was done so
+abbrev pub EndsAs : {W : Type 0} → (W → Option (List ℕ)) → Task → List ℕ → (List ℕ → Type 0) → Status → W → W → Type 0
+EndsAs contents task file reads status old new =
+    (answer : Result Status Refusal) × (status ≡ ends_with answer) × Performs contents task file reads answer old new
 
 -- these bytes went behind the known bytes of a writer, and the run ends so, or the writer failed
 abbrev pub IsPut : {W : Type 0} → (W → Option (List ℕ)) → List ℕ → Status → Result Status Refusal → W → W → Type 0

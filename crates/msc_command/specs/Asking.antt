@@ -1,6 +1,6 @@
 -- What the words behind a command ask for, by what `clap` found of them.
-use Rattle.std.specs.Prelude.{◌≡◌, ◌<◌, ◌⊎◌, ◌^◌, ℕ, Bool, true, false, cond, List, [], Option, Some, None, codes}
-use Rattle.std.specs.Prelude.{option_and_then}
+use Rattle.std.specs.Prelude.{◌≡◌, ◌<◌, ◌⊎◌, ◌^◌, ◌&&◌, ◌||◌, not, ℕ, Bool, true, false, cond, List, [], ◌++◌, Option, Some, None, codes}
+use Rattle.std.specs.Prelude.{option_and_then, unwrap_or}
 use Rattle.std.specs.List.{list_any}
 use Rattle.std.specs.Option.{option_map_or}
 use Rattle.std.specs.Str.{bytes_eq}
@@ -14,7 +14,12 @@ use Rattle.msc_reason.specs.declared.lack.RaceKind.{RaceKind}
 use Rattle.msc_reason.specs.Kinds.{has_kind}
 use Rattle.msc_reason.specs.declared.kinds.KindSet.{KindSet}
 use Rattle.msc_judge.specs.declared.question.Question.{Question}
-use Rattle.msc_command.specs.declared.tasks.Ask.TheVariants.{Check, Quiet, Explain, Run}
+use Rattle.msc_report.specs.declared.pair.EventName.{EventName}
+use Rattle.msc_report.specs.declared.pair.EventName.TheVariants.{Number, Line}
+use Rattle.msc_command.specs.declared.tasks.Checking.{Checking}
+use Rattle.msc_command.specs.declared.tasks.Explaining.{Explaining}
+use Rattle.msc_command.specs.declared.tasks.Look.{Look}
+use Rattle.msc_command.specs.declared.tasks.Ask.TheVariants.{Check, Quiet, Explain, Run, List as Listing}
 use Rattle.msc_command.specs.declared.tasks.Form.{Form}
 use Rattle.msc_command.specs.declared.tasks.Form.TheVariants as forms
 use Rattle.msc_command.specs.declared.tasks.Task.{Task}
@@ -22,7 +27,7 @@ use Rattle.msc_command.specs.declared.tasks.Task.TheVariants.{Read, Chart}
 use Rattle.msc_command.specs.declared.words.Verb.{Verb}
 use Rattle.msc_command.specs.declared.words.Verb.TheVariants as verbs
 use Rattle.msc_command.specs.declared.words.Word.TheVariants as words
-use Rattle.msc_command.specs.Words.{form_word, word_name}
+use Rattle.msc_command.specs.Words.{form_of_word, word_name}
 
 -- the architecture that the words name
 abbrev pub architecture : Found → Option Queues
@@ -34,17 +39,38 @@ pub record IsFlag (found : Found) (id : List ℕ) (given : Bool) : Type 0 where
   pub yes : one_text found id ≡ Some (codes "true") → given ≡ true
   pub no : one_text found id ≡ Some (codes "false") → given ≡ false
 
--- the word of an argument is the numeral of a number of 32 bits
-pub record IsEventWord (found : Found) (id : List ℕ) (n : ℕ) : Type 0 where
-  pub text : List ℕ
-  pub word : one_text found id ≡ Some text
+-- the text is the numeral of a number of 32 bits
+pub record IsNumberText (text : List ℕ) (n : ℕ) : Type 0 where
   pub numeral : IsNumeral 10 (without_leading_plus text)
   pub value : n ≡ digits_value 10 (without_leading_plus text)
   pub fits : n < 2 ^ 32
 
+-- it is none
+abbrev pub IsNoNumber : List ℕ → Type 0
+IsNoNumber text = (n : ℕ) → IsNumberText text n → ⊥
+
+-- the text is a colon and this
+abbrev pub IsColonAnd : List ℕ → List ℕ → Type 0
+IsColonAnd text rest = text ≡ codes ":" ++ rest
+
+-- the text names an event: by its number, or by a line, from 1 on, behind a colon
+abbrev pub IsNameText : List ℕ → EventName → Type 0
+IsNameText text (Number n) = ((rest : List ℕ) → IsColonAnd text rest → ⊥) × IsNumberText text n
+IsNameText text (Line line) = (rest : List ℕ) × IsColonAnd text rest × (0 < line) × IsNumberText rest line
+
+-- it names none
+abbrev pub IsNoName : List ℕ → Type 0
+IsNoName text = (name : EventName) → IsNameText text name → ⊥
+
+-- the word of an argument names an event
+pub record IsEventWord (found : Found) (id : List ℕ) (name : EventName) : Type 0 where
+  pub text : List ℕ
+  pub word : one_text found id ≡ Some text
+  pub named : IsNameText text name
+
 -- an argument has no such word
 abbrev pub LacksEvent : Found → List ℕ → Type 0
-LacksEvent found id = (n : ℕ) → IsEventWord found id n → ⊥
+LacksEvent found id = (name : EventName) → IsEventWord found id name → ⊥
 
 -- the number of an option, and what it is without it
 pub record IsOptionNumber (found : Found) (id : List ℕ) (without n : ℕ) : Type 0 where
@@ -82,13 +108,33 @@ pub record IsQuestion (found : Found) (q : Question) : Type 0 where
   pub show : IsOptionNumber found (word_name words.Show) unlimited q.show
 
 -- the form that a word names: text, where none does
-abbrev pub form_of_word : Option (List ℕ) → Form
-form_of_word None = forms.Text
-form_of_word (Some word) = cond (bytes_eq word (form_word forms.Count)) forms.Count forms.Text
+abbrev pub form_named : Option (List ℕ) → Form
+form_named None = forms.Text
+form_named (Some word) = unwrap_or (form_of_word word) forms.Text
 
 -- the form of the answer that the words name
 abbrev pub form : Found → Form
-form found = form_of_word (first_value found (word_name words.Format))
+form found = form_named (first_value found (word_name words.Format))
+
+-- how the words want an answer to speak
+pub record IsLook (found : Found) (look : Look) : Type 0 where
+  pub places : IsFlag found (word_name words.Places) look.places
+  pub words_wanted : IsFlag found (word_name words.Words) look.words
+
+-- what the words of `check` ask of the races under an architecture
+pub record IsChecking (found : Found) (c : Checking) : Type 0 where
+  pub architecture_is : architecture found ≡ Some c.queues
+  pub question : IsQuestion found c.question
+  pub form_is : c.form ≡ form found
+  pub look : IsLook found c.look
+  pub loud : IsFlag found (word_name words.Quiet) false
+
+-- what the words of `explain` ask of two events under an architecture
+pub record IsExplaining (found : Found) (x : Explaining) : Type 0 where
+  pub architecture_is : architecture found ≡ Some x.queues
+  pub first : IsEventWord found (word_name words.FirstEvent) x.first
+  pub second : IsEventWord found (word_name words.SecondEvent) x.second
+  pub look : IsLook found x.look
 
 -- the file that a word names: the input, where none does
 abbrev pub file_of_word : Option (List ℕ) → List ℕ
@@ -102,23 +148,46 @@ file_of found = file_of_word (first_value found (word_name words.File))
 -- What the words behind a command ask for. What is to be quiet is told by the status alone.
 abbrev pub AsksFor : Verb → Found → Task → Type 0
 AsksFor verbs.Read found Read = Unit {0}
-AsksFor verbs.Check found (Chart (Check queues q its)) =
-    IsQuestion found q × (its ≡ form found) × IsFlag found (word_name words.Quiet) false
-    × (architecture found ≡ Some queues)
+AsksFor verbs.Check found (Chart (Check c)) = IsChecking found c
 AsksFor verbs.Check found (Chart (Quiet queues allowed)) =
     AreAllowed found allowed × IsFlag found (word_name words.Quiet) true × (architecture found ≡ Some queues)
-AsksFor verbs.Explain found (Chart (Explain queues e f)) =
-    IsEventWord found (word_name words.FirstEvent) e × IsEventWord found (word_name words.SecondEvent) f
-    × (architecture found ≡ Some queues)
+AsksFor verbs.Explain found (Chart (Explain x)) = IsExplaining found x
 AsksFor verbs.Run found (Chart (Run queues patience)) =
     IsOptionNumber found (word_name words.Patience) default_patience patience
     × (architecture found ≡ Some queues)
+AsksFor verbs.List found (Chart (Listing placed)) = IsFlag found (word_name words.Places) placed
 AsksFor verb found task = ⊥
 
 -- the words behind a command lack the architecture, or one of two events, where it takes them
-abbrev pub IsNoCommand : Verb → Found → Type 0
-IsNoCommand verbs.Read found = ⊥
-IsNoCommand verbs.Explain found =
+abbrev pub LacksWords : Verb → Found → Type 0
+LacksWords verbs.Read found = ⊥
+LacksWords verbs.List found = ⊥
+LacksWords verbs.Explain found =
     (architecture found ≡ None)
     ⊎ (LacksEvent found (word_name words.FirstEvent) ⊎ LacksEvent found (word_name words.SecondEvent))
-IsNoCommand verb found = architecture found ≡ None
+LacksWords verb found = architecture found ≡ None
+
+-- words stand that exclude each other: that places are told, and that no more than plain lines are
+pub record IsTwofold (found : Found) (twofold : Bool) : Type 0 where
+  pub places : Bool
+  pub plain : Bool
+  pub wants : IsFlag found (word_name words.Places) places
+  pub forbids : IsFlag found (word_name words.Plain) plain
+  pub both : twofold ≡ (places && plain)
+
+-- the words behind a command ask for nothing: they lack what it needs, or exclude each other
+abbrev pub IsNoCommand : Verb → Found → Type 0
+IsNoCommand verb found = IsTwofold found true ⊎ LacksWords verb found
+
+-- whether what is said of a refusal is told behind its line: where places are asked for, and on a
+-- terminal unless plain lines are
+abbrev pub tells_notes : Bool → Bool → Bool → Bool
+tells_notes places plain terminal = places || (terminal && not plain)
+
+-- the words want it, where standard error is a terminal or not
+pub record WantsNotes (found : Found) (terminal notes : Bool) : Type 0 where
+  pub places : Bool
+  pub plain : Bool
+  pub wants : IsFlag found (word_name words.Places) places
+  pub forbids : IsFlag found (word_name words.Plain) plain
+  pub is : notes ≡ tells_notes places plain terminal

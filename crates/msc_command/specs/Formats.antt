@@ -1,12 +1,20 @@
--- The format of a form, for a file.
+-- In which format the races of a chart are told.
 use Rattle.std.specs.Prelude.{◌≡◌, ℕ, List}
-use Rattle.std.specs.Borrow.{Bor}
 use Rattle.msc_text.specs.declared.judging.Format.{Format}
-use Rattle.msc_text.specs.declared.judging.Format.TheVariants.{Lines, Count}
+use Rattle.msc_text.specs.declared.judging.Format.TheVariants as formats
+use Rattle.msc_command.specs.Sited.{HasSites, IsStyle}
+use Rattle.msc_command.specs.declared.tasks.Checking.{Checking}
 use Rattle.msc_command.specs.declared.tasks.Form.{Form}
 use Rattle.msc_command.specs.declared.tasks.Form.TheVariants as forms
+use Rattle.msc_command.specs.declared.tasks.Look.{Look}
 
--- lines for a text, and a line for the file for a count
-abbrev pub IsFormat : Form → List ℕ → Format → Type 0
-IsFormat forms.Text file format = format ≡ Lines
-IsFormat forms.Count file format = (name : Bor (List ℕ)) × (name.now ≡ file) × (format ≡ Count name)
+-- the format of a form, for the text of a file of this name
+abbrev pub IsFormatIn : Form → Look → List ℕ → List ℕ → Format → Type 0
+IsFormatIn forms.Text look file text (formats.Lines style) = IsStyle look file text style
+IsFormatIn forms.Count look file text (formats.Count name) = name.now ≡ file
+IsFormatIn forms.Lines look file text (formats.Editor sites) = HasSites file text sites.now
+IsFormatIn form look file text format = ⊥
+
+-- the format that is asked for
+abbrev pub IsFormat : Checking → List ℕ → List ℕ → Format → Type 0
+IsFormat c file text format = IsFormatIn c.form c.look file text format

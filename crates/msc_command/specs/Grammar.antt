@@ -31,7 +31,7 @@ kind_words = kind_word Early ∷ kind_word Queues ∷ kind_word Unordered ∷ ki
 
 -- the words of the forms of an answer
 abbrev pub form_words : List Text
-form_words = form_word forms.Text ∷ form_word forms.Count ∷ []
+form_words = form_word forms.Text ∷ form_word forms.Count ∷ form_word forms.Lines ∷ []
 
 -- an argument is read by a rule
 abbrev pub IsArgument : Rule → Arg → Type 0
@@ -45,13 +45,9 @@ IsCommand app command = (app_of command ≡ app) × ((out-Command command).has_g
 abbrev pub number_parser : ValueParser
 number_parser = Signed (pos 0) (pos 4294967295)
 
--- an argument that names a file
+-- an argument that names a file or an event
 abbrev pub file_rule : Text → Rule
 file_rule name = record (new_rule name) { required = true }
-
--- an argument that is the number of an event
-abbrev pub event_rule : Text → Rule
-event_rule name = record (new_rule name) { parser = Some number_parser; required = true }
 
 -- an option that stands alone
 abbrev pub flag_rule : Text → Rule
@@ -102,7 +98,7 @@ parsers_of lent = record {
 -- how a word of this name that takes this is read
 abbrev pub rule_by : Parsers → Text → Takes → Rule
 rule_by p name takes.File = file_rule name
-rule_by p name takes.Event = event_rule name
+rule_by p name takes.Event = file_rule name
 rule_by p name takes.Nothing = flag_rule name
 rule_by p name takes.NothingOrQ = letter_rule name
 rule_by p name takes.Number = number_rule name

@@ -2,6 +2,8 @@
 pub mod Words
 pub mod Grammar
 pub mod Asking
+pub mod Sited
+pub mod Naming
 pub mod Formats
 pub mod Ending
 pub mod Answering

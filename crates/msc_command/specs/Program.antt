@@ -1,5 +1,5 @@
 -- What the program does with its words.
-use Rattle.std.specs.Prelude.{◌≡◌, ◌≢◌, ◌⊎◌, ℕ, List, MatchOption, Option, Result, Ok, Err, Some, codes}
+use Rattle.std.specs.Prelude.{◌≡◌, ◌≢◌, ◌⊎◌, ℕ, List, MatchOption, Option, Some, codes}
 use Rattle.std.specs.Io.KnownBytes.{Appends}
 use Rattle.clap.specs.Words.{Row, Text, rows_of, subcommand_rows_of}
 use Rattle.clap.specs.declared.error.kind.ErrorKind.{ErrorKind}
@@ -7,21 +7,14 @@ use Rattle.clap.specs.declared.error.kind.ErrorKind.TheVariants.{DisplayHelp, Di
 use Rattle.clap.specs.declared.parser.matches.ArgMatches.{ArgMatches}
 use Rattle.clap.specs.declared.parser.matches.Found.{Found}
 use Rattle.msc_source.specs.Inputs.{IsReadFrom}
-use Rattle.msc_command.specs.Answering.{Performs, Prints}
+use Rattle.msc_command.specs.Answering.{EndsAs, Prints}
 use Rattle.msc_command.specs.Asking.{file_of, AsksFor, IsNoCommand}
-use Rattle.msc_command.specs.Ending.{ends_as}
 use Rattle.msc_command.specs.Grammar.{AreAnswered, AreTaken}
 use Rattle.msc_command.specs.Words.{verb_of_word}
-use Rattle.msc_command.specs.declared.ending.Refusal.{Refusal}
 use Rattle.msc_command.specs.declared.ending.Status.{Status}
 use Rattle.msc_command.specs.declared.ending.Status.TheVariants.{Done, Races, Refused, Unfinished, Failed}
 use Rattle.msc_command.specs.declared.tasks.Task.{Task}
 use Rattle.msc_command.specs.declared.words.Verb.{Verb}
-
--- how a run ends whose task was done so
-abbrev pub ends_with : Result Status Refusal → Status
-ends_with (Ok status) = status
-ends_with (Err refusal) = ends_as refusal
 
 -- a text is all bytes of the input where FILE is `-`
 abbrev pub IsFileText : Found → Option (List ℕ) → Option (List ℕ) → List ℕ → Type 0
@@ -44,10 +37,8 @@ pub record AsksNothing {W : Type 0} (name : List ℕ) (found : Found) (status : 
 -- a task that the words behind a command ask for was performed
 pub record PerformsAsked {W : Type 0} (contents : W → Option (List ℕ)) (name : List ℕ) (found : Found) (status : Status) (reads : List ℕ → Type 0) (old new : W) : Type 0 where
   pub task : Task
-  pub answer : Result Status Refusal
   pub asked : IsNamed name found task
-  pub ends : status ≡ ends_with answer
-  pub performed : Performs contents task (file_of found) reads answer old new
+  pub ends : EndsAs contents task (file_of found) reads status old new
 
 -- The words behind a command were obeyed as a status tells: a task that they ask for was performed,
 -- or they ask for none.

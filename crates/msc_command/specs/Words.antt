@@ -6,9 +6,9 @@ use Rattle.msc_command.specs.declared.tasks.Form.TheVariants as forms
 use Rattle.msc_command.specs.declared.words.Takes.{Takes}
 use Rattle.msc_command.specs.declared.words.Takes.TheVariants as takes
 use Rattle.msc_command.specs.declared.words.Verb.{Verb}
-use Rattle.msc_command.specs.declared.words.Verb.TheVariants.{Read, Check, Explain, Run}
+use Rattle.msc_command.specs.declared.words.Verb.TheVariants.{Read, Check, Explain, Run, List as Listing}
 use Rattle.msc_command.specs.declared.words.Word.{Word}
-use Rattle.msc_command.specs.declared.words.Word.TheVariants.{File, Queues, Closest, Why, Most, Show, Allow, Format, Quiet, Patience, FirstEvent, SecondEvent}
+use Rattle.msc_command.specs.declared.words.Word.TheVariants.{File, Queues, Closest, Why, Most, Show, Allow, Format, Quiet, Words, Patience, Places, Plain, FirstEvent, SecondEvent}
 
 -- the name of a word behind a command
 abbrev pub word_name : Word → List ℕ
@@ -21,7 +21,10 @@ word_name Show = codes "show"
 word_name Allow = codes "allow"
 word_name Format = codes "format"
 word_name Quiet = codes "quiet"
+word_name Words = codes "words"
 word_name Patience = codes "patience"
+word_name Places = codes "places"
+word_name Plain = codes "plain"
 word_name FirstEvent = codes "E"
 word_name SecondEvent = codes "F"
 
@@ -36,7 +39,10 @@ takes_of Show = takes.Number
 takes_of Allow = takes.Kinds
 takes_of Format = takes.Form
 takes_of Quiet = takes.NothingOrQ
+takes_of Words = takes.Nothing
 takes_of Patience = takes.Number
+takes_of Places = takes.Nothing
+takes_of Plain = takes.Nothing
 takes_of FirstEvent = takes.Event
 takes_of SecondEvent = takes.Event
 
@@ -46,10 +52,11 @@ verb_name Read = codes "read"
 verb_name Check = codes "check"
 verb_name Explain = codes "explain"
 verb_name Run = codes "run"
+verb_name Listing = codes "list"
 
 -- all commands
 abbrev pub verbs : List Verb
-verbs = Read ∷ Check ∷ Explain ∷ Run ∷ []
+verbs = Read ∷ Check ∷ Explain ∷ Run ∷ Listing ∷ []
 
 -- the command of a name
 unfoldable pub verb_of_word : List ℕ → Option Verb
@@ -57,12 +64,23 @@ verb_of_word name = find (λ verb. bytes_eq name (verb_name verb)) verbs
 
 -- the words behind a command
 abbrev pub words_of : Verb → List Word
-words_of Read = File ∷ []
-words_of Check = Queues ∷ Closest ∷ Why ∷ Most ∷ Show ∷ Allow ∷ Format ∷ Quiet ∷ File ∷ []
-words_of Explain = Queues ∷ File ∷ FirstEvent ∷ SecondEvent ∷ []
-words_of Run = Queues ∷ Patience ∷ File ∷ []
+words_of Read = Places ∷ Plain ∷ File ∷ []
+words_of Check =
+    Queues ∷ Closest ∷ Why ∷ Most ∷ Show ∷ Allow ∷ Format ∷ Quiet ∷ Words ∷ Places ∷ Plain ∷ File ∷ []
+words_of Explain = Queues ∷ Words ∷ Places ∷ Plain ∷ File ∷ FirstEvent ∷ SecondEvent ∷ []
+words_of Run = Queues ∷ Patience ∷ Places ∷ Plain ∷ File ∷ []
+words_of Listing = Places ∷ Plain ∷ File ∷ []
 
 -- the word for the form of an answer
 abbrev pub form_word : Form → List ℕ
 form_word forms.Text = codes "text"
 form_word forms.Count = codes "count"
+form_word forms.Lines = codes "lines"
+
+-- all forms
+abbrev pub forms_all : List Form
+forms_all = forms.Text ∷ forms.Count ∷ forms.Lines ∷ []
+
+-- the form of a word
+unfoldable pub form_of_word : List ℕ → Option Form
+form_of_word word = find (λ form. bytes_eq word (form_word form)) forms_all

@@ -1,20 +1,24 @@
 //! The answers of tasks: the text is read once, its chart is made, and what is asked of it is
 //! answered and printed.
 
-ghost use Rattle.std.specs.Prelude.{IfOk, OnOk};
-ghost use Rattle.std.specs.Io.KnownBytes.{Appends};
-ghost use Rattle.msc_command.specs.Answering.{AnswersOf, Does, IsPut, Performs};
+ghost use Rattle.std.specs.Prelude.{ℕ, List};
+ghost use Rattle.msc_command.specs.Answering.{AnswersOf, Does, EndsAs, IsPut};
+ghost use Rattle.msc_source.specs.Inputs.{IsReadFrom};
+ghost use Rattle.msc_command.specs.Formats.{IsFormat};
 ghost use Rattle.msc_source.specs.Inputs.{IsReadFrom};
 
-use crate::ending::{Refusal, Status, ended_by, finished_by};
-use crate::tasks::{Ask, Task};
-use msc_chart::Chart;
+use crate::ending::{Refusal, Status, end_refused, end_unread, ended_by, finished_by};
+use crate::naming::pair_named;
+use crate::notes::write_notes;
+use crate::recorded::TellsFailure;
+use crate::sited::{sites_of, style_of};
+use crate::tasks::{Ask, Checking, Explaining, Form, Request, Task};
 use msc_instance::AlwaysOpen;
 use msc_judge::Page;
-use msc_reason::pair_fault;
+use msc_place::Sites;
 use msc_report::Fault;
 use msc_source::{Language, Reading, Source, read_all};
-use msc_text::{explain_pair, judge_chart, passes_chart, write_reading};
+use msc_text::{Format, explain_pair, judge_chart, list_chart, passes_chart, write_reading};
 use msc_tool::print_execution;
 use std::alloc::Global;
 use std::io::{Read, Write};
@@ -31,31 +35,106 @@ fn put<O: Write>(output: &mut O, page: &Page, status: Status) -> Result<Status, 
     }
 }
 
-/// Writes what is asked of a chart, the one of the file of this name.
+/// Writes what is asked of the races of a text's chart in a format.
+fn check_in<O: Write>(
+    alloc: Global,
+    checking: Checking,
+    format: Format<'_>,
+    source: &Source,
+    output: &mut O,
+) -> Result<Status, Refusal>
+    ensures { (file : List ℕ) → IsFormat checking file source.now.text format.entry
+        → AnswersOf O.contents (Ask.Check checking) file source.now result output.old output.new }
+{
+    let (queues, question) = (checking.queues, checking.question);
+    let passed = judge_chart(alloc, source.chart(), queues, question, format, output)?;
+    Ok(ended_by(passed))
+}
+
+/// Writes what is asked of the races of the chart of a text, of the file of this name.
+fn check<O: Write>(
+    alloc: Global,
+    checking: Checking,
+    file: &str,
+    source: &Source,
+    output: &mut O,
+) -> Result<Status, Refusal>
+    ensures { AnswersOf O.contents (Ask.Check checking) file.now source.now result
+        output.old output.new }
+{
+    match checking.form {
+        Form::Text => {
+            let look = checking.look;
+            let sites = sites_of(alloc, look.places, file, source.text())?;
+            let style = style_of(look, sites.as_ref());
+            check_in(alloc, checking, Format::Lines(style), source, output)
+        }
+        Form::Count => {
+            let format = Format::Count(file.as_bytes());
+            check_in(alloc, checking, format, source, output)
+        }
+        Form::Lines => {
+            let sites = Sites::of(alloc, file.as_bytes(), source.text())?;
+            check_in(alloc, checking, Format::Editor(&sites), source, output)
+        }
+    }
+}
+
+/// Writes why the first of two events of the chart of a text, of the file of this name, comes
+/// before the second, or how it need not.
+fn explain<O: Write>(
+    alloc: Global,
+    explaining: Explaining,
+    file: &str,
+    source: &Source,
+    output: &mut O,
+) -> Result<Status, Refusal>
+    ensures { AnswersOf O.contents (Ask.Explain explaining) file.now source.now result
+        output.old output.new }
+{
+    let (e, f) = match pair_named(alloc, source, explaining.first, explaining.second)? {
+        Ok(pair) => pair,
+        Err(fault) => return Err(Refusal::Pair(fault)),
+    };
+    let sites = sites_of(alloc, explaining.look.places, file, source.text())?;
+    let style = style_of(explaining.look, sites.as_ref());
+    let (page, enforced) = explain_pair(alloc, source.chart(), explaining.queues, e, f, style)?;
+    put(output, &page, ended_by(enforced))
+}
+
+/// Writes the events of the chart of a text, of the file of this name, with their places where that
+/// is wanted.
+fn list<O: Write>(
+    alloc: Global,
+    placed: bool,
+    file: &str,
+    source: &Source,
+    output: &mut O,
+) -> Result<Status, Refusal>
+    ensures { AnswersOf O.contents (Ask.List placed) file.now source.now result
+        output.old output.new }
+{
+    let sites = sites_of(alloc, placed, file, source.text())?;
+    let page = list_chart(alloc, source.chart(), sites.as_ref())?;
+    put(output, &page, Status::Done)
+}
+
+/// Writes what is asked of the chart of a text, of the file of this name.
 fn answer_chart<R: Threads + Wait + Sync, O: Write>(
     rt: &R,
     alloc: Global,
     ask: Ask,
     file: &str,
-    chart: &Chart,
+    source: &Source,
     output: &mut O,
 ) -> Result<Status, Refusal>
-    ensures { AnswersOf O.contents ask file.now chart.now result output.old output.new }
+    ensures { AnswersOf O.contents ask file.now source.now result output.old output.new }
 {
+    let chart = source.chart();
     match ask {
-        Ask::Check(queues, question, form) => {
-            let format = form.format(file);
-            let passed = judge_chart(alloc, chart, queues, question, format, output)?;
-            Ok(ended_by(passed))
-        }
+        Ask::Check(checking) => check(alloc, checking, file, source, output),
         Ask::Quiet(queues, allowed) => Ok(ended_by(passes_chart(alloc, chart, queues, allowed)?)),
-        Ask::Explain(queues, e, f) => {
-            if let Some(fault) = pair_fault(chart, e, f) {
-                return Err(Refusal::Pair(fault));
-            }
-            let (page, enforced) = explain_pair(alloc, chart, queues, e, f)?;
-            put(output, &page, ended_by(enforced))
-        }
+        Ask::Explain(explaining) => explain(alloc, explaining, file, source, output),
         Ask::Run(queues, patience) => {
             let (page, finished) = print_execution(
                 rt,
@@ -67,6 +146,7 @@ fn answer_chart<R: Threads + Wait + Sync, O: Write>(
             )?;
             put(output, &page, finished_by(finished))
         }
+        Ask::List(placed) => list(alloc, placed, file, source, output),
     }
 }
 
@@ -89,28 +169,67 @@ fn answer<R: Threads + Wait + Sync, O: Write>(
         }
         Task::Chart(ask) => {
             let source = Source::of(alloc, Language::MscPr, text)?;
-            answer_chart(rt, alloc, ask, file, source.chart(), output)
+            source.source();
+            answer_chart(rt, alloc, ask, file, &source, output)
         }
     }
 }
 
-/// Does a task over an input, which is read once, the text of a file of this name. The whole answer
-/// goes out before it is told.
-pub(crate) fn perform<R: Threads + Wait + Sync, I: Read, O: Write>(
+/// Lets the answer of a task go out, to the text of a file of this name, before it is told how the
+/// run ends.
+fn deliver<R: Threads + Wait + Sync, O: Write>(
     rt: &R,
     alloc: Global,
     task: Task,
     file: &str,
-    input: &mut I,
+    text: &[u8],
     output: &mut O,
 ) -> Result<Status, Refusal>
-    ensures { Performs O.contents task file.now
-        (IsReadFrom (I.remaining input.old) (I.remaining input.new)) result output.old output.new }
+    ensures { Does O.contents task file.now text.now result output.old output.new }
 {
-    let text = read_all(alloc, input)?;
-    let status = answer(rt, alloc, task, file, text.as_slice(), output)?;
+    let status = answer(rt, alloc, task, file, text, output)?;
     match output.flush() {
         Ok(()) => Ok(status),
         Err(_) => Err(Refusal::Fault(Fault::Device)),
+    }
+}
+
+/// Writes why the output failed, where that is what went wrong.
+fn tell_failure<O: TellsFailure, E: Write>(faults: &mut E, refusal: Refusal, output: &O) {
+    if let Refusal::Fault(Fault::Device) = refusal
+        && let Some(error) = output.failure()
+    {
+        let _ = writeln!(faults, "output: {error}");
+    }
+}
+
+/// Does what is requested over an input, which is read once, and tells how the run ended. What went
+/// wrong goes to `faults`.
+pub(crate) fn perform<R: Threads + Wait + Sync, I: Read, O: TellsFailure, E: Write>(
+    rt: &R,
+    alloc: Global,
+    request: Request<'_>,
+    input: &mut I,
+    output: &mut O,
+    faults: &mut E,
+) -> Status
+    ensures { EndsAs O.contents request.entry.task request.entry.file.now
+        (IsReadFrom (I.remaining input.old) (I.remaining input.new)) result output.old output.new }
+{
+    let Request { task, file, notes } = request;
+    let text = match read_all(alloc, input) {
+        Ok(text) => text,
+        Err(fault) => return end_unread(faults, file, fault, notes),
+    };
+    match deliver(rt, alloc, task, file, text.as_slice(), output) {
+        Ok(status) => status,
+        Err(refusal) => {
+            let status = end_refused(faults, refusal).0;
+            if notes {
+                let _ = write_notes(alloc, faults, file, text.as_slice(), refusal);
+                tell_failure(faults, refusal, output);
+            }
+            status
+        }
     }
 }

@@ -4,12 +4,13 @@ ghost use Rattle.std.specs.Prelude.{◌≡◌, OnOk};
 ghost use Rattle.std.specs.Io.KnownBytes.{Appends};
 ghost use Rattle.msc_command.specs.Ending.{ended_by, ends_as, finished_by, refusal_line, status_code};
 ghost use Rattle.msc_command.specs.Ending.{status_of};
+ghost use Rattle.msc_report.specs.Refusals.{of_reading};
 ghost use Rattle.msc_report.specs.Texts.{fault_line};
 
+use crate::notes::write_cause;
 use msc_ending::RunFault;
 use msc_judge::WriteFault;
-use msc_reason::PairFault;
-use msc_report::{Fault, write_fault, write_pair_fault};
+use msc_report::{Fault, NamedFault, write_fault, write_pair_fault};
 use msc_source::{ReadFault, SourceFault};
 use std::alloc::AllocError;
 use std::io;
@@ -70,8 +71,8 @@ pub(crate) fn finished_by(finished: bool) -> Status
 pub(crate) enum Refusal {
     /// A fault was met.
     Fault(Fault),
-    /// The numbers are no two events of the chart.
-    Pair(PairFault),
+    /// The names are those of no two events of the chart.
+    Pair(NamedFault),
 }
 
 impl From<AllocError> for Refusal {
@@ -162,4 +163,23 @@ pub(crate) fn end_refused<E: Write>(faults: &mut E, refusal: Refusal) -> (Status
             (Status::Refused, told)
         }
     }
+}
+
+/// Writes the line of a read that failed, and why where that is wanted, of the file of this name;
+/// and tells how the run ended.
+pub(crate) fn end_unread<E: Write>(
+    faults: &mut E,
+    file: &str,
+    fault: ReadFault,
+    notes: bool,
+) -> Status
+    ensures { result ≡ ends_as (Refusal.Fault (of_reading fault)) }
+{
+    let status = end_with(faults, fault.into()).0;
+    if let ReadFault::Device(error) = fault
+        && notes
+    {
+        let _ = write_cause(faults, file, &error);
+    }
+    status
 }

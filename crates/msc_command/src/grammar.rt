@@ -2,7 +2,7 @@
 
 ghost use Rattle.std.specs.Prelude.{◌≡◌, IfOk, map};
 ghost use Rattle.msc_command.specs.Grammar.{architecture_words, bare_command, choice_rule};
-ghost use Rattle.msc_command.specs.Grammar.{choices_rule, command_of, event_rule, file_rule};
+ghost use Rattle.msc_command.specs.Grammar.{choices_rule, command_of, file_rule};
 ghost use Rattle.msc_command.specs.Grammar.{flag_rule, form_words, kind_words, letter_rule};
 ghost use Rattle.msc_command.specs.Grammar.{needed_rule, number_rule, parsers_of, rule_of_word};
 ghost use Rattle.msc_command.specs.Grammar.{whole_command, IsArgument, IsCommand};
@@ -146,7 +146,7 @@ impl Lists {
 }
 
 /// What `msc --version` prints behind the program's name.
-const VERSION: &str = "0.1.0";
+const VERSION: &str = "0.2.0";
 
 /// What stands below the help of all commands.
 const NOTES: &str = "\
@@ -159,25 +159,15 @@ Exit status:
   4  memory ran out, a thread could not be started, or a file or the output failed
 
 Examples:
-  msc check --queues pair relay.msc
+  msc check --queues pair --places relay.msc
   msc explain --queues mailbox relay.msc 2 3
   msc run --queues mailbox relay.msc";
 
-/// An argument that names a file.
-fn file<'a>(alloc: Global, name: &'static str, help: &'static str) -> Arg<'a>
+/// An argument that names a file or an event.
+fn named_by<'a>(alloc: Global, name: &'static str, help: &'static str) -> Arg<'a>
     ensures { IsArgument (file_rule name.now) result }
 {
     Arg::new(alloc, name).help(help).required(true)
-}
-
-/// An argument that is the number of an event.
-fn event<'a>(alloc: Global, name: &'static str, help: &'static str) -> Arg<'a>
-    ensures { IsArgument (event_rule name.now) result }
-{
-    Arg::new(alloc, name)
-        .help(help)
-        .value_parser(value_parser!(u32))
-        .required(true)
 }
 
 /// An option that stands alone.
@@ -268,8 +258,7 @@ fn argument<'a>(alloc: Global, word: Word, lent: Choices<'a>) -> Arg<'a>
 {
     let (name, help) = (word.name(), word.help());
     match word.takes() {
-        Takes::File => file(alloc, name, help),
-        Takes::Event => event(alloc, name, help),
+        Takes::File | Takes::Event => named_by(alloc, name, help),
         Takes::Nothing => flag(alloc, name, help),
         Takes::NothingOrQ => letter(alloc, name, help),
         Takes::Number => number(alloc, name, help),

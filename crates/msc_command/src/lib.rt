@@ -7,8 +7,14 @@
 mod answering;
 mod ending;
 mod grammar;
+mod misuse;
+mod naming;
+mod notes;
 mod program;
+mod recorded;
+mod sited;
 mod tasks;
 mod words;
 
 pub use program::{command, refuse_words};
+pub use recorded::{Recorded, TellsFailure};

@@ -5,7 +5,7 @@ ghost use Rattle.std.specs.IoError.{error_kind};
 ghost use Rattle.std.specs.declared.io.ErrorKind.TheVariants.{OutOfMemory};
 ghost use Rattle.std.specs.String.{string_bytes};
 ghost use Rattle.clap.specs.Words.{found_of, kind_of};
-ghost use Rattle.msc_command.specs.Answering.{Performs};
+ghost use Rattle.msc_command.specs.Answering.{EndsAs};
 ghost use Rattle.msc_command.specs.Ending.{status_code};
 ghost use Rattle.msc_command.specs.Program.{EndsUsage, FollowsWords, IsFileText, IsNamed};
 ghost use Rattle.msc_command.specs.Program.{IsNamedVainly, LeavesInput, Obeys, ObeysMatches};
@@ -15,39 +15,43 @@ ghost use Rattle.msc_command.specs.declared.ending.Status.TheVariants.{Races, Un
 ghost use Rattle.msc_source.specs.Inputs.{IsReadFrom};
 
 use crate::answering::perform;
-use crate::ending::{Refusal, Status, end_refused, end_with};
+use crate::ending::{Status, end_unread, end_with};
 use crate::grammar::{Lists, grammar};
-use crate::tasks::{Task, file_of, task_of};
+use crate::misuse::tell_misuse;
+use crate::recorded::TellsFailure;
+use crate::tasks::{Request, Task, file_of, notes_of, task_of};
 use crate::words::Verb;
 use clap::{ArgMatches, Error};
 use msc_report::Fault;
+use msc_source::ReadFault;
 use std::alloc::{AllocError, Global};
-use std::io::{ErrorKind, Read, Write};
+use std::io::{ErrorKind, IsTerminal, Read, Write};
 use std::rt::Files;
 use std::sync::Wait;
 use std::thread::Threads;
 use std::{fs, io};
 
-/// Does a task over a file, or over `input` where it is `-`.
-fn perform_on<R: Files + Threads + Wait + Sync, I: Read, O: Write>(
+/// Does what is requested over a file, or over `input` where it is `-`.
+fn perform_on<R: Files + Threads + Wait + Sync, I: Read, O: TellsFailure, E: Write>(
     rt: &R,
     alloc: Global,
-    task: Task,
-    file: &str,
+    request: Request<'_>,
     input: &mut I,
     output: &mut O,
-) -> Result<Status, Refusal>
-    ensures performed { Performs O.contents task file.now (λ text. file.now ≡ codes "-"
+    faults: &mut E,
+) -> Status
+    ensures performed { EndsAs O.contents request.entry.task request.entry.file.now
+        (λ text. request.entry.file.now ≡ codes "-"
         → IsReadFrom (I.remaining input.old) (I.remaining input.new) text)
         result output.old output.new }
-    ensures apart { file.now ≢ codes "-" → input.new ≡ input.old }
+    ensures apart { request.entry.file.now ≢ codes "-" → input.new ≡ input.old }
 {
-    if file == "-" {
-        return perform(rt, alloc, task, file, input, output);
+    if request.file == "-" {
+        return perform(rt, alloc, request, input, output, faults);
     }
-    match fs::open(rt, file) {
-        Ok(mut opened) => perform(rt, alloc, task, file, &mut opened, output),
-        Err(_) => Err(Refusal::Fault(Fault::Device)),
+    match fs::open(rt, request.file) {
+        Ok(mut opened) => perform(rt, alloc, request, &mut opened, output, faults),
+        Err(error) => end_unread(faults, request.file, ReadFault::Device(error), request.notes),
     }
 }
 
@@ -69,16 +73,22 @@ fn tell_usage<O: Write, E: Write>(output: &mut O, faults: &mut E, error: &Error)
     }
 }
 
-/// What the words behind a command ask for, if they name it and are all there.
-fn task_named(name: &str, words: &ArgMatches) -> Option<Task>
+/// What the words behind a command ask for, if they name it and are all there. Why they ask for
+/// nothing goes to `faults`.
+fn task_named<E: Write>(name: &str, words: &ArgMatches, faults: &mut E) -> Option<Task>
     ensures { MatchOption result (IsNamedVainly name.now (found_of words.now))
         (IsNamed name.now (found_of words.now)) }
 {
-    task_of(Verb::of(name)?, words)
+    let verb = Verb::of(name)?;
+    let task = task_of(verb, words);
+    if task.is_none() {
+        tell_misuse(faults, verb, words);
+    }
+    task
 }
 
 /// Does what the words behind a command ask for, and tells how the run ended.
-fn obey<R: Files + Threads + Wait + Sync, I: Read, O: Write, E: Write>(
+fn obey<R: Files + Threads + Wait + Sync, I: Read, O: TellsFailure, E: Write + IsTerminal>(
     rt: &R,
     alloc: Global,
     name: &str,
@@ -92,18 +102,19 @@ fn obey<R: Files + Threads + Wait + Sync, I: Read, O: Write, E: Write>(
         output.old output.new }
     ensures apart { LeavesInput (found_of words.now) input.old input.new }
 {
-    let Some(task) = task_named(name, words) else {
+    let Some(task) = task_named(name, words, faults) else {
         return Status::Refused;
     };
-    let file = file_of(words);
-    match perform_on(rt, alloc, task, file, input, output) {
-        Ok(status) => status,
-        Err(refusal) => end_refused(faults, refusal).0,
-    }
+    let request = Request {
+        task,
+        file: file_of(words),
+        notes: notes_of(words, faults.is_terminal()),
+    };
+    perform_on(rt, alloc, request, input, output, faults)
 }
 
 /// Does what the words ask for that `clap` took, and tells how the run ended.
-fn obey_matches<R: Files + Threads + Wait + Sync, I: Read, O: Write, E: Write>(
+fn obey_matches<R: Files + Threads + Wait + Sync, I: Read, O: TellsFailure, E: Write + IsTerminal>(
     rt: &R,
     alloc: Global,
     matches: &ArgMatches,
@@ -123,7 +134,7 @@ fn obey_matches<R: Files + Threads + Wait + Sync, I: Read, O: Write, E: Write>(
 
 /// Does what the words ask for, and tells how the run ended. An error is a growth of memory that
 /// was refused before the words were known.
-fn run<R: Files + Threads + Wait + Sync, I: Read, O: Write, E: Write>(
+fn run<R: Files + Threads + Wait + Sync, I: Read, O: TellsFailure, E: Write + IsTerminal>(
     rt: &R,
     alloc: Global,
     words: &[String],
@@ -168,16 +179,21 @@ pub fn refuse_words<E: Write>(faults: &mut E, error: &io::Error) -> u8
 /// 4294967295 races and 1000000000 rounds. Of `check`, `--closest` lists the closest races alone,
 /// `--why` adds the kind of each and what it lacks, `--most N` lists the first N alone, `--allow
 /// KIND`, where KIND is `early`, `queues`, `unordered` or `overtaken`, leaves out the races of a
-/// kind, and `--quiet` writes nothing. FILE `-` is `input`, any other FILE is opened through `rt`.
+/// kind, `--format count` writes their number, `--format lines` lines for editors, and `--quiet`
+/// nothing. `msc list FILE` writes the events with their numbers. Of `check` and `explain`, `--words`
+/// tells runs in words; E and F are `:LINE` too, the first event of that line. `--places` tells where
+/// events stand. FILE `-` is `input`, any other FILE is opened through `rt`.
 ///
 /// What goes wrong is found in the order: the words, opening FILE, reading it, its text, the pair
-/// of events, running it. A fault's line, and what `clap` says of wrong words, go to `faults`;
+/// of events, running it. A fault's line, and what is said of wrong words, go to `faults`; behind
+/// the line, where `--places` asks for it or `faults` is a terminal and `--plain` does not stand,
+/// what is said of the fault;
 /// where that writing fails the status stays. The status is 0 where the answer or the help asked
 /// for was written, 1 where there are races that are not left out, or E is not enforced before F, 2
 /// where the text or the pair was refused or the words are no command, 3 where some instance of the
 /// execution has not finished, and 4 where memory ran out, a thread could not be started, a file
 /// could not be opened or read, or the output could not be written.
-pub fn command<R: Files + Threads + Wait + Sync, I: Read, O: Write, E: Write>(
+pub fn command<R: Files + Threads + Wait + Sync, I: Read, O: TellsFailure, E: Write + IsTerminal>(
     rt: &R,
     alloc: Global,
     words: Vec<String>,

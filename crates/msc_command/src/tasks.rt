@@ -3,17 +3,18 @@
 ghost use Rattle.std.specs.Prelude.{◌≡◌, MatchOption, Some, map};
 ghost use Rattle.clap.specs.Matches.{found_of};
 ghost use Rattle.msc_command.specs.Asking.{architecture, file_of, form, names_kind, AreAllowed};
-ghost use Rattle.msc_command.specs.Asking.{AsksFor, IsEventWord, IsFlag, IsNoCommand};
+ghost use Rattle.msc_command.specs.Asking.{AsksFor, IsEventWord, IsFlag, IsLook, IsNoCommand, LacksWords};
+ghost use Rattle.msc_command.specs.Asking.{tells_notes, IsTwofold, WantsNotes};
+ghost use Rattle.msc_command.specs.Asking.{IsNameText, IsNoName, IsNoNumber, IsNumberText};
 ghost use Rattle.msc_command.specs.Asking.{IsOptionNumber, IsQuestion, LacksEvent};
-ghost use Rattle.msc_command.specs.Formats.{IsFormat};
-ghost use Rattle.msc_command.specs.Words.{form_word, word_name};
+ghost use Rattle.msc_command.specs.Words.{form_of_word, form_word, word_name};
 
 use crate::words::{Verb, Word};
 use clap::ArgMatches;
-use msc_chart::{Event, Queues};
+use msc_chart::Queues;
 use msc_judge::Question;
 use msc_reason::{KindSet, RaceKind};
-use msc_text::Format;
+use msc_report::EventName;
 
 /// In which form an answer is written.
 #[derive(Clone, Copy)]
@@ -22,11 +23,13 @@ pub(crate) enum Form {
     Text,
     /// One line for each file.
     Count,
+    /// Lines that editors read.
+    Lines,
 }
 
 impl Form {
     /// Each form once.
-    pub const ALL: [Form; 2] = [Form::Text, Form::Count];
+    pub const ALL: [Form; 3] = [Form::Text, Form::Count, Form::Lines];
 
     /// The word for it.
     pub fn word(self) -> &'static str
@@ -35,32 +38,63 @@ impl Form {
         match self {
             Form::Text => "text",
             Form::Count => "count",
+            Form::Lines => "lines",
         }
     }
 
-    /// The format for a file of this name.
-    pub fn format<'f>(self, file: &'f str) -> Format<'f>
-        ensures { IsFormat self file.entry.now result }
+    /// The form of a word.
+    fn of(word: &str) -> Option<Form>
+        ensures { result ≡ form_of_word word.now }
     {
-        match self {
-            Form::Text => Format::Lines,
-            Form::Count => Format::Count(file.as_bytes()),
+        for form in Form::ALL {
+            if word == form.word() {
+                return Some(form);
+            }
         }
+        None
     }
+}
+
+/// How an answer speaks of events beside their numbers.
+#[derive(Clone, Copy)]
+pub(crate) struct Look {
+    /// Whether it tells where they stand.
+    pub places: bool,
+    /// Whether it tells runs in words.
+    pub words: bool,
+}
+
+/// What is asked of the races under an architecture, and how it is answered.
+#[derive(Clone, Copy)]
+pub(crate) struct Checking {
+    pub queues: Queues,
+    pub question: Question,
+    pub form: Form,
+    pub look: Look,
+}
+
+/// What is asked of two events under an architecture, and how it is answered.
+#[derive(Clone, Copy)]
+pub(crate) struct Explaining {
+    pub queues: Queues,
+    pub first: EventName,
+    pub second: EventName,
+    pub look: Look,
 }
 
 /// What is asked of a chart.
 #[derive(Clone, Copy)]
 pub(crate) enum Ask {
-    /// What is asked of the races under an architecture, in a form.
-    Check(Queues, Question, Form),
+    /// What its races are.
+    Check(Checking),
     /// Whether no race counts under an architecture, of none of these kinds, without a text.
     Quiet(Queues, KindSet),
-    /// Why the first of two events comes before the second under an architecture, or how it need
-    /// not.
-    Explain(Queues, Event, Event),
+    /// Why the first of two events comes before the second, or how it need not.
+    Explain(Explaining),
     /// An execution under an architecture, and how many rounds in a row an instance looks in vain.
     Run(Queues, u32),
+    /// Its events, and whether it is told where they stand.
+    List(bool),
 }
 
 /// What is asked of a text.
@@ -72,15 +106,44 @@ pub(crate) enum Task {
     Chart(Ask),
 }
 
+/// What a run of the program has to do: a task, to the text of the file of this name.
+#[derive(Clone, Copy)]
+pub(crate) struct Request<'w> {
+    pub task: Task,
+    pub file: &'w str,
+    /// Whether it is told what is said of a refusal behind its line.
+    pub notes: bool,
+}
+
 /// How many rounds in a row an instance looks for messages in vain, where the words do not say.
 const DEFAULT_PATIENCE: u32 = 1_000_000_000;
 
+/// The number of a text.
+fn number_in(text: &str) -> Option<u32>
+    ensures { MatchOption result (IsNoNumber text.now) (IsNumberText text.now) }
+{
+    text.parse().ok()
+}
+
+/// The event that a text names, if it does: a number, or `:` and one from 1 on.
+pub(crate) fn name_in(text: &str) -> Option<EventName>
+    ensures { MatchOption result (IsNoName text.now) (IsNameText text.now) }
+{
+    let Some(line) = text.strip_prefix(':') else {
+        return Some(EventName::Number(number_in(text)?));
+    };
+    match number_in(line)? {
+        0 => None,
+        line => Some(EventName::Line(line)),
+    }
+}
+
 /// The event that a word names, if it does.
-fn event_of(words: &ArgMatches, word: Word) -> Option<Event>
+fn event_of(words: &ArgMatches, word: Word) -> Option<EventName>
     ensures { MatchOption result (LacksEvent (found_of words.now) (word_name word))
         (IsEventWord (found_of words.now) (word_name word)) }
 {
-    words.get_one(word.name())
+    name_in(words.get_str(word.name())?)
 }
 
 /// The number of an option, and `without` where it does not stand.
@@ -134,13 +197,44 @@ fn question_of(words: &ArgMatches) -> Question
 fn form_of(words: &ArgMatches) -> Form
     ensures { result ≡ form (found_of words.now) }
 {
-    let Some(word) = words.get_str(Word::Format.name()) else {
-        return Form::Text;
-    };
-    if word == Form::Count.word() {
-        return Form::Count;
+    match words.get_str(Word::Format.name()) {
+        Some(word) => Form::of(word).unwrap_or(Form::Text),
+        None => Form::Text,
     }
-    Form::Text
+}
+
+/// Whether it is told what is said of a refusal behind its line: where places are asked for, and on
+/// a terminal unless plain lines are.
+fn tells_notes(places: bool, plain: bool, terminal: bool) -> bool
+    ensures { result ≡ tells_notes places plain terminal }
+{
+    places || terminal && !plain
+}
+
+/// Whether what is said of a refusal is told behind its line.
+pub(crate) fn notes_of(words: &ArgMatches, terminal: bool) -> bool
+    ensures { WantsNotes (found_of words.now) terminal result }
+{
+    let places = is_given(words, Word::Places);
+    tells_notes(places, is_given(words, Word::Plain), terminal)
+}
+
+/// Whether words stand that exclude each other.
+pub(crate) fn is_twofold(words: &ArgMatches) -> bool
+    ensures { IsTwofold (found_of words.now) result }
+{
+    let (places, plain) = (is_given(words, Word::Places), is_given(words, Word::Plain));
+    places && plain
+}
+
+/// How the words want an answer to speak.
+fn look_of(words: &ArgMatches) -> Look
+    ensures { IsLook (found_of words.now) result }
+{
+    Look {
+        places: is_given(words, Word::Places),
+        words: is_given(words, Word::Words),
+    }
 }
 
 /// The file that the words name.
@@ -168,7 +262,12 @@ fn check_of(queues: Queues, words: &ArgMatches) -> Task
     if is_given(words, Word::Quiet) {
         return Task::Chart(Ask::Quiet(queues, allowed_of(words)));
     }
-    Task::Chart(Ask::Check(queues, question_of(words), form_of(words)))
+    Task::Chart(Ask::Check(Checking {
+        queues,
+        question: question_of(words),
+        form: form_of(words),
+        look: look_of(words),
+    }))
 }
 
 /// What the words of `msc run` ask for.
@@ -186,14 +285,24 @@ fn explain_of(queues: Queues, words: &ArgMatches) -> Option<Task>
         → MatchOption result (IsNoCommand Verb.Explain (found_of words.now))
         (AsksFor Verb.Explain (found_of words.now)) }
 {
-    let e = event_of(words, Word::FirstEvent)?;
-    let f = event_of(words, Word::SecondEvent)?;
-    Some(Task::Chart(Ask::Explain(queues, e, f)))
+    Some(Task::Chart(Ask::Explain(Explaining {
+        queues,
+        first: event_of(words, Word::FirstEvent)?,
+        second: event_of(words, Word::SecondEvent)?,
+        look: look_of(words),
+    })))
+}
+
+/// What the words of `msc list` ask for.
+fn list_of(words: &ArgMatches) -> Task
+    ensures { AsksFor Verb.List (found_of words.now) result }
+{
+    Task::Chart(Ask::List(is_given(words, Word::Places)))
 }
 
 /// What the words behind a command ask for, if they are all there.
-pub(crate) fn task_of(verb: Verb, words: &ArgMatches) -> Option<Task>
-    ensures { MatchOption result (IsNoCommand verb (found_of words.now))
+fn complete_task(verb: Verb, words: &ArgMatches) -> Option<Task>
+    ensures { MatchOption result (LacksWords verb (found_of words.now))
         (AsksFor verb (found_of words.now)) }
 {
     match verb {
@@ -201,5 +310,17 @@ pub(crate) fn task_of(verb: Verb, words: &ArgMatches) -> Option<Task>
         Verb::Check => Some(check_of(queues_of(words)?, words)),
         Verb::Explain => explain_of(queues_of(words)?, words),
         Verb::Run => Some(run_of(queues_of(words)?, words)),
+        Verb::List => Some(list_of(words)),
     }
+}
+
+/// What the words behind a command ask for, if they are all there and none excludes another.
+pub(crate) fn task_of(verb: Verb, words: &ArgMatches) -> Option<Task>
+    ensures { MatchOption result (IsNoCommand verb (found_of words.now))
+        (AsksFor verb (found_of words.now)) }
+{
+    if is_twofold(words) {
+        return None;
+    }
+    complete_task(verb, words)
 }

@@ -11,6 +11,7 @@ pub(crate) enum Verb {
     Check,
     Explain,
     Run,
+    List,
 }
 
 /// A word behind a command: an argument, or an option with what it takes.
@@ -25,7 +26,10 @@ pub(crate) enum Word {
     Allow,
     Format,
     Quiet,
+    Words,
     Patience,
+    Places,
+    Plain,
     FirstEvent,
     SecondEvent,
 }
@@ -35,7 +39,7 @@ pub(crate) enum Word {
 pub(crate) enum Takes {
     /// An argument: the name of a file.
     File,
-    /// An argument: the number of an event.
+    /// An argument: the name of an event, its number or `:LINE`.
     Event,
     /// An option that stands alone.
     Nothing,
@@ -66,7 +70,10 @@ impl Word {
             Word::Allow => "allow",
             Word::Format => "format",
             Word::Quiet => "quiet",
+            Word::Words => "words",
             Word::Patience => "patience",
+            Word::Places => "places",
+            Word::Plain => "plain",
             Word::FirstEvent => "E",
             Word::SecondEvent => "F",
         }
@@ -79,7 +86,7 @@ impl Word {
         match self {
             Word::File => Takes::File,
             Word::FirstEvent | Word::SecondEvent => Takes::Event,
-            Word::Closest | Word::Why => Takes::Nothing,
+            Word::Closest | Word::Why | Word::Words | Word::Places | Word::Plain => Takes::Nothing,
             Word::Quiet => Takes::NothingOrQ,
             Word::Most | Word::Show | Word::Patience => Takes::Number,
             Word::Queues => Takes::Architecture,
@@ -105,21 +112,30 @@ impl Word {
                 "Leave out the races of this kind, in the list and in the status; may be repeated"
             }
             Word::Format => {
-                "Print lines of text, or one line with the number of races; without it, text"
+                "Print lines of text, lines that editors read, or one line with the number of races"
             }
             Word::Quiet => "Print nothing; the status tells",
+            Word::Words => "Print a run in words, a line for each of its events",
             Word::Patience => {
                 "End an instance that looked in vain N times in a row; without it, 1000000000"
             }
-            Word::FirstEvent => "The number of the first event",
-            Word::SecondEvent => "The number of the second event",
+            Word::Places => "Print where events stand, and what is said of a fault",
+            Word::Plain => "Print nothing behind the line of a fault, also on a terminal",
+            Word::FirstEvent => "The first event: its number, or :LINE, the first one on that line",
+            Word::SecondEvent => "The second event",
         }
     }
 }
 
 impl Verb {
     /// Each command once, in the order of the help.
-    pub const ALL: [Verb; 4] = [Verb::Read, Verb::Check, Verb::Explain, Verb::Run];
+    pub const ALL: [Verb; 5] = [
+        Verb::Read,
+        Verb::Check,
+        Verb::Explain,
+        Verb::Run,
+        Verb::List,
+    ];
 
     /// Its name.
     pub fn name(self) -> &'static str
@@ -130,6 +146,7 @@ impl Verb {
             Verb::Check => "check",
             Verb::Explain => "explain",
             Verb::Run => "run",
+            Verb::List => "list",
         }
     }
 
@@ -150,7 +167,7 @@ impl Verb {
         ensures { result.now ≡ words_of self }
     {
         match self {
-            Verb::Read => &[Word::File],
+            Verb::Read => &[Word::Places, Word::Plain, Word::File],
             Verb::Check => &[
                 Word::Queues,
                 Word::Closest,
@@ -160,15 +177,28 @@ impl Verb {
                 Word::Allow,
                 Word::Format,
                 Word::Quiet,
+                Word::Words,
+                Word::Places,
+                Word::Plain,
                 Word::File,
             ],
             Verb::Explain => &[
                 Word::Queues,
+                Word::Words,
+                Word::Places,
+                Word::Plain,
                 Word::File,
                 Word::FirstEvent,
                 Word::SecondEvent,
             ],
-            Verb::Run => &[Word::Queues, Word::Patience, Word::File],
+            Verb::Run => &[
+                Word::Queues,
+                Word::Patience,
+                Word::Places,
+                Word::Plain,
+                Word::File,
+            ],
+            Verb::List => &[Word::Places, Word::Plain, Word::File],
         }
     }
 
@@ -183,6 +213,7 @@ impl Verb {
             Verb::Run => {
                 "Run the chart on threads, and print how each instance ended and the trace"
             }
+            Verb::List => "Print the chart's events with their numbers",
         }
     }
 
@@ -193,6 +224,7 @@ impl Verb {
             Verb::Check => CHECK_NOTES,
             Verb::Explain => EXPLAIN_NOTES,
             Verb::Run => RUN_NOTES,
+            Verb::List => LIST_NOTES,
         }
     }
 }
@@ -254,3 +286,13 @@ Exit status:
 
 Example:
   msc run --queues mailbox relay.msc";
+
+/// What stands below the help of `msc list`.
+const LIST_NOTES: &str = "\
+Exit status:
+  0  the events were written
+  2  the text was refused, or the words are no command
+  4  memory ran out, or a file or the output failed
+
+Example:
+  msc list --places relay.msc";

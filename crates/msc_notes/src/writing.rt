@@ -1,57 +1,14 @@
-//! Places and notes as they are printed.
+//! Notes as they are printed.
 
-ghost use Rattle.std.specs.Prelude.{◌≡◌, map, OnOk};
+ghost use Rattle.std.specs.Prelude.{OnOk};
 ghost use Rattle.std.specs.Io.KnownBytes.{Appends};
-ghost use Rattle.msc_notes.specs.Texts.{note_words, pair_line, place_text, shown_byte};
+ghost use Rattle.msc_notes.specs.Texts.{note_words};
 
 use crate::note::{Note, Tag, Told};
+use msc_place::writing::{write_place, write_places};
 use msc_place::{Lines, Position};
 use std::io;
 use std::io::Write;
-
-/// What is shown for a byte of a file's name: `?` for one that can't be printed.
-fn shown(byte: u8) -> u8
-    ensures { result ≡ shown_byte byte }
-{
-    if byte < 32 || byte == 127 { b'?' } else { byte }
-}
-
-/// Writes the name of a file.
-fn write_file<W: Write>(writer: &mut W, file: &[u8]) -> io::Result<()>
-    ensures { OnOk result (Appends (W.contents writer.old) (W.contents writer.new)
-        (map shown_byte file.now)) }
-{
-    for byte in file {
-        writer.write_all(&[shown(*byte)])?;
-    }
-    Ok(())
-}
-
-/// Writes a place: the file's name, the line and the column.
-pub fn write_place<W: Write>(writer: &mut W, file: &[u8], position: Position) -> io::Result<()>
-    ensures { OnOk result (Appends (W.contents writer.old) (W.contents writer.new)
-        (place_text file.now position.line position.column)) }
-{
-    write_file(writer, file)?;
-    write!(writer, ":{}:{}", position.line, position.column)
-}
-
-/// Writes the line of the places of two events.
-pub fn write_pair<W: Write>(
-    writer: &mut W,
-    file: &[u8],
-    first: Position,
-    second: Position,
-) -> io::Result<()>
-    ensures { OnOk result (Appends (W.contents writer.old) (W.contents writer.new)
-        (pair_line file.now first second)) }
-{
-    writer.write_all(b"at ")?;
-    write_place(writer, file, first)?;
-    writer.write_all(b" ")?;
-    write_place(writer, file, second)?;
-    writer.write_all(b"\n")
-}
 
 /// The position of a place; one past the text is its end.
 fn position_of(lines: &Lines, at: usize) -> Position {
@@ -87,7 +44,7 @@ pub fn write_note<W: Write>(
     match note.pair {
         Some((first, second)) => {
             let second = position_of(lines, second);
-            write_pair(writer, file, position_of(lines, first), second)
+            write_places(writer, file, position_of(lines, first), second)
         }
         None => Ok(()),
     }

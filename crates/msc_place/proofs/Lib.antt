@@ -16,4 +16,5 @@ pub mod StandingLemmas
 pub mod InsideLemmas
 pub mod OneBeginning
 pub mod OnLines
+pub mod SiteLemmas
 pub mod SpotLemmas

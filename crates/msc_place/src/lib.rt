@@ -12,11 +12,14 @@ pub mod laws;
 mod naming;
 mod places;
 mod position;
+mod sites;
 mod spots;
 mod statements;
+pub mod writing;
 
 pub use excerpting::excerpt;
 pub use index::Lines;
 pub use places::{EventPlace, Places};
 pub use position::Position;
+pub use sites::Sites;
 pub use spots::{Spot, spot_at};

@@ -8,6 +8,7 @@ ghost use Rattle.msc_lexer.specs.Lexing.{HasTokens};
 ghost use Rattle.msc_parser.specs.Drafts.{statements_of};
 ghost use Rattle.msc_parser.specs.Grammar.{Tree};
 ghost use Rattle.msc_parser.specs.Parsing.{HasDraft};
+ghost use Rattle.msc_place.specs.Sites.{AreSites};
 ghost use Rattle.msc_place.specs.Standing.{ArePlaces, IsInside, IsEventPlace};
 ghost use Rattle.msc_place.specs.Standing.{NamesDecl, NamesSection};
 ghost use Rattle.msc_place.specs.Standing.{HasNoneOnLine, IsFirstOnLine};
@@ -15,6 +16,7 @@ ghost use Rattle.msc_place.specs.Standing.{HasNoneOnLine, IsFirstOnLine};
 use crate::index::Lines;
 use crate::laws::each_event_begins_once;
 use crate::naming::{Part, name_places};
+use crate::position::Position;
 use crate::statements::event_places;
 use msc_lexer::{LexFault, Token, lex};
 use std::alloc::{AllocError, Global};
@@ -138,6 +140,21 @@ impl<'t> Places<'t> {
     {
         self.known();
         nth(&self.header, k)
+    }
+
+    /// The positions at which the statements of the events begin, in the order of the text. The
+    /// only error is want of memory.
+    pub fn positions(&self, alloc: Global, lines: &Lines) -> Result<Vec<Position>, AllocError>
+        requires { lines.now ≡ self.now.text }
+        ensures { IfOk result (λ positions. (t : Tree) → HasDraft self.now.text t
+            → AreSites self.now.text t positions.items) }
+    {
+        self.known();
+        let mut positions = Vec::new(alloc);
+        for event in self.events.iter() {
+            positions.push(lines.position(event.start))?;
+        }
+        Ok(positions)
     }
 
     /// The first event whose statement begins on a line, if there is one. It takes no memory.

@@ -4,8 +4,11 @@ pub mod Texts
 pub mod Verdicts
 pub mod Traces
 pub mod EventTexts
+pub mod Styles
+pub mod Lists
 pub mod Lines
 pub mod Counts
+pub mod Editors
 pub mod Reasons
 pub mod Fitting
 -- what the code keeps

@@ -6,8 +6,10 @@ use Rattle.msc_reason.specs.Lacks.{kind_word}
 use Rattle.msc_reason.specs.declared.lack.Lack.{Lack}
 use Rattle.msc_judge.specs.declared.renderer.Finding.{Finding}
 use Rattle.msc_judge.specs.declared.renderer.Heading.{Heading}
+use Rattle.msc_place.specs.Sites.{SitesIn}
+use Rattle.msc_report.specs.Styles.{at_text}
 use Rattle.msc_report.specs.Texts.{text_line}
-use Rattle.msc_report.specs.Verdicts.{event_at, head_text, race_text, run_line}
+use Rattle.msc_report.specs.Verdicts.{event_at, head_text, race_text}
 
 -- how many races do not count, where kinds are left out
 abbrev pub left_out_line : Option ℕ → List ℕ
@@ -37,24 +39,27 @@ pair_line word d e f =
     word ++ (codes " " ++ (decimal e ++ (codes " " ++ (decimal f
     ++ (codes ": " ++ (event_at d e ++ (codes "; " ++ text_line (event_at d f))))))))
 
--- the pair that a race lacks
-abbrev pub needs_line : Drawing → Lack → List ℕ
-needs_line d lack = pair_line (codes "needs") d lack.needed lack.output
+-- such a line behind blanks, and the places of both events behind the same, where places are told
+abbrev pub pair_text : Option SitesIn → List ℕ → List ℕ → Drawing → ℕ → ℕ → List ℕ
+pair_text sites blanks word d e f = blanks ++ (pair_line word d e f ++ at_text sites blanks e f)
 
--- why a pair is a race
-abbrev pub why_text : Drawing → Lack → List ℕ
-why_text d lack = kind_line lack ++ needs_line d lack
+-- why a pair is a race: its kind, and the pair that it lacks
+abbrev pub why_text : Option SitesIn → Drawing → Lack → List ℕ
+why_text sites d lack = kind_line lack ++ pair_text sites [] (codes "needs") d lack.needed lack.output
 
 -- the same, where it is told
-abbrev pub lack_text : Drawing → Option Lack → List ℕ
-lack_text d None = []
-lack_text d (Some lack) = why_text d lack
+abbrev pub lack_text : Option SitesIn → Drawing → Option Lack → List ℕ
+lack_text sites d None = []
+lack_text sites d (Some lack) = why_text sites d lack
 
--- the line of a run, where it is shown
+-- what was made of a run, where it is shown
 abbrev pub shown_line : Option (List ℕ) → List ℕ
 shown_line None = []
 shown_line (Some line) = line
 
--- a race with what is told of it: why it is one, and the line of the run that shows it
-abbrev pub finding_text : Drawing → Finding → Option (List ℕ) → List ℕ
-finding_text d f line = race_text d f.first f.second None ++ (lack_text d f.lack ++ shown_line line)
+-- a race with what is told of it: its places, why it is one, and what was made of the run that shows
+-- it
+abbrev pub finding_text : Option SitesIn → Drawing → Finding → Option (List ℕ) → List ℕ
+finding_text sites d f line =
+    race_text d f.first f.second None
+    ++ (at_text sites [] f.first f.second ++ (lack_text sites d f.lack ++ shown_line line))

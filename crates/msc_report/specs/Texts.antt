@@ -11,8 +11,10 @@ use Rattle.msc_chart.specs.declared.fault.ChartFault.{ChartFault}
 use Rattle.msc_chart.specs.declared.fault.ChartFault.TheVariants as charts
 use Rattle.msc_report.specs.declared.fault.Fault.{Fault}
 use Rattle.msc_report.specs.declared.fault.Fault.TheVariants.{Parse, Chart, NotStarted, Memory, Device}
-use Rattle.msc_reason.specs.declared.pair.PairFault.{PairFault}
-use Rattle.msc_reason.specs.declared.pair.PairFault.TheVariants.{NoEvent, OneEvent}
+use Rattle.msc_report.specs.declared.pair.EventName.{EventName}
+use Rattle.msc_report.specs.declared.pair.EventName.TheVariants.{Number, Line}
+use Rattle.msc_report.specs.declared.pair.NamedFault.{NamedFault}
+use Rattle.msc_report.specs.declared.pair.NamedFault.TheVariants.{NoEvent, OneEvent}
 
 -- one line of words
 abbrev pub text_line : List ℕ → List ℕ
@@ -67,7 +69,13 @@ fault_line (NotStarted i) =
 fault_line Memory = text_line (codes "memory fault")
 fault_line Device = text_line (codes "device fault")
 
--- the line of why two numbers are no two events of a chart
-abbrev pub pair_fault_line : PairFault → List ℕ
-pair_fault_line (NoEvent e) = placed (codes "pair fault 1: no event ") e []
-pair_fault_line (OneEvent e) = codes "pair fault 2: " ++ (decimal e ++ placed (codes " and ") e (codes " are one event"))
+-- the name of an event on a command line: its number, or a line of the text
+abbrev pub event_word : EventName → List ℕ
+event_word (Number e) = decimal e
+event_word (Line line) = codes ":" ++ decimal line
+
+-- the line of why two names are no two events of a chart
+abbrev pub pair_fault_line : NamedFault → List ℕ
+pair_fault_line (NoEvent name) = codes "pair fault 1: no event " ++ text_line (event_word name)
+pair_fault_line (OneEvent e f) =
+    codes "pair fault 2: " ++ (event_word e ++ (codes " and " ++ (event_word f ++ text_line (codes " are one event"))))

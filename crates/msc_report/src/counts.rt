@@ -6,6 +6,7 @@ ghost use Rattle.msc_report.specs.Counts.{tally_line};
 
 use msc_chart::{Chart, Event};
 use msc_judge::{Finding, Heading, Page, Renderer};
+use msc_place::writing::write_file;
 use std::alloc::{AllocError, Global};
 use std::io;
 use std::io::Write;
@@ -28,7 +29,7 @@ fn write_tally<W: Write>(writer: &mut W, file: &[u8], heading: Heading) -> io::R
         let (races, closest) = (heading.races, heading.closest.unwrap_or(0));
         write!(writer, "races {races} closest {closest} ")?;
     }
-    writer.write_all(file)?;
+    write_file(writer, file)?;
     writer.write_all(b"\n")
 }
 

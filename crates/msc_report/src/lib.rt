@@ -7,22 +7,30 @@
 #![tactic(auto)]
 
 mod counts;
+mod editor;
 mod event_texts;
 mod fault;
 mod lines;
+mod list;
+mod pair;
 mod race;
 mod race_line;
 mod reasons;
+mod style;
 mod trace;
 mod verdict;
 mod writing;
 
 pub use counts::Counts;
+pub use editor::Editor;
 pub use event_texts::EventTexts;
 pub use fault::Fault;
 pub use lines::Lines;
+pub use list::write_list;
+pub use pair::{EventName, NamedFault, write_pair_fault};
 pub use race::write_race;
 pub use reasons::write_explained;
+pub use style::Style;
 pub use trace::write_trace;
 pub use verdict::write_verdict;
-pub use writing::{write_draft, write_fault, write_pair_fault};
+pub use writing::{write_draft, write_fault};

@@ -2,18 +2,26 @@
 //! is asked for, and the run that shows it.
 
 ghost use Rattle.std.specs.Prelude.{◌≡◌, ◌<◌, [], ◌++◌, IfOk, MatchOption, None, OnOk, Some, length};
+ghost use Rattle.std.specs.Prelude.{option_map};
 ghost use Rattle.std.specs.Io.KnownBytes.{Appends};
+ghost use Rattle.std.specs.List.{All};
+ghost use Rattle.msc_chart.specs.Drawings.{Drawing};
+ghost use Rattle.msc_place.specs.Sites.{sites_line};
 ghost use Rattle.msc_report.specs.Fitting.{FitsLines};
 ghost use Rattle.msc_report.specs.Lines.{closest_line, finding_text, heading_text, kind_line};
-ghost use Rattle.msc_report.specs.Lines.{lack_text, left_out_line, pair_line, why_text};
+ghost use Rattle.msc_report.specs.Lines.{lack_text, left_out_line, pair_line, pair_text, why_text};
+ghost use Rattle.msc_report.specs.Styles.{at_text, run_text, sites_in, steps_text};
 ghost use Rattle.msc_report.specs.Verdicts.{race_text, run_line};
 ghost use Rattle.msc_reason.specs.Named.{NamesLack};
 
 use crate::event_texts::EventTexts;
 use crate::race::{write_event_at, write_race, write_run};
+use crate::style::{Style, write_at};
+use crate::trace::write_steps;
 use crate::verdict::write_head;
 use msc_chart::{Chart, Event};
 use msc_judge::{Finding, Heading, Page, Renderer};
+use msc_place::Sites;
 use msc_reason::Lack;
 use std::alloc::{AllocError, Global};
 use std::io;
@@ -33,7 +41,7 @@ fn write_kind<W: Write>(writer: &mut W, lack: &Lack) -> io::Result<()>
 }
 
 /// Writes a line that names two events: a word, their numbers, and what both of them do.
-pub fn write_pair<W: Write>(
+fn write_pair<W: Write>(
     writer: &mut W,
     chart: &Chart,
     word: &str,
@@ -52,15 +60,40 @@ pub fn write_pair<W: Write>(
     writer.write_all(b"\n")
 }
 
+/// Writes such a line, and the line of their places behind the same blanks, where places are told.
+pub(crate) fn write_placed_pair<W: Write>(
+    writer: &mut W,
+    chart: &Chart,
+    sites: Option<&Sites<'_>>,
+    blanks: &str,
+    word: &str,
+    e: Event,
+    f: Event,
+) -> io::Result<()>
+    requires e_known { e < length chart.now.events }
+    requires f_known { f < length chart.now.events }
+    ensures { OnOk result (Appends (W.contents writer.old) (W.contents writer.new)
+        (pair_text (option_map (λ s. s.now) sites.entry) blanks.now word.now chart.now e f)) }
+{
+    writer.write_all(blanks.as_bytes())?;
+    write_pair(writer, chart, word, e, f)?;
+    write_at(writer, sites, blanks, e, f)
+}
+
 /// Writes why a pair is a race.
-pub fn write_why<W: Write>(writer: &mut W, chart: &Chart, lack: &Lack) -> io::Result<()>
+pub(crate) fn write_why<W: Write>(
+    writer: &mut W,
+    chart: &Chart,
+    lack: &Lack,
+    sites: Option<&Sites<'_>>,
+) -> io::Result<()>
     requires needed { lack.now.needed < length chart.now.events }
     requires output { lack.now.output < length chart.now.events }
     ensures { OnOk result (Appends (W.contents writer.old) (W.contents writer.new)
-        (why_text chart.now lack.now)) }
+        (why_text (option_map (λ s. s.now) sites.entry) chart.now lack.now)) }
 {
     write_kind(writer, lack)?;
-    write_pair(writer, chart, "needs", lack.needed, lack.output)
+    write_placed_pair(writer, chart, sites, "", "needs", lack.needed, lack.output)
 }
 
 /// Writes how many races do not count, where kinds are left out.
@@ -98,12 +131,17 @@ fn write_heading<W: Write>(writer: &mut W, chart: &Chart, heading: Heading) -> i
 /// Puts why a pair is a race behind a page.
 // Apart from `put_lack`, which is called for each race: room for it is made only here.
 #[inline(never)]
-fn put_why(page: &mut Page, chart: &Chart, lack: &Lack) -> Result<(), AllocError>
+fn put_why(
+    page: &mut Page,
+    chart: &Chart,
+    lack: &Lack,
+    sites: Option<&Sites<'_>>,
+) -> Result<(), AllocError>
     requires { NamesLack chart.now lack.now }
-    ensures { OnOk result (page.new.bytes.items
-        ≡ page.old.bytes.items ++ why_text chart.now lack.now) }
+    ensures { OnOk result (page.new.bytes.items ≡ page.old.bytes.items
+        ++ why_text (option_map (λ s. s.now) sites.entry) chart.now lack.now) }
 {
-    match write_why(page, chart, lack) {
+    match write_why(page, chart, lack, sites) {
         Ok(()) => Ok(()),
         Err(_) => Err(AllocError),
     }
@@ -124,35 +162,99 @@ fn put_bare_race(page: &mut Page, chart: &Chart, e: Event, f: Event) -> Result<(
     }
 }
 
-/// Puts why a pair is a race behind a page, where that is told.
-fn put_lack(page: &mut Page, chart: &Chart, lack: Option<Lack>) -> Result<(), AllocError>
-    requires { MatchOption lack (Unit {0}) (NamesLack chart.now) }
+/// Puts the places of a race behind a page.
+// Apart from `put_places`, which is called for each race: room for it is made only here.
+#[inline(never)]
+fn put_sites(page: &mut Page, sites: &Sites<'_>, e: Event, f: Event) -> Result<(), AllocError>
     ensures { OnOk result (page.new.bytes.items
-        ≡ page.old.bytes.items ++ lack_text chart.now lack) }
+        ≡ page.old.bytes.items ++ sites_line sites.now e f) }
+{
+    match sites.write_sites_line(page, e, f) {
+        Ok(()) => Ok(()),
+        Err(_) => Err(AllocError),
+    }
+}
+
+/// Puts the places of a race behind a page, where places are told.
+fn put_places(
+    page: &mut Page,
+    sites: Option<&Sites<'_>>,
+    e: Event,
+    f: Event,
+) -> Result<(), AllocError>
+    ensures { OnOk result (page.new.bytes.items ≡ page.old.bytes.items
+        ++ at_text (option_map (λ s. s.now) sites.entry) [] e f) }
+{
+    let Some(sites) = sites else {
+        return Ok(());
+    };
+    put_sites(page, sites, e, f)
+}
+
+/// Puts why a pair is a race behind a page, where that is told.
+fn put_lack(
+    page: &mut Page,
+    chart: &Chart,
+    lack: Option<Lack>,
+    sites: Option<&Sites<'_>>,
+) -> Result<(), AllocError>
+    requires { MatchOption lack (Unit {0}) (NamesLack chart.now) }
+    ensures { OnOk result (page.new.bytes.items ≡ page.old.bytes.items
+        ++ lack_text (option_map (λ s. s.now) sites.entry) chart.now lack) }
 {
     let Some(lack) = lack else {
         return Ok(());
     };
-    put_why(page, chart, &lack)
+    put_why(page, chart, &lack, sites)
 }
 
-/// Lines of races. The texts of the chart's events are made once, where it has races.
+/// The lines of a run in words.
+fn steps_of(alloc: Global, chart: &Chart, run: &[Event]) -> Result<Vec<u8>, AllocError>
+    requires { All (λ e. e < length chart.now.events) run.now }
+    ensures { IfOk result (λ lines. lines.items ≡ steps_text chart.now run.now) }
+{
+    let mut lines = Page::new(alloc);
+    match write_steps(&mut lines, chart, run) {
+        Ok(()) => Ok(lines.bytes),
+        Err(_) => Err(AllocError),
+    }
+}
+
+/// The line of a run.
+fn line_of(alloc: Global, run: &[Event]) -> Result<Vec<u8>, AllocError>
+    ensures { IfOk result (λ line. line.items ≡ run_line (Some run.now)) }
+{
+    let mut line = Page::new(alloc);
+    match write_run(&mut line, run) {
+        Ok(()) => Ok(line.bytes),
+        Err(_) => Err(AllocError),
+    }
+}
+
+/// Lines of races, in a style. The texts of the chart's events are made once, where it has races.
 #[derive(Drop)]
-pub struct Lines {
+pub struct Lines<'s> {
     texts: Option<EventTexts>,
+    style: Style<'s>,
 }
 
-impl Lines {
+impl<'s> Lines<'s> {
     /// Lines of the races of a chart that has so many. An error is a growth of memory that was
     /// refused.
-    pub fn of(alloc: Global, chart: &Chart, races: u32) -> Result<Lines, AllocError>
-        ensures { IfOk result (FitsLines chart.now) }
+    pub fn of(
+        alloc: Global,
+        chart: &Chart,
+        races: u32,
+        style: Style<'s>,
+    ) -> Result<Lines<'s>, AllocError>
+        ensures fits { IfOk result (FitsLines chart.now) }
+        ensures style { IfOk result (λ lines. lines.style ≡ style.entry) }
     {
         if races == 0 {
-            return Ok(Lines { texts: None });
+            return Ok(Lines { texts: None, style });
         }
-        let texts = EventTexts::new(alloc, chart)?;
-        Ok(Lines { texts: Some(texts) })
+        let texts = Some(EventTexts::new(alloc, chart)?);
+        Ok(Lines { texts, style })
     }
 
     /// Puts the line of a race behind a page.
@@ -168,16 +270,27 @@ impl Lines {
         }
         put_bare_race(page, chart, e, f)
     }
+
+    /// The line of a run, by the numbers of its events.
+    fn numbered_run(&self, alloc: Global, run: &[Event]) -> Result<Vec<u8>, AllocError>
+        requires { (d : Drawing) × FitsLines d self.now × All (λ e. e < length d.events) run.now }
+        ensures { IfOk result (λ line. line.items ≡ run_line (Some run.now)) }
+    {
+        match &self.texts {
+            Some(texts) => texts.run_line(alloc, run),
+            None => line_of(alloc, run),
+        }
+    }
 }
 
-impl Renderer for Lines {
+impl<'s> Renderer for Lines<'s> {
     ghost fits = { λ s d. FitsLines d s };
 
     ghost heading_text = { λ s d h. heading_text d h };
 
-    ghost run_text = { λ s d run. run_line (Some run) };
+    ghost run_text = { λ s d run. run_text s.style.words d run };
 
-    ghost finding_text = { λ s d f line. finding_text d f line };
+    ghost finding_text = { λ s d f line. finding_text (sites_in s.style) d f line };
 
     ghost end_text = { λ s d. [] };
 
@@ -193,20 +306,11 @@ impl Renderer for Lines {
         }
     }
 
-    fn run_line(
-        &self,
-        alloc: Global,
-        _chart: &Chart,
-        run: &[Event],
-    ) -> Result<Vec<u8>, AllocError> {
-        if let Some(texts) = &self.texts {
-            return texts.run_line(alloc, run);
+    fn run_line(&self, alloc: Global, chart: &Chart, run: &[Event]) -> Result<Vec<u8>, AllocError> {
+        if self.style.words {
+            return steps_of(alloc, chart, run);
         }
-        let mut line = Page::new(alloc);
-        match write_run(&mut line, run) {
-            Ok(()) => Ok(line.bytes),
-            Err(_) => Err(AllocError),
-        }
+        self.numbered_run(alloc, run)
     }
 
     fn put_finding(
@@ -217,7 +321,8 @@ impl Renderer for Lines {
         line: Option<&[u8]>,
     ) -> Result<(), AllocError> {
         self.put_race(page, chart, finding.first, finding.second)?;
-        put_lack(page, chart, finding.lack)?;
+        put_places(page, self.style.sites, finding.first, finding.second)?;
+        put_lack(page, chart, finding.lack, self.style.sites)?;
         if let Some(line) = line {
             page.bytes.extend_from_slice(line)?;
         }

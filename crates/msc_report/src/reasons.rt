@@ -1,16 +1,20 @@
 //! The lines of a reason: of an event that is enforced before another, or is not.
 
-ghost use Rattle.std.specs.Prelude.{◌≡◌, ◌<◌, ◌++◌, MatchOption, OnOk, length};
+ghost use Rattle.std.specs.Prelude.{◌≡◌, ◌<◌, MatchOption, OnOk, length, option_map};
 ghost use Rattle.std.specs.Io.KnownBytes.{Appends};
 ghost use Rattle.msc_reason.specs.Named.{AreEventsOf, NamesAll, NamesLack, NamesSteps};
-ghost use Rattle.msc_report.specs.Lines.{pair_line};
+ghost use Rattle.msc_report.specs.Lines.{pair_text};
 ghost use Rattle.msc_report.specs.Reasons.{chain_text, explained_text, free_text, late_text};
-ghost use Rattle.msc_report.specs.Reasons.{reason_text, showing_text, step_word};
+ghost use Rattle.msc_report.specs.Reasons.{reason_text, showing_text, step_word, NamesRun};
+ghost use Rattle.msc_report.specs.Styles.{run_text};
 
-use crate::lines::{write_pair, write_why};
+use crate::lines::{write_placed_pair, write_why};
 use crate::race::{write_race, write_run};
+use crate::style::{Style, write_at};
+use crate::trace::write_steps;
 use crate::verdict::{write_name_line, write_queues_line};
 use msc_chart::{Chart, Event, Queues};
+use msc_place::Sites;
 use msc_reason::{Lack, Reason, Why};
 use std::io;
 use std::io::Write;
@@ -31,6 +35,7 @@ fn step_word(chart: &Chart, from: Event, to: Event) -> &'static str
 fn write_step<W: Write>(
     writer: &mut W,
     chart: &Chart,
+    sites: Option<&Sites<'_>>,
     blanks: &str,
     from: Event,
     to: Event,
@@ -38,16 +43,18 @@ fn write_step<W: Write>(
     requires from_known { from < length chart.now.events }
     requires to_known { to < length chart.now.events }
     ensures { OnOk result (Appends (W.contents writer.old) (W.contents writer.new)
-        (pair_line (blanks.now ++ step_word chart.now from to) chart.now from to)) }
+        (pair_text (option_map (λ s. s.now) sites.entry) blanks.now
+        (step_word chart.now from to) chart.now from to)) }
 {
-    writer.write_all(blanks.as_bytes())?;
-    write_pair(writer, chart, step_word(chart, from, to), from, to)
+    let word = step_word(chart, from, to);
+    write_placed_pair(writer, chart, sites, blanks, word, from, to)
 }
 
 /// Writes a chain from an event on, a line for each step.
 fn write_chain<W: Write>(
     writer: &mut W,
     chart: &Chart,
+    sites: Option<&Sites<'_>>,
     blanks: &str,
     first: Event,
     steps: &[Event],
@@ -55,30 +62,37 @@ fn write_chain<W: Write>(
     requires first_known { first < length chart.now.events }
     requires steps_known { AreEventsOf chart.now steps.now }
     ensures { OnOk result (Appends (W.contents writer.old) (W.contents writer.new)
-        (chain_text blanks.now chart.now first steps.now)) }
+        (chain_text (option_map (λ s. s.now) sites.entry) blanks.now chart.now first
+        steps.now)) }
 {
     let mut from = first;
     for to in steps {
-        write_step(writer, chart, blanks, from, *to)?;
+        write_step(writer, chart, sites, blanks, from, *to)?;
         from = *to;
     }
     Ok(())
 }
 
 /// Writes what shows that `e` is enforced before another event.
-fn write_shown<W: Write>(writer: &mut W, chart: &Chart, e: Event, why: &Why) -> io::Result<()>
+fn write_shown<W: Write>(
+    writer: &mut W,
+    chart: &Chart,
+    sites: Option<&Sites<'_>>,
+    e: Event,
+    why: &Why,
+) -> io::Result<()>
     requires known { e < length chart.now.events }
     requires named { NamesSteps chart.now why.now }
     ensures { OnOk result (Appends (W.contents writer.old) (W.contents writer.new)
-        (showing_text chart.now e why.now)) }
+        (showing_text (option_map (λ s. s.now) sites.entry) chart.now e why.now)) }
 {
     match why {
-        Why::Straight(steps) => write_chain(writer, chart, "", e, steps.as_slice()),
+        Why::Straight(steps) => write_chain(writer, chart, sites, "", e, steps.as_slice()),
         Why::ByQueue(u, outputs, onward) => {
-            write_pair(writer, chart, "queue", e, *u)?;
+            write_placed_pair(writer, chart, sites, "", "queue", e, *u)?;
             let output = chart.other_end(e);
-            write_chain(writer, chart, "  ", output, outputs.as_slice())?;
-            write_chain(writer, chart, "", *u, onward.as_slice())
+            write_chain(writer, chart, sites, "  ", output, outputs.as_slice())?;
+            write_chain(writer, chart, sites, "", *u, onward.as_slice())
         }
     }
 }
@@ -87,6 +101,7 @@ fn write_shown<W: Write>(writer: &mut W, chart: &Chart, e: Event, why: &Why) -> 
 fn write_free<W: Write>(
     writer: &mut W,
     chart: &Chart,
+    sites: Option<&Sites<'_>>,
     e: Event,
     f: Event,
     lack: Option<Lack>,
@@ -95,14 +110,15 @@ fn write_free<W: Write>(
     requires f_known { f < length chart.now.events }
     requires named { MatchOption lack (Unit {0}) (NamesLack chart.now) }
     ensures { OnOk result (Appends (W.contents writer.old) (W.contents writer.new)
-        (free_text chart.now e f lack)) }
+        (free_text (option_map (λ s. s.now) sites.entry) chart.now e f lack)) }
 {
     match lack {
         Some(lack) => {
             write_race(writer, chart, e, f, None)?;
-            write_why(writer, chart, &lack)
+            write_at(writer, sites, "", e, f)?;
+            write_why(writer, chart, &lack, sites)
         }
-        None => write_pair(writer, chart, "free", e, f),
+        None => write_placed_pair(writer, chart, sites, "", "free", e, f),
     }
 }
 
@@ -110,6 +126,7 @@ fn write_free<W: Write>(
 fn write_late<W: Write>(
     writer: &mut W,
     chart: &Chart,
+    sites: Option<&Sites<'_>>,
     e: Event,
     f: Event,
     late: &Option<Why>,
@@ -117,15 +134,32 @@ fn write_late<W: Write>(
     requires known { f < length chart.now.events }
     requires named { MatchOption late.now (Unit {0}) (NamesSteps chart.now) }
     ensures { OnOk result (Appends (W.contents writer.old) (W.contents writer.new)
-        (late_text chart.now e f late.now)) }
+        (late_text (option_map (λ s. s.now) sites.entry) chart.now e f late.now)) }
 {
     match late {
         Some(why) => {
             writeln!(writer, "always {f} {e}")?;
-            write_shown(writer, chart, f, why)
+            write_shown(writer, chart, sites, f, why)
         }
         None => Ok(()),
     }
+}
+
+/// Writes a run in a style.
+fn write_run_in<W: Write>(
+    writer: &mut W,
+    chart: &Chart,
+    words: bool,
+    run: &[Event],
+) -> io::Result<()>
+    requires { AreEventsOf chart.now run.now }
+    ensures { OnOk result (Appends (W.contents writer.old) (W.contents writer.new)
+        (run_text words chart.now run.now)) }
+{
+    if words {
+        return write_steps(writer, chart, run);
+    }
+    write_run(writer, run)
 }
 
 /// Writes why `e` is enforced before `f`, or that it is not, with a run that has `f` before it.
@@ -135,22 +169,25 @@ fn write_reason<W: Write>(
     e: Event,
     f: Event,
     reason: &Reason,
+    style: Style<'_>,
 ) -> io::Result<()>
     requires e_known { e < length chart.now.events }
     requires f_known { f < length chart.now.events }
     requires named { NamesAll chart.now reason.now }
+    requires run { NamesRun chart.now reason.now }
     ensures { OnOk result (Appends (W.contents writer.old) (W.contents writer.new)
-        (reason_text chart.now e f reason.now)) }
+        (reason_text style.entry chart.now e f reason.now)) }
 {
+    let sites = style.sites;
     match reason {
         Reason::Enforced(why) => {
-            write_pair(writer, chart, "enforced", e, f)?;
-            write_shown(writer, chart, e, why)
+            write_placed_pair(writer, chart, sites, "", "enforced", e, f)?;
+            write_shown(writer, chart, sites, e, why)
         }
         Reason::Free(run, lack, late) => {
-            write_free(writer, chart, e, f, *lack)?;
-            write_late(writer, chart, e, f, late)?;
-            write_run(writer, run.as_slice())
+            write_free(writer, chart, sites, e, f, *lack)?;
+            write_late(writer, chart, sites, e, f, late)?;
+            write_run_in(writer, chart, style.words, run.as_slice())
         }
     }
 }
@@ -163,14 +200,16 @@ pub fn write_explained<W: Write>(
     e: Event,
     f: Event,
     reason: &Reason,
+    style: Style<'_>,
 ) -> io::Result<()>
     requires e_known { e < length chart.now.events }
     requires f_known { f < length chart.now.events }
     requires named { NamesAll chart.now reason.now }
+    requires run { NamesRun chart.now reason.now }
     ensures { OnOk result (Appends (W.contents writer.old) (W.contents writer.new)
-        (explained_text chart.now queues e f reason.now)) }
+        (explained_text style.entry chart.now queues e f reason.now)) }
 {
     write_name_line(writer, chart)?;
     write_queues_line(writer, queues)?;
-    write_reason(writer, chart, e, f, reason)
+    write_reason(writer, chart, e, f, reason, style)
 }

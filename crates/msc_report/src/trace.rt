@@ -5,6 +5,7 @@ ghost use Rattle.std.specs.Io.KnownBytes.{Appends};
 ghost use Rattle.std.specs.List.{All, flat_map};
 ghost use Rattle.std.specs.Option.{option_copied};
 ghost use Rattle.msc_report.specs.Traces.{end_line, end_lines, end_text, event_line, trace_lines};
+ghost use Rattle.msc_report.specs.Styles.{steps_text};
 ghost use Rattle.msc_report.specs.Traces.{trace_text};
 
 use crate::race::{write_event_at, write_instance};
@@ -55,7 +56,7 @@ fn write_end_lines<W: Write>(writer: &mut W, chart: &Chart, ends: &[End]) -> io:
 }
 
 /// Writes the line of event `e`: its number, the name of its instance, and what it does.
-fn write_event_line<W: Write>(writer: &mut W, chart: &Chart, e: Event) -> io::Result<()>
+pub(crate) fn write_event_line<W: Write>(writer: &mut W, chart: &Chart, e: Event) -> io::Result<()>
     requires { e < length chart.now.events }
     ensures { OnOk result (Appends (W.contents writer.old) (W.contents writer.new)
         (event_line chart.now e)) }
@@ -75,6 +76,21 @@ fn write_event_lines<W: Write>(writer: &mut W, chart: &Chart, events: &[Event]) 
         write_event_line(writer, chart, *event)?;
     }
     Ok(())
+}
+
+/// Writes a run in words: how many events it has, and a line for each of them, in their order.
+pub(crate) fn write_steps<W: Write>(
+    writer: &mut W,
+    chart: &Chart,
+    run: &[Event],
+) -> io::Result<()>
+    requires { All (λ e. e < length chart.now.events) run.now }
+    ensures { OnOk result (Appends (W.contents writer.old) (W.contents writer.new)
+        (steps_text chart.now run.now)) }
+{
+    let count = run.len();
+    writeln!(writer, "steps {count}")?;
+    write_event_lines(writer, chart, run)
 }
 
 /// Writes the number of a trace's events and a line for each, or that there is no trace.

@@ -6,13 +6,12 @@
 ghost use Rattle.std.specs.Prelude.{◌≡◌, IfNone, IfSome, OnOk};
 ghost use Rattle.std.specs.Io.KnownBytes.{Appends};
 ghost use Rattle.msc_report.specs.Texts.{chart_fault_line, fault_line, grammar_line, lexical_line};
-ghost use Rattle.msc_report.specs.Texts.{text_line, numbered, pair_fault_line, placed};
+ghost use Rattle.msc_report.specs.Texts.{text_line, numbered, placed};
 
 use crate::fault::Fault;
 use msc_chart::ChartFault;
 use msc_lexer::{LexFault, Word};
 use msc_parser::{ParseFault, What};
-use msc_reason::PairFault;
 use std::io;
 use std::io::Write;
 
@@ -151,7 +150,7 @@ fn write_not_started<W: Write>(writer: &mut W, i: u32) -> io::Result<()>
 }
 
 /// Writes the line of a fault. The printed words of faults come from here and from
-/// [`write_pair_fault`] alone.
+/// [`crate::write_pair_fault`] alone.
 pub fn write_fault<W: Write>(writer: &mut W, fault: &Fault) -> io::Result<()>
     ensures { OnOk result (Appends (W.contents writer.old) (W.contents writer.new)
         (fault_line fault.now)) }
@@ -165,16 +164,5 @@ pub fn write_fault<W: Write>(writer: &mut W, fault: &Fault) -> io::Result<()>
         Fault::NotStarted(i) => write_not_started(writer, i),
         Fault::Memory => write_line(writer, "memory fault"),
         Fault::Device => write_line(writer, "device fault"),
-    }
-}
-
-/// Writes the line of why two numbers are no two events of a chart.
-pub fn write_pair_fault<W: Write>(writer: &mut W, fault: PairFault) -> io::Result<()>
-    ensures { OnOk result (Appends (W.contents writer.old) (W.contents writer.new)
-        (pair_fault_line fault)) }
-{
-    match fault {
-        PairFault::NoEvent(e) => writeln!(writer, "pair fault 1: no event {e}"),
-        PairFault::OneEvent(e) => writeln!(writer, "pair fault 2: {e} and {e} are one event"),
     }
 }

@@ -30,7 +30,7 @@ use Rattle.msc_text.proofs.Told.{passes_told}
 use Rattle.msc_source.specs.Texts.{IsChartOf}
 use Rattle.msc_text.specs.Checking.{BeginsVerdict, Prints, ShowsRaces, WritesVerdict}
 use Rattle.msc_text.specs.Judging.{asked, texts_in, JudgesChart, Passes}
-use Rattle.msc_text.specs.Plain.{plain}
+use Rattle.msc_text.specs.Plain.{plain, plain_style}
 use Rattle.msc_text.specs.declared.judging.Format.{Format}
 use Rattle.msc_text.specs.declared.judging.Format.TheVariants.{Lines}
 
@@ -46,7 +46,7 @@ shows_races queues d runs (Races pairs) chosen said whole reverses e f there =
 
 module _ (text : List ℕ) (queues : Queues) (show : ℕ) (d : Drawing) (of_text : IsChartOf text d) (verdicts : EnforcedOrdersTellVerdicts) (whole : ChosenRunsAreWhole) (reverses : ChosenRunsReverseRaces) where
   -- what is printed of a text for a verdict is the verdict and its races
-  prints : (passed : Bool) (printed : List ℕ) → JudgesChart d queues (plain show) Lines passed printed → Prints text queues show passed printed
+  prints : (passed : Bool) (printed : List ℕ) → JudgesChart d queues (plain show) (Lines plain_style) passed printed → Prints text queues show passed printed
   prints passed printed judged =
       let e = enforced_chart d queues judged.order in
       let told = verdicts queues d judged.accepted judged.order judged.by_order.enforced in
@@ -71,13 +71,13 @@ module _ (text : List ℕ) (queues : Queues) (show : ℕ) (d : Drawing) (of_text
 
   -- what was told is written
   pub writes_verdict : {W : Type 0} (contents : W → Option (List ℕ)) (passed : Bool) (old new : W)
-      → Tells contents (JudgesChart d queues (plain show) Lines) (Ok passed) old new
+      → Tells contents (JudgesChart d queues (plain show) (Lines plain_style)) (Ok passed) old new
       → WritesVerdict text queues show passed (contents old) (contents new)
   writes_verdict contents passed old new (printed, judged, wrote) = (printed, prints passed printed judged, wrote)
 
   -- and where memory ran out a beginning of it, or nothing
   pub begins_verdict : {W : Type 0} (contents : W → Option (List ℕ)) (f : WriteFault) (old new : W)
-      → Tells contents (JudgesChart d queues (plain show) Lines) (Err f) old new → of_writing f ≡ Memory
+      → Tells contents (JudgesChart d queues (plain show) (Lines plain_style)) (Err f) old new → of_writing f ≡ Memory
       → (new ≡ old) ⊎ BeginsVerdict text queues show (contents old) (contents new)
   begins_verdict contents writing.Memory old new (inl none) memory = inl none
   begins_verdict contents writing.Memory old new (inr (passed, printed, judged, begun)) memory =

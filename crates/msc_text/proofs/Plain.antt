@@ -21,7 +21,7 @@ use Rattle.msc_text.proofs.Shown.{race_and_run}
 use Rattle.msc_text.proofs.Told.{checked_told}
 use Rattle.msc_text.specs.Checking.{checked_text, races_text, shown_text, unshown_text}
 use Rattle.msc_text.specs.Judging.{texts_in}
-use Rattle.msc_text.specs.Plain.{no_kind}
+use Rattle.msc_text.specs.Plain.{no_kind, plain_style}
 use Rattle.msc_text.specs.declared.judging.Format.TheVariants.{Lines}
 
 -- each race counts, where no kind is left out
@@ -51,7 +51,7 @@ found_all lacks n (p ∷ pairs) = ap suc (found_all lacks (n + 1) pairs)
 module _ (d : Drawing) (runs : ℕ → List ℕ) (show : ℕ) (lacks : ℕ → ℕ → Lack) where
   -- the text of these races as findings, numbered from here on
   abbrev found : ℕ → List (ℕ × ℕ) → List ℕ
-  found n pairs = flat_map (finding_shown (finding_text d) (λ run. run_line (Some run)) show runs) (findings_from false lacks n pairs)
+  found n pairs = flat_map (finding_shown (finding_text None d) (λ run. run_line (Some run)) show runs) (findings_from false lacks n pairs)
 
   -- past the first, without runs
   found_unshown : (n : ℕ) (pairs : List (ℕ × ℕ)) → show ≤ n → found n pairs ≡ unshown_text d pairs
@@ -70,7 +70,7 @@ module _ (d : Drawing) (runs : ℕ → List ℕ) (show : ℕ) (lacks : ℕ → �
 
 -- so what is asked for a verdict is printed as it
 pub plain_text : (e : EnforcedChart) (most show : ℕ) (t : Tables) → length (races_of e) ≤ most
-    → answer_text (texts_in Lines e.chart) e (record { closest = false; why = false; allowed = no_kind; most = most; show = show }) t
+    → answer_text (texts_in (Lines plain_style) e.chart) e (record { closest = false; why = false; allowed = no_kind; most = most; show = show }) t
     ≡ checked_text e.chart e.queues t.runs show (verdict_of (races_of e))
 plain_text e most show t few =
     let listed_is = listed_all e t.lacks in
@@ -78,6 +78,6 @@ plain_text e most show t few =
     let first = ap (λ (l : List (ℕ × ℕ)). take most (findings_from false t.lacks 0 l)) listed_is
     ∙ take_all most (findings_from false t.lacks 0 (races_of e)) (omega (arith, few, long)) in
     ap₂ (λ (s r : List ℕ). s ++ r) (append-nil (head_text e.chart e.queues (length (races_of e))))
-    (append-nil _ ∙ ap (flat_map (finding_shown (finding_text e.chart) (λ run. run_line (Some run)) show t.runs)) first
+    (append-nil _ ∙ ap (flat_map (finding_shown (finding_text None e.chart) (λ run. run_line (Some run)) show t.runs)) first
     ∙ found_races e.chart t.runs show t.lacks 0 show (races_of e) (omega arith))
     ∙ checked_told e.chart e.queues t.runs show (races_of e) (length (races_of e)) _ refl refl

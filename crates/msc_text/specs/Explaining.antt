@@ -8,17 +8,18 @@ use Rattle.msc_reason.specs.Reasons.{IsReason}
 use Rattle.msc_reason.specs.declared.reason.Reason.{Reason}
 use Rattle.msc_reason.specs.declared.reason.Reason.TheVariants as reasons
 use Rattle.msc_report.specs.Reasons.{explained_text}
+use Rattle.msc_report.specs.declared.style.Style.{Style}
 
 -- whether a reason says that the first event is enforced before the second
 abbrev pub is_enforced : Reason → Bool
 is_enforced (reasons.Enforced why) = true
 is_enforced (reasons.Free run lack late) = false
 
--- What is printed of two events of a chart, and whether the first is enforced before the second: a
--- reason that is right.
-pub record PrintsReason (d : Drawing) (queues : Queues) (e f : ℕ) (enforced : Bool) (printed : List ℕ) : Type 0 where
+-- What is printed of two events of a chart in a style, and whether the first is enforced before the
+-- second: a reason that is right.
+pub record PrintsReason (d : Drawing) (queues : Queues) (e f : ℕ) (style : Style) (enforced : Bool) (printed : List ℕ) : Type 0 where
   pub two : AreTwoEvents d e f
   pub reason : Reason
   pub right : IsReason (wired queues d) e f reason
   pub answered : IsTrue enforced ↔ Enforced (wired queues d) e f
-  pub text : printed ≡ explained_text d queues e f reason
+  pub text : printed ≡ explained_text style d queues e f reason

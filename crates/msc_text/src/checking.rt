@@ -3,7 +3,7 @@
 ghost use Rattle.std.specs.Prelude.{◌≡◌, ◌≢◌, ◌⊎◌, IfErr, IfOk};
 ghost use Rattle.msc_text.specs.Answers.{RefusesText, StartsNothing};
 ghost use Rattle.msc_text.specs.Checking.{BeginsVerdict, RefusesDraft, WritesVerdict};
-ghost use Rattle.msc_text.specs.Plain.{plain};
+ghost use Rattle.msc_text.specs.Plain.{plain, plain_style};
 
 use crate::judging::{Format, judge_chart};
 use msc_chart::Queues;
@@ -11,7 +11,7 @@ use msc_judge::Question;
 use msc_parser::laws::one_parsing;
 use msc_race::laws::{enforced_orders_tell_verdicts, the_chosen_run_reverses};
 use msc_reason::KindSet;
-use msc_report::Fault;
+use msc_report::{Fault, Style};
 use msc_source::{Language, Source};
 use std::alloc::Global;
 use std::io::Write;
@@ -27,6 +27,13 @@ fn all_races(show: u32) -> Question
         most: u32::MAX,
         show,
     }
+}
+
+/// How a verdict is written.
+fn plain_lines() -> Format<'static>
+    ensures { result ≡ Format.Lines plain_style }
+{
+    Format::Lines(Style::PLAIN)
 }
 
 /// Writes the verdict on a text's chart under an architecture, and each race in order, the first
@@ -64,7 +71,7 @@ pub fn check_text<W: Write>(
         source.chart(),
         queues,
         question,
-        Format::Lines,
+        plain_lines(),
         writer,
     )?)
 }

@@ -6,7 +6,7 @@ ghost use Rattle.msc_chart.specs.Orders.{wired};
 ghost use Rattle.msc_reason.specs.Named.{NamesAll};
 ghost use Rattle.msc_reason.specs.Pairs.{AreTwoEvents};
 ghost use Rattle.msc_reason.specs.Reasons.{IsReason};
-ghost use Rattle.msc_report.specs.Reasons.{explained_text};
+ghost use Rattle.msc_report.specs.Reasons.{explained_text, NamesRun};
 ghost use Rattle.msc_text.specs.Explaining.{is_enforced, PrintsReason};
 
 use msc_chart::{Chart, Event, Queues};
@@ -14,7 +14,7 @@ use msc_judge::Page;
 use msc_race::Enforced;
 use msc_reason::laws::{a_reason_names_events, a_why_is_enough};
 use msc_reason::{Reason, explain};
-use msc_report::write_explained;
+use msc_report::{Style, write_explained};
 use std::alloc::{AllocError, Global};
 
 /// Why `e` is enforced before `f`, or how it need not be.
@@ -40,15 +40,17 @@ fn page_of(
     e: Event,
     f: Event,
     reason: &Reason,
+    style: Style<'_>,
 ) -> Result<Page, AllocError>
     requires e_known { e < length chart.now.events }
     requires f_known { f < length chart.now.events }
     requires named { NamesAll chart.now reason.now }
-    ensures { IfOk result
-        (λ page. page.bytes.items ≡ explained_text chart.now queues e f reason.now) }
+    requires run { NamesRun chart.now reason.now }
+    ensures { IfOk result (λ page.
+        page.bytes.items ≡ explained_text style.entry chart.now queues e f reason.now) }
 {
     let mut page = Page::new(alloc);
-    let written = write_explained(&mut page, chart, queues, e, f, reason);
+    let written = write_explained(&mut page, chart, queues, e, f, reason, style);
     page.if_written(written)
 }
 
@@ -72,14 +74,16 @@ pub fn explain_pair(
     queues: Queues,
     e: Event,
     f: Event,
+    style: Style<'_>,
 ) -> Result<(Page, bool), AllocError>
     requires { AreTwoEvents chart.now e f }
-    ensures { IfOk result (λ p. PrintsReason chart.now queues e f p.1 p.0.bytes.items) }
+    ensures { IfOk result
+        (λ p. PrintsReason chart.now queues e f style.entry p.1 p.0.bytes.items) }
 {
     a_reason_names_events();
     a_why_is_enough();
     chart.accepted();
     let reason = reason_of(alloc, chart, queues, e, f)?;
-    let page = page_of(alloc, chart, queues, e, f, &reason)?;
+    let page = page_of(alloc, chart, queues, e, f, &reason, style)?;
     Ok((page, is_enforced(&reason)))
 }

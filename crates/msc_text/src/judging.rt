@@ -7,21 +7,24 @@ ghost use Rattle.msc_text.specs.Judging.{asked, texts_in, JudgesChart, Passes};
 
 use msc_chart::{Chart, Queues};
 use msc_judge::{Question, WriteFault, judge};
+use msc_place::Sites;
 use msc_race::Enforced;
 use msc_race::laws::the_chosen_run_reverses;
 use msc_reason::{KindSet, none_counts};
-use msc_report::{Counts, Lines};
+use msc_report::{Counts, Editor, Lines, Style};
 use std::alloc::{AllocError, Global};
 use std::io::Write;
 
 /// How what is asked of a chart's races is written.
 #[derive(Clone, Copy)]
 pub enum Format<'f> {
-    /// The head of the verdict, and for each race lines.
-    Lines,
+    /// The head of the verdict, and for each race lines, in a style.
+    Lines(Style<'f>),
     /// One line with the number of races, and of the closest of those that count, for the file of
     /// this name.
     Count(&'f [u8]),
+    /// For each race the lines that editors read, of a text whose events stand there.
+    Editor(&'f Sites<'f>),
 }
 
 /// Writes what is asked of a chart's races in a format; answers whether none counts.
@@ -40,8 +43,8 @@ fn judge_in<W: Write>(
     enforced.enforced();
     let races = enforced.count_races();
     match format {
-        Format::Lines => {
-            let lines = Lines::of(alloc, enforced.chart(), races)?;
+        Format::Lines(style) => {
+            let lines = Lines::of(alloc, enforced.chart(), races, style)?;
             judge(alloc, enforced, races, question, &lines, writer)
         }
         Format::Count(file) => {
@@ -53,6 +56,16 @@ fn judge_in<W: Write>(
                 show: 0,
             };
             judge(alloc, enforced, races, question, &Counts { file }, writer)
+        }
+        Format::Editor(sites) => {
+            let question = Question {
+                closest: question.closest,
+                why: true,
+                allowed: question.allowed,
+                most: question.most,
+                show: 0,
+            };
+            judge(alloc, enforced, races, question, &Editor { sites }, writer)
         }
     }
 }

@@ -2,7 +2,7 @@
 
 use std::alloc::Global;
 use std::io;
-use std::io::{ErrorKind, Read, Write};
+use std::io::{ErrorKind, IsTerminal, Read, Write};
 
 /// A reader that is interrupted `interruptions` times, then gives `bytes` at most `step` at a time,
 /// and fails at its call number `fails_at`, from 1.
@@ -95,5 +95,43 @@ impl Write for Unflushed {
     fn flush(&mut self) -> io::Result<()> {
         self.flushes = self.flushes.wrapping_add(1);
         Err(io::Error::from(ErrorKind::BrokenPipe))
+    }
+}
+
+/// Standard error, which is a terminal or not.
+#[derive(Drop)]
+pub struct Screen {
+    shown: Vec<u8>,
+    terminal: bool,
+}
+
+impl Screen {
+    /// An empty one.
+    pub fn new(alloc: Global, terminal: bool) -> Screen {
+        Screen {
+            shown: Vec::new(alloc),
+            terminal,
+        }
+    }
+
+    /// What was written to it.
+    pub fn into_shown(self) -> Vec<u8> {
+        self.shown
+    }
+}
+
+impl Write for Screen {
+    fn write(&mut self, buf: &[u8]) -> io::Result<usize> {
+        self.shown.write(buf)
+    }
+
+    fn flush(&mut self) -> io::Result<()> {
+        Ok(())
+    }
+}
+
+impl IsTerminal for Screen {
+    fn is_terminal(&self) -> bool {
+        self.terminal
     }
 }

@@ -4,8 +4,7 @@ use crate::host::Host;
 use msc_chart::ChartFault;
 use msc_lexer::LexFault;
 use msc_parser::ParseFault;
-use msc_reason::PairFault;
-use msc_report::write_pair_fault;
+use msc_report::{EventName, NamedFault, write_pair_fault};
 use msc_tool::{Fault, write_fault};
 
 /// A fault of charts of each kind that has a number, the number, and its line.
@@ -186,40 +185,36 @@ fn a_run_fault_is_printed_as_its_number_and_its_message(rt: HostRuntime) {
     }
 }
 
-/// A fault of pairs of each kind, its number, and its line.
-const PAIR_FAULTS: &[(PairFault, u32, &str)] = &[
+/// Faults of pairs of names, and their lines.
+const PAIR_FAULTS: &[(NamedFault, &str)] = &[
     (
-        PairFault::NoEvent(4294967295),
-        1,
+        NamedFault::NoEvent(EventName::Number(4294967295)),
         "pair fault 1: no event 4294967295\n",
     ),
     (
-        PairFault::OneEvent(12),
-        2,
+        NamedFault::NoEvent(EventName::Line(7)),
+        "pair fault 1: no event :7\n",
+    ),
+    (
+        NamedFault::OneEvent(EventName::Number(12), EventName::Number(12)),
         "pair fault 2: 12 and 12 are one event\n",
+    ),
+    (
+        NamedFault::OneEvent(EventName::Line(3), EventName::Number(0)),
+        "pair fault 2: :3 and 0 are one event\n",
     ),
 ];
 
 /// Whether the line of a fault of pairs is this.
-fn is_pair_line(rt: &impl Host, fault: PairFault, wanted: &str) -> bool {
+fn is_pair_line(rt: &impl Host, fault: NamedFault, wanted: &str) -> bool {
     let mut line = Vec::new(rt.alloc());
     let is_written = write_pair_fault(&mut line, fault).is_ok();
     (is_written, line.as_slice()) == (true, wanted.as_bytes())
 }
 
-/// Whether a fault's number and the message that its type prints are this line.
-fn is_pair_message(rt: &impl Host, fault: PairFault, number: u32, wanted: &str) -> bool {
-    let line = format!(in rt.alloc(); "pair fault {number}: {fault}\n").expect(rt, "memory");
-    line.as_str() == wanted
-}
-
 #[test]
-fn a_pair_fault_is_printed_as_its_number_and_its_message(rt: HostRuntime) {
-    for &(fault, number, wanted) in PAIR_FAULTS {
-        let is = is_pair_line(&rt, fault, wanted);
-        assert!(rt;
-            is && is_pair_message(&rt, fault, number, wanted),
-            "{wanted}"
-        );
+fn faults_of_pairs_are_printed(rt: HostRuntime) {
+    for &(fault, wanted) in PAIR_FAULTS {
+        assert!(rt; is_pair_line(&rt, fault, wanted), "{wanted}");
     }
 }

@@ -49,8 +49,24 @@ const WORDS: &[(&str, &str)] = &[
         "check",
         "\n  overtaken  two inputs by one queue, whose outputs come in the other order\n",
     ),
-    ("explain", "<E>     The number of the first event\n"),
-    ("explain", "<F>     The number of the second event\n"),
+    (
+        "check",
+        "--words\n          Print a run in words, a line for each of its events\n",
+    ),
+    (
+        "check",
+        "--places\n          Print where events stand, and what is said of a fault\n",
+    ),
+    (
+        "check",
+        "--plain\n          Print nothing behind the line of a fault, also on a terminal\n",
+    ),
+    (
+        "explain",
+        "<E>     The first event: its number, or :LINE, the first one on that line\n",
+    ),
+    ("explain", "<F>     The second event\n"),
+    ("list", "<FILE>    The chart's text; - is standard input\n"),
     (
         "run",
         "--patience <N>                  End an instance that looked in vain N times in a row; \

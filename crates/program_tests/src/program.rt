@@ -1,9 +1,9 @@
 //! Runs of the program: words, standard input, what it prints, and its exit status.
 
-use crate::devices::{Narrow, Unflushed};
+use crate::devices::{Narrow, Screen, Unflushed};
 use crate::host::Machine;
 use example_charts::{EMPTY, KINDS_AND_COMMENTS, ONE_MESSAGE, TEXTS_OF_ACTIONS};
-use msc_command::command;
+use msc_command::{Recorded, command};
 use std::io::Write;
 
 /// What a run of the program printed, and its exit status.
@@ -51,9 +51,10 @@ fn run_into<O: Write>(
 ) -> (u8, Vec<u8>) {
     let all = command_line(rt, words);
     let mut input = stdin;
-    let mut faults = Vec::new(rt.alloc());
-    let status = command(rt, rt.alloc(), all, &mut input, output, &mut faults);
-    (status, faults)
+    let mut faults = Screen::new(rt.alloc(), false);
+    let mut recorded = Recorded::new(output);
+    let status = command(rt, rt.alloc(), all, &mut input, &mut recorded, &mut faults);
+    (status, faults.into_shown())
 }
 
 /// What a run has to print to standard output and to standard error, and its exit status.
@@ -109,6 +110,7 @@ const RUNS: &[&[&str]] = &[
     &["check", "--queues", "single", "-"],
     &["explain", "--queues", "pair", "-", "0", "1"],
     &["run", "--queues", "pair", "-"],
+    &["list", "-"],
 ];
 
 /// Texts without a draft, and the line of their fault.
@@ -283,7 +285,7 @@ fn an_output_that_fails_when_it_is_flushed(rt: HostRuntime) {
 
 #[test]
 fn version(rt: HostRuntime) {
-    assert!(rt; answers(&rt, &["--version"], b"", (b"msc 0.1.0\n", b"", 0)));
+    assert!(rt; answers(&rt, &["--version"], b"", (b"msc 0.2.0\n", b"", 0)));
 }
 
 /// Whether a text has this part.

@@ -4,5 +4,5 @@ use Rattle.msc_report.proofs.lines.write_why.Goals as goal
 
 pub returns : goal.returns
 returns g c =
-    IfOk-weaker c.write_pair.result _ _
-    (λ u wrote. Appends-append _ _ _ _ _ c.in_ok-write_kind.ensures wrote) c.write_pair.ensures
+    IfOk-weaker c.write_placed_pair.result _ _
+    (λ u wrote. Appends-append _ _ _ _ _ c.in_ok-write_kind.ensures wrote) c.write_placed_pair.ensures

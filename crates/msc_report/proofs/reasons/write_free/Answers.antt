@@ -2,8 +2,7 @@ use Rattle.std.proofs.lemmas.Result.{IfOk-weaker}
 use Rattle.msc_judge.proofs.KnownBytes.{Appends-append}
 use Rattle.msc_report.proofs.reasons.write_free.Goals as goal
 
--- src/reasons.rt:88:1
-pub returns-in_ok-write_race-in-Some : goal.returns-in_ok-write_race-in-Some
-returns-in_ok-write_race-in-Some g c =
+pub returns-in_ok-write_at-in-Some : goal.returns-in_ok-write_at-in-Some
+returns-in_ok-write_at-in-Some g c =
     rw c.in-Some.is (IfOk-weaker c.write_why.result _ _
-    (λ u wrote. Appends-append _ _ _ _ _ c.in_ok-write_race-in-Some.ensures wrote) c.write_why.ensures)
+    (λ u wrote. Appends-append _ _ _ _ _ c.in_ok-write_race-in-Some.ensures (Appends-append _ _ _ _ _ c.in_ok-write_at-in-Some.ensures wrote)) c.write_why.ensures)

@@ -4,6 +4,8 @@ use Rattle.msc_judge.specs.declared.question.Question.{Question}
 use Rattle.msc_judge.specs.Pages.{Tells}
 use Rattle.msc_source.specs.Texts.{IsChartOf}
 use Rattle.msc_text.specs.Judging.{JudgesChart}
+use Rattle.msc_text.specs.Plain.{plain_style}
+use Rattle.msc_text.specs.declared.judging.Format.{Format}
 use Rattle.msc_text.specs.declared.judging.Format.TheVariants.{Lines}
 use Rattle.msc_text.proofs.Judged.{begins_verdict, writes_verdict}
 use Rattle.msc_text.proofs.Refusals.{draft_charted, draft_refused, text_drafted, text_refused, write_refuses_no_draft, write_refuses_no_text}
@@ -42,8 +44,9 @@ returns-in_err-judge_chart-clause-begun g c =
     let laws = c.the_chosen_run_reverses.ensures in
     rw (exit.1, exit.2) (begins_verdict c.args.text.now c.args.queues c.args.show c.chart.result.now of_text c.enforced_orders_tell_verdicts.ensures laws.whole laws.races
     g.W.Write.contents c.in_err-judge_chart.field-0.0 c.args.writer.now _
-    (subst (λ (q : Question). Tells g.W.Write.contents (JudgesChart c.chart.result.now c.args.queues q Lines) (Err c.in_err-judge_chart.field-0.0) c.args.writer.now c.judge_chart.new.writer)
-    c.all_races-question.ensures c.in_err-judge_chart.ensures))
+    (subst (λ (q : Question). Tells g.W.Write.contents (JudgesChart c.chart.result.now c.args.queues q (Lines plain_style)) (Err c.in_err-judge_chart.field-0.0) c.args.writer.now c.judge_chart.new.writer)
+    c.all_races-question.ensures (subst (λ (f : Format). Tells g.W.Write.contents (JudgesChart c.chart.result.now c.args.queues c.all_races-question.result f) (Err c.in_err-judge_chart.field-0.0) c.args.writer.now c.judge_chart.new.writer)
+    c.plain_lines.ensures c.in_err-judge_chart.ensures)))
 
 pub returns-clause-written : goal.returns-clause-written
 returns-clause-written g c =
@@ -51,5 +54,6 @@ returns-clause-written g c =
     let laws = c.the_chosen_run_reverses.ensures in
     writes_verdict c.args.text.now c.args.queues c.args.show c.chart.result.now of_text c.enforced_orders_tell_verdicts.ensures laws.whole laws.races
     g.W.Write.contents c.in_ok-judge_chart.field-0 c.args.writer.now _
-    (subst (λ (q : Question). Tells g.W.Write.contents (JudgesChart c.chart.result.now c.args.queues q Lines) (Ok c.in_ok-judge_chart.field-0) c.args.writer.now c.judge_chart.new.writer)
-    c.all_races-question.ensures c.in_ok-judge_chart.ensures)
+    (subst (λ (q : Question). Tells g.W.Write.contents (JudgesChart c.chart.result.now c.args.queues q (Lines plain_style)) (Ok c.in_ok-judge_chart.field-0) c.args.writer.now c.judge_chart.new.writer)
+    c.all_races-question.ensures (subst (λ (f : Format). Tells g.W.Write.contents (JudgesChart c.chart.result.now c.args.queues c.all_races-question.result f) (Ok c.in_ok-judge_chart.field-0) c.args.writer.now c.judge_chart.new.writer)
+    c.plain_lines.ensures c.in_ok-judge_chart.ensures))

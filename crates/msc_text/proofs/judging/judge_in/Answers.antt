@@ -11,4 +11,4 @@ returns-in_err-lines-in-Lines g c =
     rw (exit.1, exit.2) (record { tables = record { lacks = lack_in c.args.enforced; runs = tables.0 }; are = tables.1; written = begins_none _ _; passed = tt })
 
 pub returns-in_ok-lines-in-Lines : goal.returns-in_ok-lines-in-Lines
-returns-in_ok-lines-in-Lines g c = rw c.in-Lines.is c.judge.ensures
+returns-in_ok-lines-in-Lines g c = rw (c.in-Lines.is, ← c.in_ok-lines-in-Lines.ensures.style) c.judge.ensures

@@ -1,0 +1,23 @@
+-- Where the events of a text stand, as answers show it.
+use Rattle.std.specs.Prelude.{◌≡◌, ℕ, Bool, true, false, List, Option, None, Some}
+use Rattle.msc_parser.specs.Grammar.{Tree}
+use Rattle.msc_parser.specs.Parsing.{HasDraft}
+use Rattle.msc_place.specs.Sites.{AreSites, SitesIn}
+use Rattle.msc_report.specs.Styles.{sites_in}
+use Rattle.msc_report.specs.declared.style.Style.{Style}
+use Rattle.msc_command.specs.declared.tasks.Look.{Look}
+
+-- the events of the text of a file of this name stand there
+pub record HasSites (file text : List ℕ) (s : SitesIn) : Type 0 where
+  pub file_is : s.file ≡ file
+  pub stand : (t : Tree) → HasDraft text t → AreSites text t s.positions
+
+-- the same where it is wanted, and else nothing
+abbrev pub AreSited : Bool → List ℕ → List ℕ → Option SitesIn → Type 0
+AreSited wanted file text None = wanted ≡ false
+AreSited wanted file text (Some s) = (wanted ≡ true) × HasSites file text s
+
+-- an answer to a text of this file speaks so
+pub record IsStyle (look : Look) (file text : List ℕ) (style : Style) : Type 0 where
+  pub words : style.words ≡ look.words
+  pub sites : AreSited look.places file text (sites_in style)

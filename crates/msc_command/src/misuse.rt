@@ -1,0 +1,62 @@
+//! What is said of words that `clap` takes and the program does not: words that exclude each other,
+//! and words that name no event. It is said as `clap` says such things.
+
+use crate::tasks::{is_twofold, name_in};
+use crate::words::{Verb, Word};
+use clap::ArgMatches;
+use std::io;
+use std::io::Write;
+
+/// What stands below a line of wrong usage.
+const HELP: &str = "\n\nFor more information, try '--help'.";
+
+/// Writes that two words exclude each other.
+fn write_twofold<E: Write>(faults: &mut E) -> io::Result<()> {
+    writeln!(
+        faults,
+        "error: the argument '--places' cannot be used with '--plain'{HELP}"
+    )
+}
+
+/// Writes why a text is no number from a first one on.
+fn write_no_number<E: Write>(faults: &mut E, text: &str, first: u32) -> io::Result<()> {
+    match text.parse::<i64>() {
+        Ok(number) => write!(faults, "{number} is not in {first}..=4294967295"),
+        Err(error) => write!(faults, "{error}"),
+    }
+}
+
+/// Writes why a word names no event.
+fn write_no_name<E: Write>(faults: &mut E, word: Word, text: &str) -> io::Result<()> {
+    let name = word.name();
+    write!(faults, "error: invalid value '{text}' for '<{name}>': ")?;
+    match text.strip_prefix(':') {
+        Some(line) => write_no_number(faults, line, 1)?,
+        None => write_no_number(faults, text, 0)?,
+    }
+    writeln!(faults, "{HELP}")
+}
+
+/// Writes why a word names no event, if it stands and names none; answers whether it does.
+fn tell_no_name<E: Write>(faults: &mut E, words: &ArgMatches, word: Word) -> bool {
+    let Some(text) = words.get_str(word.name()) else {
+        return false;
+    };
+    if name_in(text).is_some() {
+        return false;
+    }
+    let _ = write_no_name(faults, word, text);
+    true
+}
+
+/// Writes why the words behind a command ask for nothing.
+pub(crate) fn tell_misuse<E: Write>(faults: &mut E, verb: Verb, words: &ArgMatches) {
+    if is_twofold(words) {
+        let _ = write_twofold(faults);
+        return;
+    }
+    if let Verb::Explain = verb {
+        let _ = tell_no_name(faults, words, Word::FirstEvent)
+            || tell_no_name(faults, words, Word::SecondEvent);
+    }
+}

@@ -1,0 +1,61 @@
+//! A writer that keeps why it failed, so that it can be told.
+
+ghost use Rattle.std.specs.Io.{WritesAtMost};
+ghost use Rattle.std.specs.Io.KnownBytes.{Keeps, WriteAppends};
+
+use std::io;
+use std::io::Write;
+
+/// A writer that tells why its last call that failed did so.
+pub trait TellsFailure: Write {
+    /// The error of that call, if one failed.
+    fn failure(&self) -> Option<io::Error>;
+}
+
+/// A writer with the error of its last call that failed.
+#[derive(Drop)]
+pub struct Recorded<W> {
+    writer: W,
+    failure: Option<io::Error>,
+}
+
+impl<W> Recorded<W> {
+    /// A writer of which no call has failed.
+    pub fn new(writer: W) -> Recorded<W> {
+        Recorded {
+            writer,
+            failure: None,
+        }
+    }
+
+    /// The writer.
+    pub fn into_writer(self) -> W {
+        self.writer
+    }
+}
+
+impl<W: Write> Write for Recorded<W> {
+    ghost contents = { λ r. W.contents r.writer };
+
+    fn write(&mut self, buf: &[u8]) -> io::Result<usize> {
+        let written = self.writer.write(buf);
+        if let Err(error) = written {
+            self.failure = Some(error);
+        }
+        written
+    }
+
+    fn flush(&mut self) -> io::Result<()> {
+        let flushed = self.writer.flush();
+        if let Err(error) = flushed {
+            self.failure = Some(error);
+        }
+        flushed
+    }
+}
+
+impl<W: Write> TellsFailure for Recorded<W> {
+    fn failure(&self) -> Option<io::Error> {
+        self.failure
+    }
+}

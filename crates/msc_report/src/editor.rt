@@ -1,0 +1,156 @@
+//! The renderer of lines for editors: each race as a line that begins with its place, and a note at
+//! the event that is drawn below it.
+
+ghost use Rattle.std.specs.Prelude.{◌≡◌, ◌<◌, [], ◌++◌, OnOk, length};
+ghost use Rattle.std.specs.Io.KnownBytes.{Appends};
+ghost use Rattle.msc_report.specs.Editors.{below_line, editor_text, kind_text, level_word};
+ghost use Rattle.msc_report.specs.Editors.{race_line, told_text};
+
+use crate::race::{write_event, write_race_place};
+use msc_chart::{Chart, Event};
+use msc_judge::{Finding, Heading, Page, Renderer};
+use msc_place::Sites;
+use msc_reason::Lack;
+use std::alloc::{AllocError, Global};
+use std::io;
+use std::io::Write;
+
+/// Lines for editors, of a chart whose events stand there.
+#[derive(Clone, Copy)]
+pub struct Editor<'s> {
+    pub sites: &'s Sites<'s>,
+}
+
+/// The word for how grave a race is: one that every run reverses is an error.
+fn level_word(lack: Option<Lack>) -> &'static str
+    ensures { result.now ≡ level_word lack }
+{
+    match lack {
+        Some(lack) if lack.always => "error",
+        _ => "warning",
+    }
+}
+
+/// Writes the kind of a race, where it is told.
+fn write_kind<W: Write>(writer: &mut W, lack: Option<Lack>) -> io::Result<()>
+    ensures { OnOk result (Appends (W.contents writer.old) (W.contents writer.new)
+        (kind_text lack)) }
+{
+    match lack {
+        Some(lack) => {
+            let kind = lack.kind.word();
+            write!(writer, " [{kind}]")
+        }
+        None => Ok(()),
+    }
+}
+
+/// Writes which events race, on which line, and what both of them do.
+fn write_told<W: Write>(writer: &mut W, chart: &Chart, e: Event, f: Event) -> io::Result<()>
+    requires e_known { e < length chart.now.events }
+    requires f_known { f < length chart.now.events }
+    ensures { OnOk result (Appends (W.contents writer.old) (W.contents writer.new)
+        (told_text chart.now e f)) }
+{
+    write_race_place(writer, chart, e, f)?;
+    writer.write_all(b": ")?;
+    write_event(writer, chart, e)?;
+    writer.write_all(b"; ")?;
+    write_event(writer, chart, f)
+}
+
+impl<'s> Editor<'s> {
+    /// Writes the line of a race.
+    fn write_race<W: Write>(
+        &self,
+        writer: &mut W,
+        chart: &Chart,
+        finding: Finding,
+    ) -> io::Result<()>
+        requires e_known { finding.first < length chart.now.events }
+        requires f_known { finding.second < length chart.now.events }
+        ensures { OnOk result (Appends (W.contents writer.old) (W.contents writer.new)
+            (race_line self.now.sites.now chart.now finding)) }
+    {
+        self.sites.write_site(writer, finding.first)?;
+        let level = level_word(finding.lack);
+        writer.write_all(b": ")?;
+        writer.write_all(level.as_bytes())?;
+        writer.write_all(b": ")?;
+        write_told(writer, chart, finding.first, finding.second)?;
+        write_kind(writer, finding.lack)?;
+        writer.write_all(b"\n")
+    }
+
+    /// Writes the note at the second event of a race.
+    fn write_below<W: Write>(&self, writer: &mut W, f: Event) -> io::Result<()>
+        ensures { OnOk result (Appends (W.contents writer.old) (W.contents writer.new)
+            (below_line self.now.sites.now f)) }
+    {
+        self.sites.write_site(writer, f)?;
+        writer.write_all(b": note: the event drawn below it\n")
+    }
+
+    /// Writes both lines of a race.
+    fn write_finding<W: Write>(
+        &self,
+        writer: &mut W,
+        chart: &Chart,
+        finding: Finding,
+    ) -> io::Result<()>
+        requires e_known { finding.first < length chart.now.events }
+        requires f_known { finding.second < length chart.now.events }
+        ensures { OnOk result (Appends (W.contents writer.old) (W.contents writer.new)
+            (editor_text self.now.sites.now chart.now finding)) }
+    {
+        self.write_race(writer, chart, finding)?;
+        self.write_below(writer, finding.second)
+    }
+}
+
+impl<'s> Renderer for Editor<'s> {
+    ghost fits = { λ s d. Unit {0} };
+
+    ghost heading_text = { λ s d h. [] };
+
+    ghost run_text = { λ s d run. [] };
+
+    ghost finding_text = { λ s d f line. editor_text s.sites.now d f };
+
+    ghost end_text = { λ s d. [] };
+
+    fn put_heading(
+        &self,
+        _page: &mut Page,
+        _chart: &Chart,
+        _heading: Heading,
+    ) -> Result<(), AllocError> {
+        Ok(())
+    }
+
+    fn run_line(
+        &self,
+        alloc: Global,
+        _chart: &Chart,
+        _run: &[Event],
+    ) -> Result<Vec<u8>, AllocError> {
+        Ok(Vec::new(alloc))
+    }
+
+    fn put_finding(
+        &self,
+        page: &mut Page,
+        chart: &Chart,
+        finding: Finding,
+        _line: Option<&[u8]>,
+    ) -> Result<(), AllocError> {
+        match self.write_finding(page, chart, finding) {
+            Ok(()) => Ok(()),
+            Err(_) => Err(AllocError),
+        }
+    }
+
+    fn put_end(&self, _page: &mut Page, _chart: &Chart) -> Result<(), AllocError> {
+        Ok(())
+    }
+}

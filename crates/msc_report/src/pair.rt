@@ -1,0 +1,69 @@
+//! The names of events on a command line, and the faults of a pair of them.
+
+ghost use Rattle.std.specs.Prelude.{OnOk};
+ghost use Rattle.std.specs.Io.KnownBytes.{Appends};
+ghost use Rattle.msc_report.specs.Texts.{event_word, pair_fault_line};
+
+use std::io;
+use std::io::Write;
+
+/// How an event is named: by its number, from 0, or as the first one whose statement begins on a
+/// line of the text, from 1.
+#[derive(Clone, Copy, Debug, PartialEq, Eq)]
+pub enum EventName {
+    Number(u32),
+    Line(u32),
+}
+
+/// Why two names are no two events of a chart.
+#[derive(Clone, Copy, Debug, PartialEq, Eq)]
+pub enum NamedFault {
+    /// This name is none of an event: the first such.
+    NoEvent(EventName),
+    /// Both names are those of one event.
+    OneEvent(EventName, EventName),
+}
+
+/// Writes the name of an event.
+fn write_name<W: Write>(writer: &mut W, name: EventName) -> io::Result<()>
+    ensures { OnOk result (Appends (W.contents writer.old) (W.contents writer.new)
+        (event_word name)) }
+{
+    match name {
+        EventName::Number(e) => write!(writer, "{e}"),
+        EventName::Line(line) => write!(writer, ":{line}"),
+    }
+}
+
+/// Writes the line of a name that is none of an event.
+fn write_no_event<W: Write>(writer: &mut W, name: EventName) -> io::Result<()>
+    ensures { OnOk result (Appends (W.contents writer.old) (W.contents writer.new)
+        (pair_fault_line (NamedFault.NoEvent name))) }
+{
+    writer.write_all(b"pair fault 1: no event ")?;
+    write_name(writer, name)?;
+    writer.write_all(b"\n")
+}
+
+/// Writes the line of two names of one event.
+fn write_one_event<W: Write>(writer: &mut W, e: EventName, f: EventName) -> io::Result<()>
+    ensures { OnOk result (Appends (W.contents writer.old) (W.contents writer.new)
+        (pair_fault_line (NamedFault.OneEvent e f))) }
+{
+    writer.write_all(b"pair fault 2: ")?;
+    write_name(writer, e)?;
+    writer.write_all(b" and ")?;
+    write_name(writer, f)?;
+    writer.write_all(b" are one event\n")
+}
+
+/// Writes the line of why two names are no two events of a chart.
+pub fn write_pair_fault<W: Write>(writer: &mut W, fault: NamedFault) -> io::Result<()>
+    ensures { OnOk result (Appends (W.contents writer.old) (W.contents writer.new)
+        (pair_fault_line fault)) }
+{
+    match fault {
+        NamedFault::NoEvent(name) => write_no_event(writer, name),
+        NamedFault::OneEvent(e, f) => write_one_event(writer, e, f),
+    }
+}
