@@ -65,7 +65,7 @@ IsNoName text = (name : EventName) → IsNameText text name → ⊥
 -- the word of an argument names an event
 pub record IsEventWord (found : Found) (id : List ℕ) (name : EventName) : Type 0 where
   pub text : List ℕ
-  pub word : one_text found id ≡ Some text
+  pub word : first_value found id ≡ Some text
   pub named : IsNameText text name
 
 -- an argument has no such word

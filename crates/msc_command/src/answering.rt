@@ -1,8 +1,9 @@
 //! The answers of tasks: the text is read once, its chart is made, and what is asked of it is
 //! answered and printed.
 
-ghost use Rattle.std.specs.Prelude.{ℕ, List};
+ghost use Rattle.std.specs.Prelude.{◌≡◌, ℕ, List};
 ghost use Rattle.msc_command.specs.Answering.{AnswersOf, Does, EndsAs, IsPut};
+ghost use Rattle.msc_command.specs.Ending.{ends_as};
 ghost use Rattle.msc_source.specs.Inputs.{IsReadFrom};
 ghost use Rattle.msc_command.specs.Formats.{IsFormat};
 ghost use Rattle.msc_source.specs.Inputs.{IsReadFrom};
@@ -169,7 +170,6 @@ fn answer<R: Threads + Wait + Sync, O: Write>(
         }
         Task::Chart(ask) => {
             let source = Source::of(alloc, Language::MscPr, text)?;
-            source.source();
             answer_chart(rt, alloc, ask, file, &source, output)
         }
     }
@@ -203,6 +203,26 @@ fn tell_failure<O: TellsFailure, E: Write>(faults: &mut E, refusal: Refusal, out
     }
 }
 
+/// Writes the line of a refusal, and what is said of it where that is requested; and tells how the
+/// run ended.
+fn end_told<O: TellsFailure, E: Write>(
+    alloc: Global,
+    request: Request<'_>,
+    text: &[u8],
+    refusal: Refusal,
+    output: &O,
+    faults: &mut E,
+) -> Status
+    ensures { result ≡ ends_as refusal }
+{
+    let status = end_refused(faults, refusal).0;
+    if request.notes {
+        let _ = write_notes(alloc, faults, request.file, text, refusal);
+        tell_failure(faults, refusal, output);
+    }
+    status
+}
+
 /// Does what is requested over an input, which is read once, and tells how the run ended. What went
 /// wrong goes to `faults`.
 pub(crate) fn perform<R: Threads + Wait + Sync, I: Read, O: TellsFailure, E: Write>(
@@ -216,20 +236,12 @@ pub(crate) fn perform<R: Threads + Wait + Sync, I: Read, O: TellsFailure, E: Wri
     ensures { EndsAs O.contents request.entry.task request.entry.file.now
         (IsReadFrom (I.remaining input.old) (I.remaining input.new)) result output.old output.new }
 {
-    let Request { task, file, notes } = request;
     let text = match read_all(alloc, input) {
         Ok(text) => text,
-        Err(fault) => return end_unread(faults, file, fault, notes),
+        Err(fault) => return end_unread(faults, request.file, fault, request.notes),
     };
-    match deliver(rt, alloc, task, file, text.as_slice(), output) {
+    match deliver(rt, alloc, request.task, request.file, text.as_slice(), output) {
         Ok(status) => status,
-        Err(refusal) => {
-            let status = end_refused(faults, refusal).0;
-            if notes {
-                let _ = write_notes(alloc, faults, file, text.as_slice(), refusal);
-                tell_failure(faults, refusal, output);
-            }
-            status
-        }
+        Err(refusal) => end_told(alloc, request, text.as_slice(), refusal, output, faults),
     }
 }

@@ -129,12 +129,15 @@ fn number_in(text: &str) -> Option<u32>
 pub(crate) fn name_in(text: &str) -> Option<EventName>
     ensures { MatchOption result (IsNoName text.now) (IsNameText text.now) }
 {
-    let Some(line) = text.strip_prefix(':') else {
-        return Some(EventName::Number(number_in(text)?));
-    };
-    match number_in(line)? {
-        0 => None,
-        line => Some(EventName::Line(line)),
+    match text.strip_prefix(':') {
+        Some(line) => match number_in(line) {
+            Some(line) if line > 0 => Some(EventName::Line(line)),
+            _ => None,
+        },
+        None => match number_in(text) {
+            Some(number) => Some(EventName::Number(number)),
+            None => None,
+        },
     }
 }
 
@@ -143,7 +146,10 @@ fn event_of(words: &ArgMatches, word: Word) -> Option<EventName>
     ensures { MatchOption result (LacksEvent (found_of words.now) (word_name word))
         (IsEventWord (found_of words.now) (word_name word)) }
 {
-    name_in(words.get_str(word.name())?)
+    match words.get_str(word.name()) {
+        Some(text) => name_in(text),
+        None => None,
+    }
 }
 
 /// The number of an option, and `without` where it does not stand.
@@ -282,7 +288,7 @@ fn run_of(queues: Queues, words: &ArgMatches) -> Task
 /// What the words of `msc explain` ask for, if they name two events.
 fn explain_of(queues: Queues, words: &ArgMatches) -> Option<Task>
     ensures { architecture (found_of words.now) ≡ Some queues
-        → MatchOption result (IsNoCommand Verb.Explain (found_of words.now))
+        → MatchOption result (LacksWords Verb.Explain (found_of words.now))
         (AsksFor Verb.Explain (found_of words.now)) }
 {
     Some(Task::Chart(Ask::Explain(Explaining {

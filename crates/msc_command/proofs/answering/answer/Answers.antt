@@ -24,5 +24,6 @@ returns-in_err-source-in-Chart g c =
 
 pub returns-in_ok-source-in-Chart : goal.returns-in_ok-source-in-Chart
 returns-in_ok-source-in-Chart g c =
-    rw c.in-Chart.is (charted g.O.Write.contents c.args.file.now c.args.text.now c.chart.result.now (rw c.chart.ensures c.in_ok-source-in-Chart.ensures.2) c.in-Chart.ask
+    let read = c.in_ok-source-in-Chart.ensures in
+    rw c.in-Chart.is (charted g.O.Write.contents c.args.file.now c.args.text.now c.in_ok-source-in-Chart.source read.0 read.1 read.2 c.in-Chart.ask
     c.answer_chart.result _ _ c.answer_chart.ensures)

@@ -1,5 +1,8 @@
-use Rattle.std.proofs.Common.{◌≡◌, true, false, inr, refl}
-use Rattle.msc_command.proofs.Answered.{ends_so}
+use Rattle.std.proofs.Common.{◌≡◌, true, false, Err}
+use Rattle.msc_report.specs.Refusals.{of_reading}
+use Rattle.msc_source.specs.declared.fault.ReadFault.TheVariants.{Device}
+use Rattle.msc_command.proofs.Answered.{ends_so, unread}
+use Rattle.msc_command.specs.declared.ending.Refusal.TheVariants as refusals
 use Rattle.msc_command.proofs.program.perform_on.Goals as goal
 
 -- a test that failed did not pass
@@ -16,4 +19,9 @@ returns-in-Ok-clause-performed g c =
     (λ text read same. absurd (differ (rw same at c.if-eq.ensures))) c.perform-in-Ok.ensures
 
 pub returns-in-Err-clause-performed : goal.returns-in-Err-clause-performed
-returns-in-Err-clause-performed g c = (_, c.end_unread.ensures, inr (tt, refl))
+returns-in-Err-clause-performed g c =
+    let fault = Device c.in-Err.error in (
+      Err (refusals.Fault (of_reading fault)),
+      c.end_unread.ensures,
+      unread g.O.Write.contents c.args.request.task c.args.request.file.now _ fault c.args.output.now,
+    )
