@@ -240,7 +240,14 @@ pub(crate) fn perform<R: Threads + Wait + Sync, I: Read, O: TellsFailure, E: Wri
         Ok(text) => text,
         Err(fault) => return end_unread(faults, request.file, fault, request.notes),
     };
-    match deliver(rt, alloc, request.task, request.file, text.as_slice(), output) {
+    match deliver(
+        rt,
+        alloc,
+        request.task,
+        request.file,
+        text.as_slice(),
+        output,
+    ) {
         Ok(status) => status,
         Err(refusal) => end_told(alloc, request, text.as_slice(), refusal, output, faults),
     }

@@ -24,11 +24,7 @@ fn event_at_line(alloc: Global, source: &Source, line: u32) -> Result<Option<Eve
 }
 
 /// The event of a name, if there is one.
-fn event_named(
-    alloc: Global,
-    source: &Source,
-    name: EventName,
-) -> Result<Option<Event>, AllocError>
+fn event_named(alloc: Global, source: &Source, name: EventName) -> Result<Option<Event>, AllocError>
     ensures { IfOk result (IsNamed source.now name) }
 {
     match name {

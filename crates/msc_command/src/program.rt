@@ -51,7 +51,12 @@ fn perform_on<R: Files + Threads + Wait + Sync, I: Read, O: TellsFailure, E: Wri
     }
     match fs::open(rt, request.file) {
         Ok(mut opened) => perform(rt, alloc, request, &mut opened, output, faults),
-        Err(error) => end_unread(faults, request.file, ReadFault::Device(error), request.notes),
+        Err(error) => end_unread(
+            faults,
+            request.file,
+            ReadFault::Device(error),
+            request.notes,
+        ),
     }
 }
 

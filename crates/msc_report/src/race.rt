@@ -177,7 +177,12 @@ pub fn write_run<W: Write>(writer: &mut W, run: &[Event]) -> io::Result<()>
 }
 
 /// Writes which events race, and on which line.
-pub(crate) fn write_race_place<W: Write>(writer: &mut W, chart: &Chart, e: Event, f: Event) -> io::Result<()>
+pub(crate) fn write_race_place<W: Write>(
+    writer: &mut W,
+    chart: &Chart,
+    e: Event,
+    f: Event,
+) -> io::Result<()>
     requires { e < length chart.now.events }
     ensures { OnOk result (Appends (W.contents writer.old) (W.contents writer.new)
         (race_place chart.now e f)) }

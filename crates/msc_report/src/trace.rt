@@ -79,11 +79,7 @@ fn write_event_lines<W: Write>(writer: &mut W, chart: &Chart, events: &[Event]) 
 }
 
 /// Writes a run in words: how many events it has, and a line for each of them, in their order.
-pub(crate) fn write_steps<W: Write>(
-    writer: &mut W,
-    chart: &Chart,
-    run: &[Event],
-) -> io::Result<()>
+pub(crate) fn write_steps<W: Write>(writer: &mut W, chart: &Chart, run: &[Event]) -> io::Result<()>
     requires { All (λ e. e < length chart.now.events) run.now }
     ensures { OnOk result (Appends (W.contents writer.old) (W.contents writer.new)
         (steps_text chart.now run.now)) }
