@@ -12,6 +12,7 @@ use Rattle.msc_chart.specs.Faults.{HoldsAt, IsTwice, IsUnknown, IsUnmatched, OfE
 use Rattle.msc_chart.specs.Lists.{StandsAt, Occurs}
 use Rattle.msc_notes.specs.AllFaults.{AreAllFaults, IsFault}
 use Rattle.msc_notes.specs.Putting.{HasNames, HasPut, IsFewRepeats, decl_names, section_names, unmatched_fault}
+use Rattle.msc_notes.proofs.Ends.{end_same_by}
 use Rattle.msc_notes.proofs.Putting.{IsMade, Lists, lists_none, put_lists}
 
 -- the names of a draft
@@ -28,11 +29,7 @@ unknown_same : (keys names : List (List ℕ)) → HasNames keys names
     → (name : List ℕ) → IsUnknown keys name ↔ IsUnknown names name
 unknown_same keys names h name = (λ u o. u ((h name).1 o), λ u o. u ((h name).0 o))
 
--- what holds of one end holds of it by another such fact
-end_same_by : (P Q : _ → Type 0) → ((x : _) → P x ↔ Q x) → (a : Act) → OfEnd P a ↔ OfEnd Q a
-end_same_by P Q h (OfMessage x) = h x
-end_same_by P Q h (Action text) = (λ u. u, λ u. u)
-
+-- what holds of an element by one fact holds of it by another
 holds_same : {T : Type 0} (P Q : T → Type 0) → ((x : T) → P x ↔ Q x) → (xs : List T) (i : ℕ)
     → HoldsAt P xs i ↔ HoldsAt Q xs i
 holds_same P Q h xs i =

@@ -14,3 +14,5 @@ pub mod Sets
 pub mod Parts
 pub mod SameEnds
 pub mod AllFaults
+pub mod Ends
+pub mod Together

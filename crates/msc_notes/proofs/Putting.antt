@@ -15,7 +15,7 @@ module _ (make : ℕ → ChartFault) (Such : ℕ → Type 0) where
   pub put_begun : (old : List ChartFault) → HasPut make Such 0 old old
   put_begun old = record {
     numbers = [];
-    put = sym append-nil;
+    put = sym (append-nil old);
     all = λ k. (λ h. cc, λ h. absurd (omega (arith, h.0)));
     ascending = ordered_none (λ a b. a < b);
   }
@@ -30,7 +30,7 @@ module _ (make : ℕ → ChartFault) (Such : ℕ → Type 0) where
   put_taken n old new h it = record {
     numbers = h.numbers ++ n ∷ [];
     put =
-      ap (λ fs. fs ++ make n ∷ []) h.put ∙ append_assoc
+      ap (λ fs. fs ++ make n ∷ []) h.put ∙ append_assoc old (map make h.numbers) (make n ∷ [])
       ∙ ap (λ fs. old ++ fs) (sym (map-append make h.numbers (n ∷ [])));
     all = λ k. (
       λ o. elim (in_either h.numbers (n ∷ []) k o) [

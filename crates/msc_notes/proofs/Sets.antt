@@ -5,6 +5,9 @@ use Rattle.std.specs.List.{list_any}
 use Rattle.std.proofs.lemmas.Bool.{cases_lt}
 use Rattle.std.proofs.lemmas.List.{map-append}
 use Rattle.std.proofs.lemmas.Option.{slice_get_within}
+use Rattle.msc_chart.specs.Events.{Act}
+use Rattle.msc_chart.specs.Events.Act.{OfMessage, Action}
+use Rattle.msc_chart.specs.Faults.{HoldsAt, IsTwice, OfEnd}
 use Rattle.msc_chart.specs.Lists.{StandsAt, Occurs}
 use Rattle.msc_chart.proofs.Places.{any_from, occurs_from, one_at}
 use Rattle.msc_notes.proofs.Ordered.{in_back, in_either, in_front, one_alone}
@@ -30,12 +33,27 @@ module _ {T : Type 0} (xs : List T) where
     ],
   )
 
+  -- so what shows all that stood before, and with it this, shows all that stands before the next
+  pub earlier_grows : (k : ℕ) (y : T) → StandsAt xs k y → (x : T) (Old New : Type 0)
+      → Old ↔ Earlier k x → New ↔ (Old ⊎ (y ≡ x)) → New ↔ Earlier (k + 1) x
+  earlier_grows k y here x Old New so_far grown =
+      let more = earlier_more k y here x in (
+        λ n. more.1 (elim (grown.0 n) [ inl o ↦ inl (so_far.0 o) | inr e ↦ inr e ]),
+        λ h. grown.1 (elim (more.0 h) [ inl o ↦ inl (so_far.1 o) | inr e ↦ inr e ]),
+      )
+
   -- before the end stands all
   pub earlier_all : (k : ℕ) → length xs ≤ k → (x : T) → Earlier k x ↔ Occurs xs x
   earlier_all k past x = (
     λ h. (h.0, h.2),
     λ o. (o.0, omega (arith, past, slice_get_within xs o.0 x o.1), o.1),
   )
+
+-- no key shows anything where there is none
+pub none_there : {T X : Type 0} (view : T → X) (keys : List T) (x : X) → keys ≡ []
+    → Occurs (map view keys) x → ⊥
+none_there view keys x empty o =
+    let h : StandsAt (map view []) o.0 x = subst (λ ks. StandsAt (map view ks) o.0 x) empty o.1 in cc
 
 module _ {T X : Type 0} (view : T → X) (eq : T → T → Bool) (same : (a b : T) → (eq a b ≡ true) ↔ (view a ≡ view b)) where
   -- a key is found exactly where what it shows is there
@@ -69,3 +87,26 @@ module _ {T X : Type 0} (view : T → X) (eq : T → T → Bool) (same : (a b : 
   pub inserted : (keys : List T) (v : T) (x : X)
       → Occurs (map view (insert_key eq keys v)) x ↔ (Occurs (map view keys) x ⊎ (view v ≡ x))
   inserted keys v x = inserted_by keys v x (list_any (eq v) keys) refl
+
+module _ {T : Type 0} (P : T → Type 0) (xs : List T) (k : ℕ) (x : T) (here : StandsAt xs k x) where
+  -- a fact of what stands at a place
+  pub holds_here : P x → HoldsAt P xs k
+  holds_here p = (x, here, p)
+
+  pub holds_not : (P x → ⊥) → HoldsAt P xs k → ⊥
+  holds_not none h = none (subst P (one_at xs k h.0 x h.1 here) h.2)
+
+-- an end of a message stands earlier too
+abbrev pub StandsEarlier : List Act → ℕ → Act → Type 0
+StandsEarlier acts e = OfEnd (λ x. Earlier acts e (OfMessage x))
+
+-- then it is there twice
+pub twice_here : (acts : List Act) (e : ℕ) (a : Act) → StandsAt acts e a → StandsEarlier acts e a
+    → IsTwice acts e
+twice_here acts e (OfMessage x) here h = (x, here, h)
+twice_here acts e (Action text) here h = absurd h
+
+pub twice_not : (acts : List Act) (e : ℕ) (a : Act) → StandsAt acts e a
+    → (StandsEarlier acts e a → ⊥) → IsTwice acts e → ⊥
+twice_not acts e a here none h =
+    none (subst (StandsEarlier acts e) (one_at acts e (OfMessage h.0) a h.1 here) h.2)

@@ -1,6 +1,7 @@
 //! All faults of names, of addresses and of ends of messages that stand in a draft.
 
-ghost use Rattle.std.specs.Prelude.{◌≡◌, ◌≤◌, ◌↔◌, IsTrue, length, map, IfOk, OnOk};
+ghost use Rattle.std.specs.Prelude.{◌≡◌, ◌<◌, ◌≤◌, ◌↔◌, ◌^◌, IsTrue, length, map, IfOk, OnOk};
+ghost use Rattle.std.specs.Prelude.{false};
 ghost use Rattle.std.specs.Map.Iter.{deref};
 ghost use Rattle.msc_chart.specs.declared.fault.ChartFault.TheVariants.{HeaderWithoutBody};
 ghost use Rattle.msc_chart.specs.declared.fault.ChartFault.TheVariants.{TwiceEvent, TwiceInstance};
@@ -22,6 +23,14 @@ use msc_lexer::TEXT_LIMIT;
 use msc_parser::{Decl, Draft, Section};
 use std::alloc::{AllocError, Global};
 
+/// Whether the name of section `i` is not new, and the section's number is one that a fault can have;
+/// no text has as many sections.
+fn is_repeat(is_new: bool, i: usize) -> bool
+    ensures { IsTrue result ↔ ((is_new ≡ false) × (i < 2 ^ 32)) }
+{
+    !is_new && i < 0x1_0000_0000
+}
+
 /// Puts the sections whose name an earlier one has at the back, and answers all their names.
 fn put_repeated_names<'d>(
     alloc: Global,
@@ -37,8 +46,8 @@ fn put_repeated_names<'d>(
     let mut names = IndexSet::with_capacity(alloc, sections.len())?;
     for (i, section) in sections.iter().enumerate() {
         let (_, is_new) = names.insert_full(section.decl.name.as_slice())?;
-        if !is_new && let Ok(i) = u32::try_from(i) {
-            faults.push(ChartFault::TwiceInstance(i))?;
+        if is_repeat(is_new, i) {
+            faults.push(ChartFault::TwiceInstance(i as u32))?;
         }
     }
     Ok(names)
@@ -217,10 +226,11 @@ pub fn faults(alloc: Global, draft: &Draft) -> Result<Vec<ChartFault>, AllocErro
     let mut faults = Vec::new(alloc);
     let names = put_repeated_names(alloc, &mut faults, draft.sections())?;
     put_unknown_headers(&mut faults, draft.header(), &names)?;
-    let events = events_of(alloc, draft)?;
-    put_unknown_addresses(&mut faults, &events, &names)?;
-    let ends = put_repeated_ends(alloc, &mut faults, &events)?;
-    put_unmatched(&mut faults, &events, &ends, true)?;
-    put_unmatched(&mut faults, &events, &ends, false)?;
+    let drawn = events_of(alloc, draft)?;
+    let events = drawn.as_slice();
+    put_unknown_addresses(&mut faults, events, &names)?;
+    let ends = put_repeated_ends(alloc, &mut faults, events)?;
+    put_unmatched(&mut faults, events, &ends, true)?;
+    put_unmatched(&mut faults, events, &ends, false)?;
     Ok(faults)
 }
