@@ -128,7 +128,7 @@ pub fn further(
     }
     let all = faults(alloc, draft)?;
     let events = events_of(alloc, draft)?;
-    others(alloc, &events, &all, first)
+    others(alloc, events.as_slice(), all.as_slice(), first)
 }
 
 /// What is said of the further faults behind the first fault of a draft. `places` are those of the
