@@ -8,28 +8,28 @@ use Rattle.msc_notes.proofs.standing.faults.Goals as goal
 
 pub put_unknown_addresses-requires : goal.put_unknown_addresses-requires
 put_unknown_addresses-requires c =
-    few_events c.as_slice.result.now c.args.draft.now c.sections.result.now
-    (ap (map own_view) c.as_slice.ensures.value ∙ c.in_ok-drawn.ensures) c.sections.ensures.value c.sections.ensures.few
+    few_events c.as_slice-events.result.now c.args.draft.now c.sections.result.now
+    (ap (map own_view) c.as_slice-events.ensures.value ∙ c.in_ok-drawn.ensures) c.sections.ensures.value c.sections.ensures.few
 
 pub put_repeated_ends-requires : goal.put_repeated_ends-requires
 put_repeated_ends-requires c =
-    few_events c.as_slice.result.now c.args.draft.now c.sections.result.now
-    (ap (map own_view) c.as_slice.ensures.value ∙ c.in_ok-drawn.ensures) c.sections.ensures.value c.sections.ensures.few
+    few_events c.as_slice-events.result.now c.args.draft.now c.sections.result.now
+    (ap (map own_view) c.as_slice-events.ensures.value ∙ c.in_ok-drawn.ensures) c.sections.ensures.value c.sections.ensures.few
 
 pub put_unmatched-requires-clause-few : goal.put_unmatched-requires-clause-few
 put_unmatched-requires-clause-few c =
-    few_events c.as_slice.result.now c.args.draft.now c.sections.result.now
-    (ap (map own_view) c.as_slice.ensures.value ∙ c.in_ok-drawn.ensures) c.sections.ensures.value c.sections.ensures.few
+    few_events c.as_slice-events.result.now c.args.draft.now c.sections.result.now
+    (ap (map own_view) c.as_slice-events.ensures.value ∙ c.in_ok-drawn.ensures) c.sections.ensures.value c.sections.ensures.few
 
 pub put_unmatched-requires-2-clause-few : goal.put_unmatched-requires-2-clause-few
 put_unmatched-requires-2-clause-few c =
-    few_events c.as_slice.result.now c.args.draft.now c.sections.result.now
-    (ap (map own_view) c.as_slice.ensures.value ∙ c.in_ok-drawn.ensures) c.sections.ensures.value c.sections.ensures.few
+    few_events c.as_slice-events.result.now c.args.draft.now c.sections.result.now
+    (ap (map own_view) c.as_slice-events.ensures.value ∙ c.in_ok-drawn.ensures) c.sections.ensures.value c.sections.ensures.few
 
 pub returns : goal.returns
 returns c =
-    let ss = c.sections.result.now in let hs = c.header.result.now in let events = c.as_slice.result.now in
-    let is = ap (map own_view) c.as_slice.ensures.value ∙ c.in_ok-drawn.ensures in
+    let ss = c.sections.result.now in let hs = c.header.result.now in let events = c.as_slice-events.result.now in
+    let is = ap (map own_view) c.as_slice-events.ensures.value ∙ c.in_ok-drawn.ensures in
     let few = few_events events c.args.draft.now ss is c.sections.ensures.value c.sections.ensures.few in
     let twice = c.put_repeated_names.new.faults.items in
     all_together c.args.draft.now ss hs events (map deref c.in_ok-names.names.keys) twice _ _ _ _ _
