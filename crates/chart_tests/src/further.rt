@@ -1,8 +1,9 @@
 //! All faults of a draft, and what is printed of the further ones behind the first.
 
 use crate::host::Host;
-use msc_chart::ChartFault::{Cyclic, HeaderWithoutBody, TwiceEvent};
-use msc_chart::ChartFault::{TwiceInstance, UnknownAddress, UnmatchedIn, UnmatchedOut};
+use msc_chart::ChartFault::{
+    Cyclic, HeaderWithoutBody, TwiceEvent, TwiceInstance, UnknownAddress, UnmatchedIn, UnmatchedOut,
+};
 use msc_chart::{Chart, ChartFault};
 use msc_notes::writing::write_further;
 use msc_notes::{faults, further, tell_further};

@@ -60,8 +60,8 @@ module _ (first : ChartFault) (part whole : List ChartFault) (h : IsPartWithout 
       | inr b ↦ λ same. other (one_alone f g b ∙ same)
     ];
     ordered = λ asc.
-      ordered_more IsBefore part f (h.ordered (ordered_front IsBefore whole (f ∷ []) asc))
-      (λ g o. last_after IsBefore whole f asc g (h.within g o));
+        ordered_more IsBefore part f (h.ordered (ordered_front IsBefore whole (f ∷ []) asc))
+        (λ g o. last_after IsBefore whole f asc g (h.within g o));
   }
 
 module _ (first : ChartFault) (all : List ChartFault) where

@@ -30,8 +30,8 @@ module _ (make : ℕ → ChartFault) (Such : ℕ → Type 0) where
   put_taken n old new h it = record {
     numbers = h.numbers ++ n ∷ [];
     put =
-      ap (λ fs. fs ++ make n ∷ []) h.put ∙ append_assoc old (map make h.numbers) (make n ∷ [])
-      ∙ ap (λ fs. old ++ fs) (sym (map-append make h.numbers (n ∷ [])));
+        ap (λ fs. fs ++ make n ∷ []) h.put ∙ append_assoc old (map make h.numbers) (make n ∷ [])
+        ∙ ap (λ fs. old ++ fs) (sym (map-append make h.numbers (n ∷ [])));
     all = λ k. (
       λ o. elim (in_either h.numbers (n ∷ []) k o) [
         | inl a ↦ let r = (h.all k).0 a in (more k n r.0, r.1)
@@ -88,12 +88,12 @@ module _ (make : ℕ → ChartFault) (Such : ℕ → Type 0) (n : ℕ) (old new 
   made_put : (f : ChartFault) → Occurs (map make h.numbers) f ↔ IsMade make Such n f
   made_put f = (
     λ o.
-      let r = map-place make h.numbers o.0 f o.1 in
-      let s = (h.all r.0).0 (o.0, r.1) in
-      (r.0, s.0, s.1, r.2),
+        let r = map-place make h.numbers o.0 f o.1 in
+        let s = (h.all r.0).0 (o.0, r.1) in
+        (r.0, s.0, s.1, r.2),
     λ m.
-      let o = (h.all m.0).1 (m.1, m.2) in
-      (o.0, subst (StandsAt (map make h.numbers) o.0) m.3 (place-map make h.numbers o.0 m.0 o.1)),
+        let o = (h.all m.0).1 (m.1, m.2) in
+        (o.0, subst (StandsAt (map make h.numbers) o.0) m.3 (place-map make h.numbers o.0 m.0 o.1)),
   )
 
   -- it is ascending
@@ -126,7 +126,7 @@ module _ (make : ℕ → ChartFault) (Such : ℕ → Type 0) (n : ℕ) (old new 
       ],
     );
     ascending = ordered_joined IsBefore old (map make h.numbers) before.ascending put_ordered
-      (λ f g a b. inl (omega (arith, before.ranked f a, higher, put_ranked g b)));
+        (λ f g a b. inl (omega (arith, before.ranked f a, higher, put_ranked g b)));
     ranked = λ f o. elim (in_either old (map make h.numbers) f o) [
       | inl a ↦ omega (arith, before.ranked f a, higher)
       | inr b ↦ omega (arith, put_ranked f b)

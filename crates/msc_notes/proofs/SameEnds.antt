@@ -53,8 +53,8 @@ missing_test keys y x r is same =
     let f = found end_view end_same same_ends keys y in (
       λ h o. clash (is ∙ f.1 (subst (Occurs (map end_view keys)) (sym same) o)) (not-true r h),
       λ none. by_test r
-        (λ yes. absurd (none (subst (Occurs (map end_view keys)) same (f.0 (sym is ∙ yes)))))
-        (λ no. not_from_false r no),
+          (λ yes. absurd (none (subst (Occurs (map end_view keys)) same (f.0 (sym is ∙ yes)))))
+          (λ no. not_from_false r no),
     )
 
 module _ (names : List (List ℕ)) (i : ℕ) (name : List ℕ) (here : StandsAt names i name) (keys : List (Bor (List ℕ))) (v : Bor (List ℕ)) (own : v.now ≡ name) (so_far : (n : List ℕ) → Occurs (map deref keys) n ↔ Earlier names i n) where

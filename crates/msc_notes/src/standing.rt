@@ -154,11 +154,7 @@ fn put_repeated_ends<'d>(
 }
 
 /// Whether an event is an output, or an input, whose other end is none of these.
-pub(crate) fn is_unmatched<'d>(
-    event: &OwnEvent<'d>,
-    ends: &IndexSet<End<'d>>,
-    sends: bool,
-) -> bool
+pub(crate) fn is_unmatched<'d>(event: &OwnEvent<'d>, ends: &IndexSet<End<'d>>, sends: bool) -> bool
     ensures { IsTrue result ↔ OfEnd
         (IsAlone sends (map end_view ends.now.keys)) (act_view event.now) }
 {

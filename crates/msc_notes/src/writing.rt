@@ -4,8 +4,8 @@ ghost use Rattle.std.specs.Prelude.{◌≡◌, map, OnOk};
 ghost use Rattle.std.specs.Io.KnownBytes.{Appends};
 ghost use Rattle.msc_notes.specs.Texts.{note_words, pair_line, place_text, shown_byte};
 
-use crate::other_faults::FurtherFaults;
 use crate::note::{Note, Tag, Told};
+use crate::other_faults::FurtherFaults;
 use msc_chart::ChartFault;
 use msc_place::{Lines, Position};
 use std::io;

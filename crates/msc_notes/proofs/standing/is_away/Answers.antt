@@ -11,8 +11,7 @@ pub returns-in-Some : goal.returns-in-Some
 returns-in-Some c =
     let event = c.args.event.now in let keys = c.args.names.now.keys in
     let of = of_end event.own.now (λ x. IsUnknown (map deref keys) (address_of x)) event.statement.now (end_view c.in-Some.end) (sym c.in-Some.ensures) in
-    let test = unknown_test keys c.address.result.now c.contains.result c.contains.ensures in
-    (
+    let test = unknown_test keys c.address.result.now c.contains.result c.contains.ensures in (
       λ t. of.1 (subst (IsUnknown (map deref keys)) c.address.ensures (test.0 t)),
       λ h. test.1 (subst (IsUnknown (map deref keys)) (sym c.address.ensures) (of.0 h)),
     )

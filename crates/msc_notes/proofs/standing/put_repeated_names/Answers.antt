@@ -45,9 +45,9 @@ loop-i-preserved c =
             (λ h. clash (c.is_repeat.ensures.1 (added ∙ ap not (repeat_old names i s.decl.name here keys v c.as_slice.ensures so_far h), h.0)) w.if-is_repeat.false))
       ];
       names = λ name.
-        earlier_grows names i s.decl.name here name _ _ (so_far name)
-        (subst (λ n. Occurs (map deref c.insert_full.new.self.keys) name ↔ (Occurs (map deref keys) name ⊎ (n ≡ name))) c.as_slice.ensures
-        (rw c.in_ok-is_new.ensures.keys (inserted deref (λ a b. pointwise nat_eq a.now b.now) same_names keys v name)));
+          earlier_grows names i s.decl.name here name _ _ (so_far name)
+          (subst (λ n. Occurs (map deref c.insert_full.new.self.keys) name ↔ (Occurs (map deref keys) name ⊎ (n ≡ name))) c.as_slice.ensures
+          (rw c.in_ok-is_new.ensures.keys (inserted deref (λ a b. pointwise nat_eq a.now b.now) same_names keys v name)));
     }
 
 pub returns-clause-names : goal.returns-clause-names
