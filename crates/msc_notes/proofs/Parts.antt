@@ -77,14 +77,14 @@ module _ (first : ChartFault) (all : List ChartFault) where
     -- the next is left out
     pub left_at : new ≡ part → IsPartWithout first new (take (i + 1) all)
     left_at same =
-        rw (same, take_more i all Memory within)
+        rw (same, take_more all i Memory within)
         (part_left first part (take i all) h (get_or all i Memory))
 
     -- the next is taken
     pub taken_at : (f d : ChartFault) → new ≡ part ++ f ∷ [] → f ≡ get_or all i d
         → fault_same f first ≡ false → IsPartWithout first new (take (i + 1) all)
     taken_at f d put is differ =
-        let next : take (i + 1) all ≡ take i all ++ f ∷ [] = take_more i all d within ∙ ap (λ g. take i all ++ g ∷ []) (sym is) in
+        let next : take (i + 1) all ≡ take i all ++ f ∷ [] = take_more all i d within ∙ ap (λ g. take i all ++ g ∷ []) (sym is) in
         rw (put, next) (part_taken first part (take i all) h f (another f first differ))
 
 -- so what is taken of all faults of a draft are further faults
