@@ -13,6 +13,8 @@ mod drafts;
 #[cfg(test)]
 mod faults;
 #[cfg(test)]
+mod further;
+#[cfg(test)]
 mod gathering;
 #[cfg(test)]
 mod grammar;
