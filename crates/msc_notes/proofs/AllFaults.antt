@@ -1,17 +1,15 @@
 -- The faults that are put at the back are those that stand.
-use Rattle.std.proofs.Common.{◌≡◌, ◌⊎◌, ◌↔◌, ℕ, ◌<◌, ◌≤◌, true, false, List, [], length, map, inl, inr, refl, subst, arith}
-use Rattle.std.proofs.lemmas.List.{length-map}
+use Rattle.std.proofs.Common.{◌≡◌, ◌⊎◌, ◌↔◌, ℕ, ◌<◌, ◌≤◌, true, false, List, [], length, inl, inr, refl, subst, arith}
 use Rattle.std.proofs.lemmas.Option.{slice_get_within}
 use Rattle.msc_lexer.specs.declared.TheConstants.{TEXT_LIMIT}
 use Rattle.msc_parser.specs.Grammar.{Tree}
 use Rattle.msc_chart.specs.declared.fault.ChartFault.{ChartFault}
 use Rattle.msc_chart.specs.declared.fault.ChartFault.TheVariants.{TooManyInstances, TwiceInstance, HeaderWithoutBody, UnknownAddress, TooManyMessages, TooManyActions, TwiceEvent, UnmatchedOut, UnmatchedIn, Cyclic, Memory}
-use Rattle.msc_chart.specs.Events.{Act, acts_of, address_of, header_of, instances_of}
-use Rattle.msc_chart.specs.Events.Act.{OfMessage, Action}
+use Rattle.msc_chart.specs.Events.{acts_of, address_of, header_of, instances_of}
+use Rattle.msc_chart.specs.Events.Act.{OfMessage}
 use Rattle.msc_chart.specs.Faults.{HoldsAt, IsTwice, IsUnknown, IsUnmatched, OfEnd, Stands}
-use Rattle.msc_chart.specs.Lists.{StandsAt, Occurs}
 use Rattle.msc_notes.specs.AllFaults.{AreAllFaults, IsFault}
-use Rattle.msc_notes.specs.Putting.{HasNames, HasPut, IsFewRepeats, decl_names, section_names, unmatched_fault}
+use Rattle.msc_notes.specs.Putting.{HasNames, HasPut, IsFewRepeats, decl_names, section_names}
 use Rattle.msc_notes.proofs.Ends.{end_same_by}
 use Rattle.msc_notes.proofs.Putting.{IsMade, Lists, lists_none, put_lists}
 

@@ -1,5 +1,5 @@
 -- What an event does, by the end of a message that it is.
-use Rattle.std.proofs.Common.{◌≡◌, ◌↔◌, ℕ, Bool, true, false, not, List, Option, Some, None, refl, sym, ap, subst, ◌∙◌}
+use Rattle.std.proofs.Common.{◌≡◌, ◌↔◌, ℕ, Bool, true, false, not, List, Some, None, refl, sym, ap, subst, ◌∙◌}
 use Rattle.msc_parser.specs.declared.tree.Statement.{Statement}
 use Rattle.msc_parser.specs.declared.tree.Statement.TheVariants as statements
 use Rattle.msc_chart.specs.Events.{Act, MessageEnd, act_of, other_end}

@@ -6,7 +6,6 @@ use Rattle.msc_parser.specs.Grammar.{Tree}
 use Rattle.msc_chart.specs.declared.fault.ChartFault.{ChartFault}
 use Rattle.msc_chart.specs.declared.fault.ChartFault.TheVariants.{TooManyInstances, TwiceInstance, HeaderWithoutBody, UnknownAddress, TooManyMessages, TooManyActions, TwiceEvent, UnmatchedOut, UnmatchedIn, Cyclic, Memory}
 use Rattle.msc_chart.specs.contracts.fault.ChartFaultPartialEq.TheImpl as derived
-use Rattle.msc_chart.specs.Lists.{Occurs}
 use Rattle.msc_notes.specs.AllFaults.{AreAllFaults, AreFurther, IsBefore}
 use Rattle.msc_notes.specs.Putting.{IsPartWithout}
 use Rattle.msc_notes.proofs.Ordered.{in_back, in_either, in_front, last_after, one_alone, ordered_front, ordered_more, ordered_none}
