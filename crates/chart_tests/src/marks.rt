@@ -9,7 +9,8 @@ use msc_race::Enforced;
 
 /// What stands before the comment of event 5, and behind it.
 const BEFORE: &[u8] = b"msc handover; instance SGW; out END_MARKER to source; \
-out DL_DATA to target; endinstance; instance source; in END_MARKER from SGW; out END_MARKER, 2 to target; endinstance; \
+out DL_DATA to target; endinstance; instance source; in END_MARKER from SGW; \
+out END_MARKER, 2 to target; endinstance; \
 instance target; in END_MARKER, 2 from source; in DL_DATA from SGW comment ";
 
 const BEHIND: &[u8] = b"; endinstance; endmsc;";

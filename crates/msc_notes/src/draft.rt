@@ -57,7 +57,8 @@ fn number_in(name: &[u8]) -> Option<usize> {
     Some(number)
 }
 
-/// The number that is the message instance name of an event with this message name, if there is one.
+/// The number that is the message instance name of an event with this message name, if there is
+/// one.
 fn number_of(event: &OwnEvent, name: &[u8]) -> Option<usize> {
     let signal = event.signal()?;
     if signal.name.as_slice() != name {

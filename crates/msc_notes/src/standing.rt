@@ -23,8 +23,8 @@ use msc_lexer::TEXT_LIMIT;
 use msc_parser::{Decl, Draft, Section};
 use std::alloc::{AllocError, Global};
 
-/// Whether the name of section `i` is not new, and the section's number is one that a fault can have;
-/// no text has as many sections.
+/// Whether the name of section `i` is not new, and the section's number is one that a fault can
+/// have; no text has as many sections.
 fn is_repeat(is_new: bool, i: usize) -> bool
     ensures { IsTrue result ↔ ((is_new ≡ false) × (i < 2 ^ 32)) }
 {

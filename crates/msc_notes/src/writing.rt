@@ -52,8 +52,8 @@ pub fn write_note<W: Write>(
     }
 }
 
-/// Where a note stands by itself: at its own place, at the first of its two, or at that of its fault;
-/// of a fault without a place at the beginning of the text.
+/// Where a note stands by itself: at its own place, at the first of its two, or at that of its
+/// fault; of a fault without a place at the beginning of the text.
 fn stands_at(note: &Note, fault: Option<usize>) -> usize {
     match (note.place, note.pair, fault) {
         (Some(at), _, _) => at,
