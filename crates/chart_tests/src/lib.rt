@@ -33,7 +33,7 @@ mod races;
 #[cfg(test)]
 mod reasons;
 #[cfg(test)]
-mod rings;
+mod rings_of_tables;
 #[cfg(test)]
 mod runs;
 #[cfg(test)]
