@@ -13,11 +13,15 @@ mod drafts;
 #[cfg(test)]
 mod faults;
 #[cfg(test)]
+mod further;
+#[cfg(test)]
 mod gathering;
 #[cfg(test)]
 mod grammar;
 #[cfg(test)]
 mod host;
+#[cfg(test)]
+mod marks;
 #[cfg(test)]
 mod notes;
 #[cfg(test)]
@@ -29,7 +33,7 @@ mod races;
 #[cfg(test)]
 mod reasons;
 #[cfg(test)]
-mod rings;
+mod rings_of_tables;
 #[cfg(test)]
 mod runs;
 #[cfg(test)]

@@ -5,5 +5,7 @@ pub mod Faults
 pub mod Told
 pub mod Behind
 pub mod Texts
+pub mod AllFaults
 -- what the code keeps
 pub mod Events
+pub mod Putting

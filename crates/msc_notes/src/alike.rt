@@ -2,7 +2,8 @@
 
 ghost use Rattle.std.specs.Prelude.{◌≡◌, Option, option_map, map, MatchOption};
 ghost use Rattle.std.specs.Option.{option_copied};
-ghost use Rattle.msc_chart.specs.Events.{end_of, is_end, other_end, same_end, same_name};
+ghost use Rattle.msc_chart.specs.Events.{address_of, end_of, is_end, other_end, same_end};
+ghost use Rattle.msc_chart.specs.Events.{same_name};
 ghost use Rattle.msc_chart.specs.Events.{same_number};
 ghost use Rattle.msc_notes.specs.Events.{act_view, end_in, end_view};
 ghost use Rattle.msc_notes.specs.Told.{IsFirstEnd, HasNoEnd};
@@ -11,7 +12,7 @@ use crate::event::OwnEvent;
 use msc_parser::{Signal, Statement, Way};
 
 /// An end of a message, with its names in the draft.
-#[derive(Clone, Copy)]
+#[derive(Clone, Copy, PartialEq, Eq, Hash)]
 pub(crate) struct End<'d> {
     pub sends: bool,
     pub sender: &'d [u8],
@@ -77,14 +78,25 @@ impl<'d> End<'d> {
         }
     }
 
-    /// Whether both have one sender and one receiver.
-    pub fn has_instances_of(&self, other: &End) -> bool {
-        self.sender == other.sender && self.receiver == other.receiver
+    /// The other end of the same message.
+    pub fn other(&self) -> End<'d>
+        ensures { end_view result ≡ other_end (end_view self.entry.now) }
+    {
+        End {
+            sends: !self.sends,
+            ..*self
+        }
     }
 
-    /// Whether both are of messages with one name and one message instance name, or none.
-    pub fn has_message_of(&self, other: &End) -> bool {
-        self.name == other.name && same_number(self.number, other.number)
+    /// The name that stands as its address.
+    pub fn address(&self) -> &'d [u8]
+        ensures { result.now ≡ address_of (end_view self.entry.now) }
+    {
+        if self.sends {
+            self.receiver
+        } else {
+            self.sender
+        }
     }
 }
 
@@ -125,13 +137,7 @@ pub(crate) fn first_end(events: &[OwnEvent], end: &End) -> Option<usize>
 /// Whether both events are the two ends of one message.
 pub(crate) fn are_partners(a: &OwnEvent, b: &OwnEvent) -> bool {
     match End::of(a) {
-        Some(end) => is_end(
-            b,
-            &End {
-                sends: !end.sends,
-                ..end
-            },
-        ),
+        Some(end) => is_end(b, &end.other()),
         None => false,
     }
 }

@@ -10,8 +10,9 @@ ghost use Rattle.msc_place.specs.Standing.{BeginsEvent, NamesAddress, NamesSecti
 ghost use Rattle.msc_notes.specs.Events.{HasNoSignal, own_view, owned_of, statement_view};
 ghost use Rattle.msc_notes.specs.Faults.{BeginsOrNone, HasNoMessage, IsChartPlace};
 ghost use Rattle.msc_notes.specs.Told.{AreChartNotes, AreOfAddress, AreOfHeader, AreOfName};
-ghost use Rattle.msc_notes.specs.Told.{AreRepeated, AreTwice, BeginWith, HasNoMessageAt, HasNoneNamed};
-ghost use Rattle.msc_notes.specs.Told.{IsFirstLike, IsFirstNamed, first_note, name_note};
+ghost use Rattle.msc_notes.specs.Told.{AreRepeated, AreTwice, BeginWith, HasNoMessageAt};
+ghost use Rattle.msc_notes.specs.Told.{HasNoneNamed, IsFirstLike, IsFirstNamed};
+ghost use Rattle.msc_notes.specs.Told.{first_note, name_note};
 
 use crate::counting::{last_action, last_message};
 use crate::draft::{apart_hint, first_event, first_section};

@@ -44,28 +44,45 @@ pub(crate) fn first_event(events: &[OwnEvent], e: usize) -> Option<usize>
     }
 }
 
-/// Whether an event has this message name and message instance name.
-fn is_called(event: &OwnEvent, name: &[u8], number: &[u8]) -> bool {
-    match event.signal() {
-        Some(signal) => {
-            signal.name.as_slice() == name
-                && match &signal.number {
-                    Some(other) => other.as_slice() == number,
-                    None => false,
-                }
+/// The number that a name is, as it is printed, if it is one.
+fn number_in(name: &[u8]) -> Option<usize> {
+    let mut number: usize = 0;
+    for byte in name {
+        if !byte.is_ascii_digit() || (number == 0 && *byte == b'0') {
+            return None;
         }
-        None => false,
+        let digit = usize::from(byte.saturating_sub(b'0'));
+        number = number.checked_mul(10)?.checked_add(digit)?;
+    }
+    Some(number)
+}
+
+/// The number that is the message instance name of an event with this message name, if there is
+/// one.
+fn number_of(event: &OwnEvent, name: &[u8]) -> Option<usize> {
+    let signal = event.signal()?;
+    if signal.name.as_slice() != name {
+        return None;
+    }
+    match &signal.number {
+        Some(number) => number_in(number.as_slice()),
+        None => None,
     }
 }
 
-/// Whether some event has them.
-fn is_taken(events: &[OwnEvent], name: &[u8], number: &[u8]) -> bool {
+/// The least number from 2 on that is the message instance name of no event with this message name.
+fn free_number(alloc: Global, events: &[OwnEvent], name: &[u8]) -> Result<usize, AllocError> {
+    let most = events.len().saturating_add(2);
+    let mut taken = vec![in alloc; false; most]?;
     for event in events {
-        if is_called(event, name, number) {
-            return true;
+        if let Some(number) = number_of(event, name)
+            && let Some(slot) = taken.get_mut(number)
+        {
+            *slot = true;
         }
     }
-    false
+    let free = (2..most).find(|number| !taken.get(*number).copied().unwrap_or(false));
+    Ok(free.unwrap_or(most))
 }
 
 /// What tells two messages of one name apart: the name, and the least number from 2 on that is the
@@ -76,13 +93,7 @@ pub(crate) fn apart_hint(
     name: &[u8],
 ) -> Result<Vec<u8>, AllocError> {
     let mut digits = itoa::Buffer::new();
-    let mut number: usize = 2;
-    for _ in events {
-        if !is_taken(events, name, digits.format(number).as_bytes()) {
-            break;
-        }
-        number = number.saturating_add(1);
-    }
+    let number = free_number(alloc, events, name)?;
     let mut hint = Vec::from_slice(alloc, name)?;
     hint.extend_from_slice(b", ")?;
     hint.extend_from_slice(digits.format(number).as_bytes())?;

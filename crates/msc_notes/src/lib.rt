@@ -15,10 +15,14 @@ mod lexical;
 mod near;
 mod nearest;
 mod note;
+mod other_faults;
 mod parse;
 mod ring;
+mod standing;
 pub mod writing;
 
 pub use chart::tell_chart;
 pub use note::{Note, Tag, Told};
+pub use other_faults::{FURTHER_LIMIT, FurtherFaults, ToldFault, further, tell_further};
 pub use parse::tell_parse;
+pub use standing::faults;

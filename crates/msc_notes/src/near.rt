@@ -1,61 +1,81 @@
 //! The other end that a message lacks, and the event that may have been meant.
 
-use crate::alike::{End, are_partners};
+use crate::alike::End;
 use crate::event::{OwnEvent, put_event, put_message};
 use crate::note::{Note, Tag, placed, worded};
+use crate::standing::{ends_of, is_unmatched};
+use indexmap::{IndexMap, IndexSet};
 use msc_place::Places;
 use std::alloc::{AllocError, Global};
 
-/// Whether an event has no other end.
-fn is_alone(events: &[OwnEvent], event: &OwnEvent) -> bool {
-    for other in events {
-        if are_partners(event, other) {
-            return false;
-        }
-    }
-    true
+/// What an event that may have been meant as the other end of a message has in common with it, the
+/// most telling first.
+#[derive(Clone, Copy, PartialEq, Eq, Hash)]
+enum Likeness<'d> {
+    /// The sender, the receiver and the name of the message.
+    ByName(&'d [u8], &'d [u8], &'d [u8]),
+    /// The name and the message instance name, or none.
+    ByMessage(&'d [u8], Option<&'d [u8]>),
+    /// The sender and the receiver.
+    ByInstances(&'d [u8], &'d [u8]),
 }
 
-/// What is too far away to have been meant.
-const TOO_FAR: u32 = 3;
-
-/// How far an end is from being the other end of a message; less is nearer.
-fn distance(end: &End, other: &End) -> u32 {
-    let instances = end.has_instances_of(other);
-    if instances && end.name == other.name {
-        0
-    } else if end.has_message_of(other) {
-        1
-    } else if instances {
-        2
-    } else {
-        TOO_FAR
-    }
+/// What an end of a message can have in common with another one, the most telling first.
+fn likenesses<'d>(end: &End<'d>) -> [Likeness<'d>; 3] {
+    [
+        Likeness::ByName(end.sender, end.receiver, end.name),
+        Likeness::ByMessage(end.name, end.number),
+        Likeness::ByInstances(end.sender, end.receiver),
+    ]
 }
 
-/// How far an event is from being the other end: only what is of the other way and has no other end
-/// itself may have been meant.
-fn distance_of(events: &[OwnEvent], end: &End, event: &OwnEvent) -> u32 {
-    match End::of(event) {
-        Some(other) if other.sends != end.sends && is_alone(events, event) => {
-            distance(end, &other)
-        }
-        _ => TOO_FAR,
-    }
+/// The outputs, or the inputs, that have no other end: the first of each likeness.
+#[derive(Drop)]
+pub(crate) struct Lonely<'d> {
+    firsts: IndexMap<Likeness<'d>, usize>,
 }
 
-/// The event that may have been meant as the other end: of the nearest the first.
-fn near(events: &[OwnEvent], end: &End) -> Option<usize> {
-    let mut least = TOO_FAR;
-    let mut found = None;
-    for (f, event) in events.iter().enumerate() {
-        let far = distance_of(events, end, event);
-        if far < least {
-            least = far;
-            found = Some(f);
+impl<'d> Lonely<'d> {
+    /// Notes an event, where none that is like it is noted.
+    fn note(&mut self, e: usize, end: &End<'d>) -> Result<(), AllocError> {
+        for likeness in likenesses(end) {
+            if !self.firsts.contains_key(&likeness) {
+                self.firsts.insert(likeness, e)?;
+            }
         }
+        Ok(())
     }
-    found
+
+    /// Of these events the outputs, or the inputs, whose other end is none of the ends.
+    pub fn of(
+        alloc: Global,
+        events: &[OwnEvent<'d>],
+        ends: &IndexSet<End<'d>>,
+        sends: bool,
+    ) -> Result<Lonely<'d>, AllocError> {
+        let mut lonely = Lonely {
+            firsts: IndexMap::new(alloc),
+        };
+        for (e, event) in events.iter().enumerate() {
+            if is_unmatched(event, ends, sends)
+                && let Some(end) = End::of(event)
+            {
+                lonely.note(e, &end)?;
+            }
+        }
+        Ok(lonely)
+    }
+
+    /// The event that may have been meant as the other end of a message: the first of those that
+    /// have most in common with it.
+    pub fn near(&self, end: &End<'d>) -> Option<usize> {
+        for likeness in likenesses(end) {
+            if let Some(e) = self.firsts.get(&likeness) {
+                return Some(*e);
+            }
+        }
+        None
+    }
 }
 
 /// The other end that is missing, in words.
@@ -74,6 +94,17 @@ fn wanted(alloc: Global, end: &End) -> Result<Vec<u8>, AllocError> {
     Ok(text)
 }
 
+/// The event that may have been meant as the other end of a message, if there is one.
+fn near<'d>(
+    alloc: Global,
+    events: &[OwnEvent<'d>],
+    end: &End<'d>,
+) -> Result<Option<usize>, AllocError> {
+    let ends = ends_of(alloc, events)?;
+    let lonely = Lonely::of(alloc, events, &ends, !end.sends)?;
+    Ok(lonely.near(end))
+}
+
 /// The notes of event `e`, a message's end without the other.
 pub(crate) fn unmatched_notes(
     alloc: Global,
@@ -86,7 +117,7 @@ pub(crate) fn unmatched_notes(
         return Ok(notes);
     };
     notes.push(worded(Tag::Wanted, wanted(alloc, &end)?))?;
-    if let Some(f) = near(events, &end)
+    if let Some(f) = near(alloc, events, &end)?
         && let Some(place) = places.event(f)
         && let Some(event) = events.get(f)
     {

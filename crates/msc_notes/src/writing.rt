@@ -5,6 +5,8 @@ ghost use Rattle.std.specs.Io.KnownBytes.{Appends};
 ghost use Rattle.msc_notes.specs.Texts.{note_words};
 
 use crate::note::{Note, Tag, Told};
+use crate::other_faults::FurtherFaults;
+use msc_chart::ChartFault;
 use msc_place::writing::{write_place, write_places};
 use msc_place::{Lines, Position};
 use std::io;
@@ -50,8 +52,8 @@ pub fn write_note<W: Write>(
     }
 }
 
-/// Where a note stands by itself: at its own place, at the first of its two, or at that of its fault;
-/// of a fault without a place at the beginning of the text.
+/// Where a note stands by itself: at its own place, at the first of its two, or at that of its
+/// fault; of a fault without a place at the beginning of the text.
 fn stands_at(note: &Note, fault: Option<usize>) -> usize {
     match (note.place, note.pair, fault) {
         (Some(at), _, _) => at,
@@ -97,6 +99,29 @@ pub fn write_told<W: Write>(
     }
     for note in told.notes.as_slice() {
         write_note(writer, file, lines, note)?;
+    }
+    Ok(())
+}
+
+/// Writes the further faults of a draft, behind what is said of its first one: where there are any,
+/// how many they are, and of those that are told the line, which the caller words, the place and
+/// the notes.
+pub fn write_further<W: Write, F: FnMut(&mut W, ChartFault) -> io::Result<()>>(
+    writer: &mut W,
+    file: &[u8],
+    lines: &Lines,
+    further: &FurtherFaults,
+    mut write_line: F,
+) -> io::Result<()>
+    requires { F.IsAlwaysCallable write_line }
+{
+    if further.count == 0 {
+        return Ok(());
+    }
+    writeln!(writer, "further {}", further.count)?;
+    for other in further.first.as_slice() {
+        write_line(writer, other.fault)?;
+        write_told(writer, file, lines, &other.told, b"")?;
     }
     Ok(())
 }

@@ -1,0 +1,62 @@
+#!/usr/bin/env python3
+"""Compares what a program prints of the faults of random texts with what notes.py prints.
+
+    faults.py [--texts N] [--seed S] PROGRAM
+
+The texts are those of mistakes.py; of each, PROGRAM check --queues pair --places - has to print on
+standard error what notes.py does, byte for byte, and its status has to be 2 where that is
+anything. Prints how many texts had which first fault, and how many lines began with which word. The
+exit status is 1 at the first difference, whose text is printed. Without PROGRAM nothing is
+compared.
+"""
+import argparse
+import collections
+import random
+import re
+import subprocess
+import sys
+
+sys.dont_write_bytecode = True
+from mistakes import mistaken
+from notes import answer
+
+
+def difference(program, text, wanted):
+    """What a program prints otherwise, if it does."""
+    words = [program, "check", "--queues", "pair", "--places", "-"]
+    done = subprocess.run(words, input=text, capture_output=True)
+    output = done.stderr.decode("latin-1")
+    if output != wanted or (done.returncode == 2) != bool(wanted):
+        return f"wanted\n{wanted}got, with status {done.returncode},\n{output}"
+    return None
+
+
+def main():
+    style = argparse.RawDescriptionHelpFormatter
+    words = argparse.ArgumentParser(description=__doc__, formatter_class=style)
+    words.add_argument("--texts", type=int, default=2000, metavar="N")
+    words.add_argument("--seed", type=int, default=1, metavar="S")
+    words.add_argument("program", nargs="?")
+    options = words.parse_args()
+    pick = random.Random(options.seed)
+    kinds, notes = collections.Counter(), collections.Counter()
+    for _ in range(options.texts):
+        text = mistaken(pick)
+        lines = answer(text)
+        wanted = "".join(line + "\n" for line in lines)
+        differs = difference(options.program, text, wanted) if options.program else None
+        if differs:
+            print(f"{text!r}\n{differs}")
+            return 1
+        first = re.match(r"\w+ fault \d+", lines[0])[0] if lines else "none"
+        kinds[first] += 1
+        notes.update({line.split()[0] for line in lines[4:]})
+    for fault, count in sorted(kinds.items()):
+        print(f"{fault}: {count}")
+    print("with", ", ".join(f"{word} {count}" for word, count in sorted(notes.items())))
+    print(f"{options.texts} texts")
+    return 0
+
+
+if __name__ == "__main__":
+    sys.exit(main())
