@@ -44,7 +44,8 @@ def excerpt(text, at):
     )
     column = position(text, at)[1]
     first = max(column - BEFORE, 1)
-    return ["  " + row[first - 1:first - 1 + WIDTH], "  " + " " * (column - first) + "^"]
+    shown = max(min(column - 1, len(row)) - (first - 1), 0)
+    return ["  " + row[first - 1:first - 1 + WIDTH], "  " + " " * shown + "^"]
 
 
 def bytes_hint(text, at):

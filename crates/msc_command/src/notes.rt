@@ -5,30 +5,30 @@
 
 use crate::ending::Refusal;
 use msc_chart::ChartFault;
-use msc_notes::writing::write_told;
-use msc_notes::{Told, tell_chart, tell_parse};
+use msc_notes::writing::{write_further, write_told};
+use msc_notes::{Told, tell_chart, tell_further, tell_parse};
 use msc_parser::{ParseFault, parse};
 use msc_place::writing::write_file;
 use msc_place::{Lines, Places, excerpt};
-use msc_report::Fault;
+use msc_report::{Fault, write_fault};
 use std::alloc::Global;
 use std::io;
 use std::io::Write;
 
-/// Writes what was told of a fault of a text.
+/// Writes what was told of a fault of a text with these lines.
 fn write_told_of<E: Write>(
     alloc: Global,
     faults: &mut E,
     file: &str,
-    text: &[u8],
+    lines: &Lines,
     told: &Told,
 ) -> io::Result<()> {
-    let lines = Lines::of(alloc, text)?;
+    let text = lines.text();
     let shown = match told.place {
         Some(at) if at <= text.len() => excerpt(alloc, text, at)?,
         _ => Vec::new(alloc),
     };
-    write_told(faults, file.as_bytes(), &lines, told, shown.as_slice())
+    write_told(faults, file.as_bytes(), lines, told, shown.as_slice())
 }
 
 /// Writes what is said of the first fault of a text.
@@ -39,11 +39,17 @@ fn write_parse_notes<E: Write>(
     text: &[u8],
     fault: ParseFault,
 ) -> io::Result<()> {
+    let lines = Lines::of(alloc, text)?;
     let told = tell_parse(alloc, text, fault)?;
-    write_told_of(alloc, faults, file, text, &told)
+    write_told_of(alloc, faults, file, &lines, &told)
 }
 
-/// Writes what is said of the first fault of a text's draft.
+/// Writes the line of a fault of a draft.
+fn write_line<E: Write>(faults: &mut E, fault: ChartFault) -> io::Result<()> {
+    write_fault(faults, &Fault::Chart(fault))
+}
+
+/// Writes what is said of the first fault of a text's draft, and of the further ones.
 fn write_chart_notes<E: Write>(
     alloc: Global,
     faults: &mut E,
@@ -54,9 +60,12 @@ fn write_chart_notes<E: Write>(
     let Ok(draft) = parse(alloc, text) else {
         return Ok(());
     };
+    let lines = Lines::of(alloc, text)?;
     let places = Places::of(alloc, text)?;
     let told = tell_chart(alloc, &draft, &places, fault)?;
-    write_told_of(alloc, faults, file, text, &told)
+    write_told_of(alloc, faults, file, &lines, &told)?;
+    let further = tell_further(alloc, &draft, &places, fault)?;
+    write_further(faults, file.as_bytes(), &lines, &further, write_line)
 }
 
 /// Writes what is said of a refusal of the text of a file of this name.

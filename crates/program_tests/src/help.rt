@@ -66,7 +66,7 @@ const WORDS: &[(&str, &str)] = &[
         "<E>     The first event: its number, or :LINE, the first one on that line\n",
     ),
     ("explain", "<F>     The second event\n"),
-    ("list", "<FILE>    The chart's text; - is standard input\n"),
+    ("list", "<FILE>  The chart's text; - is standard input\n"),
     (
         "run",
         "--patience <N>                  End an instance that looked in vain N times in a row; \

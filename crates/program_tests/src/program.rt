@@ -312,11 +312,11 @@ const HELP: &[(&[&str], &str)] = &[
     (&["--help"], "  3  some instance of `run` has not finished"),
     (
         &["--help"],
-        "Examples:\n  msc check --queues pair relay.msc\n  msc explain --queues mailbox relay.msc \
+        "Examples:\n  msc check --queues pair --places relay.msc\n  msc explain --queues mailbox relay.msc \
          2 3\n",
     ),
     (&["help"], "Usage: msc"),
-    (&["read", "--help"], "Usage: msc read <FILE>\n"),
+    (&["read", "--help"], "Usage: msc read [OPTIONS] <FILE>\n"),
     (&["read", "--help"], "  0  the canonical text was written\n"),
     (&["read", "--help"], "  4  memory ran out"),
     (&["read", "--help"], "Example:\n  msc read relay.msc\n"),
@@ -332,7 +332,7 @@ const HELP: &[(&[&str], &str)] = &[
     ),
     (
         &["explain", "--help"],
-        "Usage: msc explain --queues <pair|mailbox|single> <FILE> <E> <F>\n",
+        "Usage: msc explain [OPTIONS] --queues <pair|mailbox|single> <FILE> <E> <F>\n",
     ),
     (&["explain", "--help"], "  1  E is not enforced before F"),
     (
