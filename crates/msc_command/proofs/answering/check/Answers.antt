@@ -1,6 +1,4 @@
-use Rattle.std.proofs.Common.{◌∙◌, subst, sym}
-use Rattle.msc_parser.specs.Parsing.{HasDraft}
-use Rattle.msc_place.specs.Sites.{AreSites}
+use Rattle.std.proofs.Common.{◌∙◌}
 use Rattle.msc_command.specs.Sited.{HasSites}
 use Rattle.msc_command.proofs.answering.check.Goals as goal
 

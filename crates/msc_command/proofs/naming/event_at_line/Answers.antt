@@ -1,7 +1,5 @@
-use Rattle.std.proofs.Common.{◌≡◌, ◌∙◌, ◌≤◌, length, arith}
+use Rattle.std.proofs.Common.{◌∙◌, ◌≤◌, length, arith}
 use Rattle.msc_chart.specs.declared.TheConstants.{EVENT_LIMIT}
-use Rattle.msc_parser.specs.Parsing.{HasDraft}
-use Rattle.msc_place.specs.Standing.{HasNoneOnLine, IsFirstOnLine}
 use Rattle.msc_command.proofs.LineEvents.{first_here, known_event, none_here}
 use Rattle.msc_command.proofs.naming.event_at_line.Goals as goal
 

@@ -1,4 +1,4 @@
-use Rattle.std.proofs.Common.{◌≡◌, List, ℕ, Option, Some, sym}
+use Rattle.std.proofs.Common.{◌≡◌, Some, sym}
 use Rattle.clap.specs.Matches.{first_value, found_of}
 use Rattle.msc_command.proofs.Names.{told_of}
 use Rattle.msc_command.specs.Words.{word_name}

@@ -1,4 +1,4 @@
-use Rattle.std.proofs.Common.{◌≢◌, List, ℕ, ◌++◌, arith}
+use Rattle.std.proofs.Common.{arith}
 use Rattle.std.proofs.lemmas.Str.{encode_ascii}
 use Rattle.msc_command.proofs.Names.{no_number}
 use Rattle.msc_command.proofs.tasks.name_in.Goals as goal
