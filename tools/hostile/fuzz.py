@@ -10,7 +10,8 @@ parameters and coregions, spelled with any white space and notes; some are token
 each sort many are then changed: tokens or bytes are taken away, put in, doubled, exchanged, or the
 text is cut. Each text is given to `msc read`, and to `msc check` and `msc run` under one
 architecture: both streams and the status are to be the same, and for a chart that is run the trace
-has to be a whole run of it. Prints what differs, how many texts got which answer, and last `N
+has to be a whole run of it. With `--places` nothing else may be printed but places, and behind the
+line of a fault what is said of it, all of it of bytes that move no cursor. Prints what differs, how many texts got which answer, and last `N
 passed, M failed`.
 """
 import collections
@@ -191,6 +192,19 @@ def wrong_run(text, queues, wanted, got):
     return Drawn(text).wrong(queues, got.output.decode("latin-1"))
 
 
+def wrong_places(wanted, got):
+    """What is wrong with an answer that tells places, where this is wanted without them, or None."""
+    output, line, status = wanted
+    bare = b"".join(it for it in got.output.splitlines(True) if not it.startswith(b"at -:"))
+    if (bare, got.status) != (output, status) or not got.error.startswith(line):
+        return wanted
+    if status != 2 and got.error:
+        return "no fault"
+    if any(byte != 10 and not 32 <= byte <= 126 for byte in got.error):
+        return "bytes that are shown"
+    return None
+
+
 def tried(program, seed, number, commands):
     """What differs for a text, as the words of a run, what it answered and what it should; and its
     kind of answer."""
@@ -202,6 +216,11 @@ def tried(program, seed, number, commands):
         got = run(words, text) if words[1] in commands else wanted
         if got != wanted:
             told.append((words[1:], text, got, wanted))
+    if "check" in commands:
+        got = run([*check[:-1], "--places", "-"], text)
+        wrong = wrong_places(checked, got)
+        if wrong:
+            told.append(([*check[1:], "--places"], text, got, wrong))
     if "run" in commands:
         got = run([program, "run", "--queues", queues, "-"], text)
         wrong = wrong_run(text, queues, checked, got)
@@ -235,7 +254,7 @@ def main():
     with multiprocessing.Pool(options.jobs) as pool:
         for told, number, kind in (one for part in pool.imap(batch, tasks) for one in part):
             kinds[kind] += 1
-            count.passed += len(options.commands) - len(told)
+            count.passed += len(options.commands) + ("check" in options.commands) - len(told)
             for words, text, got, wanted in told:
                 count.compare(got, wanted, f"text {number} of seed {options.seed}:", *words, text)
     print(", ".join(f"{kind}: {times}" for kind, times in sorted(kinds.items())))
