@@ -33,4 +33,6 @@ mod rings;
 #[cfg(test)]
 mod runs;
 #[cfg(test)]
+mod short;
+#[cfg(test)]
 mod tokens;

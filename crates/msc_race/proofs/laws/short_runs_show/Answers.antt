@@ -1,0 +1,12 @@
+use Rattle.msc_chart.specs.Orders.{wired}
+use Rattle.msc_race.proofs.Short.ShortRuns.{needed_least, short_shows, short_unique}
+use Rattle.msc_race.proofs.laws.short_runs_show.Goals as goal
+
+pub returns : goal.returns
+returns c = record {
+  unique = λ queues d. short_unique (wired queues d);
+  shows = λ queues d accepted.
+      short_shows (wired queues d) (c.ends_share_queues.ensures queues d accepted);
+  least = λ queues d accepted.
+      needed_least (wired queues d) (c.ends_share_queues.ensures queues d accepted);
+}
