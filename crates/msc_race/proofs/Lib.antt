@@ -3,4 +3,4 @@ pub mod Runs
 pub mod Listing
 pub mod Worked
 pub mod Making
-pub mod Short
+pub mod Pasts

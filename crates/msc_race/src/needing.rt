@@ -1,6 +1,6 @@
 //! The past of an event: the event, and what is enforced before it; and which outputs of it wait.
 
-ghost use Rattle.std.specs.Prelude.{◌≡◌, ℕ, ◌+◌, ◌<◌, ◌≤◌, ◌↔◌, ◌×◌, ◌⊎◌, length, IfOk, IsTrue};
+ghost use Rattle.std.specs.Prelude.{◌≡◌, ℕ, ◌+◌, ◌<◌, ◌≤◌, ◌↔◌, ◌⊎◌, length, IfOk, IsTrue};
 ghost use Rattle.bit_rows.specs.Rows.{has};
 ghost use Rattle.msc_race.specs.Choices.{event_count, wired_chart, IsChoice};
 ghost use Rattle.msc_race.specs.PastEvents.{AreNexts, HasTurned, HoldsNeeds, IsNextTaken};

@@ -1,5 +1,5 @@
 use Rattle.msc_chart.specs.Orders.{wired}
-use Rattle.msc_race.proofs.Short.ShortRuns.{needed_least, short_shows, short_unique}
+use Rattle.msc_race.proofs.Pasts.ShortRuns.{needed_least, short_shows, short_unique}
 use Rattle.msc_race.proofs.laws.short_runs_show.Goals as goal
 
 pub returns : goal.returns

@@ -10,8 +10,8 @@ use Rattle.msc_race.specs.Reversals.{ComesFirst}
 use Rattle.msc_race.specs.Short.{HasNeeded, IsChosenUpTo, IsLeastRun, IsNeeded, IsNeededRun, IsShortNext, IsShortRun, MayComeFor, ShowsWithout}
 use Rattle.msc_race.proofs.Runs.ChosenRuns.{chosen_reverses, chosen_unique, chosen_whole, least_unique}
 use Rattle.msc_race.proofs.Runs.Respects.{kept}
-use Rattle.msc_race.proofs.Short.Pigeons.{no_longer}
-use Rattle.msc_race.proofs.Short.SameSteps.{IsStuck, stuck_same, within_stuck}
+use Rattle.msc_race.proofs.Pasts.Pigeons.{no_longer}
+use Rattle.msc_race.proofs.Pasts.SameSteps.{IsStuck, stuck_same, within_stuck}
 
 -- before a number that is put at the end, and is new, stands the list
 until_push : (xs : List ℕ) (f : ℕ) → occurs xs f ≡ false → until (xs ++ f ∷ []) f ≡ xs
@@ -30,7 +30,7 @@ module _ (chart : WiredChart) where
       Steps-map (IsShortNext chart f) (MayCome chart) (λ past x next. next.itself.may) [] events steps
 
   -- of the past of f one event at most comes next
-  one_next : (f : ℕ) (past : List ℕ) (x y : ℕ) → IsShortNext chart f past x → IsShortNext chart f past y → x ≡ y
+  pub one_next : (f : ℕ) (past : List ℕ) (x y : ℕ) → IsShortNext chart f past x → IsShortNext chart f past y → x ≡ y
   one_next f past x y h k = least_unique (MayComeFor chart f past) x y h k
 
   -- each event so far is of the past of f

@@ -3,7 +3,7 @@ use Rattle.msc_race.specs.Shortenings.{IsShortSoFar, events_of}
 use Rattle.msc_race.proofs.Shared.{count_below}
 use Rattle.msc_chart.proofs.Left.{is_left}
 use Rattle.msc_race.proofs.Runs.WholeRuns.{everything}
-use Rattle.msc_race.proofs.short.Enforced.needed_run.Given as goal
+use Rattle.msc_race.proofs.enforced.Enforced.needed_run.Given as goal
 
 abbrev pub invariant-loop-x : goal.invariant-loop-x
 invariant-loop-x l = IsShortSoFar l.choice l.shortening

@@ -3,7 +3,7 @@ use Rattle.std.proofs.Common.{◌≡◌, ℕ, true, inl, inr, List, [], ◌∷�
 use Rattle.std.proofs.lemmas.List.{append-nil}
 use Rattle.msc_chart.specs.Lists.{occurs, Steps}
 use Rattle.msc_chart.proofs.ListLemmas.{occurs-head, occurs-tail}
-use Rattle.msc_race.proofs.Short.Pigeons.{head_or_behind}
+use Rattle.msc_race.proofs.Pasts.Pigeons.{head_or_behind}
 
 module _ (May : List ℕ → ℕ → Type 0) (one : (past : List ℕ) (x y : ℕ) → May past x → May past y → x ≡ y) where
   -- after these nothing may come next
