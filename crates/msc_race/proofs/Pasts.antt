@@ -3,6 +3,6 @@ pub mod Pigeons
 pub mod SameSteps
 pub mod ShortRuns
 pub mod PlaceLemmas
-pub mod SpanLemmas
 pub mod TurnLemmas
 pub mod ShortSteps
+pub mod NextShort

@@ -36,6 +36,7 @@ pub record IsNextTaken (chart : WiredChart) (f : ℕ) (left : List ℕ) (q y : �
 -- Below k the outputs of each queue stand from its first one up to its end; where it has none, these
 -- are the number of events, and 0.
 pub record AreSpans (chart : WiredChart) (firsts ends : List ℕ) (k : ℕ) : Type 0 where
+  pub few : length firsts ≤ 1024
   pub both : length ends ≡ length firsts
   pub queues : (t : ℕ) → IsTrue (is_output chart.events t) → queue chart t < length firsts
   pub from : (t : ℕ) → t < k → IsTrue (is_output chart.events t) → get_or firsts (queue chart t) 0 ≤ t

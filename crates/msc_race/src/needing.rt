@@ -16,6 +16,7 @@ use crate::spans::Spans;
 use bit_rows::row::has;
 use bit_rows::set::Set;
 use msc_chart::Event;
+use msc_chart::laws::ends_share_queues;
 use std::alloc::{AllocError, Global};
 
 /// The past of the choice's event; those events of it that do not wait; and of each queue where its
@@ -47,6 +48,7 @@ fn needed_set(alloc: Global, choice: &Choice) -> Result<Set, AllocError>
     ensures needed { IfOk result
         (λ set. HoldsExactly set (IsNeeded (wired_chart choice.now) choice.now.e)) }
 {
+    ends_share_queues();
     let events = choice.wiring.chart.events();
     let mut set = empty(alloc, events)?;
     for x in 0..events {
@@ -106,6 +108,7 @@ fn unheld_set(alloc: Global, choice: &Choice, needed: &[u64]) -> Result<Set, All
     ensures unheld { IfOk result
         (λ set. HoldsExactly set (IsUnheldFor (wired_chart choice.now) choice.now.e)) }
 {
+    ends_share_queues();
     let events = choice.wiring.chart.events();
     let mut set = empty(alloc, events)?;
     for x in 0..events {

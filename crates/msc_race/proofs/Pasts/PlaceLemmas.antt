@@ -21,16 +21,16 @@ until_stop (x ∷ xs) f less =
 pub until_apart : (xs : List ℕ) (f k : ℕ) → k < length (until xs f) → get_or xs k 0 ≢ f
 unfolding until
 until_apart [] f k less = absurd (omega (arith, less))
-until_apart (x ∷ xs) f k less =
-    (elim (eqb x f) as (λ b. eqb x f ≡ b → k < length (cond b [] (x ∷ until xs f)) → get_or (x ∷ xs) k 0 ≢ f) [
+until_apart (x ∷ xs) f zero less =
+    (elim (eqb x f) as (λ b. eqb x f ≡ b → 0 < length (cond b [] (x ∷ until xs f)) → x ≢ f) [
       | true ↦ λ same h. absurd (omega (arith, h))
-      | false ↦ λ other h. behind x xs f k other h
+      | false ↦ λ other h is. clash (eq-eqb x f is) other
     ]) refl less
-  where
-    -- the head is another number, and then the rest
-    behind : (x : ℕ) (xs : List ℕ) (f k : ℕ) → eqb x f ≡ false → k < length (x ∷ until xs f) → get_or (x ∷ xs) k 0 ≢ f
-    behind x xs f zero other h is = clash (eq-eqb x f is) other
-    behind x xs f (suc k) other h is = until_apart xs f k (omega (arith, h)) is
+until_apart (x ∷ xs) f (suc k) less =
+    (elim (eqb x f) as (λ b. eqb x f ≡ b → suc k < length (cond b [] (x ∷ until xs f)) → get_or xs k 0 ≢ f) [
+      | true ↦ λ same h. absurd (omega (arith, h))
+      | false ↦ λ other h. until_apart xs f k (omega (arith, h))
+    ]) refl less
 
 -- it is no longer than the list
 pub until_short : (xs : List ℕ) (f : ℕ) → length (until xs f) ≤ length xs

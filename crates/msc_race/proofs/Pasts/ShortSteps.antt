@@ -1,16 +1,26 @@
 -- The next event of a short run, as the rows hold it.
-use Rattle.std.proofs.Common.{◌≡◌, ℕ, ◌<◌, ◌↔◌, false, List, [], ◌∷◌, ◌++◌, length, refl}
+use Rattle.std.proofs.Common.{◌≡◌, ℕ, ◌<◌, ◌↔◌, true, false, inl, inr, List, [], ◌∷◌, ◌++◌, length, refl}
 use Rattle.msc_chart.specs.Lists.{occurs}
 use Rattle.msc_chart.specs.Charts.{is_output}
-use Rattle.msc_chart.specs.Orders.{WiredChart, queue}
+use Rattle.msc_chart.specs.Orders.{WiredChart, IsWired, queue}
 use Rattle.msc_chart.specs.Runs.{MayCome}
 use Rattle.msc_chart.proofs.Left.{is_left, left_less}
 use Rattle.msc_race.specs.Beginnings.{HoldsLeft}
 use Rattle.msc_race.specs.PastEvents.{IsReadyTo}
-use Rattle.msc_race.specs.Short.{IsShortNext, MayComeFor}
+use Rattle.msc_race.specs.Short.{IsNeeded, IsShortNext, MayComeFor}
 use Rattle.msc_race.proofs.Shared.{count_below}
+use Rattle.msc_race.proofs.Runs.EnforcedPairs.{enforced_below}
 use Rattle.msc_race.proofs.Runs.WholeRuns.{everything}
 use Rattle.msc_race.proofs.Runs.EventLemmas.{output_below}
+
+-- what is of the past of an event is an event
+pub needed_below : (chart : WiredChart) → IsWired chart → (f : ℕ) → f < length chart.events → (x : ℕ) → IsNeeded chart f x
+    → x < length chart.events
+needed_below chart is_wired f known x needed =
+    elim needed [
+      | inl same ↦ rw same known
+      | inr link ↦ (enforced_below chart is_wired x f link).0
+    ]
 
 module _ (chart : WiredChart) (f : ℕ) (past : List ℕ) where
   -- what may come, and does not wait by what is left, may come for f
@@ -26,10 +36,13 @@ module _ (chart : WiredChart) (f : ℕ) (past : List ℕ) where
           let there = (held t).1 (output_below chart.events t waits.1.1.0, waits.1.3) in
           (h.1.1 waits.0).1 t (waits.1.1, waits.1.2, there);
     },
-    λ m. (m.may, m.needed, λ own. (
-      queues y own.0,
-      λ t taken. m.ready (own, (t, taken.0, taken.1, ((held t).0 taken.2).1)),
-    )),
+    λ m. (
+      m.may,
+      (
+        m.needed,
+        λ own. (queues y own.0, λ t taken. m.ready (own, (t, taken.0, taken.1, ((held t).0 taken.2).1))),
+      ),
+    ),
   )
 
   -- an event that comes leaves fewer events

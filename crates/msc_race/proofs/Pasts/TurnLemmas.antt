@@ -1,12 +1,12 @@
 -- What the turn of a queue tells, and that it is told of all queues.
-use Rattle.std.proofs.Common.{◌≡◌, ◌≢◌, ℕ, ◌+◌, ◌<◌, ◌≤◌, ◌↔◌, ◌⊎◌, true, false, inl, inr, List, length, get_or, set, refl, sym, ap, ◌∙◌, subst, arith, get_or-set_same, get_or-set_other}
-use Rattle.std.proofs.lemmas.Bool.{cases_eq, cases_lt}
+use Rattle.std.proofs.Common.{◌≡◌, ◌≢◌, ℕ, ◌+◌, ◌<◌, ◌≤◌, ◌↔◌, ◌⊎◌, Bool, true, false, ◌&&◌, inl, inr, eqb, List, length, get_or, set, refl, sym, ap, ◌∙◌, subst, arith, get_or-set_same, get_or-set_other}
+use Rattle.std.proofs.lemmas.Bool.{and_from, and_parts, cases_eq, cases_lt, eqb-true, eq-eqb, or_cases, or_left, or_right}
 use Rattle.msc_chart.specs.Charts.{partner, is_output}
 use Rattle.msc_chart.specs.Orders.{WiredChart, queue}
-use Rattle.bit_rows.specs.Rows.{has, IsWithout}
+use Rattle.bit_rows.specs.Rows.{has, IsWith, IsWithout}
 use Rattle.msc_race.specs.Remainders.{HoldsExactly}
 use Rattle.msc_race.specs.Short.{IsHeldFor, IsNeeded, IsTakenFor}
-use Rattle.msc_race.specs.PastEvents.{AreNexts, AreSpans, HasTurned, IsNextTaken, IsReadyTo, IsSentFor, IsTakenLeft, NoneIsLeft}
+use Rattle.msc_race.specs.PastEvents.{AreNexts, AreSpans, HasTurned, IsNextTaken, IsReadyTo, IsSentFor, IsTakenLeft, IsUnheldFor, NoneIsLeft}
 use Rattle.msc_race.proofs.Shared.{by_test, clash}
 use Rattle.msc_race.proofs.Runs.EventLemmas.{output_below}
 use Rattle.msc_race.proofs.Making.FrontLemmas.{still_in, was_in}
@@ -26,6 +26,64 @@ module _ (chart : WiredChart) (f : ℕ) where
       let late = next.below t taken in
       let known = output_below chart.events t taken.0.0 in
       absurd (omega (arith, late, known, past))
+
+  -- an output of the past to queue q stands from the first output of the queue on
+  pub sent_from : (firsts ends : List ℕ) (n q y : ℕ) → AreSpans chart firsts ends n → n ≡ length chart.events → y ≡ get_or firsts q 0
+      → (z : ℕ) → IsSentFor chart f q z → y ≤ z
+  sent_from firsts ends n q y spans all is z sent =
+      let known = output_below chart.events z sent.0 in
+      let from = spans.from z (omega (arith, known, all)) sent.0 in
+      let moved : get_or firsts (queue chart z) 0 ≡ get_or firsts q 0 = ap (λ p. get_or firsts p 0) sent.2 in
+      omega (arith, from, moved, is)
+
+  -- and before the end of the queue
+  pub sent_past : (firsts ends : List ℕ) (n q y : ℕ) → AreSpans chart firsts ends n → n ≡ length chart.events → y ≡ get_or ends q 0
+      → (z : ℕ) → IsSentFor chart f q z → z < y
+  sent_past firsts ends n q y spans all is z sent =
+      let known = output_below chart.events z sent.0 in
+      let past = spans.past z (omega (arith, known, all)) sent.0 in
+      let moved : get_or ends (queue chart z) 0 ≡ get_or ends q 0 = ap (λ p. get_or ends p 0) sent.2 in
+      omega (arith, past, moved, is)
+
+  -- one output more does not wait, where it is of the past and of the queue
+  pub released_more : (first old new : List ℕ) (q y : ℕ) (b : Bool)
+      → ((z : ℕ) → (has old z ≡ true) ↔ ((has first z ≡ true) ⊎ (IsSentFor chart f q z × (z < y))))
+      → IsWith old new b y → ((b ≡ true) ↔ IsSentFor chart f q y)
+      → (z : ℕ) → (has new z ≡ true) ↔ ((has first z ≡ true) ⊎ (IsSentFor chart f q z × (z < y + 1)))
+  released_more first old new q y b told wider here z = (
+    λ h. elim (or_cases (has old z) (b && eqb z y) (sym (wider z) ∙ h)) [
+      | inl before ↦ elim ((told z).0 before) [
+        | inl there ↦ inl there
+        | inr sent ↦ let less = sent.1 in inr (sent.0, omega (arith, less))
+      ]
+      | inr more ↦
+          let both = and_parts b (eqb z y) more in
+          let same : z ≡ y = eqb-true z y both.1 in
+          inr (subst (λ (w : ℕ). IsSentFor chart f q w) (sym same) (here.0 both.0), omega (arith, same))
+    ],
+    λ h. wider z ∙ elim h [
+      | inl there ↦ or_left (has old z) (b && eqb z y) ((told z).1 (inl there))
+      | inr sent ↦ elim (cases_lt z y) [
+        | inl less ↦ or_left (has old z) (b && eqb z y) ((told z).1 (inr (sent.0, less)))
+        | inr past ↦
+            let most = sent.1 in
+            let same : z ≡ y = omega (arith, past, most) in
+            or_right (has old z) (b && eqb z y)
+            (and_from b (eqb z y) (here.1 (subst (λ (w : ℕ). IsSentFor chart f q w) same sent.0)) (eq-eqb z y same))
+      ]
+    ],
+  )
+
+  -- before any turn the first outputs are held, and no held output is told of
+  pub nexts_first : (firsts ends left : List ℕ) → AreSpans chart firsts ends (length chart.events) → AreNexts chart f left firsts
+  nexts_first firsts ends left spans t taken there = spans.from t (output_below chart.events t taken.0) taken.0
+
+  -- so that what does not wait is what is no held output
+  pub untold_ready : (left ready : List ℕ) → HoldsExactly ready (IsUnheldFor chart f) → HoldsExactly ready (IsReadyTo chart f left 0)
+  untold_ready left ready unheld y = (
+    λ h. let p = (unheld y).0 h in (p.0, λ held. absurd (p.1 held)),
+    λ p. (unheld y).1 (p.0, λ held. let r = p.1 held in let less = r.0 in omega (arith, less)),
+  )
 
   -- what is held of a queue is set to its next output
   pub nexts_set : (left nexts : List ℕ) (q y : ℕ) → q < length nexts → AreNexts chart f left nexts → IsNextTaken chart f left q y
