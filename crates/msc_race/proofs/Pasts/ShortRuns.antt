@@ -1,5 +1,5 @@
 -- The short run of two events is a run that shows that the first is not needed for the second.
-use Rattle.std.proofs.Common.{◌≡◌, ℕ, ◌<◌, ◌≤◌, Bool, true, false, cond, ◌||◌, inl, inr, eqb, List, [], ◌∷◌, ◌++◌, length, refl, sym, ap, ◌∙◌, subst, append_assoc}
+use Rattle.std.proofs.Common.{◌≡◌, ℕ, ◌<◌, true, false, cond, ◌||◌, inl, inr, eqb, List, [], ◌∷◌, ◌++◌, length, refl, sym, ap, ◌∙◌, subst, append_assoc}
 use Rattle.std.proofs.lemmas.Bool.{eq-eqb, false_from_ne_true}
 use Rattle.msc_chart.specs.Lists.{occurs, until, Steps}
 use Rattle.msc_chart.specs.Orders.{WiredChart, IsWired}

@@ -1,6 +1,5 @@
 -- The next event of a short run, as the rows hold it.
-use Rattle.std.proofs.Common.{◌≡◌, ℕ, ◌<◌, ◌↔◌, true, false, inl, inr, List, [], ◌∷◌, ◌++◌, length, refl}
-use Rattle.msc_chart.specs.Lists.{occurs}
+use Rattle.std.proofs.Common.{◌≡◌, ℕ, ◌<◌, ◌↔◌, true, inl, inr, List, [], ◌∷◌, ◌++◌, length, refl}
 use Rattle.msc_chart.specs.Charts.{is_output}
 use Rattle.msc_chart.specs.Orders.{WiredChart, IsWired, queue}
 use Rattle.msc_chart.specs.Runs.{MayCome}

@@ -1,5 +1,5 @@
 -- What the turn of a queue tells, and that it is told of all queues.
-use Rattle.std.proofs.Common.{◌≡◌, ◌≢◌, ℕ, ◌+◌, ◌<◌, ◌≤◌, ◌↔◌, ◌⊎◌, Bool, true, false, ◌&&◌, inl, inr, eqb, List, length, get_or, set, refl, sym, ap, ◌∙◌, subst, arith, get_or-set_same, get_or-set_other}
+use Rattle.std.proofs.Common.{◌≡◌, ◌≢◌, ℕ, ◌+◌, ◌<◌, ◌≤◌, ◌↔◌, ◌⊎◌, Bool, true, ◌&&◌, inl, inr, eqb, List, length, get_or, set, sym, ap, ◌∙◌, subst, arith, get_or-set_same, get_or-set_other}
 use Rattle.std.proofs.lemmas.Bool.{and_from, and_parts, cases_eq, cases_lt, eqb-true, eq-eqb, or_cases, or_left, or_right}
 use Rattle.msc_chart.specs.Charts.{partner, is_output}
 use Rattle.msc_chart.specs.Orders.{WiredChart, queue}
@@ -132,11 +132,13 @@ module _ (chart : WiredChart) (f : ℕ) where
     after_turn other own N told old new were turned y = (
       λ h. elim ((turned y).0 h) [
         | inl there ↦
-            let p = (were y).0 there in
-            (p.0, λ held. elim (cases_eq (queue chart y) q) [
-              | inl same ↦ subst New (sym same) (own (subst Old same (p.1 held)))
-              | inr apart ↦ (other (queue chart y) apart).0 (p.1 held)
-            ])
+            let p = (were y).0 there in (
+              p.0,
+              λ held. elim (cases_eq (queue chart y) q) [
+                | inl same ↦ subst New (sym same) (own (subst Old same (p.1 held)))
+                | inr apart ↦ (other (queue chart y) apart).0 (p.1 held)
+              ],
+            )
         | inr sent ↦ (sent.0.1, λ held. subst New (sym sent.0.2) (told.1 sent.1))
       ],
       λ p. (turned y).1 (by_test (is_output chart.events y)
@@ -169,8 +171,12 @@ module _ (chart : WiredChart) (f : ℕ) where
       -- and in another queue than that of x none was left where none is left
       none_was : (p : ℕ) → (IsTakenFor chart f x → queue chart x ≢ p) → NoneIsLeft chart f left p → NoneIsLeft chart f before p
       none_was p apart none t taken =
-          none t (taken.0, taken.1, still_in before left x without t taken.2 (λ same.
-          apart (subst (λ (z : ℕ). IsTakenFor chart f z) same taken.0) (ap (λ z. queue chart z) (sym same) ∙ taken.1)))
+          none t (
+            taken.0,
+            taken.1,
+            still_in before left x without t taken.2 (λ same.
+                apart (subst (λ (z : ℕ). IsTakenFor chart f z) same taken.0) (ap (λ z. queue chart z) (sym same) ∙ taken.1)),
+          )
 
       -- When x has come, an output of queue q, it is told again of q.
       pub told_again : queue chart x ≡ q → q < count → (old new : List ℕ) → HoldsExactly old (IsReadyTo chart f before count)

@@ -1,5 +1,4 @@
-use Rattle.std.proofs.Common.{length, ap, ◌∙◌, take, ◌+◌, arith}
-use Rattle.msc_chart.specs.Lists.{until}
+use Rattle.std.proofs.Common.{ap, ◌∙◌, take, ◌+◌, arith}
 use Rattle.msc_race.proofs.Pasts.PlaceLemmas.{cut_behind, until_less}
 use Rattle.msc_race.proofs.short.up_to.Goals as goal
 

@@ -1,4 +1,4 @@
-use Rattle.std.proofs.Common.{◌≡◌, ℕ, None, false, true}
+use Rattle.std.proofs.Common.{◌≡◌, ℕ, None, true}
 use Rattle.msc_chart.specs.Lists.{occurs}
 use Rattle.msc_race.specs.Short.{MayComeFor}
 use Rattle.msc_race.specs.Shortenings.{events_of}

@@ -1,5 +1,4 @@
 use Rattle.std.proofs.Common.{inl, inr}
-use Rattle.msc_chart.specs.Orders.{Enforced}
 use Rattle.msc_race.specs.Reversals.{ComesFirst}
 use Rattle.msc_race.specs.Short.{HasNoNeededRun, IsChosenUpTo, IsNeededRun, IsShortRun}
 use Rattle.msc_race.specs.Views.{wiring_of}

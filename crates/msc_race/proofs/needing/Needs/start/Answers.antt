@@ -1,4 +1,4 @@
-use Rattle.std.proofs.Common.{◌≡◌, ◌<◌, length, subst, arith}
+use Rattle.std.proofs.Common.{◌≡◌, length, subst, arith}
 use Rattle.msc_race.specs.Choices.{wired_chart}
 use Rattle.msc_race.specs.PastEvents.{IsToldTo}
 use Rattle.msc_race.proofs.Pasts.TurnLemmas.{told_more}

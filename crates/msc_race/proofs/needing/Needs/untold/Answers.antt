@@ -1,4 +1,4 @@
-use Rattle.std.proofs.Common.{◌≡◌, length, ap, ◌∙◌, sym}
+use Rattle.std.proofs.Common.{◌≡◌, length, ap, ◌∙◌}
 use Rattle.msc_race.specs.Choices.{wired_chart}
 use Rattle.msc_race.proofs.Pasts.TurnLemmas.{nexts_first, untold_ready}
 use Rattle.msc_race.proofs.needing.Needs.untold.Goals as goal
