@@ -154,8 +154,8 @@ def verdict(drawn):
 
 
 def search(drawn):
-    """The first fault of the pairs of a chart, how many pairs there are, and how many of them are of
-    the second case."""
+    """The first fault of the pairs of a chart, how many pairs there are, and how many of them are
+    of the second case."""
     shortest, pairs, others = lengths(drawn), 0, 0
     for e in drawn.all:
         for f in drawn.all:

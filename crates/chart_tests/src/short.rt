@@ -7,8 +7,8 @@ use example_charts::{OVERTAKING, TWO_SENDERS};
 use msc_chart::{Chart, Event, Queues};
 use msc_race::Enforced;
 
-/// Under `Mailbox` the past of the second input of k is no run: q would have to take m2 first, and z
-/// m3, so that the outputs of a and b would go round in a ring.
+/// Under `Mailbox` the past of the second input of k is no run: q would have to take m2 first, and
+/// z m3, so that the outputs of a and b would go round in a ring.
 const RING: &[u8] = b"msc t; instance a; out m1 to q; out m3 to z; endinstance; \
 instance b; out m4 to z; out m2 to q; endinstance; \
 instance q; in m2 from b; out x to w; in m1 from a; endinstance; \

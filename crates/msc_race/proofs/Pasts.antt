@@ -6,3 +6,4 @@ pub mod PlaceLemmas
 pub mod TurnLemmas
 pub mod ShortSteps
 pub mod NextShort
+pub mod ShortExists

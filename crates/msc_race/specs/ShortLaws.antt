@@ -27,7 +27,13 @@ NeededRunsAreLeast =
     (queues : Queues) (d : Drawing) → IsAccepted d → (f : ℕ) (events : List ℕ)
     → IsNeededRun (wired queues d) f events → IsLeastRun (wired queues d) f events
 
--- two events have one short run at most
+-- two events have a short run
+abbrev pub AShortRunExists : Type 0
+AShortRunExists =
+    (queues : Queues) (d : Drawing) → IsAccepted d → (e f : ℕ) → e < length d.events → f < length d.events
+    → (events : List ℕ) × IsShortRun (wired queues d) e f events
+
+-- and no other one
 abbrev pub ShortRunsAreUnique : Type 0
 ShortRunsAreUnique =
     (queues : Queues) (d : Drawing) (e f : ℕ) (xs ys : List ℕ)

@@ -18,8 +18,9 @@ ghost use Rattle.msc_race.specs.Laws.{WhatMayComeMakesALongerRun};
 ghost use Rattle.msc_race.specs.Samples.{IsReversal, NoRunReversesBoth, crossed, mailboxes};
 ghost use Rattle.msc_race.specs.Samples.{overtaken, relayed, senders, unordered};
 ghost use Rattle.msc_race.specs.Races.{AreRaces, EnforcedOrdersTellVerdicts};
-ghost use Rattle.msc_race.specs.ShortLaws.{NeededRunsAreLeast, ShortRunsAreUnique, ShortRunsShow};
-ghost use Rattle.msc_race.specs.ShortLaws.{ShortStepsAreARun, WhatIsEnforcedIsNeeded};
+ghost use Rattle.msc_race.specs.ShortLaws.{AShortRunExists, NeededRunsAreLeast, ShortRunsAreUnique};
+ghost use Rattle.msc_race.specs.ShortLaws.{ShortRunsShow, ShortStepsAreARun};
+ghost use Rattle.msc_race.specs.ShortLaws.{WhatIsEnforcedIsNeeded};
 
 use msc_chart::laws::ends_share_queues;
 
@@ -120,10 +121,11 @@ pub fn short_steps_are_a_run()
     ensures { ShortStepsAreARun }
 {}
 
-/// Two events that are not enforced in an order have one short run at most. It is a run, the second
-/// event is its last one, and the first is not in it. Where it has just the past of the second
-/// event, no run that has that event is shorter.
+/// Two events have exactly one short run. Where they are not enforced in an order it is a run, the
+/// second event is its last one, and the first is not in it. Where it has just the past of the
+/// second event, no run that has that event is shorter.
 pub fn short_runs_show()
+    ensures exists { AShortRunExists }
     ensures unique { ShortRunsAreUnique }
     ensures shows { ShortRunsShow }
     ensures least { NeededRunsAreLeast }

@@ -147,8 +147,8 @@ impl Needs {
         choice.wiring.queue(y) == q && has(left, y)
     }
 
-    /// The least output of queue `q` that is left, and whose input is of the past too, or the number
-    /// of events.
+    /// The least output of queue `q` that is left, and whose input is of the past too, or the
+    /// number of events.
     fn next_taken(&self, choice: &Choice, left: &[u64], q: u32) -> Event
         requires settled { IsChoice choice.now }
         requires row { IsRow (event_count choice.now) left.now }
@@ -183,8 +183,8 @@ impl Needs {
         }
     }
 
-    /// It is queue `q`'s turn: where none of its outputs is left whose inputs are of the past too, its
-    /// outputs do not wait.
+    /// It is queue `q`'s turn: where none of its outputs is left whose inputs are of the past too,
+    /// its outputs do not wait.
     fn turn(&mut self, choice: &Choice, left: &[u64], q: u32)
         requires settled { IsChoice choice.now }
         requires row { IsRow (event_count choice.now) left.now }

@@ -1,6 +1,7 @@
 //! Short runs that show that an order is not enforced.
 
-ghost use Rattle.std.specs.Prelude.{◌≡◌, ◌+◌, ◌<◌, [], ◌∷◌, ◌++◌, length, IfOk, IsTrue, MatchOption};
+ghost use Rattle.std.specs.Prelude.{◌≡◌, ◌+◌, ◌<◌, [], ◌∷◌, ◌++◌, length, IfOk, IsTrue};
+ghost use Rattle.std.specs.Prelude.{MatchOption};
 ghost use Rattle.msc_chart.specs.Lists.{occurs, until};
 ghost use Rattle.msc_race.specs.Reversals.{ComesFirst};
 ghost use Rattle.msc_race.specs.Short.{HasNoNeededRun, IsNeededRun, IsShortAnswer};
