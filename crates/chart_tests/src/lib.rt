@@ -19,6 +19,8 @@ mod grammar;
 #[cfg(test)]
 mod host;
 #[cfg(test)]
+mod marks;
+#[cfg(test)]
 mod notes;
 #[cfg(test)]
 mod orders;

@@ -1,0 +1,186 @@
+//! Marks: what the comments of statements say of races. The expected values are read off the texts
+//! by hand, from the section on marks in `docs/MODEL.md`.
+
+use crate::charts::chart_of;
+use crate::host::Host;
+use msc_chart::{Event, Queues};
+use msc_mark::{Accepted, MarkFault, Marks};
+use msc_race::Enforced;
+
+/// What stands before the comment of event 5, and behind it.
+const BEFORE: &[u8] = b"msc handover; instance SGW; out END_MARKER to source; \
+out DL_DATA to target; endinstance; instance source; in END_MARKER from SGW; out END_MARKER, 2 to target; endinstance; \
+instance target; in END_MARKER, 2 from source; in DL_DATA from SGW comment ";
+const BEHIND: &[u8] = b"; endinstance; endmsc;";
+
+/// Comments of event 5, and what reading them answers: how many marks, or a fault.
+const COMMENTS: &[(&[u8], Result<usize, MarkFault>)] = &[
+    (b"'race ok with END_MARKER, 2: the reorder buffer takes either'", Ok(1)),
+    (b"'race ok: x'", Ok(1)),
+    (b"'race ok:x'", Ok(1)),
+    (b"'race ok in pair: x'", Ok(1)),
+    (b"'race ok in pair, mailbox, single with A; B, 2; action: x: y'", Ok(1)),
+    (b"'race ok: it''s'", Ok(1)),
+    (b"'race OK: x'", Ok(0)),
+    (b"' race ok: x'", Ok(0)),
+    (b"'a race'", Ok(0)),
+    (b"''", Ok(0)),
+    (b"'race ok'", Err(MarkFault::Reason(AT))),
+    (b"'race ok:'", Err(MarkFault::Reason(AT))),
+    (b"'race ok: \t'", Err(MarkFault::Reason(AT))),
+    (b"'race ok in pair with A, 2'", Err(MarkFault::Reason(AT))),
+    (b"'race okay: x'", Err(MarkFault::Part(AT))),
+    (b"'race ok '", Err(MarkFault::Part(AT))),
+    (b"'race ok  in pair: x'", Err(MarkFault::Part(AT))),
+    (b"'race ok in: x'", Err(MarkFault::Part(AT))),
+    (b"'race ok in Pair: x'", Err(MarkFault::Part(AT))),
+    (b"'race ok in pair,mailbox: x'", Err(MarkFault::Part(AT))),
+    (b"'race ok in pair; mailbox: x'", Err(MarkFault::Part(AT))),
+    (b"'race ok in pair,: x'", Err(MarkFault::Part(AT))),
+    (b"'race ok with : x'", Err(MarkFault::Part(AT))),
+    (b"'race ok with A;: x'", Err(MarkFault::Part(AT))),
+    (b"'race ok with A, B, C: x'", Err(MarkFault::Part(AT))),
+    (b"'race ok with A in pair: x'", Err(MarkFault::Part(AT))),
+    (b"'race ok with a-b: x'", Err(MarkFault::Part(AT))),
+    (b"'race ok with it''s: x'", Err(MarkFault::Part(AT))),
+    (b"'race ok in pair in pair: x'", Err(MarkFault::Part(AT))),
+];
+
+/// The place of the apostrophe at which the comment begins.
+const AT: usize = BEFORE.len();
+
+/// The text with this comment.
+fn with_comment(rt: &impl Host, comment: &[u8]) -> Vec<u8> {
+    let mut text = Vec::from_slice(rt.alloc(), BEFORE).expect(rt, "memory");
+    text.extend_from_slice(comment).expect(rt, "memory");
+    text.extend_from_slice(BEHIND).expect(rt, "memory");
+    text
+}
+
+/// How many marks a text has, or its first fault.
+fn marks_in(rt: &impl Host, text: &[u8]) -> Result<usize, MarkFault> {
+    let marks = Marks::of(rt.alloc(), text)?;
+    Ok(marks.as_slice().len())
+}
+
+/// What reading a comment of event 5 answers.
+fn read(rt: &impl Host, comment: &[u8]) -> Result<usize, MarkFault> {
+    let text = with_comment(rt, comment);
+    marks_in(rt, text.as_slice())
+}
+
+#[test]
+fn comments_that_are_marks(rt: HostRuntime) {
+    for &(comment, wanted) in COMMENTS {
+        assert_eq!(rt; read(&rt, comment), wanted, "{comment:?}");
+    }
+}
+
+/// Texts, and what reading their marks answers.
+const TEXTS: &[(&[u8], Result<usize, MarkFault>)] = &[
+    // Comments of other statements are no marks, and no faults.
+    (
+        b"msc t comment 'race ok'; inst a comment 'race ok'; instance a comment 'race ok'; \
+concurrent comment 'race ok'; endconcurrent comment 'race ok'; \
+endinstance comment 'race ok'; endmsc comment 'race ok';",
+        Ok(0),
+    ),
+    // Those of events in coregions and of actions are.
+    (
+        b"msc t; instance a; concurrent; out m to b comment 'race ok: x'; action 'race ok' \
+comment 'race ok in single: y'; endconcurrent; endinstance; \
+instance b; in m from a; endinstance; endmsc;",
+        Ok(2),
+    ),
+    // The first fault counts.
+    (
+        b"msc t; instance a; action 'a' comment 'race ok'; action 'b' comment 'race okay'; \
+endinstance; endmsc;",
+        Err(MarkFault::Reason(38)),
+    ),
+    // A text without tokens has none.
+    (b"msc t; ?", Ok(0)),
+];
+
+#[test]
+fn marks_of_texts(rt: HostRuntime) {
+    for &(text, wanted) in TEXTS {
+        assert_eq!(rt; marks_in(&rt, text), wanted, "{text:?}");
+    }
+}
+
+/// The race of the handover is (4, 5). Comments of event 5, architectures, whether the race is
+/// accepted, and the events whose marks are stale.
+const ACCEPTED: &[(&[u8], Queues, bool, &[Event])] = &[
+    (b"'race ok with END_MARKER, 2: x'", Queues::Pair, true, &[]),
+    (b"'race ok with END_MARKER: x'", Queues::Pair, false, &[5]),
+    (b"'race ok with A; END_MARKER, 2: x'", Queues::Pair, true, &[]),
+    (b"'race ok with END_MARKER, 3: x'", Queues::Pair, false, &[5]),
+    (b"'race ok with 2: x'", Queues::Pair, false, &[5]),
+    (b"'race ok with DL_DATA: x'", Queues::Pair, false, &[5]),
+    (b"'race ok: x'", Queues::Mailbox, true, &[]),
+    (b"'race ok in mailbox: x'", Queues::Mailbox, true, &[]),
+    (b"'race ok in mailbox: x'", Queues::Pair, false, &[]),
+    (b"'race ok in single, pair: x'", Queues::Pair, true, &[]),
+    (b"'END_MARKER, 2'", Queues::Pair, false, &[]),
+];
+
+/// What marks accept of the race (4, 5) of a text, and which of them are stale.
+fn accepts(rt: &impl Host, text: &[u8], queues: Queues) -> (bool, Vec<Event>) {
+    let chart = chart_of(rt, text);
+    let marks = Marks::of(rt.alloc(), text).expect(rt, "marks");
+    let accepted = Accepted::of(rt.alloc(), &marks, &chart, queues).expect(rt, "memory");
+    let enforced = Enforced::of(rt.alloc(), &chart, queues).expect(rt, "an order");
+    let stale = accepted.stale(rt.alloc(), &enforced).expect(rt, "memory");
+    (chart.events() > 5 && accepted.has(4, 5), stale)
+}
+
+/// Whether this is accepted, and these are stale, where event 5 has a comment.
+fn are_accepted(rt: &impl Host, comment: &[u8], queues: Queues, is: bool, stale: &[Event]) -> bool {
+    let text = with_comment(rt, comment);
+    let (accepted, list) = accepts(rt, text.as_slice(), queues);
+    accepted == is && list.as_slice() == stale
+}
+
+#[test]
+fn races_that_are_accepted(rt: HostRuntime) {
+    for &(comment, queues, is, stale) in ACCEPTED {
+        assert!(rt; are_accepted(&rt, comment, queues, is, stale), "{comment:?} {queues:?}");
+    }
+}
+
+/// Texts, architectures, and the events whose marks are stale: an action is told by its word, and
+/// its mark counts as that of any event.
+const STALE: &[(&[u8], Queues, &[Event])] = &[
+    (
+        b"msc t; instance a; action 'x' comment 'race ok with m: y'; in m from b; endinstance; \
+instance b; out m to a comment 'race ok: z'; endinstance; endmsc;",
+        Queues::Pair,
+        &[2],
+    ),
+    (
+        b"msc t; instance a; action 'x'; in m from b comment 'race ok with action: y'; \
+endinstance; instance b; out m to a; endinstance; endmsc;",
+        Queues::Pair,
+        &[],
+    ),
+    (
+        b"msc t; instance a; action 'x'; in m from b comment 'race ok with m: y'; endinstance; \
+instance b; out m to a; endinstance; endmsc;",
+        Queues::Pair,
+        &[1],
+    ),
+];
+
+/// Whether these are the events whose marks are stale.
+fn are_stale(rt: &impl Host, text: &[u8], queues: Queues, wanted: &[Event]) -> bool {
+    let (_, list) = accepts(rt, text, queues);
+    list.as_slice() == wanted
+}
+
+#[test]
+fn marks_that_are_stale(rt: HostRuntime) {
+    for &(text, queues, wanted) in STALE {
+        assert!(rt; are_stale(&rt, text, queues, wanted), "{text:?}");
+    }
+}
