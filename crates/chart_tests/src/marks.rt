@@ -11,15 +11,22 @@ use msc_race::Enforced;
 const BEFORE: &[u8] = b"msc handover; instance SGW; out END_MARKER to source; \
 out DL_DATA to target; endinstance; instance source; in END_MARKER from SGW; out END_MARKER, 2 to target; endinstance; \
 instance target; in END_MARKER, 2 from source; in DL_DATA from SGW comment ";
+
 const BEHIND: &[u8] = b"; endinstance; endmsc;";
 
 /// Comments of event 5, and what reading them answers: how many marks, or a fault.
 const COMMENTS: &[(&[u8], Result<usize, MarkFault>)] = &[
-    (b"'race ok with END_MARKER, 2: the reorder buffer takes either'", Ok(1)),
+    (
+        b"'race ok with END_MARKER, 2: the reorder buffer takes either'",
+        Ok(1),
+    ),
     (b"'race ok: x'", Ok(1)),
     (b"'race ok:x'", Ok(1)),
     (b"'race ok in pair: x'", Ok(1)),
-    (b"'race ok in pair, mailbox, single with A; B, 2; action: x: y'", Ok(1)),
+    (
+        b"'race ok in pair, mailbox, single with A; B, 2; action: x: y'",
+        Ok(1),
+    ),
     (b"'race ok: it''s'", Ok(1)),
     (b"'race OK: x'", Ok(0)),
     (b"' race ok: x'", Ok(0)),
@@ -114,8 +121,18 @@ fn marks_of_texts(rt: HostRuntime) {
 const ACCEPTED: &[(&[u8], Queues, bool, &[Event])] = &[
     (b"'race ok with END_MARKER, 2: x'", Queues::Pair, true, &[]),
     (b"'race ok with END_MARKER: x'", Queues::Pair, false, &[5]),
-    (b"'race ok with A; END_MARKER, 2: x'", Queues::Pair, true, &[]),
-    (b"'race ok with END_MARKER, 3: x'", Queues::Pair, false, &[5]),
+    (
+        b"'race ok with A; END_MARKER, 2: x'",
+        Queues::Pair,
+        true,
+        &[],
+    ),
+    (
+        b"'race ok with END_MARKER, 3: x'",
+        Queues::Pair,
+        false,
+        &[5],
+    ),
     (b"'race ok with 2: x'", Queues::Pair, false, &[5]),
     (b"'race ok with DL_DATA: x'", Queues::Pair, false, &[5]),
     (b"'race ok: x'", Queues::Mailbox, true, &[]),
@@ -145,7 +162,10 @@ fn are_accepted(rt: &impl Host, comment: &[u8], queues: Queues, is: bool, stale:
 #[test]
 fn races_that_are_accepted(rt: HostRuntime) {
     for &(comment, queues, is, stale) in ACCEPTED {
-        assert!(rt; are_accepted(&rt, comment, queues, is, stale), "{comment:?} {queues:?}");
+        assert!(rt;
+            are_accepted(&rt, comment, queues, is, stale),
+            "{comment:?} {queues:?}"
+        );
     }
 }
 
