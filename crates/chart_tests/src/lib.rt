@@ -23,6 +23,8 @@ mod notes;
 #[cfg(test)]
 mod orders;
 #[cfg(test)]
+mod pictures;
+#[cfg(test)]
 mod positions;
 #[cfg(test)]
 mod races;
