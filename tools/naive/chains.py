@@ -8,18 +8,20 @@ from 0 up to that of its events: what is printed has to be a chain of rules of d
 the first event to the second where the pair is enforced by the order of verdict.py, and otherwise a
 whole run that has the second first, with what studies.py says of a race. A chain is checked step by
 step against the drawing alone, and then whether it is the one of the rule there. Each text is
-checked again without one of its lines, and has to be wrong then. Prints how many texts were
+checked again without one of its lines, and has to be wrong then. Some are asked for again with
+--places, and the events by their lines: only the places may come to it. Prints how many texts were
 checked. The exit status is 1 at the first that is wrong, whose chart is printed.
 """
 import argparse
 import functools
 import random
+import re
 import subprocess
 import sys
 
 sys.dont_write_bytecode = True
 from compare import chart
-from studies import is_enforced, why
+from studies import is_enforced, places_of, race_words, why
 from verdict import Chart
 
 
@@ -146,9 +148,8 @@ def check_free(reader, e, f):
     """What is printed of a pair that is not enforced, behind the head."""
     drawn = reader.drawn
     if drawn.before(e, f):
-        first, second = drawn.events[e], drawn.events[f]
-        reader.take(f"race {e} {f} on {drawn.names[first.line]}: {first.text}; {second.text}")
-        for line in why(drawn, e, f):
+        reader.take(race_words(drawn, e, f))
+        for line in why(drawn, e, f)[1]:
             reader.take(line)
     else:
         reader.take(reader.named("free", e, f))
@@ -210,6 +211,35 @@ def check_pair(pick, drawn, e, f, done):
         raise Wrong("right without one of its lines too")
 
 
+SHOWS_TWO = re.compile(r"( *)(?:enforced|free|race|needs|drawn|sent|queue) (\d+) (\d+)[ :]")
+
+
+def with_places(lines, places):
+    """The lines of an answer that tells places too."""
+    for line in lines:
+        yield line
+        shown = SHOWS_TWO.match(line)
+        if shown:
+            blanks, x, y = shown.groups()
+            yield f"{blanks}at {places[int(x)]} {places[int(y)]}"
+
+
+def name_of(places, e):
+    """How an event is named: by the line of its text, where it is the first one there."""
+    lines = [it.split(":")[1] for it in places]
+    return f":{lines[e]}" if lines.index(lines[e]) == e else str(e)
+
+
+def check_placed(program, text, places, e, f, plain):
+    """Raises Wrong where places, or other names of the events, change anything else."""
+    words = [*program, "--places", "-", name_of(places, e), name_of(places, f)]
+    done = subprocess.run(words, input=text.encode("latin-1"), capture_output=True)
+    wanted = list(with_places(plain.stdout.decode("latin-1").splitlines(), places))
+    got = done.stdout.decode("latin-1").splitlines()
+    if (got, done.stderr, done.returncode) != (wanted, b"", plain.returncode):
+        raise Wrong(f"{words}: wanted {wanted}, got {got}")
+
+
 def main():
     style = argparse.RawDescriptionHelpFormatter
     words = argparse.ArgumentParser(description=__doc__, formatter_class=style)
@@ -220,16 +250,21 @@ def main():
     given = words.parse_args()
     pick, checked = random.Random(given.seed), 0
     for _ in range(given.charts):
-        text = chart(pick, given.messages, True)
+        end = pick.choice(["", "\n", "\r\n  "])
+        text = chart(pick, given.messages, True).replace(";", ";" + end)
+        places = places_of(text.encode("latin-1"))
         for queues in ("pair", "mailbox", "single"):
             drawn = Chart(text, queues)
             drawn.chosen_run = functools.cache(drawn.chosen_run)
             numbers = range(len(drawn.events) + 1)
             for e, f in ((e, f) for e in numbers for f in numbers):
-                program = [given.program, "explain", "--queues", queues, "-", str(e), str(f)]
+                asked = [given.program, "explain", "--queues", queues]
+                program = [*asked, "-", str(e), str(f)]
                 done = subprocess.run(program, input=text.encode("latin-1"), capture_output=True)
                 try:
                     check_pair(pick, drawn, e, f, done)
+                    if done.returncode < 2 and pick.random() < 0.2:
+                        check_placed(asked, text, places, e, f, done)
                 except (Wrong, IndexError, ValueError) as wrong:
                     print(f"{text!r}\n{program}: {wrong}\n{done.stdout.decode('latin-1')}")
                     return 1

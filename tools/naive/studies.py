@@ -3,12 +3,12 @@
 
     studies.py [--charts N] [--messages M] [--seed S] PROGRAM
 
-The charts are those of compare.py. Each is checked under each architecture with a random choice of
-the options --closest, --why, --most, --show, --allow, --format and --quiet: which races are listed,
-of which kinds they are and what they lack is made pair by pair from the enforced order of
-verdict.py. Prints
-how many outputs were compared and how many races were listed. The exit status is 1 at the first
-difference, whose chart is printed.
+The charts are those of compare.py, spelled with a random end of each line. Each is listed, and
+checked under each architecture with a random choice of the options --closest, --why, --most, --show,
+--allow, --format, --quiet, --words and --places: which races are listed, of which kinds they are and
+what they lack is made pair by pair from the enforced order of verdict.py, and where events stand
+from the tokens of the text. Prints how many outputs were compared and how many races were listed.
+The exit status is 1 at the first difference, whose chart is printed.
 """
 import argparse
 import random
@@ -17,6 +17,8 @@ import sys
 
 sys.dont_write_bytecode = True
 from compare import chart
+from notes import place
+from reading import tokens
 from verdict import Chart
 
 KINDS = ("early", "queues", "unordered", "overtaken")
@@ -49,18 +51,59 @@ def kind(drawn, e, f):
     return "overtaken" if is_enforced(drawn, drawn.partner[f], drawn.partner[e]) else "unordered"
 
 
+def places_of(text):
+    """The place of each event, in the order of the text."""
+    found = tokens(text)
+    return [place(text, it.at) for it in found if it.kind in ("out", "in", "action")]
+
+
+def named(drawn, e):
+    """An event behind the name of its instance."""
+    event = drawn.events[e]
+    return f"{drawn.names[event.line]} {event.text}"
+
+
+def race_words(drawn, e, f):
+    """Which events race, on which line, and what both of them do."""
+    first, second = drawn.events[e], drawn.events[f]
+    return f"race {e} {f} on {drawn.names[first.line]}: {first.text}; {second.text}"
+
+
+def editor_lines(drawn, places, e, f):
+    """The two lines of a race that editors read."""
+    level = "error" if is_enforced(drawn, f, e) else "warning"
+    yield f"{places[e]}: {level}: {race_words(drawn, e, f)} [{kind(drawn, e, f)}]"
+    yield f"{places[f]}: note: the event drawn below it"
+
+
+def run_lines(drawn, run, words):
+    """A run by the numbers of its events, or in words."""
+    if not words:
+        return [" ".join(map(str, ["run", *run]))]
+    return [f"steps {len(run)}", *(f"{e} {named(drawn, e)}" for e in run)]
+
+
+def listing(drawn, places, placed):
+    """What is printed of the events of a chart."""
+    lines = [f"chart {drawn.name}", f"events {len(drawn.events)}"]
+    for e in range(len(drawn.events)):
+        lines.append(f"{e} {named(drawn, e)}")
+        if placed:
+            lines.append(f"at {places[e]}")
+    return lines
+
+
 def why(drawn, e, f):
-    """The lines of the kind of a race and of the pair that it lacks."""
+    """The pair that a race lacks, and the lines of its kind and of this pair."""
     needed = drawn.partner[e] if share_queue(drawn, e, f) else e
     output = drawn.partner[f]
     assert needed != output and not is_enforced(drawn, needed, output)
-    yield f"kind {kind(drawn, e, f)}" + (" always" if is_enforced(drawn, f, e) else "")
-    events = (drawn.events[x] for x in (needed, output))
-    named = "; ".join(f"{drawn.names[event.line]} {event.text}" for event in events)
-    yield f"needs {needed} {output}: {named}"
+    always = " always" if is_enforced(drawn, f, e) else ""
+    told = f"needs {needed} {output}: {named(drawn, needed)}; {named(drawn, output)}"
+    return (needed, output), [f"kind {kind(drawn, e, f)}{always}", told]
 
 
-def study(drawn, options):
+def study(drawn, places, options):
     """What is printed, line by line, and the exit status; `options` are as the command's words."""
     races = drawn.races()
     left = [race for race in races if kind(drawn, *race) not in options["allow"]]
@@ -72,19 +115,26 @@ def study(drawn, options):
         verdict = f"races {len(races)} closest {len(closest)}" if races else "pass"
         return [f"{verdict} -"], status
     listed = closest if options["closest"] else left
+    if options["format"] == "lines":
+        told = (editor_lines(drawn, places, e, f) for e, f in listed[:options["most"]])
+        return [line for lines in told for line in lines], status
     verdict = f"races {len(races)}" if races else "pass"
     lines = [f"chart {drawn.name}", f"queues {drawn.queues}", verdict]
     if options["allow"]:
         lines.append(f"allowed {len(races) - len(left)}")
     if options["closest"]:
         lines.append(f"closest {len(listed)}")
-    for place, (e, f) in enumerate(listed[:options["most"]]):
-        first, second = drawn.events[e], drawn.events[f]
-        lines.append(f"race {e} {f} on {drawn.names[first.line]}: {first.text}; {second.text}")
+    for number, (e, f) in enumerate(listed[:options["most"]]):
+        lines.append(race_words(drawn, e, f))
+        if options["places"]:
+            lines.append(f"at {places[e]} {places[f]}")
         if options["why"]:
-            lines.extend(why(drawn, e, f))
-        if place < options["show"]:
-            lines.append(" ".join(map(str, ["run", *drawn.chosen_run(e)])))
+            (needed, output), told = why(drawn, e, f)
+            lines.extend(told)
+            if options["places"]:
+                lines.append(f"at {places[needed]} {places[output]}")
+        if number < options["show"]:
+            lines.extend(run_lines(drawn, drawn.chosen_run(e), options["words"]))
     return lines, status
 
 
@@ -95,8 +145,10 @@ def some_options(pick):
         "most": pick.choice([0, 1, 2, 2 ** 32 - 1]),
         "show": pick.choice([0, 1, 2 ** 32 - 1]),
         "allow": [pick.choice(KINDS) for _ in range(pick.choice([0, 0, 1, 2]))],
-        "format": pick.choice(["text", "text", "text", "count"]),
+        "format": pick.choice(["text", "text", "text", "lines", "count"]),
         "quiet": pick.random() < 0.1,
+        "words": pick.random() < 0.3,
+        "places": pick.random() < 0.5,
     }
 
 
@@ -111,6 +163,17 @@ def words_of(options):
     return words
 
 
+def tasks(pick, text):
+    """The words of runs over a chart's text, and what each prints and its exit status."""
+    places = places_of(text.encode("latin-1"))
+    placed = pick.random() < 0.5
+    yield ["list", *["--places"] * placed], listing(Chart(text, "pair"), places, placed), 0
+    for queues in ("pair", "mailbox", "single"):
+        options = some_options(pick)
+        lines, status = study(Chart(text, queues), places, options)
+        yield ["check", "--queues", queues, *words_of(options)], lines, status
+
+
 def main():
     style = argparse.RawDescriptionHelpFormatter
     words = argparse.ArgumentParser(description=__doc__, formatter_class=style)
@@ -122,15 +185,14 @@ def main():
     pick = random.Random(given.seed)
     compared = listed = 0
     for _ in range(given.charts):
-        text = chart(pick, given.messages, True)
-        for queues in ("pair", "mailbox", "single"):
-            options = some_options(pick)
-            lines, status = study(Chart(text, queues), options)
-            program = [given.program, "check", "--queues", queues, *words_of(options), "-"]
+        end = pick.choice(["", "\n", "\r\n", "\n\t "])
+        text = chart(pick, given.messages, True).replace(";", ";" + end)
+        for asked, lines, status in tasks(pick, text):
+            program = [given.program, *asked, "-"]
             done = subprocess.run(program, input=text.encode("latin-1"), capture_output=True)
             output = done.stdout.decode("latin-1").splitlines()
-            races = sum(line.startswith("race ") for line in lines)
-            compared, listed = compared + 1, listed + races
+            listed += sum(line.startswith("race ") for line in lines)
+            compared += 1
             if (output, done.stderr, done.returncode) != (lines, b"", status):
                 print(f"{text!r}\n{program}: wanted, with status {status},\n" + "\n".join(lines))
                 print(f"got, with status {done.returncode},\n" + "\n".join(output))
