@@ -5,6 +5,7 @@ pub mod Asking
 pub mod Sited
 pub mod Naming
 pub mod Formats
+pub mod Marked
 pub mod Ending
 pub mod Answering
 pub mod Program

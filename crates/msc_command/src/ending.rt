@@ -10,7 +10,8 @@ ghost use Rattle.msc_report.specs.Texts.{fault_line};
 use crate::notes::write_cause;
 use msc_ending::RunFault;
 use msc_judge::WriteFault;
-use msc_report::{Fault, NamedFault, write_fault, write_pair_fault};
+use msc_mark::MarkFault;
+use msc_report::{Fault, NamedFault, write_fault, write_mark_fault, write_pair_fault};
 use msc_source::{ReadFault, SourceFault};
 use std::alloc::AllocError;
 use std::io;
@@ -73,6 +74,8 @@ pub(crate) enum Refusal {
     Fault(Fault),
     /// The names are those of no two events of the chart.
     Pair(NamedFault),
+    /// A comment of the text is to be a mark, and is none.
+    Mark(MarkFault),
 }
 
 impl From<AllocError> for Refusal {
@@ -105,6 +108,19 @@ impl From<SourceFault> for Refusal {
 
     fn from(fault: SourceFault) -> Refusal {
         Refusal::Fault(fault.into())
+    }
+}
+
+impl From<MarkFault> for Refusal {
+    ghost use Rattle.msc_command.specs.Ending.{of_marks};
+
+    ghost from_gives = { λ fault refusal. refusal ≡ of_marks fault };
+
+    fn from(fault: MarkFault) -> Refusal {
+        match fault {
+            MarkFault::Memory => Refusal::Fault(Fault::Memory),
+            MarkFault::Part(_) | MarkFault::Reason(_) => Refusal::Mark(fault),
+        }
     }
 }
 
@@ -160,6 +176,10 @@ pub(crate) fn end_refused<E: Write>(faults: &mut E, refusal: Refusal) -> (Status
         Refusal::Fault(fault) => end_with(faults, fault),
         Refusal::Pair(fault) => {
             let told = write_pair_fault(faults, fault);
+            (Status::Refused, told)
+        }
+        Refusal::Mark(fault) => {
+            let told = write_mark_fault(faults, fault);
             (Status::Refused, told)
         }
     }

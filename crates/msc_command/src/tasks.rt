@@ -69,6 +69,8 @@ pub(crate) struct Look {
 pub(crate) struct Checking {
     pub queues: Queues,
     pub question: Question,
+    /// Whether races that marks accept do not count.
+    pub accept: bool,
     pub form: Form,
     pub look: Look,
 }
@@ -79,6 +81,8 @@ pub(crate) struct Explaining {
     pub queues: Queues,
     pub first: EventName,
     pub second: EventName,
+    /// Whether a short run is shown.
+    pub short: bool,
     pub look: Look,
 }
 
@@ -87,8 +91,9 @@ pub(crate) struct Explaining {
 pub(crate) enum Ask {
     /// What its races are.
     Check(Checking),
-    /// Whether no race counts under an architecture, of none of these kinds, without a text.
-    Quiet(Queues, KindSet),
+    /// Whether no race counts under an architecture, of none of these kinds, and where that is
+    /// asked without those that marks accept, without a text.
+    Quiet(Queues, KindSet, bool),
     /// Why the first of two events comes before the second, or how it need not.
     Explain(Explaining),
     /// An execution under an architecture, and how many rounds in a row an instance looks in vain.
@@ -196,6 +201,7 @@ fn question_of(words: &ArgMatches) -> Question
         allowed: allowed_of(words),
         most: number_of(words, Word::Most, u32::MAX),
         show: number_of(words, Word::Show, u32::MAX),
+        short: is_given(words, Word::Short),
     }
 }
 
@@ -265,12 +271,14 @@ fn check_of(queues: Queues, words: &ArgMatches) -> Task
     ensures { architecture (found_of words.now) ≡ Some queues
         → AsksFor Verb.Check (found_of words.now) result }
 {
+    let accept = is_given(words, Word::Accept);
     if is_given(words, Word::Quiet) {
-        return Task::Chart(Ask::Quiet(queues, allowed_of(words)));
+        return Task::Chart(Ask::Quiet(queues, allowed_of(words), accept));
     }
     Task::Chart(Ask::Check(Checking {
         queues,
         question: question_of(words),
+        accept,
         form: form_of(words),
         look: look_of(words),
     }))
@@ -295,6 +303,7 @@ fn explain_of(queues: Queues, words: &ArgMatches) -> Option<Task>
         queues,
         first: event_of(words, Word::FirstEvent)?,
         second: event_of(words, Word::SecondEvent)?,
+        short: is_given(words, Word::Short),
         look: look_of(words),
     })))
 }

@@ -129,6 +129,10 @@ pub record Acceptance : Type 0 where
 abbrev pub acceptance : List Mark → Drawing → Queues → Acceptance
 acceptance marks chart queues = record { marks = marks; chart = chart; queues = queues }
 
+-- the race is accepted
+abbrev pub accepts_race : Acceptance → ℕ × ℕ → Bool
+accepts_race a p = is_accepted a.marks a.chart a.queues p.0 p.1
+
 -- the mark of event x fits this race
 abbrev pub fits_race : Acceptance → ℕ → ℕ × ℕ → Bool
 fits_race a x p =

@@ -7,3 +7,4 @@ pub mod TurnLemmas
 pub mod ShortSteps
 pub mod NextShort
 pub mod ShortExists
+pub mod Showing

@@ -6,6 +6,7 @@ pub mod Views
 pub mod Reversals
 pub mod Short
 pub mod ShortLaws
+pub mod Shown
 pub mod Gaps
 pub mod Walks
 pub mod Samples

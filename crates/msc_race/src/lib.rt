@@ -22,6 +22,7 @@ mod reversing;
 mod rows;
 mod short;
 mod shortening;
+mod shown;
 mod spans;
 mod verdict;
 

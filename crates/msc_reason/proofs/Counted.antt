@@ -1,8 +1,8 @@
 -- Races that count, as pairs that pass a test.
-use Rattle.std.proofs.Common.{◌≡◌, ℕ, ◌+◌, ◌*◌, true, false, List, length, refl, ap, ◌∙◌, arith}
+use Rattle.std.proofs.Common.{◌≡◌, ℕ, Bool, true, false, not, List, Option, None, Some, length, is_some, refl, ap, ◌∙◌, arith}
+use Rattle.std.specs.Option.{option_map_or}
 use Rattle.std.specs.List.{filter}
-use Rattle.std.proofs.lemmas.Bool.{and_parts, and_from, eqb-true, not_from_false}
-use Rattle.std.proofs.lemmas.List.{get_or_past}
+use Rattle.std.proofs.lemmas.Bool.{and_parts, and_from, not_from_false}
 use Rattle.msc_chart.specs.Charts.{before}
 use Rattle.msc_chart.specs.Lists.{Occurs}
 use Rattle.msc_chart.proofs.Drawn.{before_parts}
@@ -13,6 +13,7 @@ use Rattle.msc_reason.proofs.Filtered.{filter_all, filter_from, filter_parts}
 use Rattle.msc_reason.specs.Counting.{counting, counts}
 use Rattle.msc_reason.specs.Kinds.{has_kind, is_empty}
 use Rattle.msc_reason.specs.LeftOut.{is_accepted, leaves_none}
+use Rattle.msc_reason.specs.PairTables.{has_pair}
 use Rattle.msc_reason.specs.declared.kinds.KindSet.{KindSet}
 use Rattle.msc_reason.specs.Marked.{counted_from, is_counted, lack_in}
 use Rattle.msc_reason.specs.declared.left_out.LeftOut.{LeftOut}
@@ -31,10 +32,13 @@ none_left_out kinds Overtaken empty = grind (arith, empty)
 pub none_of : (allowed : LeftOut) → leaves_none allowed ≡ true → is_empty allowed.kinds ≡ true
 none_of allowed empty = (and_parts (is_empty allowed.kinds) _ empty).0
 
+-- what is not there passes no test
+unheld : {T : Type 0} (test : T → Bool) (o : Option T) → not (is_some o) ≡ true → option_map_or test o false ≡ false
+unheld test None empty = refl
+unheld test (Some x) empty = absurd cc
+
 pub none_accepted : (allowed : LeftOut) (p : ℕ × ℕ) → leaves_none allowed ≡ true → is_accepted allowed p ≡ false
-none_accepted allowed p empty =
-    let none = eqb-true _ _ (and_parts (is_empty allowed.kinds) _ empty).1 in
-    get_or_past allowed.accepted.now (p.0 * allowed.width + p.1) false (omega (arith, none))
+none_accepted allowed p empty = unheld (λ t. has_pair t.now p.0 p.1) allowed.accepted (and_parts (is_empty allowed.kinds) _ empty).1
 
 -- so each race counts
 pub all_count : (allowed : LeftOut) (lacks : ℕ → ℕ → Lack) (p : ℕ × ℕ) → leaves_none allowed ≡ true → counts allowed lacks p ≡ true

@@ -2,6 +2,7 @@
 pub mod Closest
 pub mod Lacks
 pub mod Kinds
+pub mod PairTables
 pub mod LeftOut
 pub mod Counting
 pub mod CountingLaws

@@ -1,9 +1,10 @@
 //! What does not count: kinds of races, and races that are accepted.
 
 ghost use Rattle.std.specs.Prelude.{◌≡◌};
-ghost use Rattle.msc_reason.specs.LeftOut.{is_accepted, leaves_none};
+ghost use Rattle.msc_reason.specs.LeftOut.{is_accepted, leaves_none, of_kinds};
 
 use crate::kinds::KindSet;
+use crate::pairs::Pairs;
 use msc_chart::Event;
 
 /// Which races do not count: those of some kinds, and those that are accepted.
@@ -11,11 +12,20 @@ use msc_chart::Event;
 pub struct LeftOut<'a> {
     /// The kinds.
     pub kinds: KindSet,
-    /// Whether the pair of events (`e`, `f`) is accepted, at `e * width + f`. A pair past the end
-    /// is not, so that an empty list accepts none.
-    pub accepted: &'a [bool],
-    /// How many pairs there are for each first event.
-    pub width: u32,
+    /// The pairs that are accepted, where races can be.
+    pub accepted: Option<&'a Pairs>,
+}
+
+impl LeftOut<'static> {
+    /// Some kinds alone.
+    pub fn of_kinds(kinds: KindSet) -> LeftOut<'static>
+        ensures { result ≡ of_kinds kinds }
+    {
+        LeftOut {
+            kinds,
+            accepted: None,
+        }
+    }
 }
 
 impl<'a> LeftOut<'a> {
@@ -23,17 +33,16 @@ impl<'a> LeftOut<'a> {
     pub fn accepts(self, e: Event, f: Event) -> bool
         ensures { result ≡ is_accepted self.entry (e, f) }
     {
-        let i = e as usize * self.width as usize + f as usize;
-        if i >= self.accepted.len() {
-            return false;
+        match self.accepted {
+            Some(pairs) => pairs.has(e, f),
+            None => false,
         }
-        self.accepted[i]
     }
 
-    /// Whether there are no kinds, and no pair that is accepted.
+    /// Whether there are no kinds, and races are not accepted.
     pub fn is_empty(self) -> bool
         ensures { result ≡ leaves_none self.entry }
     {
-        self.kinds.is_empty() && self.accepted.is_empty()
+        self.kinds.is_empty() && self.accepted.is_none()
     }
 }

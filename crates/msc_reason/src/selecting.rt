@@ -122,6 +122,13 @@ impl<'a> Listing<'a> {
         &self.enforced
     }
 
+    /// What does not count.
+    pub fn left_out(&self) -> LeftOut<'a>
+        ensures { result ≡ self.now.allowed }
+    {
+        self.allowed
+    }
+
     /// Whether the closest races alone are listed.
     pub fn closest(&self) -> bool
         ensures { result ≡ self.now.closest }
