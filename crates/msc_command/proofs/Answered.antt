@@ -9,6 +9,10 @@ use Rattle.msc_ending.specs.declared.fault.RunFault.TheVariants as runs
 use Rattle.msc_judge.specs.Pages as pages
 use Rattle.msc_judge.specs.declared.page.WriteFault.{WriteFault}
 use Rattle.msc_judge.specs.declared.page.WriteFault.TheVariants as writing
+use Rattle.msc_mark.specs.declared.fault.MarkFault.{MarkFault}
+use Rattle.msc_mark.specs.declared.fault.MarkFault.TheVariants as marking
+use Rattle.msc_mark.specs.declared.mark.Mark.{Mark}
+use Rattle.msc_reason.specs.declared.kinds.KindSet.{KindSet}
 use Rattle.msc_report.specs.declared.fault.Fault.TheVariants.{Parse, Chart, NotStarted, Memory, Device}
 use Rattle.msc_report.specs.Refusals.{of_reading, of_run, of_source, of_writing}
 use Rattle.msc_source.specs.Reading as reading
@@ -29,9 +33,10 @@ use Rattle.msc_command.specs.declared.tasks.Ask.TheVariants as asks
 use Rattle.msc_command.specs.declared.tasks.Checking.{Checking}
 use Rattle.msc_command.specs.declared.tasks.Task.{Task}
 use Rattle.msc_command.specs.declared.tasks.Task.TheVariants as tasks
-use Rattle.msc_command.specs.Answering.{Answers, AnswersOf, Does, EndsAs, IsPut, Performs, Prints, PrintsOf, Refuses, RefusesOf}
-use Rattle.msc_command.specs.Ending.{ended_by}
+use Rattle.msc_command.specs.Answering.{Answers, AnswersOf, Does, EndsAs, IsPut, Performs, Prints, PrintsOf, Refuses, RefusesOf, TellsQuietly}
+use Rattle.msc_command.specs.Ending.{ended_by, of_marks}
 use Rattle.msc_command.specs.Formats.{IsFormat}
+use Rattle.msc_command.specs.Marked.{AreMarked, ReadsMarks}
 
 -- nothing more stands behind known bytes
 pub nothing_more : (now : Option (List ℕ)) → Appends now now []
@@ -44,6 +49,13 @@ kept None mid after bytes wrote keeps = tt
 kept (Some xs) None after bytes wrote keeps = absurd wrote
 kept (Some xs) (Some ys) None bytes wrote keeps = absurd keeps
 kept (Some xs) (Some ys) (Some zs) bytes wrote keeps = keeps ∙ wrote
+
+-- how marks that can't be read end what is told by the status alone
+pub quietly_marked : (queues : Queues) (allowed : KindSet) (accept : Bool) (s : SourceText) (f : MarkFault) → ReadsMarks accept s.text (Err f)
+    → TellsQuietly queues allowed accept s (Err (of_marks f))
+quietly_marked queues allowed accept s (marking.Part at) faulty = faulty
+quietly_marked queues allowed accept s (marking.Reason at) faulty = faulty
+quietly_marked queues allowed accept s marking.Memory said = tt
 
 module _ {W : Type 0} (contents : W → Option (List ℕ)) where
   -- what was answered of one thing was answered of another, where what is right of it is right there
@@ -59,6 +71,7 @@ module _ {W : Type 0} (contents : W → Option (List ℕ)) where
   answers_so prints so refuses not_so right wrong (Err (refusals.Fault (Chart f))) old new (fails, same) = (wrong _ fails, same)
   answers_so prints so refuses not_so right wrong (Err (refusals.Fault (NotStarted i))) old new (fails, same) = (wrong _ fails, same)
   answers_so prints so refuses not_so right wrong (Err (refusals.Pair f)) old new (fails, same) = (wrong _ fails, same)
+  answers_so prints so refuses not_so right wrong (Err (refusals.Mark f)) old new (fails, same) = (wrong _ fails, same)
 
   -- what is right to print was put
   pub put_so : (prints : Status → List ℕ → Type 0) (refuses : Refusal → Type 0) (bytes : List ℕ) (status : Status) → prints status bytes
@@ -66,19 +79,40 @@ module _ {W : Type 0} (contents : W → Option (List ℕ)) where
   put_so prints refuses bytes status says (Ok s) old new (same, wrote) = (bytes, subst (λ (s : Status). prints s bytes) (sym same) says, wrote)
   put_so prints refuses bytes status says (Err r) old new is = rw is tt
 
-  module _ (c : Checking) (file : List ℕ) (format : Format) (s : SourceText) (its : IsFormat c file s.text format) where
+  module _ (c : Checking) (file : List ℕ) (format : Format) (s : SourceText) (its : IsFormat c file s.text format)
+      (marks : Option (List Mark)) (are : AreMarked c.accept s.text marks) where
     -- what was judged of a chart was answered of it
-    pub judged : (passed : Bool) (old new : W) → pages.Tells contents (JudgesChart s.chart c.queues c.question format) (Ok passed) old new
+    pub judged : (passed : Bool) (old new : W) → pages.Tells contents (JudgesChart s.chart c.queues c.question marks format) (Ok passed) old new
         → AnswersOf contents (asks.Check c) file s (Ok (ended_by passed)) old new
-    judged passed old new (printed, says, wrote) = (printed, (format, its, passed, refl, says), wrote)
+    judged passed old new (printed, says, wrote) = (printed, (format, its, marks, are, passed, refl, says), wrote)
 
     -- and so it was where it was not written to its end
-    pub not_judged : (f : WriteFault) (old new : W) → pages.Tells contents (JudgesChart s.chart c.queues c.question format) (Err f) old new
+    pub not_judged : (f : WriteFault) (old new : W) → pages.Tells contents (JudgesChart s.chart c.queues c.question marks format) (Err f) old new
         → AnswersOf contents (asks.Check c) file s (Err (refusals.Fault (of_writing f))) old new
     not_judged writing.Memory old new (inl same) = inl same
     not_judged writing.Memory old new (inr (passed, printed, says, begun)) =
-        inr (ended_by passed, printed, (format, its, passed, refl, says), begun)
+        inr (ended_by passed, printed, (format, its, marks, are, passed, refl, says), begun)
     not_judged writing.Device old new said = tt
+
+  -- marks that can't be read are answered so
+  pub not_marked : (c : Checking) (file : List ℕ) (s : SourceText) (f : MarkFault) (now : W) → ReadsMarks c.accept s.text (Err f)
+      → AnswersOf contents (asks.Check c) file s (Err (of_marks f)) now now
+  not_marked c file s (marking.Part at) now faulty = (faulty, refl)
+  not_marked c file s (marking.Reason at) now faulty = (faulty, refl)
+  not_marked c file s marking.Memory now said = inl refl
+
+  -- and so is what is told by the status alone
+  pub told_quietly : (queues : Queues) (allowed : KindSet) (accept : Bool) (file : List ℕ) (s : SourceText) (answer : Result Status Refusal) (now : W)
+      → TellsQuietly queues allowed accept s answer → AnswersOf contents (asks.Quiet queues allowed accept) file s answer now now
+  told_quietly queues allowed accept file s (Ok status) now says = ([], says, nothing_more _)
+  told_quietly queues allowed accept file s (Err (refusals.Fault (Parse f))) now says = absurd says
+  told_quietly queues allowed accept file s (Err (refusals.Fault (Chart f))) now says = absurd says
+  told_quietly queues allowed accept file s (Err (refusals.Fault (NotStarted i))) now says = absurd says
+  told_quietly queues allowed accept file s (Err (refusals.Fault Memory)) now says = inl refl
+  told_quietly queues allowed accept file s (Err (refusals.Fault Device)) now says = tt
+  told_quietly queues allowed accept file s (Err (refusals.Pair f)) now says = absurd says
+  told_quietly queues allowed accept file s (Err (refusals.Mark f)) now says = (says, refl)
+
 
   -- a chart that was not run is answered so
   pub not_run : (queues : Queues) (patience : ℕ) (file : List ℕ) (s : SourceText) (f : RunFault) (now : W)
@@ -116,6 +150,7 @@ module _ {W : Type 0} (contents : W → Option (List ℕ)) where
     refuses_so d of_text ask (refusals.Fault Memory) fails = absurd fails
     refuses_so d of_text ask (refusals.Fault Device) fails = absurd fails
     refuses_so d of_text ask (refusals.Pair f) fails = (d, of_text, fails)
+    refuses_so d of_text ask (refusals.Mark f) fails = (d, of_text, fails)
 
     -- what was answered of a chart was answered of its text
     charted_at : (d : Drawing) → IsChartOf text d → (ask : Ask) (answer : Result Status Refusal) (old new : W)

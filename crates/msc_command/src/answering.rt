@@ -1,22 +1,26 @@
 //! The answers of tasks: the text is read once, its chart is made, and what is asked of it is
 //! answered and printed.
 
-ghost use Rattle.std.specs.Prelude.{◌≡◌, ℕ, List};
-ghost use Rattle.msc_command.specs.Answering.{AnswersOf, Does, EndsAs, IsPut};
+ghost use Rattle.std.specs.Prelude.{◌≡◌, ℕ, List, option_map};
+ghost use Rattle.msc_command.specs.Answering.{AnswersOf, Does, EndsAs, IsPut, TellsQuietly};
 ghost use Rattle.msc_command.specs.Ending.{ends_as};
-ghost use Rattle.msc_source.specs.Inputs.{IsReadFrom};
 ghost use Rattle.msc_command.specs.Formats.{IsFormat};
+ghost use Rattle.msc_command.specs.Marked.{AreMarked};
 ghost use Rattle.msc_source.specs.Inputs.{IsReadFrom};
 
 use crate::ending::{Refusal, Status, end_refused, end_unread, ended_by, finished_by};
+use crate::marked::marks_of;
 use crate::naming::pair_named;
 use crate::notes::write_notes;
 use crate::recorded::TellsFailure;
 use crate::sited::{sites_of, style_of};
 use crate::tasks::{Ask, Checking, Explaining, Form, Request, Task};
+use msc_chart::Queues;
 use msc_instance::AlwaysOpen;
 use msc_judge::Page;
+use msc_mark::Marks;
 use msc_place::Sites;
+use msc_reason::KindSet;
 use msc_report::Fault;
 use msc_source::{Language, Reading, Source, read_all};
 use msc_text::{Format, explain_pair, judge_chart, list_chart, passes_chart, write_reading};
@@ -36,19 +40,29 @@ fn put<O: Write>(output: &mut O, page: &Page, status: Status) -> Result<Status, 
     }
 }
 
-/// Writes what is asked of the races of a text's chart in a format.
+/// Writes what is asked of the races of a text's chart in a format, with these marks.
 fn check_in<O: Write>(
     alloc: Global,
     checking: Checking,
+    marks: Option<&Marks>,
     format: Format<'_>,
     source: &Source,
     output: &mut O,
 ) -> Result<Status, Refusal>
+    requires { AreMarked checking.accept source.now.text (option_map (λ m. m.now) marks) }
     ensures { (file : List ℕ) → IsFormat checking file source.now.text format.entry
         → AnswersOf O.contents (Ask.Check checking) file source.now result output.old output.new }
 {
     let (queues, question) = (checking.queues, checking.question);
-    let passed = judge_chart(alloc, source.chart(), queues, question, format, output)?;
+    let passed = judge_chart(
+        alloc,
+        source.chart(),
+        queues,
+        question,
+        marks,
+        format,
+        output,
+    )?;
     Ok(ended_by(passed))
 }
 
@@ -63,22 +77,39 @@ fn check<O: Write>(
     ensures { AnswersOf O.contents (Ask.Check checking) file.now source.now result
         output.old output.new }
 {
+    let marks = marks_of(alloc, checking.accept, source.text())?;
+    let marks = marks.as_ref();
     match checking.form {
         Form::Text => {
             let look = checking.look;
             let sites = sites_of(alloc, look.places, file, source.text())?;
             let style = style_of(look, sites.as_ref());
-            check_in(alloc, checking, Format::Lines(style), source, output)
+            check_in(alloc, checking, marks, Format::Lines(style), source, output)
         }
         Form::Count => {
             let format = Format::Count(file.as_bytes());
-            check_in(alloc, checking, format, source, output)
+            check_in(alloc, checking, marks, format, source, output)
         }
         Form::Lines => {
             let sites = Sites::of(alloc, file.as_bytes(), source.text())?;
-            check_in(alloc, checking, Format::Editor(&sites), source, output)
+            check_in(alloc, checking, marks, Format::Editor(&sites), source, output)
         }
     }
+}
+
+/// Whether no race of a text's chart counts, and no mark accepts none.
+fn quiet(
+    alloc: Global,
+    queues: Queues,
+    allowed: KindSet,
+    accept: bool,
+    source: &Source,
+) -> Result<Status, Refusal>
+    ensures { TellsQuietly queues allowed accept source.now result }
+{
+    let marks = marks_of(alloc, accept, source.text())?;
+    let passes = passes_chart(alloc, source.chart(), queues, allowed, marks.as_ref())?;
+    Ok(ended_by(passes))
 }
 
 /// Writes why the first of two events of the chart of a text, of the file of this name, comes
@@ -99,7 +130,8 @@ fn explain<O: Write>(
     };
     let sites = sites_of(alloc, explaining.look.places, file, source.text())?;
     let style = style_of(explaining.look, sites.as_ref());
-    let (page, enforced) = explain_pair(alloc, source.chart(), explaining.queues, e, f, style)?;
+    let (queues, short) = (explaining.queues, explaining.short);
+    let (page, enforced) = explain_pair(alloc, source.chart(), queues, e, f, short, style)?;
     put(output, &page, ended_by(enforced))
 }
 
@@ -134,7 +166,7 @@ fn answer_chart<R: Threads + Wait + Sync, O: Write>(
     let chart = source.chart();
     match ask {
         Ask::Check(checking) => check(alloc, checking, file, source, output),
-        Ask::Quiet(queues, allowed) => Ok(ended_by(passes_chart(alloc, chart, queues, allowed)?)),
+        Ask::Quiet(queues, allowed, accept) => quiet(alloc, queues, allowed, accept, source),
         Ask::Explain(explaining) => explain(alloc, explaining, file, source, output),
         Ask::Run(queues, patience) => {
             let (page, finished) = print_execution(

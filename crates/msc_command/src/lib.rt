@@ -7,6 +7,7 @@
 mod answering;
 mod ending;
 mod grammar;
+mod marked;
 mod misuse;
 mod naming;
 mod notes;

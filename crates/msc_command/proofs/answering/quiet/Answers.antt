@@ -1,0 +1,1 @@
+use Rattle.msc_command.proofs.answering.quiet.Goals as goal
