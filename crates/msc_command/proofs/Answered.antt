@@ -1,5 +1,5 @@
 -- What was answered of a chart is answered of its text, and a flush keeps it.
-use Rattle.std.proofs.Common.{◌≡◌, ◌≢◌, ◌<◌, ℕ, Bool, List, [], length, Option, Some, None, Result, Ok, Err, inl, inr, refl, sym, subst, ◌∙◌}
+use Rattle.std.proofs.Common.{◌≡◌, ◌≢◌, ◌<◌, ℕ, Bool, true, false, List, [], length, Option, Some, None, Result, Ok, Err, inl, inr, refl, sym, subst, ◌∙◌}
 use Rattle.std.proofs.lemmas.List.{append-nil}
 use Rattle.std.specs.Io.KnownBytes.{Appends, Keeps}
 use Rattle.msc_chart.specs.declared.queue.Queues.{Queues}
@@ -33,10 +33,11 @@ use Rattle.msc_command.specs.declared.tasks.Ask.TheVariants as asks
 use Rattle.msc_command.specs.declared.tasks.Checking.{Checking}
 use Rattle.msc_command.specs.declared.tasks.Task.{Task}
 use Rattle.msc_command.specs.declared.tasks.Task.TheVariants as tasks
-use Rattle.msc_command.specs.Answering.{Answers, AnswersOf, Does, EndsAs, IsPut, Performs, Prints, PrintsOf, Refuses, RefusesOf, TellsQuietly}
+use Rattle.msc_command.specs.Answering.{Answers, AnswersOf, Delivers, Does, EndsAs, IsPut, Performs, Prints, PrintsOf, Refuses, RefusesOf, TellsQuietly}
 use Rattle.msc_command.specs.Ending.{ended_by, of_marks}
 use Rattle.msc_command.specs.Formats.{IsFormat}
 use Rattle.msc_command.specs.Marked.{AreMarked, ReadsMarks}
+use Rattle.msc_command.specs.Refused.{form_of, is_spent, TellsIn, TellsThat, TellsUnread}
 
 -- nothing more stands behind known bytes
 pub nothing_more : (now : Option (List ℕ)) → Appends now now []
@@ -173,15 +174,60 @@ module _ {W : Type 0} (contents : W → Option (List ℕ)) where
 
   -- an answer that went out is kept by a flush
   pub flushed : (task : Task) (file text : List ℕ) (status : Status) (old mid new : W)
-      → Does contents task file text (Ok status) old mid → Keeps (contents mid) (contents new) → Does contents task file text (Ok status) old new
+      → Does contents task file text (Ok status) old mid → Keeps (contents mid) (contents new) → Delivers contents task file text (Ok status) old new
   flushed task file text status old mid new (printed, says, wrote) keeps =
       (printed, says, kept (contents old) (contents mid) (contents new) printed wrote keeps)
 
+  module _ (task : Task) (file text : List ℕ) where
+    -- where nothing is refused, it is left as that
+    spent_so : (refusal : Refusal) (old new : W) → is_spent refusal ≡ true → Does contents task file text (Err refusal) old new
+        → Delivers contents task file text (Err refusal) old new
+    spent_so (refusals.Fault (Parse f)) old new spent does = absurd cc
+    spent_so (refusals.Fault (Chart f)) old new spent does = absurd cc
+    spent_so (refusals.Fault (NotStarted i)) old new spent does = absurd cc
+    spent_so (refusals.Fault Memory) old new spent does = does
+    spent_so (refusals.Fault Device) old new spent does = tt
+    spent_so (refusals.Pair f) old new spent does = absurd cc
+    spent_so (refusals.Mark f) old new spent does = absurd cc
+
+    -- where something is, the writer has had no call before it is told
+    untouched : (refusal : Refusal) (old new : W) → is_spent refusal ≡ false → Does contents task file text (Err refusal) old new → new ≡ old
+    untouched (refusals.Fault (Parse f)) old new refused does = does.1
+    untouched (refusals.Fault (Chart f)) old new refused does = does.1
+    untouched (refusals.Fault (NotStarted i)) old new refused does = does.1
+    untouched (refusals.Fault Memory) old new refused does = absurd cc
+    untouched (refusals.Fault Device) old new refused does = absurd cc
+    untouched (refusals.Pair f) old new refused does = does.1
+    untouched (refusals.Mark f) old new refused does = does.1
+
+    -- and then it is told
+    told_so : (refusal : Refusal) (old mid new : W) → is_spent refusal ≡ false → Does contents task file text (Err refusal) old mid
+        → TellsIn contents (form_of task) file text refusal old new → Delivers contents task file text (Err refusal) old new
+    told_so (refusals.Fault (Parse f)) old mid new refused does tells = (does.0, tells)
+    told_so (refusals.Fault (Chart f)) old mid new refused does tells = (does.0, tells)
+    told_so (refusals.Fault (NotStarted i)) old mid new refused does tells = (does.0, tells)
+    told_so (refusals.Fault Memory) old mid new refused does tells = absurd cc
+    told_so (refusals.Fault Device) old mid new refused does tells = absurd cc
+    told_so (refusals.Pair f) old mid new refused does tells = (does.0, tells)
+    told_so (refusals.Mark f) old mid new refused does tells = (does.0, tells)
+
+    -- so a task that is refused is left as it has to be
+    pub delivered : (refusal told : Refusal) (old mid new : W) → Does contents task file text (Err refusal) old mid
+        → TellsThat contents (form_of task) file text refusal told mid new → Delivers contents task file text (Err told) old new
+    delivered refusal told old mid new does (inl (spent, same, stays)) =
+        rw (same, stays) (spent_so refusal old mid spent does)
+    delivered refusal told old mid new does (inr (refused, inl (same, tells))) =
+        rw same (told_so refusal old mid new refused does
+        (subst (λ (w : W). TellsIn contents (form_of task) file text refusal w new) (untouched refusal old mid refused does) tells))
+    delivered refusal told old mid new does (inr (refused, inr (inl (memory, stays)))) =
+        rw memory (inl (stays ∙ untouched refusal old mid refused does))
+    delivered refusal told old mid new does (inr (refused, inr (inr device))) = rw device tt
+
   -- what was not read leaves every task undone
-  pub unread : (task : Task) (file : List ℕ) (reads : List ℕ → Type 0) (f : ReadFault) (now : W)
-      → Performs contents task file reads (Err (refusals.Fault (of_reading f))) now now
-  unread task file reads readings.Memory now = inr (tt, refl)
-  unread task file reads (readings.Device e) now = inr (tt, refl)
+  pub unread : (task : Task) (file : List ℕ) (reads : List ℕ → Type 0) (f : ReadFault) (old new : W) → TellsUnread task old new
+      → Performs contents task file reads (Err (refusals.Fault (of_reading f))) old new
+  unread task file reads readings.Memory old new told = inr (tt, told)
+  unread task file reads (readings.Device e) old new told = inr (tt, told)
 
   -- a task that was performed was so for texts of which less is known
   performs_so : (task : Task) (file : List ℕ) (reads so : List ℕ → Type 0) (answer : Result Status Refusal) (old new : W)

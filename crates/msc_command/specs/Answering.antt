@@ -27,6 +27,7 @@ use Rattle.msc_command.specs.Ending.{ended_by, ends_as, finished_by}
 use Rattle.msc_command.specs.Formats.{IsFormat}
 use Rattle.msc_command.specs.Marked.{AreMarked, HasFaultyMark}
 use Rattle.msc_command.specs.Naming.{AreTwoNamed, IsNamedFault}
+use Rattle.msc_command.specs.Refused.{TellsRefusal, TellsUnread}
 use Rattle.msc_command.specs.Sited.{AreSited, IsStyle}
 use Rattle.msc_command.specs.declared.ending.Refusal.{Refusal}
 use Rattle.msc_command.specs.declared.ending.Refusal.TheVariants as refusals
@@ -122,16 +123,25 @@ TellsQuietly queues allowed accept s (Err refusal) = ⊥
 abbrev pub Does : {W : Type 0} → (W → Option (List ℕ)) → Task → List ℕ → List ℕ → Result Status Refusal → W → W → Type 0
 Does contents task file text = Answers contents (Prints task file text) (Refuses task text)
 
+-- A task was done for the text of a file, and where it was refused that was told: where memory ran out
+-- or the writer failed, it is left as that.
+abbrev pub Delivers : {W : Type 0} → (W → Option (List ℕ)) → Task → List ℕ → List ℕ → Result Status Refusal → W → W → Type 0
+Delivers contents task file text (Ok status) old new = Does contents task file text (Ok status) old new
+Delivers contents task file text (Err (refusals.Fault Memory)) old new = Does contents task file text (Err (refusals.Fault Memory)) old new
+Delivers contents task file text (Err (refusals.Fault Device)) old new = Unit {0}
+Delivers contents task file text (Err refusal) old new =
+    Refuses task text refusal × TellsRefusal contents task file text refusal old new
+
 -- a file was not read: memory ran out, or a device failed
 abbrev pub IsUnread : Result Status Refusal → Type 0
 IsUnread (Err (refusals.Fault Memory)) = Unit {0}
 IsUnread (Err (refusals.Fault Device)) = Unit {0}
 IsUnread answer = ⊥
 
--- a task was done for a text that was read so, or nothing was read, and the writer has had no call
+-- a task was done for a text that was read so, or nothing was read
 abbrev pub Performs : {W : Type 0} → (W → Option (List ℕ)) → Task → List ℕ → (List ℕ → Type 0) → Result Status Refusal → W → W → Type 0
 Performs contents task file reads answer old new =
-    ((text : List ℕ) × reads text × Does contents task file text answer old new) ⊎ (IsUnread answer × (new ≡ old))
+    ((text : List ℕ) × reads text × Delivers contents task file text answer old new) ⊎ (IsUnread answer × TellsUnread task old new)
 
 -- how a run ends whose task was done so
 abbrev pub ends_with : Result Status Refusal → Status

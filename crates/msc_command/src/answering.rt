@@ -1,31 +1,38 @@
 //! The answers of tasks: the text is read once, its chart is made, and what is asked of it is
 //! answered and printed.
 
-ghost use Rattle.std.specs.Prelude.{◌≡◌, ℕ, List, option_map};
-ghost use Rattle.msc_command.specs.Answering.{AnswersOf, Does, EndsAs, IsPut, TellsQuietly};
+ghost use Rattle.std.specs.Prelude.{◌≡◌, ℕ, List, option_map, IfErr, OnOk};
+ghost use Rattle.std.specs.Io.KnownBytes.{Keeps};
+ghost use Rattle.msc_command.specs.Answering.{AnswersOf, Delivers, Does, EndsAs, IsPut};
+ghost use Rattle.msc_command.specs.Answering.{TellsQuietly};
 ghost use Rattle.msc_command.specs.Ending.{ends_as};
 ghost use Rattle.msc_command.specs.Formats.{IsFormat};
 ghost use Rattle.msc_command.specs.Marked.{AreMarked};
+ghost use Rattle.msc_command.specs.Refused.{IsToldIn, TellsThat, TellsUnread, TellsUnreadIn};
+ghost use Rattle.msc_report.specs.Refusals.{of_reading};
 ghost use Rattle.msc_source.specs.Inputs.{IsReadFrom};
 
-use crate::ending::{Refusal, Status, end_refused, end_unread, ended_by, finished_by};
+use crate::ending::{Refusal, Status, end_refused, end_unread, ended_by, finished_by, is_spent};
 use crate::marked::marks_of;
 use crate::naming::pair_named;
-use crate::notes::write_notes;
+use crate::notes::{write_cause, write_notes};
 use crate::recorded::TellsFailure;
+use crate::refused::refusal_lines;
 use crate::sited::{sites_of, style_of};
-use crate::tasks::{Ask, Checking, Explaining, Form, Request, Task};
+use crate::tasks::{Ask, Checking, Explaining, Form, Request, Task, form_of};
 use msc_chart::Queues;
 use msc_instance::AlwaysOpen;
 use msc_judge::Page;
 use msc_mark::Marks;
 use msc_place::Sites;
+use msc_place::writing::write_file;
 use msc_reason::KindSet;
 use msc_report::Fault;
-use msc_source::{Language, Reading, Source, read_all};
+use msc_source::{Language, ReadFault, Reading, Source, read_all};
 use msc_text::{Format, explain_pair, judge_chart, list_chart, passes_chart, write_reading};
 use msc_tool::print_execution;
 use std::alloc::Global;
+use std::io;
 use std::io::{Read, Write};
 use std::sync::Wait;
 use std::thread::Threads;
@@ -36,6 +43,17 @@ fn put<O: Write>(output: &mut O, page: &Page, status: Status) -> Result<Status, 
 {
     match output.write_all(page.bytes.as_slice()) {
         Ok(()) => Ok(status),
+        Err(_) => Err(Refusal::Fault(Fault::Device)),
+    }
+}
+
+/// Lets all that was written go out.
+fn flush<O: Write>(output: &mut O) -> Result<(), Refusal>
+    ensures kept { OnOk result (Keeps (O.contents output.old) (O.contents output.new)) }
+    ensures failed { IfErr result (λ refusal. refusal ≡ Refusal.Fault Fault.Device) }
+{
+    match output.flush() {
+        Ok(()) => Ok(()),
         Err(_) => Err(Refusal::Fault(Fault::Device)),
     }
 }
@@ -207,8 +225,62 @@ fn answer<R: Threads + Wait + Sync, O: Write>(
     }
 }
 
-/// Lets the answer of a task go out, to the text of a file of this name, before it is told how the
-/// run ends.
+/// Lets the lines of a refusal for editors go out.
+fn tell_lines<O: Write>(
+    alloc: Global,
+    file: &str,
+    text: &[u8],
+    refusal: Refusal,
+    output: &mut O,
+) -> Result<(), Refusal>
+    ensures { IsToldIn O.contents Form.Lines file.now text.now refusal result
+        output.old output.new }
+{
+    let page = refusal_lines(alloc, file, text, refusal)?;
+    let _ = put(output, &page, Status::Refused)?;
+    flush(output)
+}
+
+/// Tells a refusal on the output, where its form has it there.
+fn tell_in<O: Write>(
+    alloc: Global,
+    form: Form,
+    file: &str,
+    text: &[u8],
+    refusal: Refusal,
+    output: &mut O,
+) -> Result<(), Refusal>
+    ensures { IsToldIn O.contents form file.now text.now refusal result output.old output.new }
+{
+    match form {
+        Form::Lines => tell_lines(alloc, file, text, refusal, output),
+        Form::Text | Form::Count => Ok(()),
+    }
+}
+
+/// Tells a refusal on the output, where its form has it there; answers it, or what went wrong with
+/// that.
+fn tell_refusal<O: Write>(
+    alloc: Global,
+    form: Form,
+    file: &str,
+    text: &[u8],
+    refusal: Refusal,
+    output: &mut O,
+) -> Refusal
+    ensures { TellsThat O.contents form file.now text.now refusal result output.old output.new }
+{
+    if is_spent(refusal) {
+        return refusal;
+    }
+    match tell_in(alloc, form, file, text, refusal, output) {
+        Ok(()) => refusal,
+        Err(other) => other,
+    }
+}
+
+/// Lets the answer of a task go out, to the text of a file of this name, or tells why it is refused,
+/// before it is told how the run ends.
 fn deliver<R: Threads + Wait + Sync, O: Write>(
     rt: &R,
     alloc: Global,
@@ -217,12 +289,17 @@ fn deliver<R: Threads + Wait + Sync, O: Write>(
     text: &[u8],
     output: &mut O,
 ) -> Result<Status, Refusal>
-    ensures { Does O.contents task file.now text.now result output.old output.new }
+    ensures { Delivers O.contents task file.now text.now result output.old output.new }
 {
-    let status = answer(rt, alloc, task, file, text, output)?;
-    match output.flush() {
-        Ok(()) => Ok(status),
-        Err(_) => Err(Refusal::Fault(Fault::Device)),
+    match answer(rt, alloc, task, file, text, output) {
+        Ok(status) => {
+            flush(output)?;
+            Ok(status)
+        }
+        Err(refusal) => {
+            let form = form_of(task);
+            Err(tell_refusal(alloc, form, file, text, refusal, output))
+        }
     }
 }
 
@@ -255,6 +332,44 @@ fn end_told<O: TellsFailure, E: Write>(
     status
 }
 
+/// Writes the lines for editors of a file that could not be read.
+fn write_unread<O: Write>(output: &mut O, file: &str, error: &io::Error) -> io::Result<()> {
+    write_file(output, file.as_bytes())?;
+    output.write_all(b":1:1: error: device fault\n")?;
+    write_file(output, file.as_bytes())?;
+    output.write_all(b":1:1: note: ")?;
+    write_cause(output, file, error)?;
+    output.flush()
+}
+
+/// Tells on the output that a file could not be read, where its form has it there.
+fn tell_unread<O: Write>(form: Form, file: &str, fault: &ReadFault, output: &mut O)
+    ensures { TellsUnreadIn form output.old output.new }
+{
+    match form {
+        Form::Lines => {
+            if let ReadFault::Device(error) = fault {
+                let _ = write_unread(output, file, error);
+            }
+        }
+        Form::Text | Form::Count => {}
+    }
+}
+
+/// Tells why a file could not be read, and how the run ended.
+pub(crate) fn end_unread_task<O: Write, E: Write>(
+    request: Request<'_>,
+    fault: ReadFault,
+    output: &mut O,
+    faults: &mut E,
+) -> Status
+    ensures status { result ≡ ends_as (Refusal.Fault (of_reading fault)) }
+    ensures told { TellsUnread request.entry.task output.old output.new }
+{
+    tell_unread(form_of(request.task), request.file, &fault, output);
+    end_unread(faults, request.file, fault, request.notes)
+}
+
 /// Does what is requested over an input, which is read once, and tells how the run ended. What went
 /// wrong goes to `faults`.
 pub(crate) fn perform<R: Threads + Wait + Sync, I: Read, O: TellsFailure, E: Write>(
@@ -270,7 +385,7 @@ pub(crate) fn perform<R: Threads + Wait + Sync, I: Read, O: TellsFailure, E: Wri
 {
     let text = match read_all(alloc, input) {
         Ok(text) => text,
-        Err(fault) => return end_unread(faults, request.file, fault, request.notes),
+        Err(fault) => return end_unread_task(request, fault, output, faults),
     };
     match deliver(
         rt,

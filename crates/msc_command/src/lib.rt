@@ -13,6 +13,7 @@ mod naming;
 mod notes;
 mod program;
 mod recorded;
+mod refused;
 mod sited;
 mod tasks;
 mod words;

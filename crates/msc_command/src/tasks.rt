@@ -7,6 +7,7 @@ ghost use Rattle.msc_command.specs.Asking.{AsksFor, IsEventWord, IsFlag, IsLook,
 ghost use Rattle.msc_command.specs.Asking.{tells_notes, IsTwofold, WantsNotes};
 ghost use Rattle.msc_command.specs.Asking.{IsNameText, IsNoName, IsNoNumber, IsNumberText};
 ghost use Rattle.msc_command.specs.Asking.{IsOptionNumber, IsQuestion, LacksEvent};
+ghost use Rattle.msc_command.specs.Refused.{form_of};
 ghost use Rattle.msc_command.specs.Words.{form_of_word, form_word, word_name};
 
 use crate::words::{Verb, Word};
@@ -111,6 +112,16 @@ pub(crate) enum Task {
     Chart(Ask),
 }
 
+/// The form of a task's answer.
+pub(crate) fn form_of(task: Task) -> Form
+    ensures { result ≡ form_of task }
+{
+    match task {
+        Task::Chart(Ask::Check(checking)) => checking.form,
+        Task::Read | Task::Chart(_) => Form::Text,
+    }
+}
+
 /// What a run of the program has to do: a task, to the text of the file of this name.
 #[derive(Clone, Copy)]
 pub(crate) struct Request<'w> {
@@ -206,7 +217,7 @@ fn question_of(words: &ArgMatches) -> Question
 }
 
 /// The form that the words ask for.
-fn form_of(words: &ArgMatches) -> Form
+fn form_asked(words: &ArgMatches) -> Form
     ensures { result ≡ form (found_of words.now) }
 {
     match words.get_str(Word::Format.name()) {
@@ -279,7 +290,7 @@ fn check_of(queues: Queues, words: &ArgMatches) -> Task
         queues,
         question: question_of(words),
         accept,
-        form: form_of(words),
+        form: form_asked(words),
         look: look_of(words),
     }))
 }

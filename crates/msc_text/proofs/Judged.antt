@@ -1,6 +1,9 @@
 -- What is printed of a chart is told of it, and of a verdict.
-use Rattle.std.proofs.Common.{◌≡◌, ◌⊎◌, ℕ, Bool, true, false, ◌&&◌, List, [], length, nat_eq, Option, None, Result, Ok, Err, refl, ap, ap₂, ◌∙◌, subst, inl, inr, arith}
+use Rattle.std.proofs.Common.{◌≡◌, ◌⊎◌, ◌<◌, ℕ, All, Bool, true, false, ◌&&◌, List, [], length, nat_eq, Option, None, Some, Result, Ok, Err, refl, sym, ap, ap₂, ◌∙◌, subst, inl, inr, arith}
 use Rattle.std.specs.Borrow.{Bor}
+use Rattle.std.specs.List.{range_with_len}
+use Rattle.std.proofs.lemmas.List.Elements.{All-filter, All-from_get_or}
+use Rattle.std.proofs.lemmas.List.FromFn.{get_or-range_with_len, length-range_with_len}
 use Rattle.msc_chart.proofs.Drawn.{before_parts}
 use Rattle.msc_chart.specs.declared.queue.Queues.{Queues}
 use Rattle.msc_chart.specs.Drawings.{Drawing, IsAccepted}
@@ -16,10 +19,12 @@ use Rattle.msc_race.specs.Wired.{enforced_chart, EnforcedChart, IsEnforced}
 use Rattle.msc_reason.proofs.LacksIn.{all_lacks}
 use Rattle.msc_reason.specs.Counting.{counting}
 use Rattle.msc_reason.specs.Marked.{lack_in}
-use Rattle.msc_reason.specs.PairTables.{PairTable}
+use Rattle.msc_reason.specs.PairTables.{has_pair, PairTable}
 use Rattle.msc_reason.specs.declared.kinds.KindSet.{KindSet}
 use Rattle.msc_reason.specs.declared.lack.Lack.{Lack}
 use Rattle.msc_reason.specs.declared.left_out.LeftOut.{LeftOut}
+use Rattle.msc_chart.specs.Lists.{Occurs}
+use Rattle.msc_mark.specs.Accepting.{acceptance, accepts_race, is_stale, stale_events, Acceptance}
 use Rattle.msc_mark.specs.declared.mark.Mark.{Mark}
 use Rattle.msc_judge.specs.declared.marking.Marking.{Marking}
 use Rattle.msc_judge.specs.Findings.{answer_text, passes, Answers, AreChosen}
@@ -125,12 +130,34 @@ told_at contents e q marks m format (Err writing.Device) old new accepted is mar
 
 -- the same of the chart that was asked for
 pub told_chart : {W : Type 0} (contents : W → Option (List ℕ)) (e : EnforcedChart) (d : Drawing) (queues : Queues) (q : Question) (marks : Option (List Mark)) (m : Marking) (format : Format) (r : Result Bool WriteFault) (old new : W)
-    → e.chart ≡ d → e.queues ≡ queues → IsAccepted e.chart → IsEnforced e → IsMarking e marks m → Answers e (asked format q) m (texts_in format e.chart) r (contents old) (contents new)
+    → e.chart ≡ d → e.queues ≡ queues → IsAccepted e.chart → IsEnforced e → Answers e (asked format q) m (texts_in format e.chart) r (contents old) (contents new) → IsMarking e marks m
     → Tells contents (JudgesChart d queues q marks format) r old new
-told_chart contents e d queues q marks m format r old new chart_is queues_is accepted is marked said =
+told_chart contents e d queues q marks m format r old new chart_is queues_is accepted is said marked =
     subst (λ (c : Drawing). Tells contents (JudgesChart c queues q marks format) r old new) chart_is
     (subst (λ (a : Queues). Tells contents (JudgesChart e.chart a q marks format) r old new) queues_is
     (told_at contents e q marks m format r old new accepted is marked said))
+
+-- what marks accept of a chart, and which of them accept none, is what they say
+pub marking_of : (e : EnforcedChart) (marks : List Mark) (a : Acceptance) (d : Drawing) (queues : Queues) (pairs : Bor PairTable) (m : Marking)
+    → a.marks ≡ marks → a.chart ≡ d → a.queues ≡ queues → e.chart ≡ d → e.queues ≡ queues → m.accepted ≡ Some pairs
+    → ((p : ℕ × ℕ) → Occurs (races_of e) p → has_pair pairs.now p.0 p.1 ≡ accepts_race a p) → m.stale.now ≡ stale_events a (races_of e)
+    → IsMarking e (Some marks) m
+marking_of e marks a d queues pairs m marks_is chart_is queues_is its_chart its_queues accepted has stale =
+    let same : a ≡ acceptance marks e.chart e.queues =
+    ap (λ (l : List Mark). acceptance l a.chart a.queues) marks_is
+    ∙ ap (λ (x : Drawing). acceptance marks x a.queues) (chart_is ∙ sym its_chart)
+    ∙ ap (λ (q : Queues). acceptance marks e.chart q) (queues_is ∙ sym its_queues) in
+    (pairs, accepted, λ p there. has p there ∙ ap (λ x. accepts_race x p) same, stale ∙ ap (λ x. stale_events x (races_of e)) same)
+
+-- events whose marks accept no race are events of the chart
+pub stale_known : (a : Acceptance) (races : List (ℕ × ℕ)) → All (λ e. e < length a.chart.events) (stale_events a races)
+stale_known a races =
+    All-filter (is_stale a races) (λ e. e < length a.chart.events) (range_with_len 0 (length a.chart.events))
+    (All-from_get_or (λ e. e < length a.chart.events) (range_with_len 0 (length a.chart.events)) 0 (λ k within.
+    let long = length-range_with_len 0 (length a.chart.events) in
+    let less : k < length a.chart.events = omega (arith, within, long) in
+    let is = get_or-range_with_len 0 (length a.chart.events) k 0 less in
+    omega (arith, less, is)))
 
 -- whether no race of a chart counts, by its enforced order
 pub passes_at : (e : EnforcedChart) (allowed : KindSet) (marks : Option (List Mark)) (m : Marking) (none : Bool)
@@ -149,9 +176,9 @@ passes_at e allowed marks m none accepted is marked told = record {
 
 -- the same of the chart that was asked for
 pub passes_by : (e : EnforcedChart) (d : Drawing) (queues : Queues) (allowed : KindSet) (marks : Option (List Mark)) (m : Marking) (none : Bool) → e.chart ≡ d → e.queues ≡ queues
-    → IsAccepted e.chart → IsEnforced e → IsMarking e marks m
+    → IsAccepted e.chart → IsEnforced e
     → none ≡ (nat_eq (length (counting e (left_out allowed m) (lack_in e))) 0 && nat_eq (length m.stale.now) 0)
-    → Passes d queues allowed marks none
-passes_by e d queues allowed marks m none chart_is queues_is accepted is marked told =
+    → IsMarking e marks m → Passes d queues allowed marks none
+passes_by e d queues allowed marks m none chart_is queues_is accepted is told marked =
     subst (λ (c : Drawing). Passes c queues allowed marks none) chart_is
     (subst (λ (a : Queues). Passes e.chart a allowed marks none) queues_is (passes_at e allowed marks m none accepted is marked told))

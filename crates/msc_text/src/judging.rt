@@ -1,10 +1,12 @@
 //! What is asked of the races of a chart, in bytes.
 
-ghost use Rattle.std.specs.Prelude.{IfOk, option_map};
+ghost use Rattle.std.specs.Prelude.{◌≡◌, ◌&&◌, IfOk, length, nat_eq, option_map};
 ghost use Rattle.msc_judge.specs.Findings.{Answers};
 ghost use Rattle.msc_judge.specs.Pages.{Tells};
+ghost use Rattle.msc_reason.specs.Counting.{counting};
+ghost use Rattle.msc_reason.specs.Marked.{lack_in};
 ghost use Rattle.msc_reason.specs.Named.{AreEventsOf};
-ghost use Rattle.msc_text.specs.Judging.{asked, texts_in, JudgesChart, Passes};
+ghost use Rattle.msc_text.specs.Judging.{asked, left_out, texts_in, JudgesChart, Passes};
 
 use msc_chart::{Chart, Queues};
 use msc_judge::{Marking, Question, WriteFault, judge};
@@ -111,6 +113,28 @@ pub fn judge_chart<W: Write>(
     judge_in(alloc, enforced, question, marking, format, writer)
 }
 
+/// Whether no race counts, where these kinds are left out and what marks accept, and no mark accepts
+/// none.
+fn none_left(
+    alloc: Global,
+    enforced: &Enforced<'_>,
+    allowed: KindSet,
+    marking: Marking<'_>,
+) -> Result<bool, AllocError>
+    ensures { IfOk result (λ none. none ≡ (nat_eq (length
+        (counting enforced.now (left_out allowed marking.entry) (lack_in enforced.now))) 0
+        && nat_eq (length marking.entry.stale.now) 0)) }
+{
+    if !marking.stale.is_empty() {
+        return Ok(false);
+    }
+    let left = LeftOut {
+        kinds: allowed,
+        accepted: marking.accepted,
+    };
+    none_counts(alloc, enforced, left)
+}
+
 /// Whether no race of a chart counts under an architecture, where these kinds are left out and, where
 /// marks are asked, those races that they accept, and no mark accepts none. It stops at the first
 /// race that counts, and makes no text. An error is a growth of memory that was refused.
@@ -128,17 +152,14 @@ pub fn passes_chart(
     let enforced = Enforced::of(alloc, chart, queues)?;
     enforced.enforced();
     let Some(marks) = marks else {
-        return none_counts(alloc, &enforced, LeftOut::of_kinds(allowed));
+        return none_left(alloc, &enforced, allowed, Marking::none());
     };
     let accepted = Accepted::of(alloc, marks, chart, queues)?;
     let pairs = accepted.pairs(alloc, &enforced)?;
     let stale = accepted.stale(alloc, &enforced)?;
-    if !stale.is_empty() {
-        return Ok(false);
-    }
-    let left = LeftOut {
-        kinds: allowed,
+    let marking = Marking {
         accepted: Some(&pairs),
+        stale: stale.as_slice(),
     };
-    none_counts(alloc, &enforced, left)
+    none_left(alloc, &enforced, allowed, marking)
 }
