@@ -18,8 +18,7 @@ import sys
 
 sys.dont_write_bytecode = True
 from compare import chart
-from studies import is_enforced
-from verdict import Chart
+from verdict import Chart, is_enforced
 
 QUEUES = ("pair", "mailbox", "single")
 

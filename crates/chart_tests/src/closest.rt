@@ -8,7 +8,7 @@ use example_charts::{
 };
 use msc_chart::{Chart, Event, Queues};
 use msc_race::Enforced;
-use msc_reason::{KindSet, LeftOut, Listing, Stream};
+use msc_reason::{KindSet, LeftOut, Listing, Pairs, Stream};
 
 /// An output between two inputs of one queue, which are taken in the order in which they were not
 /// sent: the later input always comes first, and before the output.
@@ -48,20 +48,15 @@ fn listed(rt: &impl Host, listing: &Listing) -> Vec<(Event, Event)> {
     list
 }
 
-/// The closest races of a chart that are not accepted, whatever their kinds.
-fn near_without(rt: &impl Host, enforced: Enforced, accepted: &[bool]) -> Vec<(Event, Event)> {
-    let left_out = LeftOut {
-        kinds: KindSet::NONE,
-        accepted,
-        width: enforced.events(),
-    };
+/// The closest races of a chart that are not left out.
+fn near_without(rt: &impl Host, enforced: Enforced, left_out: LeftOut) -> Vec<(Event, Event)> {
     let listing = Listing::of(rt.alloc(), enforced, left_out, true).expect(rt, "memory");
     listed(rt, &listing)
 }
 
 /// The closest races of a chart, whatever their kinds.
 fn near_of(rt: &impl Host, enforced: Enforced) -> Vec<(Event, Event)> {
-    near_without(rt, enforced, &[])
+    near_without(rt, enforced, LeftOut::of_kinds(KindSet::NONE))
 }
 
 /// Whether these are the closest races of a chart under an architecture.
@@ -135,21 +130,23 @@ fn two_streams_have_one_closest_race(rt: HostRuntime) {
     }
 }
 
-/// Of the pairs of the six events of `OUTPUT_BETWEEN`, row by row, (3, 4) alone.
-const ONE_ACCEPTED: &[bool] = &[
-    false, false, false, false, false, false, // 0
-    false, false, false, false, false, false, // 1
-    false, false, false, false, false, false, // 2
-    false, false, false, false, true, false, // 3
-    false, false, false, false, false, false, // 4
-    false, false, false, false, false, false, // 5
-];
+/// The pair (3, 4) of the six events of `OUTPUT_BETWEEN`, as it is accepted.
+fn one_accepted(rt: &impl Host) -> Pairs {
+    let mut pairs = Pairs::none(rt.alloc(), 6).expect(rt, "memory");
+    pairs.put(3, 4);
+    pairs
+}
 
 /// The closest races of that chart beside the one that is accepted.
 fn beside_the_accepted(rt: &impl Host) -> Vec<(Event, Event)> {
     let chart = chart_of(rt, OUTPUT_BETWEEN);
     let enforced = Enforced::of(rt.alloc(), &chart, Queues::Pair).expect(rt, "an order");
-    near_without(rt, enforced, ONE_ACCEPTED)
+    let pairs = one_accepted(rt);
+    let left_out = LeftOut {
+        kinds: KindSet::NONE,
+        accepted: Some(&pairs),
+    };
+    near_without(rt, enforced, left_out)
 }
 
 // (2, 4) spans it, and is a closest race once it does not count.
