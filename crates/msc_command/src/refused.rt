@@ -1,10 +1,11 @@
 //! A refusal as lines for editors, on the output: its fixed line at its place, each note at its own,
 //! and the further faults in the same way.
 
-ghost use Rattle.std.specs.Prelude.{◌≡◌, ℕ, List, Option, ◌++◌, IfOk, OnOk};
+ghost use Rattle.std.specs.Prelude.{◌≡◌, ℕ, List, [], Option, ◌++◌, IfOk, OnOk};
 ghost use Rattle.msc_command.specs.Ending.{refusal_line};
 ghost use Rattle.msc_command.specs.Extending.{BeginsSo, Extends};
 ghost use Rattle.msc_command.specs.Refused.{mark_place, IsRefusalText};
+ghost use Rattle.msc_parser.specs.Parsing.{HasDraft};
 
 use crate::ending::{Refusal, write_refusal};
 use msc_chart::ChartFault;
@@ -13,7 +14,7 @@ use msc_mark::MarkFault;
 use msc_notes::writing::{write_error, write_note_line};
 use msc_notes::{Note, Told, ToldFault, tell_chart, tell_further, tell_parse};
 use msc_parser::laws::one_parsing;
-use msc_parser::{ParseFault, parse};
+use msc_parser::{Draft, ParseFault, parse};
 use msc_place::{Lines, Places};
 use msc_report::Fault;
 use std::alloc::{AllocError, Global};
@@ -118,46 +119,6 @@ fn parse_lines(
     Ok(page)
 }
 
-/// The lines of the first fault of a text's draft, and of the further ones.
-fn chart_lines(
-    alloc: Global,
-    file: &str,
-    text: &[u8],
-    fault: ChartFault,
-) -> Result<Page, AllocError>
-    ensures { IfOk result (λ page. IsRefusalText file.now text.now
-        (Refusal.Fault (Fault.Chart fault)) page.bytes.items) }
-{
-    one_parsing();
-    let lines = Lines::of(alloc, text)?;
-    let refusal = Refusal::Fault(Fault::Chart(fault));
-    let mut page = Page::new(alloc);
-    let draft = match parse(alloc, text) {
-        Ok(draft) => draft,
-        Err(ParseFault::Memory) => return Err(AllocError),
-        Err(_) => {
-            put_error(&mut page, file, &lines, None, refusal)?;
-            return Ok(page);
-        }
-    };
-    let places = Places::of(alloc, text)?;
-    let told = tell_chart(alloc, &draft, &places, fault)?;
-    put_told(&mut page, file, &lines, &told, refusal)?;
-    let further = tell_further(alloc, &draft, &places, fault)?;
-    put_further(&mut page, file, &lines, further.first.as_slice())?;
-    Ok(page)
-}
-
-/// The place of a faulty comment.
-pub(crate) fn mark_place(fault: MarkFault) -> Option<usize>
-    ensures { result ≡ mark_place fault }
-{
-    match fault {
-        MarkFault::Part(at) | MarkFault::Reason(at) => Some(at),
-        MarkFault::Memory => None,
-    }
-}
-
 /// The line of a refusal that stands at this place, if it has one.
 fn bare_lines(
     alloc: Global,
@@ -173,6 +134,57 @@ fn bare_lines(
     let mut page = Page::new(alloc);
     put_error(&mut page, file, &lines, place, refusal)?;
     Ok(page)
+}
+
+/// The lines of a fault of a text's draft, and of the further ones.
+fn draft_lines(
+    alloc: Global,
+    file: &str,
+    text: &[u8],
+    draft: &Draft,
+    fault: ChartFault,
+) -> Result<Page, AllocError>
+    requires { HasDraft text.now draft.now }
+    ensures { IfOk result (λ page. IsRefusalText file.now text.now
+        (Refusal.Fault (Fault.Chart fault)) page.bytes.items) }
+{
+    one_parsing();
+    let lines = Lines::of(alloc, text)?;
+    let places = Places::of(alloc, text)?;
+    let told = tell_chart(alloc, draft, &places, fault)?;
+    let mut page = Page::new(alloc);
+    let refusal = Refusal::Fault(Fault::Chart(fault));
+    put_told(&mut page, file, &lines, &told, refusal)?;
+    let further = tell_further(alloc, draft, &places, fault)?;
+    put_further(&mut page, file, &lines, further.first.as_slice())?;
+    Ok(page)
+}
+
+/// The lines of the first fault of a text's draft, and of the further ones. A text that has such a
+/// fault has a draft: it is only memory that can run out where it is read again.
+fn chart_lines(
+    alloc: Global,
+    file: &str,
+    text: &[u8],
+    fault: ChartFault,
+) -> Result<Page, AllocError>
+    ensures { IfOk result (λ page. IsRefusalText file.now text.now
+        (Refusal.Fault (Fault.Chart fault)) page.bytes.items) }
+{
+    let Ok(draft) = parse(alloc, text) else {
+        return Err(AllocError);
+    };
+    draft_lines(alloc, file, text, &draft, fault)
+}
+
+/// The place of a faulty comment.
+pub(crate) fn mark_place(fault: MarkFault) -> Option<usize>
+    ensures { result ≡ mark_place fault }
+{
+    match fault {
+        MarkFault::Part(at) | MarkFault::Reason(at) => Some(at),
+        MarkFault::Memory => None,
+    }
 }
 
 /// The lines of a refusal of the text of a file of this name. An error is a growth of memory that

@@ -1,1 +1,0 @@
-use Rattle.msc_command.proofs.answering.quiet.Goals as goal
