@@ -114,7 +114,6 @@ module _ {W : Type 0} (contents : W → Option (List ℕ)) where
   told_quietly queues allowed accept file s (Err (refusals.Pair f)) now says = absurd says
   told_quietly queues allowed accept file s (Err (refusals.Mark f)) now says = (says, refl)
 
-
   -- a chart that was not run is answered so
   pub not_run : (queues : Queues) (patience : ℕ) (file : List ℕ) (s : SourceText) (f : RunFault) (now : W)
       → ((i : ℕ) → f ≡ runs.NotStarted i → i < length s.chart.instances)

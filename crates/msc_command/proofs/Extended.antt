@@ -30,6 +30,6 @@ told_more file text refusal place its mid new (more, (p, stands, is_mid)) (rest,
   stands = stands;
   more = more ++ rest;
   printed_is = is_new ∙ (ap (λ xs. xs ++ rest) is_mid
-    ∙ (append_assoc (error_text file p) (refusal_line refusal ++ more) rest
+      ∙ (append_assoc (error_text file p) (refusal_line refusal ++ more) rest
       ∙ ap (λ xs. error_text file p ++ xs) (append_assoc (refusal_line refusal) more rest)));
 }

@@ -110,7 +110,14 @@ fn check<O: Write>(
         }
         Form::Lines => {
             let sites = Sites::of(alloc, file.as_bytes(), source.text())?;
-            check_in(alloc, checking, marks, Format::Editor(&sites), source, output)
+            check_in(
+                alloc,
+                checking,
+                marks,
+                Format::Editor(&sites),
+                source,
+                output,
+            )
         }
     }
 }

@@ -6,11 +6,7 @@ use msc_mark::{MarkFault, Marks};
 use std::alloc::Global;
 
 /// The marks of a text, where they are asked.
-pub(crate) fn marks_of(
-    alloc: Global,
-    accept: bool,
-    text: &[u8],
-) -> Result<Option<Marks>, MarkFault>
+pub(crate) fn marks_of(alloc: Global, accept: bool, text: &[u8]) -> Result<Option<Marks>, MarkFault>
     ensures { ReadsMarks accept text.now result }
 {
     if !accept {

@@ -56,12 +56,7 @@ fn put_note(
 }
 
 /// Puts what was told of a fault behind a page, beside its line: its notes.
-fn put_notes(
-    page: &mut Page,
-    file: &str,
-    lines: &Lines<'_>,
-    told: &Told,
-) -> Result<(), AllocError>
+fn put_notes(page: &mut Page, file: &str, lines: &Lines<'_>, told: &Told) -> Result<(), AllocError>
     ensures { OnOk result (Extends page.old.bytes.items page.new.bytes.items) }
 {
     for note in told.notes.as_slice() {

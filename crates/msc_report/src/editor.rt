@@ -152,12 +152,7 @@ impl<'s> Renderer for Editor<'s> {
         }
     }
 
-    fn put_end(
-        &self,
-        page: &mut Page,
-        chart: &Chart,
-        stale: &[Event],
-    ) -> Result<(), AllocError> {
+    fn put_end(&self, page: &mut Page, chart: &Chart, stale: &[Event]) -> Result<(), AllocError> {
         match write_stale_warnings(page, chart, self.sites, stale) {
             Ok(()) => Ok(()),
             Err(_) => Err(AllocError),

@@ -344,12 +344,7 @@ impl<'s> Renderer for Lines<'s> {
         Ok(())
     }
 
-    fn put_end(
-        &self,
-        page: &mut Page,
-        chart: &Chart,
-        stale: &[Event],
-    ) -> Result<(), AllocError> {
+    fn put_end(&self, page: &mut Page, chart: &Chart, stale: &[Event]) -> Result<(), AllocError> {
         match write_stale_lines(page, chart, self.style.sites, stale) {
             Ok(()) => Ok(()),
             Err(_) => Err(AllocError),

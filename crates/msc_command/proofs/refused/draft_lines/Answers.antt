@@ -14,6 +14,6 @@ returns c =
     let refusal = refusals.Fault (Chart c.args.fault) in
     let drafted = rw c.in_ok-places.ensures at c.in_ok-told.ensures.place in
     let its : IsPlaceOf text refusal place =
-      λ t has. subst (λ (u : Tree). IsChartPlace text u c.args.fault place) (c.one_parsing.ensures.draft text c.args.draft.now t c.requires has) (drafted c.requires) in
+    λ t has. subst (λ (u : Tree). IsChartPlace text u c.args.fault place) (c.one_parsing.ensures.draft text c.args.draft.now t c.requires has) (drafted c.requires) in
     let put = rw (c.in_ok-lines.ensures, c.new-page.ensures) at c.in_ok-put_told.ensures in
     told_more c.args.file.now text refusal place its _ _ put c.in_ok-put_further.ensures
