@@ -151,7 +151,8 @@ def marked(pick, text):
     for i, token in enumerate(tokens):
         if token.lower() in ("out", "in", "action", "instance", "concurrent"):
             word = token.lower()
-        bare = token == ";" and tokens[max(i - 2, 0)].lower() != "comment"
+        before = "".join(tokens[max(i - 3, 0):i]).lower()
+        bare = token == ";" and not re.search(r"comment\s*'", before)
         if bare and word in ("out", "in", "action", "instance") and pick.random() < share:
             other = pick.choice(["race", "", "a race ok: x"])
             said = other if pick.random() < 0.1 else mark(pick, faulty)

@@ -262,9 +262,14 @@ Kinds of races:
   unordered  two inputs by one queue, and nothing orders their outputs
   overtaken  two inputs by one queue, whose outputs come in the other order
 
+A mark is a comment of an event that says which of its races are meant, and why:
+  comment 'race ok: REASON'
+  comment 'race ok in pair, single with ID; ID: REASON'
+Without `in` it is for all architectures, without `with` for all other events.
+
 Exit status:
-  0  the chart has no races that count
-  1  the chart has races that count
+  0  the chart has no races that count, and with --accept no mark that accepts none
+  1  the chart has races that count, or with --accept a mark that accepts none
   2  the text was refused, or the words are no command
   4  memory ran out, or a file or the output failed
 
