@@ -92,7 +92,8 @@ fn races_that_are_accepted_and_short_runs(rt: HostRuntime) {
 const REFUSED: &[(&[u8], &[u8], &[u8])] = &[
     (
         b"msc t;",
-        b"-:1:7: error: grammar fault 3 at 6: expected a section\n",
+        b"-:1:7: error: grammar fault 3 at 6: expected a section\n\
+-:1:7: note: found the end of the text\n",
         b"grammar fault 3 at 6: expected a section\n",
     ),
     (
