@@ -208,6 +208,7 @@ impl<'t, 'a, R: Renderer> Teller<'t, 'a, R> {
 
     /// Puts a race behind a page, behind so many; `line` is what was made of the run that shows it,
     /// where it is shown.
+    #[inline(always)]
     fn put_race(
         &self,
         page: &mut Page,
@@ -232,6 +233,30 @@ impl<'t, 'a, R: Renderer> Teller<'t, 'a, R> {
         let shown = shown_line(line, number < self.question.show);
         let chart = self.listing.enforced().chart();
         self.renderer.put_finding(page, chart, finding, shown)
+    }
+
+    /// Puts a race behind a page, behind so many, with what is made of its short run; apart from the
+    /// loop over races, which few need it in.
+    #[inline(never)]
+    fn put_own(
+        &self,
+        alloc: Global,
+        page: &mut Page,
+        race: (Event, Event),
+        number: u32,
+    ) -> Result<(), AllocError>
+        requires fits { R.fits self.now.renderer.now self.now.listing.now.judged.chart }
+        requires race { IsRace (wiring_of self.now.listing.now.judged) race.0 race.1 }
+        requires short { self.now.question.short ≡ true }
+        ensures { OnOk result ((runs : ℕ × ℕ → List ℕ)
+            → AreShown self.now.question.short (wiring_of self.now.listing.now.judged) runs
+            → page.new.bytes.items ≡ page.old.bytes.items ++ race_text
+            (texts R.heading_text R.run_text R.finding_text R.end_text
+            self.now.renderer.now self.now.listing.now.judged.chart)
+            self.now.listing.now.judged self.now.question runs number race) }
+    {
+        let own = self.short_line(alloc, race)?;
+        self.put_race(page, race, number, own.as_slice())
     }
 
     /// Puts a race behind a page, where it is one of the first, behind so many; `line` is what was
@@ -262,8 +287,7 @@ impl<'t, 'a, R: Renderer> Teller<'t, 'a, R> {
             return Ok(());
         }
         if self.question.short && number < self.question.show {
-            let own = self.short_line(alloc, race)?;
-            return self.put_race(page, race, number, own.as_slice());
+            return self.put_own(alloc, page, race, number);
         }
         self.put_race(page, race, number, line)
     }
