@@ -328,6 +328,7 @@ impl<'s> Renderer for Lines<'s> {
         self.numbered_run(alloc, run)
     }
 
+    #[inline(always)]
     fn put_finding(
         &self,
         page: &mut Page,
