@@ -1,0 +1,4 @@
+pub mod Forms
+pub mod Verdicts
+pub mod Pictures
+pub mod Faults

@@ -1,0 +1,15 @@
+mod Events
+mod Following
+mod Drawing
+mod Wholes
+mod Ranges
+mod Parts
+mod Lines
+mod RunWitness
+mod RowLemmas
+mod RunOrder
+mod RunLaws
+mod Reaching
+mod Standing
+mod MarkLemmas
+mod BandLemmas

@@ -1,0 +1,3 @@
+mod Lines
+mod Nesting
+mod Escapes
