@@ -2,14 +2,14 @@ mod Events
 mod Following
 mod Drawing
 mod Wholes
-mod Ranges
+pub mod Ranges
 mod Parts
 mod Lines
 mod RunWitness
 mod RowLemmas
 mod RunOrder
 mod RunLaws
-mod Reaching
+pub mod Reaching
 mod Standing
-mod MarkLemmas
+pub mod MarkLemmas
 mod BandLemmas

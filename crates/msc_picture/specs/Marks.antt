@@ -54,8 +54,3 @@ mark_at events pairs e =
 -- the marks of these pairs, which are numbered from 1: one for each segment that pairs lead from
 abbrev pub marks_of : List ChartEvent → List (ℕ × ℕ) → List Mark
 marks_of events pairs = flat_map (mark_at events pairs) (range_with_len 0 (length events))
-
--- both places are below k, where there are any
-abbrev pub IsWithin : ℕ → Option (ℕ × ℕ) → Type 0
-IsWithin k None = Unit {0}
-IsWithin k (Some p) = (p.0 < k) × (p.1 < k)

@@ -16,6 +16,7 @@ use Rattle.msc_picture.specs.declared.scene.Act.{Act}
 use Rattle.msc_picture.specs.declared.scene.Act.TheVariants.{Sends, Takes, Does}
 use Rattle.msc_picture.specs.declared.scene.Arrow.{Arrow}
 use Rattle.msc_picture.specs.declared.scene.Head.{Head}
+use Rattle.msc_picture.specs.declared.scene.Mark.{Mark}
 use Rattle.msc_picture.specs.declared.scene.Scene.{Scene}
 use Rattle.msc_picture.specs.declared.scene.Spot.{Spot}
 use Rattle.msc_picture.specs.Frames.{chart_frame, IsDrawingOrder}
@@ -92,6 +93,12 @@ pub record IsLaidOut (d : Drawing) (closest : List (ℕ × ℕ)) (s : Scene) : T
 pub record IsSceneOf (draft : Tree) (d : Drawing) (closest : List (ℕ × ℕ)) (s : Scene) : Type 0 where
   pub shows : IsPopulated draft d s
   pub laid_out : IsLaidOut d closest s
+
+-- the picture of the chart of a draft with these marks: of whatever races they are the marks, it is
+-- the picture with those as closest ones
+abbrev pub IsMarkedSceneOf : Tree → Drawing → List Mark → Scene → Type 0
+IsMarkedSceneOf draft d marks s =
+    (closest : List (ℕ × ℕ)) → marks ≡ marks_of d.events closest → IsSceneOf draft d closest s
 
 -- the rows and the mark of a run of a chart under an architecture that reverses the race (e, f) of this
 -- number; there are no bands

@@ -8,7 +8,6 @@ mod band;
 mod columns;
 mod frame;
 pub mod laws;
-mod mark;
 mod ordering;
 mod part;
 mod piece;
@@ -18,6 +17,7 @@ mod run;
 mod scene;
 mod text;
 
+pub use band::{begins_segment, grow};
 pub use columns::plus;
 pub use ordering::drawing_order;
 pub use run::run_order;

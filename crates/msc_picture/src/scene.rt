@@ -5,11 +5,9 @@ ghost use Rattle.msc_chart.specs.Runs.{IsWhole, Run};
 ghost use Rattle.msc_chart.specs.Wirings.{size, wired_by};
 ghost use Rattle.msc_picture.specs.RunFrames.{run_mark};
 ghost use Rattle.msc_chart.specs.Drawings.{chart_of};
-ghost use Rattle.msc_picture.specs.Marks.{AreDrawnPairs};
-ghost use Rattle.msc_picture.specs.Scenes.{IsRunSceneOf, IsSceneOf};
+ghost use Rattle.msc_picture.specs.Scenes.{IsMarkedSceneOf, IsRunSceneOf};
 
 use crate::band::bands_of;
-use crate::mark::marks_of;
 use crate::ordering::drawing_order;
 use crate::part::{arrows_of, heads_of, spots_of};
 use crate::row::rows_of;
@@ -91,17 +89,18 @@ pub struct Scene {
     pub marks: Listed<Mark>,
 }
 
-/// The picture of a chart, with marks of these closest races, each a pair of events. An error is a
-/// growth of memory that was refused.
+/// The picture of a chart, with the marks of its closest races. An error is a growth of memory that
+/// was refused.
 pub fn chart_scene(
     alloc: Global,
     draft: &Draft,
     chart: &Chart,
-    closest: &[(Event, Event)],
+    marks: Listed<Mark>,
 ) -> Result<Scene, AllocError>
-    requires drawn { chart.now ≡ chart_of draft.now }
-    requires races { AreDrawnPairs chart.now.events closest.now }
-    ensures { IfOk result (IsSceneOf draft.now chart.now closest.now) }
+    requires { chart.now ≡ chart_of draft.now }
+
+    // The marks tell the races that they are made of.
+    ensures { IfOk result (IsMarkedSceneOf draft.now chart.now marks) }
 {
     let order = drawing_order(alloc, chart)?;
     let rows = rows_of(alloc, chart, &order)?;
@@ -113,7 +112,7 @@ pub fn chart_scene(
         spots: spots_of(alloc, chart)?,
         rows: Listed::from_vec(rows),
         bands: Listed::from_vec(bands),
-        marks: marks_of(alloc, chart, closest)?,
+        marks,
     })
 }
 
