@@ -1,7 +1,7 @@
 -- Axes and rows stand apart.
-use Rattle.std.proofs.Common.{◌≡◌, ℕ, zero, suc, ◌+◌, ◌-◌, ◌*◌, ◌≤◌, ◌<◌, Bool, cond, true, false, max, List, [], ◌∷◌, Option, None, Some, length, get_or, map, refl, sym, ap, subst, ◌∙◌, length-map, arith}
+use Rattle.std.proofs.Common.{◌≡◌, ℕ, zero, suc, ◌+◌, ◌-◌, ◌*◌, ◌≤◌, ◌<◌, Bool, cond, true, false, max, List, [], ◌∷◌, Option, None, Some, length, get_or, refl, sym, ap, subst, ◌∙◌, arith}
 use Rattle.std.specs.Prelude.{slice_get}
-use Rattle.std.proofs.lemmas.List.{get_or-map}
+use Rattle.std.proofs.lemmas.List.{get_or-map, length-map}
 use Rattle.std.proofs.lemmas.List.FromFn.{get_or-map-range_with_len, length-map-range_with_len}
 use Rattle.msc_picture.specs.declared.scene.Act.{Act}
 use Rattle.msc_picture.specs.declared.scene.Act.TheVariants.{Sends, Takes, Does}
@@ -41,7 +41,7 @@ axes_apart s heading i below =
     let long : length steps ≡ many = length-map-range_with_len (gap s (depths_of s)) 0 many in
     let inside : i < many = omega (arith, below) in
     let is : get_or steps i 0 ≡ gap s (depths_of s) i =
-        get_or-map-range_with_len (gap s (depths_of s)) 0 many i i 0 inside (omega arith) in
+    get_or-map-range_with_len (gap s (depths_of s)) 0 many i i 0 inside (omega arith) in
     let wide : 112 ≤ gap s (depths_of s) i = at_least _ _ _ _ in
     sums_apart _ steps i 112 (subst (λ (n : ℕ). i < n) (sym long) inside)
     (subst (λ (n : ℕ). 112 ≤ n) (sym is) wide)
@@ -74,9 +74,9 @@ pub rows_apart : (s : Scene) (heading : List (List ℕ)) (r : ℕ) → r < lengt
 rows_apart s heading r below =
     let numbers = row_numbers s in
     let steps = row_heights s numbers in
-    let long : length steps ≡ length s.rows = length-map (row_height s numbers) s.rows in
+    let long : length steps ≡ length s.rows = length-map s.rows (row_height s numbers) in
     let is : get_or steps r 0 ≡ row_height s numbers (get_or s.rows r (row_of_one 0)) =
-        get_or-map (row_height s numbers) s.rows r (row_of_one 0) 0 below in
+    get_or-map (row_height s numbers) s.rows r (row_of_one 0) 0 below in
     let high : 32 ≤ row_height s numbers (get_or s.rows r (row_of_one 0)) = spot_high s numbers _ in
     sums_apart _ steps r 32 (subst (λ (n : ℕ). r < n) (sym long) below)
     (subst (λ (n : ℕ). 32 ≤ n) (sym is) high)

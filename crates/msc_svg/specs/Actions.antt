@@ -1,5 +1,5 @@
 -- The boxes of actions: how their texts are laid into lines, and how much room they take.
-use Rattle.std.specs.Prelude.{ℕ, ◌+◌, ◌*◌, Bool, true, false, ◌&&◌, ◌||◌, not, cond, max, List, [], ◌∷◌, ◌++◌, codes, fold, get_or, length, nat_eq, nat_lt, take}
+use Rattle.std.specs.Prelude.{ℕ, ◌+◌, ◌*◌, Bool, true, false, ◌||◌, not, cond, max, List, [], ◌∷◌, ◌++◌, codes, fold, get_or, length, nat_eq, nat_lt, take}
 use Rattle.msc_svg.specs.declared.action.ActionBox.{ActionBox}
 use Rattle.msc_svg.specs.declared.action.WordPart.{WordPart}
 

@@ -68,6 +68,10 @@ abbrev pub comes_from_right : Option Arrow → Bool
 comes_from_right None = false
 comes_from_right (Some a) = not (nat_lt a.from a.to)
 
+-- the number of the input e of message m, on instance i
+abbrev pub taken_number : Scene → Layout → ℕ → ℕ → ℕ → Caption
+taken_number s l e i m = end_number s l e i (comes_from_right (slice_get s.arrows m))
+
 -- the number of the action e of instance i, which has this text
 abbrev pub action_number : Layout → ℕ → ℕ → List ℕ → Caption
 action_number l e i text =
@@ -79,7 +83,7 @@ act_captions s l e i (Sends m) =
     label_of l (slice_get s.arrows m)
     ++ end_number s l e i (goes_right (slice_get s.arrows m)) ∷ []
 act_captions s l e i (Takes m) =
-    end_number s l e i (comes_from_right (slice_get s.arrows m)) ∷ []
+    taken_number s l e i m ∷ []
 act_captions s l e i (Does text) = action_number l e i text ∷ []
 
 -- the same of an event, if there is one

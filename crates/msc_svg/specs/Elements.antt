@@ -1,5 +1,5 @@
 -- The elements of a picture, in their order.
-use Rattle.std.specs.Prelude.{ℕ, ◌+◌, ◌-◌, ◌*◌, ◌/◌, Bool, cond, List, [], ◌∷◌, ◌++◌, Option, None, Some, codes, fold, get_or, length, map, nat_eq, slice_get}
+use Rattle.std.specs.Prelude.{ℕ, ◌+◌, ◌-◌, ◌*◌, ◌/◌, Bool, cond, List, [], ◌∷◌, ◌++◌, Option, None, Some, codes, get_or, length, map, nat_eq, slice_get}
 use Rattle.std.specs.Fmt.{decimal}
 use Rattle.std.specs.List.{flat_map, list_any, range_with_len}
 use Rattle.msc_picture.specs.declared.scene.Act.{Act}
@@ -95,11 +95,17 @@ name_node l x h = text_at (codes "name") x (l.top + name_drop l h) h.name
 abbrev pub head_nodes : Layout → ℕ → ℕ → Head → List Node
 head_nodes l x w h = head_rect l x w ∷ name_node l x h ∷ kind_nodes l x h
 
+-- an axis without its stretches
+abbrev pub axis_node : Layout → ℕ → List (ℕ × ℕ) → Node
+axis_node l x bands = path (codes "axis") (axis_from x l.below bands l.foot)
+
+-- the foot of an axis
+abbrev pub foot_node : Layout → ℕ → Node
+foot_node l x = rect (codes "foot") (area (x - 12) l.foot 24 6) 0
+
 -- an axis with its stretches, and its foot
 abbrev pub axis_nodes : Layout → ℕ → List (ℕ × ℕ) → List Node
-axis_nodes l x bands =
-    (path (codes "axis") (axis_from x l.below bands l.foot) ∷ open_nodes x bands)
-    ++ rect (codes "foot") (area (x - 12) l.foot 24 6) 0 ∷ []
+axis_nodes l x bands = (axis_node l x bands ∷ open_nodes x bands) ++ foot_node l x ∷ []
 
 -- instance i
 abbrev pub instance_nodes : Scene → Layout → ℕ → List Node
@@ -127,13 +133,23 @@ abbrev pub capsule : ℕ → ℕ → ℕ → Node
 capsule x least most =
     rect (codes "race") (area (x - 9) (least - 9) 18 ((most - least) + 18)) 9
 
+-- the least place of the events of a mark
+abbrev pub mark_top : Scene → Layout → Mark → ℕ
+mark_top s l mark = least_place s l (least_place s l l.foot mark.upper) mark.lower
+
+-- the greatest place of the events of a mark
+abbrev pub mark_end : Scene → Layout → Mark → ℕ
+mark_end s l mark = greatest_place s l (greatest_place s l 0 mark.upper) mark.lower
+
+-- the capsule of a mark
+abbrev pub capsule_of : Scene → Layout → Mark → Node
+capsule_of s l mark = capsule (axis l mark.instance) (mark_top s l mark) (mark_end s l mark)
+
 -- a mark
 abbrev pub mark_nodes : Scene → Layout → Mark → List Node
 mark_nodes s l mark =
     let x = axis l mark.instance in
-    let least = least_place s l (least_place s l l.foot mark.upper) mark.lower in
-    let most = greatest_place s l (greatest_place s l 0 mark.upper) mark.lower in
-    capsule x least most ∷ (ends_at s l x mark.upper ++ ends_at s l x mark.lower)
+    capsule_of s l mark ∷ (ends_at s l x mark.upper ++ ends_at s l x mark.lower)
 
 -- the arrow of a message to oneself
 abbrev pub own_path : Scene → Layout → Arrow → List ℕ
@@ -202,14 +218,15 @@ count_text mark =
     cond (nat_eq mark.first mark.last) (decimal mark.first)
     ((decimal mark.first ++ codes "-") ++ decimal mark.last)
 
--- the plate of a badge so wide to both sides of its axis, where lower events begin
+-- the plate of a badge with a text so long, where lower events begin
 abbrev pub count_rect : ℕ → ℕ → ℕ → Node
-count_rect x z v = rect (codes "count") (area (x - v) (z - 10) (2 * v) 15) 7
+count_rect x z long =
+    let v = 3 * long + 5 in rect (codes "count") (area (x - v) (z - 10) (2 * v) 15) 7
 
 -- the badge of a text on an axis, where lower events begin
 abbrev pub badge_nodes : ℕ → ℕ → List ℕ → List Node
 badge_nodes x z t =
-    count_rect x z (3 * length t + 5) ∷ text_at (codes "badge") x (z + 1) t ∷ []
+    count_rect x z (length t) ∷ text_at (codes "badge") x (z + 1) t ∷ []
 
 -- the badge of a mark with a number
 abbrev pub badge_of : Layout → Mark → List Node

@@ -1,5 +1,5 @@
 -- Where rows and events stand in a layout.
-use Rattle.std.specs.Prelude.{ℕ, ◌+◌, ◌-◌, ◌/◌, Bool, cond, max, min, List, Option, None, Some, fold, slice_get}
+use Rattle.std.specs.Prelude.{ℕ, ◌+◌, ◌-◌, ◌/◌, cond, max, min, List, Option, None, Some, fold, slice_get}
 use Rattle.msc_picture.specs.declared.scene.Act.{Act}
 use Rattle.msc_picture.specs.declared.scene.Act.TheVariants.{Sends, Takes, Does}
 use Rattle.msc_picture.specs.declared.scene.Scene.{Scene}

@@ -54,12 +54,17 @@ tip =
 abbrev pub view_box : Layout → List ℕ
 view_box l = ((codes "0 0 " ++ decimal l.width) ++ codes " ") ++ decimal l.height
 
+-- how large a picture is, and which part of the plane it shows
+abbrev pub size_attributes : Layout → List Attribute
+size_attributes l =
+    numbered (codes "width") l.width ∷ numbered (codes "height") l.height
+    ∷ valued (codes "viewBox") (view_box l) ∷ []
+
 -- the attributes of the whole
 abbrev pub svg_attributes : Layout → List Attribute
 svg_attributes l =
-    valued (codes "xmlns") (codes "http://www.w3.org/2000/svg") ∷ numbered (codes "width") l.width
-    ∷ numbered (codes "height") l.height ∷ valued (codes "viewBox") (view_box l)
-    ∷ valued (codes "role") (codes "img") ∷ []
+    (valued (codes "xmlns") (codes "http://www.w3.org/2000/svg") ∷ size_attributes l)
+    ++ valued (codes "role") (codes "img") ∷ []
 
 -- the card that a picture stands on
 abbrev pub card : Layout → Node

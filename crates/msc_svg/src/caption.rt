@@ -9,7 +9,8 @@ ghost use Rattle.msc_svg.specs.Captions.{act_captions, action_number, arrow_labe
 ghost use Rattle.msc_svg.specs.Captions.{caption_node, caption_plate, caption_width, captions_of};
 ghost use Rattle.msc_svg.specs.Captions.{comes_from_right, end_number, gap_middle, goes_right, label};
 ghost use Rattle.msc_svg.specs.Captions.{label_class, label_of, number, other_label, plate, plates};
-ghost use Rattle.msc_svg.specs.Captions.{spot_captions};
+ghost use Rattle.msc_svg.specs.Captions.{spot_captions, taken_number};
+ghost use Rattle.msc_picture.specs.declared.scene.Act.{Act};
 ghost use Rattle.msc_tree.specs.Trees.{line_text, lines_text};
 
 use crate::action::action_box;
@@ -19,7 +20,7 @@ use crate::place::place;
 use listed::Listed;
 use msc_chart::Event;
 use msc_parser::Label;
-use msc_picture::{Act, Arrow, Scene, plus};
+use msc_picture::{Act, Arrow, Scene, Spot, plus};
 use msc_tree::{put_decimal, put_point, put_step, put_text_at};
 use std::alloc::{AllocError, Global};
 
@@ -42,13 +43,7 @@ pub struct Caption {
 }
 
 /// A label.
-fn label(
-    alloc: Global,
-    side: Side,
-    x: usize,
-    y: usize,
-    text: &[u8],
-) -> Result<Caption, AllocError>
+fn label(alloc: Global, side: Side, x: usize, y: usize, text: &[u8]) -> Result<Caption, AllocError>
     ensures { IfOk result (λ c. c ≡ label side x y text.now) }
 {
     Ok(Caption {
@@ -92,7 +87,13 @@ fn other_label(alloc: Global, layout: &Layout, a: &Arrow) -> Result<Caption, All
     let text = a.label.as_slice();
     let y = layout.event_middle(a.output)?.saturating_sub(6);
     if layout.row(a.output) == layout.row(a.input) {
-        return label(alloc, Side::Middle, gap_middle(layout, a.from, a.to)?, y, text);
+        return label(
+            alloc,
+            Side::Middle,
+            gap_middle(layout, a.from, a.to)?,
+            y,
+            text,
+        );
     }
     let x = layout.axis(a.from);
     if a.from < a.to {
@@ -188,7 +189,67 @@ fn action_number(
     number(alloc, Side::Right, x, y, e)
 }
 
+/// Puts the label of message `m`, and the number of its output `e` on instance `i`, behind the
+/// captions.
+fn put_sent(
+    captions: &mut Vec<Caption>,
+    alloc: Global,
+    scene: &Scene,
+    layout: &Layout,
+    e: Event,
+    i: u32,
+    m: u32,
+) -> Result<(), AllocError>
+    ensures { OnOk result (captions.new.items ≡ captions.old.items
+        ++ act_captions scene.now layout.now e i (Act.Sends m)) }
+{
+    put_label(captions, alloc, scene, layout, m)?;
+    let next = end_number(alloc, scene, layout, e, i, goes_right(scene, m))?;
+    captions.push(next)?;
+    Ok(())
+}
+
+/// The number of the input `e` of message `m` on instance `i`.
+fn taken_number(
+    alloc: Global,
+    scene: &Scene,
+    layout: &Layout,
+    e: Event,
+    i: u32,
+    m: u32,
+) -> Result<Caption, AllocError>
+    ensures { IfOk result (λ c. c ≡ taken_number scene.now layout.now e i m) }
+{
+    end_number(alloc, scene, layout, e, i, comes_from_right(scene, m))
+}
+
 /// Puts the label of an output and the number of event `e` behind the captions.
+fn put_act(
+    captions: &mut Vec<Caption>,
+    alloc: Global,
+    scene: &Scene,
+    layout: &Layout,
+    e: Event,
+    spot: &Spot,
+) -> Result<(), AllocError>
+    ensures { OnOk result (captions.new.items ≡ captions.old.items
+        ++ act_captions scene.now layout.now e spot.now.instance spot.now.act) }
+{
+    let i = spot.instance;
+    match &spot.act {
+        Act::Sends(m) => put_sent(captions, alloc, scene, layout, e, i, *m),
+        Act::Takes(m) => {
+            captions.push(taken_number(alloc, scene, layout, e, i, *m)?)?;
+            Ok(())
+        }
+        Act::Does(text) => {
+            captions.push(action_number(alloc, layout, e, i, text.as_slice())?)?;
+            Ok(())
+        }
+    }
+}
+
+/// The same of event `e`, if there is one.
 fn put_captions(
     captions: &mut Vec<Caption>,
     alloc: Global,
@@ -202,16 +263,7 @@ fn put_captions(
     let Some(spot) = scene.spots.as_slice().get(e as usize) else {
         return Ok(());
     };
-    let i = spot.instance;
-    let next = match &spot.act {
-        Act::Sends(m) => {
-            put_label(captions, alloc, scene, layout, *m)?;
-            end_number(alloc, scene, layout, e, i, goes_right(scene, *m))?
-        }
-        Act::Takes(m) => end_number(alloc, scene, layout, e, i, comes_from_right(scene, *m))?,
-        Act::Does(text) => action_number(alloc, layout, e, i, text.as_slice())?,
-    };
-    captions.push(next)?;
+    put_act(captions, alloc, scene, layout, e, spot)?;
     Ok(())
 }
 
@@ -313,7 +365,13 @@ fn put_caption_plate(d: &mut Vec<u8>, c: &Caption) -> Result<(), AllocError>
     if c.number {
         return put_plate(d, u, c.y.saturating_sub(8), w, 9);
     }
-    put_plate(d, u.saturating_sub(2), c.y.saturating_sub(11), plus(w, 4)?, 13)
+    put_plate(
+        d,
+        u.saturating_sub(2),
+        c.y.saturating_sub(11),
+        plus(w, 4)?,
+        13,
+    )
 }
 
 /// All plates.

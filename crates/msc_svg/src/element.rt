@@ -88,11 +88,7 @@ pub fn put_arrows(
 }
 
 /// Puts the plates behind a page, where there are events.
-pub fn put_plates(
-    page: &mut Vec<u8>,
-    alloc: Global,
-    captions: &[Caption],
-) -> Result<(), AllocError>
+pub fn put_plates(page: &mut Vec<u8>, alloc: Global, captions: &[Caption]) -> Result<(), AllocError>
     ensures { OnOk result
         (page.new.items ≡ page.old.items ++ lines_text (plate_nodes captions.now)) }
 {
@@ -119,7 +115,13 @@ fn put_words_at(
         return Ok(());
     }
     let below = plus(times(16, k)?, 16)?;
-    put_text_at(page, b"words", x, plus(y.saturating_sub(at.up), below)?, line)
+    put_text_at(
+        page,
+        b"words",
+        x,
+        plus(y.saturating_sub(at.up), below)?,
+        line,
+    )
 }
 
 /// Puts the lines of a box behind a page.
@@ -150,7 +152,11 @@ fn is_hit(scene: &Scene, e: Event) -> bool
 fn box_class(scene: &Scene, e: Event) -> &'static [u8]
     ensures { result.now ≡ box_class scene.now e }
 {
-    if is_hit(scene, e) { b"action hit" } else { b"action" }
+    if is_hit(scene, e) {
+        b"action hit"
+    } else {
+        b"action"
+    }
 }
 
 /// Puts a box behind a page.

@@ -4,7 +4,8 @@ ghost use Rattle.std.specs.Prelude.{◌≡◌, ◌<◌, ◌+◌, ◌*◌, ◌-�
 ghost use Rattle.std.specs.Prelude.{get_or, length, map, ℕ};
 ghost use Rattle.std.specs.List.{flat_map, range_with_len};
 ghost use Rattle.msc_picture.specs.Columns.{no_head};
-ghost use Rattle.msc_svg.specs.Elements.{area, axis_from, axis_nodes, head_nodes, heading_class};
+ghost use Rattle.msc_svg.specs.Elements.{area, axis_from, axis_node, axis_nodes, foot_node, head_nodes};
+ghost use Rattle.msc_svg.specs.Elements.{heading_class};
 ghost use Rattle.msc_svg.specs.Elements.{heading_node, heading_nodes, instance_nodes, kind_nodes};
 ghost use Rattle.msc_svg.specs.Elements.{head_rect, name_drop, name_node, open_nodes, open_path, stretch_at};
 ghost use Rattle.msc_svg.specs.Elements.{stretch_nodes, stretches, tick_path};
@@ -174,12 +175,7 @@ fn name_drop(layout: &Layout, head: &Head) -> Result<usize, AllocError>
 }
 
 /// Puts the kind of an instance behind a page, where it has one.
-fn put_kind(
-    page: &mut Vec<u8>,
-    layout: &Layout,
-    x: usize,
-    head: &Head,
-) -> Result<(), AllocError>
+fn put_kind(page: &mut Vec<u8>, layout: &Layout, x: usize, head: &Head) -> Result<(), AllocError>
     ensures { OnOk result
         (page.new.items ≡ page.old.items ++ lines_text (kind_nodes layout.now x head.now)) }
 {
@@ -229,6 +225,35 @@ fn put_head(
     put_kind(page, layout, x, head)
 }
 
+/// Puts an axis without its stretches behind a page.
+fn put_axis_path(
+    page: &mut Vec<u8>,
+    alloc: Global,
+    layout: &Layout,
+    x: usize,
+    bands: &[(usize, usize)],
+) -> Result<(), AllocError>
+    ensures { OnOk result
+        (page.new.items ≡ page.old.items ++ line_text (axis_node layout.now x bands.now)) }
+{
+    let d = axis_from(alloc, x, layout.below, bands, layout.foot)?;
+    put_path(page, b"axis", d.as_slice())
+}
+
+/// Puts the foot of an axis behind a page.
+fn put_foot(page: &mut Vec<u8>, layout: &Layout, x: usize) -> Result<(), AllocError>
+    ensures { OnOk result
+        (page.new.items ≡ page.old.items ++ line_text (foot_node layout.now x)) }
+{
+    let foot = Area {
+        x: x.saturating_sub(12),
+        y: layout.foot,
+        width: 24,
+        height: 6,
+    };
+    put_rect(page, b"foot", foot, 0)
+}
+
 /// Puts an axis with its stretches, and its foot, behind a page.
 fn put_axis(
     page: &mut Vec<u8>,
@@ -240,16 +265,10 @@ fn put_axis(
     ensures { OnOk result
         (page.new.items ≡ page.old.items ++ lines_text (axis_nodes layout.now x bands.now)) }
 {
-    let d = axis_from(alloc, x, layout.below, bands, layout.foot)?;
-    put_path(page, b"axis", d.as_slice())?;
+    put_axis_path(page, alloc, layout, x, bands)?;
     put_open(page, alloc, x, bands)?;
-    let foot = Area {
-        x: x.saturating_sub(12),
-        y: layout.foot,
-        width: 24,
-        height: 6,
-    };
-    put_rect(page, b"foot", foot, 0)
+    put_foot(page, layout, x)?;
+    Ok(())
 }
 
 /// Puts instance `i` behind a page.
@@ -268,7 +287,8 @@ fn put_instance(
     let w = half(scene, i)?;
     let bands = stretches(alloc, scene, layout, i)?;
     put_head(page, layout, x, w, &scene.heads.as_slice()[i])?;
-    put_axis(page, alloc, layout, x, bands.as_slice())
+    put_axis(page, alloc, layout, x, bands.as_slice())?;
+    Ok(())
 }
 
 /// Puts the instances behind a page.

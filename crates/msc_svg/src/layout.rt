@@ -59,12 +59,7 @@ fn sums(alloc: Global, start: usize, steps: &[usize]) -> Result<Listed<usize>, A
 }
 
 /// The width that the instances need.
-fn need(
-    alloc: Global,
-    scene: &Scene,
-    depths: &[usize],
-    gaps: &[usize],
-) -> Result<usize, AllocError>
+fn need(alloc: Global, scene: &Scene, depths: &[usize], gaps: &[usize]) -> Result<usize, AllocError>
     ensures { IfOk result (λ needed. needed ≡ need scene.now depths.now gaps.now) }
 {
     let many = scene.heads.as_slice().len();

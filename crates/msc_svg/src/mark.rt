@@ -4,10 +4,10 @@ ghost use Rattle.std.specs.Prelude.{◌≡◌, ◌+◌, ◌*◌, ◌-◌, ◌++�
 ghost use Rattle.std.specs.Prelude.{nat_eq, slice_get};
 ghost use Rattle.std.specs.Fmt.{decimal};
 ghost use Rattle.std.specs.List.{flat_map};
-ghost use Rattle.msc_svg.specs.Elements.{area, badge_nodes, badge_of, capsule, count_rect, count_text};
-ghost use Rattle.msc_svg.specs.Elements.{end_at, ends_at, mark_nodes};
+ghost use Rattle.msc_svg.specs.Elements.{area, badge_nodes, badge_of, capsule, capsule_of, count_rect};
+ghost use Rattle.msc_svg.specs.Elements.{count_text, end_at, ends_at, mark_end, mark_nodes, mark_top};
 ghost use Rattle.msc_svg.specs.Places.{place};
-ghost use Rattle.msc_tree.specs.Shapes.{end_circle};
+ghost use Rattle.msc_tree.specs.Shapes.{end_circle, text_at};
 ghost use Rattle.msc_tree.specs.Trees.{line_text, lines_text};
 
 use crate::layout::Layout;
@@ -71,7 +71,7 @@ fn put_ends(
     Ok(())
 }
 
-/// Puts a capsule around an axis behind a page.
+/// Puts a capsule around an axis behind a page, from the least to the greatest of these places.
 fn put_capsule(page: &mut Vec<u8>, x: usize, least: usize, most: usize) -> Result<(), AllocError>
     ensures { OnOk result
         (page.new.items ≡ page.old.items ++ line_text (capsule x least most)) }
@@ -85,6 +85,39 @@ fn put_capsule(page: &mut Vec<u8>, x: usize, least: usize, most: usize) -> Resul
     put_rect(page, b"race", around, 9)
 }
 
+/// The least place of the events of a mark.
+fn mark_top(scene: &Scene, layout: &Layout, mark: &Mark) -> Result<usize, AllocError>
+    ensures { IfOk result (λ y. y ≡ mark_top scene.now layout.now mark.now) }
+{
+    let first = least_place(scene, layout, layout.foot, mark.upper.as_slice())?;
+    least_place(scene, layout, first, mark.lower.as_slice())
+}
+
+/// The greatest place of the events of a mark.
+fn mark_end(scene: &Scene, layout: &Layout, mark: &Mark) -> Result<usize, AllocError>
+    ensures { IfOk result (λ y. y ≡ mark_end scene.now layout.now mark.now) }
+{
+    let last = greatest_place(scene, layout, 0, mark.upper.as_slice())?;
+    greatest_place(scene, layout, last, mark.lower.as_slice())
+}
+
+/// Puts the capsule of a mark behind a page.
+fn put_capsule_of(
+    page: &mut Vec<u8>,
+    scene: &Scene,
+    layout: &Layout,
+    mark: &Mark,
+) -> Result<(), AllocError>
+    ensures { OnOk result (page.new.items
+        ≡ page.old.items ++ line_text (capsule_of scene.now layout.now mark.now)) }
+{
+    let x = layout.axis(mark.instance);
+    let least = mark_top(scene, layout, mark)?;
+    let most = mark_end(scene, layout, mark)?;
+    put_capsule(page, x, least, most)?;
+    Ok(())
+}
+
 /// Puts a mark behind a page.
 fn put_mark(
     page: &mut Vec<u8>,
@@ -96,15 +129,10 @@ fn put_mark(
         ≡ page.old.items ++ lines_text (mark_nodes scene.now layout.now mark.now)) }
 {
     let x = layout.axis(mark.instance);
-    let upper = mark.upper.as_slice();
-    let lower = mark.lower.as_slice();
-    let first = least_place(scene, layout, layout.foot, upper)?;
-    let least = least_place(scene, layout, first, lower)?;
-    let last = greatest_place(scene, layout, 0, upper)?;
-    let most = greatest_place(scene, layout, last, lower)?;
-    put_capsule(page, x, least, most)?;
-    put_ends(page, scene, layout, x, upper)?;
-    put_ends(page, scene, layout, x, lower)
+    put_capsule_of(page, scene, layout, mark)?;
+    put_ends(page, scene, layout, x, mark.upper.as_slice())?;
+    put_ends(page, scene, layout, x, mark.lower.as_slice())?;
+    Ok(())
 }
 
 /// Puts the marks behind a page.
@@ -132,10 +160,11 @@ fn count_text(alloc: Global, mark: &Mark) -> Result<Vec<u8>, AllocError>
     Ok(text)
 }
 
-/// Puts the plate of a badge so wide to both sides of its axis behind a page.
-fn put_count(page: &mut Vec<u8>, x: usize, z: usize, v: usize) -> Result<(), AllocError>
-    ensures { OnOk result (page.new.items ≡ page.old.items ++ line_text (count_rect x z v)) }
+/// Puts the plate of a badge with a text so long behind a page.
+fn put_count(page: &mut Vec<u8>, x: usize, z: usize, long: usize) -> Result<(), AllocError>
+    ensures { OnOk result (page.new.items ≡ page.old.items ++ line_text (count_rect x z long)) }
 {
+    let v = plus(times(3, long)?, 5)?;
     let around = Area {
         x: x.saturating_sub(v),
         y: z.saturating_sub(10),
@@ -145,15 +174,23 @@ fn put_count(page: &mut Vec<u8>, x: usize, z: usize, v: usize) -> Result<(), All
     put_rect(page, b"count", around, 7)
 }
 
+/// Puts the text of a badge behind a page.
+fn put_count_text(page: &mut Vec<u8>, x: usize, z: usize, text: &[u8]) -> Result<(), AllocError>
+    ensures { OnOk result
+        (page.new.items ≡ page.old.items ++ line_text (text_at (codes "badge") x (z + 1) text.now)) }
+{
+    let y = plus(z, 1)?;
+    put_text_at(page, b"badge", x, y, text)
+}
+
 /// Puts the badge of a text behind a page.
 fn put_badge(page: &mut Vec<u8>, x: usize, z: usize, text: &[u8]) -> Result<(), AllocError>
     ensures { OnOk result
         (page.new.items ≡ page.old.items ++ lines_text (badge_nodes x z text.now)) }
 {
-    let v = plus(times(3, text.len())?, 5)?;
-    let y = plus(z, 1)?;
-    put_count(page, x, z, v)?;
-    put_text_at(page, b"badge", x, y, text)
+    put_count(page, x, z, text.len())?;
+    put_count_text(page, x, z, text)?;
+    Ok(())
 }
 
 /// Puts the badge of a mark with a number behind a page.

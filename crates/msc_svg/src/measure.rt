@@ -106,12 +106,7 @@ pub fn left(alloc: Global, scene: &Scene, i: usize) -> Result<usize, AllocError>
 }
 
 /// The room right of instance `i`, by the depths of outputs.
-pub fn right(
-    alloc: Global,
-    scene: &Scene,
-    depths: &[usize],
-    i: usize,
-) -> Result<usize, AllocError>
+pub fn right(alloc: Global, scene: &Scene, depths: &[usize], i: usize) -> Result<usize, AllocError>
     ensures { IfOk result (λ room. room ≡ right scene.now depths.now i) }
 {
     let head = plus(half(scene, i)?, 8)?;

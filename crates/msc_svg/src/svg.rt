@@ -5,10 +5,10 @@ ghost use Rattle.std.specs.Prelude.{nat_eq};
 ghost use Rattle.std.specs.Fmt.{decimal};
 ghost use Rattle.msc_svg.specs.Elements.{ground_nodes, picture_nodes, upper_nodes};
 ghost use Rattle.msc_svg.specs.Layouts.{layout_of};
-ghost use Rattle.msc_tree.specs.Shapes.{plain};
-ghost use Rattle.msc_svg.specs.Svg.{card, front_text, heading_of, style, svg_attributes, svg_text, tip};
-ghost use Rattle.msc_svg.specs.Svg.{title_of, view_box};
-ghost use Rattle.msc_tree.specs.Trees.{attributes_text, line_text, lines_text};
+ghost use Rattle.msc_tree.specs.Shapes.{plain, valued};
+ghost use Rattle.msc_svg.specs.Svg.{card, front_text, heading_of, size_attributes, style};
+ghost use Rattle.msc_svg.specs.Svg.{svg_attributes, svg_text, tip, title_of, view_box};
+ghost use Rattle.msc_tree.specs.Trees.{attribute_text, attributes_text, line_text, lines_text};
 
 use crate::caption::{captions_of, put_caption_nodes};
 use crate::depth::events_of_rows;
@@ -24,7 +24,7 @@ use msc_tree::{Area, put_attribute, put_decimal, put_numbered, put_path, put_pla
 use std::alloc::{AllocError, Global};
 
 /// How the elements of a picture look.
-const STYLE: &str = "text{font:12px ui-monospace,Menlo,Consolas,DejaVu Sans Mono,monospace\
+const STYLE: &[u8] = b"text{font:12px ui-monospace,Menlo,Consolas,DejaVu Sans Mono,monospace\
 ;text-anchor:middle;fill:#111}\
 .right{text-anchor:start}.left{text-anchor:end}.name{font-weight:bold}\
 .kind{fill:#444}.number{font-size:10px;fill:#555}\
@@ -87,25 +87,20 @@ pub fn put_picture(
         ++ lines_text (picture_nodes scene.now layout.now heading.now)) }
 {
     put_ground(page, alloc, scene, layout, heading)?;
-    put_upper(page, alloc, scene, layout)
+    put_upper(page, alloc, scene, layout)?;
+    Ok(())
 }
+
+/// The head of an arrow.
+const TIP: &[u8] = b"<marker id=\"tip\" markerUnits=\"userSpaceOnUse\" markerWidth=\"12\" \
+markerHeight=\"8\" refX=\"12\" refY=\"4\" orient=\"auto\">\n\
+<path class=\"tip\" d=\"M0,0L12,4L0,8z\"/>\n</marker>\n";
 
 /// Puts the head of an arrow behind a page.
 pub fn put_tip(page: &mut Vec<u8>) -> Result<(), AllocError>
     ensures { OnOk result (page.new.items ≡ page.old.items ++ line_text tip) }
 {
-    page.extend_from_slice(b"<marker")?;
-    put_attribute(page, b"id", b"tip")?;
-    put_attribute(page, b"markerUnits", b"userSpaceOnUse")?;
-    put_attribute(page, b"markerWidth", b"12")?;
-    put_attribute(page, b"markerHeight", b"8")?;
-    put_attribute(page, b"refX", b"12")?;
-    put_attribute(page, b"refY", b"4")?;
-    put_attribute(page, b"orient", b"auto")?;
-    page.extend_from_slice(b">\n")?;
-    put_path(page, b"tip", b"M0,0L12,4L0,8z")?;
-    page.extend_from_slice(b"</marker>\n")?;
-    Ok(())
+    page.extend_from_slice(TIP)
 }
 
 /// Puts how the elements of a picture look behind a page.
@@ -113,8 +108,7 @@ fn put_style(page: &mut Vec<u8>) -> Result<(), AllocError>
     ensures { OnOk result
         (page.new.items ≡ page.old.items ++ line_text (plain (codes "style") style)) }
 {
-    put_plain(page, b"style", STYLE.as_bytes())?;
-    Ok(())
+    put_plain(page, b"style", STYLE)
 }
 
 /// The part of the plane that is shown.
@@ -128,17 +122,34 @@ fn view_box(alloc: Global, layout: &Layout) -> Result<Vec<u8>, AllocError>
     Ok(text)
 }
 
+/// Puts which part of the plane a picture shows behind a page.
+fn put_view_box(page: &mut Vec<u8>, alloc: Global, layout: &Layout) -> Result<(), AllocError>
+    ensures { OnOk result (page.new.items
+        ≡ page.old.items ++ attribute_text (valued (codes "viewBox") (view_box layout.now))) }
+{
+    let shown = view_box(alloc, layout)?;
+    put_attribute(page, b"viewBox", shown.as_slice())
+}
+
+/// Puts how large a picture is, and which part of the plane it shows, behind a page.
+pub fn put_size(page: &mut Vec<u8>, alloc: Global, layout: &Layout) -> Result<(), AllocError>
+    ensures { OnOk result
+        (page.new.items ≡ page.old.items ++ attributes_text (size_attributes layout.now)) }
+{
+    put_numbered(page, b"width", layout.width)?;
+    put_numbered(page, b"height", layout.height)?;
+    put_view_box(page, alloc, layout)?;
+    Ok(())
+}
+
 /// Puts the attributes of the whole behind a page.
 fn put_svg_attributes(page: &mut Vec<u8>, alloc: Global, layout: &Layout) -> Result<(), AllocError>
     ensures { OnOk result
         (page.new.items ≡ page.old.items ++ attributes_text (svg_attributes layout.now)) }
 {
-    let shown = view_box(alloc, layout)?;
-    put_attribute(page, b"xmlns", b"http://www.w3.org/2000/svg")?;
-    put_numbered(page, b"width", layout.width)?;
-    put_numbered(page, b"height", layout.height)?;
-    put_attribute(page, b"viewBox", shown.as_slice())?;
-    put_attribute(page, b"role", b"img")?;
+    page.extend_from_slice(b" xmlns=\"http://www.w3.org/2000/svg\"")?;
+    put_size(page, alloc, layout)?;
+    page.extend_from_slice(b" role=\"img\"")?;
     Ok(())
 }
 
@@ -196,7 +207,8 @@ fn put_front(
     put_plain(page, b"title", title)?;
     put_style(page)?;
     put_tip(page)?;
-    put_card(page, layout)
+    put_card(page, layout)?;
+    Ok(())
 }
 
 /// Puts the picture in SVG behind a page, with a further text above it, which is empty where there
@@ -214,7 +226,12 @@ pub fn put_svg(
     let name = scene.name.as_slice();
     let heading = heading_of(alloc, name, more)?;
     let layout = layout_of(alloc, scene, heading.as_slice())?;
-    put_front(page, alloc, &layout, title_of(alloc, name, more)?.as_slice())?;
+    put_front(
+        page,
+        alloc,
+        &layout,
+        title_of(alloc, name, more)?.as_slice(),
+    )?;
     put_picture(page, alloc, scene, &layout, heading.as_slice())?;
     page.extend_from_slice(b"</svg>\n")?;
     Ok(())
