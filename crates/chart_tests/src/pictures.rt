@@ -2,17 +2,12 @@
 //! `tools/naive/picture.py`, which shares nothing with the crates, and those of SVG were made by a
 //! program that shares nothing with them either.
 
-ghost use Rattle.std.specs.Prelude.{◌≡◌};
-ghost use Rattle.msc_chart.specs.Drawings.{chart_of};
-
 use crate::drafts::draft_of;
 use crate::host::Host;
 use example_charts::{COREGION, EMPTY, LOCAL_EVENTS, NUMBERED, TEXTS_OF_ACTIONS, TWO_SENDERS};
 use msc_chart::{Chart, Event, Queues};
-use msc_draw::{Form, RaceFault, draw_chart, draw_run, race_fault};
-use msc_parser::Draft;
-use msc_race::Enforced;
-use msc_reason::PairFault;
+use msc_draw::{Form, draw_chart, draw_reversal};
+use msc_reason::pair_fault;
 
 /// Messages to oneself and to another, an action whose text has an apostrophe, and a coregion.
 const ALL_SORTS: &[u8] = b"msc t; instance a; action 'wait'; out m to a; out x to b; in m from a; \
@@ -213,25 +208,11 @@ const SVG_OF_A_RUN: &str = "<rect class=\"card\" x=\"1\" y=\"1\" width=\"262\" h
 </svg>
 ";
 
-/// Charts, architectures, pairs, and why they are no races.
-const NO_RACES: &[(&[u8], Queues, Event, Event, Option<RaceFault>)] = &[
-    (TWO_SENDERS, Queues::Pair, 1, 2, None),
-    (TWO_SENDERS, Queues::Pair, 2, 1, Some(RaceFault::NoRace(2, 1))),
-    (TWO_SENDERS, Queues::Pair, 0, 3, Some(RaceFault::NoRace(0, 3))),
-    (
-        TWO_SENDERS,
-        Queues::Pair,
-        4,
-        5,
-        Some(RaceFault::Pair(PairFault::NoEvent(4))),
-    ),
-    (
-        TWO_SENDERS,
-        Queues::Pair,
-        1,
-        1,
-        Some(RaceFault::Pair(PairFault::OneEvent(1))),
-    ),
+/// Charts, architectures, and two events that are no race.
+const NO_RACES: &[(&[u8], Queues, Event, Event)] = &[
+    (TWO_SENDERS, Queues::Pair, 2, 1),
+    (TWO_SENDERS, Queues::Pair, 0, 3),
+    (COREGION, Queues::Mailbox, 1, 2),
 ];
 
 /// What stands behind the head of an arrow, or nothing where there is none.
@@ -253,26 +234,8 @@ fn picture_of(rt: &impl Host, text: &[u8], queues: Option<Queues>, form: Form) -
     page.bytes
 }
 
-/// The picture of a run of a chart that reverses two events, or nothing where they are no race.
-fn run_of(
-    rt: &impl Host,
-    draft: &Draft,
-    enforced: &Enforced,
-    form: Form,
-    e: Event,
-    f: Event,
-) -> Vec<u8>
-    requires { enforced.now.chart ≡ chart_of draft.now }
-{
-    if race_fault(enforced, e, f).is_some() {
-        return Vec::new(rt.alloc());
-    }
-    draw_run(rt.alloc(), draft, enforced, form, e, f)
-        .expect(rt, "a picture")
-        .bytes
-}
-
-/// The same of a text's chart.
+/// The picture of a run of a text's chart that reverses two events, or nothing where they are no
+/// race.
 fn reversal_of(
     rt: &impl Host,
     text: &[u8],
@@ -280,19 +243,17 @@ fn reversal_of(
     form: Form,
     e: Event,
     f: Event,
-) -> Vec<u8> {
+) -> Option<Vec<u8>> {
     let draft = draft_of(rt, text);
     let chart = Chart::build(rt.alloc(), &draft).expect(rt, "a chart");
-    let enforced = Enforced::of(rt.alloc(), &chart, queues).expect(rt, "an order");
-    run_of(rt, &draft, &enforced, form, e, f)
-}
-
-/// Why two events of a text's chart are no race.
-fn fault_of(rt: &impl Host, text: &[u8], queues: Queues, e: Event, f: Event) -> Option<RaceFault> {
-    let draft = draft_of(rt, text);
-    let chart = Chart::build(rt.alloc(), &draft).expect(rt, "a chart");
-    let enforced = Enforced::of(rt.alloc(), &chart, queues).expect(rt, "an order");
-    race_fault(&enforced, e, f)
+    if pair_fault(&chart, e, f).is_some() {
+        return None;
+    }
+    let page = draw_reversal(rt.alloc(), &draft, &chart, queues, form, e, f).expect(rt, "a picture");
+    match page {
+        Some(page) => Some(page.bytes),
+        None => None,
+    }
 }
 
 #[test]
@@ -314,7 +275,7 @@ fn closest_races_are_marked(rt: HostRuntime) {
 #[test]
 fn runs_are_drawn(rt: HostRuntime) {
     for &(text, queues, e, f, wanted) in REVERSED {
-        let page = reversal_of(&rt, text, queues, Form::Text, e, f);
+        let page = reversal_of(&rt, text, queues, Form::Text, e, f).expect(&rt, "a race");
         assert_eq!(rt; page.as_slice(), wanted.as_bytes());
     }
 }
@@ -329,14 +290,14 @@ fn charts_are_drawn_in_svg(rt: HostRuntime) {
 
 #[test]
 fn a_run_is_drawn_in_svg(rt: HostRuntime) {
-    let page = reversal_of(&rt, NUMBERED, Queues::Single, Form::Svg, 2, 3);
+    let page = reversal_of(&rt, NUMBERED, Queues::Single, Form::Svg, 2, 3).expect(&rt, "a race");
     assert_eq!(rt; behind_the_tip(page.as_slice()), SVG_OF_A_RUN.as_bytes());
 }
 
 #[test]
 fn pairs_that_are_no_races(rt: HostRuntime) {
-    for &(text, queues, e, f, wanted) in NO_RACES {
-        let fault = fault_of(&rt, text, queues, e, f);
-        assert_eq!(rt; fault, wanted);
+    for &(text, queues, e, f) in NO_RACES {
+        let page = reversal_of(&rt, text, queues, Form::Text, e, f);
+        assert!(rt; page.is_none());
     }
 }

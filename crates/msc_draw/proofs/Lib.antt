@@ -1,1 +1,3 @@
 mod Listings
+mod Lists
+mod MarkingLemmas

@@ -1,9 +1,14 @@
 -- What is listed event by event is all that is listed.
-use Rattle.std.proofs.Common.{◌≡◌, ℕ, zero, suc, ◌+◌, Bool, List, [], ◌∷◌, ◌++◌, filter, length, refl, sym, ap, ◌∙◌, append-nil, arith}
+use Rattle.std.proofs.Common.{◌≡◌, ℕ, zero, suc, ◌+◌, Bool, List, [], ◌∷◌, ◌++◌, filter, length, refl, sym, ap, ◌∙◌, ◌<◌, append-nil, arith}
 use Rattle.std.specs.List.{range_with_len, flat_map}
 use Rattle.std.proofs.lemmas.Grind.{flat_map-append}
 use Rattle.std.proofs.lemmas.List.Elements.{filter-append}
-use Rattle.msc_chart.specs.Lists.{pairs_of}
+use Rattle.std.proofs.lemmas.List.Elements.{All-filter, All-map}
+use Rattle.std.proofs.lemmas.List.FromFn.{get_or-range_with_len, length-range_with_len}
+use Rattle.msc_chart.specs.Lists.{pairs_of, pairs_to}
+use Rattle.msc_draw.specs.Listed.{listed_at}
+use Rattle.msc_draw.specs.Marking.{AreOf}
+use Rattle.msc_reason.specs.Selected.{Selected}
 use Rattle.msc_race.specs.Wired.{EnforcedChart}
 use Rattle.msc_reason.specs.Counting.{listed}
 use Rattle.msc_reason.specs.Marked.{lack_in, listed_from}
@@ -37,6 +42,17 @@ flat_next {X} f n now next so_far more =
     ∙ ap (λ (l : List X). flat_map f (range_with_len 0 n) ++ l) (sym (append-nil (f n)))
     ∙ sym (flat_map-append f (range_with_len 0 n) (n ∷ []))
     ∙ ap (flat_map f) (sym (range_more n))
+
+-- the races that are listed of an event lead from it to events
+pub listed_are_of : (s : Selected) (x : ℕ) → AreOf (length s.judged.chart.events) x (listed_at s x)
+unfolding pairs_to
+listed_are_of s x =
+    let n = length s.judged.chart.events in
+    let Own : ℕ × ℕ → Type 0 = λ p. (p.0 ≡ x) × (p.1 < n) in
+    let seconds = range_with_len 0 n in
+    All-filter _ Own _ (All-filter _ Own _ (All-map Own (λ f. (x, f)) seconds (λ k d below.
+    let inside : k < n = omega (arith, below, length-range_with_len 0 n) in
+    (refl, omega (arith, get_or-range_with_len 0 n k d inside, inside)))))
 
 -- what is listed of all events
 pub listed_whole : (e : EnforcedChart) (allowed : KindSet) (closest : Bool)

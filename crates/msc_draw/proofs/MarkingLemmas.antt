@@ -1,13 +1,14 @@
 -- Marks that are made of the races of one event after the other.
-use Rattle.std.proofs.Common.{◌≡◌, ℕ, zero, suc, ◌+◌, ◌-◌, ◌<◌, ◌≤◌, ◌⊎◌, Bool, true, false, cond, not, ◌&&◌, ◌||◌, max, List, [], ◌∷◌, ◌++◌, length, get_or, filter, Option, None, Some, eqb, inl, inr, nat_lt, refl, sym, ap, subst, ◌∙◌, arith}
+use Rattle.std.proofs.Common.{◌≡◌, ℕ, ◌+◌, ◌-◌, ◌<◌, ◌≤◌, ◌⊎◌, Bool, true, false, cond, not, ◌&&◌, ◌||◌, List, [], ◌∷◌, ◌++◌, length, get_or, Option, None, Some, eqb, inl, inr, nat_lt, refl, sym, ap, subst, ◌∙◌, arith}
 use Rattle.std.specs.Prelude.{replicate, slice_set}
-use Rattle.std.specs.List.{All, flat_map, list_any, range_with_len}
+use Rattle.std.specs.List.{All, flat_map, range_with_len}
 use Rattle.std.proofs.lemmas.Bool.{and_from, and_right, cases_eq, eq-eqb, false≢true, false_from_ne_true, lt-ltb, ne_eqb, not_from_false}
-use Rattle.std.proofs.lemmas.List.{get_or-replicate, get_or-set_other, get_or-set_same}
-use Rattle.std.proofs.lemmas.List.Elements.{filter_agree}
+use Rattle.std.proofs.Math.Bool.{or-false, or-true}
+use Rattle.std.proofs.lemmas.List.{get_or-replicate, get_or-set_other, get_or-set_same, length-append, length-replicate, length-set}
+use Rattle.std.proofs.lemmas.List.Elements.{filter_agree, All-append, All-cons, All-nil}
 use Rattle.std.proofs.lemmas.List.Folds.{list_any-append, list_any_none}
 use Rattle.msc_chart.specs.declared.event.ChartEvent.{ChartEvent}
-use Rattle.msc_chart.specs.Charts.{line, segment, IsInTextOrder}
+use Rattle.msc_chart.specs.Charts.{line, IsInTextOrder}
 use Rattle.msc_chart.proofs.ListLemmas.{by_test, clash}
 use Rattle.msc_picture.specs.declared.scene.Mark.{Mark}
 use Rattle.msc_picture.specs.Marks.{end_of, ends_of, is_end_of, is_from, mark_at, mark_over, marks_of}
@@ -195,10 +196,10 @@ module _ (events : List ChartEvent) (e : ℕ) (races : List (ℕ × ℕ)) (marks
     ];
     shared = λ some. let here : e ≡ (e + 1) - 1 = omega arith in
         subst (λ (y : ℕ). share_segment events begun y ≡ true) here (elim inner [
-        | inl zero_is ↦
-            let same : begun ≡ e = omega (arith, h.within, zero_is) in
-            subst (λ (y : ℕ). share_segment events begun y ≡ true) same (share_own events begun)
-        | inr none ↦ of_segment none
+          | inl zero_is ↦
+              let same : begun ≡ e = omega (arith, h.within, zero_is) in
+              subst (λ (y : ℕ). share_segment events begun y ≡ true) same (share_own events begun)
+          | inr none ↦ of_segment none
         ]);
     long_upper = h.long_upper;
     long_lower = h.long_lower;
@@ -221,9 +222,9 @@ module _ (events : List ChartEvent) (e : ℕ) (races : List (ℕ × ℕ)) (marks
   turned_new order some below begins =
       let none : All (λ p. is_from events e p ≡ false) races =
       λ k d inside.
-          let p = get_or races k d in
-          false_from_ne_true _ (λ shared. clash (share_back events e p.0 shared)
-          (apart events order p.0 e e (h.firsts k d inside) (omega arith) below begins)) in
+      let p = get_or races k d in
+      false_from_ne_true _ (λ shared. clash (share_back events e p.0 shared)
+      (apart events order p.0 e e (h.firsts k d inside) (omega arith) below begins)) in
       let empty = λ (lower_is : Bool) (x : ℕ) (inside : x < length events).
       get_or-replicate (length events) x false false inside
       ∙ sym (no_end events races e lower_is x none) in
@@ -309,8 +310,8 @@ added events e f races marks upper lower begun reach told order below inside h =
     }
   where
     firsts_more : All (λ q. q.0 < e + 1) (races ++ (e, f) ∷ [])
-    firsts_more = All-append _ races ((e, f) ∷ []) h.firsts
-        (All-cons (λ q. q.0 < e + 1) (e, f) [] (omega arith) (All-nil _))
+    firsts_more = All-append (λ q. q.0 < e + 1) races ((e, f) ∷ []) h.firsts
+        (All-cons (λ q. q.0 < e + 1) (e, f) [] (omega arith) (All-nil (λ q. q.0 < e + 1)))
 
 -- the marks of all events
 pub all_marked : (events : List ChartEvent) (races : List (ℕ × ℕ)) (marks : List Mark)
@@ -319,3 +320,29 @@ pub all_marked : (events : List ChartEvent) (races : List (ℕ × ℕ)) (marks :
     → marks ++ mark_by events upper lower begun reach ≡ marks_of events races
 all_marked events races marks upper lower begun reach told h some =
     closed events (length events) races marks upper lower begun reach told h some
+
+-- the same, in equal parts
+pub same_marking : (events : List ChartEvent) (n : ℕ) (races : List (ℕ × ℕ)) (marks marks' : List Mark)
+    (upper upper' lower lower' : List Bool) (begun begun' : ℕ) (reach reach' : Option (ℕ × ℕ))
+    (told told' : ℕ) → marks' ≡ marks → upper' ≡ upper → lower' ≡ lower → begun' ≡ begun
+    → reach' ≡ reach → told' ≡ told → IsMarking events n races marks upper lower begun reach told
+    → IsMarking events n races marks' upper' lower' begun' reach' told'
+same_marking events n races marks marks' upper upper' lower lower' begun begun' reach reach' told told' a b c d e f h =
+    subst (λ (x : List Mark). IsMarking events n races x upper' lower' begun' reach' told') (sym a)
+    (subst (λ (x : List Bool). IsMarking events n races marks x lower' begun' reach' told') (sym b)
+    (subst (λ (x : List Bool). IsMarking events n races marks upper x begun' reach' told') (sym c)
+    (subst (λ (x : ℕ). IsMarking events n races marks upper lower x reach' told') (sym d)
+    (subst (λ (x : Option (ℕ × ℕ)). IsMarking events n races marks upper lower begun x told') (sym e)
+    (subst (λ (x : ℕ). IsMarking events n races marks upper lower begun reach x) (sym f) h)))))
+
+-- both cases are one
+both : {X : Type 0} (b : Bool) (x : X) → cond b x x ≡ x
+both true x = refl
+both false x = refl
+
+-- of no races there are no marks
+pub no_marks : (events : List ChartEvent) → [] ≡ marks_of events []
+no_marks events =
+    let none : List Mark = [] in
+    made_quiet (mark_at events []) (length events) 0 (length events) (omega arith)
+    (λ x low high. both (begins_segment events x) none)

@@ -48,3 +48,12 @@ pub record PrintsRun (draft : Tree) (d : Drawing) (queues : Queues) (form : Form
   pub shows : IsPopulated draft d scene
   pub laid_out : IsRunLaidOut (wired queues d) run e f 0 scene
   pub text : printed ≡ text_in form scene (reversal_text queues e f)
+
+-- the two events are no race of a chart under an architecture
+abbrev pub IsNoRace : Drawing → Queues → ℕ → ℕ → Type 0
+IsNoRace d queues e f = IsRace (wired queues d) e f → ⊥
+
+-- they are one, and such a run is printed
+pub record PrintsReversal (draft : Tree) (d : Drawing) (queues : Queues) (form : Form) (e f : ℕ) (printed : List ℕ) : Type 0 where
+  pub race : IsRace (wired queues d) e f
+  pub run : PrintsRun draft d queues form e f printed

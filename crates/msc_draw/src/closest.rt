@@ -1,40 +1,43 @@
-//! The closest races of a chart.
+//! The marks of a chart's closest races.
 
-ghost use Rattle.std.specs.Prelude.{◌≡◌, ◌<◌, IfOk, length};
-ghost use Rattle.msc_race.specs.Views.{wiring_of};
-ghost use Rattle.msc_race.specs.Walks.{HasReached};
-ghost use Rattle.msc_reason.specs.Closest.{IsClosestList};
-ghost use Rattle.msc_reason.specs.Counting.{listed};
-ghost use Rattle.msc_reason.specs.Marked.{lack_in};
+ghost use Rattle.std.specs.Prelude.{◌≡◌, IfOk, length};
+ghost use Rattle.msc_draw.specs.Listed.{AreClosestMarks, listed_of};
+ghost use Rattle.msc_picture.specs.Marks.{marks_of};
 
-use msc_chart::Event;
+use crate::marking::Marking;
+use listed::Listed;
+use msc_picture::Mark;
 use msc_race::Enforced;
 use msc_reason::laws::{every_race_that_counts_spans_a_closest_one, what_counts_is_listed};
 use msc_reason::{KindSet, Listing, Stream};
 use std::alloc::{AllocError, Global};
 
-/// The races that a listing lists.
-fn listed(alloc: Global, listing: &Listing) -> Result<Vec<(Event, Event)>, AllocError>
-    ensures { IfOk result (λ list. list.items ≡ listed listing.now.judged listing.now.allowed
-        listing.now.closest (lack_in listing.now.judged)) }
+/// The marks of the races that a listing lists, and how many these are.
+fn marks_listed(alloc: Global, listing: &Listing) -> Result<(Listed<Mark>, usize), AllocError>
+    ensures marks { IfOk result
+        (λ p. p.0 ≡ marks_of listing.now.judged.chart.events (listed_of listing.now)) }
+    ensures told { IfOk result (λ p. p.1 ≡ length (listed_of listing.now)) }
 {
-    let mut list = Vec::new(alloc);
+    let chart = listing.enforced().chart();
+    let mut marking = Marking::start(alloc, chart)?;
     let mut stream = Stream::new(alloc);
-    for e in 0..listing.events() {
+    for e in 0..chart.events() {
         listing.next(&mut stream, e)?;
-        list.extend_from_slice(stream.races.as_slice())?;
+        marking.take(alloc, chart, e, stream.races.as_slice())?;
     }
-    Ok(list)
+    let all = marking.finish(alloc, chart)?;
+    Ok(all)
 }
 
-/// The closest races of a chart under an architecture, ascending.
-pub fn closest(alloc: Global, enforced: Enforced) -> Result<Vec<(Event, Event)>, AllocError>
-    ensures { IfOk result (λ list. IsClosestList (wiring_of enforced.entry) list.items) }
+/// The marks of the closest races of a chart under an architecture, and how many these are. What is
+/// held does not grow with their number.
+pub fn closest_marks(alloc: Global, enforced: Enforced) -> Result<(Listed<Mark>, usize), AllocError>
+    ensures { IfOk result (AreClosestMarks enforced.entry) }
 {
     every_race_that_counts_spans_a_closest_one();
     what_counts_is_listed();
     enforced.enforced();
     let listing = Listing::of(alloc, enforced, KindSet::NONE, true)?;
-    let list = listed(alloc, &listing)?;
-    Ok(list)
+    let marks = marks_listed(alloc, &listing)?;
+    Ok(marks)
 }

@@ -5,11 +5,11 @@ ghost use Rattle.std.specs.Fmt.{decimal};
 ghost use Rattle.msc_chart.specs.Drawings.{chart_of};
 ghost use Rattle.msc_draw.specs.Pictures.{PrintsChart, PrintsJudged, PrintsPicture};
 ghost use Rattle.msc_draw.specs.Verdicts.{counts_text, races_word, verdict_text};
-ghost use Rattle.msc_picture.specs.Marks.{AreDrawnPairs};
 
-use crate::closest::closest;
+use crate::closest::closest_marks;
 use crate::form::{Form, page_in};
 use itoa::Buffer;
+use listed::Listed;
 use msc_chart::{Chart, Queues};
 use msc_judge::Page;
 use msc_parser::Draft;
@@ -75,9 +75,9 @@ fn draw_judged(
     let enforced = Enforced::of(alloc, chart, queues)?;
     enforced.enforced();
     let races = enforced.count_races() as usize;
-    let closest = closest(alloc, enforced)?;
-    let more = verdict(alloc, queues, races, closest.len())?;
-    let scene = chart_scene(alloc, draft, chart, closest.as_slice())?;
+    let (marks, closest) = closest_marks(alloc, enforced)?;
+    let more = verdict(alloc, queues, races, closest)?;
+    let scene = chart_scene(alloc, draft, chart, marks)?;
     let page = page_in(alloc, form, &scene, more.as_slice())?;
     Ok(page)
 }
@@ -98,7 +98,7 @@ pub fn draw_chart(
     if let Some(queues) = queues {
         return draw_judged(alloc, draft, chart, queues, form);
     }
-    let scene = chart_scene(alloc, draft, chart, &[])?;
+    let scene = chart_scene(alloc, draft, chart, Listed::from_vec(Vec::new(alloc)))?;
     let page = page_in(alloc, form, &scene, b"")?;
     Ok(page)
 }

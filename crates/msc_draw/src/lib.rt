@@ -6,11 +6,10 @@
 
 mod closest;
 mod drawing;
-mod fault;
 mod form;
+mod marking;
 mod reversing;
 
 pub use drawing::draw_chart;
-pub use fault::{RaceFault, race_fault};
 pub use form::Form;
-pub use reversing::draw_run;
+pub use reversing::draw_reversal;

@@ -7,7 +7,8 @@ ghost use Rattle.std.specs.List.{range_with_len};
 ghost use Rattle.msc_chart.specs.Charts.{line};
 ghost use Rattle.msc_picture.specs.Marks.{marks_of};
 ghost use Rattle.msc_picture.specs.Rows.{grown};
-ghost use Rattle.msc_draw.specs.Marking.{AreOf, HasTables, HoldsMarking, mark_by, noted};
+ghost use Rattle.msc_draw.specs.Marking.{AreOf, HasTables, HoldsMarking, IsAdded};
+ghost use Rattle.msc_draw.specs.Marking.{IsFresh, mark_by, noted};
 
 use listed::Listed;
 use msc_chart::{Chart, Event};
@@ -51,7 +52,7 @@ fn noted(alloc: Global, table: &[bool], many: Event) -> Result<Listed<Event>, Al
 
 impl Marking {
     /// No race yet, and the first segment at hand.
-    fn start(alloc: Global, chart: &Chart) -> Result<Marking, AllocError>
+    pub fn start(alloc: Global, chart: &Chart) -> Result<Marking, AllocError>
         ensures { IfOk result (HoldsMarking chart.now.events 0 []) }
     {
         let many = chart.events() as usize;
@@ -68,7 +69,7 @@ impl Marking {
     /// Puts the mark of the segment at hand behind the marks, where races lead from it.
     fn close(&mut self, alloc: Global, chart: &Chart) -> Result<(), AllocError>
         requires tables { HasTables chart.now.events self.old }
-        requires known { self.old.begun < length chart.now.events }
+        requires some { 0 < length chart.now.events }
         ensures marks { OnOk result (self.new.marks.items ≡ self.old.marks.items
             ++ mark_by chart.now.events self.old.upper.items self.old.lower.items self.old.begun
             self.old.reach) }
@@ -91,7 +92,7 @@ impl Marking {
     /// Goes on to the segment that event `e` begins.
     fn begin(&mut self, alloc: Global, chart: &Chart, e: Event) -> Result<(), AllocError>
         requires tables { HasTables chart.now.events self.old }
-        requires known { self.old.begun < length chart.now.events }
+        requires some { 0 < length chart.now.events }
         ensures marks { OnOk result (self.new.marks.items ≡ self.old.marks.items
             ++ mark_by chart.now.events self.old.upper.items self.old.lower.items self.old.begun
             self.old.reach) }
@@ -112,8 +113,10 @@ impl Marking {
         requires known { e < length chart.now.events }
         requires tables { HasTables chart.now.events self.old }
         requires begun { self.old.begun ≤ e }
-        ensures { OnOk result ((told : List (ℕ × ℕ)) → HoldsMarking chart.now.events e told self.old
+        ensures told { OnOk result ((told : List (ℕ × ℕ))
+            → HoldsMarking chart.now.events e told self.old
             → HoldsMarking chart.now.events (e + 1) told self.new) }
+        ensures tables { OnOk result (HasTables chart.now.events self.new) }
     {
         chart.accepted();
         if e > 0 && begins_segment(chart, e) {
@@ -150,6 +153,7 @@ impl Marking {
         ensures { OnOk result ((told : List (ℕ × ℕ)) → HoldsMarking chart.now.events e told self.old
             → HoldsMarking chart.now.events (e + 1) (told ++ races.now) self.new) }
     {
+        chart.accepted();
         self.turn(alloc, chart, e)?;
         for race in races {
             self.add(*race)?;
@@ -158,11 +162,7 @@ impl Marking {
     }
 
     /// All marks, and how many races they are made of.
-    pub fn finish(
-        self,
-        alloc: Global,
-        chart: &Chart,
-    ) -> Result<(Listed<Mark>, usize), AllocError>
+    pub fn finish(self, alloc: Global, chart: &Chart) -> Result<(Listed<Mark>, usize), AllocError>
         requires tables { HasTables chart.now.events self }
         ensures marks { IfOk result (λ p. (told : List (ℕ × ℕ))
             → HoldsMarking chart.now.events (length chart.now.events) told self
