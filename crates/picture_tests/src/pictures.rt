@@ -2,11 +2,11 @@
 //! `tools/naive/picture.py`, which shares nothing with the crates, and those of SVG were made by a
 //! program that shares nothing with them either.
 
-use crate::drafts::draft_of;
 use crate::host::Host;
 use example_charts::{COREGION, EMPTY, LOCAL_EVENTS, NUMBERED, TEXTS_OF_ACTIONS, TWO_SENDERS};
 use msc_chart::{Chart, Event, Queues};
 use msc_draw::{Form, draw_chart, draw_reversal};
+use msc_parser::{Draft, parse};
 use msc_reason::pair_fault;
 
 /// Messages to oneself and to another, an action whose text has an apostrophe, and a coregion.
@@ -226,6 +226,11 @@ fn behind_the_tip(page: &[u8]) -> &[u8] {
     b""
 }
 
+/// The draft of a text that has one.
+fn draft_of(rt: &impl Host, text: &[u8]) -> Draft {
+    parse(rt.alloc(), text).expect(rt, "a draft")
+}
+
 /// The picture of a text's chart, with its closest races under an architecture, if one is named.
 fn picture_of(rt: &impl Host, text: &[u8], queues: Option<Queues>, form: Form) -> Vec<u8> {
     let draft = draft_of(rt, text);
@@ -249,7 +254,10 @@ fn reversal_of(
     if pair_fault(&chart, e, f).is_some() {
         return None;
     }
-    let page = draw_reversal(rt.alloc(), &draft, &chart, queues, form, e, f).expect(rt, "a picture");
+    let page = draw_reversal(rt.alloc(), &draft, &chart, queues, form, e, f).expect(
+        rt,
+        "a picture",
+    );
     match page {
         Some(page) => Some(page.bytes),
         None => None,
