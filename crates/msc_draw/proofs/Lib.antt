@@ -1,3 +1,3 @@
-mod Listings
+pub mod Listings
 mod Lists
 mod MarkingLemmas

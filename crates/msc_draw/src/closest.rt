@@ -12,8 +12,9 @@ use msc_reason::laws::{every_race_that_counts_spans_a_closest_one, what_counts_i
 use msc_reason::{KindSet, Listing, Stream};
 use std::alloc::{AllocError, Global};
 
-/// The marks of the races that a listing lists, and how many these are.
-fn marks_listed(alloc: Global, listing: &Listing) -> Result<(Listed<Mark>, usize), AllocError>
+/// The marks of the races that a listing lists, and how many these are. What is held does not grow
+/// with their number. An error is a growth of memory that was refused.
+pub fn marks_listed(alloc: Global, listing: &Listing) -> Result<(Listed<Mark>, usize), AllocError>
     ensures marks { IfOk result
         (λ p. p.0 ≡ marks_of listing.now.judged.chart.events (listed_of listing.now)) }
     ensures told { IfOk result (λ p. p.1 ≡ length (listed_of listing.now)) }

@@ -40,8 +40,8 @@ fn put_counts(text: &mut Vec<u8>, races: usize, closest: usize) -> Result<(), Al
     text.extend_from_slice(b" closest")
 }
 
-/// The verdict over a chart with so many races.
-fn verdict(
+/// The verdict over a chart with so many races. An error is a growth of memory that was refused.
+pub fn verdict(
     alloc: Global,
     queues: Queues,
     races: usize,

@@ -10,6 +10,7 @@ mod form;
 mod marking;
 mod reversing;
 
-pub use drawing::draw_chart;
+pub use closest::marks_listed;
+pub use drawing::{draw_chart, verdict};
 pub use form::Form;
 pub use reversing::draw_reversal;

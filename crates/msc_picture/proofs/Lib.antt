@@ -10,6 +10,6 @@ mod RowLemmas
 mod RunOrder
 mod RunLaws
 pub mod Reaching
-mod Standing
+pub mod Standing
 pub mod MarkLemmas
 mod BandLemmas

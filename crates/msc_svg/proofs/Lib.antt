@@ -1,3 +1,3 @@
-mod Chains
-mod Ranges
+pub mod Chains
+pub mod Ranges
 mod Apart

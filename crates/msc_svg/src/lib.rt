@@ -17,4 +17,4 @@ mod place;
 mod svg;
 
 pub use layout::{Layout, layout_of};
-pub use svg::{put_picture, put_svg};
+pub use svg::{put_picture, put_size, put_svg, put_tip};

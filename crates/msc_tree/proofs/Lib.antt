@@ -1,3 +1,3 @@
 mod Lines
-mod Nesting
+pub mod Nesting
 mod Escapes

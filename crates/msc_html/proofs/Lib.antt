@@ -1,0 +1,4 @@
+mod Bytes
+mod Blocks
+mod Pictured
+mod OneMore
