@@ -6,6 +6,8 @@
 mod article;
 mod figure;
 mod front;
+mod naming;
+mod opening;
 mod part;
 mod races;
 mod report;

@@ -4,7 +4,7 @@ use Rattle.msc_html.specs.Parts.{sentence, words}
 use Rattle.msc_html.specs.Reports.{checked_text}
 use Rattle.msc_svg.proofs.Chains.{as_lines, line_then}
 use Rattle.msc_tree.specs.Shapes.{plain}
-use Rattle.msc_html.proofs.report.put_begin.Goals as goal
+use Rattle.msc_html.proofs.opening.put_begin.Goals as goal
 
 pub returns : goal.returns
 returns c =

@@ -2,7 +2,7 @@ use Rattle.std.proofs.Common.{[], ◌∷◌, codes}
 use Rattle.msc_html.specs.Reports.{chart_node}
 use Rattle.msc_svg.proofs.Chains.{as_lines, line_then}
 use Rattle.msc_tree.specs.Shapes.{plain}
-use Rattle.msc_html.proofs.report.put_chart.Goals as goal
+use Rattle.msc_html.proofs.opening.put_chart.Goals as goal
 
 pub returns : goal.returns
 returns c =

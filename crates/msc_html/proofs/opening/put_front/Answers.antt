@@ -2,7 +2,7 @@ use Rattle.std.proofs.Common.{List, ℕ, ◌++◌, ap, ◌∙◌}
 use Rattle.msc_html.specs.Reports.{begin_nodes, chart_nodes, verdict_nodes}
 use Rattle.msc_svg.proofs.Ranges.{lines_behind}
 use Rattle.msc_tree.specs.Trees.{lines_text}
-use Rattle.msc_html.proofs.report.put_front.Goals as goal
+use Rattle.msc_html.proofs.opening.put_front.Goals as goal
 
 pub returns : goal.returns
 returns c =
