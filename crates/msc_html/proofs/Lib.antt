@@ -2,3 +2,4 @@ mod Bytes
 mod Blocks
 mod Pictured
 mod OneMore
+mod Always

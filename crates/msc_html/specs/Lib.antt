@@ -6,5 +6,6 @@ pub mod Articles
 pub mod Front
 pub mod Reports
 pub mod Findings
+pub mod Laws
 -- what the code keeps
 pub mod Progress

@@ -6,6 +6,7 @@
 mod article;
 mod figure;
 mod front;
+pub mod laws;
 mod naming;
 mod opening;
 mod part;
