@@ -3,7 +3,7 @@ use Rattle.std.proofs.Common.{◌≡◌, ℕ, true, inl, inr, sym, subst}
 use Rattle.msc_chart.specs.Charts.{partner, is_input}
 use Rattle.msc_chart.specs.Orders.{WiredChart, Enforced, IsRace, IsWired}
 use Rattle.msc_chart.specs.Orders.Enforced.{joined}
-use Rattle.msc_chart.proofs.Drawn.{input_parts, not_both, partner_of_input}
+use Rattle.msc_chart.proofs.Drawn.{not_both, partner_of_input}
 use Rattle.msc_chart.proofs.ListLemmas.{by_test}
 use Rattle.msc_order.specs.Caused.{Caused}
 use Rattle.msc_order.proofs.Once.{caused_enforced, enters, once}
