@@ -12,7 +12,7 @@ use Rattle.msc_reason.specs.Selected.{Selected}
 use Rattle.msc_race.specs.Wired.{EnforcedChart}
 use Rattle.msc_reason.specs.Counting.{listed}
 use Rattle.msc_reason.specs.Marked.{lack_in, listed_from}
-use Rattle.msc_reason.specs.declared.kinds.KindSet.{KindSet}
+use Rattle.msc_reason.specs.declared.left_out.LeftOut.{LeftOut}
 
 -- what passes of lists that stand one behind the other
 filter_flat : {X Y : Type 0} (p : Y → Bool) (f : X → List Y) (xs : List X)
@@ -55,7 +55,7 @@ listed_are_of s x =
     (refl, omega (arith, get_or-range_with_len 0 n k d inside, inside)))))
 
 -- what is listed of all events
-pub listed_whole : (e : EnforcedChart) (allowed : KindSet) (closest : Bool)
+pub listed_whole : (e : EnforcedChart) (allowed : LeftOut) (closest : Bool)
     → flat_map (listed_from e allowed closest) (range_with_len 0 (length e.chart.events))
     ≡ listed e allowed closest (lack_in e)
 unfolding pairs_of

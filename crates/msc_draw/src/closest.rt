@@ -9,7 +9,7 @@ use listed::Listed;
 use msc_picture::Mark;
 use msc_race::Enforced;
 use msc_reason::laws::{every_race_that_counts_spans_a_closest_one, what_counts_is_listed};
-use msc_reason::{KindSet, Listing, Stream};
+use msc_reason::{KindSet, LeftOut, Listing, Stream};
 use std::alloc::{AllocError, Global};
 
 /// The marks of the races that a listing lists, and how many these are. What is held does not grow
@@ -38,7 +38,7 @@ pub fn closest_marks(alloc: Global, enforced: Enforced) -> Result<(Listed<Mark>,
     every_race_that_counts_spans_a_closest_one();
     what_counts_is_listed();
     enforced.enforced();
-    let listing = Listing::of(alloc, enforced, KindSet::NONE, true)?;
+    let listing = Listing::of(alloc, enforced, LeftOut::of_kinds(KindSet::NONE), true)?;
     let marks = marks_listed(alloc, &listing)?;
     Ok(marks)
 }

@@ -22,7 +22,7 @@ use msc_parser::Draft;
 use msc_picture::chart_scene;
 use msc_race::Enforced;
 use msc_reason::laws::{every_race_that_counts_spans_a_closest_one, what_counts_is_listed};
-use msc_reason::{KindSet, Listing};
+use msc_reason::{KindSet, LeftOut, Listing};
 use msc_tree::{put_decimal, put_plain};
 use std::alloc::{AllocError, Global};
 
@@ -320,7 +320,7 @@ fn report_enforced(
     what_counts_is_listed();
     enforced.enforced();
     let races = enforced.count_races() as usize;
-    let listing = Listing::of(alloc, enforced, KindSet::NONE, true)?;
+    let listing = Listing::of(alloc, enforced, LeftOut::of_kinds(KindSet::NONE), true)?;
     let page = report_listing(alloc, draft, &listing, races, version)?;
     Ok(page)
 }

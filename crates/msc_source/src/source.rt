@@ -1,7 +1,8 @@
 //! A text that was read, in two steps: its draft, and then its chart.
 
-ghost use Rattle.std.specs.Prelude.{◌≡◌, IfOk};
+ghost use Rattle.std.specs.Prelude.{◌≡◌, IfOk, OnOk};
 ghost use Rattle.msc_chart.specs.Drawings.{chart_of};
+ghost use Rattle.msc_chart.specs.Faults.{IsFaultless};
 ghost use Rattle.msc_source.specs.Reading.{IsRead, IsReading};
 ghost use Rattle.msc_source.specs.Texts.{IsDrafted, IsSource};
 
@@ -95,6 +96,7 @@ impl<'t> Source<'t> {
 
         // The chart is that of the draft which is at hand, so both may be spoken of at once.
         ensures drawn { IfOk result (λ source. source.chart ≡ chart_of read.now.draft) }
+        ensures faultless { OnOk result (IsFaultless read.now.draft) }
     {
         read.drafted();
         let chart = Chart::build(alloc, &read.draft)?;
