@@ -1,0 +1,7 @@
+-- what is promised
+pub mod Readiness
+pub mod Sticks
+pub mod Finishing
+pub mod Laws
+pub mod Held
+pub mod Views
