@@ -1,2 +1,5 @@
 pub mod Shared
 pub mod Runs
+pub mod Holding
+pub mod Listing
+pub mod Ahead

@@ -5,3 +5,5 @@ pub mod Finishing
 pub mod Laws
 pub mod Held
 pub mod Views
+-- what the code keeps
+pub mod Lesser

@@ -36,10 +36,16 @@ pub record IsLeastAhead (chart : WiredChart) (ready : ℕ → Bool) (f : ℕ) (p
   pub itself : IsAhead chart ready f p
   pub none_below : (o : ℕ × ℕ) → IsPairBefore o p → IsAhead chart ready f o → ⊥
 
+-- whether e is drawn before f on a ready line
+unfoldable pub is_awaited : WiredChart → (ℕ → Bool) → ℕ → ℕ → Bool
+is_awaited chart ready e f = before chart.events e f && ready (line chart.events f)
+
+-- whether e and f are of one queue, and the other end of e does not stand before that of f, by a table
+unfoldable pub is_free : WiredChart → Table → ℕ → ℕ → Bool
+is_free chart order e f =
+    nat_eq (queue chart e) (queue chart f) && not (orders order (partner chart.events e) (partner chart.events f))
+
 -- whether a pair is a stick, by a table of the ready order
 unfoldable pub is_stick : WiredChart → (ℕ → Bool) → Table → ℕ → ℕ → Bool
 is_stick chart ready order e f =
-    ((before chart.events e f && ready (line chart.events f))
-    && (is_input chart.events e && is_input chart.events f))
-    && (nat_eq (queue chart e) (queue chart f)
-    && not (orders order (partner chart.events e) (partner chart.events f)))
+    (is_awaited chart ready e f && (is_input chart.events e && is_input chart.events f)) && is_free chart order e f

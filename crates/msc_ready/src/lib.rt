@@ -6,3 +6,9 @@
 #![tactic(auto)]
 
 pub mod laws;
+mod ready;
+mod sticking;
+mod sticks;
+
+pub use ready::Ready;
+pub use sticks::Sticks;

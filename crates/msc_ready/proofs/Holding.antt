@@ -1,0 +1,121 @@
+-- What is held of a chart with ready instances: its order, and its sticks.
+use Rattle.std.proofs.Common.{◌≡◌, ℕ, ◌<◌, Bool, true, false, not, ◌↔◌, inl, inr, List, [], length, refl, sym, ap, ◌∙◌}
+use Rattle.std.proofs.lemmas.Bool.{eqb-true, eq-eqb, and_parts, and_from, not-true, not_from_false, false_from_ne_true}
+use Rattle.msc_chart.specs.declared.event.ChartEvent.{ChartEvent}
+use Rattle.msc_chart.specs.Charts.{line, partner, is_input, is_controlled, before}
+use Rattle.msc_chart.specs.Drawings.{Drawing}
+use Rattle.msc_chart.specs.declared.queue.Queues.{Queues}
+use Rattle.msc_chart.specs.Orders.{WiredChart, IsWired, queue, wired, IsVisualOrder}
+use Rattle.msc_order.specs.Tables.{Table, orders}
+use Rattle.msc_ready.specs.Held.{HasReadyOrder, ready_chart, ready_of}
+use Rattle.msc_ready.specs.Readiness.{IsReadyOrder}
+use Rattle.msc_ready.specs.Sticks.{IsStick, is_stick, is_awaited, is_free}
+use Rattle.msc_ready.proofs.Shared.{clash, controlled_or_input, controlled_no_input, output_below, partner_of_input}
+use Rattle.msc_ready.proofs.Runs.Acyclic.{visual_of_ready, ready_of_visual}
+
+-- two tests that pass together are equal
+pub same_test : (a b : Bool) → (a ≡ true) ↔ (b ≡ true) → a ≡ b
+same_test true b h = sym (h.0 refl)
+same_test false b h = sym (false_from_ne_true b (λ k. clash (h.1 k) refl))
+
+-- an event of the chart that is not controlled is an input
+pub not_controlled : (events : List ChartEvent) (e : ℕ) → e < length events → not (is_controlled events e) ≡ is_input events e
+not_controlled events e below =
+    elim (controlled_or_input events e below) [
+      | inl c ↦ rw c (sym (false_from_ne_true _ (λ i. controlled_no_input events e c i)))
+      | inr i ↦ rw (false_from_ne_true (is_controlled events e) (λ c. controlled_no_input events e c i)) (sym i)
+    ]
+
+-- with all lines ready a table of the visual order holds the ready order
+pub all_held : (queues : Queues) (d : Drawing) → IsWired (wired queues d) → (order : Table)
+    → length order ≡ length d.events → IsVisualOrder d.events (orders order) → HasReadyOrder (ready_chart d queues [] order)
+all_held queues d is_wired order square visual = record {
+  exact = record {
+    holds = λ x y x_in y_in h. ready_of_visual (wired queues d) is_wired (ready_of []) (λ i. refl) x y (visual.holds x y x_in y_in h);
+    complete = λ x y h. visual.complete x y (visual_of_ready (wired queues d) is_wired (ready_of []) (λ i. refl) x y h);
+  };
+  square = square;
+}
+
+module _ (chart : WiredChart) (ready : ℕ → Bool) (order : Table) where
+  -- what a stick is by the test
+  pub stick_from : (e f : ℕ) → is_awaited chart ready e f ≡ true → is_input chart.events e ≡ true
+      → is_input chart.events f ≡ true → is_free chart order e f ≡ true → is_stick chart ready order e f ≡ true
+  unfolding is_stick
+  stick_from e f b ie if_ free = and_from _ _ (and_from _ _ b (and_from _ _ ie if_)) free
+
+  -- and what is known of it
+  pub stick_parts : (e f : ℕ) → is_stick chart ready order e f ≡ true
+      → (is_awaited chart ready e f ≡ true) × (is_input chart.events e ≡ true)
+      × (is_input chart.events f ≡ true) × (is_free chart order e f ≡ true)
+  unfolding is_stick
+  stick_parts e f h =
+      let both = and_parts _ _ h in
+      let first = and_parts _ _ both.0 in
+      let inputs = and_parts _ _ first.1 in
+      (first.0, inputs.0, inputs.1, both.1)
+
+  -- the test for a pair that is drawn in the order is that for the line
+  pub awaited_when : (e f : ℕ) (b : Bool) → before chart.events e f ≡ true → b ≡ ready (line chart.events f)
+      → b ≡ is_awaited chart ready e f
+  unfolding is_awaited
+  awaited_when e f b drawn same = rw drawn same
+
+  -- a pair that is not drawn in the order fails
+  pub awaited_not : (e f : ℕ) (b : Bool) → b ≡ false → (before chart.events e f ≡ true → b ≡ true)
+      → b ≡ is_awaited chart ready e f
+  unfolding is_awaited
+  awaited_not e f b fails h = fails ∙ sym (false_from_ne_true _ (λ both. clash (h (and_parts _ _ both).0) fails))
+
+  -- the test for outputs of one queue is that for their order
+  pub free_when : (e f : ℕ) (b : Bool) → queue chart e ≡ queue chart f
+      → b ≡ orders order (partner chart.events e) (partner chart.events f) → not b ≡ is_free chart order e f
+  unfolding is_free
+  free_when e f b same stands = rw (eq-eqb _ _ same) (ap not stands)
+
+  -- outputs of two queues fail
+  pub free_not : (e f : ℕ) → (queue chart e ≡ queue chart f → ⊥) → false ≡ is_free chart order e f
+  unfolding is_free
+  free_not e f other = sym (false_from_ne_true _ (λ both. other (eqb-true _ _ (and_parts _ _ both).0)))
+
+  -- where one part of the test fails, it fails
+  pub stick_not : (e f : ℕ) → (is_stick chart ready order e f ≡ true → ⊥) → false ≡ is_stick chart ready order e f
+  stick_not e f h = sym (false_from_ne_true _ h)
+
+  -- where all parts but the last pass, it is the last
+  pub stick_when : (e f : ℕ) (b : Bool) → is_awaited chart ready e f ≡ true → is_input chart.events e ≡ true
+      → is_input chart.events f ≡ true → b ≡ is_free chart order e f → b ≡ is_stick chart ready order e f
+  unfolding is_stick
+  stick_when e f b awaited ie if_ last = rw (awaited, ie, if_) last
+
+  -- what a drawn pair on a ready line is by the test
+  pub awaited_parts : (e f : ℕ) → is_awaited chart ready e f ≡ true
+      → (before chart.events e f ≡ true) × (ready (line chart.events f) ≡ true)
+  unfolding is_awaited
+  awaited_parts e f h = let both = and_parts _ _ h in (both.0, both.1)
+
+  module _ (is_wired : IsWired chart) (told : IsReadyOrder chart ready (orders order)) where
+    -- the test for sticks is exact
+    pub stick_exact : (e f : ℕ) → (is_stick chart ready order e f ≡ true) ↔ IsStick chart ready e f
+    unfolding is_stick is_awaited is_free
+    stick_exact e f = (
+      λ h.
+          let both = and_parts _ _ h in
+          let first = and_parts _ _ both.0 in
+          let lined = and_parts _ _ first.0 in
+          let inputs = and_parts _ _ first.1 in
+          let free = and_parts _ _ both.1 in
+          record {
+            drawn = lined.0;
+            inputs = (inputs.0, inputs.1);
+            one_queue = eqb-true _ _ free.0;
+            line = lined.1;
+            free = λ k. clash (told.complete _ _ k) (not-true _ free.1);
+          },
+      λ s.
+          let e_out = output_below chart.events _ (partner_of_input chart.events is_wired.matched e s.inputs.0) in
+          let f_out = output_below chart.events _ (partner_of_input chart.events is_wired.matched f s.inputs.1) in
+          let apart = false_from_ne_true _ (λ k. s.free (told.holds _ _ e_out f_out k)) in
+          and_from _ _ (and_from _ _ (and_from _ _ s.drawn s.line) (and_from _ _ s.inputs.0 s.inputs.1))
+          (and_from _ _ (eq-eqb _ _ s.one_queue) (not_from_false _ apart)),
+    )

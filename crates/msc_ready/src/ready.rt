@@ -1,0 +1,183 @@
+//! A chart under an architecture, with its ready instances and its ready order.
+
+ghost use Rattle.std.specs.Prelude.{◌≡◌, ℕ, ◌<◌, ◌↔◌, [], length, nat_eq, IfOk, IsTrue};
+ghost use Rattle.msc_chart.specs.Charts.{is_input, line};
+ghost use Rattle.msc_chart.specs.Drawings.{IsAccepted};
+ghost use Rattle.msc_order.specs.Tables.{orders};
+ghost use Rattle.msc_ready.specs.Held.{HasReadyOrder, ready_in, ready_of, wiring_of};
+ghost use Rattle.msc_ready.specs.Readiness.{ReadyOrder};
+ghost use Rattle.msc_ready.specs.Sticks.{is_awaited, is_free, is_stick, IsStick};
+
+use msc_chart::laws::ends_share_queues;
+use msc_chart::{Chart, Event, Queues, Wiring};
+use msc_order::Order;
+use std::alloc::{AllocError, Global};
+use std::marker::Model;
+
+/// A chart under an architecture, which of its lines are ready, and its ready order. Contracts see
+/// these four.
+#[derive(Drop)]
+pub struct Ready<'a> {
+    chart: &'a Chart,
+    queues: Queues,
+    lines: Vec<bool>,
+    order: Order,
+}
+
+impl<'a> Model for Ready<'a> {
+    ghost use Rattle.msc_ready.specs.Held.{ReadyChart, ready_chart, HasReadyOrder};
+
+    ghost Value = { ReadyChart };
+
+    ghost view = { λ r. ready_chart r.chart.now r.queues r.lines.items r.order };
+
+    ghost invariant = { λ r.
+        HasReadyOrder (ready_chart r.chart.now r.queues r.lines.items r.order) };
+}
+
+impl<'a> Ready<'a> {
+    /// A chart under an architecture, all of whose instances are ready. An error is a growth of
+    /// memory that was refused.
+    pub fn all(alloc: Global, chart: &'a Chart, queues: Queues) -> Result<Ready<'a>, AllocError>
+        ensures chart { IfOk result (λ ready. ready.chart ≡ chart.now) }
+        ensures queues { IfOk result (λ ready. ready.queues ≡ queues) }
+        ensures lines { IfOk result (λ ready. ready.lines ≡ []) }
+    {
+        chart.accepted();
+        ends_share_queues();
+        let order = Order::visual(alloc, chart)?;
+        Ok(Ready {
+            chart,
+            queues,
+            lines: Vec::new(alloc),
+            order,
+        })
+    }
+
+    /// The chart.
+    pub fn chart(&self) -> &'a Chart
+        ensures { result.now ≡ self.now.chart }
+    {
+        self.chart
+    }
+
+    /// The architecture.
+    pub fn queues(&self) -> Queues
+        ensures { result ≡ self.now.queues }
+    {
+        self.queues
+    }
+
+    /// The chart under the architecture.
+    pub fn wiring(&self) -> Wiring<'a>
+        ensures chart { result.chart.now ≡ self.now.chart }
+        ensures queues { result.queues ≡ self.now.queues }
+    {
+        Wiring {
+            chart: self.chart,
+            queues: self.queues,
+        }
+    }
+
+    /// What every such chart keeps. It does nothing; a caller calls it to rest its own proof on
+    /// that.
+    pub fn kept(&self)
+        ensures order { HasReadyOrder self.now }
+        ensures chart { IsAccepted self.now.chart }
+    {
+        let chart = self.chart;
+        chart.accepted();
+    }
+
+    /// How many events the chart has. It takes no memory.
+    pub fn events(&self) -> u32
+        ensures { result ≡ length self.now.chart.events }
+    {
+        self.chart.events()
+    }
+
+    /// Whether line `i` is ready. It takes no memory.
+    pub fn is_ready(&self, i: u32) -> bool
+        ensures { result ≡ ready_in self.now i }
+    {
+        match self.lines.get(i as usize) {
+            Some(ready) => *ready,
+            None => true,
+        }
+    }
+
+    /// Whether `e` stands before `f` in the ready order. Both are numbers of events, from 0. It
+    /// takes no memory.
+    pub fn holds(&self, e: Event, f: Event) -> bool
+        requires e_known { e < length self.now.chart.events }
+        requires f_known { f < length self.now.chart.events }
+        ensures value { result ≡ orders self.now.order e f }
+        ensures exact { IsTrue result ↔ ReadyOrder (wiring_of self.now) (ready_in self.now) e f }
+    {
+        self.order.holds(e, f)
+    }
+
+    /// Whether event `e` is an input. It takes no memory.
+    pub fn is_input(&self, e: Event) -> bool
+        requires { e < length self.now.chart.events }
+        ensures { result ≡ is_input self.now.chart.events e }
+    {
+        let chart = self.chart();
+        !chart.is_controlled(e)
+    }
+
+    /// Whether `e` is drawn before `f`, and the line of `f` is ready.
+    fn is_awaited(&self, e: Event, f: Event) -> bool
+        requires e_known { e < length self.now.chart.events }
+        requires f_known { f < length self.now.chart.events }
+        ensures { result ≡ is_awaited (wiring_of self.now) (ready_in self.now) e f }
+    {
+        let chart = self.chart();
+        chart.before(e, f) && self.is_ready(chart.instance_of(f))
+    }
+
+    /// Whether the inputs `e` and `f` are of one queue, and the output of `e` does not stand before
+    /// that of `f`.
+    fn is_free(&self, e: Event, f: Event) -> bool
+        requires e_input { IsTrue (is_input self.now.chart.events e) }
+        requires f_input { IsTrue (is_input self.now.chart.events f) }
+        ensures { result ≡ is_free (wiring_of self.now) self.now.order e f }
+    {
+        self.kept();
+        let (chart, wiring) = (self.chart(), self.wiring());
+        if wiring.queue(e) != wiring.queue(f) {
+            return false;
+        }
+        !self.holds(chart.other_end(e), chart.other_end(f))
+    }
+
+    /// Whether two events are a stick. Both are numbers of events, from 0. It takes no memory.
+    pub fn is_stick(&self, e: Event, f: Event) -> bool
+        requires e_known { e < length self.now.chart.events }
+        requires f_known { f < length self.now.chart.events }
+        ensures value { result
+            ≡ is_stick (wiring_of self.now) (ready_in self.now) self.now.order e f }
+        ensures exact { IsTrue result ↔ IsStick (wiring_of self.now) (ready_in self.now) e f }
+    {
+        self.sticks_are_told();
+        if !self.is_awaited(e, f) {
+            return false;
+        }
+        if !self.is_input(e) {
+            return false;
+        }
+        if !self.is_input(f) {
+            return false;
+        }
+        self.is_free(e, f)
+    }
+
+    /// What the test for sticks says. It does nothing.
+    pub(crate) fn sticks_are_told(&self)
+        ensures { (e f : ℕ) → IsTrue (is_stick (wiring_of self.now) (ready_in self.now)
+            self.now.order e f) ↔ IsStick (wiring_of self.now) (ready_in self.now) e f }
+    {
+        self.kept();
+        ends_share_queues();
+    }
+}
