@@ -3,3 +3,4 @@ pub mod Runs
 pub mod Holding
 pub mod Listing
 pub mod Ahead
+pub mod Begun

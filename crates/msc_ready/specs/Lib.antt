@@ -7,3 +7,4 @@ pub mod Held
 pub mod Views
 -- what the code keeps
 pub mod Lesser
+pub mod Beginnings

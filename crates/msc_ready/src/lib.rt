@@ -5,6 +5,7 @@
 //! all lines.
 #![tactic(auto)]
 
+mod beginning;
 pub mod laws;
 mod ready;
 mod sticking;
