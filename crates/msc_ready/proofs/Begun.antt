@@ -3,3 +3,4 @@ pub mod Marks
 pub mod Fronts
 pub mod Heads
 pub mod Next
+pub mod Toward

@@ -32,11 +32,16 @@ IsWholeReadyRun chart ready events = ReadyRun chart ready events × IsWhole char
 abbrev pub MayFinish : WiredChart → (ℕ → Bool) → Type 0
 MayFinish chart ready = (events : List ℕ) × IsWholeReadyRun chart ready events
 
--- x may come next in turn: it may come next, and where x is the output of an input u of a ready line,
--- the output of each input of its queue that is drawn before u has occurred
+-- x is in turn: where it is the output of an input u of a ready line, the output of each input of the
+-- queue of u that is drawn before u has occurred
+abbrev pub IsInTurn : WiredChart → (ℕ → Bool) → List ℕ → ℕ → Type 0
+IsInTurn chart ready past x =
+    (r u : ℕ) → IsTrue (is_input chart.events r) → IsTrue (is_input chart.events u)
+    → queue chart r ≡ queue chart u → IsTrue (before chart.events r u)
+    → IsTrue (ready (line chart.events u)) → partner chart.events u ≡ x
+    → IsTrue (occurs past (partner chart.events r))
+
+-- x may come next, and is in turn
 pub record MayComeInTurn (chart : WiredChart) (ready : ℕ → Bool) (past : List ℕ) (x : ℕ) : Type 0 where
   pub may : MayComeReady chart ready past x
-  pub turn : (r u : ℕ) → IsTrue (is_input chart.events r) → IsTrue (is_input chart.events u)
-      → queue chart r ≡ queue chart u → IsTrue (before chart.events r u)
-      → IsTrue (ready (line chart.events u)) → partner chart.events u ≡ x
-      → IsTrue (occurs past (partner chart.events r))
+  pub turn : IsInTurn chart ready past x

@@ -2,6 +2,7 @@
 pub mod Readiness
 pub mod Sticks
 pub mod Finishing
+pub mod Running
 pub mod Laws
 pub mod Held
 pub mod Views

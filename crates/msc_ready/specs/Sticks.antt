@@ -40,12 +40,13 @@ pub record IsLeastAhead (chart : WiredChart) (ready : ℕ → Bool) (f : ℕ) (p
 unfoldable pub is_awaited : WiredChart → (ℕ → Bool) → ℕ → ℕ → Bool
 is_awaited chart ready e f = before chart.events e f && ready (line chart.events f)
 
--- whether e and f are of one queue, and the other end of e does not stand before that of f, by a table
-unfoldable pub is_free : WiredChart → Table → ℕ → ℕ → Bool
-is_free chart order e f =
-    nat_eq (queue chart e) (queue chart f) && not (orders order (partner chart.events e) (partner chart.events f))
+-- whether these are two inputs of one queue, the first drawn before the second on a ready line
+unfoldable pub is_lined : WiredChart → (ℕ → Bool) → ℕ → ℕ → Bool
+is_lined chart ready e f =
+    (is_awaited chart ready e f && (is_input chart.events e && is_input chart.events f))
+    && nat_eq (queue chart e) (queue chart f)
 
 -- whether a pair is a stick, by a table of the ready order
 unfoldable pub is_stick : WiredChart → (ℕ → Bool) → Table → ℕ → ℕ → Bool
 is_stick chart ready order e f =
-    (is_awaited chart ready e f && (is_input chart.events e && is_input chart.events f)) && is_free chart order e f
+    is_lined chart ready e f && not (orders order (partner chart.events e) (partner chart.events f))

@@ -6,8 +6,10 @@
 #![tactic(auto)]
 
 mod beginning;
+mod finishing;
 pub mod laws;
 mod ready;
+mod running;
 mod sticking;
 mod sticks;
 

@@ -2,11 +2,12 @@
 
 ghost use Rattle.std.specs.Prelude.{◌≡◌, ℕ, ◌<◌, ◌↔◌, [], length, nat_eq, IfOk, IsTrue};
 ghost use Rattle.msc_chart.specs.Charts.{is_input, line};
+ghost use Rattle.msc_chart.specs.Orders.{queue};
 ghost use Rattle.msc_chart.specs.Drawings.{IsAccepted};
 ghost use Rattle.msc_order.specs.Tables.{orders};
 ghost use Rattle.msc_ready.specs.Held.{HasReadyOrder, ready_in, ready_of, wiring_of};
 ghost use Rattle.msc_ready.specs.Readiness.{ReadyOrder};
-ghost use Rattle.msc_ready.specs.Sticks.{is_awaited, is_free, is_stick, IsStick};
+ghost use Rattle.msc_ready.specs.Sticks.{is_awaited, is_lined, is_stick, IsStick};
 
 use msc_chart::laws::ends_share_queues;
 use msc_chart::{Chart, Event, Queues, Wiring};
@@ -136,19 +137,32 @@ impl<'a> Ready<'a> {
         chart.before(e, f) && self.is_ready(chart.instance_of(f))
     }
 
-    /// Whether the inputs `e` and `f` are of one queue, and the output of `e` does not stand before
-    /// that of `f`.
-    fn is_free(&self, e: Event, f: Event) -> bool
+    /// Whether the inputs `e` and `f` are of one queue.
+    fn share_queue(&self, e: Event, f: Event) -> bool
         requires e_input { IsTrue (is_input self.now.chart.events e) }
         requires f_input { IsTrue (is_input self.now.chart.events f) }
-        ensures { result ≡ is_free (wiring_of self.now) self.now.order e f }
+        ensures { result ≡ nat_eq (queue (wiring_of self.now) e) (queue (wiring_of self.now) f) }
     {
-        self.kept();
-        let (chart, wiring) = (self.chart(), self.wiring());
-        if wiring.queue(e) != wiring.queue(f) {
+        let wiring = self.wiring();
+        wiring.queue(e) == wiring.queue(f)
+    }
+
+    /// Whether these are two inputs of one queue, `e` drawn before `f` on a ready line.
+    pub(crate) fn is_lined(&self, e: Event, f: Event) -> bool
+        requires e_known { e < length self.now.chart.events }
+        requires f_known { f < length self.now.chart.events }
+        ensures { result ≡ is_lined (wiring_of self.now) (ready_in self.now) e f }
+    {
+        if !self.is_awaited(e, f) {
             return false;
         }
-        !self.holds(chart.other_end(e), chart.other_end(f))
+        if !self.is_input(e) {
+            return false;
+        }
+        if !self.is_input(f) {
+            return false;
+        }
+        self.share_queue(e, f)
     }
 
     /// Whether two events are a stick. Both are numbers of events, from 0. It takes no memory.
@@ -160,16 +174,11 @@ impl<'a> Ready<'a> {
         ensures exact { IsTrue result ↔ IsStick (wiring_of self.now) (ready_in self.now) e f }
     {
         self.sticks_are_told();
-        if !self.is_awaited(e, f) {
+        if !self.is_lined(e, f) {
             return false;
         }
-        if !self.is_input(e) {
-            return false;
-        }
-        if !self.is_input(f) {
-            return false;
-        }
-        self.is_free(e, f)
+        let chart = self.chart();
+        !self.holds(chart.other_end(e), chart.other_end(f))
     }
 
     /// What the test for sticks says. It does nothing.

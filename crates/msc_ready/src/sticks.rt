@@ -1,10 +1,12 @@
 //! All sticks of a chart, and which of them come first.
 
-ghost use Rattle.std.specs.Prelude.{◌≡◌, ℕ, ◌<◌, length, IfOk, MatchOption, OnOk};
+ghost use Rattle.std.specs.Prelude.{◌≡◌, ℕ, ◌<◌, ◌↔◌, length, IfOk, MatchOption, OnOk};
 ghost use Rattle.msc_chart.specs.Lists.{IsLeast};
 ghost use Rattle.msc_ready.specs.Held.{ready_in, wiring_of};
-ghost use Rattle.msc_ready.specs.Sticks.{IsAhead, IsLeastAhead};
-ghost use Rattle.msc_ready.specs.Views.{sticks_from, sticks_of, AreLeastFirsts, AreSticksFrom};
+ghost use Rattle.msc_ready.specs.Sticks.{HasNoStick, IsAhead, IsLeastAhead};
+ghost use Rattle.msc_ready.specs.Views.{sticks_from, sticks_of, AreLeastFirsts, AreSticks};
+ghost use Rattle.msc_ready.specs.Views.{AreSticksFrom};
+ghost use Rattle.msc_race.specs.Races.{AreAscending};
 ghost use Rattle.msc_ready.specs.Lesser.{lesser_of};
 
 use crate::ready::Ready;
@@ -77,8 +79,12 @@ impl<'a> Sticks<'a> {
 
     /// How many sticks there are. It takes no memory.
     pub fn count(&self) -> u32
-        ensures { result ≡ length (sticks_of self.now) }
+        ensures number { result ≡ length (sticks_of self.now) }
+        ensures exact { AreSticks self.now (sticks_of self.now) }
+        ensures ascending { AreAscending (sticks_of self.now) }
+        ensures none { (result ≡ 0) ↔ HasNoStick (wiring_of self.now) (ready_in self.now) }
     {
+        self.ready.sticks_are_told();
         self.ready.count_sticks()
     }
 

@@ -1,7 +1,7 @@
 -- The marks of the events that have occurred.
-use Rattle.std.proofs.Common.{◌≡◌, ℕ, ◌<◌, Bool, true, false, List, [], ◌∷◌, ◌++◌, length, sym, ap, ◌∙◌, arith, inl, inr, set, get_or-set_other, get_or-set_same}
+use Rattle.std.proofs.Common.{◌≡◌, ℕ, ◌<◌, Bool, true, false, List, [], ◌∷◌, ◌++◌, length, get_or, sym, ap, ◌∙◌, arith, inl, inr, set, get_or-set_other, get_or-set_same}
 use Rattle.std.proofs.lemmas.Bool.{cases_eq}
-use Rattle.std.proofs.lemmas.List.{get_or-replicate, length-replicate}
+use Rattle.std.proofs.lemmas.List.{get_or_read, get_or-replicate, length-replicate}
 use Rattle.std.proofs.Math.ListN.{length-set, replicate}
 use Rattle.msc_chart.specs.Lists.{occurs}
 use Rattle.msc_ready.specs.Beginnings.{HasMarks}
@@ -26,3 +26,9 @@ marked_after n run done x below h = record {
     | inr other ↦ get_or-set_other done x y true false other ∙ h.told y y_below ∙ sym (occurs_other run x y other)
   ];
 }
+
+-- the mark that is read tells whether x has occurred
+pub mark_read : (n : ℕ) (run : List ℕ) (done : List Bool) (x : ℕ) (b : Bool) → HasMarks n run done → x < n → b ≡ get_or done x b → b ≡ occurs run x
+mark_read n run done x b marks below read =
+    let each = marks.each in
+    get_or_read done x b (omega (arith, each, below)) read false ∙ marks.told x below

@@ -10,7 +10,7 @@ use Rattle.msc_ready.specs.Readiness.{MayComeReady, ReadyRun, ReadyOrder, IsRead
 use Rattle.msc_ready.specs.Readiness.ReadyOrder.{drawn, joined}
 use Rattle.msc_ready.specs.Sticks.{IsStick, IsFirstStick, HasNoStick}
 use Rattle.msc_ready.specs.Laws.{GoesOnReady}
-use Rattle.msc_ready.proofs.Shared.{by_test, clash, count_below, find_below, descend, step_at, until-within, until-append, occurs-left, occurs-push, occurs_other, Steps-map, Steps-push, before_parts, input_below, output_below, not_both, partner_of_input, any_below, some_of_any, any_from}
+use Rattle.msc_ready.proofs.Shared.{by_test, clash, count_below, find_below, descend, step_at, until-within, until-append, occurs-left, occurs-push, occurs_other, Steps-map, Steps-push, before_parts, input_below, output_below, not_both, partner_of_input, any_below, some_of_any, any_from, is_left, left_from, left_parts}
 use Rattle.msc_race.proofs.Runs.Deciding.{may_decided}
 use Rattle.msc_ready.proofs.Runs.Keeping.{HaveOneLine, not_behind}
 use Rattle.msc_ready.proofs.Runs.Final.{lined_of, outputs_differ, final}
@@ -132,21 +132,60 @@ module _ (chart : WiredChart) (is_wired : IsWired chart) (lines : HaveOneLine ch
           | inr i ↦ absurd (not_both chart.events s o i)
         ]
 
+    -- the outputs of a list stand before the second output
+    abbrev HasOutputsAhead : List ℕ → Type 0
+    HasOutputsAhead past =
+        (s : ℕ) → is_output chart.events s ≡ true → occurs past s ≡ true → ReadyOrder chart ready s second
+
     -- while something ahead is left, there is such a step: what would stand in the way is a stick, and
     -- its second output is ahead
-    toward_on : (past : List ℕ) → Steps MayToward [] past → (g : ℕ) → g < length chart.events
+    ahead_on : (past : List ℕ) → ReadyRun chart ready past → HasOutputsAhead past → (g : ℕ) → g < length chart.events
         → ahead g ≡ true → occurs past g ≡ false → (x : ℕ) × MayToward past x
-    toward_on past steps g below member new =
-        let run = toward_run past steps in
+    ahead_on past run outs g below member new =
         let table = (ready_order chart is_wired ready).1 in
         let can = can_come ahead (λ x y h k. table.complete x second (joined h (ahead_order y (ready_below chart is_wired ready x y h).1 k))) in
         let next = progress chart is_wired lines ready ahead (is_needed chart ready) (ReadyOrder chart ready) can past
         (λ x r ix ir same drawn_so set in_ahead early.
         let r_out = partner_of_input chart.events is_wired.matched r ir in
         let r_sent = until-within past (partner chart.events x) (partner chart.events r) early in
-        first.none_ahead (x, r) (stick_of past run x r ix ir same drawn_so set early, toward_outputs past steps _ r_out r_sent))
+        first.none_ahead (x, r) (stick_of past run x r ix ir same drawn_so set early, outs _ r_out r_sent))
         g below member new in
         (next.0, (next.1.may, next.1.member))
+
+    -- so while steps on the way there have left something
+    toward_on : (past : List ℕ) → Steps MayToward [] past → (g : ℕ) → g < length chart.events
+        → ahead g ≡ true → occurs past g ≡ false → (x : ℕ) × MayToward past x
+    toward_on past steps = ahead_on past (toward_run past steps) (toward_outputs past steps)
+
+    -- where all that is ahead has occurred, the second output may come
+    second_may : (past : List ℕ) → occurs past second ≡ false
+        → ((x : ℕ) → x < length chart.events → ahead x ≡ true → occurs past x ≡ true) → MayComeReady chart ready past second
+    second_may past new all = record {
+      may = record {
+        event = output_below chart.events second second_out;
+        new = new;
+        controlled = λ c y drawn_so. all y (before_parts chart.events y second drawn_so).0
+            ((ready_order chart is_wired ready).1.complete y second (drawn drawn_so c));
+        input = λ i. absurd (not_both chart.events second second_out i);
+      };
+      awaited = λ i. absurd (not_both chart.events second second_out i);
+    }
+
+    -- so before the second output has occurred, it or something ahead or an input may come
+    pub toward_next : (past : List ℕ) → ReadyRun chart ready past → HasOutputsAhead past → occurs past second ≡ false
+        → (x : ℕ) × MayComeReady chart ready past x
+        × (((x ≡ second) ⊎ ReadyOrder chart ready x second) ⊎ (is_input chart.events x ≡ true))
+    toward_next past run outs new =
+        elim (find_below (is_left ahead past) (length chart.events)) [
+          | inl found ↦
+              let parts = left_parts ahead past found.0 found.2 in
+              let next = ahead_on past run outs found.0 found.1 parts.0 parts.1 in
+              (next.0, next.1.0, elim next.1.1 [ inl h ↦ inl (inr (ahead_order next.0 next.1.0.may.event h)) | inr i ↦ inr i ])
+          | inr none ↦
+              let may = second_may past new (λ x below member. by_test (occurs past x) (λ there. there)
+              (λ out. clash (left_from ahead past x member out) (none x below))) in
+              (second, may, inl (inl refl))
+        ]
 
     -- So some ready run has the second output and not, before it, the first; it goes on to one after
     -- which the system has stuck.
@@ -158,16 +197,7 @@ module _ (chart : WiredChart) (is_wired : IsWired chart) (lines : HaveOneLine ch
         let run = toward_run front steps in
         let new : occurs front second ≡ false = false_from_ne_true _
         (λ there. ready_acyclic chart is_wired ready lines acyclic second (toward_outputs front steps second second_out there)) in
-        let may : MayComeReady chart ready front second = record {
-          may = record {
-            event = output_below chart.events second second_out;
-            new = new;
-            controlled = λ c y drawn_so. all.2 y (before_parts chart.events y second drawn_so).0
-                ((ready_order chart is_wired ready).1.complete y second (drawn drawn_so c));
-            input = λ i. absurd (not_both chart.events second second_out i);
-          };
-          awaited = λ i. absurd (not_both chart.events second second_out i);
-        } in
+        let may = second_may front new all.2 in
         let sent_run = Steps-push (MayComeReady chart ready) front second run may in
         let sent_list : List ℕ = front ++ second ∷ [] in
         let more = reach_end (MayComeReady chart ready) (length chart.events) ready_new ready_decided sent_list sent_run in

@@ -1,17 +1,9 @@
-use Rattle.std.proofs.Common.{◌≡◌, ◌<◌, ℕ, Bool, true, false, List, length, get_or, refl, ap, sym, ◌∙◌, arith}
-use Rattle.std.proofs.lemmas.List.{get_or_read}
-use Rattle.msc_chart.specs.Lists.{occurs}
-use Rattle.msc_ready.specs.Beginnings.{HasMarks}
+use Rattle.std.proofs.Common.{true, false, length, refl, ap, sym, ◌∙◌}
 use Rattle.msc_ready.specs.Held.{wiring_of, ready_in}
 use Rattle.msc_ready.proofs.Shared.{clash}
+use Rattle.msc_ready.proofs.Begun.Marks.{mark_read}
 use Rattle.msc_ready.proofs.Begun.Next.{never_again, may_controlled, never_behind, may_loose, may_awaited}
 use Rattle.msc_ready.proofs.beginning.Beginning.may_come.Goals as goal
-
--- the mark that is read tells whether x has occurred
-mark_read : (n : ℕ) (run : List ℕ) (done : List Bool) (x : ℕ) (b : Bool) → HasMarks n run done → x < n → b ≡ get_or done x b → b ≡ occurs run x
-mark_read n run done x b marks below read =
-    let each = marks.each in
-    get_or_read done x b (omega (arith, each, below)) read false ∙ marks.told x below
 
 pub returns-then-index : goal.returns-then-index
 returns-then-index c =

@@ -8,9 +8,9 @@ returns-then-before c =
     let self = c.args.self.now in
     let drawn = rw c.chart-chart.ensures at (c.before-2.ensures.0 c.if-before.true) in
     let line = rw c.chart-chart.ensures at c.instance_of.ensures in
-    awaited_when (wiring_of self) (ready_in self) self.order c.args.e c.args.f _ drawn (c.is_ready.ensures ∙ ap (ready_in self) line)
+    awaited_when (wiring_of self) (ready_in self) c.args.e c.args.f _ drawn (c.is_ready.ensures ∙ ap (ready_in self) line)
 
 pub returns-else-before : goal.returns-else-before
 returns-else-before c =
     let self = c.args.self.now in
-    awaited_not (wiring_of self) (ready_in self) self.order c.args.e c.args.f _ c.if-before.false (rw c.chart-chart.ensures at c.before-2.ensures.1)
+    awaited_not (wiring_of self) (ready_in self) c.args.e c.args.f _ c.if-before.false (rw c.chart-chart.ensures at c.before-2.ensures.1)
