@@ -1,17 +1,14 @@
 -- What is held of a chart with ready instances: its order, and its sticks.
-use Rattle.std.proofs.Common.{◌≡◌, ℕ, ◌<◌, Bool, true, false, not, ◌↔◌, inl, inr, List, [], length, eqb, refl, sym, ap, ◌∙◌}
+use Rattle.std.proofs.Common.{◌≡◌, ℕ, ◌<◌, Bool, true, false, not, ◌↔◌, inl, inr, List, length, eqb, refl, sym, ap, ◌∙◌}
 use Rattle.std.proofs.lemmas.Bool.{eqb-true, eq-eqb, and_parts, and_from, not-true, not_from_false, false_from_ne_true}
 use Rattle.msc_chart.specs.declared.event.ChartEvent.{ChartEvent}
 use Rattle.msc_chart.specs.Charts.{line, partner, is_input, is_controlled, before}
-use Rattle.msc_chart.specs.Drawings.{Drawing}
-use Rattle.msc_chart.specs.declared.queue.Queues.{Queues}
-use Rattle.msc_chart.specs.Orders.{WiredChart, IsWired, queue, wired, IsVisualOrder}
+use Rattle.msc_chart.specs.Orders.{WiredChart, IsWired, queue, IsVisualOrder}
 use Rattle.msc_order.specs.Tables.{Table, orders}
-use Rattle.msc_ready.specs.Held.{HasReadyOrder, ready_chart, ready_of}
-use Rattle.msc_ready.specs.Readiness.{IsReadyOrder}
 use Rattle.msc_ready.specs.Sticks.{IsStick, is_stick, is_awaited, is_lined}
+use Rattle.msc_ready.proofs.Runs.Fewer.{outputs_told}
+use Rattle.msc_ready.proofs.Runs.Keeping.{HaveOneLine}
 use Rattle.msc_ready.proofs.Shared.{clash, controlled_or_input, controlled_no_input, output_below, partner_of_input}
-use Rattle.msc_ready.proofs.Runs.Acyclic.{visual_of_ready, ready_of_visual}
 
 -- two tests that pass together are equal
 pub same_test : (a b : Bool) → (a ≡ true) ↔ (b ≡ true) → a ≡ b
@@ -25,17 +22,6 @@ not_controlled events e below =
       | inl c ↦ rw c (sym (false_from_ne_true _ (λ i. controlled_no_input events e c i)))
       | inr i ↦ rw (false_from_ne_true (is_controlled events e) (λ c. controlled_no_input events e c i)) (sym i)
     ]
-
--- with all lines ready a table of the visual order holds the ready order
-pub all_held : (queues : Queues) (d : Drawing) → IsWired (wired queues d) → (order : Table)
-    → length order ≡ length d.events → IsVisualOrder d.events (orders order) → HasReadyOrder (ready_chart d queues [] order)
-all_held queues d is_wired order square visual = record {
-  exact = record {
-    holds = λ x y x_in y_in h. ready_of_visual (wired queues d) is_wired (ready_of []) (λ i. refl) x y (visual.holds x y x_in y_in h);
-    complete = λ x y h. visual.complete x y (visual_of_ready (wired queues d) is_wired (ready_of []) (λ i. refl) x y h);
-  };
-  square = square;
-}
 
 module _ (chart : WiredChart) (ready : ℕ → Bool) where
   -- the test for a pair that is drawn in the order is that for the line
@@ -101,10 +87,10 @@ module _ (chart : WiredChart) (ready : ℕ → Bool) where
     stick_when e f b lined same = rw lined (ap not same)
 
     -- the test for sticks is exact
-    pub stick_exact : IsWired chart → IsReadyOrder chart ready (orders order) → (e f : ℕ)
+    pub stick_exact : IsWired chart → HaveOneLine chart → IsVisualOrder chart.events (orders order) → (e f : ℕ)
         → (is_stick chart ready order e f ≡ true) ↔ IsStick chart ready e f
     unfolding is_stick
-    stick_exact is_wired told e f = (
+    stick_exact is_wired lines told e f = (
       λ h.
           let both = and_parts _ _ h in
           let parts = lined_parts e f both.0 in
@@ -114,11 +100,15 @@ module _ (chart : WiredChart) (ready : ℕ → Bool) where
             inputs = (parts.1, parts.2);
             one_queue = parts.3;
             line = drawn.1;
-            free = λ k. clash (told.complete _ _ k) (not-true _ both.1);
+            free = λ k.
+                let e_out = partner_of_input chart.events is_wired.matched e parts.1 in
+                let f_out = partner_of_input chart.events is_wired.matched f parts.2 in
+                clash (told.complete _ _ ((outputs_told chart ready is_wired lines _ _ e_out f_out).0 k)) (not-true _ both.1);
           },
       λ s.
-          let e_out = output_below chart.events _ (partner_of_input chart.events is_wired.matched e s.inputs.0) in
-          let f_out = output_below chart.events _ (partner_of_input chart.events is_wired.matched f s.inputs.1) in
-          let apart = false_from_ne_true _ (λ k. s.free (told.holds _ _ e_out f_out k)) in
+          let e_out = partner_of_input chart.events is_wired.matched e s.inputs.0 in
+          let f_out = partner_of_input chart.events is_wired.matched f s.inputs.1 in
+          let apart = false_from_ne_true _ (λ k. s.free ((outputs_told chart ready is_wired lines _ _ e_out f_out).1
+          (told.holds _ _ (output_below chart.events _ e_out) (output_below chart.events _ f_out) k))) in
           and_from _ _ (lined_from e f s.drawn s.line s.inputs.0 s.inputs.1 s.one_queue) (not_from_false _ apart),
     )

@@ -4,6 +4,7 @@ pub mod Final
 pub mod Progress
 pub mod Growing
 pub mod Acyclic
+pub mod Fewer
 pub mod Tables
 pub mod Sticking
 pub mod Passing

@@ -1,10 +1,9 @@
--- A chart under an architecture, with its ready instances and its ready order, as contracts see it.
+-- A chart under an architecture, with its ready instances and its visual order, as contracts see it.
 use Rattle.std.specs.Prelude.{◌≡◌, ℕ, Bool, true, List, length, get_or}
 use Rattle.msc_chart.specs.declared.queue.Queues.{Queues}
 use Rattle.msc_chart.specs.Drawings.{Drawing}
-use Rattle.msc_chart.specs.Orders.{WiredChart, wired}
+use Rattle.msc_chart.specs.Orders.{WiredChart, wired, IsVisualOrder}
 use Rattle.msc_order.specs.Tables.{Table, orders}
-use Rattle.msc_ready.specs.Readiness.{IsReadyOrder}
 
 -- whether line i is ready: a line of which the list says nothing is
 abbrev pub ready_of : List Bool → ℕ → Bool
@@ -29,7 +28,7 @@ wiring_of r = wired r.queues r.chart
 abbrev pub ready_in : ReadyChart → ℕ → Bool
 ready_in r = ready_of r.lines
 
--- the order is the ready order
-pub record HasReadyOrder (r : ReadyChart) : Type 0 where
-  pub exact : IsReadyOrder (wiring_of r) (ready_in r) (orders r.order)
+-- the order is the visual order, by which the ready order is told
+pub record HasVisualOrder (r : ReadyChart) : Type 0 where
+  pub visual : IsVisualOrder r.chart.events (orders r.order)
   pub square : length r.order ≡ length r.chart.events

@@ -2,7 +2,7 @@
 use Rattle.std.specs.Prelude.{ℕ, Bool, List, ◌++◌, IsTrue, ◌↔◌}
 use Rattle.msc_chart.specs.declared.queue.Queues.{Queues}
 use Rattle.msc_chart.specs.Lists.{occurs, until}
-use Rattle.msc_chart.specs.Charts.{partner, Visual}
+use Rattle.msc_chart.specs.Charts.{is_output, partner, Visual}
 use Rattle.msc_chart.specs.Drawings.{Drawing, IsAccepted}
 use Rattle.msc_chart.specs.Orders.{WiredChart, wired}
 use Rattle.msc_chart.specs.Runs.{Run, IsWhole, KeepsDrawnOrder, Reverses}
@@ -94,3 +94,17 @@ abbrev pub SomeRunIsWhole : Type 0
 SomeRunIsWhole =
     (queues : Queues) (d : Drawing) → IsAccepted d → (ready : ℕ → Bool)
     → MayFinish (wired queues d) ready ↔ HasNoWholeRing (wired queues d) ready
+
+-- with more instances ready each stick stays a stick: so more ready instances end no sticking
+abbrev pub MoreReadyEndNoSticking : Type 0
+MoreReadyEndNoSticking =
+    (queues : Queues) (d : Drawing) → IsAccepted d → (ready more : ℕ → Bool)
+    → ((i : ℕ) → IsTrue (ready i) → IsTrue (more i)) → (e f : ℕ)
+    → IsStick (wired queues d) ready e f → IsStick (wired queues d) more e f
+
+-- between outputs the ready order is the visual order, whichever instances are ready
+abbrev pub OutputsAreInVisualOrder : Type 0
+OutputsAreInVisualOrder =
+    (queues : Queues) (d : Drawing) → IsAccepted d → (ready : ℕ → Bool) (s t : ℕ)
+    → IsTrue (is_output d.events s) → IsTrue (is_output d.events t)
+    → ReadyOrder (wired queues d) ready s t ↔ Visual d.events s t

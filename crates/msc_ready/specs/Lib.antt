@@ -7,5 +7,6 @@ pub mod Laws
 pub mod Held
 pub mod Views
 -- what the code keeps
+pub mod Plain
 pub mod Lesser
 pub mod Beginnings

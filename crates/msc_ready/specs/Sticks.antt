@@ -1,6 +1,6 @@
 -- Sticks: pairs of inputs for which a system whose instances are ready can stick. They are this
 -- project's own.
-use Rattle.std.specs.Prelude.{◌≡◌, ℕ, Bool, ◌&&◌, not, IsTrue, nat_eq}
+use Rattle.std.specs.Prelude.{◌≡◌, ℕ, Bool, false, ◌&&◌, not, IsTrue, nat_eq}
 use Rattle.msc_chart.specs.Charts.{line, partner, is_input, before}
 use Rattle.msc_chart.specs.Orders.{WiredChart, queue}
 use Rattle.msc_order.specs.Tables.{Table, orders}
@@ -50,3 +50,9 @@ is_lined chart ready e f =
 unfoldable pub is_stick : WiredChart → (ℕ → Bool) → Table → ℕ → ℕ → Bool
 is_stick chart ready order e f =
     is_lined chart ready e f && not (orders order (partner chart.events e) (partner chart.events f))
+
+-- a race that is left: a pair that is drawn on a line that is not ready, in an order which is not that
+-- of the ready order
+abbrev pub IsRaceLeft : WiredChart → (ℕ → Bool) → ℕ → ℕ → Type 0
+IsRaceLeft chart ready e f =
+    IsTrue (before chart.events e f) × (ready (line chart.events e) ≡ false) × (ReadyOrder chart ready e f → ⊥)

@@ -6,7 +6,7 @@ ghost use Rattle.msc_ready.specs.Laws.{AStickIsFinal, AllReadyIsVisual, TheReady
 ghost use Rattle.msc_ready.specs.Laws.{EachFirstStickIsMet, NeverSticks, SomeStickIsFirst};
 ghost use Rattle.msc_ready.specs.Laws.{APassNeverSticks, AllReadyRunsKeepTheDrawnOrder};
 ghost use Rattle.msc_ready.specs.Laws.{ReadyRunsKeepReadyLines, ReadyRunsKeepTheReadyOrder};
-ghost use Rattle.msc_ready.specs.Laws.{SomeRunIsWhole};
+ghost use Rattle.msc_ready.specs.Laws.{MoreReadyEndNoSticking, OutputsAreInVisualOrder, SomeRunIsWhole};
 
 use msc_chart::laws::{ends_share_queues, inputs_share_lines};
 
@@ -87,3 +87,19 @@ pub fn ready_runs_keep_ready_lines()
     ensures lines { ReadyRunsKeepReadyLines }
     ensures all { AllReadyRunsKeepTheDrawnOrder }
 {}
+
+/// With more instances ready each stick stays a stick.
+pub fn more_ready_end_no_sticking()
+    ensures { MoreReadyEndNoSticking }
+{
+    ends_share_queues();
+    inputs_share_lines();
+}
+
+/// Between outputs the ready order is the visual order, whichever instances are ready.
+pub fn outputs_are_in_visual_order()
+    ensures { OutputsAreInVisualOrder }
+{
+    ends_share_queues();
+    inputs_share_lines();
+}

@@ -8,6 +8,7 @@
 mod beginning;
 mod finishing;
 pub mod laws;
+mod ordering;
 mod ready;
 mod running;
 mod sticking;

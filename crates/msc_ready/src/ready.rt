@@ -1,21 +1,22 @@
-//! A chart under an architecture, with its ready instances and its ready order.
+//! A chart under an architecture, with its ready instances.
+//!
+//! The visual order is kept with it: whichever instances are ready, the ready order is told by it.
 
 ghost use Rattle.std.specs.Prelude.{◌≡◌, ℕ, ◌<◌, ◌↔◌, [], length, nat_eq, IfOk, IsTrue};
 ghost use Rattle.msc_chart.specs.Charts.{is_input, line};
 ghost use Rattle.msc_chart.specs.Orders.{queue};
 ghost use Rattle.msc_chart.specs.Drawings.{IsAccepted};
 ghost use Rattle.msc_order.specs.Tables.{orders};
-ghost use Rattle.msc_ready.specs.Held.{HasReadyOrder, ready_in, ready_of, wiring_of};
-ghost use Rattle.msc_ready.specs.Readiness.{ReadyOrder};
+ghost use Rattle.msc_ready.specs.Held.{HasVisualOrder, ready_in, ready_of, wiring_of};
 ghost use Rattle.msc_ready.specs.Sticks.{is_awaited, is_lined, is_stick, IsStick};
 
-use msc_chart::laws::ends_share_queues;
+use msc_chart::laws::{ends_share_queues, inputs_share_lines};
 use msc_chart::{Chart, Event, Queues, Wiring};
 use msc_order::Order;
 use std::alloc::{AllocError, Global};
 use std::marker::Model;
 
-/// A chart under an architecture, which of its lines are ready, and its ready order. Contracts see
+/// A chart under an architecture, which of its lines are ready, and its visual order. Contracts see
 /// these four.
 #[derive(Drop)]
 pub struct Ready<'a> {
@@ -26,14 +27,14 @@ pub struct Ready<'a> {
 }
 
 impl<'a> Model for Ready<'a> {
-    ghost use Rattle.msc_ready.specs.Held.{ReadyChart, ready_chart, HasReadyOrder};
+    ghost use Rattle.msc_ready.specs.Held.{ReadyChart, ready_chart, HasVisualOrder};
 
     ghost Value = { ReadyChart };
 
     ghost view = { λ r. ready_chart r.chart.now r.queues r.lines.items r.order };
 
     ghost invariant = { λ r.
-        HasReadyOrder (ready_chart r.chart.now r.queues r.lines.items r.order) };
+        HasVisualOrder (ready_chart r.chart.now r.queues r.lines.items r.order) };
 }
 
 impl<'a> Ready<'a> {
@@ -44,13 +45,26 @@ impl<'a> Ready<'a> {
         ensures queues { IfOk result (λ ready. ready.queues ≡ queues) }
         ensures lines { IfOk result (λ ready. ready.lines ≡ []) }
     {
-        chart.accepted();
-        ends_share_queues();
+        Ready::some(alloc, chart, queues, Vec::new(alloc))
+    }
+
+    /// A chart under an architecture, where those instances are ready of which the list says so, or
+    /// says nothing. An error is a growth of memory that was refused.
+    pub fn some(
+        alloc: Global,
+        chart: &'a Chart,
+        queues: Queues,
+        lines: Vec<bool>,
+    ) -> Result<Ready<'a>, AllocError>
+        ensures chart { IfOk result (λ ready. ready.chart ≡ chart.now) }
+        ensures queues { IfOk result (λ ready. ready.queues ≡ queues) }
+        ensures lines { IfOk result (λ ready. ready.lines ≡ lines.items) }
+    {
         let order = Order::visual(alloc, chart)?;
         Ok(Ready {
             chart,
             queues,
-            lines: Vec::new(alloc),
+            lines,
             order,
         })
     }
@@ -83,7 +97,7 @@ impl<'a> Ready<'a> {
     /// What every such chart keeps. It does nothing; a caller calls it to rest its own proof on
     /// that.
     pub fn kept(&self)
-        ensures order { HasReadyOrder self.now }
+        ensures order { HasVisualOrder self.now }
         ensures chart { IsAccepted self.now.chart }
     {
         let chart = self.chart;
@@ -107,13 +121,11 @@ impl<'a> Ready<'a> {
         }
     }
 
-    /// Whether `e` stands before `f` in the ready order. Both are numbers of events, from 0. It
-    /// takes no memory.
-    pub fn holds(&self, e: Event, f: Event) -> bool
+    /// Whether `e` stands before `f` in the visual order.
+    pub(crate) fn precedes(&self, e: Event, f: Event) -> bool
         requires e_known { e < length self.now.chart.events }
         requires f_known { f < length self.now.chart.events }
-        ensures value { result ≡ orders self.now.order e f }
-        ensures exact { IsTrue result ↔ ReadyOrder (wiring_of self.now) (ready_in self.now) e f }
+        ensures { result ≡ orders self.now.order e f }
     {
         self.order.holds(e, f)
     }
@@ -138,7 +150,7 @@ impl<'a> Ready<'a> {
     }
 
     /// Whether the inputs `e` and `f` are of one queue.
-    fn share_queue(&self, e: Event, f: Event) -> bool
+    pub(crate) fn share_queue(&self, e: Event, f: Event) -> bool
         requires e_input { IsTrue (is_input self.now.chart.events e) }
         requires f_input { IsTrue (is_input self.now.chart.events f) }
         ensures { result ≡ nat_eq (queue (wiring_of self.now) e) (queue (wiring_of self.now) f) }
@@ -178,7 +190,7 @@ impl<'a> Ready<'a> {
             return false;
         }
         let chart = self.chart();
-        !self.holds(chart.other_end(e), chart.other_end(f))
+        !self.precedes(chart.other_end(e), chart.other_end(f))
     }
 
     /// What the test for sticks says. It does nothing.
@@ -188,5 +200,6 @@ impl<'a> Ready<'a> {
     {
         self.kept();
         ends_share_queues();
+        inputs_share_lines();
     }
 }

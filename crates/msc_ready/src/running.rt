@@ -54,7 +54,7 @@ impl Beginning {
             self.now.run.items)) }
     {
         for x in 0..ready.events() {
-            if is_among(ready, among, x) && self.may_come(ready, x) {
+            if self.may_come(ready, x) && is_among(ready, among, x) {
                 return Some(x);
             }
         }

@@ -1,46 +1,40 @@
 -- The ready order has no cycle: of a pair either lines and messages are enough, or it leads over one
 -- use of the rule of queues, between two inputs whose outputs lines and messages order.
-use Rattle.std.proofs.Common.{◌≡◌, ℕ, ◌<◌, Bool, true, false, ◌⊎◌, inl, inr, length, refl, sym, ◌∙◌, subst}
-use Rattle.msc_chart.specs.Charts.{line, partner, is_output, is_input, is_controlled, before, IsAcyclic, Visual}
+use Rattle.std.proofs.Common.{◌≡◌, ℕ, ◌<◌, Bool, true, false, ◌⊎◌, inl, inr, length, refl, sym, ◌∙◌, subst, ap}
+use Rattle.msc_chart.specs.Charts.{line, partner, is_output, is_input, IsAcyclic, Visual}
 use Rattle.msc_chart.specs.Charts.Visual.{seen, passed, linked}
 use Rattle.msc_chart.specs.Orders.{WiredChart, IsWired, queue}
+use Rattle.msc_ready.specs.Plain.{AreMates, Plain}
+use Rattle.msc_ready.specs.Plain.Plain.{plain_drawn, plain_awaited, plain_sent, plain_joined}
 use Rattle.msc_ready.specs.Readiness.{ReadyOrder}
 use Rattle.msc_ready.specs.Readiness.ReadyOrder.{drawn, awaited, sent, joined, queued}
 use Rattle.msc_ready.proofs.Runs.Keeping.{HaveOneLine}
 use Rattle.msc_ready.proofs.Shared.{clash, before_parts, controlled_no_input, controlled_or_input, input_below, not_both, output_below, partner_of_input, partner_of_output}
 
--- what lines and messages order while these lines are ready
-pub data Plain (chart : WiredChart) (ready : ℕ → Bool) : ℕ → ℕ → Type 0 where
-  plain_drawn : {x s : ℕ} → before chart.events x s ≡ true → is_controlled chart.events s ≡ true → Plain chart ready x s
-  plain_awaited : {x r : ℕ} → before chart.events x r ≡ true → is_input chart.events r ≡ true
-      → ready (line chart.events r) ≡ true → Plain chart ready x r
-  plain_sent : {s r : ℕ} → is_output chart.events s ≡ true → partner chart.events s ≡ r → Plain chart ready s r
-  plain_joined : {x y z : ℕ} → Plain chart ready x y → Plain chart ready y z → Plain chart ready x z
-
 module _ (chart : WiredChart) (is_wired : IsWired chart) (ready : ℕ → Bool) where
   -- it is part of the visual order
-  plain_visual : (x y : ℕ) → Plain chart ready x y → Visual chart.events x y
+  pub plain_visual : (x y : ℕ) → Plain chart ready x y → Visual chart.events x y
   plain_visual x y (plain_drawn h o) = seen h
   plain_visual x y (plain_awaited h i l) = seen h
   plain_visual x y (plain_sent o p) = passed o p
   plain_visual x y (plain_joined {y = m} h k) = linked (plain_visual x m h) (plain_visual m y k)
 
   -- x is y, or is ordered before it
-  abbrev UpTo : ℕ → ℕ → Type 0
+  abbrev pub UpTo : ℕ → ℕ → Type 0
   UpTo x y = (x ≡ y) ⊎ Plain chart ready x y
 
   -- two steps of which the second may be none
-  then_up : {x y z : ℕ} → Plain chart ready x y → UpTo y z → Plain chart ready x z
+  pub then_up : {x y z : ℕ} → Plain chart ready x y → UpTo y z → Plain chart ready x z
   then_up {x} {y} {z} h up =
       elim up [ inl same ↦ subst (λ (w : ℕ). Plain chart ready x w) same h | inr k ↦ plain_joined h k ]
 
   -- two steps of which the first may be none
-  up_then : {x y z : ℕ} → UpTo x y → Plain chart ready y z → Plain chart ready x z
+  pub up_then : {x y z : ℕ} → UpTo x y → Plain chart ready y z → Plain chart ready x z
   up_then {x} {y} {z} up k =
       elim up [ inl same ↦ subst (λ (w : ℕ). Plain chart ready w z) (sym same) k | inr h ↦ plain_joined h k ]
 
   -- what is ordered before an input of a line that is not ready is its output, or is before that
-  into_loose : (x r : ℕ) → Plain chart ready x r → is_input chart.events r ≡ true
+  pub into_loose : (x r : ℕ) → Plain chart ready x r → is_input chart.events r ≡ true
       → ready (line chart.events r) ≡ false → UpTo x (partner chart.events r)
   into_loose x r (plain_drawn h o) i loose = absurd (controlled_no_input chart.events r o i)
   into_loose x r (plain_awaited h j l) i loose = clash l loose
@@ -48,30 +42,23 @@ module _ (chart : WiredChart) (is_wired : IsWired chart) (ready : ℕ → Bool) 
       inl (rw (← p) (sym (is_wired.matched.to_and_fro x (output_below chart.events x o))))
   into_loose x r (plain_joined {y = m} h k) i loose = inr (then_up h (into_loose m r k i loose))
 
-  -- one use of the rule of queues, between r and u
-  pub record Mates (r u : ℕ) : Type 0 where
-    pub first : is_input chart.events r ≡ true
-    pub second : is_input chart.events u ≡ true
-    pub loose_first : ready (line chart.events r) ≡ false
-    pub loose_second : ready (line chart.events u) ≡ false
-    pub outputs : Plain chart ready (partner chart.events r) (partner chart.events u)
-
   -- over one use of the rule from x to y
   pub record IsOver (x y : ℕ) : Type 0 where
     pub r : ℕ
     pub u : ℕ
-    pub mates : Mates r u
+    pub mates : AreMates chart ready r u
+    pub loose : ready (line chart.events r) ≡ false
     pub to : UpTo x r
     pub from : UpTo u y
 
   -- an input of a line that is not ready goes after its output
-  plain_into : (r : ℕ) → is_input chart.events r ≡ true → Plain chart ready (partner chart.events r) r
+  pub plain_into : (r : ℕ) → is_input chart.events r ≡ true → Plain chart ready (partner chart.events r) r
   plain_into r i =
       plain_sent (partner_of_input chart.events is_wired.matched r i)
       (is_wired.matched.to_and_fro r (input_below chart.events r i))
 
   -- what is before an output over a use of the rule is plainly so, if it is an output
-  outputs_plain : (s t : ℕ) → is_output chart.events s ≡ true → is_output chart.events t ≡ true → IsOver s t
+  pub outputs_plain : (s t : ℕ) → is_output chart.events s ≡ true → is_output chart.events t ≡ true → IsOver s t
       → Plain chart ready s t
   outputs_plain s t os ot h =
       let i = h.mates.first in
@@ -79,7 +66,7 @@ module _ (chart : WiredChart) (is_wired : IsWired chart) (ready : ℕ → Bool) 
         | inl same ↦ absurd (not_both chart.events s os (subst (λ (z : ℕ). is_input chart.events z ≡ true) (sym same) i))
         | inr k ↦ k
       ] in
-      let up = into_loose s h.r to_r i h.mates.loose_first in
+      let up = into_loose s h.r to_r i h.loose in
       then_up (plain_joined (up_then up h.mates.outputs) (plain_into h.u h.mates.second)) h.from
 
   -- from an input of a line that is not ready to another, plainly: over the output of the second
@@ -109,18 +96,19 @@ module _ (chart : WiredChart) (is_wired : IsWired chart) (ready : ℕ → Bool) 
           mates = record {
             first = a.mates.first;
             second = b.mates.second;
-            loose_first = a.mates.loose_first;
-            loose_second = b.mates.loose_second;
+            one_queue = a.mates.one_queue ∙ ap (λ (z : ℕ). queue chart z) same ∙ b.mates.one_queue;
+            loose = b.mates.loose;
             outputs = plain_joined a.mates.outputs
                 (subst (λ (z : ℕ). Plain chart ready (partner chart.events z) (partner chart.events b.u)) (sym same) b.mates.outputs);
           };
+          loose = a.loose;
           to = a.to;
           from = b.from;
         }
         | inr h ↦
-            let early = between_loose a.u b.r a.mates.second b.mates.first b.mates.loose_first h in
+            let early = between_loose a.u b.r a.mates.second b.mates.first b.loose h in
             let late = plain_joined (plain_joined early b.mates.outputs) (plain_into b.u b.mates.second) in
-            record { r = a.r; u = a.u; mates = a.mates; to = a.to; from = inr (then_up late b.from) }
+            record { r = a.r; u = a.u; mates = a.mates; loose = a.loose; to = a.to; from = inr (then_up late b.from) }
       ]
 
   -- each pair of the ready order is plain or over one use of the rule
@@ -148,10 +136,11 @@ module _ (chart : WiredChart) (is_wired : IsWired chart) (ready : ℕ → Bool) 
         mates = record {
           first = x_input;
           second = y_input;
-          loose_first = rw one loose;
-          loose_second = loose;
+          one_queue = x_queue ∙ same ∙ sym y_queue;
+          loose = loose;
           outputs = rw (x_back, y_back) outs;
         };
+        loose = rw one loose;
         to = inl refl;
         from = inl refl;
       })
@@ -159,10 +148,10 @@ module _ (chart : WiredChart) (is_wired : IsWired chart) (ready : ℕ → Bool) 
       elim (once lines x m h) [
         | inl a ↦ elim (once lines m y k) [
           | inl b ↦ inl (plain_joined a b)
-          | inr b ↦ inr (record { r = b.r; u = b.u; mates = b.mates; to = inr (then_up a b.to); from = b.from })
+          | inr b ↦ inr (record { r = b.r; u = b.u; mates = b.mates; loose = b.loose; to = inr (then_up a b.to); from = b.from })
         ]
         | inr a ↦ elim (once lines m y k) [
-          | inl b ↦ inr (record { r = a.r; u = a.u; mates = a.mates; to = a.to; from = inr (up_then a.from b) })
+          | inl b ↦ inr (record { r = a.r; u = a.u; mates = a.mates; loose = a.loose; to = a.to; from = inr (up_then a.from b) })
           | inr b ↦ inr (over_two x m y a b)
         ]
       ]
@@ -193,7 +182,7 @@ module _ (chart : WiredChart) (is_wired : IsWired chart) (ready : ℕ → Bool) 
             elim (join_up over.from over.to) [
               | inl same ↦ no_plain s s_below (subst (λ (z : ℕ). Plain chart ready s (partner chart.events z)) same over.mates.outputs)
               | inr k ↦
-                  let early = between_loose over.u over.r over.mates.second over.mates.first over.mates.loose_first k in
+                  let early = between_loose over.u over.r over.mates.second over.mates.first over.loose k in
                   no_plain s s_below (plain_joined (plain_joined over.mates.outputs (plain_into over.u over.mates.second)) early)
             ]
       ]

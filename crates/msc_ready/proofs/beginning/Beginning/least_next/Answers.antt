@@ -1,18 +1,18 @@
 use Rattle.std.proofs.Common.{below_more, arith}
 use Rattle.msc_ready.proofs.Shared.{clash}
 use Rattle.msc_ready.proofs.beginning.Beginning.least_next.Goals as goal
-use Rattle.msc_ready.proofs.beginning.Beginning.least_next.Goals.{else-is_among-via-then-is_among+else-may_come, else-is_among-via-else-is_among}
+use Rattle.msc_ready.proofs.beginning.Beginning.least_next.Goals.{else-may_come-via-then-may_come+else-is_among, else-may_come-via-else-may_come}
 
-pub returns-then-may_come : goal.returns-then-may_come
-returns-then-may_come c = record {
+pub returns-then-is_among : goal.returns-then-is_among
+returns-then-is_among c = record {
   itself = (c.is_among.ensures.0 c.if-is_among.true, c.may_come.ensures.0 c.if-may_come.true);
   none_below = c.loop-x.invariant;
 }
 
 pub loop-x-preserved : goal.loop-x-preserved
-loop-x-preserved c = below_more _ _ c.loop-x.invariant (λ comes. elim c.else-is_among.branch [
-  | else-is_among-via-then-is_among+else-may_come w ↦ clash (w.may_come.ensures.1 comes.1) w.if-may_come.false
-  | else-is_among-via-else-is_among w ↦ clash (c.is_among.ensures.1 comes.0) w.if-is_among.false
+loop-x-preserved c = below_more _ _ c.loop-x.invariant (λ comes. elim c.else-may_come.branch [
+  | else-may_come-via-then-may_come+else-is_among w ↦ clash (w.is_among.ensures.1 comes.0) w.if-is_among.false
+  | else-may_come-via-else-may_come w ↦ clash (c.may_come.ensures.1 comes.1) w.if-may_come.false
 ])
 
 pub returns : goal.returns

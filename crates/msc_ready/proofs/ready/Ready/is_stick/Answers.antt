@@ -24,5 +24,5 @@ returns c =
     let e_end = rw c.chart-chart.ensures at c.other_end.ensures.value in
     let f_end = rw c.chart-chart.ensures at c.other_end-2.ensures.value in
     let value = stick_when (wiring_of self) (ready_in self) self.order c.args.e c.args.f _ (sym c.is_lined.ensures ∙ c.if-not-is_lined.false)
-    (c.holds.ensures.value ∙ ap₂ (orders self.order) e_end f_end) in
+    (c.precedes.ensures ∙ ap₂ (orders self.order) e_end f_end) in
     record { value = value; exact = exact_by self c.args.e c.args.f _ value (c.sticks_are_told.ensures c.args.e c.args.f) }

@@ -50,7 +50,7 @@ returns-then-not-holds c =
     (λ x ahead.
     let stands : ReadyOrder (wiring_of r) (ready_in r) c.other_end.result c.other_end-2.result =
     other_ends r h f c.other_end.result c.other_end-2.result (rw c.chart-chart.ensures at c.other_end.ensures.value) (rw c.chart-chart.ensures at c.other_end-2.ensures.value) ahead.1 in
-    clash (c.holds.ensures.exact.1 stands) c.if-not-holds.true)
+    clash (c.holds.ensures.1 stands) c.if-not-holds.true)
 
 pub returns : goal.returns
 returns c =
@@ -59,7 +59,7 @@ returns c =
     let h : ℕ = c.args.h in
     let below = rw (← c.self.view_is) at c.requires.h_known in
     let held = own r c.self.inside.firsts.items h c.index-g.result.now c.self.invariant below c.index-g.ensures in
-    let stands = c.holds.ensures.exact.0 c.if-not-holds.false in
+    let stands = c.holds.ensures.0 c.if-not-holds.false in
     subst (λ (r : ReadyChart). IsLeast (λ (x : ℕ). IsAhead (wiring_of r) (ready_in r) f (x, h)) c.index-g.result.now) c.self.view_is
     (least_held r f h c.index-g.result.now held (omega (arith, c.if-g-events.false, c.events.ensures))
     (ends_of r h f c.other_end.result c.other_end-2.result (rw c.chart-chart.ensures at c.other_end.ensures.value) (rw c.chart-chart.ensures at c.other_end-2.ensures.value) stands))
