@@ -146,7 +146,11 @@ impl<'a> Ready<'a> {
         ensures { result ≡ is_awaited (wiring_of self.now) (ready_in self.now) e f }
     {
         let chart = self.chart();
-        chart.before(e, f) && self.is_ready(chart.instance_of(f))
+        let above = chart.before(e, f);
+        if !above {
+            return false;
+        }
+        self.is_ready(chart.instance_of(f))
     }
 
     /// Whether the inputs `e` and `f` are of one queue.

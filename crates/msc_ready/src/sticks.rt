@@ -1,9 +1,9 @@
 //! All sticks of a chart, and which of them come first.
 
-ghost use Rattle.std.specs.Prelude.{◌≡◌, ℕ, ◌<◌, ◌↔◌, length, IfOk, MatchOption, OnOk};
+ghost use Rattle.std.specs.Prelude.{◌≡◌, ℕ, ◌<◌, ◌↔◌, length, IfOk, IsTrue, MatchOption, OnOk};
 ghost use Rattle.msc_chart.specs.Lists.{IsLeast};
 ghost use Rattle.msc_ready.specs.Held.{ready_in, wiring_of};
-ghost use Rattle.msc_ready.specs.Sticks.{HasNoStick, IsAhead, IsLeastAhead};
+ghost use Rattle.msc_ready.specs.Sticks.{HasNoStick, IsAhead, IsFirstStick, IsLeastAhead};
 ghost use Rattle.msc_ready.specs.Views.{sticks_from, sticks_of, AreLeastFirsts, AreSticks};
 ghost use Rattle.msc_ready.specs.Views.{AreSticksFrom};
 ghost use Rattle.msc_race.specs.Races.{AreAscending};
@@ -133,5 +133,21 @@ impl<'a> Sticks<'a> {
             least = lesser(least, self.ahead_with(h, f), h);
         }
         least
+    }
+
+    /// Whether two events are a first stick: a stick, and the second output of no stick stands
+    /// before its own. Both are numbers of events, from 0. It takes no memory.
+    pub fn is_first(&self, e: Event, f: Event) -> bool
+        requires e_known { e < length self.now.chart.events }
+        requires f_known { f < length self.now.chart.events }
+        ensures { IsTrue result ↔ IsFirstStick (wiring_of self.now) (ready_in self.now) e f }
+    {
+        if !self.ready.is_stick(e, f) {
+            return false;
+        }
+        match self.ahead_of(f) {
+            Some(_) => false,
+            None => true,
+        }
     }
 }
