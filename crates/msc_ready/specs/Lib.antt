@@ -9,4 +9,5 @@ pub mod Views
 -- what the code keeps
 pub mod Plain
 pub mod Lesser
+pub mod Looking
 pub mod Beginnings

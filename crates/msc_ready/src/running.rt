@@ -1,16 +1,15 @@
-//! Runs after which a system has stuck, and whether a run can be whole.
+//! Runs after which a system has stuck.
 
-ghost use Rattle.std.specs.Prelude.{◌≡◌, ℕ, ◌<◌, ◌↔◌, ◌++◌, length, IfNone, IfOk, IfSome, IsTrue};
+ghost use Rattle.std.specs.Prelude.{◌≡◌, ℕ, ◌<◌, ◌↔◌, [], length, IfNone, IfOk, IfSome, IsTrue};
 ghost use Rattle.std.specs.Prelude.{MatchOption, OnOk};
-ghost use Rattle.msc_chart.specs.Charts.{is_input, is_output, line, partner};
+ghost use Rattle.msc_chart.specs.Charts.{partner};
 ghost use Rattle.msc_chart.specs.Lists.{occurs, IsLeast, Steps};
-ghost use Rattle.msc_chart.specs.Runs.{IsWhole};
 ghost use Rattle.msc_ready.specs.Beginnings.{HoldsRun};
-ghost use Rattle.msc_ready.specs.Finishing.{MayComeInTurn, MayFinish};
 ghost use Rattle.msc_ready.specs.Held.{ready_in, wiring_of};
+ghost use Rattle.msc_ready.specs.Looking.{ComesAmong, IsAmong};
 ghost use Rattle.msc_ready.specs.Readiness.{MayComeReady};
-ghost use Rattle.msc_ready.specs.Running.{ComesAmong, ComesToward, GoesOnAs, HasOutputsUpTo};
-ghost use Rattle.msc_ready.specs.Running.{IsAmong, IsStickRun};
+ghost use Rattle.msc_ready.specs.Running.{GoesOnAs, HasOutputsUpTo, IsStickNext, IsStickRun};
+ghost use Rattle.msc_ready.specs.Running.{IsTowardNext};
 ghost use Rattle.msc_ready.specs.Sticks.{IsFirstStick};
 
 use crate::beginning::Beginning;
@@ -68,7 +67,7 @@ impl Beginning {
         requires known { t < length ready.now.chart.events }
         requires held { HoldsRun ready.now self.now }
         ensures some { IfSome result
-            (ComesToward (wiring_of ready.now) (ready_in ready.now) t self.now.run.items) }
+            (IsTowardNext (wiring_of ready.now) (ready_in ready.now) t self.now.run.items) }
         ensures none { (e f : ℕ) → IsFirstStick (wiring_of ready.now) (ready_in ready.now) e f
             → t ≡ partner ready.now.chart.events f
             → HasOutputsUpTo (wiring_of ready.now) (ready_in ready.now) t self.now.run.items
@@ -94,6 +93,10 @@ impl Beginning {
         ensures longer { OnOk result (GoesOnAs self.old.run.items self.new.run.items) }
         ensures none { OnOk result ((x : ℕ) → MayComeReady (wiring_of ready.now)
             (ready_in ready.now) self.new.run.items x → ⊥) }
+        ensures chosen { OnOk result ((t : ℕ) → IsTrue (occurs self.old.run.items t)
+            → Steps (IsStickNext (wiring_of ready.now) (ready_in ready.now) t) []
+            self.old.run.items → Steps (IsStickNext (wiring_of ready.now) (ready_in ready.now) t)
+            [] self.new.run.items) }
     {
         while let Some(x) = self.least_next(ready, Among::All) {
             self.occur(ready, x)?;

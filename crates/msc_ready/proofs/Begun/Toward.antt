@@ -1,14 +1,14 @@
 -- The way to the second output of a first stick, and on to where the system has stuck.
-use Rattle.std.proofs.Common.{◌≡◌, ℕ, ◌<◌, Bool, true, false, inl, inr, List, [], ◌∷◌, ◌++◌, length, refl, sym, ap, ◌∙◌, subst, append_assoc}
+use Rattle.std.proofs.Common.{◌≡◌, ℕ, ◌<◌, ◌⊎◌, Bool, true, false, inl, inr, List, [], ◌∷◌, ◌++◌, length, refl, sym, ap, ◌∙◌, subst, append_assoc}
 use Rattle.std.specs.Prelude.{IsTrue, IfNone, MatchOption, Option, None, Some}
 use Rattle.std.proofs.lemmas.Bool.{cases_eq, false_from_ne_true}
 use Rattle.std.proofs.lemmas.List.{append-nil}
-use Rattle.msc_chart.specs.Charts.{IsAcyclic, partner, is_output}
-use Rattle.msc_chart.specs.Lists.{occurs, until}
+use Rattle.msc_chart.specs.Charts.{IsAcyclic, partner, is_input, is_output}
+use Rattle.msc_chart.specs.Lists.{occurs, until, IsLeast, Steps}
 use Rattle.msc_chart.specs.Orders.{WiredChart, IsWired}
 use Rattle.msc_chart.specs.Runs.{Reverses}
 use Rattle.msc_ready.specs.Readiness.{MayComeReady, ReadyRun, ReadyOrder}
-use Rattle.msc_ready.specs.Running.{ComesToward, GoesOnAs, HasOutputsUpTo, IsUpTo, IsStickRun}
+use Rattle.msc_ready.specs.Running.{GoesOnAs, HasOutputsUpTo, IsStickNext, IsStickRun, IsTowardNext, IsUpTo}
 use Rattle.msc_ready.specs.Sticks.{IsFirstStick}
 use Rattle.msc_ready.proofs.Shared.{by_test, clash, count_below, is_left, left_less, not_both, occurs-left, occurs_other, partner_of_input, until-append, until-within}
 use Rattle.msc_ready.proofs.Runs.Final.{final, lined_of, outputs_differ}
@@ -35,14 +35,33 @@ pub goes_on_more : (xs ys zs : List ℕ) (x : ℕ) → GoesOnAs xs ys → zs ≡
 goes_on_more xs ys zs x on same =
     (on.0 ++ x ∷ [], same ∙ ap (λ (l : List ℕ). l ++ x ∷ []) on.1 ∙ append_assoc xs on.0 (x ∷ []))
 
+-- what occurs still does when the list goes on
+pub still_there : (xs ys : List ℕ) (t : ℕ) → GoesOnAs xs ys → occurs xs t ≡ true → occurs ys t ≡ true
+still_there xs ys t on there = subst (λ (l : List ℕ). occurs l t ≡ true) (sym on.1) (occurs-left xs on.0 t there)
+
+-- the least of all events that may come
+pub least_of_all : (chart : WiredChart) (ready : ℕ → Bool) (past : List ℕ) (x : ℕ) → IsLeast (λ y. Unit {0} × MayComeReady chart ready past y) x
+    → IsLeast (MayComeReady chart ready past) x
+least_of_all chart ready past x least = record { itself = least.itself.1; none_below = λ y less may. least.none_below y less (tt, may) }
+
 module _ (chart : WiredChart) (ready : ℕ → Bool) (t : ℕ) where
   -- no output has occurred yet
   pub none_sent : HasOutputsUpTo chart ready t []
   unfolding occurs
   none_sent s o there = clash there refl
 
+  -- x may come next on the way to t: it is t, stands before it, or is an input
+  abbrev pub ComesToward : List ℕ → ℕ → Type 0
+  ComesToward past x =
+      MayComeReady chart ready past x × (IsUpTo chart ready t x ⊎ IsTrue (is_input chart.events x))
+
+  -- so it is for what comes next
+  pub comes_so : (past : List ℕ) (x : ℕ) → IsTowardNext chart ready t past x → ComesToward past x
+  comes_so past x next =
+      elim next.least [ inl up ↦ (up.itself.1, inl up.itself.0) | inr other ↦ (other.1.itself.1, inr other.1.itself.0) ]
+
   -- what comes on the way to t keeps that
-  pub sent_after : (run next : List ℕ) (x : ℕ) → HasOutputsUpTo chart ready t run → ComesToward chart ready t run x → next ≡ run ++ x ∷ []
+  pub sent_after : (run next : List ℕ) (x : ℕ) → HasOutputsUpTo chart ready t run → ComesToward run x → next ≡ run ++ x ∷ []
       → HasOutputsUpTo chart ready t next
   sent_after run next x before comes same s o there =
       by_test (occurs run s) (λ early. before s o early)
@@ -86,8 +105,9 @@ module _ (chart : WiredChart) (is_wired : IsWired chart) (ready : ℕ → Bool)
   -- Where t has occurred on the way there, the first output has not. So the run is one for the stick
   -- once no event may come.
   pub stick_run : (front whole : List ℕ) → HasOutputsUpTo chart ready t front → occurs front t ≡ true → GoesOnAs front whole
-      → ReadyRun chart ready whole → ((x : ℕ) → MayComeReady chart ready whole x → ⊥) → IsStickRun chart ready e f whole
-  stick_run front whole outs there on run none =
+      → ReadyRun chart ready whole → ((x : ℕ) → MayComeReady chart ready whole x → ⊥) → Steps (IsStickNext chart ready t) [] whole
+      → IsStickRun chart ready e f whole
+  stick_run front whole outs there on run none chosen =
       let lined = lined_of chart ready e f first.stick in
       let e_out = partner_of_input chart.events is_wired.matched e first.stick.inputs.0 in
       let t_there : occurs front (partner chart.events f) ≡ true = subst (λ (z : ℕ). occurs front z ≡ true) is there in
@@ -99,6 +119,7 @@ module _ (chart : WiredChart) (is_wired : IsWired chart) (ready : ℕ → Bool)
       let reverses : Reverses front (partner chart.events e) (partner chart.events f) = (t_there, late) in
       let longer : ReadyRun chart ready (front ++ on.0) = subst (λ (l : List ℕ). ReadyRun chart ready l) on.1 run in
       record {
+        chosen = subst (λ (z : ℕ). Steps (IsStickNext chart ready z) [] whole) is chosen;
         stuck = record {
           run = run;
           unfinished = λ all. final chart is_wired ready e f lined front on.0 longer reverses

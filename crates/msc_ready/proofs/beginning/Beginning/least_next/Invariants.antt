@@ -1,6 +1,6 @@
 use Rattle.std.proofs.Common.{ℕ, ◌<◌}
 use Rattle.msc_ready.specs.Held.{wiring_of, ready_in}
-use Rattle.msc_ready.specs.Running.{ComesAmong}
+use Rattle.msc_ready.specs.Looking.{ComesAmong}
 use Rattle.msc_ready.proofs.beginning.Beginning.least_next.Given as goal
 
 abbrev pub invariant-loop-x : goal.invariant-loop-x
