@@ -10,3 +10,4 @@ pub mod Sticking
 pub mod Passing
 pub mod Whole
 pub mod Lines
+pub mod Reversing

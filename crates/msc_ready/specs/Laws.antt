@@ -2,13 +2,13 @@
 use Rattle.std.specs.Prelude.{ℕ, Bool, List, ◌++◌, IsTrue, ◌↔◌}
 use Rattle.msc_chart.specs.declared.queue.Queues.{Queues}
 use Rattle.msc_chart.specs.Lists.{occurs, until}
-use Rattle.msc_chart.specs.Charts.{is_output, partner, Visual}
+use Rattle.msc_chart.specs.Charts.{before, is_output, partner, Visual}
 use Rattle.msc_chart.specs.Drawings.{Drawing, IsAccepted}
 use Rattle.msc_chart.specs.Orders.{WiredChart, wired}
 use Rattle.msc_chart.specs.Runs.{Run, IsWhole, KeepsDrawnOrder, Reverses}
 use Rattle.msc_race.specs.Laws.{HasNoRace}
 use Rattle.msc_ready.specs.Readiness.{all_ready, ReadyRun, KeepsReadyLines, HasStuck, ReadyOrder}
-use Rattle.msc_ready.specs.Sticks.{IsStick, IsFirstStick, HasNoStick}
+use Rattle.msc_ready.specs.Sticks.{IsStick, IsFirstStick, HasNoStick, IsRaceLeft}
 use Rattle.msc_ready.specs.Finishing.{MayFinish, HasNoWholeRing}
 
 -- a ready run is a run in which ready lines keep the drawn order
@@ -108,3 +108,14 @@ OutputsAreInVisualOrder =
     (queues : Queues) (d : Drawing) → IsAccepted d → (ready : ℕ → Bool) (s t : ℕ)
     → IsTrue (is_output d.events s) → IsTrue (is_output d.events t)
     → ReadyOrder (wired queues d) ready s t ↔ Visual d.events s t
+
+-- Where there is no stick, the races that are left are exactly the drawn pairs that some whole ready
+-- run reverses.
+abbrev pub RacesLeftAreReversed : Type 0
+RacesLeftAreReversed =
+    (queues : Queues) (d : Drawing) → IsAccepted d → (ready : ℕ → Bool)
+    → HasNoStick (wired queues d) ready → (e f : ℕ)
+    → IsRaceLeft (wired queues d) ready e f
+    ↔ (IsTrue (before d.events e f)
+    × ((events : List ℕ) × ReadyRun (wired queues d) ready events × IsWhole (wired queues d) events
+    × Reverses events e f))

@@ -7,6 +7,7 @@ ghost use Rattle.msc_ready.specs.Laws.{EachFirstStickIsMet, NeverSticks, SomeSti
 ghost use Rattle.msc_ready.specs.Laws.{APassNeverSticks, AllReadyRunsKeepTheDrawnOrder};
 ghost use Rattle.msc_ready.specs.Laws.{ReadyRunsKeepReadyLines, ReadyRunsKeepTheReadyOrder};
 ghost use Rattle.msc_ready.specs.Laws.{MoreReadyEndNoSticking, OutputsAreInVisualOrder, SomeRunIsWhole};
+ghost use Rattle.msc_ready.specs.Laws.{RacesLeftAreReversed};
 
 use msc_chart::laws::{ends_share_queues, inputs_share_lines};
 
@@ -99,6 +100,15 @@ pub fn more_ready_end_no_sticking()
 /// Between outputs the ready order is the visual order, whichever instances are ready.
 pub fn outputs_are_in_visual_order()
     ensures { OutputsAreInVisualOrder }
+{
+    ends_share_queues();
+    inputs_share_lines();
+}
+
+/// Where there is no stick, the races that are left are exactly the drawn pairs that some whole ready
+/// run reverses.
+pub fn races_left_are_reversed()
+    ensures { RacesLeftAreReversed }
 {
     ends_share_queues();
     inputs_share_lines();

@@ -1,6 +1,7 @@
--- From a ready run, while an event of a set is left, an event of the set or some input may come.
-use Rattle.std.proofs.Common.{◌≡◌, ◌≢◌, ℕ, ◌<◌, ◌≤◌, Bool, true, false, ◌&&◌, not, ◌⊎◌, inl, inr, List, length, sym, ap, ◌∙◌, subst, arith}
-use Rattle.std.proofs.lemmas.Bool.{cases_lt, and_parts, and_from, not-true, not_from_false, false_from_ne_true}
+-- From a ready run, while an event of a set is left, an event of the set may come, or the input of the
+-- first message of a queue in which one for an input of the set waits.
+use Rattle.std.proofs.Common.{◌≡◌, ◌≢◌, ℕ, ◌<◌, ◌≤◌, Bool, true, false, ◌⊎◌, inl, inr, List, length, sym, ap, ◌∙◌, subst, arith}
+use Rattle.std.proofs.lemmas.Bool.{cases_lt, false_from_ne_true}
 use Rattle.std.proofs.Math.Nat.{le_refl}
 use Rattle.msc_chart.specs.Lists.{occurs, until, IsFirst}
 use Rattle.msc_chart.specs.Charts.{line, segment, partner, is_output, is_input, is_controlled, before}
@@ -9,7 +10,7 @@ use Rattle.msc_chart.specs.Runs.{is_waiting, state}
 use Rattle.msc_ready.specs.Readiness.{MayComeReady}
 use Rattle.msc_chart.proofs.Drawn.{before_from}
 use Rattle.msc_ready.proofs.Runs.Keeping.{HaveOneLine}
-use Rattle.msc_ready.proofs.Shared.{by_test, clash, count_below, find_below, descend, first_occurs, before_first_fails, filter-first, is_left, left_from, left_parts, waiting_from, waiting_parts, before_parts, controlled_no_input, controlled_or_input, input_below, output_below, partner_of_input, partner_of_output, until_swapped}
+use Rattle.msc_ready.proofs.Shared.{by_test, clash, count_below, descend, first_occurs, before_first_fails, filter-first, is_left, left_from, left_parts, waiting_from, waiting_parts, before_parts, controlled_no_input, controlled_or_input, input_below, output_below, partner_of_input, partner_of_output, until_swapped}
 
 -- What a set has to keep so that all of it can come: a test says what needs what; what is needed by an
 -- event of the set is of the set; and nothing needs itself, over however many steps.
@@ -37,10 +38,26 @@ AreInTurn chart ready inside past =
 module _ (chart : WiredChart) (is_wired : IsWired chart) (one_line : HaveOneLine chart) (ready : ℕ → Bool)
     (inside : ℕ → Bool) (needs : ℕ → ℕ → Bool) (R : ℕ → ℕ → Type 0)
     (can : CanCome chart ready inside needs R) (past : List ℕ) where
-  -- x may come next; it is of the set or an input, and a controlled one has all that it needs behind it
+  -- r is an input of the set that is left while its message was sent
+  pub record IsSentTo (r : ℕ) : Type 0 where
+    pub input : is_input chart.events r ≡ true
+    pub member : inside r ≡ true
+    pub left : occurs past r ≡ false
+    pub sent : occurs past (partner chart.events r) ≡ true
+
+  -- x is the input of the first message of the queue of such an input
+  pub record IsFirstFor (x r : ℕ) : Type 0 where
+    pub input : is_input chart.events x ≡ true
+    pub queues : queue chart x ≡ queue chart r
+    pub left : occurs past x ≡ false
+    pub for : IsSentTo r
+    pub first : IsFirst (state chart (queue chart r) past) (partner chart.events x)
+
+  -- x may come next; it is of the set or such an input, and a controlled one has all that it needs
+  -- behind it
   pub record ComesNext (x : ℕ) : Type 0 where
     pub may : MayComeReady chart ready past x
-    pub member : (inside x ≡ true) ⊎ (is_input chart.events x ≡ true)
+    pub member : (inside x ≡ true) ⊎ ((r : ℕ) × IsFirstFor x r)
     pub served : is_controlled chart.events x ≡ true → (y : ℕ) → needs y x ≡ true → occurs past y ≡ true
 
   -- what is known of the first of the queue of an input whose output was sent
@@ -81,10 +98,10 @@ module _ (chart : WiredChart) (is_wired : IsWired chart) (one_line : HaveOneLine
       )
 
   -- the input of such a first may come, where it has what it awaits behind it
-  comes : (r s : ℕ) → IsHead r s
+  comes : (r s : ℕ) → IsSentTo r → IsHead r s
       → (ready (line chart.events r) ≡ true → (y : ℕ) → before chart.events y (partner chart.events s) ≡ true → occurs past y ≡ true)
       → ComesNext (partner chart.events s)
-  comes r s h served =
+  comes r s to h served =
       let below = output_below chart.events s h.output in
       let queues : queue chart (partner chart.events s) ≡ queue chart r = is_wired.one_queue s below ∙ h.queues in
       let back : partner chart.events (partner chart.events s) ≡ s = is_wired.matched.to_and_fro s below in
@@ -98,7 +115,16 @@ module _ (chart : WiredChart) (is_wired : IsWired chart) (one_line : HaveOneLine
           };
           awaited = λ i l. served (subst (λ (z : ℕ). ready z ≡ true) h.line l);
         };
-        member = inr h.input;
+        member = inr (
+          r,
+          record {
+            input = h.input;
+            queues = queues;
+            left = h.out;
+            for = to;
+            first = rw back h.first;
+          },
+        );
         served = λ c. absurd (controlled_no_input chart.events _ c h.input);
       }
 
@@ -130,7 +156,7 @@ module _ (chart : WiredChart) (is_wired : IsWired chart) (one_line : HaveOneLine
       turn x r0 input h.1.input queues drawn (rw h.1.line set) member (rw back early) in
       let above : before chart.events r0 x ≡ true → ⊥ = λ drawn. clash (served r0 (can.awaited r0 x drawn input set)) h.1.out in (
         r0,
-        comes x s0 h.1 (λ again y drawn.
+        comes x s0 (record { input = input; member = member; left = new; sent = s_there }) h.1 (λ again y drawn.
             let parts = before_parts chart.events y r0 drawn in
             let level : segment chart.events r0 ≤ segment chart.events x = not_below x r0 below r0_below (sym h.1.line) behind in
             let lines : line chart.events y ≡ line chart.events x = parts.2 ∙ h.1.line in
@@ -159,44 +185,34 @@ module _ (chart : WiredChart) (is_wired : IsWired chart) (one_line : HaveOneLine
   pub progress : AreInTurn chart ready inside past → (g : ℕ) → g < length chart.events → inside g ≡ true
       → occurs past g ≡ false → (x : ℕ) × ComesNext x
   progress turn g below member new =
-      let is_loose : ℕ → Bool =
-      λ r. (is_input chart.events r && not (ready (line chart.events r))) && (not (occurs past r) && occurs past (partner chart.events r)) in
-      elim (find_below is_loose (length chart.events)) [
-        | inl found ↦
-            let r : ℕ = found.0 in
-            let both = and_parts _ _ found.2 in
-            let own = and_parts _ _ both.0 in
-            let state_of = and_parts _ _ both.1 in
-            let h = head r own.0 (not-true _ state_of.0) state_of.1 in
-            (partner chart.events h.0, comes r h.0 h.1 (λ set. clash set (not-true _ own.1)))
-        | inr none ↦
-            let fuel : ℕ = count_below (is_left inside past) (length chart.events) in
-            let d = descend (length chart.events) needs R can.base can.trans can.irreflexive fuel (is_left inside past) (le_refl fuel) g below (left_from inside past g member new) in
-            let x : ℕ = d.0 in
-            let x_left = left_parts inside past x d.2 in
-            let served : (y : ℕ) → needs y x ≡ true → occurs past y ≡ true = λ y need. by_test (occurs past y) (λ there. there)
-            (λ out. clash need (d.4 y (can.known y x need) (left_from inside past y (can.closed y x need x_left.0) out))) in
-            elim (controlled_or_input chart.events x d.1) [
-              | inl c ↦ (
-                x,
-                record {
-                  may = record {
-                    may = record {
-                      event = d.1;
-                      new = x_left.1;
-                      controlled = λ again y drawn. served y (can.drawn y x drawn c);
-                      input = λ i. absurd (controlled_no_input chart.events x c i);
-                    };
-                    awaited = λ i. absurd (controlled_no_input chart.events x c i);
-                  };
-                  member = inl x_left.0;
-                  served = λ again. served;
-                },
-              )
-              | inr i ↦ by_test (ready (line chart.events x))
-                  (λ set. first_of turn x i x_left.0 set x_left.1 served)
-                  (λ loose.
-                  let sent_first = served (partner chart.events x) (can.sent x i) in
-                  clash (and_from _ _ (and_from _ _ i (not_from_false _ loose)) (and_from _ _ (not_from_false _ x_left.1) sent_first)) (none x d.1))
-            ]
+      let fuel : ℕ = count_below (is_left inside past) (length chart.events) in
+      let d = descend (length chart.events) needs R can.base can.trans can.irreflexive fuel (is_left inside past) (le_refl fuel) g below (left_from inside past g member new) in
+      let x : ℕ = d.0 in
+      let x_left = left_parts inside past x d.2 in
+      let served : (y : ℕ) → needs y x ≡ true → occurs past y ≡ true = λ y need. by_test (occurs past y) (λ there. there)
+      (λ out. clash need (d.4 y (can.known y x need) (left_from inside past y (can.closed y x need x_left.0) out))) in
+      elim (controlled_or_input chart.events x d.1) [
+        | inl c ↦ (
+          x,
+          record {
+            may = record {
+              may = record {
+                event = d.1;
+                new = x_left.1;
+                controlled = λ again y drawn. served y (can.drawn y x drawn c);
+                input = λ i. absurd (controlled_no_input chart.events x c i);
+              };
+              awaited = λ i. absurd (controlled_no_input chart.events x c i);
+            };
+            member = inl x_left.0;
+            served = λ again. served;
+          },
+        )
+        | inr i ↦ by_test (ready (line chart.events x))
+            (λ set. first_of turn x i x_left.0 set x_left.1 served)
+            (λ loose.
+            let there = served (partner chart.events x) (can.sent x i) in
+            let h = head x i x_left.1 there in
+            let to : IsSentTo x = record { input = i; member = x_left.0; left = x_left.1; sent = there } in
+            (partner chart.events h.0, comes x h.0 to h.1 (λ set. clash set loose)))
       ]

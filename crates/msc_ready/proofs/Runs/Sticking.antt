@@ -150,7 +150,7 @@ module _ (chart : WiredChart) (is_wired : IsWired chart) (lines : HaveOneLine ch
         let r_sent = until-within past (partner chart.events x) (partner chart.events r) early in
         first.none_ahead (x, r) (stick_of past run x r ix ir same drawn_so set early, outs _ r_out r_sent))
         g below member new in
-        (next.0, (next.1.may, next.1.member))
+        (next.0, (next.1.may, elim next.1.member [ inl member ↦ inl member | inr other ↦ inr other.1.input ]))
 
     -- so while steps on the way there have left something
     toward_on : (past : List ℕ) → Steps MayToward [] past → (g : ℕ) → g < length chart.events
