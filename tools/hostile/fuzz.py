@@ -11,8 +11,9 @@ each sort many are then changed: tokens or bytes are taken away, put in, doubled
 text is cut. Each text is given to `msc read`, and to `msc check` and `msc run` under one
 architecture: both streams and the status are to be the same, and for a chart that is run the trace
 has to be a whole run of it. With `--places` nothing else may be printed but places, and behind the
-line of a fault what is said of it, all of it of bytes that move no cursor. Prints what differs, how many texts got which answer, and last `N
-passed, M failed`.
+line of a fault what is said of it, all of it of bytes that move no cursor. As lines for editors, with
+marks, all that is printed is such lines, of such bytes, and a refusal is the first of them. Prints
+what differs, how many texts got which answer, and last `N passed, M failed`.
 """
 import collections
 import multiprocessing
@@ -32,7 +33,8 @@ MARKS = [";", ",", ":", "(", ")"]
 # the first nine are those that are drawn mostly
 NAMES = [b"a", b"b", b"c", b"m", b"x1", b"1", b"_", b"i0", b"i1",
          b"A", b"outer", b"x" * 64, b"x" * 65]
-TEXTS = [b"''", b"'go'", b"'it''s'", b"''''", b"'; /* */'", b"'\n\xff\x00'", b"' comment '"]
+TEXTS = [b"''", b"'go'", b"'it''s'", b"''''", b"'; /* */'", b"'\n\xff\x00'", b"' comment '",
+         b"'race ok: known'", b"'race ok with m0; 1: \xff'", b"'race ok'"]
 SPACES = [b" ", b" ", b" ", b"\n", b"\t", b"\r\n",
           b"/**/", b"/* ' ; */", b"/***/ ", b" /* endmsc; /* */"]
 # how many texts a process tries at a time
@@ -200,8 +202,27 @@ def wrong_places(wanted, got):
         return wanted
     if status != 2 and got.error:
         return "no fault"
-    if any(byte != 10 and not 32 <= byte <= 126 for byte in got.error):
+    return "bytes that are shown" if moves(got.error) else None
+
+
+def moves(stream):
+    """A stream has a byte that may move a cursor."""
+    return any(byte != 10 and not 32 <= byte <= 126 for byte in stream)
+
+
+def wrong_lines(wanted, got):
+    """What is wrong with lines for editors, of races that marks do not accept, where this is wanted
+    of the text without options, or None."""
+    if moves(got.output) or moves(got.error):
         return "bytes that are shown"
+    line = wanted[1] if wanted[2] == 2 else got.error
+    if got.error != line or (got.status == 2) != bool(line) or got.status not in (0, 1, 2):
+        return wanted
+    lines = got.output.splitlines(True)
+    if line and not (lines and re.fullmatch(rb"-:\d+:\d+: error: " + re.escape(line), lines[0])):
+        return "the refusal first"
+    if not all(re.match(rb"-:\d+:\d+: (error|warning|note): .", it) for it in lines):
+        return "lines for editors"
     return None
 
 
@@ -221,6 +242,11 @@ def tried(program, seed, number, commands):
         wrong = wrong_places(checked, got)
         if wrong:
             told.append(([*check[1:], "--places"], text, got, wrong))
+        words = ["check", "--queues", queues, "--accept", "--format", "lines", "-"]
+        got = run([program, *words], text)
+        wrong = wrong_lines(checked, got)
+        if wrong:
+            told.append((words, text, got, wrong))
     if "run" in commands:
         got = run([program, "run", "--queues", queues, "-"], text)
         wrong = wrong_run(text, queues, checked, got)
@@ -254,7 +280,7 @@ def main():
     with multiprocessing.Pool(options.jobs) as pool:
         for told, number, kind in (one for part in pool.imap(batch, tasks) for one in part):
             kinds[kind] += 1
-            count.passed += len(options.commands) + ("check" in options.commands) - len(told)
+            count.passed += len(options.commands) + 2 * ("check" in options.commands) - len(told)
             for words, text, got, wanted in told:
                 count.compare(got, wanted, f"text {number} of seed {options.seed}:", *words, text)
     print(", ".join(f"{kind}: {times}" for kind, times in sorted(kinds.items())))

@@ -21,6 +21,7 @@ import sys
 
 sys.dont_write_bytecode = True
 from compare import chart
+from short import short_run
 from studies import is_enforced, places_of, race_words, why
 from verdict import Chart
 
@@ -240,6 +241,18 @@ def check_placed(program, text, places, e, f, plain):
         raise Wrong(f"{words}: wanted {wanted}, got {got}")
 
 
+def check_short(program, text, drawn, e, f, plain):
+    """Raises Wrong where --short changes anything but the run, or shows another than the short run."""
+    words = [*program, "--short", "-", str(e), str(f)]
+    done = subprocess.run(words, input=text.encode("latin-1"), capture_output=True)
+    wanted = plain.stdout.decode("latin-1").splitlines()
+    if wanted[-1].startswith("run "):
+        wanted[-1] = " ".join(map(str, ["run", *short_run(drawn, e, f)[0]]))
+    got = done.stdout.decode("latin-1").splitlines()
+    if (got, done.stderr, done.returncode) != (wanted, b"", plain.returncode):
+        raise Wrong(f"{words}: wanted {wanted}, got {got}")
+
+
 def main():
     style = argparse.RawDescriptionHelpFormatter
     words = argparse.ArgumentParser(description=__doc__, formatter_class=style)
@@ -265,6 +278,8 @@ def main():
                     check_pair(pick, drawn, e, f, done)
                     if done.returncode < 2 and pick.random() < 0.2:
                         check_placed(asked, text, places, e, f, done)
+                    if done.returncode < 2 and pick.random() < 0.2:
+                        check_short(asked, text, drawn, e, f, done)
                 except (Wrong, IndexError, ValueError) as wrong:
                     print(f"{text!r}\n{program}: {wrong}\n{done.stdout.decode('latin-1')}")
                     return 1

@@ -5,7 +5,7 @@
 
 The texts are those of mistakes.py; of each, PROGRAM check --queues pair --places - has to print on
 standard error what notes.py does, byte for byte, and its status has to be 2 where that is
-anything. Prints how many texts had which first fault, and how many lines began with which word. The
+anything; and with --format lines that as lines for editors on standard output. Prints how many texts had which first fault, and how many lines began with which word. The
 exit status is 1 at the first difference, whose text is printed. Without PROGRAM nothing is
 compared.
 """
@@ -18,16 +18,25 @@ import sys
 
 sys.dont_write_bytecode = True
 from mistakes import mistaken
-from notes import answer
+from notes import answer, for_editors
 
 
 def difference(program, text, wanted):
     """What a program prints otherwise, if it does."""
+    told = "".join(line + "\n" for line in wanted)
     words = [program, "check", "--queues", "pair", "--places", "-"]
     done = subprocess.run(words, input=text, capture_output=True)
     output = done.stderr.decode("latin-1")
-    if output != wanted or (done.returncode == 2) != bool(wanted):
-        return f"wanted\n{wanted}got, with status {done.returncode},\n{output}"
+    if output != told or (done.returncode == 2) != bool(told):
+        return f"wanted\n{told}got, with status {done.returncode},\n{output}"
+    if not wanted:
+        return None
+    told = "".join(line + "\n" for line in for_editors(wanted))
+    words = [program, "check", "--queues", "pair", "--format", "lines", "-"]
+    done = subprocess.run(words, input=text, capture_output=True)
+    output, line = done.stdout.decode("latin-1"), done.stderr.decode("latin-1")
+    if (output, line, done.returncode) != (told, wanted[0] + "\n", 2):
+        return f"wanted as lines\n{told}got, with status {done.returncode},\n{output}{line}"
     return None
 
 
@@ -43,8 +52,7 @@ def main():
     for _ in range(options.texts):
         text = mistaken(pick)
         lines = answer(text)
-        wanted = "".join(line + "\n" for line in lines)
-        differs = difference(options.program, text, wanted) if options.program else None
+        differs = difference(options.program, text, lines) if options.program else None
         if differs:
             print(f"{text!r}\n{differs}")
             return 1

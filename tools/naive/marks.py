@@ -71,38 +71,61 @@ def called(drawn, e):
     return name if number is None else f"{name}, {number}"
 
 
-def answer(text, queues):
-    """What is printed, line by line, the exit status, and how many races are accepted, and marks
-    stale."""
+def fault_of(text):
+    """The line of the first comment that is to be a mark and is none, if there is one."""
+    for comment in comments(text):
+        said = comment and reading(comment[1])
+        if isinstance(said, int):
+            return f"accept fault {said} at {comment[0]}: {FAULTS[said]}"
+    return None
+
+
+def marks_for(text, queues):
+    """The marks of events that are for an architecture: for each the other events, or none where it
+    is for all."""
     marks = {}
     for e, comment in enumerate(comments(text)):
         said = comment and reading(comment[1])
-        if isinstance(said, int):
-            return [f"accept fault {said} at {comment[0]}: {FAULTS[said]}"], 2, (0, 0)
-        if said and (said[0] is None or queues in said[0]):
+        if said and not isinstance(said, int) and (said[0] is None or queues in said[0]):
             marks[e] = said[1]
-    drawn = Chart(text, queues)
-    races = drawn.races()
+    return marks
+
+
+def verdict_on(drawn, races, marks):
+    """Which races marks accept, and the events whose marks fit none."""
 
     def fits(e, f):
         return e in marks and (marks[e] is None or called(drawn, f) in marks[e])
 
-    left = [(e, f) for e, f in races if not fits(e, f) and not fits(f, e)]
+    taken = [(e, f) for e, f in races if fits(e, f) or fits(f, e)]
     stale = [
         e
         for e in sorted(marks)
         if not any(e == x and fits(x, y) or e == y and fits(y, x) for x, y in races)
     ]
+    return taken, stale
+
+
+def answer(text, queues):
+    """What is printed to standard output, line by line, and to standard error, the exit status, and
+    how many races are accepted, and marks stale."""
+    fault = fault_of(text)
+    if fault:
+        return [], fault + "\n", 2, (0, 0)
+    drawn = Chart(text, queues)
+    races = drawn.races()
+    taken, stale = verdict_on(drawn, races, marks_for(text, queues))
+    left = [race for race in races if race not in taken]
     lines = [f"chart {drawn.name}", f"queues {queues}"]
     lines.append(f"races {len(races)}" if races else "pass")
-    lines.append(f"accepted {len(races) - len(left)}")
+    lines.append(f"accepted {len(taken)}")
     for e, f in left:
         first, second = drawn.events[e], drawn.events[f]
         lines.append(f"race {e} {f} on {drawn.names[first.line]}: {first.text}; {second.text}")
     for e in stale:
         event = drawn.events[e]
         lines.append(f"stale {e} on {drawn.names[event.line]}: {event.text}")
-    return lines, int(bool(left or stale)), (len(races) - len(left), len(stale))
+    return lines, "", int(bool(left or stale)), (len(taken), len(stale))
 
 
 def mark(pick, faulty):
@@ -128,7 +151,8 @@ def marked(pick, text):
     for i, token in enumerate(tokens):
         if token.lower() in ("out", "in", "action", "instance", "concurrent"):
             word = token.lower()
-        bare = token == ";" and tokens[max(i - 2, 0)].lower() != "comment"
+        before = "".join(tokens[max(i - 3, 0):i]).lower()
+        bare = token == ";" and not re.search(r"comment\s*'", before)
         if bare and word in ("out", "in", "action", "instance") and pick.random() < share:
             other = pick.choice(["race", "", "a race ok: x"])
             said = other if pick.random() < 0.1 else mark(pick, faulty)
@@ -153,17 +177,17 @@ def main():
     for _ in range(options.charts):
         text = marked(pick, chart(pick, options.messages, True))
         for queues in ARCHITECTURES:
-            lines, status, (taken, left) = answer(text, queues)
+            lines, fault, status, (taken, left) = answer(text, queues)
             wanted = "".join(line + "\n" for line in lines)
             command = [options.program, "check", "--queues", queues, "--accept", "--show", "0", "-"]
             done = subprocess.run(command, input=text.encode("latin-1"), capture_output=True)
-            output = done.stdout.decode("latin-1")
+            output, told = done.stdout.decode("latin-1"), done.stderr.decode("latin-1")
             compared, accepted, stale = compared + 1, accepted + taken, stale + left
             faulty += status == 2
-            if (output, done.returncode) != (wanted, status):
+            if (output, told, done.returncode) != (wanted, fault, status):
                 print(
-                    f"{text!r}\n{queues}: wanted, with status {status},\n{wanted}"
-                    f"got, with status {done.returncode},\n{output}"
+                    f"{text!r}\n{queues}: wanted, with status {status},\n{wanted}{fault}"
+                    f"got, with status {done.returncode},\n{output}{told}"
                 )
                 return 1
     print(

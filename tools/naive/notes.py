@@ -326,6 +326,26 @@ def answer(text):
         return [line, f"at {place(text, at)}", *excerpt(text, at), *notes(text, number, at)]
 
 
+# how a note that is a place alone is said there
+SAID = {"behind": "what stands before ends here", "first": "the first one stands here"}
+
+
+def for_editors(lines):
+    """The same as lines that editors read: each fault and each note at a place."""
+    told, at = [], None
+    for line, below in zip(lines, [*lines[1:], ""]):
+        beside = below[3:] if below.startswith("at ") else None
+        if re.match(r"\w+ fault \d|memory fault", line):
+            at = beside or "-:1:1"
+            told.append(f"{at}: error: {line}")
+        elif not line.startswith(("at ", "  ", "further ")):
+            own = re.search(r" (-:\d+:\d+)$", line)
+            where = own[1] if own else beside.split()[0] if beside else at
+            said = line[: own.start()] if own else line
+            told.append(f"{where}: note: {SAID.get(said, said)}")
+    return told
+
+
 def main():
     lines = answer(sys.stdin.buffer.read())
     sys.stderr.write("".join(line + "\n" for line in lines))

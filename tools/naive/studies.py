@@ -5,9 +5,10 @@
 
 The charts are those of compare.py, spelled with a random end of each line. Each is listed, and
 checked under each architecture with a random choice of the options --closest, --why, --most, --show,
---allow, --format, --quiet, --words and --places: which races are listed, of which kinds they are and
-what they lack is made pair by pair from the enforced order of verdict.py, and where events stand
-from the tokens of the text. Prints how many outputs were compared and how many races were listed.
+--allow, --accept, --format, --quiet, --words, --short and --places: which races are listed, of which
+kinds they are and what they lack is made pair by pair from the enforced order of verdict.py, which
+are accepted by marks.py, short runs by short.py, and where events stand from the tokens of the
+text. Prints how many outputs were compared and how many races were listed.
 The exit status is 1 at the first difference, whose chart is printed.
 """
 import argparse
@@ -17,15 +18,13 @@ import sys
 
 sys.dont_write_bytecode = True
 from compare import chart
+from marks import fault_of, marked, marks_for, verdict_on
 from notes import place
 from reading import tokens
-from verdict import Chart
+from short import short_run
+from verdict import Chart, is_enforced
 
 KINDS = ("early", "queues", "unordered", "overtaken")
-
-
-def is_enforced(drawn, e, f):
-    return bool(drawn.enforced[e] >> f & 1)
 
 
 def is_within(drawn, e, f, g, h):
@@ -103,11 +102,33 @@ def why(drawn, e, f):
     return (needed, output), [f"kind {kind(drawn, e, f)}{always}", told]
 
 
-def study(drawn, places, options):
+def stale_lines(drawn, places, stale, options):
+    """The lines of marks that accept no race."""
+    for e in stale:
+        event = drawn.events[e]
+        told = f"stale {e} on {drawn.names[event.line]}: {event.text}"
+        if options["format"] == "lines":
+            yield f"{places[e]}: warning: {told} [stale]"
+            continue
+        yield told
+        if options["places"]:
+            yield f"at {places[e]}"
+
+
+def shown_run(drawn, e, f, short):
+    """The run that shows a race."""
+    return short_run(drawn, e, f)[0] if short else drawn.chosen_run(e)
+
+
+def study(drawn, places, options, marks):
     """What is printed, line by line, and the exit status; `options` are as the command's words."""
     races = drawn.races()
-    left = [race for race in races if kind(drawn, *race) not in options["allow"]]
-    status = int(bool(left))
+    named = [race for race in races if kind(drawn, *race) not in options["allow"]]
+    left, stale = named, []
+    if options["accept"]:
+        taken, stale = verdict_on(drawn, races, marks)
+        left = [race for race in named if race not in taken]
+    status = int(bool(left or stale))
     if options["quiet"]:
         return [], status
     closest = [race for race in left if is_closest(drawn, *race, left)]
@@ -116,12 +137,15 @@ def study(drawn, places, options):
         return [f"{verdict} -"], status
     listed = closest if options["closest"] else left
     if options["format"] == "lines":
-        told = (editor_lines(drawn, places, e, f) for e, f in listed[:options["most"]])
+        told = [editor_lines(drawn, places, e, f) for e, f in listed[:options["most"]]]
+        told.append(stale_lines(drawn, places, stale, options))
         return [line for lines in told for line in lines], status
     verdict = f"races {len(races)}" if races else "pass"
     lines = [f"chart {drawn.name}", f"queues {drawn.queues}", verdict]
     if options["allow"]:
-        lines.append(f"allowed {len(races) - len(left)}")
+        lines.append(f"allowed {len(races) - len(named)}")
+    if options["accept"]:
+        lines.append(f"accepted {len(named) - len(left)}")
     if options["closest"]:
         lines.append(f"closest {len(listed)}")
     for number, (e, f) in enumerate(listed[:options["most"]]):
@@ -134,7 +158,9 @@ def study(drawn, places, options):
             if options["places"]:
                 lines.append(f"at {places[needed]} {places[output]}")
         if number < options["show"]:
-            lines.extend(run_lines(drawn, drawn.chosen_run(e), options["words"]))
+            run = shown_run(drawn, e, f, options["short"])
+            lines.extend(run_lines(drawn, run, options["words"]))
+    lines.extend(stale_lines(drawn, places, stale, options))
     return lines, status
 
 
@@ -148,6 +174,8 @@ def some_options(pick):
         "format": pick.choice(["text", "text", "text", "lines", "count"]),
         "quiet": pick.random() < 0.1,
         "words": pick.random() < 0.3,
+        "short": pick.random() < 0.3,
+        "accept": pick.random() < 0.4,
         "places": pick.random() < 0.5,
     }
 
@@ -168,9 +196,12 @@ def tasks(pick, text):
     places = places_of(text.encode("latin-1"))
     placed = pick.random() < 0.5
     yield ["list", *["--places"] * placed], listing(Chart(text, "pair"), places, placed), 0
+    faulty = fault_of(text)
     for queues in ("pair", "mailbox", "single"):
         options = some_options(pick)
-        lines, status = study(Chart(text, queues), places, options)
+        if faulty and options["accept"]:
+            options["accept"] = False
+        lines, status = study(Chart(text, queues), places, options, marks_for(text, queues))
         yield ["check", "--queues", queues, *words_of(options)], lines, status
 
 
@@ -187,6 +218,7 @@ def main():
     for _ in range(given.charts):
         end = pick.choice(["", "\n", "\r\n", "\n\t "])
         text = chart(pick, given.messages, True).replace(";", ";" + end)
+        text = marked(pick, text) if pick.random() < 0.5 else text
         for asked, lines, status in tasks(pick, text):
             program = [given.program, *asked, "-"]
             done = subprocess.run(program, input=text.encode("latin-1"), capture_output=True)

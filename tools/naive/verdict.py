@@ -209,6 +209,10 @@ class Chart:
                 yield runs[e]
 
 
+def is_enforced(drawn, e, f):
+    return bool(drawn.enforced[e] >> f & 1)
+
+
 def main():
     style = argparse.RawDescriptionHelpFormatter
     words = argparse.ArgumentParser(description=__doc__, formatter_class=style)

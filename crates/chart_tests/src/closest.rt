@@ -8,7 +8,7 @@ use example_charts::{
 };
 use msc_chart::{Chart, Event, Queues};
 use msc_race::Enforced;
-use msc_reason::{KindSet, Listing, Stream};
+use msc_reason::{KindSet, LeftOut, Listing, Pairs, Stream};
 
 /// An output between two inputs of one queue, which are taken in the order in which they were not
 /// sent: the later input always comes first, and before the output.
@@ -48,10 +48,15 @@ fn listed(rt: &impl Host, listing: &Listing) -> Vec<(Event, Event)> {
     list
 }
 
+/// The closest races of a chart that are not left out.
+fn near_without(rt: &impl Host, enforced: Enforced, left_out: LeftOut) -> Vec<(Event, Event)> {
+    let listing = Listing::of(rt.alloc(), enforced, left_out, true).expect(rt, "memory");
+    listed(rt, &listing)
+}
+
 /// The closest races of a chart, whatever their kinds.
 fn near_of(rt: &impl Host, enforced: Enforced) -> Vec<(Event, Event)> {
-    let listing = Listing::of(rt.alloc(), enforced, KindSet::NONE, true).expect(rt, "memory");
-    listed(rt, &listing)
+    near_without(rt, enforced, LeftOut::of_kinds(KindSet::NONE))
 }
 
 /// Whether these are the closest races of a chart under an architecture.
@@ -123,4 +128,29 @@ fn two_streams_have_one_closest_race(rt: HostRuntime) {
         let is = of_streams(&rt, parts) == (all, 1, Some(pair));
         assert!(rt; is, "{all} races");
     }
+}
+
+/// The pair (3, 4) of the six events of `OUTPUT_BETWEEN`, as it is accepted.
+fn one_accepted(rt: &impl Host) -> Pairs {
+    let mut pairs = Pairs::none(rt.alloc(), 6).expect(rt, "memory");
+    pairs.put(3, 4);
+    pairs
+}
+
+/// The closest races of that chart beside the one that is accepted.
+fn beside_the_accepted(rt: &impl Host) -> Vec<(Event, Event)> {
+    let chart = chart_of(rt, OUTPUT_BETWEEN);
+    let enforced = Enforced::of(rt.alloc(), &chart, Queues::Pair).expect(rt, "an order");
+    let pairs = one_accepted(rt);
+    let left_out = LeftOut {
+        kinds: KindSet::NONE,
+        accepted: Some(&pairs),
+    };
+    near_without(rt, enforced, left_out)
+}
+
+// (2, 4) spans it, and is a closest race once it does not count.
+#[test]
+fn closest_races_beside_an_accepted_one(rt: HostRuntime) {
+    assert_eq!(rt; beside_the_accepted(&rt).as_slice(), [(2, 4)].as_slice());
 }

@@ -39,4 +39,6 @@ mod rings_of_tables;
 #[cfg(test)]
 mod runs;
 #[cfg(test)]
+mod short;
+#[cfg(test)]
 mod tokens;

@@ -8,7 +8,7 @@ use msc_parser::parse;
 use msc_place::{Lines, Places, excerpt};
 
 /// An ISDN basic call, as `charts/isdn_call.msc` has it below its note of two lines.
-const ISDN_CALL: &[u8] = b"
+pub(crate) const ISDN_CALL: &[u8] = b"
 
 msc basic_call;
 inst caller, network, callee;

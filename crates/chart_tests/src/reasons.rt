@@ -215,7 +215,7 @@ fn said_of(rt: &impl Host, chart: &Chart, queues: Queues, pair: (Event, Event)) 
     if e >= enforced.events() || f >= enforced.events() || e == f {
         return None;
     }
-    Some(explain(rt.alloc(), &enforced, e, f).expect(rt, "a reason"))
+    Some(explain(rt.alloc(), &enforced, e, f, false).expect(rt, "a reason"))
 }
 
 /// The same of a text's chart.

@@ -1,5 +1,5 @@
 -- What was answered of a chart is answered of its text, and a flush keeps it.
-use Rattle.std.proofs.Common.{◌≡◌, ◌≢◌, ◌<◌, ℕ, Bool, List, [], length, Option, Some, None, Result, Ok, Err, inl, inr, refl, sym, subst, ◌∙◌}
+use Rattle.std.proofs.Common.{◌≡◌, ◌≢◌, ◌<◌, ℕ, Bool, true, false, List, [], length, Option, Some, None, Result, Ok, Err, inl, inr, refl, sym, subst, ◌∙◌}
 use Rattle.std.proofs.lemmas.List.{append-nil}
 use Rattle.std.specs.Io.KnownBytes.{Appends, Keeps}
 use Rattle.msc_chart.specs.declared.queue.Queues.{Queues}
@@ -9,6 +9,10 @@ use Rattle.msc_ending.specs.declared.fault.RunFault.TheVariants as runs
 use Rattle.msc_judge.specs.Pages as pages
 use Rattle.msc_judge.specs.declared.page.WriteFault.{WriteFault}
 use Rattle.msc_judge.specs.declared.page.WriteFault.TheVariants as writing
+use Rattle.msc_mark.specs.declared.fault.MarkFault.{MarkFault}
+use Rattle.msc_mark.specs.declared.fault.MarkFault.TheVariants as marking
+use Rattle.msc_mark.specs.declared.mark.Mark.{Mark}
+use Rattle.msc_reason.specs.declared.kinds.KindSet.{KindSet}
 use Rattle.msc_report.specs.declared.fault.Fault.TheVariants.{Parse, Chart, NotStarted, Memory, Device}
 use Rattle.msc_report.specs.Refusals.{of_reading, of_run, of_source, of_writing}
 use Rattle.msc_source.specs.Reading as reading
@@ -29,9 +33,11 @@ use Rattle.msc_command.specs.declared.tasks.Ask.TheVariants as asks
 use Rattle.msc_command.specs.declared.tasks.Checking.{Checking}
 use Rattle.msc_command.specs.declared.tasks.Task.{Task}
 use Rattle.msc_command.specs.declared.tasks.Task.TheVariants as tasks
-use Rattle.msc_command.specs.Answering.{Answers, AnswersOf, Does, EndsAs, IsPut, Performs, Prints, PrintsOf, Refuses, RefusesOf}
-use Rattle.msc_command.specs.Ending.{ended_by}
+use Rattle.msc_command.specs.Answering.{Answers, AnswersOf, Delivers, Does, EndsAs, IsPut, Performs, Prints, PrintsOf, Refuses, RefusesOf, TellsQuietly}
+use Rattle.msc_command.specs.Ending.{ended_by, of_marks}
 use Rattle.msc_command.specs.Formats.{IsFormat}
+use Rattle.msc_command.specs.Marked.{AreMarked, ReadsMarks}
+use Rattle.msc_command.specs.Refused.{form_of, is_spent, TellsIn, TellsThat, TellsUnread}
 
 -- nothing more stands behind known bytes
 pub nothing_more : (now : Option (List ℕ)) → Appends now now []
@@ -44,6 +50,13 @@ kept None mid after bytes wrote keeps = tt
 kept (Some xs) None after bytes wrote keeps = absurd wrote
 kept (Some xs) (Some ys) None bytes wrote keeps = absurd keeps
 kept (Some xs) (Some ys) (Some zs) bytes wrote keeps = keeps ∙ wrote
+
+-- how marks that can't be read end what is told by the status alone
+pub quietly_marked : (queues : Queues) (allowed : KindSet) (accept : Bool) (s : SourceText) (f : MarkFault) → ReadsMarks accept s.text (Err f)
+    → TellsQuietly queues allowed accept s (Err (of_marks f))
+quietly_marked queues allowed accept s (marking.Part at) faulty = faulty
+quietly_marked queues allowed accept s (marking.Reason at) faulty = faulty
+quietly_marked queues allowed accept s marking.Memory said = tt
 
 module _ {W : Type 0} (contents : W → Option (List ℕ)) where
   -- what was answered of one thing was answered of another, where what is right of it is right there
@@ -59,6 +72,7 @@ module _ {W : Type 0} (contents : W → Option (List ℕ)) where
   answers_so prints so refuses not_so right wrong (Err (refusals.Fault (Chart f))) old new (fails, same) = (wrong _ fails, same)
   answers_so prints so refuses not_so right wrong (Err (refusals.Fault (NotStarted i))) old new (fails, same) = (wrong _ fails, same)
   answers_so prints so refuses not_so right wrong (Err (refusals.Pair f)) old new (fails, same) = (wrong _ fails, same)
+  answers_so prints so refuses not_so right wrong (Err (refusals.Mark f)) old new (fails, same) = (wrong _ fails, same)
 
   -- what is right to print was put
   pub put_so : (prints : Status → List ℕ → Type 0) (refuses : Refusal → Type 0) (bytes : List ℕ) (status : Status) → prints status bytes
@@ -66,19 +80,39 @@ module _ {W : Type 0} (contents : W → Option (List ℕ)) where
   put_so prints refuses bytes status says (Ok s) old new (same, wrote) = (bytes, subst (λ (s : Status). prints s bytes) (sym same) says, wrote)
   put_so prints refuses bytes status says (Err r) old new is = rw is tt
 
-  module _ (c : Checking) (file : List ℕ) (format : Format) (s : SourceText) (its : IsFormat c file s.text format) where
+  module _ (c : Checking) (file : List ℕ) (format : Format) (s : SourceText) (its : IsFormat c file s.text format)
+      (marks : Option (List Mark)) (are : AreMarked c.accept s.text marks) where
     -- what was judged of a chart was answered of it
-    pub judged : (passed : Bool) (old new : W) → pages.Tells contents (JudgesChart s.chart c.queues c.question format) (Ok passed) old new
+    pub judged : (passed : Bool) (old new : W) → pages.Tells contents (JudgesChart s.chart c.queues c.question marks format) (Ok passed) old new
         → AnswersOf contents (asks.Check c) file s (Ok (ended_by passed)) old new
-    judged passed old new (printed, says, wrote) = (printed, (format, its, passed, refl, says), wrote)
+    judged passed old new (printed, says, wrote) = (printed, (format, its, marks, are, passed, refl, says), wrote)
 
     -- and so it was where it was not written to its end
-    pub not_judged : (f : WriteFault) (old new : W) → pages.Tells contents (JudgesChart s.chart c.queues c.question format) (Err f) old new
+    pub not_judged : (f : WriteFault) (old new : W) → pages.Tells contents (JudgesChart s.chart c.queues c.question marks format) (Err f) old new
         → AnswersOf contents (asks.Check c) file s (Err (refusals.Fault (of_writing f))) old new
     not_judged writing.Memory old new (inl same) = inl same
     not_judged writing.Memory old new (inr (passed, printed, says, begun)) =
-        inr (ended_by passed, printed, (format, its, passed, refl, says), begun)
+        inr (ended_by passed, printed, (format, its, marks, are, passed, refl, says), begun)
     not_judged writing.Device old new said = tt
+
+  -- marks that can't be read are answered so
+  pub not_marked : (c : Checking) (file : List ℕ) (s : SourceText) (f : MarkFault) (now : W) → ReadsMarks c.accept s.text (Err f)
+      → AnswersOf contents (asks.Check c) file s (Err (of_marks f)) now now
+  not_marked c file s (marking.Part at) now faulty = (faulty, refl)
+  not_marked c file s (marking.Reason at) now faulty = (faulty, refl)
+  not_marked c file s marking.Memory now said = inl refl
+
+  -- and so is what is told by the status alone
+  pub told_quietly : (queues : Queues) (allowed : KindSet) (accept : Bool) (file : List ℕ) (s : SourceText) (answer : Result Status Refusal) (now : W)
+      → TellsQuietly queues allowed accept s answer → AnswersOf contents (asks.Quiet queues allowed accept) file s answer now now
+  told_quietly queues allowed accept file s (Ok status) now says = ([], says, nothing_more _)
+  told_quietly queues allowed accept file s (Err (refusals.Fault (Parse f))) now says = absurd says
+  told_quietly queues allowed accept file s (Err (refusals.Fault (Chart f))) now says = absurd says
+  told_quietly queues allowed accept file s (Err (refusals.Fault (NotStarted i))) now says = absurd says
+  told_quietly queues allowed accept file s (Err (refusals.Fault Memory)) now says = inl refl
+  told_quietly queues allowed accept file s (Err (refusals.Fault Device)) now says = tt
+  told_quietly queues allowed accept file s (Err (refusals.Pair f)) now says = absurd says
+  told_quietly queues allowed accept file s (Err (refusals.Mark f)) now says = (says, refl)
 
   -- a chart that was not run is answered so
   pub not_run : (queues : Queues) (patience : ℕ) (file : List ℕ) (s : SourceText) (f : RunFault) (now : W)
@@ -116,6 +150,7 @@ module _ {W : Type 0} (contents : W → Option (List ℕ)) where
     refuses_so d of_text ask (refusals.Fault Memory) fails = absurd fails
     refuses_so d of_text ask (refusals.Fault Device) fails = absurd fails
     refuses_so d of_text ask (refusals.Pair f) fails = (d, of_text, fails)
+    refuses_so d of_text ask (refusals.Mark f) fails = (d, of_text, fails)
 
     -- what was answered of a chart was answered of its text
     charted_at : (d : Drawing) → IsChartOf text d → (ask : Ask) (answer : Result Status Refusal) (old new : W)
@@ -138,15 +173,60 @@ module _ {W : Type 0} (contents : W → Option (List ℕ)) where
 
   -- an answer that went out is kept by a flush
   pub flushed : (task : Task) (file text : List ℕ) (status : Status) (old mid new : W)
-      → Does contents task file text (Ok status) old mid → Keeps (contents mid) (contents new) → Does contents task file text (Ok status) old new
+      → Does contents task file text (Ok status) old mid → Keeps (contents mid) (contents new) → Delivers contents task file text (Ok status) old new
   flushed task file text status old mid new (printed, says, wrote) keeps =
       (printed, says, kept (contents old) (contents mid) (contents new) printed wrote keeps)
 
+  module _ (task : Task) (file text : List ℕ) where
+    -- where nothing is refused, it is left as that
+    spent_so : (refusal : Refusal) (old new : W) → is_spent refusal ≡ true → Does contents task file text (Err refusal) old new
+        → Delivers contents task file text (Err refusal) old new
+    spent_so (refusals.Fault (Parse f)) old new spent does = absurd cc
+    spent_so (refusals.Fault (Chart f)) old new spent does = absurd cc
+    spent_so (refusals.Fault (NotStarted i)) old new spent does = absurd cc
+    spent_so (refusals.Fault Memory) old new spent does = does
+    spent_so (refusals.Fault Device) old new spent does = tt
+    spent_so (refusals.Pair f) old new spent does = absurd cc
+    spent_so (refusals.Mark f) old new spent does = absurd cc
+
+    -- where something is, the writer has had no call before it is told
+    untouched : (refusal : Refusal) (old new : W) → is_spent refusal ≡ false → Does contents task file text (Err refusal) old new → new ≡ old
+    untouched (refusals.Fault (Parse f)) old new refused does = does.1
+    untouched (refusals.Fault (Chart f)) old new refused does = does.1
+    untouched (refusals.Fault (NotStarted i)) old new refused does = does.1
+    untouched (refusals.Fault Memory) old new refused does = absurd cc
+    untouched (refusals.Fault Device) old new refused does = absurd cc
+    untouched (refusals.Pair f) old new refused does = does.1
+    untouched (refusals.Mark f) old new refused does = does.1
+
+    -- and then it is told
+    told_so : (refusal : Refusal) (old mid new : W) → is_spent refusal ≡ false → Does contents task file text (Err refusal) old mid
+        → TellsIn contents (form_of task) file text refusal old new → Delivers contents task file text (Err refusal) old new
+    told_so (refusals.Fault (Parse f)) old mid new refused does tells = (does.0, tells)
+    told_so (refusals.Fault (Chart f)) old mid new refused does tells = (does.0, tells)
+    told_so (refusals.Fault (NotStarted i)) old mid new refused does tells = (does.0, tells)
+    told_so (refusals.Fault Memory) old mid new refused does tells = absurd cc
+    told_so (refusals.Fault Device) old mid new refused does tells = absurd cc
+    told_so (refusals.Pair f) old mid new refused does tells = (does.0, tells)
+    told_so (refusals.Mark f) old mid new refused does tells = (does.0, tells)
+
+    -- so a task that is refused is left as it has to be
+    pub delivered : (refusal told : Refusal) (old mid new : W) → Does contents task file text (Err refusal) old mid
+        → TellsThat contents (form_of task) file text refusal told mid new → Delivers contents task file text (Err told) old new
+    delivered refusal told old mid new does (inl (spent, same, stays)) =
+        rw (same, stays) (spent_so refusal old mid spent does)
+    delivered refusal told old mid new does (inr (refused, inl (same, tells))) =
+        rw same (told_so refusal old mid new refused does
+        (subst (λ (w : W). TellsIn contents (form_of task) file text refusal w new) (untouched refusal old mid refused does) tells))
+    delivered refusal told old mid new does (inr (refused, inr (inl (memory, stays)))) =
+        rw memory (inl (stays ∙ untouched refusal old mid refused does))
+    delivered refusal told old mid new does (inr (refused, inr (inr device))) = rw device tt
+
   -- what was not read leaves every task undone
-  pub unread : (task : Task) (file : List ℕ) (reads : List ℕ → Type 0) (f : ReadFault) (now : W)
-      → Performs contents task file reads (Err (refusals.Fault (of_reading f))) now now
-  unread task file reads readings.Memory now = inr (tt, refl)
-  unread task file reads (readings.Device e) now = inr (tt, refl)
+  pub unread : (task : Task) (file : List ℕ) (reads : List ℕ → Type 0) (f : ReadFault) (old new : W) → TellsUnread task old new
+      → Performs contents task file reads (Err (refusals.Fault (of_reading f))) old new
+  unread task file reads readings.Memory old new told = inr (tt, told)
+  unread task file reads (readings.Device e) old new told = inr (tt, told)
 
   -- a task that was performed was so for texts of which less is known
   performs_so : (task : Task) (file : List ℕ) (reads so : List ℕ → Type 0) (answer : Result Status Refusal) (old new : W)

@@ -11,7 +11,10 @@ use Rattle.msc_command.specs.declared.tasks.Task.{Task}
 use Rattle.msc_command.specs.declared.tasks.Task.TheVariants as tasks
 use Rattle.msc_command.specs.Answering.{ends_with, Performs, Prints}
 use Rattle.msc_command.specs.Ending.{ended_by, finished_by, status_code}
-use Rattle.msc_command.specs.Program.{Obeys, Tells, TellsAnswer}
+use Rattle.msc_command.specs.Program.{Obeys, Tells, TellsAnswer, TellsRefused}
+use Rattle.msc_command.specs.Refused.{form_of, TellsIn}
+use Rattle.msc_command.specs.declared.tasks.Form.{Form}
+use Rattle.msc_command.specs.declared.tasks.Form.TheVariants as forms
 
 -- no run that tells whether something holds ends as refused
 never_ended : (holds : Bool) → Refused ≡ ended_by holds → ⊥
@@ -26,13 +29,19 @@ never_finished false same = cc
 -- so nothing that is printed for a task is
 never_printed : (task : Task) (file text printed : List ℕ) → Prints task file text Refused printed → ⊥
 never_printed tasks.Read file text printed (draft, has, same, is) = cc
-never_printed (tasks.Chart (asks.Check c)) file text printed (d, of_text, (format, its, passed, same, says)) = never_ended passed same
-never_printed (tasks.Chart (asks.Quiet queues allowed)) file text printed (d, of_text, (passed, same, says, none)) = never_ended passed same
+never_printed (tasks.Chart (asks.Check c)) file text printed (d, of_text, (format, its, marks, are, passed, same, says)) = never_ended passed same
+never_printed (tasks.Chart (asks.Quiet queues allowed accept)) file text printed (d, of_text, (marks, are, passed, same, says, none)) = never_ended passed same
 never_printed (tasks.Chart (asks.Explain x)) file text printed (d, of_text, (e, f, two, style, its, enforced, same, says)) = never_ended enforced same
 never_printed (tasks.Chart (asks.Run queues patience)) file text printed (d, of_text, (finished, same, says)) = never_finished finished same
 never_printed (tasks.Chart (asks.List placed)) file text printed (d, of_text, (sites, are, same, is)) = cc
 
 module _ {W : Type 0} (contents : W → Option (List ℕ)) where
+  -- of a refusal that was told, nothing or its lines went out
+  refused_told : (form : Form) (file text : List ℕ) (refusal : Refusal) (old new : W) → TellsIn contents form file text refusal old new → TellsRefused contents old new
+  refused_told forms.Text file text refusal old new same = inl same
+  refused_told forms.Count file text refusal old new same = inl same
+  refused_told forms.Lines file text refusal old new (printed, is, wrote) = inr (file, text, refusal, printed, is, wrote)
+
   -- the status tells of what was performed
   tells : (task : Task) (file : List ℕ) (reads : List ℕ → Type 0) (answer : Result Status Refusal) (old new : W)
       → Performs contents task file reads answer old new → TellsAnswer contents (ends_with answer) old new
@@ -44,20 +53,22 @@ module _ {W : Type 0} (contents : W → Option (List ℕ)) where
   tells task file reads (Ok Unfinished) old new (inl (text, read, (printed, says, wrote))) = (task, file, text, printed, says, wrote)
   tells task file reads (Ok Unfinished) old new (inr (never, same)) = absurd never
   tells task file reads (Ok Failed) old new said = tt
-  tells task file reads (Err (refusals.Fault (Parse f))) old new (inl (text, read, (refused, same))) = same
+  tells task file reads (Err (refusals.Fault (Parse f))) old new (inl (text, read, (refused, told))) = refused_told (form_of task) file text (refusals.Fault (Parse f)) old new told
   tells task file reads (Err (refusals.Fault (Parse f))) old new (inr (never, same)) = absurd never
-  tells task file reads (Err (refusals.Fault (Chart f))) old new (inl (text, read, (refused, same))) = same
+  tells task file reads (Err (refusals.Fault (Chart f))) old new (inl (text, read, (refused, told))) = refused_told (form_of task) file text (refusals.Fault (Chart f)) old new told
   tells task file reads (Err (refusals.Fault (Chart f))) old new (inr (never, same)) = absurd never
   tells task file reads (Err (refusals.Fault (NotStarted i))) old new said = tt
   tells task file reads (Err (refusals.Fault Memory)) old new said = tt
   tells task file reads (Err (refusals.Fault Device)) old new said = tt
-  tells task file reads (Err (refusals.Pair f)) old new (inl (text, read, (refused, same))) = same
+  tells task file reads (Err (refusals.Pair f)) old new (inl (text, read, (refused, told))) = refused_told (form_of task) file text (refusals.Pair f) old new told
   tells task file reads (Err (refusals.Pair f)) old new (inr (never, same)) = absurd never
+  tells task file reads (Err (refusals.Mark f)) old new (inl (text, read, (refused, told))) = refused_told (form_of task) file text (refusals.Mark f) old new told
+  tells task file reads (Err (refusals.Mark f)) old new (inr (never, same)) = absurd never
 
   -- and of words that were obeyed
   pub obeyed : (name : List ℕ) (found : Found) (status : Status) (reads : List ℕ → Type 0) (old new : W)
       → Obeys contents name found status reads old new → TellsAnswer contents status old new
-  obeyed name found status reads old new (inl none) = rw (none.ends) none.kept
+  obeyed name found status reads old new (inl none) = rw (none.ends) (inl none.kept)
   obeyed name found status reads old new (inr done) =
       subst (λ (s : Status). TellsAnswer contents s old new) (sym done.ends.1) (tells done.task _ reads done.ends.0 old new done.ends.2)
 
@@ -69,8 +80,8 @@ module _ {W : Type 0} (contents : W → Option (List ℕ)) where
   told_races Unfinished old new told one = absurd cc
   told_races Failed old new told one = absurd cc
 
-  -- where it is 2, the output has had no call
-  pub told_refused : (status : Status) (old new : W) → TellsAnswer contents status old new → status_code status ≡ 2 → new ≡ old
+  -- where it is 2, the output has had no call, or has the lines of a refusal
+  pub told_refused : (status : Status) (old new : W) → TellsAnswer contents status old new → status_code status ≡ 2 → TellsRefused contents old new
   told_refused Done old new told two = absurd cc
   told_refused Races old new told two = absurd cc
   told_refused Refused old new told two = told

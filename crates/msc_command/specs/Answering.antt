@@ -6,7 +6,11 @@ use Rattle.msc_chart.specs.Faults.{IsFirstFault}
 use Rattle.msc_parser.specs.Canonical.{canonical}
 use Rattle.msc_parser.specs.Grammar.{Tree}
 use Rattle.msc_parser.specs.Parsing.{HasDraft, HasParseFault}
+use Rattle.msc_chart.specs.declared.queue.Queues.{Queues}
 use Rattle.msc_judge.specs.Pages.{WritesBeginning}
+use Rattle.msc_mark.specs.declared.fault.MarkFault.{MarkFault}
+use Rattle.msc_mark.specs.declared.mark.Mark.{Mark}
+use Rattle.msc_reason.specs.declared.kinds.KindSet.{KindSet}
 use Rattle.msc_report.specs.declared.fault.Fault.TheVariants.{Parse, NotStarted, Memory, Device}
 use Rattle.msc_report.specs.declared.fault.Fault.TheVariants as faults
 use Rattle.msc_place.specs.Sites.{SitesIn}
@@ -21,7 +25,9 @@ use Rattle.msc_text.specs.declared.judging.Format.{Format}
 use Rattle.msc_tool.specs.Running.{PrintsExecution}
 use Rattle.msc_command.specs.Ending.{ended_by, ends_as, finished_by}
 use Rattle.msc_command.specs.Formats.{IsFormat}
+use Rattle.msc_command.specs.Marked.{AreMarked, HasFaultyMark}
 use Rattle.msc_command.specs.Naming.{AreTwoNamed, IsNamedFault}
+use Rattle.msc_command.specs.Refused.{TellsRefusal, TellsUnread}
 use Rattle.msc_command.specs.Sited.{AreSited, IsStyle}
 use Rattle.msc_command.specs.declared.ending.Refusal.{Refusal}
 use Rattle.msc_command.specs.declared.ending.Refusal.TheVariants as refusals
@@ -37,12 +43,14 @@ use Rattle.msc_command.specs.declared.tasks.Task.TheVariants.{Read, Chart}
 abbrev pub PrintsOf : Ask → List ℕ → SourceText → Status → List ℕ → Type 0
 PrintsOf (Check c) file s status printed =
     (format : Format) × IsFormat c file s.text format
-    × (passed : Bool) × (status ≡ ended_by passed) × JudgesChart s.chart c.queues c.question format passed printed
-PrintsOf (Quiet queues allowed) file s status printed =
-    (passed : Bool) × (status ≡ ended_by passed) × Passes s.chart queues allowed passed × (printed ≡ [])
+    × (marks : Option (List Mark)) × AreMarked c.accept s.text marks
+    × (passed : Bool) × (status ≡ ended_by passed) × JudgesChart s.chart c.queues c.question marks format passed printed
+PrintsOf (Quiet queues allowed accept) file s status printed =
+    (marks : Option (List Mark)) × AreMarked accept s.text marks
+    × (passed : Bool) × (status ≡ ended_by passed) × Passes s.chart queues allowed marks passed × (printed ≡ [])
 PrintsOf (Explain x) file s status printed =
     (e f : ℕ) × AreTwoNamed s x.first x.second e f × (style : Style) × IsStyle x.look file s.text style
-    × (enforced : Bool) × (status ≡ ended_by enforced) × PrintsReason s.chart x.queues e f style enforced printed
+    × (enforced : Bool) × (status ≡ ended_by enforced) × PrintsReason s.chart x.queues e f x.short style enforced printed
 PrintsOf (Run queues patience) file s status printed =
     (finished : Bool) × (status ≡ finished_by finished) × PrintsExecution s.chart queues true patience finished printed
 PrintsOf (Listing placed) file s status printed =
@@ -53,6 +61,12 @@ abbrev pub RefusesPair : Ask → SourceText → NamedFault → Type 0
 RefusesPair (Explain x) s fault = IsNamedFault s x.first x.second fault
 RefusesPair ask s fault = ⊥
 
+-- the marks of the text are asked, and this is the first faulty one
+abbrev pub RefusesMark : Ask → SourceText → MarkFault → Type 0
+RefusesMark (Check c) s fault = HasFaultyMark c.accept s.text fault
+RefusesMark (Quiet queues allowed accept) s fault = HasFaultyMark accept s.text fault
+RefusesMark ask s fault = ⊥
+
 -- an instance of a chart that is to be run could not be started
 abbrev pub FailsToStart : Ask → Drawing → ℕ → Type 0
 FailsToStart (Run queues patience) d i = i < length d.instances
@@ -61,6 +75,7 @@ FailsToStart ask d i = ⊥
 -- why there is nothing to print of a chart for what is asked of it
 abbrev pub RefusesOf : Ask → SourceText → Refusal → Type 0
 RefusesOf ask s (refusals.Pair fault) = RefusesPair ask s fault
+RefusesOf ask s (refusals.Mark fault) = RefusesMark ask s fault
 RefusesOf ask s (refusals.Fault (NotStarted i)) = FailsToStart ask s.chart i
 RefusesOf ask s refusal = ⊥
 
@@ -97,9 +112,25 @@ Answers contents prints refuses (Err refusal) old new = refuses refusal × (new 
 abbrev pub AnswersOf : {W : Type 0} → (W → Option (List ℕ)) → Ask → List ℕ → SourceText → Result Status Refusal → W → W → Type 0
 AnswersOf contents ask file s = Answers contents (PrintsOf ask file s) (RefusesOf ask s)
 
+-- how a run ends that tells whether no race counts, without a text
+abbrev pub TellsQuietly : Queues → KindSet → Bool → SourceText → Result Status Refusal → Type 0
+TellsQuietly queues allowed accept s (Ok status) = PrintsOf (Quiet queues allowed accept) [] s status []
+TellsQuietly queues allowed accept s (Err (refusals.Fault Memory)) = Unit {0}
+TellsQuietly queues allowed accept s (Err (refusals.Mark fault)) = HasFaultyMark accept s.text fault
+TellsQuietly queues allowed accept s (Err refusal) = ⊥
+
 -- a task was done for the text of a file
 abbrev pub Does : {W : Type 0} → (W → Option (List ℕ)) → Task → List ℕ → List ℕ → Result Status Refusal → W → W → Type 0
 Does contents task file text = Answers contents (Prints task file text) (Refuses task text)
+
+-- A task was done for the text of a file, and where it was refused that was told: where memory ran out
+-- or the writer failed, it is left as that.
+abbrev pub Delivers : {W : Type 0} → (W → Option (List ℕ)) → Task → List ℕ → List ℕ → Result Status Refusal → W → W → Type 0
+Delivers contents task file text (Ok status) old new = Does contents task file text (Ok status) old new
+Delivers contents task file text (Err (refusals.Fault Memory)) old new = Does contents task file text (Err (refusals.Fault Memory)) old new
+Delivers contents task file text (Err (refusals.Fault Device)) old new = Unit {0}
+Delivers contents task file text (Err refusal) old new =
+    Refuses task text refusal × TellsRefusal contents task file text refusal old new
 
 -- a file was not read: memory ran out, or a device failed
 abbrev pub IsUnread : Result Status Refusal → Type 0
@@ -107,10 +138,10 @@ IsUnread (Err (refusals.Fault Memory)) = Unit {0}
 IsUnread (Err (refusals.Fault Device)) = Unit {0}
 IsUnread answer = ⊥
 
--- a task was done for a text that was read so, or nothing was read, and the writer has had no call
+-- a task was done for a text that was read so, or nothing was read
 abbrev pub Performs : {W : Type 0} → (W → Option (List ℕ)) → Task → List ℕ → (List ℕ → Type 0) → Result Status Refusal → W → W → Type 0
 Performs contents task file reads answer old new =
-    ((text : List ℕ) × reads text × Does contents task file text answer old new) ⊎ (IsUnread answer × (new ≡ old))
+    ((text : List ℕ) × reads text × Delivers contents task file text answer old new) ⊎ (IsUnread answer × TellsUnread task old new)
 
 -- how a run ends whose task was done so
 abbrev pub ends_with : Result Status Refusal → Status

@@ -106,6 +106,7 @@ pub record IsQuestion (found : Found) (q : Question) : Type 0 where
   pub allowed : AreAllowed found q.allowed
   pub most : IsOptionNumber found (word_name words.Most) unlimited q.most
   pub show : IsOptionNumber found (word_name words.Show) unlimited q.show
+  pub short : IsFlag found (word_name words.Short) q.short
 
 -- the form that a word names: text, where none does
 abbrev pub form_named : Option (List ℕ) → Form
@@ -125,6 +126,7 @@ pub record IsLook (found : Found) (look : Look) : Type 0 where
 pub record IsChecking (found : Found) (c : Checking) : Type 0 where
   pub architecture_is : architecture found ≡ Some c.queues
   pub question : IsQuestion found c.question
+  pub accept : IsFlag found (word_name words.Accept) c.accept
   pub form_is : c.form ≡ form found
   pub look : IsLook found c.look
   pub loud : IsFlag found (word_name words.Quiet) false
@@ -134,6 +136,7 @@ pub record IsExplaining (found : Found) (x : Explaining) : Type 0 where
   pub architecture_is : architecture found ≡ Some x.queues
   pub first : IsEventWord found (word_name words.FirstEvent) x.first
   pub second : IsEventWord found (word_name words.SecondEvent) x.second
+  pub short : IsFlag found (word_name words.Short) x.short
   pub look : IsLook found x.look
 
 -- the file that a word names: the input, where none does
@@ -149,8 +152,9 @@ file_of found = file_of_word (first_value found (word_name words.File))
 abbrev pub AsksFor : Verb → Found → Task → Type 0
 AsksFor verbs.Read found Read = Unit {0}
 AsksFor verbs.Check found (Chart (Check c)) = IsChecking found c
-AsksFor verbs.Check found (Chart (Quiet queues allowed)) =
-    AreAllowed found allowed × IsFlag found (word_name words.Quiet) true × (architecture found ≡ Some queues)
+AsksFor verbs.Check found (Chart (Quiet queues allowed accept)) =
+    AreAllowed found allowed × IsFlag found (word_name words.Accept) accept
+    × IsFlag found (word_name words.Quiet) true × (architecture found ≡ Some queues)
 AsksFor verbs.Explain found (Chart (Explain x)) = IsExplaining found x
 AsksFor verbs.Run found (Chart (Run queues patience)) =
     IsOptionNumber found (word_name words.Patience) default_patience patience

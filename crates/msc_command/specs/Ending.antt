@@ -2,7 +2,9 @@
 use Rattle.std.specs.Prelude.{ℕ, Bool, true, false, List}
 use Rattle.msc_report.specs.declared.fault.Fault.{Fault}
 use Rattle.msc_report.specs.declared.fault.Fault.TheVariants.{Parse, Chart, NotStarted, Memory, Device}
-use Rattle.msc_report.specs.Texts.{fault_line, pair_fault_line}
+use Rattle.msc_report.specs.Texts.{fault_line, mark_fault_line, pair_fault_line}
+use Rattle.msc_mark.specs.declared.fault.MarkFault.{MarkFault}
+use Rattle.msc_mark.specs.declared.fault.MarkFault.TheVariants as marks
 use Rattle.msc_command.specs.declared.ending.Status.{Status}
 use Rattle.msc_command.specs.declared.ending.Status.TheVariants.{Done, Races, Refused, Unfinished, Failed}
 use Rattle.msc_command.specs.declared.ending.Refusal.{Refusal}
@@ -38,8 +40,16 @@ status_of Device = Failed
 abbrev pub ends_as : Refusal → Status
 ends_as (refusals.Fault f) = status_of f
 ends_as (refusals.Pair f) = Refused
+ends_as (refusals.Mark f) = Refused
+
+-- how a text ends whose marks can't be read
+abbrev pub of_marks : MarkFault → Refusal
+of_marks (marks.Part at) = refusals.Mark (marks.Part at)
+of_marks (marks.Reason at) = refusals.Mark (marks.Reason at)
+of_marks marks.Memory = refusals.Fault Memory
 
 -- the line of a refusal
 abbrev pub refusal_line : Refusal → List ℕ
 refusal_line (refusals.Fault f) = fault_line f
 refusal_line (refusals.Pair f) = pair_fault_line f
+refusal_line (refusals.Mark f) = mark_fault_line f

@@ -5,6 +5,10 @@ pub mod Asking
 pub mod Sited
 pub mod Naming
 pub mod Formats
+pub mod Marked
 pub mod Ending
+pub mod Refused
 pub mod Answering
 pub mod Program
+-- what the code keeps
+pub mod Extending

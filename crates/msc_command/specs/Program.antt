@@ -10,7 +10,9 @@ use Rattle.msc_source.specs.Inputs.{IsReadFrom}
 use Rattle.msc_command.specs.Answering.{EndsAs, Prints}
 use Rattle.msc_command.specs.Asking.{file_of, AsksFor, IsNoCommand}
 use Rattle.msc_command.specs.Grammar.{AreAnswered, AreTaken}
+use Rattle.msc_command.specs.Refused.{IsRefusalText}
 use Rattle.msc_command.specs.Words.{verb_of_word}
+use Rattle.msc_command.specs.declared.ending.Refusal.{Refusal}
 use Rattle.msc_command.specs.declared.ending.Status.{Status}
 use Rattle.msc_command.specs.declared.ending.Status.TheVariants.{Done, Races, Refused, Unfinished, Failed}
 use Rattle.msc_command.specs.declared.tasks.Task.{Task}
@@ -85,9 +87,16 @@ Tells contents status old new =
     (task : Task) × (file : List ℕ) × (text : List ℕ) × (printed : List ℕ)
     × Prints task file text status printed × Appends (contents old) (contents new) printed
 
+-- where a task is refused the writer has had no call, or has the lines of a refusal behind its known
+-- bytes
+abbrev pub TellsRefused : {W : Type 0} → (W → Option (List ℕ)) → W → W → Type 0
+TellsRefused contents old new =
+    (new ≡ old) ⊎ ((file : List ℕ) × (text : List ℕ) × (refusal : Refusal) × (printed : List ℕ)
+    × IsRefusalText file text refusal printed × Appends (contents old) (contents new) printed)
+
 -- what the status tells of the answer that went out
 abbrev pub TellsAnswer : {W : Type 0} → (W → Option (List ℕ)) → Status → W → W → Type 0
 TellsAnswer contents Races old new = Tells contents Races old new
-TellsAnswer contents Refused old new = new ≡ old
+TellsAnswer contents Refused old new = TellsRefused contents old new
 TellsAnswer contents Unfinished old new = Tells contents Unfinished old new
 TellsAnswer contents status old new = Unit {0}

@@ -8,7 +8,7 @@ use Rattle.msc_command.specs.declared.words.Takes.TheVariants as takes
 use Rattle.msc_command.specs.declared.words.Verb.{Verb}
 use Rattle.msc_command.specs.declared.words.Verb.TheVariants.{Read, Check, Explain, Run, List as Listing}
 use Rattle.msc_command.specs.declared.words.Word.{Word}
-use Rattle.msc_command.specs.declared.words.Word.TheVariants.{File, Queues, Closest, Why, Most, Show, Allow, Format, Quiet, Words, Patience, Places, Plain, FirstEvent, SecondEvent}
+use Rattle.msc_command.specs.declared.words.Word.TheVariants.{File, Queues, Closest, Why, Most, Show, Allow, Format, Quiet, Words, Short, Accept, Patience, Places, Plain, FirstEvent, SecondEvent}
 
 -- the name of a word behind a command
 abbrev pub word_name : Word → List ℕ
@@ -22,6 +22,8 @@ word_name Allow = codes "allow"
 word_name Format = codes "format"
 word_name Quiet = codes "quiet"
 word_name Words = codes "words"
+word_name Short = codes "short"
+word_name Accept = codes "accept"
 word_name Patience = codes "patience"
 word_name Places = codes "places"
 word_name Plain = codes "plain"
@@ -40,6 +42,8 @@ takes_of Allow = takes.Kinds
 takes_of Format = takes.Form
 takes_of Quiet = takes.NothingOrQ
 takes_of Words = takes.Nothing
+takes_of Short = takes.Nothing
+takes_of Accept = takes.Nothing
 takes_of Patience = takes.Number
 takes_of Places = takes.Nothing
 takes_of Plain = takes.Nothing
@@ -66,8 +70,8 @@ verb_of_word name = find (λ verb. bytes_eq name (verb_name verb)) verbs
 abbrev pub words_of : Verb → List Word
 words_of Read = Places ∷ Plain ∷ File ∷ []
 words_of Check =
-    Queues ∷ Closest ∷ Why ∷ Most ∷ Show ∷ Allow ∷ Format ∷ Quiet ∷ Words ∷ Places ∷ Plain ∷ File ∷ []
-words_of Explain = Queues ∷ Words ∷ Places ∷ Plain ∷ File ∷ FirstEvent ∷ SecondEvent ∷ []
+    Queues ∷ Closest ∷ Why ∷ Most ∷ Show ∷ Allow ∷ Accept ∷ Format ∷ Quiet ∷ Words ∷ Short ∷ Places ∷ Plain ∷ File ∷ []
+words_of Explain = Queues ∷ Words ∷ Short ∷ Places ∷ Plain ∷ File ∷ FirstEvent ∷ SecondEvent ∷ []
 words_of Run = Queues ∷ Patience ∷ Places ∷ Plain ∷ File ∷ []
 words_of Listing = Places ∷ Plain ∷ File ∷ []
 

@@ -1,27 +1,38 @@
 //! The answers of tasks: the text is read once, its chart is made, and what is asked of it is
 //! answered and printed.
 
-ghost use Rattle.std.specs.Prelude.{◌≡◌, ℕ, List};
-ghost use Rattle.msc_command.specs.Answering.{AnswersOf, Does, EndsAs, IsPut};
+ghost use Rattle.std.specs.Prelude.{◌≡◌, ℕ, List, option_map, IfErr, OnOk};
+ghost use Rattle.std.specs.Io.KnownBytes.{Keeps};
+ghost use Rattle.msc_command.specs.Answering.{AnswersOf, Delivers, Does, EndsAs, IsPut};
+ghost use Rattle.msc_command.specs.Answering.{TellsQuietly};
 ghost use Rattle.msc_command.specs.Ending.{ends_as};
-ghost use Rattle.msc_source.specs.Inputs.{IsReadFrom};
 ghost use Rattle.msc_command.specs.Formats.{IsFormat};
+ghost use Rattle.msc_command.specs.Marked.{AreMarked};
+ghost use Rattle.msc_command.specs.Refused.{IsToldIn, TellsThat, TellsUnread, TellsUnreadIn};
+ghost use Rattle.msc_report.specs.Refusals.{of_reading};
 ghost use Rattle.msc_source.specs.Inputs.{IsReadFrom};
 
-use crate::ending::{Refusal, Status, end_refused, end_unread, ended_by, finished_by};
+use crate::ending::{Refusal, Status, end_refused, end_unread, ended_by, finished_by, is_spent};
+use crate::marked::marks_of;
 use crate::naming::pair_named;
-use crate::notes::write_notes;
+use crate::notes::{write_cause, write_notes};
 use crate::recorded::TellsFailure;
+use crate::refused::refusal_lines;
 use crate::sited::{sites_of, style_of};
-use crate::tasks::{Ask, Checking, Explaining, Form, Request, Task};
+use crate::tasks::{Ask, Checking, Explaining, Form, Request, Task, form_of};
+use msc_chart::Queues;
 use msc_instance::AlwaysOpen;
 use msc_judge::Page;
+use msc_mark::Marks;
 use msc_place::Sites;
+use msc_place::writing::write_file;
+use msc_reason::KindSet;
 use msc_report::Fault;
-use msc_source::{Language, Reading, Source, read_all};
+use msc_source::{Language, ReadFault, Reading, Source, read_all};
 use msc_text::{Format, explain_pair, judge_chart, list_chart, passes_chart, write_reading};
 use msc_tool::print_execution;
 use std::alloc::Global;
+use std::io;
 use std::io::{Read, Write};
 use std::sync::Wait;
 use std::thread::Threads;
@@ -36,19 +47,40 @@ fn put<O: Write>(output: &mut O, page: &Page, status: Status) -> Result<Status, 
     }
 }
 
-/// Writes what is asked of the races of a text's chart in a format.
+/// Lets all that was written go out.
+fn flush<O: Write>(output: &mut O) -> Result<(), Refusal>
+    ensures kept { OnOk result (Keeps (O.contents output.old) (O.contents output.new)) }
+    ensures failed { IfErr result (λ refusal. refusal ≡ Refusal.Fault Fault.Device) }
+{
+    match output.flush() {
+        Ok(()) => Ok(()),
+        Err(_) => Err(Refusal::Fault(Fault::Device)),
+    }
+}
+
+/// Writes what is asked of the races of a text's chart in a format, with these marks.
 fn check_in<O: Write>(
     alloc: Global,
     checking: Checking,
+    marks: Option<&Marks>,
     format: Format<'_>,
     source: &Source,
     output: &mut O,
 ) -> Result<Status, Refusal>
+    requires { AreMarked checking.accept source.now.text (option_map (λ m. m.now) marks) }
     ensures { (file : List ℕ) → IsFormat checking file source.now.text format.entry
         → AnswersOf O.contents (Ask.Check checking) file source.now result output.old output.new }
 {
     let (queues, question) = (checking.queues, checking.question);
-    let passed = judge_chart(alloc, source.chart(), queues, question, format, output)?;
+    let passed = judge_chart(
+        alloc,
+        source.chart(),
+        queues,
+        question,
+        marks,
+        format,
+        output,
+    )?;
     Ok(ended_by(passed))
 }
 
@@ -63,22 +95,46 @@ fn check<O: Write>(
     ensures { AnswersOf O.contents (Ask.Check checking) file.now source.now result
         output.old output.new }
 {
+    let marks = marks_of(alloc, checking.accept, source.text())?;
+    let marks = marks.as_ref();
     match checking.form {
         Form::Text => {
             let look = checking.look;
             let sites = sites_of(alloc, look.places, file, source.text())?;
             let style = style_of(look, sites.as_ref());
-            check_in(alloc, checking, Format::Lines(style), source, output)
+            check_in(alloc, checking, marks, Format::Lines(style), source, output)
         }
         Form::Count => {
             let format = Format::Count(file.as_bytes());
-            check_in(alloc, checking, format, source, output)
+            check_in(alloc, checking, marks, format, source, output)
         }
         Form::Lines => {
             let sites = Sites::of(alloc, file.as_bytes(), source.text())?;
-            check_in(alloc, checking, Format::Editor(&sites), source, output)
+            check_in(
+                alloc,
+                checking,
+                marks,
+                Format::Editor(&sites),
+                source,
+                output,
+            )
         }
     }
+}
+
+/// Whether no race of a text's chart counts, and no mark accepts none.
+fn quiet(
+    alloc: Global,
+    queues: Queues,
+    allowed: KindSet,
+    accept: bool,
+    source: &Source,
+) -> Result<Status, Refusal>
+    ensures { TellsQuietly queues allowed accept source.now result }
+{
+    let marks = marks_of(alloc, accept, source.text())?;
+    let passes = passes_chart(alloc, source.chart(), queues, allowed, marks.as_ref())?;
+    Ok(ended_by(passes))
 }
 
 /// Writes why the first of two events of the chart of a text, of the file of this name, comes
@@ -99,7 +155,8 @@ fn explain<O: Write>(
     };
     let sites = sites_of(alloc, explaining.look.places, file, source.text())?;
     let style = style_of(explaining.look, sites.as_ref());
-    let (page, enforced) = explain_pair(alloc, source.chart(), explaining.queues, e, f, style)?;
+    let (queues, short) = (explaining.queues, explaining.short);
+    let (page, enforced) = explain_pair(alloc, source.chart(), queues, e, f, short, style)?;
     put(output, &page, ended_by(enforced))
 }
 
@@ -134,7 +191,7 @@ fn answer_chart<R: Threads + Wait + Sync, O: Write>(
     let chart = source.chart();
     match ask {
         Ask::Check(checking) => check(alloc, checking, file, source, output),
-        Ask::Quiet(queues, allowed) => Ok(ended_by(passes_chart(alloc, chart, queues, allowed)?)),
+        Ask::Quiet(queues, allowed, accept) => quiet(alloc, queues, allowed, accept, source),
         Ask::Explain(explaining) => explain(alloc, explaining, file, source, output),
         Ask::Run(queues, patience) => {
             let (page, finished) = print_execution(
@@ -175,8 +232,62 @@ fn answer<R: Threads + Wait + Sync, O: Write>(
     }
 }
 
-/// Lets the answer of a task go out, to the text of a file of this name, before it is told how the
-/// run ends.
+/// Lets the lines of a refusal for editors go out.
+fn tell_lines<O: Write>(
+    alloc: Global,
+    file: &str,
+    text: &[u8],
+    refusal: Refusal,
+    output: &mut O,
+) -> Result<(), Refusal>
+    ensures { IsToldIn O.contents Form.Lines file.now text.now refusal result
+        output.old output.new }
+{
+    let page = refusal_lines(alloc, file, text, refusal)?;
+    let _ = put(output, &page, Status::Refused)?;
+    flush(output)
+}
+
+/// Tells a refusal on the output, where its form has it there.
+fn tell_in<O: Write>(
+    alloc: Global,
+    form: Form,
+    file: &str,
+    text: &[u8],
+    refusal: Refusal,
+    output: &mut O,
+) -> Result<(), Refusal>
+    ensures { IsToldIn O.contents form file.now text.now refusal result output.old output.new }
+{
+    match form {
+        Form::Lines => tell_lines(alloc, file, text, refusal, output),
+        Form::Text | Form::Count => Ok(()),
+    }
+}
+
+/// Tells a refusal on the output, where its form has it there; answers it, or what went wrong with
+/// that.
+fn tell_refusal<O: Write>(
+    alloc: Global,
+    form: Form,
+    file: &str,
+    text: &[u8],
+    refusal: Refusal,
+    output: &mut O,
+) -> Refusal
+    ensures { TellsThat O.contents form file.now text.now refusal result output.old output.new }
+{
+    if is_spent(refusal) {
+        return refusal;
+    }
+    match tell_in(alloc, form, file, text, refusal, output) {
+        Ok(()) => refusal,
+        Err(other) => other,
+    }
+}
+
+/// Lets the answer of a task go out, to the text of a file of this name, or tells why it is refused,
+/// before it is told how the run ends.
 fn deliver<R: Threads + Wait + Sync, O: Write>(
     rt: &R,
     alloc: Global,
@@ -185,12 +296,17 @@ fn deliver<R: Threads + Wait + Sync, O: Write>(
     text: &[u8],
     output: &mut O,
 ) -> Result<Status, Refusal>
-    ensures { Does O.contents task file.now text.now result output.old output.new }
+    ensures { Delivers O.contents task file.now text.now result output.old output.new }
 {
-    let status = answer(rt, alloc, task, file, text, output)?;
-    match output.flush() {
-        Ok(()) => Ok(status),
-        Err(_) => Err(Refusal::Fault(Fault::Device)),
+    match answer(rt, alloc, task, file, text, output) {
+        Ok(status) => {
+            flush(output)?;
+            Ok(status)
+        }
+        Err(refusal) => {
+            let form = form_of(task);
+            Err(tell_refusal(alloc, form, file, text, refusal, output))
+        }
     }
 }
 
@@ -223,6 +339,44 @@ fn end_told<O: TellsFailure, E: Write>(
     status
 }
 
+/// Writes the lines for editors of a file that could not be read.
+fn write_unread<O: Write>(output: &mut O, file: &str, error: &io::Error) -> io::Result<()> {
+    write_file(output, file.as_bytes())?;
+    output.write_all(b":1:1: error: device fault\n")?;
+    write_file(output, file.as_bytes())?;
+    output.write_all(b":1:1: note: ")?;
+    write_cause(output, file, error)?;
+    output.flush()
+}
+
+/// Tells on the output that a file could not be read, where its form has it there.
+fn tell_unread<O: Write>(form: Form, file: &str, fault: &ReadFault, output: &mut O)
+    ensures { TellsUnreadIn form output.old output.new }
+{
+    match form {
+        Form::Lines => {
+            if let ReadFault::Device(error) = fault {
+                let _ = write_unread(output, file, error);
+            }
+        }
+        Form::Text | Form::Count => {}
+    }
+}
+
+/// Tells why a file could not be read, and how the run ended.
+pub(crate) fn end_unread_task<O: Write, E: Write>(
+    request: Request<'_>,
+    fault: ReadFault,
+    output: &mut O,
+    faults: &mut E,
+) -> Status
+    ensures status { result ≡ ends_as (Refusal.Fault (of_reading fault)) }
+    ensures told { TellsUnread request.entry.task output.old output.new }
+{
+    tell_unread(form_of(request.task), request.file, &fault, output);
+    end_unread(faults, request.file, fault, request.notes)
+}
+
 /// Does what is requested over an input, which is read once, and tells how the run ended. What went
 /// wrong goes to `faults`.
 pub(crate) fn perform<R: Threads + Wait + Sync, I: Read, O: TellsFailure, E: Write>(
@@ -238,7 +392,7 @@ pub(crate) fn perform<R: Threads + Wait + Sync, I: Read, O: TellsFailure, E: Wri
 {
     let text = match read_all(alloc, input) {
         Ok(text) => text,
-        Err(fault) => return end_unread(faults, request.file, fault, request.notes),
+        Err(fault) => return end_unread_task(request, fault, output, faults),
     };
     match deliver(
         rt,

@@ -4,13 +4,15 @@ ghost use Rattle.std.specs.Prelude.{◌≡◌, OnOk};
 ghost use Rattle.std.specs.Io.KnownBytes.{Appends};
 ghost use Rattle.msc_command.specs.Ending.{ended_by, ends_as, finished_by, refusal_line, status_code};
 ghost use Rattle.msc_command.specs.Ending.{status_of};
+ghost use Rattle.msc_command.specs.Refused.{is_spent};
 ghost use Rattle.msc_report.specs.Refusals.{of_reading};
 ghost use Rattle.msc_report.specs.Texts.{fault_line};
 
 use crate::notes::write_cause;
 use msc_ending::RunFault;
 use msc_judge::WriteFault;
-use msc_report::{Fault, NamedFault, write_fault, write_pair_fault};
+use msc_mark::MarkFault;
+use msc_report::{Fault, NamedFault, write_fault, write_mark_fault, write_pair_fault};
 use msc_source::{ReadFault, SourceFault};
 use std::alloc::AllocError;
 use std::io;
@@ -73,6 +75,8 @@ pub(crate) enum Refusal {
     Fault(Fault),
     /// The names are those of no two events of the chart.
     Pair(NamedFault),
+    /// A comment of the text is to be a mark, and is none.
+    Mark(MarkFault),
 }
 
 impl From<AllocError> for Refusal {
@@ -108,6 +112,19 @@ impl From<SourceFault> for Refusal {
     }
 }
 
+impl From<MarkFault> for Refusal {
+    ghost use Rattle.msc_command.specs.Ending.{of_marks};
+
+    ghost from_gives = { λ fault refusal. refusal ≡ of_marks fault };
+
+    fn from(fault: MarkFault) -> Refusal {
+        match fault {
+            MarkFault::Memory => Refusal::Fault(Fault::Memory),
+            MarkFault::Part(_) | MarkFault::Reason(_) => Refusal::Mark(fault),
+        }
+    }
+}
+
 impl From<RunFault> for Refusal {
     ghost use Rattle.msc_command.specs.declared.ending.Refusal.{Refusal};
     ghost use Rattle.msc_report.specs.Refusals.{of_run};
@@ -140,6 +157,26 @@ pub(crate) fn status_of(fault: Fault) -> Status
     }
 }
 
+/// Whether memory ran out, or a device failed: then nothing is refused.
+pub(crate) fn is_spent(refusal: Refusal) -> bool
+    ensures { result ≡ is_spent refusal }
+{
+    match refusal {
+        Refusal::Fault(Fault::Memory) | Refusal::Fault(Fault::Device) => true,
+        Refusal::Fault(_) | Refusal::Pair(_) | Refusal::Mark(_) => false,
+    }
+}
+
+/// How a run ends that is refused.
+fn ends_as(refusal: Refusal) -> Status
+    ensures { result ≡ ends_as refusal }
+{
+    match refusal {
+        Refusal::Fault(fault) => status_of(fault),
+        Refusal::Pair(_) | Refusal::Mark(_) => Status::Refused,
+    }
+}
+
 /// Writes a fault's line, and tells how the run ended, and whether the line went out.
 pub(crate) fn end_with<E: Write>(faults: &mut E, fault: Fault) -> (Status, io::Result<()>)
     ensures status { result.0 ≡ status_of fault }
@@ -150,19 +187,26 @@ pub(crate) fn end_with<E: Write>(faults: &mut E, fault: Fault) -> (Status, io::R
     (status_of(fault), told)
 }
 
+/// Writes the line of a refusal.
+pub(crate) fn write_refusal<W: Write>(writer: &mut W, refusal: Refusal) -> io::Result<()>
+    ensures { OnOk result
+        (Appends (W.contents writer.old) (W.contents writer.new) (refusal_line refusal)) }
+{
+    match refusal {
+        Refusal::Fault(fault) => write_fault(writer, &fault),
+        Refusal::Pair(fault) => write_pair_fault(writer, fault),
+        Refusal::Mark(fault) => write_mark_fault(writer, fault),
+    }
+}
+
 /// Writes the line of a refusal, and tells how the run ended, and whether the line went out.
 pub(crate) fn end_refused<E: Write>(faults: &mut E, refusal: Refusal) -> (Status, io::Result<()>)
     ensures status { result.0 ≡ ends_as refusal }
     ensures line { OnOk result.1
         (Appends (E.contents faults.old) (E.contents faults.new) (refusal_line refusal)) }
 {
-    match refusal {
-        Refusal::Fault(fault) => end_with(faults, fault),
-        Refusal::Pair(fault) => {
-            let told = write_pair_fault(faults, fault);
-            (Status::Refused, told)
-        }
-    }
+    let told = write_refusal(faults, refusal);
+    (ends_as(refusal), told)
 }
 
 /// Writes the line of a read that failed, and why where that is wanted, of the file of this name;

@@ -7,11 +7,13 @@
 mod answering;
 mod ending;
 mod grammar;
+mod marked;
 mod misuse;
 mod naming;
 mod notes;
 mod program;
 mod recorded;
+mod refused;
 mod sited;
 mod tasks;
 mod words;

@@ -4,7 +4,10 @@
 //! line of the refusal stands alone, or a beginning of this behind it.
 
 use crate::ending::Refusal;
+use crate::refused::mark_place;
+use listed::Listed;
 use msc_chart::ChartFault;
+use msc_mark::MarkFault;
 use msc_notes::writing::{write_further, write_told};
 use msc_notes::{Told, tell_chart, tell_further, tell_parse};
 use msc_parser::{ParseFault, parse};
@@ -68,6 +71,22 @@ fn write_chart_notes<E: Write>(
     write_further(faults, file.as_bytes(), &lines, &further, write_line)
 }
 
+/// Writes where a faulty comment of a text stands.
+fn write_mark_notes<E: Write>(
+    alloc: Global,
+    faults: &mut E,
+    file: &str,
+    text: &[u8],
+    fault: MarkFault,
+) -> io::Result<()> {
+    let lines = Lines::of(alloc, text)?;
+    let told = Told {
+        place: mark_place(fault),
+        notes: Listed::from_vec(Vec::new(alloc)),
+    };
+    write_told_of(alloc, faults, file, &lines, &told)
+}
+
 /// Writes what is said of a refusal of the text of a file of this name.
 pub(crate) fn write_notes<E: Write>(
     alloc: Global,
@@ -79,6 +98,7 @@ pub(crate) fn write_notes<E: Write>(
     match refusal {
         Refusal::Fault(Fault::Parse(fault)) => write_parse_notes(alloc, faults, file, text, fault),
         Refusal::Fault(Fault::Chart(fault)) => write_chart_notes(alloc, faults, file, text, fault),
+        Refusal::Mark(fault) => write_mark_notes(alloc, faults, file, text, fault),
         _ => Ok(()),
     }
 }

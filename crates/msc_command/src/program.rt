@@ -9,13 +9,13 @@ ghost use Rattle.msc_command.specs.Answering.{EndsAs};
 ghost use Rattle.msc_command.specs.Ending.{status_code};
 ghost use Rattle.msc_command.specs.Program.{EndsUsage, FollowsWords, IsFileText, IsNamed};
 ghost use Rattle.msc_command.specs.Program.{IsNamedVainly, LeavesInput, Obeys, ObeysMatches};
-ghost use Rattle.msc_command.specs.Program.{Tells, TellsAnswer};
+ghost use Rattle.msc_command.specs.Program.{Tells, TellsAnswer, TellsRefused};
 ghost use Rattle.msc_command.specs.declared.ending.Status.{Status};
 ghost use Rattle.msc_command.specs.declared.ending.Status.TheVariants.{Races, Unfinished};
 ghost use Rattle.msc_source.specs.Inputs.{IsReadFrom};
 
-use crate::answering::perform;
-use crate::ending::{Status, end_unread, end_with};
+use crate::answering::{end_unread_task, perform};
+use crate::ending::{Status, end_with};
 use crate::grammar::{Lists, grammar};
 use crate::misuse::tell_misuse;
 use crate::recorded::TellsFailure;
@@ -51,12 +51,7 @@ fn perform_on<R: Files + Threads + Wait + Sync, I: Read, O: TellsFailure, E: Wri
     }
     match fs::open(rt, request.file) {
         Ok(mut opened) => perform(rt, alloc, request, &mut opened, output, faults),
-        Err(error) => end_unread(
-            faults,
-            request.file,
-            ReadFault::Device(error),
-            request.notes,
-        ),
+        Err(error) => end_unread_task(request, ReadFault::Device(error), output, faults),
     }
 }
 
@@ -208,7 +203,7 @@ pub fn command<R: Files + Threads + Wait + Sync, I: Read, O: TellsFailure, E: Wr
 ) -> u8
     ensures status { (result ≡ 0) ⊎ (result ≡ 1) ⊎ (result ≡ 2) ⊎ (result ≡ 3) ⊎ (result ≡ 4) }
     ensures races { result ≡ 1 → Tells O.contents Races output.old output.new }
-    ensures refused { result ≡ 2 → output.new ≡ output.old }
+    ensures refused { result ≡ 2 → TellsRefused O.contents output.old output.new }
     ensures unfinished { result ≡ 3 → Tells O.contents Unfinished output.old output.new }
     ensures followed { (status : Status) × (result ≡ status_code status)
         × FollowsWords I.remaining O.contents (map string_bytes words.items) status

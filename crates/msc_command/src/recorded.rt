@@ -1,5 +1,6 @@
 //! A writer that keeps why it failed, so that it can be told.
 
+ghost use Rattle.std.specs.Prelude.{◌≡◌, None};
 ghost use Rattle.std.specs.Io.{WritesAtMost};
 ghost use Rattle.std.specs.Io.KnownBytes.{Keeps, WriteAppends};
 
@@ -15,22 +16,20 @@ pub trait TellsFailure: Write {
 /// A writer with the error of its last call that failed.
 #[derive(Drop)]
 pub struct Recorded<W> {
-    writer: W,
-    failure: Option<io::Error>,
+    pub writer: W,
+    pub failure: Option<io::Error>,
 }
 
 impl<W> Recorded<W> {
     /// A writer of which no call has failed.
-    pub fn new(writer: W) -> Recorded<W> {
+    pub fn new(writer: W) -> Recorded<W>
+        ensures writer { result.writer ≡ writer }
+        ensures failure { result.failure ≡ None }
+    {
         Recorded {
             writer,
             failure: None,
         }
-    }
-
-    /// The writer.
-    pub fn into_writer(self) -> W {
-        self.writer
     }
 }
 

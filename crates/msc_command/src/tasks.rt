@@ -7,6 +7,7 @@ ghost use Rattle.msc_command.specs.Asking.{AsksFor, IsEventWord, IsFlag, IsLook,
 ghost use Rattle.msc_command.specs.Asking.{tells_notes, IsTwofold, WantsNotes};
 ghost use Rattle.msc_command.specs.Asking.{IsNameText, IsNoName, IsNoNumber, IsNumberText};
 ghost use Rattle.msc_command.specs.Asking.{IsOptionNumber, IsQuestion, LacksEvent};
+ghost use Rattle.msc_command.specs.Refused.{form_of};
 ghost use Rattle.msc_command.specs.Words.{form_of_word, form_word, word_name};
 
 use crate::words::{Verb, Word};
@@ -69,6 +70,8 @@ pub(crate) struct Look {
 pub(crate) struct Checking {
     pub queues: Queues,
     pub question: Question,
+    /// Whether races that marks accept do not count.
+    pub accept: bool,
     pub form: Form,
     pub look: Look,
 }
@@ -79,6 +82,8 @@ pub(crate) struct Explaining {
     pub queues: Queues,
     pub first: EventName,
     pub second: EventName,
+    /// Whether a short run is shown.
+    pub short: bool,
     pub look: Look,
 }
 
@@ -87,8 +92,9 @@ pub(crate) struct Explaining {
 pub(crate) enum Ask {
     /// What its races are.
     Check(Checking),
-    /// Whether no race counts under an architecture, of none of these kinds, without a text.
-    Quiet(Queues, KindSet),
+    /// Whether no race counts under an architecture, of none of these kinds, and where that is
+    /// asked without those that marks accept, without a text.
+    Quiet(Queues, KindSet, bool),
     /// Why the first of two events comes before the second, or how it need not.
     Explain(Explaining),
     /// An execution under an architecture, and how many rounds in a row an instance looks in vain.
@@ -104,6 +110,16 @@ pub(crate) enum Task {
     Read,
     /// What is asked of its chart.
     Chart(Ask),
+}
+
+/// The form of a task's answer.
+pub(crate) fn form_of(task: Task) -> Form
+    ensures { result ≡ form_of task }
+{
+    match task {
+        Task::Chart(Ask::Check(checking)) => checking.form,
+        Task::Read | Task::Chart(_) => Form::Text,
+    }
 }
 
 /// What a run of the program has to do: a task, to the text of the file of this name.
@@ -196,11 +212,12 @@ fn question_of(words: &ArgMatches) -> Question
         allowed: allowed_of(words),
         most: number_of(words, Word::Most, u32::MAX),
         show: number_of(words, Word::Show, u32::MAX),
+        short: is_given(words, Word::Short),
     }
 }
 
 /// The form that the words ask for.
-fn form_of(words: &ArgMatches) -> Form
+fn form_asked(words: &ArgMatches) -> Form
     ensures { result ≡ form (found_of words.now) }
 {
     match words.get_str(Word::Format.name()) {
@@ -265,13 +282,15 @@ fn check_of(queues: Queues, words: &ArgMatches) -> Task
     ensures { architecture (found_of words.now) ≡ Some queues
         → AsksFor Verb.Check (found_of words.now) result }
 {
+    let accept = is_given(words, Word::Accept);
     if is_given(words, Word::Quiet) {
-        return Task::Chart(Ask::Quiet(queues, allowed_of(words)));
+        return Task::Chart(Ask::Quiet(queues, allowed_of(words), accept));
     }
     Task::Chart(Ask::Check(Checking {
         queues,
         question: question_of(words),
-        form: form_of(words),
+        accept,
+        form: form_asked(words),
         look: look_of(words),
     }))
 }
@@ -295,6 +314,7 @@ fn explain_of(queues: Queues, words: &ArgMatches) -> Option<Task>
         queues,
         first: event_of(words, Word::FirstEvent)?,
         second: event_of(words, Word::SecondEvent)?,
+        short: is_given(words, Word::Short),
         look: look_of(words),
     })))
 }

@@ -27,6 +27,8 @@ pub(crate) enum Word {
     Format,
     Quiet,
     Words,
+    Short,
+    Accept,
     Patience,
     Places,
     Plain,
@@ -71,6 +73,8 @@ impl Word {
             Word::Format => "format",
             Word::Quiet => "quiet",
             Word::Words => "words",
+            Word::Short => "short",
+            Word::Accept => "accept",
             Word::Patience => "patience",
             Word::Places => "places",
             Word::Plain => "plain",
@@ -86,7 +90,8 @@ impl Word {
         match self {
             Word::File => Takes::File,
             Word::FirstEvent | Word::SecondEvent => Takes::Event,
-            Word::Closest | Word::Why | Word::Words | Word::Places | Word::Plain => Takes::Nothing,
+            Word::Closest | Word::Why | Word::Words | Word::Short => Takes::Nothing,
+            Word::Accept | Word::Places | Word::Plain => Takes::Nothing,
             Word::Quiet => Takes::NothingOrQ,
             Word::Most | Word::Show | Word::Patience => Takes::Number,
             Word::Queues => Takes::Architecture,
@@ -116,6 +121,10 @@ impl Word {
             }
             Word::Quiet => "Print nothing; the status tells",
             Word::Words => "Print a run in words, a line for each of its events",
+            Word::Short => "Show a short run, which ends with the second event",
+            Word::Accept => {
+                "Leave out the races that marks of the text accept, and print the marks that accept none"
+            }
             Word::Patience => {
                 "End an instance that looked in vain N times in a row; without it, 1000000000"
             }
@@ -175,9 +184,11 @@ impl Verb {
                 Word::Most,
                 Word::Show,
                 Word::Allow,
+                Word::Accept,
                 Word::Format,
                 Word::Quiet,
                 Word::Words,
+                Word::Short,
                 Word::Places,
                 Word::Plain,
                 Word::File,
@@ -185,6 +196,7 @@ impl Verb {
             Verb::Explain => &[
                 Word::Queues,
                 Word::Words,
+                Word::Short,
                 Word::Places,
                 Word::Plain,
                 Word::File,
@@ -250,9 +262,14 @@ Kinds of races:
   unordered  two inputs by one queue, and nothing orders their outputs
   overtaken  two inputs by one queue, whose outputs come in the other order
 
+A mark is a comment of an event that says which of its races are meant, and why:
+  comment 'race ok: REASON'
+  comment 'race ok in pair, single with ID; ID: REASON'
+Without `in` it is for all architectures, without `with` for all other events.
+
 Exit status:
-  0  the chart has no races that count
-  1  the chart has races that count
+  0  the chart has no races that count, and with --accept no mark that accepts none
+  1  the chart has races that count, or with --accept a mark that accepts none
   2  the text was refused, or the words are no command
   4  memory ran out, or a file or the output failed
 

@@ -3,3 +3,4 @@ pub mod Putting
 pub mod Telling
 pub mod Asked
 pub mod Whole
+pub mod Fewer

@@ -6,7 +6,7 @@ use Rattle.msc_judge.specs.Findings.{finding_of, shown_text, Texts}
 use Rattle.msc_judge.specs.declared.question.Question.{Question}
 
 -- what is written of a race with so many before it
-abbrev pub race_text : Texts → EnforcedChart → Question → (ℕ → List ℕ) → ℕ → ℕ × ℕ → List ℕ
+abbrev pub race_text : Texts → EnforcedChart → Question → (ℕ × ℕ → List ℕ) → ℕ → ℕ × ℕ → List ℕ
 race_text r e q runs n p = shown_text r.finding r.run q.show runs (finding_of q.why (lack_in e) n p)
 
 -- what is written of these races behind so many, where so many are told

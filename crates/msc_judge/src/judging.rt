@@ -1,38 +1,57 @@
 //! From a chart under an architecture to what a renderer writes of its races.
 
-ghost use Rattle.std.specs.Prelude.{◌≡◌, ◌+◌, ◌-◌, ◌<◌, ◌≤◌, ◌^◌, true, [], ◌∷◌, ◌++◌, ℕ, List, IfOk, IsTrue, None};
-ghost use Rattle.std.specs.Prelude.{MatchOption, OnOk, Some, cond, length, option_map};
+ghost use Rattle.std.specs.Prelude.{◌≡◌, ◌+◌, ◌-◌, ◌<◌, ◌≤◌, ◌^◌, true, false, [], ◌∷◌, ◌++◌, ℕ, List};
+ghost use Rattle.std.specs.Prelude.{IfOk, IsTrue, None};
+ghost use Rattle.std.specs.Prelude.{MatchOption, OnOk, Some, cond, is_some, length, nat_eq, option_map};
+ghost use Rattle.std.specs.Prelude.{◌&&◌};
+ghost use Rattle.msc_chart.specs.Chosen.{IsChosenRun};
 ghost use Rattle.msc_chart.specs.Orders.{IsRace};
+ghost use Rattle.msc_chart.specs.Runs.{Run};
+ghost use Rattle.msc_race.specs.Short.{IsShortRun};
 ghost use Rattle.msc_race.specs.Views.{races_of, wiring_of, AreFrom, AreRacesOf};
-ghost use Rattle.msc_reason.specs.Counting.{listed};
+ghost use Rattle.msc_reason.specs.Counting.{counting, listed};
 ghost use Rattle.msc_reason.specs.Kinds.{is_empty};
 ghost use Rattle.msc_reason.specs.Marked.{lack_in};
-ghost use Rattle.msc_reason.specs.Named.{NamesLack};
+ghost use Rattle.msc_reason.specs.Named.{AreEventsOf, NamesLack};
 ghost use Rattle.msc_reason.specs.Selected.{selected};
-ghost use Rattle.msc_judge.specs.Findings.{finding_of, heading_of, texts, Answers, AreChosen};
+ghost use Rattle.msc_judge.specs.Findings.{finding_of, heading_of, left_of, number_of_others};
+ghost use Rattle.msc_judge.specs.Findings.{texts, Answers, AreShown};
 ghost use Rattle.msc_judge.specs.Pages.{Puts};
 ghost use Rattle.msc_judge.specs.Renderings.{NamesEvents};
 ghost use Rattle.msc_judge.specs.Telling.{race_text, told_from};
 
+use crate::marking::Marking;
 use crate::page::{Page, WriteFault};
 use crate::question::Question;
 use crate::renderer::{Finding, Heading, Renderer};
 use msc_chart::Event;
 use msc_race::Enforced;
-use msc_race::laws::the_chosen_run_reverses;
-use msc_reason::{KindSet, Lack, Listing, Stream, count_counting, lack_of};
+use msc_race::laws::{short_runs_show, the_chosen_run_reverses};
+use msc_reason::{KindSet, Lack, LeftOut, Listing, Stream, count_counting, lack_of};
 use std::alloc::{AllocError, Global};
 use std::io::Write;
 
-/// How many races do not count, of so many, where kinds are left out.
-fn left_out_of(allowed: KindSet, races: u32, counting: u32) -> Option<u32>
-    requires { counting ≤ races }
-    ensures { result ≡ cond (is_empty allowed) None (Some (races - counting)) }
+/// How many races are of kinds that are left out, where some are, of so many, `others` of which are
+/// not.
+fn left_out_of(kinds: KindSet, races: u32, others: u32) -> Option<u32>
+    requires { others ≤ races }
+    ensures { result ≡ cond (is_empty kinds) None (Some (races - others)) }
 {
-    if allowed.is_empty() {
+    if kinds.is_empty() {
         return None;
     }
-    Some(races - counting)
+    Some(races - others)
+}
+
+/// How many races are accepted, where that is asked: all of so many that do not count.
+fn accepted_of(left: LeftOut<'_>, others: u32, counting: u32) -> Option<u32>
+    requires { counting ≤ others }
+    ensures { result ≡ cond (is_some left.entry.accepted) (Some (others - counting)) None }
+{
+    if left.accepted.is_none() {
+        return None;
+    }
+    Some(others - counting)
 }
 
 /// How many races that count are closest, where that is asked for.
@@ -47,35 +66,55 @@ fn closest_of(alloc: Global, listing: &Listing, races: u32) -> Result<Option<u32
     Ok(Some(listing.count(alloc, races)?))
 }
 
-/// What is said of all races before the first one.
-fn heading_of(
-    alloc: Global,
-    listing: &Listing,
-    question: Question,
-    races: u32,
-) -> Result<Heading, AllocError>
+/// How many races count, where `others` of so many are of no kind that is left out.
+fn counting_of(alloc: Global, listing: &Listing, races: u32, others: u32) -> Result<u32, AllocError>
     requires races { races ≡ length (races_of listing.now.judged) }
-    requires asks { listing.now ≡ selected listing.now.judged question.allowed question.closest }
-    ensures { IfOk result (λ heading.
-        heading ≡ heading_of listing.now.judged question (lack_in listing.now.judged)) }
+    requires others { others ≡ number_of_others listing.now.judged listing.now.allowed.kinds
+        (lack_in listing.now.judged) }
+    ensures few { IfOk result (λ count. count ≤ others) }
+    ensures count { IfOk result (λ count. count ≡ length
+        (counting listing.now.judged listing.now.allowed (lack_in listing.now.judged))) }
 {
-    let enforced = listing.enforced();
-    let counting = count_counting(alloc, enforced, question.allowed, races)?;
+    let left = listing.left_out();
+    if left.accepted.is_none() {
+        return Ok(others);
+    }
+    count_counting(alloc, listing.enforced(), left, races)
+}
+
+/// Whether no race counts, and no mark accepts none.
+fn passes(heading: Heading, stale: &[Event]) -> bool
+    ensures { result ≡ (nat_eq heading.counting 0 && nat_eq (length stale.now) 0) }
+{
+    heading.counting == 0 && stale.is_empty()
+}
+
+/// What is said of all races before the first one.
+fn heading_of(alloc: Global, listing: &Listing, races: u32) -> Result<Heading, AllocError>
+    requires { races ≡ length (races_of listing.now.judged) }
+    ensures { IfOk result (λ heading. heading ≡ heading_of listing.now.judged listing.now.closest
+        listing.now.allowed (lack_in listing.now.judged)) }
+{
+    let (enforced, left) = (listing.enforced(), listing.left_out());
+    let others = count_counting(alloc, enforced, LeftOut::of_kinds(left.kinds), races)?;
+    let counting = counting_of(alloc, listing, races, others)?;
     let closest = closest_of(alloc, listing, races)?;
     Ok(Heading {
         queues: enforced.queues(),
         races,
-        left_out: left_out_of(question.allowed, races, counting),
+        left_out: left_out_of(left.kinds, races, others),
+        accepted: accepted_of(left, others, counting),
         counting,
         closest,
     })
 }
 
-/// Whether the first of these races is shown by a run, if it is told.
-fn wants_run(number: u32, show: u32, races: &[(Event, Event)]) -> bool
-    ensures { number < show → 0 < length races.now → IsTrue result }
+/// Whether the first of these races is shown by a chosen run, if it is told.
+fn wants_run(number: u32, question: Question, races: &[(Event, Event)]) -> bool
+    ensures { number < question.show → question.short ≡ false → 0 < length races.now
+        → IsTrue result }
 {
-    number < show && !races.is_empty()
+    number < question.show && !question.short && !races.is_empty()
 }
 
 /// What was made of a run, where it is shown.
@@ -123,27 +162,52 @@ impl<'t, 'a, R: Renderer> Teller<'t, 'a, R> {
         }
     }
 
+    /// What the renderer makes of a run.
+    fn run_line(&self, alloc: Global, run: &[Event]) -> Result<Vec<u8>, AllocError>
+        requires fits { R.fits self.now.renderer.now self.now.listing.now.judged.chart }
+        requires run { Run (wiring_of self.now.listing.now.judged) run.now }
+        ensures { IfOk result (λ line. line.items ≡ R.run_text self.now.renderer.now
+            self.now.listing.now.judged.chart run.now) }
+    {
+        self.renderer
+            .run_line(alloc, self.listing.enforced().chart(), run)
+    }
+
     /// What is made of the chosen run of an event, where it is wanted.
-    fn line_for(&self, alloc: Global, e: Event, wanted: bool) -> Result<Vec<u8>, AllocError>
+    fn chosen_line(&self, alloc: Global, e: Event, wanted: bool) -> Result<Vec<u8>, AllocError>
         requires fits { R.fits self.now.renderer.now self.now.listing.now.judged.chart }
         requires known { e < length self.now.listing.now.judged.chart.events }
-        ensures { IfOk result (λ line. IsTrue wanted → (runs : ℕ → List ℕ)
-            → AreChosen (wiring_of self.now.listing.now.judged) runs
-            → line.items ≡ R.run_text self.now.renderer.now self.now.listing.now.judged.chart
-            (runs e)) }
+        ensures { IfOk result (λ line. IsTrue wanted → (run : List ℕ)
+            → IsChosenRun (wiring_of self.now.listing.now.judged) e run
+            → line.items ≡ R.run_text self.now.renderer.now
+            self.now.listing.now.judged.chart run) }
     {
         if !wanted {
             return Ok(Vec::new(alloc));
         }
         the_chosen_run_reverses();
-        let enforced = self.listing.enforced();
-        let run = enforced.chosen_run(alloc, e)?;
-        self.renderer
-            .run_line(alloc, enforced.chart(), run.as_slice())
+        let run = self.listing.enforced().chosen_run(alloc, e)?;
+        self.run_line(alloc, run.as_slice())
     }
 
-    /// Puts a race behind a page, where it is one of the first, behind so many; `line` is what was
-    /// made of the chosen run of its first event, where it is shown.
+    /// What is made of the short run of a race.
+    fn short_line(&self, alloc: Global, race: (Event, Event)) -> Result<Vec<u8>, AllocError>
+        requires fits { R.fits self.now.renderer.now self.now.listing.now.judged.chart }
+        requires race { IsRace (wiring_of self.now.listing.now.judged) race.0 race.1 }
+        ensures { IfOk result (λ line. (run : List ℕ)
+            → IsShortRun (wiring_of self.now.listing.now.judged) race.0 race.1 run
+            → line.items ≡ R.run_text self.now.renderer.now
+            self.now.listing.now.judged.chart run) }
+    {
+        short_runs_show();
+        match self.listing.enforced().short_run(alloc, race.0, race.1)? {
+            Some(run) => self.run_line(alloc, run.as_slice()),
+            None => Ok(Vec::new(alloc)),
+        }
+    }
+
+    /// Puts a race behind a page, behind so many; `line` is what was made of the run that shows it,
+    /// where it is shown.
     fn put_race(
         &self,
         page: &mut Page,
@@ -153,12 +217,41 @@ impl<'t, 'a, R: Renderer> Teller<'t, 'a, R> {
     ) -> Result<(), AllocError>
         requires fits { R.fits self.now.renderer.now self.now.listing.now.judged.chart }
         requires race { IsRace (wiring_of self.now.listing.now.judged) race.0 race.1 }
-        requires line { number < self.now.question.show → (runs : ℕ → List ℕ)
-            → AreChosen (wiring_of self.now.listing.now.judged) runs
+        requires line { number < self.now.question.show → (runs : ℕ × ℕ → List ℕ)
+            → AreShown self.now.question.short (wiring_of self.now.listing.now.judged) runs
             → line.now ≡ R.run_text self.now.renderer.now self.now.listing.now.judged.chart
-            (runs race.0) }
-        ensures { OnOk result ((runs : ℕ → List ℕ)
-            → AreChosen (wiring_of self.now.listing.now.judged) runs
+            (runs race) }
+        ensures { OnOk result ((runs : ℕ × ℕ → List ℕ)
+            → AreShown self.now.question.short (wiring_of self.now.listing.now.judged) runs
+            → page.new.bytes.items ≡ page.old.bytes.items ++ race_text
+            (texts R.heading_text R.run_text R.finding_text R.end_text
+            self.now.renderer.now self.now.listing.now.judged.chart)
+            self.now.listing.now.judged self.now.question runs number race) }
+    {
+        let finding = self.finding_of(race, number);
+        let shown = shown_line(line, number < self.question.show);
+        let chart = self.listing.enforced().chart();
+        self.renderer.put_finding(page, chart, finding, shown)
+    }
+
+    /// Puts a race behind a page, where it is one of the first, behind so many; `line` is what was
+    /// made of the chosen run of its first event, where that shows it.
+    fn put_next(
+        &self,
+        alloc: Global,
+        page: &mut Page,
+        race: (Event, Event),
+        number: u32,
+        line: &[u8],
+    ) -> Result<(), AllocError>
+        requires fits { R.fits self.now.renderer.now self.now.listing.now.judged.chart }
+        requires race { IsRace (wiring_of self.now.listing.now.judged) race.0 race.1 }
+        requires line { number < self.now.question.show → self.now.question.short ≡ false
+            → (run : List ℕ)
+            → IsChosenRun (wiring_of self.now.listing.now.judged) race.0 run
+            → line.now ≡ R.run_text self.now.renderer.now self.now.listing.now.judged.chart run }
+        ensures { OnOk result ((runs : ℕ × ℕ → List ℕ)
+            → AreShown self.now.question.short (wiring_of self.now.listing.now.judged) runs
             → page.new.bytes.items ≡ page.old.bytes.items ++ told_from (race_text
             (texts R.heading_text R.run_text R.finding_text R.end_text
             self.now.renderer.now self.now.listing.now.judged.chart)
@@ -168,14 +261,15 @@ impl<'t, 'a, R: Renderer> Teller<'t, 'a, R> {
         if number >= self.question.most {
             return Ok(());
         }
-        let finding = self.finding_of(race, number);
-        let shown = shown_line(line, number < self.question.show);
-        let chart = self.listing.enforced().chart();
-        self.renderer.put_finding(page, chart, finding, shown)
+        if self.question.short && number < self.question.show {
+            let own = self.short_line(alloc, race)?;
+            return self.put_race(page, race, number, own.as_slice());
+        }
+        self.put_race(page, race, number, line)
     }
 
     /// Puts these races of an event behind a page, those of the first that are told, behind so
-    /// many. Full pages go out. What is made of a run serves all of them.
+    /// many. Full pages go out. What is made of a chosen run serves all of them.
     fn put_event<W: Write>(
         &self,
         alloc: Global,
@@ -190,7 +284,8 @@ impl<'t, 'a, R: Renderer> Teller<'t, 'a, R> {
         requires races { AreRacesOf self.now.listing.now.judged races.now }
         requires first { AreFrom e races.now }
         requires few { number + length races.now < 2 ^ 32 }
-        ensures { (runs : ℕ → List ℕ) → AreChosen (wiring_of self.now.listing.now.judged) runs
+        ensures { (runs : ℕ × ℕ → List ℕ)
+            → AreShown self.now.question.short (wiring_of self.now.listing.now.judged) runs
             → Puts result (W.contents writer.old) (W.contents writer.new)
             page.old.bytes.items page.new.bytes.items (told_from (race_text
             (texts R.heading_text R.run_text R.finding_text R.end_text
@@ -198,12 +293,12 @@ impl<'t, 'a, R: Renderer> Teller<'t, 'a, R> {
             self.now.listing.now.judged self.now.question runs)
             self.now.question.most number races.now) }
     {
-        let wanted = wants_run(number, self.question.show, races);
-        let line = self.line_for(alloc, e, wanted)?;
+        let wanted = wants_run(number, self.question, races);
+        let line = self.chosen_line(alloc, e, wanted)?;
         let mut next = number;
         for race in races {
             page.turn(writer)?;
-            self.put_race(page, *race, next, line.as_slice())?;
+            self.put_next(alloc, page, *race, next, line.as_slice())?;
             next += 1;
         }
         Ok(())
@@ -220,7 +315,8 @@ impl<'t, 'a, R: Renderer> Teller<'t, 'a, R> {
     ) -> Result<(), WriteFault>
         requires fits { R.fits self.now.renderer.now self.now.listing.now.judged.chart }
         requires all { races ≡ length (races_of self.now.listing.now.judged) }
-        ensures { (runs : ℕ → List ℕ) → AreChosen (wiring_of self.now.listing.now.judged) runs
+        ensures { (runs : ℕ × ℕ → List ℕ)
+            → AreShown self.now.question.short (wiring_of self.now.listing.now.judged) runs
             → Puts result (W.contents writer.old) (W.contents writer.new)
             page.old.bytes.items page.new.bytes.items (told_from (race_text
             (texts R.heading_text R.run_text R.finding_text R.end_text
@@ -249,27 +345,31 @@ impl<'t, 'a, R: Renderer> Teller<'t, 'a, R> {
     }
 }
 
-/// Writes by a renderer what is asked of the races that are listed, of a chart with so many races;
-/// answers whether no race counts.
+/// Writes by a renderer what is asked of the races that are listed, of a chart with so many races,
+/// and what marks say; answers whether no race counts and no mark accepts none.
 fn write_listed<R: Renderer, W: Write>(
     alloc: Global,
     listing: &Listing,
     races: u32,
     question: Question,
+    marking: Marking<'_>,
     renderer: &R,
     writer: &mut W,
 ) -> Result<bool, WriteFault>
     requires races { races ≡ length (races_of listing.now.judged) }
-    requires asks { listing.now ≡ selected listing.now.judged question.allowed question.closest }
+    requires asks { listing.now
+        ≡ selected listing.now.judged (left_of question marking) question.closest }
     requires fits { R.fits renderer.now listing.now.judged.chart }
-    ensures { Answers listing.now.judged question
+    requires stale { AreEventsOf listing.now.judged.chart marking.stale.now }
+    ensures { Answers listing.now.judged question marking.entry
         (texts R.heading_text R.run_text R.finding_text R.end_text
         renderer.now listing.now.judged.chart)
         result (W.contents writer.old) (W.contents writer.new) }
 {
     the_chosen_run_reverses();
+    short_runs_show();
     listing.enforced().enforced();
-    let heading = heading_of(alloc, listing, question, races)?;
+    let heading = heading_of(alloc, listing, races)?;
     let chart = listing.enforced().chart();
     let mut page = Page::new(alloc);
     renderer.put_heading(&mut page, chart, heading)?;
@@ -279,14 +379,14 @@ fn write_listed<R: Renderer, W: Write>(
         renderer,
     };
     teller.put_all(alloc, writer, &mut page, races)?;
-    renderer.put_end(&mut page, chart)?;
+    renderer.put_end(&mut page, chart, marking.stale)?;
     writer.write_all(page.bytes.as_slice())?;
-    Ok(heading.counting == 0)
+    Ok(passes(heading, marking.stale))
 }
 
 /// Writes by a renderer a heading, each race of a chart that is asked for, in order, the first with
-/// what shows them, and an end; answers whether no race counts. The chart has so many races. No
-/// list has all of them.
+/// what shows them, and an end; answers whether no race counts and no mark accepts none. The chart
+/// has so many races. No list has all of them.
 ///
 /// `Memory` is answered where a growth of memory was refused: a beginning of the answer may have
 /// been written then. `Device` is answered where the writer fails.
@@ -295,18 +395,25 @@ pub fn judge<R: Renderer, W: Write>(
     enforced: Enforced<'_>,
     races: u32,
     question: Question,
+    marking: Marking<'_>,
     renderer: &R,
     writer: &mut W,
 ) -> Result<bool, WriteFault>
     requires races { races ≡ length (races_of enforced) }
     requires fits { R.fits renderer.now enforced.chart }
-    ensures { Answers enforced.entry question
+    requires stale { AreEventsOf enforced.chart marking.stale.now }
+    ensures { Answers enforced.entry question marking.entry
         (texts R.heading_text R.run_text R.finding_text R.end_text
         renderer.now enforced.entry.chart)
         result (W.contents writer.old) (W.contents writer.new) }
 {
     the_chosen_run_reverses();
+    short_runs_show();
     enforced.enforced();
-    let listing = Listing::of(alloc, enforced, question.allowed, question.closest)?;
-    write_listed(alloc, &listing, races, question, renderer, writer)
+    let left = LeftOut {
+        kinds: question.allowed,
+        accepted: marking.accepted,
+    };
+    let listing = Listing::of(alloc, enforced, left, question.closest)?;
+    write_listed(alloc, &listing, races, question, marking, renderer, writer)
 }

@@ -5,11 +5,13 @@
 #![tactic(auto)]
 
 mod judging;
+mod marking;
 mod page;
 mod question;
 mod renderer;
 
 pub use judging::judge;
+pub use marking::Marking;
 pub use page::{PAGE_SIZE, Page, WriteFault};
 pub use question::Question;
 pub use renderer::{Finding, Heading, Renderer};

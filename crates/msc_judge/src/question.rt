@@ -15,4 +15,7 @@ pub struct Question {
     pub most: u32,
     /// How many of those that are told are shown by a run, the first ones.
     pub show: u32,
+    /// Whether a race is shown by the short run of both events, and not by the chosen run of the
+    /// first.
+    pub short: bool,
 }

@@ -19,8 +19,10 @@ pub struct Heading {
     pub queues: Queues,
     /// How many races the chart has.
     pub races: u32,
-    /// How many of them do not count, where some kinds are left out.
+    /// How many of them are of a kind that is left out, where some are.
     pub left_out: Option<u32>,
+    /// How many of the others are accepted, where marks are asked.
+    pub accepted: Option<u32>,
     /// How many of them count.
     pub counting: u32,
     /// How many of those are closest, where these are asked for.
@@ -52,8 +54,8 @@ pub trait Renderer {
     /// What it writes of a finding, and of what was made of the run that shows it, where one does.
     ghost finding_text: { Self → Drawing → Finding → Option (List ℕ) → List ℕ };
 
-    /// What it writes behind the last finding.
-    ghost end_text: { Self → Drawing → List ℕ };
+    /// What it writes behind the last finding, of the events whose marks accept no race.
+    ghost end_text: { Self → Drawing → List ℕ → List ℕ };
 
     /// Puts a heading behind a page.
     fn put_heading(
@@ -86,9 +88,10 @@ pub trait Renderer {
             ≡ page.old.bytes.items ++ finding_text self.now chart.now finding
             (option_map (λ l. l.now) line.entry)) };
 
-    /// Puts the end behind a page.
-    fn put_end(&self, page: &mut Page, chart: &Chart) -> Result<(), AllocError>
-        requires { fits self.now chart.now }
+    /// Puts the end behind a page, with the events whose marks accept no race.
+    fn put_end(&self, page: &mut Page, chart: &Chart, stale: &[Event]) -> Result<(), AllocError>
+        requires fits { fits self.now chart.now }
+        requires events { All (λ e. e < length chart.now.events) stale.now }
         ensures { OnOk result (page.new.bytes.items
-            ≡ page.old.bytes.items ++ end_text self.now chart.now) };
+            ≡ page.old.bytes.items ++ end_text self.now chart.now stale.now) };
 }

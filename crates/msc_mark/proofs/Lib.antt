@@ -6,6 +6,7 @@ pub mod Hearing
 pub mod Looking
 -- which events have marks that fit
 pub mod Noting
+pub mod Pairing
 -- the comments of statements
 pub mod Heard
 pub mod Collecting

@@ -14,7 +14,8 @@ use Rattle.msc_race.proofs.Listing.Raced.{no_races_below, races_below, races_bel
 use Rattle.msc_mark.specs.Accepting.{Acceptance, fits_race, fits_some, is_stale}
 use Rattle.msc_mark.specs.Kept.{AreEvents}
 
-or_joined : (a b c : Bool) → ((a || b) || c) ≡ (a || (b || c))
+-- of three it is one which two are joined first
+pub or_joined : (a b c : Bool) → ((a || b) || c) ≡ (a || (b || c))
 or_joined true b c = refl
 or_joined false b c = refl
 

@@ -1,7 +1,7 @@
 -- What the code keeps of the marks that are for an architecture.
-use Rattle.std.specs.Prelude.{◌≡◌, ℕ, ◌<◌, List, length, get_or}
-use Rattle.std.specs.List.{position_or_len}
-use Rattle.msc_mark.specs.Accepting.{Acceptance, is_mark_for}
+use Rattle.std.specs.Prelude.{◌≡◌, ℕ, ◌<◌, Bool, ◌&&◌, List, length, get_or, nat_eq}
+use Rattle.std.specs.List.{list_any, position_or_len}
+use Rattle.msc_mark.specs.Accepting.{Acceptance, accepts_race, is_mark_for}
 
 -- the number of the mark of event e that is for the architecture, or how many marks there are
 abbrev pub number_of : Acceptance → ℕ → ℕ
@@ -15,3 +15,11 @@ pub record AreNumbers (a : Acceptance) (at : List ℕ) : Type 0 where
 -- both events of a race are events of the chart
 abbrev pub AreEvents : Acceptance → ℕ × ℕ → Type 0
 AreEvents a p = (p.0 < length a.chart.events) × (p.1 < length a.chart.events)
+
+-- the race is this pair, and accepted
+abbrev pub accepts_pair : Acceptance → ℕ → ℕ → ℕ × ℕ → Bool
+accepts_pair a x y p = (nat_eq x p.0 && nat_eq y p.1) && accepts_race a p
+
+-- one of these races is
+unfoldable pub accepts_some : Acceptance → List (ℕ × ℕ) → ℕ → ℕ → Bool
+accepts_some a races x y = list_any (accepts_pair a x y) races

@@ -3,16 +3,19 @@
 ghost use Rattle.std.specs.Prelude.{◌≡◌, ◌<◌, ◌&&◌, ◌||◌, ℕ, All, false, get_or, is_some, length};
 ghost use Rattle.std.specs.Prelude.{nat_eq, not, IfOk};
 ghost use Rattle.std.specs.List.{position_or_len};
+ghost use Rattle.msc_chart.specs.Lists.{Occurs};
 ghost use Rattle.msc_race.specs.Views.{races_of};
-ghost use Rattle.msc_mark.specs.Accepting.{accepts_from, fits_race, fits_some, is_accepted};
-ghost use Rattle.msc_mark.specs.Accepting.{is_mark_for, mark_for, stale_events};
-ghost use Rattle.msc_mark.specs.Kept.{AreEvents};
+ghost use Rattle.msc_reason.specs.PairTables.{has_pair};
+ghost use Rattle.msc_mark.specs.Accepting.{accepts_from, accepts_race, fits_race, fits_some};
+ghost use Rattle.msc_mark.specs.Accepting.{is_accepted, is_mark_for, mark_for, stale_events};
+ghost use Rattle.msc_mark.specs.Kept.{accepts_pair, accepts_some, AreEvents};
 
 use crate::ident::ident_of;
 use crate::mark::Mark;
 use crate::marks::Marks;
 use msc_chart::{Chart, Event, Queues};
 use msc_race::{Enforced, Walk};
+use msc_reason::Pairs;
 use std::alloc::{AllocError, Global};
 use std::marker::Model;
 
@@ -115,6 +118,51 @@ impl<'a> Accepted<'a> {
         ensures { result ≡ is_accepted self.now.marks self.now.chart self.now.queues e f }
     {
         self.accepts_from(e, f) || self.accepts_from(f, e)
+    }
+
+    /// Puts a race into a set, where it is accepted.
+    fn put_race(&self, pairs: &mut Pairs, e: Event, f: Event)
+        requires size { pairs.old.events ≡ length self.now.chart.events }
+        requires first { e < length self.now.chart.events }
+        requires second { f < length self.now.chart.events }
+        ensures size { pairs.new.events ≡ pairs.old.events }
+        ensures put { (x y : ℕ) → has_pair pairs.new x y
+            ≡ (has_pair pairs.old x y || accepts_pair self.now x y (e, f)) }
+    {
+        if self.has(e, f) {
+            pairs.put(e, f);
+        }
+    }
+
+    /// Puts those of these races that are accepted into a set.
+    fn put_races(&self, pairs: &mut Pairs, races: &[(Event, Event)])
+        requires size { pairs.old.events ≡ length self.now.chart.events }
+        requires known { All (AreEvents self.now) races.now }
+        ensures size { pairs.new.events ≡ pairs.old.events }
+        ensures put { (x y : ℕ) → has_pair pairs.new x y
+            ≡ (has_pair pairs.old x y || accepts_some self.now races.now x y) }
+    {
+        for race in races {
+            self.put_race(pairs, race.0, race.1);
+        }
+    }
+
+    /// The races of the chart that are accepted. `enforced` is the chart under the architecture. An
+    /// error is a growth of memory that was refused.
+    pub fn pairs(&self, alloc: Global, enforced: &Enforced) -> Result<Pairs, AllocError>
+        requires { enforced.now.chart ≡ self.now.chart }
+        ensures { IfOk result (λ pairs. (p : ℕ × ℕ) → Occurs (races_of enforced.now) p
+            → has_pair pairs p.0 p.1 ≡ accepts_race self.now p) }
+    {
+        let events = self.chart.events();
+        let mut pairs = Pairs::none(alloc, events)?;
+        let mut races = Vec::new(alloc);
+        let mut walk = Walk::new();
+        for e in 0..events {
+            enforced.next_races(&mut walk, &mut races, e)?;
+            self.put_races(&mut pairs, races.as_slice());
+        }
+        Ok(pairs)
     }
 
     /// Notes which of the events of a race have marks that fit it.

@@ -1,8 +1,10 @@
 //! Notes as they are printed.
 
-ghost use Rattle.std.specs.Prelude.{OnOk};
+ghost use Rattle.std.specs.Prelude.{◌≡◌, OnOk};
 ghost use Rattle.std.specs.Io.KnownBytes.{Appends};
-ghost use Rattle.msc_notes.specs.Texts.{note_words};
+ghost use Rattle.msc_notes.specs.Texts.{error_text, note_line, note_words, placed_words};
+ghost use Rattle.msc_notes.specs.Texts.{stands_at, IsFaultPosition, StandsAt};
+ghost use Rattle.msc_place.specs.declared.position.Position.{Position};
 
 use crate::note::{Note, Tag, Told};
 use crate::other_faults::FurtherFaults;
@@ -12,9 +14,24 @@ use msc_place::{Lines, Position};
 use std::io;
 use std::io::Write;
 
+/// The beginning of a text.
+const BEGINNING: Position = Position { line: 1, column: 1 };
+
 /// The position of a place; one past the text is its end.
-fn position_of(lines: &Lines, at: usize) -> Position {
+fn position_of(lines: &Lines, at: usize) -> Position
+    ensures { StandsAt lines.now at result }
+{
     lines.position(at.min(lines.text().len()))
+}
+
+/// The position of a fault: that of its place, or the beginning of the text where it has none.
+fn position_of_fault(lines: &Lines, place: Option<usize>) -> Position
+    ensures { IsFaultPosition lines.now place result }
+{
+    match place {
+        Some(at) => position_of(lines, at),
+        None => BEGINNING,
+    }
 }
 
 /// Writes the words of a note: the first, and its text.
@@ -54,12 +71,26 @@ pub fn write_note<W: Write>(
 
 /// Where a note stands by itself: at its own place, at the first of its two, or at that of its
 /// fault; of a fault without a place at the beginning of the text.
-fn stands_at(note: &Note, fault: Option<usize>) -> usize {
+fn stands_at(note: &Note, fault: Option<usize>) -> usize
+    ensures { result ≡ stands_at note.now.place note.now.pair fault }
+{
     match (note.place, note.pair, fault) {
         (Some(at), _, _) => at,
         (None, Some((first, _)), _) => first,
         (None, None, Some(at)) => at,
         (None, None, None) => 0,
+    }
+}
+
+/// Writes the words of a note that stands at its place alone.
+fn write_placed_words<W: Write>(writer: &mut W, note: &Note) -> io::Result<()>
+    ensures { OnOk result (Appends (W.contents writer.old) (W.contents writer.new)
+        (placed_words note.now.tag note.now)) }
+{
+    match note.tag {
+        Tag::Behind => writer.write_all(b"what stands before ends here"),
+        Tag::First => writer.write_all(b"the first one stands here"),
+        _ => write_words(writer, note),
     }
 }
 
@@ -71,15 +102,31 @@ pub fn write_note_line<W: Write>(
     lines: &Lines,
     note: &Note,
     fault: Option<usize>,
-) -> io::Result<()> {
+) -> io::Result<()>
+    ensures { OnOk result ((p : Position)
+        × StandsAt lines.now (stands_at note.now.place note.now.pair fault) p
+        × Appends (W.contents writer.old) (W.contents writer.new)
+        (note_line file.now p note.now)) }
+{
     write_place(writer, file, position_of(lines, stands_at(note, fault)))?;
     writer.write_all(b": note: ")?;
-    match note.tag {
-        Tag::Behind => writer.write_all(b"what stands before ends here")?,
-        Tag::First => writer.write_all(b"the first one stands here")?,
-        _ => write_words(writer, note)?,
-    }
+    write_placed_words(writer, note)?;
     writer.write_all(b"\n")
+}
+
+/// Writes what stands before the line of a fault for editors: the position of its place, if it has
+/// one, and that it is an error.
+pub fn write_error<W: Write>(
+    writer: &mut W,
+    file: &[u8],
+    lines: &Lines,
+    place: Option<usize>,
+) -> io::Result<()>
+    ensures { OnOk result ((p : Position) × IsFaultPosition lines.now place p
+        × Appends (W.contents writer.old) (W.contents writer.new) (error_text file.now p)) }
+{
+    write_place(writer, file, position_of_fault(lines, place))?;
+    writer.write_all(b": error: ")
 }
 
 /// Writes what is said of a fault, behind its line: its place and the line of that, as

@@ -3,3 +3,4 @@ pub mod Runs
 pub mod Listing
 pub mod Worked
 pub mod Making
+pub mod Pasts

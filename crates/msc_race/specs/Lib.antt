@@ -4,6 +4,9 @@ pub mod Races
 pub mod Wired
 pub mod Views
 pub mod Reversals
+pub mod Short
+pub mod ShortLaws
+pub mod Shown
 pub mod Gaps
 pub mod Walks
 pub mod Samples
@@ -15,3 +18,5 @@ pub mod Remainders
 pub mod Fronts
 pub mod QueuedRuns
 pub mod Beginnings
+pub mod PastEvents
+pub mod Shortenings

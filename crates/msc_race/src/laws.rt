@@ -18,6 +18,9 @@ ghost use Rattle.msc_race.specs.Laws.{WhatMayComeMakesALongerRun};
 ghost use Rattle.msc_race.specs.Samples.{IsReversal, NoRunReversesBoth, crossed, mailboxes};
 ghost use Rattle.msc_race.specs.Samples.{overtaken, relayed, senders, unordered};
 ghost use Rattle.msc_race.specs.Races.{AreRaces, EnforcedOrdersTellVerdicts};
+ghost use Rattle.msc_race.specs.ShortLaws.{AShortRunExists, NeededRunsAreLeast, ShortRunsAreUnique};
+ghost use Rattle.msc_race.specs.ShortLaws.{ShortRunsShow, ShortStepsAreARun};
+ghost use Rattle.msc_race.specs.ShortLaws.{WhatIsEnforcedIsNeeded};
 
 use msc_chart::laws::ends_share_queues;
 
@@ -102,6 +105,30 @@ pub fn the_chosen_run_reverses()
 pub fn a_chosen_run_goes_on()
     ensures run { ChosenStepsAreARun }
     ensures next { ChosenRunsGoOn }
+{
+    ends_share_queues();
+}
+
+/// Each run that has an event has all of its past: all that is enforced before it.
+pub fn what_is_enforced_is_needed()
+    ensures { WhatIsEnforcedIsNeeded }
+{
+    ends_share_queues();
+}
+
+/// The beginning of a short run is a run.
+pub fn short_steps_are_a_run()
+    ensures { ShortStepsAreARun }
+{}
+
+/// Two events have exactly one short run. Where they are not enforced in an order it is a run, the
+/// second event is its last one, and the first is not in it. Where it has just the past of the
+/// second event, no run that has that event is shorter.
+pub fn short_runs_show()
+    ensures exists { AShortRunExists }
+    ensures unique { ShortRunsAreUnique }
+    ensures shows { ShortRunsShow }
+    ensures least { NeededRunsAreLeast }
 {
     ends_share_queues();
 }

@@ -1,7 +1,8 @@
 -- Races that count, as pairs that pass a test.
-use Rattle.std.proofs.Common.{◌≡◌, ℕ, true, false, List, length, refl, ap, ◌∙◌, arith}
+use Rattle.std.proofs.Common.{◌≡◌, ℕ, Bool, true, false, not, List, Option, None, Some, length, is_some, refl, ap, ◌∙◌, arith}
+use Rattle.std.specs.Option.{option_map_or}
 use Rattle.std.specs.List.{filter}
-use Rattle.std.proofs.lemmas.Bool.{and_parts, and_from}
+use Rattle.std.proofs.lemmas.Bool.{and_parts, and_from, not_from_false}
 use Rattle.msc_chart.specs.Charts.{before}
 use Rattle.msc_chart.specs.Lists.{Occurs}
 use Rattle.msc_chart.proofs.Drawn.{before_parts}
@@ -11,29 +12,45 @@ use Rattle.msc_race.proofs.Listing.Pairs.{of_from, of_parts, to_from, to_parts}
 use Rattle.msc_reason.proofs.Filtered.{filter_all, filter_from, filter_parts}
 use Rattle.msc_reason.specs.Counting.{counting, counts}
 use Rattle.msc_reason.specs.Kinds.{has_kind, is_empty}
-use Rattle.msc_reason.specs.Marked.{counted_from, is_counted, lack_in}
+use Rattle.msc_reason.specs.LeftOut.{is_accepted, leaves_none}
+use Rattle.msc_reason.specs.PairTables.{has_pair}
 use Rattle.msc_reason.specs.declared.kinds.KindSet.{KindSet}
+use Rattle.msc_reason.specs.Marked.{counted_from, is_counted, lack_in}
+use Rattle.msc_reason.specs.declared.left_out.LeftOut.{LeftOut}
 use Rattle.msc_reason.specs.declared.lack.Lack.{Lack}
 use Rattle.msc_reason.specs.declared.lack.RaceKind.{RaceKind}
 use Rattle.msc_reason.specs.declared.lack.RaceKind.TheVariants.{Early, Queues, Unordered, Overtaken}
 
 -- an empty set has no kind
-none_left_out : (allowed : KindSet) (kind : RaceKind) → is_empty allowed ≡ true → has_kind allowed kind ≡ false
-none_left_out allowed Early empty = grind (arith, empty)
-none_left_out allowed Queues empty = grind (arith, empty)
-none_left_out allowed Unordered empty = grind (arith, empty)
-none_left_out allowed Overtaken empty = grind (arith, empty)
+none_left_out : (kinds : KindSet) (kind : RaceKind) → is_empty kinds ≡ true → has_kind kinds kind ≡ false
+none_left_out kinds Early empty = grind (arith, empty)
+none_left_out kinds Queues empty = grind (arith, empty)
+none_left_out kinds Unordered empty = grind (arith, empty)
+none_left_out kinds Overtaken empty = grind (arith, empty)
 
--- so where no kind is left out, each race counts
-pub all_count : (allowed : KindSet) (lacks : ℕ → ℕ → Lack) (p : ℕ × ℕ) → is_empty allowed ≡ true → counts allowed lacks p ≡ true
-all_count allowed lacks p empty = rw (none_left_out allowed (lacks p.0 p.1).kind empty) refl
+-- where nothing is left out there are no kinds, and no pair is accepted
+pub none_of : (allowed : LeftOut) → leaves_none allowed ≡ true → is_empty allowed.kinds ≡ true
+none_of allowed empty = (and_parts (is_empty allowed.kinds) _ empty).0
+
+-- what is not there passes no test
+unheld : {T : Type 0} (test : T → Bool) (o : Option T) → not (is_some o) ≡ true → option_map_or test o false ≡ false
+unheld test None empty = refl
+unheld test (Some x) empty = absurd cc
+
+pub none_accepted : (allowed : LeftOut) (p : ℕ × ℕ) → leaves_none allowed ≡ true → is_accepted allowed p ≡ false
+none_accepted allowed p empty = unheld (λ t. has_pair t.now p.0 p.1) allowed.accepted (and_parts (is_empty allowed.kinds) _ empty).1
+
+-- so each race counts
+pub all_count : (allowed : LeftOut) (lacks : ℕ → ℕ → Lack) (p : ℕ × ℕ) → leaves_none allowed ≡ true → counts allowed lacks p ≡ true
+all_count allowed lacks p empty =
+    and_from _ _ (not_from_false _ (none_accepted allowed p empty)) (not_from_false _ (none_left_out allowed.kinds (lacks p.0 p.1).kind (none_of allowed empty)))
 
 -- and all of a list do
-pub all_counted : (allowed : KindSet) (lacks : ℕ → ℕ → Lack) (pairs : List (ℕ × ℕ)) → is_empty allowed ≡ true
+pub all_counted : (allowed : LeftOut) (lacks : ℕ → ℕ → Lack) (pairs : List (ℕ × ℕ)) → leaves_none allowed ≡ true
     → filter (counts allowed lacks) pairs ≡ pairs
 all_counted allowed lacks pairs empty = filter_all (counts allowed lacks) pairs (λ p. all_count allowed lacks p empty)
 
-module _ (e : EnforcedChart) (allowed : KindSet) where
+module _ (e : EnforcedChart) (allowed : LeftOut) where
   -- a race that counts is drawn in an order
   pub counted_drawn : (x y : ℕ) → is_counted e allowed x y ≡ true → before e.chart.events x y ≡ true
   unfolding is_counted is_raced

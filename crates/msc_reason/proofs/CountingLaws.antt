@@ -8,7 +8,7 @@ use Rattle.msc_chart.proofs.ListLemmas.{by_test, clash}
 use Rattle.msc_chart.specs.Charts.{segment, before}
 use Rattle.msc_chart.specs.Drawings.{IsAccepted}
 use Rattle.msc_chart.specs.Lists.{Occurs}
-use Rattle.msc_chart.specs.Orders.{IsRace, IsWired}
+use Rattle.msc_chart.specs.Orders.{IsRace, IsWired, WiredChart}
 use Rattle.msc_order.specs.Tables.{orders}
 use Rattle.msc_race.specs.Races.{is_raced}
 use Rattle.msc_race.specs.Views.{races_of, wiring_of}
@@ -19,16 +19,19 @@ use Rattle.msc_reason.proofs.Spans.{before_trans, parted}
 use Rattle.msc_reason.proofs.Within.{before_apart, within_from, within_parts, Within}
 use Rattle.msc_reason.specs.Closest.{IsClosest, StandsWithin}
 use Rattle.msc_reason.specs.Counting.{counting, counts, is_alone, is_listed, is_within, listed, AreLacks}
-use Rattle.msc_reason.specs.CountingLaws.{IsClosestCounting, IsCounting}
+use Rattle.msc_reason.specs.CountingLaws.{IsClosestCounting, IsCounting, IsLeftOut}
 use Rattle.msc_reason.specs.Kinds.{has_kind, is_empty}
-use Rattle.msc_reason.specs.Laws.{EachRaceHasOneKind}
+use Rattle.msc_reason.specs.LeftOut.{is_accepted, leaves_none}
 use Rattle.msc_reason.specs.declared.kinds.KindSet.{KindSet}
+use Rattle.msc_reason.proofs.Counted.{none_accepted, none_of}
+use Rattle.msc_reason.specs.Laws.{EachRaceHasOneKind}
+use Rattle.msc_reason.specs.declared.left_out.LeftOut.{LeftOut}
 use Rattle.msc_reason.specs.declared.lack.Lack.{Lack}
 use Rattle.msc_reason.specs.declared.lack.RaceKind.{RaceKind}
 use Rattle.msc_reason.specs.declared.lack.RaceKind.TheVariants.{Early, Queues, Unordered, Overtaken}
 
 module _ (e : EnforcedChart) (is : IsEnforced e) (accepted : IsAccepted e.chart) (law : EachRaceHasOneKind)
-    (allowed : KindSet) (lacks : ℕ → ℕ → Lack) (are : AreLacks e lacks) where
+    (allowed : LeftOut) (lacks : ℕ → ℕ → Lack) (are : AreLacks e lacks) where
   -- a race is one of the list
   race_in : (x y : ℕ) → IsRace (wiring_of e) x y → Occurs (races_of e) (x, y)
   unfolding is_raced
@@ -47,19 +50,25 @@ module _ (e : EnforcedChart) (is : IsEnforced e) (accepted : IsAccepted e.chart)
 
   -- a race that counts passes
   counts_from : (x y : ℕ) → IsCounting (wiring_of e) allowed x y → counts allowed lacks (x, y) ≡ true
-  counts_from x y its =
-      not_from_false _ (false_from_ne_true (has_kind allowed (lacks x y).kind) (λ named.
-      its.counts (record { kind = (lacks x y).kind; its = (are x y its.race).kind; named = named })))
+  counts_from x y its = and_from _ _
+      (not_from_false _ (false_from_ne_true (is_accepted allowed (x, y)) (λ named. its.counts (inr named))))
+      (not_from_false _ (false_from_ne_true (has_kind allowed.kinds (lacks x y).kind) (λ named.
+      its.counts (inl (record { kind = (lacks x y).kind; its = (are x y its.race).kind; named = named })))))
 
   -- and what passes counts
   counts_parts : (x y : ℕ) → IsRace (wiring_of e) x y → counts allowed lacks (x, y) ≡ true → IsCounting (wiring_of e) allowed x y
-  counts_parts x y race passes = record {
-    race = race;
-    counts = λ left.
-        let one = law e.queues e.chart accepted x y race in
-        let same = one.2 (lacks x y).kind (are x y race).kind ∙ sym (one.2 left.kind left.its) in
-        clash (ap (has_kind allowed) same ∙ left.named) (not-true _ passes);
-  }
+  counts_parts x y race passes =
+      let both = and_parts (not (is_accepted allowed (x, y))) (not (has_kind allowed.kinds (lacks x y).kind)) passes in
+      record {
+        race = race;
+        counts = λ out. elim out [
+          | inl left ↦
+              let one = law e.queues e.chart accepted x y race in
+              let same = one.2 (lacks x y).kind (are x y race).kind ∙ sym (one.2 left.kind left.its) in
+              clash (ap (has_kind allowed.kinds) same ∙ left.named) (not-true _ both.1)
+          | inr named ↦ clash named (not-true _ both.0)
+        ];
+      }
 
   -- the races that count are those of the list
   pub counting_listed : (x y : ℕ) → IsCounting (wiring_of e) allowed x y ↔ Occurs (counting e allowed lacks) (x, y)
@@ -184,14 +193,19 @@ module _ (e : EnforcedChart) (is : IsEnforced e) (accepted : IsAccepted e.chart)
   none_closest = (none_from (counting e allowed lacks) refl, none_to (listed e allowed true lacks) refl)
 
 -- an empty set leaves no race out
-none_had : (allowed : KindSet) (kind : RaceKind) → is_empty allowed ≡ true → has_kind allowed kind ≡ true → ⊥
-none_had allowed Early empty has = grind (arith, empty, has)
-none_had allowed Queues empty has = grind (arith, empty, has)
-none_had allowed Unordered empty has = grind (arith, empty, has)
-none_had allowed Overtaken empty has = grind (arith, empty, has)
+none_had : (kinds : KindSet) (kind : RaceKind) → is_empty kinds ≡ true → has_kind kinds kind ≡ true → ⊥
+none_had kinds Early empty has = grind (arith, empty, has)
+none_had kinds Queues empty has = grind (arith, empty, has)
+none_had kinds Unordered empty has = grind (arith, empty, has)
+none_had kinds Overtaken empty has = grind (arith, empty, has)
 
--- where no kind is left out, the closest races that count are the closest races
-pub closest_without : (e : EnforcedChart) → IsWired (wiring_of e) → (allowed : KindSet) → is_empty allowed ≡ true
+-- nor does what leaves nothing out
+none_out : (chart : WiredChart) (allowed : LeftOut) (e f : ℕ) → leaves_none allowed ≡ true → IsLeftOut chart allowed e f → ⊥
+none_out chart allowed e f empty (inl of_kinds) = none_had allowed.kinds of_kinds.kind (none_of allowed empty) of_kinds.named
+none_out chart allowed e f empty (inr named) = clash named (none_accepted allowed (e, f) empty)
+
+-- where nothing is left out, the closest races that count are the closest races
+pub closest_without : (e : EnforcedChart) → IsWired (wiring_of e) → (allowed : LeftOut) → leaves_none allowed ≡ true
     → (x y : ℕ) → IsClosestCounting (wiring_of e) allowed x y ↔ IsClosest (wiring_of e) x y
 closest_without e wired allowed empty x y = (
   λ its. record {
@@ -222,4 +236,4 @@ closest_without e wired allowed empty x y = (
   where
     -- each race counts
     counts : {g h : ℕ} → IsRace (wiring_of e) g h → IsCounting (wiring_of e) allowed g h
-    counts race = record { race = race; counts = λ left. none_had allowed left.kind empty left.named }
+    counts race = record { race = race; counts = λ out. none_out (wiring_of e) allowed _ _ empty out }

@@ -8,6 +8,7 @@ pub mod Counted
 pub mod Within
 pub mod Marking
 pub mod Sums
+pub mod PairLemmas
 pub mod LacksIn
 pub mod CountingLaws
 pub mod Named

@@ -13,7 +13,7 @@ use Rattle.msc_reason.proofs.Filtered.{any_in, any_parts}
 use Rattle.msc_reason.proofs.Within.{Within, within_from, within_parts}
 use Rattle.msc_reason.specs.Counting.{counting, is_within}
 use Rattle.msc_reason.specs.Marked.{counted_from, is_counted, lack_in, IsLeastSecond}
-use Rattle.msc_reason.specs.declared.kinds.KindSet.{KindSet}
+use Rattle.msc_reason.specs.declared.left_out.LeftOut.{LeftOut}
 
 -- the last k numbers have the least of what stood there and behind, the others what they had
 pub record AreSunk (old now : List ℕ) (size k : ℕ) : Type 0 where
@@ -64,7 +64,7 @@ all_at P xs x (j, at) all =
     let inside = slice_get_within xs j x at in
     subst P (get_or_from_slice_get xs j x x at) (all j x inside)
 
-module _ (e : EnforcedChart) (allowed : KindSet) where
+module _ (e : EnforcedChart) (allowed : LeftOut) where
   -- the least second event of an event's races that count
   pub is_least_second : (events x y : ℕ) (pairs : List (ℕ × ℕ)) → pairs ≡ counted_from e allowed x → All (λ p. y ≤ p.1) pairs
       → (y ≡ events) ⊎ ((z : ℕ) × Occurs pairs (z, y)) → IsLeastSecond (is_counted e allowed) events x y

@@ -1,5 +1,5 @@
 -- All events that a reason names are events of the chart.
-use Rattle.std.proofs.Common.{ℕ, ◌<◌, List, [], ◌∷◌, None, Some, length, sym, subst, arith}
+use Rattle.std.proofs.Common.{ℕ, ◌<◌, Bool, List, [], ◌∷◌, None, Some, length, sym, subst, arith}
 use Rattle.std.proofs.lemmas.List.Elements.{All-cons}
 use Rattle.msc_chart.proofs.Drawn.{before_parts, input_parts, output_parts}
 use Rattle.msc_chart.proofs.ListLemmas.{by_test}
@@ -55,10 +55,10 @@ module _ (queues : Queues) (d : Drawing) (accepted : IsAccepted d) where
   }
 
   -- a reason names events
-  pub names_all : (e f : ℕ) → e < length d.events → f < length d.events → (reason : Reason) → IsReason (wired queues d) e f reason → NamesAll d reason
-  names_all e f e_known f_known (Enforced why) is = names_steps e f why is.0
-  names_all e f e_known f_known (Free run None None) is = (tt, tt)
-  names_all e f e_known f_known (Free run None (Some why)) is = (tt, names_steps f e why is.turned.0)
-  names_all e f e_known f_known (Free run (Some lack) None) is = (lack_known e f lack e_known f_known is.race.1, tt)
-  names_all e f e_known f_known (Free run (Some lack) (Some why)) is =
+  pub names_all : (e f : ℕ) → e < length d.events → f < length d.events → (short : Bool) (reason : Reason) → IsReason short (wired queues d) e f reason → NamesAll d reason
+  names_all e f e_known f_known short (Enforced why) is = names_steps e f why is.0
+  names_all e f e_known f_known short (Free run None None) is = (tt, tt)
+  names_all e f e_known f_known short (Free run None (Some why)) is = (tt, names_steps f e why is.turned.0)
+  names_all e f e_known f_known short (Free run (Some lack) None) is = (lack_known e f lack e_known f_known is.race.1, tt)
+  names_all e f e_known f_known short (Free run (Some lack) (Some why)) is =
       (lack_known e f lack e_known f_known is.race.1, names_steps f e why is.turned.0)

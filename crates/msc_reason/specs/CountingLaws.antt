@@ -1,5 +1,5 @@
 -- Laws of the races that count, of an accepted chart with its enforced order.
-use Rattle.std.specs.Prelude.{◌≡◌, ℕ, ◌↔◌, Bool, [], true}
+use Rattle.std.specs.Prelude.{◌≡◌, ◌⊎◌, ℕ, ◌↔◌, Bool, [], true}
 use Rattle.msc_chart.specs.Drawings.{IsAccepted}
 use Rattle.msc_chart.specs.Lists.{Occurs}
 use Rattle.msc_chart.specs.Orders.{IsRace, WiredChart}
@@ -8,33 +8,39 @@ use Rattle.msc_race.specs.Views.{wiring_of}
 use Rattle.msc_race.specs.Wired.{EnforcedChart, IsEnforced}
 use Rattle.msc_reason.specs.Closest.{IsClosest, IsClosestList, StandsWithin}
 use Rattle.msc_reason.specs.Counting.{counting, listed, AreLacks}
-use Rattle.msc_reason.specs.Kinds.{has_kind, is_empty}
+use Rattle.msc_reason.specs.Kinds.{has_kind}
+use Rattle.msc_reason.specs.LeftOut.{is_accepted, leaves_none}
+use Rattle.msc_reason.specs.declared.kinds.KindSet.{KindSet}
 use Rattle.msc_reason.specs.Lacks.{IsKindOf}
 use Rattle.msc_reason.specs.Marked.{lack_in}
-use Rattle.msc_reason.specs.declared.kinds.KindSet.{KindSet}
+use Rattle.msc_reason.specs.declared.left_out.LeftOut.{LeftOut}
 use Rattle.msc_reason.specs.declared.lack.Lack.{Lack}
 use Rattle.msc_reason.specs.declared.lack.RaceKind.{RaceKind}
 
 -- the pair is of one of these kinds
-pub record IsLeftOut (chart : WiredChart) (allowed : KindSet) (e f : ℕ) : Type 0 where
+pub record IsOfKinds (chart : WiredChart) (kinds : KindSet) (e f : ℕ) : Type 0 where
   pub kind : RaceKind
   pub its : IsKindOf chart e f kind
-  pub named : has_kind allowed kind ≡ true
+  pub named : has_kind kinds kind ≡ true
 
--- a race that is of none of the kinds which are left out
-pub record IsCounting (chart : WiredChart) (allowed : KindSet) (e f : ℕ) : Type 0 where
+-- the pair is left out: it is of one of the kinds, or accepted
+abbrev pub IsLeftOut : WiredChart → LeftOut → ℕ → ℕ → Type 0
+IsLeftOut chart allowed e f = IsOfKinds chart allowed.kinds e f ⊎ (is_accepted allowed (e, f) ≡ true)
+
+-- a race that is not left out
+pub record IsCounting (chart : WiredChart) (allowed : LeftOut) (e f : ℕ) : Type 0 where
   pub race : IsRace chart e f
   pub counts : IsLeftOut chart allowed e f → ⊥
 
 -- one within whose span no other such race lies
-pub record IsClosestCounting (chart : WiredChart) (allowed : KindSet) (e f : ℕ) : Type 0 where
+pub record IsClosestCounting (chart : WiredChart) (allowed : LeftOut) (e f : ℕ) : Type 0 where
   pub itself : IsCounting chart allowed e f
   pub alone : (g h : ℕ) → IsCounting chart allowed g h → StandsWithin chart.events e f g h → (g ≡ e) × (h ≡ f)
 
 -- what is said of each enforced chart, and of the lacks of its races
-abbrev pub OfCharts : (EnforcedChart → KindSet → (ℕ → ℕ → Lack) → Type 0) → Type 0
+abbrev pub OfCharts : (EnforcedChart → LeftOut → (ℕ → ℕ → Lack) → Type 0) → Type 0
 OfCharts Says =
-    (e : EnforcedChart) → IsEnforced e → IsAccepted e.chart → (allowed : KindSet) (lacks : ℕ → ℕ → Lack)
+    (e : EnforcedChart) → IsEnforced e → IsAccepted e.chart → (allowed : LeftOut) (lacks : ℕ → ℕ → Lack)
     → AreLacks e lacks → Says e allowed lacks
 
 -- the races that count are listed as such, and no other pair
@@ -50,7 +56,7 @@ ClosestRacesAreListed = OfCharts (λ e allowed lacks.
 -- both lists are ascending, so no race stands twice
 abbrev pub ListedRacesAreAscending : Type 0
 ListedRacesAreAscending =
-    (e : EnforcedChart) (allowed : KindSet) (closest : Bool) (lacks : ℕ → ℕ → Lack)
+    (e : EnforcedChart) (allowed : LeftOut) (closest : Bool) (lacks : ℕ → ℕ → Lack)
     → AreAscending (counting e allowed lacks) × AreAscending (listed e allowed closest lacks)
 
 -- the enforced order tells what each race lacks
@@ -68,13 +74,13 @@ abbrev pub NoneIsClosestWhereNoneCounts : Type 0
 NoneIsClosestWhereNoneCounts = OfCharts (λ e allowed lacks.
     (listed e allowed true lacks ≡ []) ↔ (counting e allowed lacks ≡ []))
 
--- where no kind is left out, the closest races that count are the closest races
+-- where nothing is left out, the closest races that count are the closest races
 abbrev pub WithoutKindsTheClosestAreTheClosest : Type 0
 WithoutKindsTheClosestAreTheClosest =
-    (e : EnforcedChart) → IsEnforced e → IsAccepted e.chart → (allowed : KindSet) → is_empty allowed ≡ true
+    (e : EnforcedChart) → IsEnforced e → IsAccepted e.chart → (allowed : LeftOut) → leaves_none allowed ≡ true
     → (x y : ℕ) → IsClosestCounting (wiring_of e) allowed x y ↔ IsClosest (wiring_of e) x y
 
 -- and what is listed as closest is the list of all closest races, ascending, each once
 abbrev pub AllClosestRacesAreListed : Type 0
 AllClosestRacesAreListed = OfCharts (λ e allowed lacks.
-    is_empty allowed ≡ true → IsClosestList (wiring_of e) (listed e allowed true lacks))
+    leaves_none allowed ≡ true → IsClosestList (wiring_of e) (listed e allowed true lacks))

@@ -2,6 +2,8 @@
 pub mod Closest
 pub mod Lacks
 pub mod Kinds
+pub mod PairTables
+pub mod LeftOut
 pub mod Counting
 pub mod CountingLaws
 pub mod Selected

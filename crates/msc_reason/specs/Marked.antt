@@ -10,7 +10,7 @@ use Rattle.msc_race.specs.Views.{races_from, wiring_of}
 use Rattle.msc_race.specs.Wired.{EnforcedChart}
 use Rattle.msc_reason.specs.Counting.{counts, is_listed}
 use Rattle.msc_reason.specs.Lacks.{needed}
-use Rattle.msc_reason.specs.declared.kinds.KindSet.{KindSet}
+use Rattle.msc_reason.specs.declared.left_out.LeftOut.{LeftOut}
 use Rattle.msc_reason.specs.declared.lack.Lack.{Lack}
 use Rattle.msc_reason.specs.declared.lack.RaceKind.{RaceKind}
 use Rattle.msc_reason.specs.declared.lack.RaceKind.TheVariants.{Early, Queues, Unordered, Overtaken}
@@ -40,15 +40,15 @@ lack_in e x y = record {
 }
 
 -- the pair is a race that counts
-unfoldable pub is_counted : EnforcedChart → KindSet → ℕ → ℕ → Bool
+unfoldable pub is_counted : EnforcedChart → LeftOut → ℕ → ℕ → Bool
 is_counted e allowed x y = is_raced e.chart.events e.order x y && counts allowed (lack_in e) (x, y)
 
 -- the races of x that count, ascending
-abbrev pub counted_from : EnforcedChart → KindSet → ℕ → List (ℕ × ℕ)
+abbrev pub counted_from : EnforcedChart → LeftOut → ℕ → List (ℕ × ℕ)
 counted_from e allowed x = filter (counts allowed (lack_in e)) (races_from e x)
 
 -- those that are listed
-abbrev pub listed_from : EnforcedChart → KindSet → Bool → ℕ → List (ℕ × ℕ)
+abbrev pub listed_from : EnforcedChart → LeftOut → Bool → ℕ → List (ℕ × ℕ)
 listed_from e allowed closest x = filter (is_listed e allowed closest (lack_in e)) (races_from e x)
 
 -- y is the least event with which x passes a test, or past them all where there is none
@@ -68,7 +68,7 @@ pub record AreMarks (test : ℕ → ℕ → Bool) (events : ℕ) (last least : L
 
 -- The marks are those of the races that count, p is such a race, low the least event in which one of its
 -- first event ends, and the segment of that ends before this number.
-pub record IsMarked (e : EnforcedChart) (allowed : KindSet) (last least : List ℕ) (low past : ℕ) (p : ℕ × ℕ) : Type 0 where
+pub record IsMarked (e : EnforcedChart) (allowed : LeftOut) (last least : List ℕ) (low past : ℕ) (p : ℕ × ℕ) : Type 0 where
   pub marks : AreMarks (is_counted e allowed) (length e.chart.events) last least
   pub race : IsTrue (is_counted e allowed p.0 p.1)
   pub first : IsLeastSecond (is_counted e allowed) (length e.chart.events) p.0 low
@@ -76,7 +76,7 @@ pub record IsMarked (e : EnforcedChart) (allowed : KindSet) (last least : List �
 
 -- the marks are those of the races that count, the pairs are such races of one event, and the segment of
 -- the event ends before this number
-pub record AreOfOneEvent (e : EnforcedChart) (allowed : KindSet) (last least : List ℕ) (past : ℕ) (pairs : List (ℕ × ℕ)) : Type 0 where
+pub record AreOfOneEvent (e : EnforcedChart) (allowed : LeftOut) (last least : List ℕ) (past : ℕ) (pairs : List (ℕ × ℕ)) : Type 0 where
   pub event : ℕ
   pub marks : AreMarks (is_counted e allowed) (length e.chart.events) last least
   pub end : IsSegmentEnd e.chart.events event past

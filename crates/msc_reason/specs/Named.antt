@@ -1,5 +1,5 @@
 -- The events that a reason names.
-use Rattle.std.specs.Prelude.{ℕ, ◌<◌, List, length, MatchOption}
+use Rattle.std.specs.Prelude.{ℕ, ◌<◌, Bool, List, length, MatchOption}
 use Rattle.std.specs.List.{All}
 use Rattle.msc_chart.specs.declared.queue.Queues.{Queues}
 use Rattle.msc_chart.specs.Drawings.{Drawing, IsAccepted}
@@ -34,4 +34,4 @@ NamesAll d (Free run lack late) = MatchOption lack (Unit {0}) (NamesLack d) × M
 abbrev pub AReasonNamesEvents : Type 0
 AReasonNamesEvents =
     (queues : Queues) (d : Drawing) → IsAccepted d → (e f : ℕ) → e < length d.events → f < length d.events
-    → (reason : Reason) → IsReason (wired queues d) e f reason → NamesAll d reason
+    → (short : Bool) (reason : Reason) → IsReason short (wired queues d) e f reason → NamesAll d reason

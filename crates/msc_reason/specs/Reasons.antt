@@ -1,8 +1,7 @@
 -- Why the first of two events comes before the second, or how it need not.
-use Rattle.std.specs.Prelude.{ℕ, List, Option, MatchOption}
+use Rattle.std.specs.Prelude.{ℕ, Bool, List, Option, MatchOption}
 use Rattle.msc_chart.specs.Orders.{WiredChart, Enforced, IsRace}
-use Rattle.msc_chart.specs.Runs.{Run, IsWhole, Reverses}
-use Rattle.msc_chart.specs.Chosen.{IsChosenRun}
+use Rattle.msc_race.specs.Shown.{IsShown}
 use Rattle.msc_reason.specs.declared.lack.Lack.{Lack}
 use Rattle.msc_reason.specs.declared.why.Why.{Why}
 use Rattle.msc_reason.specs.declared.reason.Reason.{Reason}
@@ -22,19 +21,16 @@ IsNoRace chart e f = IsRace chart e f → ⊥
 abbrev pub IsRaceWith : WiredChart → ℕ → ℕ → Lack → Type 0
 IsRaceWith chart e f lack = IsRace chart e f × IsLackOf chart e f lack
 
--- The pair is not enforced: the chosen run of e is a whole run that has f before e. There is a lack
--- exactly where the pair is a race, and something that shows that f is enforced before e exactly
--- where it is.
-pub record IsFreeBy (chart : WiredChart) (e f : ℕ) (run : List ℕ) (lack : Option Lack) (late : Option Why) : Type 0 where
+-- The pair is not enforced: a run shows it, the short run of both events where that is wanted, else the
+-- chosen run of the first. There is a lack exactly where the pair is a race, and something that shows
+-- that f is enforced before e exactly where it is.
+pub record IsFreeBy (short : Bool) (chart : WiredChart) (e f : ℕ) (run : List ℕ) (lack : Option Lack) (late : Option Why) : Type 0 where
   pub free : IsNotEnforced chart e f
-  pub chosen : IsChosenRun chart e run
-  pub is_run : Run chart run
-  pub whole : IsWhole chart run
-  pub reverses : Reverses run e f
+  pub shown : IsShown short chart e f run
   pub race : MatchOption lack (IsNoRace chart e f) (IsRaceWith chart e f)
   pub turned : MatchOption late (IsNotEnforced chart f e) (IsChosenWhy chart f e)
 
 -- what is said of a pair of events is right
-abbrev pub IsReason : WiredChart → ℕ → ℕ → Reason → Type 0
-IsReason chart e f (EnforcedBy why) = IsChosenWhy chart e f why
-IsReason chart e f (Free run lack late) = IsFreeBy chart e f run lack late
+abbrev pub IsReason : Bool → WiredChart → ℕ → ℕ → Reason → Type 0
+IsReason short chart e f (EnforcedBy why) = IsChosenWhy chart e f why
+IsReason short chart e f (Free run lack late) = IsFreeBy short chart e f run lack late

@@ -9,34 +9,37 @@ ghost use Rattle.msc_race.specs.Walks.{HasReached};
 ghost use Rattle.msc_reason.specs.Counting.{counts};
 ghost use Rattle.msc_reason.specs.Marked.{counted_from, lack_in};
 
-use crate::kinds::KindSet;
 use crate::lacking::kind_of;
+use crate::left_out::LeftOut;
 use msc_chart::Event;
 use msc_race::{Enforced, Walk};
 use std::alloc::AllocError;
 
-/// Whether a race is of none of the kinds that are left out. Where there are none of these, its
-/// kind is not looked for. It takes no memory.
-pub fn counts(enforced: &Enforced, allowed: KindSet, race: (Event, Event)) -> bool
+/// Whether a race is not accepted, and of none of the kinds that are left out. Where nothing is
+/// left out, its kind is not looked for. It takes no memory.
+pub fn counts(enforced: &Enforced, allowed: LeftOut, race: (Event, Event)) -> bool
     requires { IsRace (wiring_of enforced.now) race.0 race.1 }
-    ensures { result ≡ counts allowed (lack_in enforced.now) race }
+    ensures { result ≡ counts allowed.entry (lack_in enforced.now) race }
 {
     if allowed.is_empty() {
         return true;
     }
-    !allowed.has(kind_of(enforced, race.0, race.1))
+    if allowed.accepts(race.0, race.1) {
+        return false;
+    }
+    !allowed.kinds.has(kind_of(enforced, race.0, race.1))
 }
 
 /// Appends those of these races that count.
 fn push_counting(
     list: &mut Vec<(Event, Event)>,
     enforced: &Enforced,
-    allowed: KindSet,
+    allowed: LeftOut,
     races: &[(Event, Event)],
 ) -> Result<(), AllocError>
     requires { AreRacesOf enforced.now races.now }
     ensures { OnOk result (list.new.items
-        ≡ list.old.items ++ filter (counts allowed (lack_in enforced.now)) races.now) }
+        ≡ list.old.items ++ filter (counts allowed.entry (lack_in enforced.now)) races.now) }
 {
     for race in races {
         if counts(enforced, allowed, *race) {
@@ -47,9 +50,9 @@ fn push_counting(
 }
 
 /// Whether one of these races counts. It looks at none behind the first that does.
-pub(crate) fn some_counts(enforced: &Enforced, allowed: KindSet, races: &[(Event, Event)]) -> bool
+pub(crate) fn some_counts(enforced: &Enforced, allowed: LeftOut, races: &[(Event, Event)]) -> bool
     requires { AreRacesOf enforced.now races.now }
-    ensures { result ≡ list_any (counts allowed (lack_in enforced.now)) races.now }
+    ensures { result ≡ list_any (counts allowed.entry (lack_in enforced.now)) races.now }
 {
     for race in races {
         if counts(enforced, allowed, *race) {
@@ -66,14 +69,14 @@ pub(crate) fn next_counting(
     list: &mut Vec<(Event, Event)>,
     room: &mut Vec<(Event, Event)>,
     enforced: &Enforced,
-    allowed: KindSet,
+    allowed: LeftOut,
     e: Event,
 ) -> Result<(), AllocError>
     requires known { e < length enforced.now.chart.events }
     requires reached { HasReached enforced.now.chart.events e walk.old }
     ensures reached { HasReached enforced.now.chart.events (e + 1) walk.new }
     ensures segment { IsSegmentEnd enforced.now.chart.events e walk.new.segment_end }
-    ensures list { OnOk result (list.new.items ≡ counted_from enforced.now allowed e) }
+    ensures list { OnOk result (list.new.items ≡ counted_from enforced.now allowed.entry e) }
 {
     if allowed.is_empty() {
         return enforced.next_races(walk, list, e);

@@ -46,17 +46,23 @@ fn why_if_enforced(
     Ok(None)
 }
 
-/// Why `e` comes before `f`, or how it need not: what shows that it is enforced before it; or the
-/// chosen run of `e`, which has `f` before `e`, why the pair is a race, where it is one, and what
-/// shows that `f` is enforced before `e`, where it is. An error is a growth of memory that
-/// was refused.
-pub fn explain(alloc: Global, enforced: &Enforced, e: Event, f: Event) -> Result<Reason, AllocError>
+/// Why `e` comes before `f`, or how it need not: what shows that it is enforced before it; or a run
+/// that has `f` and not `e` before it, the chosen run of `e` or where that is wanted the short run of
+/// both; why the pair is a race, where it is one; and what shows that `f` is enforced before `e`,
+/// where it is. An error is a growth of memory that was refused.
+pub fn explain(
+    alloc: Global,
+    enforced: &Enforced,
+    e: Event,
+    f: Event,
+    short: bool,
+) -> Result<Reason, AllocError>
     requires e_known { e < length enforced.now.chart.events }
     requires f_known { f < length enforced.now.chart.events }
     requires other { e ≢ f }
-    ensures { IfOk result (IsReason (wiring_of enforced.now) e f) }
+    ensures { IfOk result (IsReason short (wiring_of enforced.now) e f) }
 {
-    let Some(run) = enforced.reversing_run(alloc, e, f)? else {
+    let Some(run) = enforced.shown_run(alloc, e, f, short)? else {
         return Ok(Reason::Enforced(why_of(alloc, enforced, e, f)?));
     };
     let lack = lack_if_race(enforced, e, f);

@@ -9,10 +9,10 @@ ghost use Rattle.std.specs.List.{list_any, All};
 ghost use Rattle.msc_chart.specs.Lists.{Occurs};
 ghost use Rattle.msc_reason.specs.Counting.{counting, is_within};
 ghost use Rattle.msc_reason.specs.Marked.{is_counted, lack_in, AreMarks, IsMarked};
-ghost use Rattle.msc_reason.specs.declared.kinds.KindSet.{KindSet};
+ghost use Rattle.msc_reason.specs.declared.left_out.LeftOut.{LeftOut};
 
 use crate::counting::next_counting;
-use crate::kinds::KindSet;
+use crate::left_out::LeftOut;
 use msc_chart::Event;
 use msc_race::{Enforced, Walk};
 use std::alloc::{AllocError, Global};
@@ -70,8 +70,8 @@ fn sink_least(least: &mut Vec<Event>)
 impl Marks {
     /// Where the races of a chart that count begin and end. An error is a growth of memory that was
     /// refused.
-    pub fn of(alloc: Global, enforced: &Enforced, allowed: KindSet) -> Result<Marks, AllocError>
-        ensures { IfOk result (λ marks. AreMarks (is_counted enforced.now allowed)
+    pub fn of(alloc: Global, enforced: &Enforced, allowed: LeftOut) -> Result<Marks, AllocError>
+        ensures { IfOk result (λ marks. AreMarks (is_counted enforced.now allowed.entry)
             (length enforced.now.chart.events) marks.last.items marks.least.items) }
     {
         let events = enforced.events();
@@ -99,9 +99,9 @@ impl Marks {
         end: Event,
         race: (Event, Event),
     ) -> bool
-        requires { (allowed : KindSet) × IsMarked enforced.now allowed
+        requires { (allowed : LeftOut) × IsMarked enforced.now allowed
             self.now.last.items self.now.least.items first end race }
-        ensures { (allowed : KindSet) → IsMarked enforced.now allowed
+        ensures { (allowed : LeftOut) → IsMarked enforced.now allowed
             self.now.last.items self.now.least.items first end race
             → result ≡ list_any (is_within enforced.now.chart.events race)
             (counting enforced.now allowed (lack_in enforced.now)) }

@@ -10,7 +10,8 @@ use msc_chart::Event;
 pub enum Reason {
     /// It is, and this shows it.
     Enforced(Why),
-    /// It is not: a whole run with the second event before the first; why the pair is a race, where
-    /// it is one; and what shows that the second is enforced before the first, where it is.
+    /// It is not: a run that has the second event and not the first before it; why the pair is a
+    /// race, where it is one; and what shows that the second is enforced before the first, where it
+    /// is.
     Free(Listed<Event>, Option<Lack>, Option<Why>),
 }

@@ -8,10 +8,10 @@ ghost use Rattle.msc_chart.specs.declared.event.ChartEvent.{ChartEvent};
 ghost use Rattle.msc_reason.specs.Counting.{counting, is_alone, listed};
 ghost use Rattle.msc_reason.specs.Marked.{lack_in, listed_from, AreOfOneEvent};
 ghost use Rattle.msc_reason.specs.Selected.{selected};
-ghost use Rattle.msc_reason.specs.declared.kinds.KindSet.{KindSet};
+ghost use Rattle.msc_reason.specs.declared.left_out.LeftOut.{LeftOut};
 
 use crate::counting::{next_counting, some_counts};
-use crate::kinds::KindSet;
+use crate::left_out::LeftOut;
 use crate::marks::{Marks, least_second};
 use msc_chart::Event;
 use msc_race::{Enforced, Walk};
@@ -43,12 +43,12 @@ impl Stream {
 }
 
 /// Which races of a chart are listed: those that count, or the closest of them alone. Contracts see
-/// the chart under its architecture, the kinds that are left out, and whether the closest races
+/// the chart under its architecture, what is left out, and whether the closest races
 /// alone are listed.
 #[derive(Drop)]
 pub struct Listing<'a> {
     enforced: Enforced<'a>,
-    allowed: KindSet,
+    allowed: LeftOut<'a>,
     marks: Option<Marks>,
 }
 
@@ -75,9 +75,9 @@ fn push_alone(
     end: Event,
     races: &[(Event, Event)],
 ) -> Result<(), AllocError>
-    requires { (allowed : KindSet) × AreOfOneEvent enforced.now allowed
+    requires { (allowed : LeftOut) × AreOfOneEvent enforced.now allowed
         marks.now.last.items marks.now.least.items end races.now }
-    ensures { (allowed : KindSet) → AreOfOneEvent enforced.now allowed
+    ensures { (allowed : LeftOut) → AreOfOneEvent enforced.now allowed
         marks.now.last.items marks.now.least.items end races.now
         → OnOk result (list.new.items ≡ list.old.items ++ filter (is_alone
         enforced.now.chart.events (counting enforced.now allowed (lack_in enforced.now)))
@@ -98,10 +98,10 @@ impl<'a> Listing<'a> {
     pub fn of(
         alloc: Global,
         enforced: Enforced<'a>,
-        allowed: KindSet,
+        allowed: LeftOut<'a>,
         closest: bool,
     ) -> Result<Listing<'a>, AllocError>
-        ensures { IfOk result (λ listing. listing ≡ selected enforced.entry allowed closest) }
+        ensures { IfOk result (λ listing. listing ≡ selected enforced.entry allowed.entry closest) }
     {
         let marks = if closest {
             Some(Marks::of(alloc, &enforced, allowed)?)
@@ -120,6 +120,13 @@ impl<'a> Listing<'a> {
         ensures { result.now ≡ self.now.judged }
     {
         &self.enforced
+    }
+
+    /// What does not count.
+    pub fn left_out(&self) -> LeftOut<'a>
+        ensures { result ≡ self.now.allowed }
+    {
+        self.allowed
     }
 
     /// Whether the closest races alone are listed.
@@ -195,13 +202,13 @@ impl<'a> Listing<'a> {
 pub fn count_counting(
     alloc: Global,
     enforced: &Enforced,
-    allowed: KindSet,
+    allowed: LeftOut,
     races: u32,
 ) -> Result<u32, AllocError>
     requires { races ≡ length (races_of enforced.now) }
     ensures few { IfOk result (λ count. count ≤ races) }
     ensures count { IfOk result (λ count. count
-        ≡ length (counting enforced.now allowed (lack_in enforced.now))) }
+        ≡ length (counting enforced.now allowed.entry (lack_in enforced.now))) }
 {
     if allowed.is_empty() {
         return Ok(races);
@@ -219,9 +226,9 @@ pub fn count_counting(
 
 /// Whether no race of a chart counts. It stops at the first race that does. An error is a growth of
 /// memory that was refused.
-pub fn none_counts(alloc: Global, enforced: &Enforced, allowed: KindSet) -> Result<bool, AllocError>
+pub fn none_counts(alloc: Global, enforced: &Enforced, allowed: LeftOut) -> Result<bool, AllocError>
     ensures { IfOk result (λ none. none
-        ≡ nat_eq (length (counting enforced.now allowed (lack_in enforced.now))) 0) }
+        ≡ nat_eq (length (counting enforced.now allowed.entry (lack_in enforced.now))) 0) }
 {
     let mut list = Vec::new(alloc);
     let mut walk = Walk::new();

@@ -16,6 +16,11 @@ abbrev pub left_out_line : Option ℕ → List ℕ
 left_out_line None = []
 left_out_line (Some count) = codes "allowed " ++ text_line (decimal count)
 
+-- how many races are accepted, where marks are asked
+abbrev pub accepted_line : Option ℕ → List ℕ
+accepted_line None = []
+accepted_line (Some count) = codes "accepted " ++ text_line (decimal count)
+
 -- how many races are closest, where that is asked for
 abbrev pub closest_line : Option ℕ → List ℕ
 closest_line None = []
@@ -23,7 +28,8 @@ closest_line (Some count) = codes "closest " ++ text_line (decimal count)
 
 -- what is written before the races
 abbrev pub heading_text : Drawing → Heading → List ℕ
-heading_text d h = head_text d h.queues h.races ++ (left_out_line h.left_out ++ closest_line h.closest)
+heading_text d h =
+    head_text d h.queues h.races ++ (left_out_line h.left_out ++ (accepted_line h.accepted ++ closest_line h.closest))
 
 -- the word behind the kind of a race that is always reversed
 abbrev pub always_text : Bool → List ℕ

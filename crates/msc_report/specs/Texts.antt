@@ -9,6 +9,8 @@ use Rattle.msc_parser.specs.declared.fault.ParseFault.{ParseFault}
 use Rattle.msc_parser.specs.declared.fault.ParseFault.TheVariants as grammar
 use Rattle.msc_chart.specs.declared.fault.ChartFault.{ChartFault}
 use Rattle.msc_chart.specs.declared.fault.ChartFault.TheVariants as charts
+use Rattle.msc_mark.specs.declared.fault.MarkFault.{MarkFault}
+use Rattle.msc_mark.specs.declared.fault.MarkFault.TheVariants as marks
 use Rattle.msc_report.specs.declared.fault.Fault.{Fault}
 use Rattle.msc_report.specs.declared.fault.Fault.TheVariants.{Parse, Chart, NotStarted, Memory, Device}
 use Rattle.msc_report.specs.declared.pair.EventName.{EventName}
@@ -79,3 +81,9 @@ abbrev pub pair_fault_line : NamedFault → List ℕ
 pair_fault_line (NoEvent name) = codes "pair fault 1: no event " ++ text_line (event_word name)
 pair_fault_line (OneEvent e f) =
     codes "pair fault 2: " ++ (event_word e ++ (codes " and " ++ (event_word f ++ text_line (codes " are one event"))))
+
+-- the line of a comment that is to be a mark, and is none
+abbrev pub mark_fault_line : MarkFault → List ℕ
+mark_fault_line (marks.Part at) = placed (codes "accept fault 1 at ") at (codes ": expected in, with or a reason")
+mark_fault_line (marks.Reason at) = placed (codes "accept fault 2 at ") at (codes ": no reason")
+mark_fault_line marks.Memory = text_line (codes "memory fault")

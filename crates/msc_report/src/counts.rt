@@ -42,7 +42,7 @@ impl<'f> Renderer for Counts<'f> {
 
     ghost finding_text = { λ s d f line. [] };
 
-    ghost end_text = { λ s d. [] };
+    ghost end_text = { λ s d stale. [] };
 
     fn put_heading(
         &self,
@@ -75,7 +75,12 @@ impl<'f> Renderer for Counts<'f> {
         Ok(())
     }
 
-    fn put_end(&self, _page: &mut Page, _chart: &Chart) -> Result<(), AllocError> {
+    fn put_end(
+        &self,
+        _page: &mut Page,
+        _chart: &Chart,
+        _stale: &[Event],
+    ) -> Result<(), AllocError> {
         Ok(())
     }
 }

@@ -1,12 +1,14 @@
 //! The renderer of lines for editors: each race as a line that begins with its place, and a note at
-//! the event that is drawn below it.
+//! the event that is drawn below it; and each mark that accepts no race.
 
 ghost use Rattle.std.specs.Prelude.{◌≡◌, ◌<◌, [], ◌++◌, OnOk, length};
 ghost use Rattle.std.specs.Io.KnownBytes.{Appends};
 ghost use Rattle.msc_report.specs.Editors.{below_line, editor_text, kind_text, level_word};
 ghost use Rattle.msc_report.specs.Editors.{race_line, told_text};
+ghost use Rattle.msc_report.specs.Stale.{stale_warnings};
 
 use crate::race::{write_event, write_race_place};
+use crate::stale::write_stale_warnings;
 use msc_chart::{Chart, Event};
 use msc_judge::{Finding, Heading, Page, Renderer};
 use msc_place::Sites;
@@ -117,7 +119,7 @@ impl<'s> Renderer for Editor<'s> {
 
     ghost finding_text = { λ s d f line. editor_text s.sites.now d f };
 
-    ghost end_text = { λ s d. [] };
+    ghost end_text = { λ s d stale. stale_warnings s.sites.now d stale };
 
     fn put_heading(
         &self,
@@ -150,7 +152,10 @@ impl<'s> Renderer for Editor<'s> {
         }
     }
 
-    fn put_end(&self, _page: &mut Page, _chart: &Chart) -> Result<(), AllocError> {
-        Ok(())
+    fn put_end(&self, page: &mut Page, chart: &Chart, stale: &[Event]) -> Result<(), AllocError> {
+        match write_stale_warnings(page, chart, self.sites, stale) {
+            Ok(()) => Ok(()),
+            Err(_) => Err(AllocError),
+        }
     }
 }

@@ -8,14 +8,17 @@ ghost use Rattle.std.specs.List.{All};
 ghost use Rattle.msc_chart.specs.Drawings.{Drawing};
 ghost use Rattle.msc_place.specs.Sites.{sites_line};
 ghost use Rattle.msc_report.specs.Fitting.{FitsLines};
-ghost use Rattle.msc_report.specs.Lines.{closest_line, finding_text, heading_text, kind_line};
+ghost use Rattle.msc_report.specs.Lines.{accepted_line, closest_line, finding_text, heading_text};
+ghost use Rattle.msc_report.specs.Lines.{kind_line};
 ghost use Rattle.msc_report.specs.Lines.{lack_text, left_out_line, pair_line, pair_text, why_text};
+ghost use Rattle.msc_report.specs.Stale.{stale_lines};
 ghost use Rattle.msc_report.specs.Styles.{at_text, run_text, sites_in, steps_text};
 ghost use Rattle.msc_report.specs.Verdicts.{race_text, run_line};
 ghost use Rattle.msc_reason.specs.Named.{NamesLack};
 
 use crate::event_texts::EventTexts;
 use crate::race::{write_event_at, write_race, write_run};
+use crate::stale::write_stale_lines;
 use crate::style::{Style, write_at};
 use crate::trace::write_steps;
 use crate::verdict::write_head;
@@ -107,6 +110,17 @@ fn write_left_out<W: Write>(writer: &mut W, count: Option<u32>) -> io::Result<()
     }
 }
 
+/// Writes how many races are accepted, where marks are asked.
+fn write_accepted<W: Write>(writer: &mut W, count: Option<u32>) -> io::Result<()>
+    ensures { OnOk result (Appends (W.contents writer.old) (W.contents writer.new)
+        (accepted_line count)) }
+{
+    match count {
+        Some(count) => writeln!(writer, "accepted {count}"),
+        None => Ok(()),
+    }
+}
+
 /// Writes how many races are closest, where that is asked for.
 fn write_closest<W: Write>(writer: &mut W, count: Option<u32>) -> io::Result<()>
     ensures { OnOk result (Appends (W.contents writer.old) (W.contents writer.new)
@@ -125,6 +139,7 @@ fn write_heading<W: Write>(writer: &mut W, chart: &Chart, heading: Heading) -> i
 {
     write_head(writer, chart, heading.queues, heading.races)?;
     write_left_out(writer, heading.left_out)?;
+    write_accepted(writer, heading.accepted)?;
     write_closest(writer, heading.closest)
 }
 
@@ -292,7 +307,7 @@ impl<'s> Renderer for Lines<'s> {
 
     ghost finding_text = { λ s d f line. finding_text (sites_in s.style) d f line };
 
-    ghost end_text = { λ s d. [] };
+    ghost end_text = { λ s d stale. stale_lines (sites_in s.style) d stale };
 
     fn put_heading(
         &self,
@@ -329,7 +344,10 @@ impl<'s> Renderer for Lines<'s> {
         Ok(())
     }
 
-    fn put_end(&self, _page: &mut Page, _chart: &Chart) -> Result<(), AllocError> {
-        Ok(())
+    fn put_end(&self, page: &mut Page, chart: &Chart, stale: &[Event]) -> Result<(), AllocError> {
+        match write_stale_lines(page, chart, self.style.sites, stale) {
+            Ok(()) => Ok(()),
+            Err(_) => Err(AllocError),
+        }
     }
 }

@@ -149,8 +149,8 @@ fn write_not_started<W: Write>(writer: &mut W, i: u32) -> io::Result<()>
     writeln!(writer, "run fault 1: instance {i} could not be started")
 }
 
-/// Writes the line of a fault. The printed words of faults come from here and from
-/// [`crate::write_pair_fault`] alone.
+/// Writes the line of a fault. The printed words of faults come from here, from
+/// [`crate::write_pair_fault`] and from [`crate::write_mark_fault`] alone.
 pub fn write_fault<W: Write>(writer: &mut W, fault: &Fault) -> io::Result<()>
     ensures { OnOk result (Appends (W.contents writer.old) (W.contents writer.new)
         (fault_line fault.now)) }

@@ -1,7 +1,9 @@
 -- What is printed of a chart is told of it, and of a verdict.
-use Rattle.std.proofs.Common.{◌≡◌, ◌⊎◌, ℕ, Bool, List, length, nat_eq, Option, Result, Ok, Err, refl, ap, ◌∙◌, subst, inl, inr, arith}
-use Rattle.std.specs.Prelude.{IfOk}
-use Rattle.std.specs.declared.alloc.AllocError.{AllocError}
+use Rattle.std.proofs.Common.{◌≡◌, ◌⊎◌, ◌<◌, ℕ, All, Bool, true, false, ◌&&◌, List, [], length, nat_eq, Option, None, Some, Result, Ok, Err, refl, sym, ap, ap₂, ◌∙◌, subst, inl, inr, arith}
+use Rattle.std.specs.Borrow.{Bor}
+use Rattle.std.specs.List.{range_with_len}
+use Rattle.std.proofs.lemmas.List.Elements.{All-filter, All-from_get_or}
+use Rattle.std.proofs.lemmas.List.FromFn.{get_or-range_with_len, length-range_with_len}
 use Rattle.msc_chart.proofs.Drawn.{before_parts}
 use Rattle.msc_chart.specs.declared.queue.Queues.{Queues}
 use Rattle.msc_chart.specs.Drawings.{Drawing, IsAccepted}
@@ -17,7 +19,14 @@ use Rattle.msc_race.specs.Wired.{enforced_chart, EnforcedChart, IsEnforced}
 use Rattle.msc_reason.proofs.LacksIn.{all_lacks}
 use Rattle.msc_reason.specs.Counting.{counting}
 use Rattle.msc_reason.specs.Marked.{lack_in}
+use Rattle.msc_reason.specs.PairTables.{has_pair, PairTable}
 use Rattle.msc_reason.specs.declared.kinds.KindSet.{KindSet}
+use Rattle.msc_reason.specs.declared.lack.Lack.{Lack}
+use Rattle.msc_reason.specs.declared.left_out.LeftOut.{LeftOut}
+use Rattle.msc_chart.specs.Lists.{Occurs}
+use Rattle.msc_mark.specs.Accepting.{acceptance, accepts_race, is_stale, stale_events, Acceptance}
+use Rattle.msc_mark.specs.declared.mark.Mark.{Mark}
+use Rattle.msc_judge.specs.declared.marking.Marking.{Marking}
 use Rattle.msc_judge.specs.Findings.{answer_text, passes, Answers, AreChosen}
 use Rattle.msc_judge.specs.Pages.{Tells}
 use Rattle.msc_judge.specs.declared.page.WriteFault.{WriteFault}
@@ -29,8 +38,8 @@ use Rattle.msc_text.proofs.Plain.{counting_all, plain_text}
 use Rattle.msc_text.proofs.Told.{passes_told}
 use Rattle.msc_source.specs.Texts.{IsChartOf}
 use Rattle.msc_text.specs.Checking.{BeginsVerdict, Prints, ShowsRaces, WritesVerdict}
-use Rattle.msc_text.specs.Judging.{asked, texts_in, JudgesChart, Passes}
-use Rattle.msc_text.specs.Plain.{plain, plain_style}
+use Rattle.msc_text.specs.Judging.{asked, left_out, texts_in, IsMarking, JudgesChart, Passes}
+use Rattle.msc_text.specs.Plain.{no_kind, plain, plain_style}
 use Rattle.msc_text.specs.declared.judging.Format.{Format}
 use Rattle.msc_text.specs.declared.judging.Format.TheVariants.{Lines}
 
@@ -44,9 +53,26 @@ shows_races queues d runs (Races pairs) chosen said whole reverses e f there =
     let is_whole = whole queues d e (runs e) run in
     (is_whole.0, is_whole.1, reverses queues d e (runs e) run f race)
 
+-- where marks are not asked, a verdict passes where there is no race
+passes_plain : (e : EnforcedChart) (m : Marking) (lacks : ℕ → ℕ → Lack) → m.accepted ≡ None → m.stale.now ≡ []
+    → (nat_eq (length (counting e (left_out no_kind m) lacks)) 0 && nat_eq (length m.stale.now) 0) ≡ nat_eq (length (races_of e)) 0
+passes_plain e m lacks none no_stale =
+    ap₂ (λ (accepted : Option (Bor PairTable)) (stale : List ℕ). by_marks accepted && nat_eq (length stale) 0) none no_stale
+    ∙ and_yes (by_marks None)
+    ∙ ap (λ (l : List (ℕ × ℕ)). nat_eq (length l) 0) (counting_all e lacks)
+  where
+    -- whether no race counts, by what is accepted
+    by_marks : Option (Bor PairTable) → Bool
+    by_marks accepted = let left : LeftOut = record { kinds = no_kind; accepted = accepted } in nat_eq (length (counting e left lacks)) 0
+
+    -- what holds beside what holds
+    and_yes : (b : Bool) → (b && true) ≡ b
+    and_yes true = refl
+    and_yes false = refl
+
 module _ (text : List ℕ) (queues : Queues) (show : ℕ) (d : Drawing) (of_text : IsChartOf text d) (verdicts : EnforcedOrdersTellVerdicts) (whole : ChosenRunsAreWhole) (reverses : ChosenRunsReverseRaces) where
   -- what is printed of a text for a verdict is the verdict and its races
-  prints : (passed : Bool) (printed : List ℕ) → JudgesChart d queues (plain show) (Lines plain_style) passed printed → Prints text queues show passed printed
+  prints : (passed : Bool) (printed : List ℕ) → JudgesChart d queues (plain show) None (Lines plain_style) passed printed → Prints text queues show passed printed
   prints passed printed judged =
       let e = enforced_chart d queues judged.order in
       let told = verdicts queues d judged.accepted judged.order judged.by_order.enforced in
@@ -60,24 +86,25 @@ module _ (text : List ℕ) (queues : Queues) (show : ℕ) (d : Drawing) (of_text
         verdict = v;
         races = told.0;
         reversed = told.1;
-        answered = judged.answered ∙ ap (λ (l : List (ℕ × ℕ)). nat_eq (length l) 0) (counting_all e judged.tables.lacks) ∙ passes_told (races_of e) (length (races_of e)) refl;
+        answered = judged.answered ∙ passes_plain e judged.marking judged.tables.lacks judged.marked.0 judged.marked.1
+            ∙ passes_told (races_of e) (length (races_of e)) refl;
         shown = record {
           runs = judged.tables.runs;
           chosen = judged.are.runs;
           reverse = shows_races queues d judged.tables.runs v judged.are.runs told.0 whole reverses;
-          text = judged.text ∙ plain_text e 4294967295 show judged.tables (omega (arith, most, all, few));
+          text = judged.text ∙ plain_text e 4294967295 show judged.marking judged.tables judged.marked.0 judged.marked.1 (omega (arith, most, all, few));
         };
       }
 
   -- what was told is written
   pub writes_verdict : {W : Type 0} (contents : W → Option (List ℕ)) (passed : Bool) (old new : W)
-      → Tells contents (JudgesChart d queues (plain show) (Lines plain_style)) (Ok passed) old new
+      → Tells contents (JudgesChart d queues (plain show) None (Lines plain_style)) (Ok passed) old new
       → WritesVerdict text queues show passed (contents old) (contents new)
   writes_verdict contents passed old new (printed, judged, wrote) = (printed, prints passed printed judged, wrote)
 
   -- and where memory ran out a beginning of it, or nothing
   pub begins_verdict : {W : Type 0} (contents : W → Option (List ℕ)) (f : WriteFault) (old new : W)
-      → Tells contents (JudgesChart d queues (plain show) (Lines plain_style)) (Err f) old new → of_writing f ≡ Memory
+      → Tells contents (JudgesChart d queues (plain show) None (Lines plain_style)) (Err f) old new → of_writing f ≡ Memory
       → (new ≡ old) ⊎ BeginsVerdict text queues show (contents old) (contents new)
   begins_verdict contents writing.Memory old new (inl none) memory = inl none
   begins_verdict contents writing.Memory old new (inr (passed, printed, judged, begun)) memory =
@@ -85,40 +112,73 @@ module _ (text : List ℕ) (queues : Queues) (show : ℕ) (d : Drawing) (of_text
   begins_verdict contents writing.Device old new said memory = absurd cc
 
 -- what a renderer wrote of a chart is told of it
-told_at : {W : Type 0} (contents : W → Option (List ℕ)) (e : EnforcedChart) (q : Question) (format : Format) (r : Result Bool WriteFault) (old new : W)
-    → IsAccepted e.chart → IsEnforced e → Answers e (asked format q) (texts_in format e.chart) r (contents old) (contents new)
-    → Tells contents (JudgesChart e.chart e.queues q format) r old new
-told_at contents e q format (Ok passed) old new accepted is said = (
-  answer_text (texts_in format e.chart) e (asked format q) said.tables,
-  record { accepted = accepted; order = e.order; by_order = is; tables = said.tables; are = said.are; answered = said.passed; text = refl },
+told_at : {W : Type 0} (contents : W → Option (List ℕ)) (e : EnforcedChart) (q : Question) (marks : Option (List Mark)) (m : Marking) (format : Format) (r : Result Bool WriteFault) (old new : W)
+    → IsAccepted e.chart → IsEnforced e → IsMarking e marks m → Answers e (asked format q) m (texts_in format e.chart) r (contents old) (contents new)
+    → Tells contents (JudgesChart e.chart e.queues q marks format) r old new
+told_at contents e q marks m format (Ok passed) old new accepted is marked said = (
+  answer_text (texts_in format e.chart) e (asked format q) m said.tables,
+  record { accepted = accepted; order = e.order; by_order = is; marking = m; marked = marked; tables = said.tables; are = said.are; answered = said.passed; text = refl },
   said.written,
 )
-told_at contents e q format (Err writing.Memory) old new accepted is said = inr (
-  passes e (asked format q) said.tables.lacks,
-  answer_text (texts_in format e.chart) e (asked format q) said.tables,
-  record { accepted = accepted; order = e.order; by_order = is; tables = said.tables; are = said.are; answered = refl; text = refl },
+told_at contents e q marks m format (Err writing.Memory) old new accepted is marked said = inr (
+  passes e (asked format q) m said.tables.lacks,
+  answer_text (texts_in format e.chart) e (asked format q) m said.tables,
+  record { accepted = accepted; order = e.order; by_order = is; marking = m; marked = marked; tables = said.tables; are = said.are; answered = refl; text = refl },
   said.written,
 )
-told_at contents e q format (Err writing.Device) old new accepted is said = tt
+told_at contents e q marks m format (Err writing.Device) old new accepted is marked said = tt
 
 -- the same of the chart that was asked for
-pub told_chart : {W : Type 0} (contents : W → Option (List ℕ)) (e : EnforcedChart) (d : Drawing) (queues : Queues) (q : Question) (format : Format) (r : Result Bool WriteFault) (old new : W)
-    → e.chart ≡ d → e.queues ≡ queues → IsAccepted e.chart → IsEnforced e → Answers e (asked format q) (texts_in format e.chart) r (contents old) (contents new)
-    → Tells contents (JudgesChart d queues q format) r old new
-told_chart contents e d queues q format r old new chart_is queues_is accepted is said =
-    subst (λ (c : Drawing). Tells contents (JudgesChart c queues q format) r old new) chart_is
-    (subst (λ (a : Queues). Tells contents (JudgesChart e.chart a q format) r old new) queues_is
-    (told_at contents e q format r old new accepted is said))
+pub told_chart : {W : Type 0} (contents : W → Option (List ℕ)) (e : EnforcedChart) (d : Drawing) (queues : Queues) (q : Question) (marks : Option (List Mark)) (m : Marking) (format : Format) (r : Result Bool WriteFault) (old new : W)
+    → e.chart ≡ d → e.queues ≡ queues → IsAccepted e.chart → IsEnforced e → Answers e (asked format q) m (texts_in format e.chart) r (contents old) (contents new) → IsMarking e marks m
+    → Tells contents (JudgesChart d queues q marks format) r old new
+told_chart contents e d queues q marks m format r old new chart_is queues_is accepted is said marked =
+    subst (λ (c : Drawing). Tells contents (JudgesChart c queues q marks format) r old new) chart_is
+    (subst (λ (a : Queues). Tells contents (JudgesChart e.chart a q marks format) r old new) queues_is
+    (told_at contents e q marks m format r old new accepted is marked said))
+
+-- what marks accept of a chart, and which of them accept none, is what they say
+pub marking_of : (e : EnforcedChart) (marks : List Mark) (a : Acceptance) (d : Drawing) (queues : Queues) (pairs : Bor PairTable) (m : Marking)
+    → a.marks ≡ marks → a.chart ≡ d → a.queues ≡ queues → e.chart ≡ d → e.queues ≡ queues → m.accepted ≡ Some pairs
+    → ((p : ℕ × ℕ) → Occurs (races_of e) p → has_pair pairs.now p.0 p.1 ≡ accepts_race a p) → m.stale.now ≡ stale_events a (races_of e)
+    → IsMarking e (Some marks) m
+marking_of e marks a d queues pairs m marks_is chart_is queues_is its_chart its_queues accepted has stale =
+    let same : a ≡ acceptance marks e.chart e.queues =
+    ap (λ (l : List Mark). acceptance l a.chart a.queues) marks_is
+    ∙ ap (λ (x : Drawing). acceptance marks x a.queues) (chart_is ∙ sym its_chart)
+    ∙ ap (λ (q : Queues). acceptance marks e.chart q) (queues_is ∙ sym its_queues) in
+    (pairs, accepted, λ p there. has p there ∙ ap (λ x. accepts_race x p) same, stale ∙ ap (λ x. stale_events x (races_of e)) same)
+
+-- events whose marks accept no race are events of the chart
+pub stale_known : (a : Acceptance) (races : List (ℕ × ℕ)) → All (λ e. e < length a.chart.events) (stale_events a races)
+stale_known a races =
+    All-filter (is_stale a races) (λ e. e < length a.chart.events) (range_with_len 0 (length a.chart.events))
+    (All-from_get_or (λ e. e < length a.chart.events) (range_with_len 0 (length a.chart.events)) 0 (λ k within.
+    let long = length-range_with_len 0 (length a.chart.events) in
+    let less : k < length a.chart.events = omega (arith, within, long) in
+    let is = get_or-range_with_len 0 (length a.chart.events) k 0 less in
+    omega (arith, less, is)))
 
 -- whether no race of a chart counts, by its enforced order
-pub passes_by : (e : EnforcedChart) (d : Drawing) (queues : Queues) (allowed : KindSet) (r : Result Bool AllocError) → e.chart ≡ d → e.queues ≡ queues
-    → IsAccepted e.chart → IsEnforced e → IfOk r (λ none. none ≡ nat_eq (length (counting e allowed (lack_in e))) 0) → IfOk r (Passes d queues allowed)
-passes_by e d queues allowed (Err f) chart_is queues_is accepted is told = tt
-passes_by e d queues allowed (Ok none) chart_is queues_is accepted is told =
-    subst (λ (c : Drawing). Passes c queues allowed none) chart_is (subst (λ (a : Queues). Passes e.chart a allowed none) queues_is (record {
-      order = e.order;
-      by_order = is;
-      lacks = lack_in e;
-      are = all_lacks e is accepted;
-      answered = told;
-    }))
+pub passes_at : (e : EnforcedChart) (allowed : KindSet) (marks : Option (List Mark)) (m : Marking) (none : Bool)
+    → IsAccepted e.chart → IsEnforced e → IsMarking e marks m
+    → none ≡ (nat_eq (length (counting e (left_out allowed m) (lack_in e))) 0 && nat_eq (length m.stale.now) 0)
+    → Passes e.chart e.queues allowed marks none
+passes_at e allowed marks m none accepted is marked told = record {
+  order = e.order;
+  by_order = is;
+  marking = m;
+  marked = marked;
+  lacks = lack_in e;
+  are = all_lacks e is accepted;
+  answered = told;
+}
+
+-- the same of the chart that was asked for
+pub passes_by : (e : EnforcedChart) (d : Drawing) (queues : Queues) (allowed : KindSet) (marks : Option (List Mark)) (m : Marking) (none : Bool) → e.chart ≡ d → e.queues ≡ queues
+    → IsAccepted e.chart → IsEnforced e
+    → none ≡ (nat_eq (length (counting e (left_out allowed m) (lack_in e))) 0 && nat_eq (length m.stale.now) 0)
+    → IsMarking e marks m → Passes d queues allowed marks none
+passes_by e d queues allowed marks m none chart_is queues_is accepted is told marked =
+    subst (λ (c : Drawing). Passes c queues allowed marks none) chart_is
+    (subst (λ (a : Queues). Passes e.chart a allowed marks none) queues_is (passes_at e allowed marks m none accepted is marked told))

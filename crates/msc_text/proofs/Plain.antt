@@ -1,5 +1,6 @@
 -- What is asked for a verdict is printed as the verdict and its races.
-use Rattle.std.proofs.Common.{◌≡◌, zero, suc, ℕ, ◌+◌, ◌<◌, ◌≤◌, true, false, not, List, [], ◌∷◌, ◌++◌, None, Some, length, take, drop, refl, sym, ap, ap₂, ◌∙◌, append_assoc, arith}
+use Rattle.std.proofs.Common.{◌≡◌, zero, suc, ℕ, ◌+◌, ◌<◌, ◌≤◌, true, false, not, List, [], ◌∷◌, ◌++◌, Option, None, Some, length, take, drop, refl, sym, ap, ap₂, ◌∙◌, append_assoc, arith}
+use Rattle.std.specs.Borrow.{Bor}
 use Rattle.std.specs.List.{flat_map}
 use Rattle.std.proofs.lemmas.Bool.{and_from, le-ltb, lt-ltb}
 use Rattle.std.proofs.lemmas.List.{append-nil, take_all}
@@ -11,10 +12,15 @@ use Rattle.msc_race.specs.Wired.{EnforcedChart}
 use Rattle.msc_reason.proofs.Filtered.{filter_all}
 use Rattle.msc_reason.specs.Counting.{counting, counts, is_listed, listed}
 use Rattle.msc_reason.specs.Kinds.{has_kind}
+use Rattle.msc_reason.specs.LeftOut.{of_kinds}
+use Rattle.msc_reason.specs.PairTables.{PairTable}
+use Rattle.msc_reason.specs.declared.left_out.LeftOut.{LeftOut}
 use Rattle.msc_reason.specs.declared.lack.Lack.{Lack}
 use Rattle.msc_reason.specs.declared.lack.RaceKind.{RaceKind}
 use Rattle.msc_reason.specs.declared.lack.RaceKind.TheVariants.{Early, Queues as TwoQueues, Unordered, Overtaken}
-use Rattle.msc_judge.specs.Findings.{answer_text, findings_from, shown_text as finding_shown, Tables}
+use Rattle.msc_judge.specs.Findings.{answer_text, findings, findings_from, heading_of, run_of, shown_text as finding_shown, Tables, Texts}
+use Rattle.msc_judge.specs.declared.marking.Marking.{Marking}
+use Rattle.msc_judge.specs.declared.question.Question.{Question}
 use Rattle.msc_report.specs.Lines.{finding_text}
 use Rattle.msc_report.specs.Verdicts.{head_text, race_text, run_line}
 use Rattle.msc_text.proofs.Shown.{race_and_run}
@@ -25,7 +31,7 @@ use Rattle.msc_text.specs.Plain.{no_kind, plain_style}
 use Rattle.msc_text.specs.declared.judging.Format.TheVariants.{Lines}
 
 -- each race counts, where no kind is left out
-all_count : (lacks : ℕ → ℕ → Lack) (p : ℕ × ℕ) → counts no_kind lacks p ≡ true
+all_count : (lacks : ℕ → ℕ → Lack) (p : ℕ × ℕ) → counts (of_kinds no_kind) lacks p ≡ true
 all_count lacks p = by (lacks p.0 p.1).kind
   where
     -- no kind is one of none
@@ -36,12 +42,12 @@ all_count lacks p = by (lacks p.0 p.1).kind
     by Overtaken = refl
 
 -- so all races do
-pub counting_all : (e : EnforcedChart) (lacks : ℕ → ℕ → Lack) → counting e no_kind lacks ≡ races_of e
-counting_all e lacks = filter_all (counts no_kind lacks) (races_of e) (all_count lacks)
+pub counting_all : (e : EnforcedChart) (lacks : ℕ → ℕ → Lack) → counting e (of_kinds no_kind) lacks ≡ races_of e
+counting_all e lacks = filter_all (counts (of_kinds no_kind) lacks) (races_of e) (all_count lacks)
 
 -- and all are listed
-listed_all : (e : EnforcedChart) (lacks : ℕ → ℕ → Lack) → listed e no_kind false lacks ≡ races_of e
-listed_all e lacks = filter_all (is_listed e no_kind false lacks) (races_of e) (λ p. and_from (counts no_kind lacks p) _ (all_count lacks p) refl)
+listed_all : (e : EnforcedChart) (lacks : ℕ → ℕ → Lack) → listed e (of_kinds no_kind) false lacks ≡ races_of e
+listed_all e lacks = filter_all (is_listed e (of_kinds no_kind) false lacks) (races_of e) (λ p. and_from (counts (of_kinds no_kind) lacks p) _ (all_count lacks p) refl)
 
 -- there are as many findings
 found_all : (lacks : ℕ → ℕ → Lack) (n : ℕ) (pairs : List (ℕ × ℕ)) → length (findings_from false lacks n pairs) ≡ length pairs
@@ -51,7 +57,7 @@ found_all lacks n (p ∷ pairs) = ap suc (found_all lacks (n + 1) pairs)
 module _ (d : Drawing) (runs : ℕ → List ℕ) (show : ℕ) (lacks : ℕ → ℕ → Lack) where
   -- the text of these races as findings, numbered from here on
   abbrev found : ℕ → List (ℕ × ℕ) → List ℕ
-  found n pairs = flat_map (finding_shown (finding_text None d) (λ run. run_line (Some run)) show runs) (findings_from false lacks n pairs)
+  found n pairs = flat_map (finding_shown (finding_text None d) (λ run. run_line (Some run)) show (λ p. runs p.0)) (findings_from false lacks n pairs)
 
   -- past the first, without runs
   found_unshown : (n : ℕ) (pairs : List (ℕ × ℕ)) → show ≤ n → found n pairs ≡ unshown_text d pairs
@@ -68,16 +74,25 @@ module _ (d : Drawing) (runs : ℕ → List ℕ) (show : ℕ) (lacks : ℕ → �
       rw (lt-ltb n show less) (ap₂ (λ (s t : List ℕ). s ++ t) (race_and_run d p.0 p.1 (runs p.0)) (found_races (n + 1) k pairs (omega (arith, is)))
       ∙ sym (append_assoc (race_text d p.0 p.1 (Some (runs p.0))) (shown_text d runs (take k pairs)) (unshown_text d (drop k pairs))))
 
--- so what is asked for a verdict is printed as it
-pub plain_text : (e : EnforcedChart) (most show : ℕ) (t : Tables) → length (races_of e) ≤ most
-    → answer_text (texts_in (Lines plain_style) e.chart) e (record { closest = false; why = false; allowed = no_kind; most = most; show = show }) t
+-- an answer, by what marks accept and which accept none
+abbrev by_marks : Texts → EnforcedChart → Question → Option (Bor PairTable) → List ℕ → Tables → List ℕ
+by_marks r e q accepted stale t =
+    let left : LeftOut = record { kinds = q.allowed; accepted = accepted } in
+    r.heading (heading_of e q.closest left t.lacks)
+    ++ (flat_map (finding_shown r.finding r.run q.show (run_of q.short t)) (findings e q left t.lacks) ++ r.end stale)
+
+-- so what is asked for a verdict is printed as it, where marks are not asked
+pub plain_text : (e : EnforcedChart) (most show : ℕ) (m : Marking) (t : Tables) → m.accepted ≡ None → m.stale.now ≡ [] → length (races_of e) ≤ most
+    → answer_text (texts_in (Lines plain_style) e.chart) e (record { closest = false; why = false; allowed = no_kind; most = most; show = show; short = false }) m t
     ≡ checked_text e.chart e.queues t.runs show (verdict_of (races_of e))
-plain_text e most show t few =
+plain_text e most show m t none no_stale few =
+    let q : Question = record { closest = false; why = false; allowed = no_kind; most = most; show = show; short = false } in
     let listed_is = listed_all e t.lacks in
     let long = found_all t.lacks 0 (races_of e) in
     let first = ap (λ (l : List (ℕ × ℕ)). take most (findings_from false t.lacks 0 l)) listed_is
     ∙ take_all most (findings_from false t.lacks 0 (races_of e)) (omega (arith, few, long)) in
-    ap₂ (λ (s r : List ℕ). s ++ r) (append-nil (head_text e.chart e.queues (length (races_of e))))
-    (append-nil _ ∙ ap (flat_map (finding_shown (finding_text None e.chart) (λ run. run_line (Some run)) show t.runs)) first
+    ap₂ (λ (accepted : Option (Bor PairTable)) (stale : List ℕ). by_marks (texts_in (Lines plain_style) e.chart) e q accepted stale t) none no_stale
+    ∙ ap₂ (λ (s r : List ℕ). s ++ r) (append-nil (head_text e.chart e.queues (length (races_of e))))
+    (append-nil _ ∙ ap (flat_map (finding_shown (finding_text None e.chart) (λ run. run_line (Some run)) show (λ p. t.runs p.0))) first
     ∙ found_races e.chart t.runs show t.lacks 0 show (races_of e) (omega arith))
     ∙ checked_told e.chart e.queues t.runs show (races_of e) (length (races_of e)) _ refl refl

@@ -16,10 +16,10 @@ is_enforced (reasons.Enforced why) = true
 is_enforced (reasons.Free run lack late) = false
 
 -- What is printed of two events of a chart in a style, and whether the first is enforced before the
--- second: a reason that is right.
-pub record PrintsReason (d : Drawing) (queues : Queues) (e f : ℕ) (style : Style) (enforced : Bool) (printed : List ℕ) : Type 0 where
+-- second: a reason that is right, with a short run where that is wanted.
+pub record PrintsReason (d : Drawing) (queues : Queues) (e f : ℕ) (short : Bool) (style : Style) (enforced : Bool) (printed : List ℕ) : Type 0 where
   pub two : AreTwoEvents d e f
   pub reason : Reason
-  pub right : IsReason (wired queues d) e f reason
+  pub right : IsReason short (wired queues d) e f reason
   pub answered : IsTrue enforced ↔ Enforced (wired queues d) e f
   pub text : printed ≡ explained_text style d queues e f reason

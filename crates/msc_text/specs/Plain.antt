@@ -14,4 +14,4 @@ plain_style = record { sites = None; words = false }
 
 -- all races, so many of them with runs
 abbrev pub plain : ℕ → Question
-plain show = record { closest = false; why = false; allowed = no_kind; most = 4294967295; show = show }
+plain show = record { closest = false; why = false; allowed = no_kind; most = 4294967295; show = show; short = false }

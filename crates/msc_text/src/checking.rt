@@ -26,6 +26,7 @@ fn all_races(show: u32) -> Question
         allowed: KindSet::NONE,
         most: u32::MAX,
         show,
+        short: false,
     }
 }
 
@@ -71,6 +72,7 @@ pub fn check_text<W: Write>(
         source.chart(),
         queues,
         question,
+        None,
         plain_lines(),
         writer,
     )?)

@@ -24,12 +24,13 @@ fn reason_of(
     queues: Queues,
     e: Event,
     f: Event,
+    short: bool,
 ) -> Result<Reason, AllocError>
     requires { AreTwoEvents chart.now e f }
-    ensures { IfOk result (IsReason (wired queues chart.now) e f) }
+    ensures { IfOk result (IsReason short (wired queues chart.now) e f) }
 {
     let enforced = Enforced::of(alloc, chart, queues)?;
-    explain(alloc, &enforced, e, f)
+    explain(alloc, &enforced, e, f, short)
 }
 
 /// The text of a reason.
@@ -66,24 +67,26 @@ fn is_enforced(reason: &Reason) -> bool
 
 /// What is printed of two events of a chart under an architecture: why `e` comes before `f`, a
 /// chain of steps, each of which is a rule of the enforced order; or how it need not, a run that
-/// has `f` before `e`, with what the pair lacks where it is a race. Answers too whether `e` is
-/// enforced before `f`. An error is a growth of memory that was refused.
+/// has `f` and not `e` before it, a short one where that is wanted, with what the pair lacks where it
+/// is a race. Answers too whether `e` is enforced before `f`. An error is a growth of memory that was
+/// refused.
 pub fn explain_pair(
     alloc: Global,
     chart: &Chart,
     queues: Queues,
     e: Event,
     f: Event,
+    short: bool,
     style: Style<'_>,
 ) -> Result<(Page, bool), AllocError>
     requires { AreTwoEvents chart.now e f }
     ensures { IfOk result
-        (λ p. PrintsReason chart.now queues e f style.entry p.1 p.0.bytes.items) }
+        (λ p. PrintsReason chart.now queues e f short style.entry p.1 p.0.bytes.items) }
 {
     a_reason_names_events();
     a_why_is_enough();
     chart.accepted();
-    let reason = reason_of(alloc, chart, queues, e, f)?;
+    let reason = reason_of(alloc, chart, queues, e, f, short)?;
     let page = page_of(alloc, chart, queues, e, f, &reason, style)?;
     Ok((page, is_enforced(&reason)))
 }

@@ -55,6 +55,15 @@ const WORDS: &[(&str, &str)] = &[
     ),
     (
         "check",
+        "--short\n          Show a short run, which ends with the second event\n",
+    ),
+    (
+        "check",
+        "--accept\n          Leave out the races that marks of the text accept, and print the marks \
+         that accept none\n",
+    ),
+    (
+        "check",
         "--places\n          Print where events stand, and what is said of a fault\n",
     ),
     (

@@ -56,7 +56,7 @@ chosen_reverses_race chart e events chosen f race =
     chosen_reverses chart e events chosen f (facts.1, λ same. before_differs chart.events e f race.0 (sym same), race.1)
 
 -- there is one least number at most
-least_unique : (P : ℕ → Type 0) (x y : ℕ) → IsLeast P x → IsLeast P y → x ≡ y
+pub least_unique : (P : ℕ → Type 0) (x y : ℕ) → IsLeast P x → IsLeast P y → x ≡ y
 least_unique P x y h k =
     elim (cases_order x y) [
       | inl same ↦ same

@@ -15,7 +15,7 @@ abbrev IsDecided : (ℕ → Type 0) → Type 0
 IsDecided P = (x : ℕ) → P x ⊎ (P x → ⊥)
 
 -- there is a least number with a property that can be told, or no number below a bound has it
-least_below : (P : ℕ → Type 0) → IsDecided P → (n : ℕ)
+pub least_below : (P : ℕ → Type 0) → IsDecided P → (n : ℕ)
     → ((x : ℕ) × IsLeast P x) ⊎ ((x : ℕ) → x < n → P x → ⊥)
 least_below P told zero = inr (λ x below h. omega arith)
 least_below P told (suc n) =

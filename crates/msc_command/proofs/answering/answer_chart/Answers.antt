@@ -1,13 +1,12 @@
-use Rattle.std.proofs.Common.{[], refl}
-use Rattle.msc_command.proofs.Answered.{nothing_more, put_so}
+use Rattle.msc_command.proofs.Answered.{put_so, told_quietly}
 use Rattle.msc_command.specs.Answering.{PrintsOf, RefusesOf}
 use Rattle.msc_command.specs.declared.tasks.Ask.TheVariants as asks
 use Rattle.msc_command.proofs.answering.answer_chart.Goals as goal
 
-pub returns-in_ok-passes_chart-in-Quiet : goal.returns-in_ok-passes_chart-in-Quiet
-returns-in_ok-passes_chart-in-Quiet g c =
-    let passes = rw c.chart-chart.ensures at c.in_ok-passes_chart-in-Quiet.ensures in
-    rw c.in-Quiet.is ([], (c.in_ok-passes_chart-in-Quiet.field-0, c.ended_by.ensures, passes, refl), nothing_more _)
+pub returns-in-Quiet : goal.returns-in-Quiet
+returns-in-Quiet g c =
+    let q = c.in-Quiet in
+    rw q.is (told_quietly g.O.Write.contents q.queues q.allowed q.accept c.args.file.now c.args.source.now c.quiet.result c.args.output.now c.quiet.ensures)
 
 pub returns-in_ok-page-in-Run : goal.returns-in_ok-page-in-Run
 returns-in_ok-page-in-Run g c =

@@ -2,8 +2,8 @@ use Rattle.std.proofs.Common.{◌∙◌}
 use Rattle.msc_command.specs.Sited.{HasSites}
 use Rattle.msc_command.proofs.answering.check.Goals as goal
 
-pub returns-in_ok-sites-in-Lines : goal.returns-in_ok-sites-in-Lines
-returns-in_ok-sites-in-Lines g c =
+pub returns : goal.returns
+returns g c =
     let sites = c.in_ok-sites-in-Lines in
     let its : HasSites c.args.file.now c.args.source.now.text sites.sites = record {
       file_is = sites.ensures.file ∙ c.as_bytes-in-Lines.ensures.value;

@@ -22,6 +22,6 @@ pub returns-in-Err-clause-performed : goal.returns-in-Err-clause-performed
 returns-in-Err-clause-performed g c =
     let fault = Device c.in-Err.error in (
       Err (refusals.Fault (of_reading fault)),
-      c.end_unread.ensures,
-      unread g.O.Write.contents c.args.request.task c.args.request.file.now _ fault c.args.output.now,
+      c.end_unread_task.ensures.status,
+      unread g.O.Write.contents c.args.request.task c.args.request.file.now _ fault _ _ c.end_unread_task.ensures.told,
     )

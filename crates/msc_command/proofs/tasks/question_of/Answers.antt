@@ -7,4 +7,5 @@ returns c = record {
   allowed = c.allowed_of.ensures;
   most = c.number_of.ensures;
   show = c.number_of-2.ensures;
+  short = c.is_given-3.ensures;
 }

@@ -11,10 +11,7 @@ returns c =
     let run = rw c.in-Some.is at c.in_ok-run.ensures in
     rw c.from_vec.ensures record {
       free = λ before. run.apart (inr before);
-      chosen = run.chosen;
-      is_run = run.run;
-      whole = run.whole;
-      reverses = run.reverses;
+      shown = run;
       race = c.lack_if_race-lack.ensures;
       turned = c.in_ok-late.ensures;
     }

@@ -9,19 +9,19 @@ use Rattle.msc_reason.proofs.Counted.{counted_parts}
 use Rattle.msc_reason.proofs.Marking.{is_least_second}
 use Rattle.msc_reason.specs.Counting.{counting, is_alone}
 use Rattle.msc_reason.specs.Marked.{counted_from, is_counted, lack_in, AreOfOneEvent, IsMarked}
-use Rattle.msc_reason.specs.declared.kinds.KindSet.{KindSet}
+use Rattle.msc_reason.specs.declared.left_out.LeftOut.{LeftOut}
 use Rattle.msc_reason.proofs.selecting.push_alone.Goals as goal
 use Rattle.msc_reason.proofs.selecting.push_alone.Goals.{then-not-has_within+in_ok-push, else-not-has_within}
 
 -- each of these races is one of an event, and counts
-counted_at : (e : EnforcedChart) (allowed : KindSet) (x i : ℕ) (pairs : List (ℕ × ℕ)) → pairs ≡ counted_from e allowed x → i < length pairs
+counted_at : (e : EnforcedChart) (allowed : LeftOut) (x i : ℕ) (pairs : List (ℕ × ℕ)) → pairs ≡ counted_from e allowed x → i < length pairs
     → ((get_or pairs i (0, 0)).0 ≡ x) × (is_counted e allowed (get_or pairs i (0, 0)).0 (get_or pairs i (0, 0)).1 ≡ true)
 counted_at e allowed x i pairs are inside =
     let there : Occurs pairs (get_or pairs i (0, 0)) = (i, slice_get-get_or pairs i (0, 0) inside) in
     counted_parts e allowed x (get_or pairs i (0, 0)).0 (get_or pairs i (0, 0)).1 (subst (λ (l : List (ℕ × ℕ)). Occurs l (get_or pairs i (0, 0))) are there)
 
 -- so what the marks tell of one of them is asked for rightly
-asked_at : (e : EnforcedChart) (allowed : KindSet) (last least : List ℕ) (past low i : ℕ) (pairs : List (ℕ × ℕ))
+asked_at : (e : EnforcedChart) (allowed : LeftOut) (last least : List ℕ) (past low i : ℕ) (pairs : List (ℕ × ℕ))
     → AreOfOneEvent e allowed last least past pairs → All (λ p. low ≤ p.1) pairs
     → (low ≡ length e.chart.events) ⊎ ((x : ℕ) × Occurs pairs (x, low)) → i < length pairs
     → IsMarked e allowed last least low past (get_or pairs i (0, 0))

@@ -1,4 +1,4 @@
-use Rattle.std.proofs.Common.{◌≡◌, ℕ, List, refl}
+use Rattle.std.proofs.Common.{◌≡◌, ℕ, Bool, List, refl}
 use Rattle.msc_chart.specs.declared.queue.Queues.{Queues}
 use Rattle.msc_chart.specs.Drawings.{Drawing, IsAccepted}
 use Rattle.msc_chart.specs.Orders.{wired}
@@ -14,17 +14,17 @@ use Rattle.msc_text.specs.Explaining.{is_enforced, PrintsReason}
 use Rattle.msc_text.proofs.explaining.explain_pair.Goals as goal
 
 -- a reason that is right, and its text, are what is printed of a pair
-prints_reason : (queues : Queues) (d : Drawing) (e f : ℕ) (style : Style) (reason : Reason) (printed : List ℕ)
-    → IsAccepted d → AWhyIsEnough → AreTwoEvents d e f → IsReason (wired queues d) e f reason → printed ≡ explained_text style d queues e f reason
-    → PrintsReason d queues e f style (is_enforced reason) printed
-prints_reason queues d e f style (reasons.Enforced why) printed accepted enough two right text = record {
+prints_reason : (queues : Queues) (d : Drawing) (e f : ℕ) (short : Bool) (style : Style) (reason : Reason) (printed : List ℕ)
+    → IsAccepted d → AWhyIsEnough → AreTwoEvents d e f → IsReason short (wired queues d) e f reason → printed ≡ explained_text style d queues e f reason
+    → PrintsReason d queues e f short style (is_enforced reason) printed
+prints_reason queues d e f short style (reasons.Enforced why) printed accepted enough two right text = record {
   two = two;
   reason = reasons.Enforced why;
   right = right;
   answered = (λ yes. enough queues d accepted e f why right.0, λ enforced. refl);
   text = text;
 }
-prints_reason queues d e f style (reasons.Free run lack late) printed accepted enough two right text = record {
+prints_reason queues d e f short style (reasons.Free run lack late) printed accepted enough two right text = record {
   two = two;
   reason = reasons.Free run lack late;
   right = right;
@@ -36,18 +36,18 @@ pub page_of-requires-clause-named : goal.page_of-requires-clause-named
 page_of-requires-clause-named c =
     let two = c.requires in
     c.a_reason_names_events.ensures c.args.queues c.args.chart.now c.accepted.ensures c.args.e c.args.f two.first two.second
-    c.in_ok-reason.reason c.in_ok-reason.ensures
+    c.args.short c.in_ok-reason.reason c.in_ok-reason.ensures
 
 -- the run of a reason that is right has events of the chart alone
-names_run : (queues : Queues) (d : Drawing) (e f : ℕ) (reason : Reason) → IsReason (wired queues d) e f reason → NamesRun d reason
-names_run queues d e f (reasons.Enforced why) right = tt
-names_run queues d e f (reasons.Free run lack late) right = run_events (wired queues d) run right.is_run
+names_run : (queues : Queues) (d : Drawing) (e f : ℕ) (short : Bool) (reason : Reason) → IsReason short (wired queues d) e f reason → NamesRun d reason
+names_run queues d e f short (reasons.Enforced why) right = tt
+names_run queues d e f short (reasons.Free run lack late) right = run_events (wired queues d) run right.shown.run
 
 pub page_of-requires-clause-run : goal.page_of-requires-clause-run
 page_of-requires-clause-run c =
-    names_run c.args.queues c.args.chart.now c.args.e c.args.f c.in_ok-reason.reason c.in_ok-reason.ensures
+    names_run c.args.queues c.args.chart.now c.args.e c.args.f c.args.short c.in_ok-reason.reason c.in_ok-reason.ensures
 
 pub returns : goal.returns
 returns c =
-    rw c.is_enforced.ensures (prints_reason c.args.queues c.args.chart.now c.args.e c.args.f c.args.style c.in_ok-reason.reason _ c.accepted.ensures c.a_why_is_enough.ensures.enough
+    rw c.is_enforced.ensures (prints_reason c.args.queues c.args.chart.now c.args.e c.args.f c.args.short c.args.style c.in_ok-reason.reason _ c.accepted.ensures c.a_why_is_enough.ensures.enough
     c.requires c.in_ok-reason.ensures c.in_ok-page.ensures)

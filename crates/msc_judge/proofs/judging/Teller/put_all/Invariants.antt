@@ -4,7 +4,7 @@ use Rattle.msc_race.specs.Walks.{HasReached}
 use Rattle.msc_reason.proofs.Sums.{kept_below}
 use Rattle.msc_reason.specs.Counting.{is_listed}
 use Rattle.msc_reason.specs.Marked.{lack_in}
-use Rattle.msc_judge.specs.Findings.{texts, AreChosen}
+use Rattle.msc_judge.specs.Findings.{texts, AreShown}
 use Rattle.msc_judge.specs.Pages.{Pages}
 use Rattle.msc_judge.specs.Telling.{race_text, told_from}
 use Rattle.msc_judge.proofs.judging.Teller.put_all.Given as goal
@@ -18,7 +18,7 @@ invariant-loop-e g l =
     record {
       reached : HasReached s.judged.chart.events l.e l.stream.walk;
       number : l.number ≡ length below;
-      put : (runs : ℕ → List ℕ) → AreChosen (wiring_of s.judged) runs
+      put : (runs : ℕ × ℕ → List ℕ) → AreShown l.self.question.short (wiring_of s.judged) runs
           → Pages (g.W.Write.contents l.fn.writer) (g.W.Write.contents l.writer) l.fn.page.bytes.items l.page.bytes.items
           (told_from (race_text (texts r.heading_text r.run_text r.finding_text r.end_text l.self.renderer.now s.judged.chart)
           s.judged l.self.question runs) l.self.question.most 0 below);

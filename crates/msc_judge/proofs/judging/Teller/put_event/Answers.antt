@@ -5,7 +5,8 @@ use Rattle.msc_race.specs.Views.{wiring_of}
 use Rattle.msc_race.proofs.Listing.Raced.{first_at, race_at}
 use Rattle.msc_judge.proofs.Putting.{begins_none, fails_within, pages_in, pages_then, stops_within}
 use Rattle.msc_judge.proofs.Telling.{told_behind}
-use Rattle.msc_judge.specs.Findings.{texts, AreChosen}
+use Rattle.msc_judge.specs.Findings.{texts}
+use Rattle.msc_chart.specs.Chosen.{IsChosenRun}
 use Rattle.msc_judge.specs.Pages.{Pages}
 use Rattle.msc_judge.specs.Telling.{race_text, told_from}
 use Rattle.msc_judge.proofs.judging.Teller.put_event.Goals as goal
@@ -14,19 +15,19 @@ use Rattle.msc_judge.proofs.judging.Teller.put_event.Goals as goal
 pub before_at : (n next i : ℕ) (xs : List (ℕ × ℕ)) → next ≡ n + i → i ≤ length xs → next ≡ n + length (take i xs)
 before_at n next i xs is inside = let few = length-take i xs in omega (arith, is, inside, few)
 
-pub put_race-requires-clause-race : goal.put_race-requires-clause-race
-put_race-requires-clause-race g c =
+pub put_next-requires-clause-race : goal.put_next-requires-clause-race
+put_next-requires-clause-race g c =
     race_at c.args.self.now.listing.now.judged c.args.races.now c.loop-race.race-index (omega (arith, c.loop-race-test.true)) c.requires.races
 
-pub put_race-requires-clause-line : goal.put_race-requires-clause-line
-put_race-requires-clause-line g c low runs are =
+pub put_next-requires-clause-line : goal.put_next-requires-clause-line
+put_next-requires-clause-line g c low whole run chosen =
     let i : ℕ = c.loop-race.race-index in
     let within : i < length c.args.races.now = omega (arith, c.loop-race-test.true) in
     let next = c.loop-race.invariant.next in
-    let wanted = c.wants_run-wanted.ensures (omega (arith, low, next)) (omega (arith, within)) in
+    let wanted = c.wants_run-wanted.ensures (omega (arith, low, next)) whole (omega (arith, within)) in
     let e = c.args.self.now.listing.now.judged in
-    let text = λ (x : ℕ). g.R.Renderer.run_text c.args.self.now.renderer.now e.chart (runs x) in
-    c.as_slice.ensures.value ∙ c.in_ok-line.ensures wanted runs are ∙ ap text (sym (first_at c.args.e c.args.races.now i within c.requires.first))
+    let first = first_at c.args.e c.args.races.now i within c.requires.first in
+    c.as_slice.ensures.value ∙ c.in_ok-line.ensures wanted run (subst (λ (x : ℕ). IsChosenRun (wiring_of e) x run) first chosen)
 
 pub returns-in_err-turn : goal.returns-in_err-turn
 returns-in_err-turn g c runs are =
@@ -45,9 +46,9 @@ returns-in_err-turn g c runs are =
     ∙ ap (λ (t : List ℕ). t ++ rest) (sym (append-nil first)) in
     rw (exit.1, exit.2) (fails_within (Unit {0}) (Unit {0}) _ _ _ _ _ _ c.turn.new.self.bytes.items _ first [] rest _ whole (c.loop-race.invariant.put runs are) c.in_err-turn.ensures.put)
 
-pub returns-in_err-put_race : goal.returns-in_err-put_race
-returns-in_err-put_race g c runs are =
-    let exit = err_from_is_err_and c.from_residual-in_err-put_race.result c.from_residual-in_err-put_race.ensures.1 in
+pub returns-in_err-put_next : goal.returns-in_err-put_next
+returns-in_err-put_next g c runs are =
+    let exit = err_from_is_err_and c.from_residual-in_err-put_next.result c.from_residual-in_err-put_next.ensures.1 in
     let r = g.R.Renderer in
     let e = c.args.self.now.listing.now.judged in
     let q = c.args.self.now.question in
@@ -84,7 +85,7 @@ loop-race-preserved g c =
           ∙ told_behind text q.most c.args.number c.loop-race.next (take i races) (here ∷ []) next in
           subst (Pages _ _ _ _) (sym both)
           (pages_then _ _ _ _ _ _ first now (c.loop-race.invariant.put runs are)
-          (pages_then _ _ _ _ _ _ [] now c.in_ok-turn.ensures.put (pages_in _ _ _ now (c.in_ok-put_race.ensures runs are))));
+          (pages_then _ _ _ _ _ _ [] now c.in_ok-turn.ensures.put (pages_in _ _ _ now (c.in_ok-put_next.ensures runs are))));
     }
 
 pub returns : goal.returns

@@ -10,11 +10,11 @@ use Rattle.msc_reason.proofs.Counted.{counted_drawn, counted_parts}
 use Rattle.msc_reason.proofs.Marking.{end_more, is_least_second}
 use Rattle.msc_reason.specs.Marked.{counted_from, is_counted}
 use Rattle.msc_race.specs.Wired.{EnforcedChart}
-use Rattle.msc_reason.specs.declared.kinds.KindSet.{KindSet}
+use Rattle.msc_reason.specs.declared.left_out.LeftOut.{LeftOut}
 use Rattle.msc_reason.proofs.marks.Marks.of.Goals as goal
 
 -- the second events of an event's races are events
-seconds_known : (e : EnforcedChart) (allowed : KindSet) (x n : ℕ) (pairs : List (ℕ × ℕ)) → pairs ≡ counted_from e allowed x → n ≡ length e.chart.events
+seconds_known : (e : EnforcedChart) (allowed : LeftOut) (x n : ℕ) (pairs : List (ℕ × ℕ)) → pairs ≡ counted_from e allowed x → n ≡ length e.chart.events
     → All (λ p. p.1 < n) pairs
 seconds_known e allowed x n pairs are same = All-from_get_or (λ p. p.1 < n) pairs (0, 0) (λ k inside.
     let there : Occurs pairs (get_or pairs k (0, 0)) = (k, slice_get-get_or pairs k (0, 0) inside) in

@@ -1,0 +1,92 @@
+-- What a refusal is told as on the output, in the form of lines for editors.
+use Rattle.std.specs.Prelude.{◌≡◌, ◌⊎◌, ℕ, ◌++◌, Bool, true, false, List, Option, None, Some, Result, Ok, Err}
+use Rattle.std.specs.Io.KnownBytes.{Appends}
+use Rattle.msc_mark.specs.declared.fault.MarkFault.{MarkFault}
+use Rattle.msc_mark.specs.declared.fault.MarkFault.TheVariants as marks
+use Rattle.msc_notes.specs.Faults.{parse_place, IsChartPlace}
+use Rattle.msc_notes.specs.Texts.{error_text, IsFaultPosition}
+use Rattle.msc_parser.specs.Grammar.{Tree}
+use Rattle.msc_parser.specs.Parsing.{HasDraft, HasParseFault}
+use Rattle.msc_place.specs.declared.position.Position.{Position}
+use Rattle.msc_report.specs.declared.fault.Fault.{Fault}
+use Rattle.msc_report.specs.declared.fault.Fault.TheVariants.{Parse, Chart, NotStarted, Memory, Device}
+use Rattle.msc_command.specs.Ending.{refusal_line}
+use Rattle.msc_command.specs.declared.ending.Refusal.{Refusal}
+use Rattle.msc_command.specs.declared.ending.Refusal.TheVariants as refusals
+use Rattle.msc_command.specs.declared.tasks.Ask.TheVariants.{Check}
+use Rattle.msc_command.specs.declared.tasks.Form.{Form}
+use Rattle.msc_command.specs.declared.tasks.Form.TheVariants as forms
+use Rattle.msc_command.specs.declared.tasks.Task.{Task}
+use Rattle.msc_command.specs.declared.tasks.Task.TheVariants as tasks
+
+-- the place of a faulty comment
+abbrev pub mark_place : MarkFault → Option ℕ
+mark_place (marks.Part at) = Some at
+mark_place (marks.Reason at) = Some at
+mark_place marks.Memory = None
+
+-- this is the place of a refusal of the text, or it has none
+abbrev pub IsPlaceOf : List ℕ → Refusal → Option ℕ → Type 0
+IsPlaceOf text (refusals.Fault (Parse f)) place = HasParseFault text f → place ≡ parse_place f
+IsPlaceOf text (refusals.Fault (Chart f)) place = (t : Tree) → HasDraft text t → IsChartPlace text t f place
+IsPlaceOf text (refusals.Mark f) place = place ≡ mark_place f
+IsPlaceOf text refusal place = place ≡ None
+
+-- The lines of a refusal of the text of a file: the first is its fixed line behind the position of its
+-- place; notes and further faults follow.
+pub record IsRefusalText (file text : List ℕ) (refusal : Refusal) (printed : List ℕ) : Type 0 where
+  pub place : Option ℕ
+  pub its : IsPlaceOf text refusal place
+  pub position : Position
+  pub stands : IsFaultPosition text place position
+  pub more : List ℕ
+  pub printed_is : printed ≡ error_text file position ++ (refusal_line refusal ++ more)
+
+-- what the output gets of a refusal in a form: its lines where these are for editors, else nothing
+abbrev pub TellsIn : {W : Type 0} → (W → Option (List ℕ)) → Form → List ℕ → List ℕ → Refusal → W → W → Type 0
+TellsIn contents forms.Lines file text refusal old new =
+    (printed : List ℕ) × IsRefusalText file text refusal printed × Appends (contents old) (contents new) printed
+TellsIn contents form file text refusal old new = new ≡ old
+
+-- the form of a task's answer
+abbrev pub form_of : Task → Form
+form_of (tasks.Chart (Check c)) = c.form
+form_of task = forms.Text
+
+-- what the output gets of a refusal of a task
+abbrev pub TellsRefusal : {W : Type 0} → (W → Option (List ℕ)) → Task → List ℕ → List ℕ → Refusal → W → W → Type 0
+TellsRefusal contents task file text refusal old new = TellsIn contents (form_of task) file text refusal old new
+
+-- of a file that could not be read the output gets nothing, but in lines for editors as much of them as
+-- it took
+abbrev pub TellsUnreadIn : {W : Type 0} → Form → W → W → Type 0
+TellsUnreadIn forms.Lines old new = Unit {0}
+TellsUnreadIn form old new = new ≡ old
+
+abbrev pub TellsUnread : {W : Type 0} → Task → W → W → Type 0
+TellsUnread task old new = TellsUnreadIn (form_of task) old new
+
+-- memory ran out, or a device failed: nothing is refused
+abbrev pub is_spent : Refusal → Bool
+is_spent (refusals.Fault Memory) = true
+is_spent (refusals.Fault Device) = true
+is_spent refusal = false
+
+-- what telling it answers: it was told, or memory ran out before that, or the output failed
+abbrev pub IsToldIn : {W : Type 0} → (W → Option (List ℕ)) → Form → List ℕ → List ℕ → Refusal → Result (Unit {0}) Refusal → W → W → Type 0
+IsToldIn contents form file text refusal (Ok u) old new = TellsIn contents form file text refusal old new
+IsToldIn contents form file text refusal (Err other) old new =
+    ((other ≡ refusals.Fault Memory) × (new ≡ old)) ⊎ (other ≡ refusals.Fault Device)
+
+-- A refusal was told in a form, or memory ran out before that or the output failed, which is answered
+-- then.
+abbrev pub TellsOr : {W : Type 0} → (W → Option (List ℕ)) → Form → List ℕ → List ℕ → Refusal → Refusal → W → W → Type 0
+TellsOr contents form file text refusal told old new =
+    ((told ≡ refusal) × TellsIn contents form file text refusal old new)
+    ⊎ (((told ≡ refusals.Fault Memory) × (new ≡ old)) ⊎ (told ≡ refusals.Fault Device))
+
+-- what is answered where a task is refused: where nothing is, it is left as that
+abbrev pub TellsThat : {W : Type 0} → (W → Option (List ℕ)) → Form → List ℕ → List ℕ → Refusal → Refusal → W → W → Type 0
+TellsThat contents form file text refusal told old new =
+    ((is_spent refusal ≡ true) × (told ≡ refusal) × (new ≡ old))
+    ⊎ ((is_spent refusal ≡ false) × TellsOr contents form file text refusal told old new)

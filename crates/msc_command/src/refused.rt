@@ -1,0 +1,201 @@
+//! A refusal as lines for editors, on the output: its fixed line at its place, each note at its own,
+//! and the further faults in the same way.
+
+ghost use Rattle.std.specs.Prelude.{◌≡◌, ℕ, List, [], Option, ◌++◌, IfOk, OnOk};
+ghost use Rattle.msc_command.specs.Ending.{refusal_line};
+ghost use Rattle.msc_command.specs.Extending.{BeginsSo, Extends};
+ghost use Rattle.msc_command.specs.Refused.{mark_place, IsRefusalText};
+ghost use Rattle.msc_parser.specs.Parsing.{HasDraft};
+
+use crate::ending::{Refusal, write_refusal};
+use msc_chart::ChartFault;
+use msc_judge::Page;
+use msc_mark::MarkFault;
+use msc_notes::writing::{write_error, write_note_line};
+use msc_notes::{Note, Told, ToldFault, tell_chart, tell_further, tell_parse};
+use msc_parser::laws::one_parsing;
+use msc_parser::{Draft, ParseFault, parse};
+use msc_place::{Lines, Places};
+use msc_report::Fault;
+use std::alloc::{AllocError, Global};
+
+/// Puts a refusal behind a page: its line behind the position of this place, if it has one.
+fn put_error(
+    page: &mut Page,
+    file: &str,
+    lines: &Lines<'_>,
+    place: Option<usize>,
+    refusal: Refusal,
+) -> Result<(), AllocError>
+    ensures { OnOk result (BeginsSo file.now lines.now place (refusal_line refusal)
+        page.old.bytes.items page.new.bytes.items) }
+{
+    if write_error(page, file.as_bytes(), lines, place).is_err() {
+        return Err(AllocError);
+    }
+    match write_refusal(page, refusal) {
+        Ok(()) => Ok(()),
+        Err(_) => Err(AllocError),
+    }
+}
+
+/// Puts a note of a fault at this place behind a page.
+fn put_note(
+    page: &mut Page,
+    file: &str,
+    lines: &Lines<'_>,
+    note: &Note,
+    place: Option<usize>,
+) -> Result<(), AllocError>
+    ensures { OnOk result (Extends page.old.bytes.items page.new.bytes.items) }
+{
+    match write_note_line(page, file.as_bytes(), lines, note, place) {
+        Ok(()) => Ok(()),
+        Err(_) => Err(AllocError),
+    }
+}
+
+/// Puts what was told of a fault behind a page, beside its line: its notes.
+fn put_notes(page: &mut Page, file: &str, lines: &Lines<'_>, told: &Told) -> Result<(), AllocError>
+    ensures { OnOk result (Extends page.old.bytes.items page.new.bytes.items) }
+{
+    for note in told.notes.as_slice() {
+        put_note(page, file, lines, note, told.place)?;
+    }
+    Ok(())
+}
+
+/// Puts a refusal behind a page, with what was told of it.
+fn put_told(
+    page: &mut Page,
+    file: &str,
+    lines: &Lines<'_>,
+    told: &Told,
+    refusal: Refusal,
+) -> Result<(), AllocError>
+    ensures { OnOk result ((more : List ℕ) × BeginsSo file.now lines.now told.now.place
+        (refusal_line refusal ++ more) page.old.bytes.items page.new.bytes.items) }
+{
+    put_error(page, file, lines, told.place, refusal)?;
+    put_notes(page, file, lines, told)
+}
+
+/// Puts further faults behind a page, each with what was told of it.
+fn put_further(
+    page: &mut Page,
+    file: &str,
+    lines: &Lines<'_>,
+    further: &[ToldFault],
+) -> Result<(), AllocError>
+    ensures { OnOk result (Extends page.old.bytes.items page.new.bytes.items) }
+{
+    for other in further {
+        let refusal = Refusal::Fault(Fault::Chart(other.fault));
+        put_told(page, file, lines, &other.told, refusal)?;
+    }
+    Ok(())
+}
+
+/// The lines of the first fault of a text.
+fn parse_lines(
+    alloc: Global,
+    file: &str,
+    text: &[u8],
+    fault: ParseFault,
+) -> Result<Page, AllocError>
+    ensures { IfOk result (λ page. IsRefusalText file.now text.now
+        (Refusal.Fault (Fault.Parse fault)) page.bytes.items) }
+{
+    let lines = Lines::of(alloc, text)?;
+    let told = tell_parse(alloc, text, fault)?;
+    let mut page = Page::new(alloc);
+    let refusal = Refusal::Fault(Fault::Parse(fault));
+    put_told(&mut page, file, &lines, &told, refusal)?;
+    Ok(page)
+}
+
+/// The line of a refusal that stands at this place, if it has one.
+fn bare_lines(
+    alloc: Global,
+    file: &str,
+    text: &[u8],
+    place: Option<usize>,
+    refusal: Refusal,
+) -> Result<Page, AllocError>
+    ensures { IfOk result (λ page. BeginsSo file.now text.now place (refusal_line refusal)
+        [] page.bytes.items) }
+{
+    let lines = Lines::of(alloc, text)?;
+    let mut page = Page::new(alloc);
+    put_error(&mut page, file, &lines, place, refusal)?;
+    Ok(page)
+}
+
+/// The lines of a fault of a text's draft, and of the further ones.
+fn draft_lines(
+    alloc: Global,
+    file: &str,
+    text: &[u8],
+    draft: &Draft,
+    fault: ChartFault,
+) -> Result<Page, AllocError>
+    requires { HasDraft text.now draft.now }
+    ensures { IfOk result (λ page. IsRefusalText file.now text.now
+        (Refusal.Fault (Fault.Chart fault)) page.bytes.items) }
+{
+    one_parsing();
+    let lines = Lines::of(alloc, text)?;
+    let places = Places::of(alloc, text)?;
+    let told = tell_chart(alloc, draft, &places, fault)?;
+    let mut page = Page::new(alloc);
+    let refusal = Refusal::Fault(Fault::Chart(fault));
+    put_told(&mut page, file, &lines, &told, refusal)?;
+    let further = tell_further(alloc, draft, &places, fault)?;
+    put_further(&mut page, file, &lines, further.first.as_slice())?;
+    Ok(page)
+}
+
+/// The lines of the first fault of a text's draft, and of the further ones. A text that has such a
+/// fault has a draft: it is only memory that can run out where it is read again.
+fn chart_lines(
+    alloc: Global,
+    file: &str,
+    text: &[u8],
+    fault: ChartFault,
+) -> Result<Page, AllocError>
+    ensures { IfOk result (λ page. IsRefusalText file.now text.now
+        (Refusal.Fault (Fault.Chart fault)) page.bytes.items) }
+{
+    let Ok(draft) = parse(alloc, text) else {
+        return Err(AllocError);
+    };
+    draft_lines(alloc, file, text, &draft, fault)
+}
+
+/// The place of a faulty comment.
+pub(crate) fn mark_place(fault: MarkFault) -> Option<usize>
+    ensures { result ≡ mark_place fault }
+{
+    match fault {
+        MarkFault::Part(at) | MarkFault::Reason(at) => Some(at),
+        MarkFault::Memory => None,
+    }
+}
+
+/// The lines of a refusal of the text of a file of this name. An error is a growth of memory that
+/// was refused.
+pub(crate) fn refusal_lines(
+    alloc: Global,
+    file: &str,
+    text: &[u8],
+    refusal: Refusal,
+) -> Result<Page, AllocError>
+    ensures { IfOk result (λ page. IsRefusalText file.now text.now refusal page.bytes.items) }
+{
+    match refusal {
+        Refusal::Fault(Fault::Parse(fault)) => parse_lines(alloc, file, text, fault),
+        Refusal::Fault(Fault::Chart(fault)) => chart_lines(alloc, file, text, fault),
+        Refusal::Mark(fault) => bare_lines(alloc, file, text, mark_place(fault), refusal),
+        _ => bare_lines(alloc, file, text, None, refusal),
+    }
+}

@@ -1,0 +1,28 @@
+-- Fewer races count where some are accepted.
+use Rattle.std.proofs.Common.{◌≡◌, ◌+◌, ◌≤◌, ℕ, Bool, true, false, ◌&&◌, not, List, [], ◌∷◌, cond, length, refl, arith}
+use Rattle.std.specs.List.{filter}
+use Rattle.msc_race.specs.Views.{races_of}
+use Rattle.msc_race.specs.Wired.{EnforcedChart}
+use Rattle.msc_reason.specs.Counting.{counting, counts}
+use Rattle.msc_reason.specs.Kinds.{has_kind}
+use Rattle.msc_reason.specs.LeftOut.{is_accepted, of_kinds}
+use Rattle.msc_reason.specs.declared.lack.Lack.{Lack}
+use Rattle.msc_reason.specs.declared.left_out.LeftOut.{LeftOut}
+
+-- what is kept of more is no more
+one_fewer : (a b : Bool) (x : ℕ × ℕ) (xs ys : List (ℕ × ℕ)) → length xs ≤ length ys
+    → length (cond (a && b) (x ∷ xs) xs) ≤ length (cond b (x ∷ ys) ys)
+one_fewer true true x xs ys less = omega (arith, less)
+one_fewer true false x xs ys less = less
+one_fewer false true x xs ys less = omega (arith, less)
+one_fewer false false x xs ys less = less
+
+pub fewer_count : (e : EnforcedChart) (left : LeftOut) (lacks : ℕ → ℕ → Lack)
+    → length (counting e left lacks) ≤ length (counting e (of_kinds left.kinds) lacks)
+fewer_count e left lacks = by (races_of e)
+  where
+    -- of these races
+    by : (pairs : List (ℕ × ℕ)) → length (filter (counts left lacks) pairs) ≤ length (filter (counts (of_kinds left.kinds) lacks) pairs)
+    by [] = omega arith
+    by (p ∷ pairs) =
+        one_fewer (not (is_accepted left p)) (not (has_kind left.kinds (lacks p.0 p.1).kind)) p (filter (counts left lacks) pairs) (filter (counts (of_kinds left.kinds) lacks) pairs) (by pairs)

@@ -1,0 +1,10 @@
+-- Short runs: what they show, and how they are made.
+pub mod Pigeons
+pub mod SameSteps
+pub mod ShortRuns
+pub mod PlaceLemmas
+pub mod TurnLemmas
+pub mod ShortSteps
+pub mod NextShort
+pub mod ShortExists
+pub mod Showing
