@@ -11,3 +11,4 @@ pub mod Passing
 pub mod Whole
 pub mod Lines
 pub mod Reversing
+pub mod Enforcing

@@ -4,10 +4,10 @@ use Rattle.msc_chart.specs.declared.queue.Queues.{Queues}
 use Rattle.msc_chart.specs.Lists.{occurs, until}
 use Rattle.msc_chart.specs.Charts.{before, is_output, partner, Visual}
 use Rattle.msc_chart.specs.Drawings.{Drawing, IsAccepted}
-use Rattle.msc_chart.specs.Orders.{WiredChart, wired}
+use Rattle.msc_chart.specs.Orders.{WiredChart, wired, Enforced}
 use Rattle.msc_chart.specs.Runs.{Run, IsWhole, KeepsDrawnOrder, Reverses}
 use Rattle.msc_race.specs.Laws.{HasNoRace}
-use Rattle.msc_ready.specs.Readiness.{all_ready, ReadyRun, KeepsReadyLines, HasStuck, ReadyOrder}
+use Rattle.msc_ready.specs.Readiness.{all_ready, none_ready, ReadyRun, KeepsReadyLines, HasStuck, ReadyOrder}
 use Rattle.msc_ready.specs.Sticks.{IsStick, IsFirstStick, HasNoStick, IsRaceLeft}
 use Rattle.msc_ready.specs.Finishing.{MayFinish, HasNoWholeRing}
 
@@ -30,6 +30,12 @@ abbrev pub AllReadyIsVisual : Type 0
 AllReadyIsVisual =
     (queues : Queues) (d : Drawing) → IsAccepted d → (x y : ℕ)
     → ReadyOrder (wired queues d) all_ready x y ↔ Visual d.events x y
+
+-- with no instance ready it is the enforced order
+abbrev pub NoneReadyIsEnforced : Type 0
+NoneReadyIsEnforced =
+    (queues : Queues) (d : Drawing) (x y : ℕ)
+    → ReadyOrder (wired queues d) none_ready x y ↔ Enforced (wired queues d) x y
 
 -- what stands before an event of a ready run in the ready order occurs in it earlier
 abbrev pub ReadyRunsKeepTheReadyOrder : Type 0

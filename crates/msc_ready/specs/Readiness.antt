@@ -10,6 +10,10 @@ use Rattle.msc_chart.specs.Runs.{MayCome, IsWhole}
 abbrev pub all_ready : ℕ → Bool
 all_ready i = true
 
+-- no instance is ready
+abbrev pub none_ready : ℕ → Bool
+none_ready i = false
+
 -- After these events e may come next while these lines are ready: it may come, and an input of a
 -- ready line has all that is drawn before it behind it.
 pub record MayComeReady (chart : WiredChart) (ready : ℕ → Bool) (past : List ℕ) (e : ℕ) : Type 0 where

@@ -7,7 +7,7 @@ ghost use Rattle.msc_ready.specs.Laws.{EachFirstStickIsMet, NeverSticks, SomeSti
 ghost use Rattle.msc_ready.specs.Laws.{APassNeverSticks, AllReadyRunsKeepTheDrawnOrder};
 ghost use Rattle.msc_ready.specs.Laws.{ReadyRunsKeepReadyLines, ReadyRunsKeepTheReadyOrder};
 ghost use Rattle.msc_ready.specs.Laws.{MoreReadyEndNoSticking, OutputsAreInVisualOrder, SomeRunIsWhole};
-ghost use Rattle.msc_ready.specs.Laws.{RacesLeftAreReversed};
+ghost use Rattle.msc_ready.specs.Laws.{NoneReadyIsEnforced, RacesLeftAreReversed};
 
 use msc_chart::laws::{ends_share_queues, inputs_share_lines};
 
@@ -17,6 +17,11 @@ pub fn all_ready_is_visual()
 {
     ends_share_queues();
 }
+
+/// With no instance ready the ready order is the enforced order.
+pub fn none_ready_is_enforced()
+    ensures { NoneReadyIsEnforced }
+{}
 
 /// What stands before an event of a ready run in the ready order occurs in it, earlier.
 pub fn ready_runs_keep_the_ready_order()
