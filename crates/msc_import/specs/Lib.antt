@@ -1,0 +1,3 @@
+-- what is promised
+pub mod Expectations
+pub mod Lines

@@ -1,0 +1,88 @@
+//! Why a text is no diagram that can be taken, and why no chart is drawn of it.
+
+ghost use Rattle.std.specs.Prelude.{◌≡◌, Some};
+ghost use Rattle.msc_import.specs.declared.fault.ImportFault.TheVariants.{Memory};
+ghost use Rattle.msc_import.specs.Expectations.{expectation};
+
+use std::alloc::{AllocError, AllocFailed};
+use std::fmt;
+use thiserror::Error;
+
+/// What the language wanted at the line of a fault.
+#[derive(Clone, Copy, Debug, PartialEq, Eq)]
+pub enum Expectation {
+    /// The end of what stands in front of a Mermaid diagram.
+    Front,
+    /// The end of a directive.
+    Directive,
+    /// The end of a description.
+    Description,
+    /// Nothing behind such an end.
+    LineEnd,
+    /// The word that a Mermaid diagram begins with.
+    Diagram,
+    /// A statement.
+    Statement,
+    /// A name.
+    Name,
+    /// The label of an arrow.
+    Label,
+}
+
+impl Expectation {
+    /// What was expected, in words.
+    fn words(self) -> &'static str
+        ensures { result.now ≡ expectation self }
+    {
+        match self {
+            Expectation::Front => "---",
+            Expectation::Directive => "}%%",
+            Expectation::Description => "}",
+            Expectation::LineEnd => "the end of the line",
+            Expectation::Diagram => "sequenceDiagram",
+            Expectation::Statement => "a statement",
+            Expectation::Name => "a name",
+            Expectation::Label => "a label",
+        }
+    }
+}
+
+/// Shows what was expected in the words of a printed fault.
+impl fmt::Display for Expectation {
+    ghost output = { λ e. Some (expectation e) };
+
+    fn fmt<W: fmt::Write>(&self, f: &mut fmt::Formatter<W>) -> fmt::Result {
+        f.write_str(self.words())
+    }
+}
+
+/// The first fault of a text, or why a scenario has no chart. Each line is one of the text, from 1.
+/// The messages are the words of the printed lines, without number and line.
+#[derive(Clone, Copy, Debug, PartialEq, Eq, Error)]
+pub enum ImportFault {
+    /// The text is too long. Comes before all others.
+    #[error("text longer than 1048576 bytes")]
+    TooLong,
+    /// Something else was expected on this line than what stands there.
+    #[error("expected {1}")]
+    Expected(usize, Expectation),
+    /// A growth of memory was refused.
+    #[error("memory fault")]
+    Memory,
+}
+
+impl From<AllocError> for ImportFault {
+    ghost from_gives = { λ _ e. e ≡ Memory };
+
+    fn from(_e: AllocError) -> ImportFault {
+        ImportFault::Memory
+    }
+}
+
+impl<T: Drop> From<AllocFailed<T>> for ImportFault {
+    ghost from_gives = { λ _ e. e ≡ Memory };
+
+    fn from(_e: AllocFailed<T>) -> ImportFault {
+        ImportFault::Memory
+    }
+}
