@@ -1,3 +1,4 @@
 -- what is promised
 pub mod Expectations
 pub mod Lines
+pub mod Keys

@@ -7,6 +7,8 @@
 #![tactic(auto)]
 
 mod fault;
+mod key;
 mod lines;
 
 pub use fault::{Expectation, ImportFault};
+pub use key::Head;
