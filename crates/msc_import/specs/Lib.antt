@@ -2,3 +2,5 @@
 pub mod Expectations
 pub mod Lines
 pub mod Keys
+pub mod Seeking
+pub mod Rows

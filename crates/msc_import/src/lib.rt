@@ -9,6 +9,9 @@
 mod fault;
 mod key;
 mod lines;
+mod row;
+mod seeking;
 
 pub use fault::{Expectation, ImportFault};
 pub use key::Head;
+pub use row::Kind;

@@ -17,10 +17,13 @@ loop-i-preserved c =
       | else-byte-eq10+then-byte-eq10-2+in_ok-push w ↦
           let more : map (λ x. x.now) w.push.new.self.items ≡ lines ++ part text l.start l.i ∷ [] = ap (map (λ x. x.now)) w.in_ok-push.ensures.items ∙ map-append (λ x. x.now) l.lines.items _ in
           let ends : (get_or text l.i 0 ≡ 13) ⊎ ((get_or text l.i 0 ≡ 10) × (l.cr ≡ false)) = elim w.then-byte-eq10-2.branch [
-            | then-byte-eq10-2-via-then-byte-eq10-2 lf ↦ inr (lf.if-byte-eq10-2.true, elim w.else-byte-eq10.branch [
-              | else-byte-eq10-via-then-byte-eq10+else-cr other ↦ other.if-cr.false
-              | else-byte-eq10-via-else-byte-eq10 other ↦ absurd (other.if-byte-eq10.false lf.if-byte-eq10-2.true)
-            ])
+            | then-byte-eq10-2-via-then-byte-eq10-2 lf ↦ inr (
+              lf.if-byte-eq10-2.true,
+              elim w.else-byte-eq10.branch [
+                | else-byte-eq10-via-then-byte-eq10+else-cr other ↦ other.if-cr.false
+                | else-byte-eq10-via-else-byte-eq10 other ↦ absurd (other.if-byte-eq10.false lf.if-byte-eq10-2.true)
+              ],
+            )
             | then-byte-eq10-2-via-else-byte-eq10-2+then-byte-eq13 return ↦ inl return.if-byte-eq13.true
           ] in
           rw (w.lines-is, w.start-is) (rw more (cut_end text lines l.start l.cr l.i l.invariant inside ends))
