@@ -1,5 +1,5 @@
 -- The key words, marks and arrows of Mermaid's sequence diagrams, and how they are spelled.
-use Rattle.std.specs.Prelude.{ℕ, Bool, ◌&&◌, nat_le, List, [], ◌∷◌, length, take, map, codes, Option, find}
+use Rattle.std.specs.Prelude.{ℕ, Bool, true, false, ◌&&◌, nat_le, List, [], ◌∷◌, length, take, map, codes, Option, find}
 use Rattle.std.specs.Char.{to_ascii_lowercase}
 use Rattle.std.specs.Str.{bytes_eq}
 use Rattle.msc_import.specs.declared.key.Key.{Key}
@@ -83,6 +83,18 @@ head_text heads.Point = codes "-)"
 abbrev pub all_heads : List Head
 all_heads =
     heads.DottedBoth ∷ heads.Both ∷ heads.DottedFilled ∷ heads.Filled ∷ heads.DottedPlain ∷ heads.Plain ∷ heads.DottedCross ∷ heads.Cross ∷ heads.DottedPoint ∷ heads.Point ∷ []
+
+-- it has a head on both sides
+abbrev pub is_double : Head → Bool
+is_double heads.DottedBoth = true
+is_double heads.Both = true
+is_double h = false
+
+-- it ends in a cross
+abbrev pub is_crossed : Head → Bool
+is_crossed heads.DottedCross = true
+is_crossed heads.Cross = true
+is_crossed h = false
 
 -- the bytes are these, where capital and small letters count as the same
 abbrev pub are_spelled : List ℕ → List ℕ → Bool

@@ -4,3 +4,5 @@ pub mod Lines
 pub mod Keys
 pub mod Seeking
 pub mod Rows
+pub mod Gives
+pub mod Saying

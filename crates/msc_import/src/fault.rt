@@ -4,6 +4,7 @@ ghost use Rattle.std.specs.Prelude.{◌≡◌, Some};
 ghost use Rattle.msc_import.specs.declared.fault.ImportFault.TheVariants.{Memory};
 ghost use Rattle.msc_import.specs.Expectations.{expectation};
 
+use crate::key::Head;
 use std::alloc::{AllocError, AllocFailed};
 use std::fmt;
 use thiserror::Error;
@@ -66,6 +67,12 @@ pub enum ImportFault {
     /// Something else was expected on this line than what stands there.
     #[error("expected {1}")]
     Expected(usize, Expectation),
+    /// An arrow on this line that isn't taken.
+    #[error("{1} is not supported")]
+    Unsupported(usize, Head),
+    /// The cross of an arrow on this line is lost or arrives: the text doesn't say which.
+    #[error("say --cross lost or --cross arrives")]
+    Cross(usize),
     /// A growth of memory was refused.
     #[error("memory fault")]
     Memory,

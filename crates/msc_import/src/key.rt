@@ -1,9 +1,12 @@
 //! The key words, marks and arrows of Mermaid's sequence diagrams. Capital and small letters count
 //! as the same in all of them.
 
-ghost use Rattle.std.specs.Prelude.{◌≡◌, ◌≤◌, IsTrue, length, find};
+ghost use Rattle.std.specs.Prelude.{◌≡◌, ◌≤◌, Some, IsTrue, length, find};
 ghost use Rattle.msc_import.specs.Keys.{all_heads, all_keys, are_spelled, begin_so};
-ghost use Rattle.msc_import.specs.Keys.{head_of, head_text, key_of, mark_text, spelling};
+ghost use Rattle.msc_import.specs.Keys.{head_of, head_text, is_crossed, is_double, key_of};
+ghost use Rattle.msc_import.specs.Keys.{mark_text, spelling};
+
+use std::fmt;
 
 /// A word that a statement may begin with.
 #[derive(Clone, Copy)]
@@ -84,6 +87,15 @@ pub enum Head {
     DottedPoint,
     /// A line with an open head.
     Point,
+}
+
+/// Shows the arrow as it is written.
+impl fmt::Display for Head {
+    ghost output = { λ h. Some (head_text h) };
+
+    fn fmt<W: fmt::Write>(&self, f: &mut fmt::Formatter<W>) -> fmt::Result {
+        f.write_str(self.text())
+    }
 }
 
 /// Whether the bytes are this text.
@@ -280,6 +292,20 @@ impl Head {
             Head::DottedPoint => "--)",
             Head::Point => "-)",
         }
+    }
+
+    /// Whether it has a head on both sides.
+    pub(crate) fn is_double(self) -> bool
+        ensures { result ≡ is_double self }
+    {
+        matches!(self, Head::DottedBoth | Head::Both)
+    }
+
+    /// Whether it ends in a cross.
+    pub(crate) fn is_crossed(self) -> bool
+        ensures { result ≡ is_crossed self }
+    {
+        matches!(self, Head::DottedCross | Head::Cross)
     }
 
     /// The first of these arrows that the bytes begin with.

@@ -10,8 +10,11 @@ mod fault;
 mod key;
 mod lines;
 mod row;
+mod saying;
 mod seeking;
+mod statement;
 
 pub use fault::{Expectation, ImportFault};
 pub use key::Head;
 pub use row::Kind;
+pub use statement::{Arrow, Cross, Placed, Statement};

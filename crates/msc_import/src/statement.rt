@@ -1,0 +1,47 @@
+//! What statements say, the same for all languages.
+
+use crate::row::Kind;
+use listed::Listed;
+
+/// An arrow: one message, from a line to a line, each by its identifier. The label is what stands
+/// behind the arrow, any bytes.
+#[derive(Drop)]
+pub struct Arrow {
+    pub from: Listed<u8>,
+    pub to: Listed<u8>,
+    pub label: Listed<u8>,
+    /// Nobody takes the message.
+    pub lost: bool,
+}
+
+/// What one statement says.
+#[derive(Drop)]
+pub enum Statement {
+    /// A line, by its identifier and its shown name, if it has one.
+    Declares(Listed<u8>, Option<Listed<u8>>),
+    /// An arrow.
+    Says(Arrow),
+    /// A block begins.
+    Begins(Kind),
+    /// A branch of a block begins.
+    Branches(Kind),
+    /// A block ends.
+    Ends,
+}
+
+/// A statement and where it begins: its line and its column, both from 1.
+#[derive(Drop)]
+pub struct Placed {
+    pub line: usize,
+    pub column: usize,
+    pub statement: Statement,
+}
+
+/// What an arrow with a cross is.
+#[derive(Clone, Copy, Debug, PartialEq, Eq)]
+pub enum Cross {
+    /// Nobody takes its message.
+    Lost,
+    /// Its message arrives.
+    Arrives,
+}
