@@ -1,7 +1,7 @@
 //! The key words, marks and arrows of Mermaid's sequence diagrams. Capital and small letters count
 //! as the same in all of them.
 
-ghost use Rattle.std.specs.Prelude.{◌≡◌, ◌≤◌, Some, IsTrue, length, find};
+ghost use Rattle.std.specs.Prelude.{◌≡◌, ◌≤◌, Some, IfSome, IsTrue, length, find};
 ghost use Rattle.msc_import.specs.Keys.{all_heads, all_keys, are_spelled, begin_so};
 ghost use Rattle.msc_import.specs.Keys.{head_of, head_text, is_crossed, is_double, key_of};
 ghost use Rattle.msc_import.specs.Keys.{mark_text, spelling};
@@ -107,7 +107,8 @@ fn are_spelled(bytes: &[u8], text: &[u8]) -> bool
 
 /// Whether the bytes begin with this text.
 fn begin_so(bytes: &[u8], text: &[u8]) -> bool
-    ensures { result ≡ begin_so bytes.now text.now }
+    ensures value { result ≡ begin_so bytes.now text.now }
+    ensures room { IsTrue result → length text.now ≤ length bytes.now }
 {
     text.len() <= bytes.len() && are_spelled(&bytes[..text.len()], text)
 }
@@ -310,7 +311,8 @@ impl Head {
 
     /// The first of these arrows that the bytes begin with.
     fn among(bytes: &[u8], heads: &[Head]) -> Option<Head>
-        ensures { result ≡ find (λ h. begin_so bytes.now (head_text h)) heads.now }
+        ensures value { result ≡ find (λ h. begin_so bytes.now (head_text h)) heads.now }
+        ensures room { IfSome result (λ h. length (head_text h) ≤ length bytes.now) }
     {
         for head in heads {
             if begin_so(bytes, head.text().as_bytes()) {
@@ -320,9 +322,17 @@ impl Head {
         None
     }
 
+    /// How many bytes it has.
+    pub(crate) fn length(self) -> usize
+        ensures { result ≡ length (head_text self) }
+    {
+        self.text().len()
+    }
+
     /// The arrow that the bytes begin with.
     pub(crate) fn of(bytes: &[u8]) -> Option<Head>
-        ensures { result ≡ head_of bytes.now }
+        ensures value { result ≡ head_of bytes.now }
+        ensures room { IfSome result (λ h. length (head_text h) ≤ length bytes.now) }
     {
         Head::among(bytes, &Head::ALL)
     }

@@ -4,15 +4,15 @@ ghost use Rattle.std.specs.Prelude.{◌≡◌, IfOk};
 ghost use Rattle.std.specs.List.{list_any, prefix_len, suffix_len};
 ghost use Rattle.msc_lexer.specs.Bytes.{begins};
 ghost use Rattle.msc_import.specs.Gives.{Gives};
-ghost use Rattle.msc_import.specs.Saying.{at_colon, behind_sign, behind_wrap};
+ghost use Rattle.msc_import.specs.Saying.{arrow_by, arrow_of, at_colon, behind_sign, behind_wrap};
 ghost use Rattle.msc_import.specs.Saying.{declared, dies, holds, is_barred, is_dash, is_name, is_sign};
 ghost use Rattle.msc_import.specs.Saying.{line_of, lost_at, name_at, no_second, plain_ident};
-ghost use Rattle.msc_import.specs.Saying.{shown_behind};
+ghost use Rattle.msc_import.specs.Saying.{said_as, said_at, shown_behind};
 
 use crate::fault::{Expectation, ImportFault};
 use crate::key::{Head, Mark};
 use crate::lines::{behind_blanks, trimmed};
-
+use crate::row::{Meaning, meaning_of};
 use crate::seeking::Sought;
 use crate::statement::{Arrow, Cross, Statement};
 use listed::Listed;
@@ -27,6 +27,14 @@ pub(crate) enum Said {
     Dies(Listed<u8>),
     /// A statement.
     Statement(Statement),
+}
+
+/// What the statements before one leave for it: what crosses are, and which lines end with the next
+/// arrow.
+#[derive(Clone, Copy)]
+pub(crate) struct Mode<'m> {
+    pub cross: Option<Cross>,
+    pub dying: &'m [Listed<u8>],
 }
 
 /// These bytes, in memory of their own.
@@ -225,4 +233,95 @@ fn lost_at(
         Some(Cross::Lost) => Ok(true),
         Some(Cross::Arrives) => Ok(false),
     }
+}
+
+/// The arrow of these parts: what stands before its head, and what stands behind.
+#[tactic(auto, unfolding(crate::specs::Saying::arrow_by))]
+fn arrow_by(
+    alloc: Global,
+    mode: Mode,
+    line: usize,
+    head: Head,
+    front: &[u8],
+    rest: &[u8],
+) -> Result<Arrow, ImportFault>
+    ensures { Gives (λ x. x) result
+        (arrow_by mode.entry.cross mode.entry.dying.now line head front.now rest.now) }
+{
+    if head.is_double() {
+        return Err(ImportFault::Unsupported(line, head));
+    }
+    let from = name_at(line, front)?;
+    let behind = no_second(line, behind_blanks(rest))?;
+    let parts = at_colon(line, behind_sign(behind))?;
+    let to = name_at(line, parts.0)?;
+    let lost = lost_at(mode.cross, mode.dying, line, head, from, to)?;
+    Ok(Arrow {
+        from: owned(alloc, from)?,
+        to: owned(alloc, to)?,
+        label: owned(alloc, behind_wrap(parts.1))?,
+        lost,
+    })
+}
+
+/// The arrow of a statement.
+#[tactic(auto, unfolding(crate::specs::Saying::arrow_of))]
+fn arrow_of(alloc: Global, mode: Mode, line: usize, bytes: &[u8]) -> Result<Arrow, ImportFault>
+    ensures { Gives (λ x. x) result (arrow_of mode.entry.cross mode.entry.dying.now line bytes.now) }
+{
+    let at = Sought::Arrow.before(bytes);
+    match Head::of(&bytes[at..]) {
+        None => Err(ImportFault::Expected(line, Expectation::Statement)),
+        Some(head) => arrow_by(
+            alloc,
+            mode,
+            line,
+            head,
+            &bytes[..at],
+            &bytes[at + head.length()..],
+        ),
+    }
+}
+
+/// What a statement says that has this meaning, with what stands behind its pattern.
+#[tactic(auto, unfolding(crate::specs::Saying::said_as))]
+fn said_as(
+    alloc: Global,
+    mode: Mode,
+    line: usize,
+    bytes: &[u8],
+    meaning: Meaning,
+    rest: &[u8],
+) -> Result<Said, ImportFault>
+    ensures { Gives (λ x. x) result
+        (said_as mode.entry.cross mode.entry.dying.now line bytes.now meaning rest.now) }
+{
+    match meaning {
+        Meaning::Nothing => Ok(Said::Nothing),
+        Meaning::Refused => Err(ImportFault::Expected(line, Expectation::Statement)),
+        Meaning::Declaration => Ok(Said::Statement(declared(alloc, line, rest)?)),
+        Meaning::Destruction => Ok(Said::Dies(owned(alloc, name_at(line, rest)?)?)),
+        Meaning::Begin(kind) => Ok(Said::Statement(Statement::Begins(kind))),
+        Meaning::Branch(kind) => Ok(Said::Statement(Statement::Branches(kind))),
+        Meaning::End => Ok(Said::Statement(Statement::Ends)),
+        Meaning::Activation => {
+            name_at(line, rest)?;
+            Ok(Said::Nothing)
+        }
+        Meaning::Arrow => Ok(Said::Statement(Statement::Says(arrow_of(alloc, mode, line, bytes)?))),
+    }
+}
+
+/// What a statement says, behind some that say which lines end.
+#[tactic(auto, unfolding(crate::specs::Saying::said_at))]
+pub(crate) fn said_at(
+    alloc: Global,
+    mode: Mode,
+    line: usize,
+    bytes: &[u8],
+) -> Result<Said, ImportFault>
+    ensures { Gives (λ x. x) result (said_at mode.entry.cross mode.entry.dying.now line bytes.now) }
+{
+    let (meaning, rest) = meaning_of(bytes);
+    said_as(alloc, mode, line, bytes, meaning, rest)
 }
