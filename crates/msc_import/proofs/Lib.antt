@@ -1,3 +1,4 @@
 pub mod LineLemmas
 pub mod Found
 pub mod RowLemmas
+pub mod ReadingLemmas

@@ -6,3 +6,4 @@ pub mod Seeking
 pub mod Rows
 pub mod Gives
 pub mod Saying
+pub mod Reading

@@ -9,6 +9,7 @@
 mod fault;
 mod key;
 mod lines;
+mod reading;
 mod row;
 mod saying;
 mod seeking;

@@ -16,7 +16,7 @@ pub(crate) fn is_blank(byte: u8) -> bool
 }
 
 /// How many blanks stand in front.
-fn blanks_in_front(bytes: &[u8]) -> usize
+pub(crate) fn blanks_in_front(bytes: &[u8]) -> usize
     ensures length { result ≡ prefix_len is_blank bytes.now }
     ensures within { result ≤ length bytes.now }
 {

@@ -112,7 +112,7 @@ fn is_word_byte(byte: u8) -> bool
 }
 
 /// How many bytes the word at the front has.
-fn word_length(bytes: &[u8]) -> usize
+pub(crate) fn word_length(bytes: &[u8]) -> usize
     ensures length { result ≡ prefix_len is_run_byte bytes.now }
     ensures within { result ≤ length bytes.now }
 {
@@ -534,7 +534,7 @@ fn first_word(bytes: &[u8]) -> &[u8]
 }
 
 /// What stands behind it.
-fn behind_first_word(bytes: &[u8]) -> &[u8]
+pub(crate) fn behind_first_word(bytes: &[u8]) -> &[u8]
     ensures { result.now ≡ behind_first_word bytes.now }
 {
     &bytes[word_length(bytes)..]
