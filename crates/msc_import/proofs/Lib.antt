@@ -2,3 +2,4 @@ pub mod LineLemmas
 pub mod Found
 pub mod RowLemmas
 pub mod ReadingLemmas
+pub mod MermaidLemmas

@@ -7,3 +7,4 @@ pub mod Rows
 pub mod Gives
 pub mod Saying
 pub mod Reading
+pub mod Mermaid

@@ -1,7 +1,7 @@
 //! The key words, marks and arrows of Mermaid's sequence diagrams. Capital and small letters count
 //! as the same in all of them.
 
-ghost use Rattle.std.specs.Prelude.{◌≡◌, ◌≤◌, Some, IfSome, IsTrue, length, find};
+ghost use Rattle.std.specs.Prelude.{◌≡◌, ◌≤◌, Some, IfSome, IsTrue, length, drop, find};
 ghost use Rattle.msc_import.specs.Keys.{all_heads, all_keys, are_spelled, begin_so};
 ghost use Rattle.msc_import.specs.Keys.{head_of, head_text, is_crossed, is_double, key_of};
 ghost use Rattle.msc_import.specs.Keys.{mark_text, spelling};
@@ -259,6 +259,17 @@ impl Mark {
         ensures { result ≡ length (mark_text self) }
     {
         self.text().len()
+    }
+
+    /// What stands behind as many bytes as it has.
+    pub(crate) fn behind(self, bytes: &[u8]) -> &[u8]
+        ensures { result.now ≡ drop (length (mark_text self)) bytes.now }
+    {
+        let length = self.length();
+        if length > bytes.len() {
+            return &[];
+        }
+        &bytes[length..]
     }
 }
 

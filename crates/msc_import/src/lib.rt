@@ -9,6 +9,7 @@
 mod fault;
 mod key;
 mod lines;
+mod mermaid;
 mod reading;
 mod row;
 mod saying;

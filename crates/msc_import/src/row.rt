@@ -131,7 +131,7 @@ fn digits(bytes: &[u8]) -> usize
 }
 
 /// Whether a byte of a word stands at the front.
-fn begins_word(bytes: &[u8]) -> bool
+pub(crate) fn begins_word(bytes: &[u8]) -> bool
     ensures { result ≡ begins is_run_byte bytes.now }
 {
     match bytes {
@@ -520,7 +520,7 @@ fn first_fit<'t>(rows: &[Row], bytes: &'t [u8]) -> (Meaning, &'t [u8])
 }
 
 /// Whether the statement says nothing: there is none, or a comment.
-fn says_nothing(bytes: &[u8]) -> bool
+pub(crate) fn says_nothing(bytes: &[u8]) -> bool
     ensures { result ≡ says_nothing bytes.now }
 {
     bytes.is_empty() || Mark::Comment.begins(bytes)

@@ -73,7 +73,7 @@ fn dashes_at_end(bytes: &[u8]) -> usize
 }
 
 /// Whether this stands in the bytes.
-fn holds(bytes: &[u8], sought: Sought) -> bool
+pub(crate) fn holds(bytes: &[u8], sought: Sought) -> bool
     ensures { result ≡ holds bytes.now sought }
 {
     sought.before(bytes) < bytes.len()

@@ -14,8 +14,7 @@ pub loop-i-preserved : goal.loop-i-preserved
 loop-i-preserved c =
     let l = c.loop-i in let line = c.args.line.now in
     let one = sym (ap (bare_step l.within _) (take_rest line (l.i + 1))) ∙ sym c.in-Some.ensures in
-    let rest = bare_from c.in-Some.next (drop (l.i + 1) line) in
-    (
+    let rest = bare_from c.in-Some.next (drop (l.i + 1) line) in (
       ap (λ x. x ++ rest) c.in_ok-push.ensures.items ∙ append_assoc l.bare.items (c.in-Some.byte ∷ []) rest ∙ ap (λ x. l.bare.items ++ x) (sym (bare_more l.within line l.i (Some (c.in-Some.byte, c.in-Some.next)) c.loop-i-test.true one)) ∙ l.invariant.0,
       omega (arith, c.in_ok-push.ensures.len, l.invariant.1, c.push.new.self.ok.0, l.bare.ok.0),
     )

@@ -28,8 +28,7 @@ pub loop-piece-preserved : goal.loop-piece-preserved
 loop-piece-preserved c =
     let l = c.loop-piece in
     let more = next_room (λ x. x.now) c.args.pieces.now l.piece-index (record { ref_ptr = (0, 0); now = [] }) c.loop-piece-test.true in
-    let column = c.column_behind-column.ensures ∙ ap (λ n. column_behind (take (l.at + n) c.args.bytes.now)) c.blanks_in_front.ensures.length in
-    (
+    let column = c.column_behind-column.ensures ∙ ap (λ n. column_behind (take (l.at + n) c.args.bytes.now)) c.blanks_in_front.ensures.length in (
       omega (arith, l.invariant.0, more),
       sym (reads_next (λ x. x.now) c.args.pieces.now l.piece-index _ c.loop-piece-test.true c.args.cross c.args.line c.args.bytes.now l.at l.self _ _ column c.trimmed.ensures c.read_one.new.self c.in_ok-read_one.ensures) ∙ l.invariant.1,
     )
