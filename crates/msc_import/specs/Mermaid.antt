@@ -124,7 +124,7 @@ ended_in last p inside.Description = Err (Expected last wanted.Description)
 
 -- nothing was read
 abbrev pub unread : Progress
-unread = record { inside = inside.Nothing; begun = false; reader = record { dying = []; said = [] } }
+unread = record { inside = inside.Nothing; begun = false; reader = record { dying = []; arrows = 0; said = [] } }
 
 -- the statements of these lines
 unfoldable pub said_in : Option Cross → List (List ℕ) → Result (List Placed) ImportFault

@@ -44,21 +44,24 @@ abbrev pub is_arrow : Statement → Bool
 is_arrow (Declares ident shown) = false
 is_arrow (Says arrow) = true
 is_arrow (Begins kind) = false
-is_arrow (Branches kind) = false
+is_arrow (Branches joint) = false
 is_arrow Ends = false
 
--- what was read so far: the lines that end with the next arrow, and the statements
+-- what was read so far: the lines that end with the next arrow, how many arrows, and the statements
 pub record Read : Type 0 where
   pub dying : List (List ℕ)
+  pub arrows : ℕ
   pub said : List Placed
 
 -- one statement more
 abbrev pub noted : Read → ℕ → ℕ → Said → Read
 noted r line column said.Nothing = r
-noted r line column (said.Dies name) = record { dying = r.dying ++ name ∷ []; said = r.said }
+noted r line column (said.Dies name) =
+    record { dying = r.dying ++ name ∷ []; arrows = r.arrows; said = r.said }
 noted r line column (said.Statement s) = record {
   dying = cond (is_arrow s) [] r.dying;
-  said = r.said ++ record { line = line; column = column; statement = s } ∷ [];
+  arrows = cond (is_arrow s) (r.arrows + 1) r.arrows;
+  said = r.said ++ record { line = line; column = column; arrows = r.arrows; statement = s } ∷ [];
 }
 
 -- one statement, which begins in this column

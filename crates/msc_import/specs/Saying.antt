@@ -136,7 +136,7 @@ said_as cross dying line bytes says.Destruction rest = do
   name ← name_at line rest
   Ok (said.Dies name)
 said_as cross dying line bytes (says.Begin kind) rest = Ok (said.Statement (Begins kind))
-said_as cross dying line bytes (says.Branch kind) rest = Ok (said.Statement (Branches kind))
+said_as cross dying line bytes (says.Branch joint) rest = Ok (said.Statement (Branches joint))
 said_as cross dying line bytes says.End rest = Ok (said.Statement Ends)
 said_as cross dying line bytes says.Activation rest = do
   name ← name_at line rest

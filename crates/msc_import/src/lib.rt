@@ -18,5 +18,5 @@ mod statement;
 
 pub use fault::{Expectation, ImportFault};
 pub use key::Head;
-pub use row::Kind;
+pub use row::{Joint, Kind};
 pub use statement::{Arrow, Cross, Placed, Statement};

@@ -82,28 +82,36 @@ fn is_arrow(statement: &Statement) -> bool
     matches!(statement, Statement::Says(_))
 }
 
-/// What was read so far: the lines that end with the next arrow, and the statements.
+/// What was read so far: the lines that end with the next arrow, how many arrows, and the
+/// statements.
 #[derive(Drop)]
 pub(crate) struct Reader {
     dying: Vec<Listed<u8>>,
+    arrows: usize,
     said: Vec<Placed>,
 }
 
 impl Model for Reader {
+    ghost use Rattle.std.specs.Prelude.{◌≤◌, length};
     ghost use Rattle.msc_import.specs.Reading.{Read};
 
     ghost Value = { Read };
 
-    ghost view = { λ r. record { dying = r.dying.items; said = r.said.items } };
+    ghost view = { λ r.
+        record { dying = r.dying.items; arrows = r.arrows; said = r.said.items } };
+
+    // Each arrow is a statement.
+    ghost invariant = { λ r. r.arrows ≤ length r.said.items };
 }
 
 impl Reader {
     /// Nothing was read.
     pub(crate) fn new(alloc: Global) -> Self
-        ensures { result ≡ record { dying = []; said = [] } }
+        ensures { result ≡ record { dying = []; arrows = 0; said = [] } }
     {
         Reader {
             dying: Vec::new(alloc),
+            arrows: 0,
             said: Vec::new(alloc),
         }
     }
@@ -112,7 +120,11 @@ impl Reader {
     pub(crate) fn into_statements(self) -> Listed<Placed>
         ensures { result ≡ self.said }
     {
-        let Reader { dying, said } = self;
+        let Reader {
+            dying,
+            arrows: _,
+            said,
+        } = self;
         drop(dying);
         Listed::from_vec(said)
     }
@@ -128,14 +140,17 @@ impl Reader {
                 Ok(())
             }
             Said::Statement(statement) => {
-                if is_arrow(&statement) {
-                    self.dying.clear();
-                }
+                let arrow = is_arrow(&statement);
                 self.said.push(Placed {
                     line,
                     column,
+                    arrows: self.arrows,
                     statement,
                 })?;
+                if arrow {
+                    self.dying.clear();
+                    self.arrows += 1;
+                }
                 Ok(())
             }
         }

@@ -32,6 +32,17 @@ pub enum Kind {
     Plain,
 }
 
+/// A word that begins a further branch of a block.
+#[derive(Clone, Copy, Debug, PartialEq, Eq)]
+pub enum Joint {
+    /// Of `alt`.
+    Else,
+    /// Of `par`.
+    And,
+    /// Of `critical`.
+    Option,
+}
+
 /// What a statement says by its first word.
 #[derive(Clone, Copy)]
 pub(crate) enum Meaning {
@@ -46,7 +57,7 @@ pub(crate) enum Meaning {
     /// A block begins.
     Begin(Kind),
     /// A branch of a block begins.
-    Branch(Kind),
+    Branch(Joint),
     /// A block ends.
     End,
     /// Nothing, but of a name.
@@ -379,7 +390,7 @@ fn rows_of(key: Key) -> &'static [Row]
             },
             Row {
                 pattern: Pattern::Anything,
-                meaning: Meaning::Branch(Kind::Alt),
+                meaning: Meaning::Branch(Joint::Else),
             },
         ],
         Key::And => &[
@@ -389,7 +400,7 @@ fn rows_of(key: Key) -> &'static [Row]
             },
             Row {
                 pattern: Pattern::Anything,
-                meaning: Meaning::Branch(Kind::Par),
+                meaning: Meaning::Branch(Joint::And),
             },
         ],
         Key::Option => &[
@@ -399,7 +410,7 @@ fn rows_of(key: Key) -> &'static [Row]
             },
             Row {
                 pattern: Pattern::Anything,
-                meaning: Meaning::Branch(Kind::Critical),
+                meaning: Meaning::Branch(Joint::Option),
             },
         ],
         Key::End => &[

@@ -1,6 +1,6 @@
 //! What statements say, the same for all languages.
 
-use crate::row::Kind;
+use crate::row::{Joint, Kind};
 use listed::Listed;
 
 /// An arrow: one message, from a line to a line, each by its identifier. The label is what stands
@@ -24,16 +24,18 @@ pub enum Statement {
     /// A block begins.
     Begins(Kind),
     /// A branch of a block begins.
-    Branches(Kind),
+    Branches(Joint),
     /// A block ends.
     Ends,
 }
 
-/// A statement and where it begins: its line and its column, both from 1.
+/// A statement and where it begins: its line and its column, both from 1, and how many arrows stand
+/// before it in the text. The number of an arrow is one more.
 #[derive(Drop)]
 pub struct Placed {
     pub line: usize,
     pub column: usize,
+    pub arrows: usize,
     pub statement: Statement,
 }
 
