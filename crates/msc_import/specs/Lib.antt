@@ -6,5 +6,6 @@ pub mod Seeking
 pub mod Rows
 pub mod Gives
 pub mod Saying
+pub mod Outlines
 pub mod Reading
 pub mod Mermaid

@@ -1,4 +1,4 @@
--- The statements of a Mermaid text, line by line.
+-- The diagram of a Mermaid text, line by line.
 use Rattle.std.specs.Prelude.{◌≡◌, ℕ, ◌+◌, Bool, true, false, cond, not, ◌&&◌, ◌==◌, nat_eq, nat_lt, List, [], ◌∷◌, length, drop, codes, Option, Result, Ok, Err}
 use Rattle.std.specs.List.{prefix_len, starts_with}
 use Rattle.std.specs.Str.{bytes_eq}
@@ -17,11 +17,11 @@ use Rattle.msc_import.specs.declared.mermaid.Shape.TheVariants as shapes
 use Rattle.msc_import.specs.declared.mermaid.Progress.{Progress}
 use Rattle.msc_import.specs.declared.seeking.Sought.TheVariants as sought
 use Rattle.msc_import.specs.declared.statement.Cross.{Cross}
-use Rattle.msc_import.specs.declared.statement.Placed.{Placed}
+use Rattle.msc_import.specs.declared.statement.Diagram.{Diagram}
 use Rattle.msc_import.specs.Gives.{◌>>=◌, unless}
 use Rattle.msc_import.specs.Keys.{begin_so, mark_text, spelling}
 use Rattle.msc_import.specs.Lines.{is_blank, behind_blanks, before_blanks, trimmed, lines_of}
-use Rattle.msc_import.specs.Reading.{Read, read_line}
+use Rattle.msc_import.specs.Reading.{read_line, told, untold}
 use Rattle.msc_import.specs.Rows.{is_empty, says_nothing}
 use Rattle.msc_import.specs.Saying.{holds}
 use Rattle.msc_import.specs.Seeking.{before}
@@ -116,20 +116,20 @@ steps cross line [] p = Ok p
 steps cross line (l ∷ ls) p = step cross line l p >>= (λ q. steps cross (line + 1) ls q)
 
 -- what may not lack at the end of a text with so many lines
-unfoldable pub ended_in : ℕ → Progress → Inside → Result (List Placed) ImportFault
-ended_in last p inside.Nothing = unless p.begun (Expected last wanted.Diagram) p.reader.said
+unfoldable pub ended_in : ℕ → Progress → Inside → Result Diagram ImportFault
+ended_in last p inside.Nothing = cond p.begun (told p.reader) (Err (Expected last wanted.Diagram))
 ended_in last p inside.Front = Err (Expected last wanted.Front)
 ended_in last p inside.Directive = Err (Expected last wanted.Directive)
 ended_in last p inside.Description = Err (Expected last wanted.Description)
 
 -- nothing was read
 abbrev pub unread : Progress
-unread = record { inside = inside.Nothing; begun = false; reader = record { dying = []; arrows = 0; said = [] } }
+unread = record { inside = inside.Nothing; begun = false; reader = untold }
 
--- the statements of these lines
-unfoldable pub said_in : Option Cross → List (List ℕ) → Result (List Placed) ImportFault
+-- the diagram of these lines
+unfoldable pub said_in : Option Cross → List (List ℕ) → Result Diagram ImportFault
 said_in cross lines = steps cross 1 lines unread >>= (λ p. ended_in (length lines) p p.inside)
 
--- the statements of a text, or its first fault
-unfoldable pub mermaid : Option Cross → List ℕ → Result (List Placed) ImportFault
+-- the diagram of a text, or its first fault
+unfoldable pub mermaid : Option Cross → List ℕ → Result Diagram ImportFault
 mermaid cross text = cond (nat_lt TEXT_LIMIT (length text)) (Err TooLong) (said_in cross (lines_of text))

@@ -6,11 +6,13 @@ use Rattle.msc_import.specs.declared.fault.ImportFault.{ImportFault}
 use Rattle.msc_import.specs.declared.saying.Said.{Said}
 use Rattle.msc_import.specs.declared.saying.Said.TheVariants as said
 use Rattle.msc_import.specs.declared.statement.Cross.{Cross}
+use Rattle.msc_import.specs.declared.statement.Diagram.{Diagram}
 use Rattle.msc_import.specs.declared.statement.Placed.{Placed}
 use Rattle.msc_import.specs.declared.statement.Statement.{Statement}
-use Rattle.msc_import.specs.declared.statement.Statement.TheVariants.{Declares, Says, Begins, Branches, Ends}
+use Rattle.msc_import.specs.declared.statement.Statement.TheVariants.{Declares, Says, Begins, Closes}
 use Rattle.msc_import.specs.Gives.{◌>>=◌, Fails}
 use Rattle.msc_import.specs.Lines.{is_blank, trimmed, column_behind}
+use Rattle.msc_import.specs.Outlines.{Outline, blank, laid, finished}
 use Rattle.msc_import.specs.Rows.{behind_first_word}
 use Rattle.msc_import.specs.Saying.{said_at}
 
@@ -44,31 +46,43 @@ abbrev pub is_arrow : Statement → Bool
 is_arrow (Declares ident shown) = false
 is_arrow (Says arrow) = true
 is_arrow (Begins kind) = false
-is_arrow (Branches joint) = false
-is_arrow Ends = false
+is_arrow (Closes closer) = false
 
--- what was read so far: the lines that end with the next arrow, how many arrows, and the statements
+-- what was read so far: the lines that end with the next arrow, how many arrows, the lines and the open
+-- blocks, and the statements
 pub record Read : Type 0 where
   pub dying : List (List ℕ)
   pub arrows : ℕ
+  pub outline : Outline
   pub said : List Placed
 
--- one statement more
-abbrev pub noted : Read → ℕ → ℕ → Said → Read
-noted r line column said.Nothing = r
-noted r line column (said.Dies name) =
-    record { dying = r.dying ++ name ∷ []; arrows = r.arrows; said = r.said }
-noted r line column (said.Statement s) = record {
+-- nothing was read
+abbrev pub untold : Read
+untold = record { dying = []; arrows = 0; outline = blank; said = [] }
+
+-- one statement more, behind which the lines and the open blocks are these
+abbrev pub listed : Read → ℕ → ℕ → Statement → Outline → Read
+listed r line column s outline = record {
   dying = cond (is_arrow s) [] r.dying;
   arrows = cond (is_arrow s) (r.arrows + 1) r.arrows;
+  outline = outline;
   said = r.said ++ record { line = line; column = column; arrows = r.arrows; statement = s } ∷ [];
 }
+
+-- what a statement says, noted
+unfoldable pub noted : Read → ℕ → ℕ → Said → Result Read ImportFault
+noted r line column said.Nothing = Ok r
+noted r line column (said.Dies name) =
+    Ok (record { dying = r.dying ++ name ∷ []; arrows = r.arrows; outline = r.outline; said = r.said })
+noted r line column (said.Statement s) = do
+  outline ← laid line s r.outline
+  Ok (listed r line column s outline)
 
 -- one statement, which begins in this column
 unfoldable pub read_one : Option Cross → ℕ → ℕ → List ℕ → Read → Result Read ImportFault
 read_one cross line column bytes r = do
   s ← said_at cross r.dying line bytes
-  Ok (noted r line column s)
+  noted r line column s
 
 -- the pieces of a line of these bytes, of which the first one begins behind so many of them
 unfoldable pub read_pieces : Option Cross → ℕ → List ℕ → ℕ → List (List ℕ) → Read → Result Read ImportFault
@@ -80,6 +94,12 @@ read_pieces cross line bytes at (p ∷ ps) r =
 unfoldable pub read_line : Option Cross → ℕ → List ℕ → ℕ → Read → Result Read ImportFault
 read_line cross line bytes at r =
     read_pieces cross line bytes at (slice_split is_semicolon (bare_from false (drop at bytes))) r
+
+-- the diagram of what was read, where no block is open
+unfoldable pub told : Read → Result Diagram ImportFault
+told r = do
+  lines ← finished r.outline
+  Ok (record { lines = lines; statements = r.said })
 
 -- how many bytes pieces take, with a semicolon behind each
 unfoldable pub room : List (List ℕ) → ℕ

@@ -7,7 +7,7 @@ use Rattle.msc_lexer.specs.Bytes.{begins, is_run_byte}
 use Rattle.msc_import.specs.declared.key.Key.{Key}
 use Rattle.msc_import.specs.declared.key.Key.TheVariants as keys
 use Rattle.msc_import.specs.declared.key.Mark.TheVariants as marks
-use Rattle.msc_import.specs.declared.row.Joint.TheVariants as joints
+use Rattle.msc_import.specs.declared.row.Closer.TheVariants as closers
 use Rattle.msc_import.specs.declared.row.Kind.TheVariants as kinds
 use Rattle.msc_import.specs.declared.row.Meaning.{Meaning}
 use Rattle.msc_import.specs.declared.row.Meaning.TheVariants as says
@@ -111,11 +111,11 @@ rows_of keys.Critical = always (says.Begin kinds.Critical)
 rows_of keys.Break = always (says.Begin kinds.Break)
 rows_of keys.Rect = always (says.Begin kinds.Plain)
 rows_of keys.Box = always (says.Begin kinds.Plain)
-rows_of keys.Else = always (says.Branch joints.Else)
-rows_of keys.And = always (says.Branch joints.And)
-rows_of keys.Option = always (says.Branch joints.Option)
+rows_of keys.Else = always (says.Close closers.Else)
+rows_of keys.And = always (says.Close closers.And)
+rows_of keys.Option = always (says.Close closers.Option)
 rows_of keys.End =
-    no_arrow ∷ row patterns.Alone says.End ∷ row patterns.Comment says.End ∷ []
+    no_arrow ∷ row patterns.Alone (says.Close closers.End) ∷ row patterns.Comment (says.Close closers.End) ∷ []
 rows_of keys.Note =
     no_arrow ∷ row patterns.LeftOf says.Nothing ∷ row patterns.RightOf says.Nothing ∷ row patterns.Over says.Nothing ∷ []
 rows_of keys.Activate = named says.Activation

@@ -18,7 +18,7 @@ use Rattle.msc_import.specs.declared.statement.Arrow.{Arrow}
 use Rattle.msc_import.specs.declared.statement.Cross.{Cross}
 use Rattle.msc_import.specs.declared.statement.Cross.TheVariants as crosses
 use Rattle.msc_import.specs.declared.statement.Statement.{Statement}
-use Rattle.msc_import.specs.declared.statement.Statement.TheVariants.{Declares, Says, Begins, Branches, Ends}
+use Rattle.msc_import.specs.declared.statement.Statement.TheVariants.{Declares, Says, Begins, Closes}
 use Rattle.msc_import.specs.Gives.{◌>>=◌, unless}
 use Rattle.msc_import.specs.Keys.{begin_so, head_of, head_text, is_crossed, is_double, mark_text}
 use Rattle.msc_import.specs.Lines.{behind_blanks, trimmed}
@@ -136,8 +136,7 @@ said_as cross dying line bytes says.Destruction rest = do
   name ← name_at line rest
   Ok (said.Dies name)
 said_as cross dying line bytes (says.Begin kind) rest = Ok (said.Statement (Begins kind))
-said_as cross dying line bytes (says.Branch joint) rest = Ok (said.Statement (Branches joint))
-said_as cross dying line bytes says.End rest = Ok (said.Statement Ends)
+said_as cross dying line bytes (says.Close closer) rest = Ok (said.Statement (Closes closer))
 said_as cross dying line bytes says.Activation rest = do
   name ← name_at line rest
   Ok said.Nothing

@@ -5,6 +5,7 @@ ghost use Rattle.msc_import.specs.declared.fault.ImportFault.TheVariants.{Memory
 ghost use Rattle.msc_import.specs.Expectations.{expectation};
 
 use crate::key::Head;
+use crate::row::Closer;
 use std::alloc::{AllocError, AllocFailed};
 use std::fmt;
 use thiserror::Error;
@@ -73,6 +74,19 @@ pub enum ImportFault {
     /// The cross of an arrow on this line is lost or arrives: the text doesn't say which.
     #[error("say --cross lost or --cross arrives")]
     Cross(usize),
+    /// The innermost block without its end; the line is where it begins. Comes after all others of
+    /// a text.
+    #[error("block without end")]
+    Unended(usize),
+    /// The end of a block, or the word that begins its next branch, outside of such a block.
+    #[error("{1} outside of its block")]
+    Outside(usize, Closer),
+    /// A block within as many as there may be.
+    #[error("more than 10 blocks inside each other")]
+    TooDeep(usize),
+    /// A line beside as many as there may be.
+    #[error("more than 32 instances")]
+    TooManyLines(usize),
     /// A growth of memory was refused.
     #[error("memory fault")]
     Memory,

@@ -10,6 +10,7 @@ mod fault;
 mod key;
 mod lines;
 mod mermaid;
+mod outline;
 mod reading;
 mod row;
 mod saying;
@@ -18,5 +19,11 @@ mod statement;
 
 pub use fault::{Expectation, ImportFault};
 pub use key::Head;
-pub use row::{Joint, Kind};
-pub use statement::{Arrow, Cross, Placed, Statement};
+pub use row::{Closer, Kind};
+pub use statement::{Arrow, Cross, Diagram, Placed, Statement};
+
+/// The greatest number of blocks inside each other.
+pub const DEPTH_LIMIT: usize = 10;
+
+/// The greatest number of lines of a diagram.
+pub const LINE_LIMIT: usize = 32;

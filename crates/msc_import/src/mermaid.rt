@@ -1,4 +1,4 @@
-//! The statements of a Mermaid text, line by line.
+//! The diagram of a Mermaid text, line by line.
 
 ghost use Rattle.std.specs.Prelude.{◌≡◌, ◌≤◌, ◌<◌, ◌^◌, IsTrue, length, map};
 ghost use Rattle.msc_import.specs.Gives.{Gives};
@@ -15,8 +15,7 @@ use crate::lines::{before_blanks, behind_blanks, blanks_in_front, lines_of, trim
 use crate::reading::Reader;
 use crate::row::{begins_word, says_nothing};
 use crate::seeking::Sought;
-use crate::statement::{Cross, Placed};
-use listed::Listed;
+use crate::statement::{Cross, Diagram};
 use msc_lexer::TEXT_LIMIT;
 use std::alloc::Global;
 
@@ -276,9 +275,9 @@ impl Progress {
         Ok(())
     }
 
-    /// The statements, where nothing lacks at the end of a text with so many lines.
+    /// The diagram, where nothing lacks at the end of a text with so many lines.
     #[tactic(auto, unfolding(crate::specs::Mermaid::ended_in))]
-    fn ended(self, last: usize) -> Result<Listed<Placed>, ImportFault>
+    fn ended(self, last: usize) -> Result<Diagram, ImportFault>
         ensures { Gives (λ x. x) result (ended_in last self self.inside) }
     {
         let Progress {
@@ -287,7 +286,7 @@ impl Progress {
             reader,
         } = self;
         match inside {
-            Inside::Nothing if begun => Ok(reader.into_statements()),
+            Inside::Nothing if begun => reader.finish(),
             Inside::Nothing => Err(ImportFault::Expected(last, Expectation::Diagram)),
             Inside::Front => Err(ImportFault::Expected(last, Expectation::Front)),
             Inside::Directive => Err(ImportFault::Expected(last, Expectation::Directive)),
@@ -296,13 +295,9 @@ impl Progress {
     }
 }
 
-/// The statements of these lines.
+/// The diagram of these lines.
 #[tactic(auto, unfolding(crate::specs::Mermaid::said_in))]
-fn said_in(
-    alloc: Global,
-    cross: Option<Cross>,
-    lines: &[&[u8]],
-) -> Result<Listed<Placed>, ImportFault>
+fn said_in(alloc: Global, cross: Option<Cross>, lines: &[&[u8]]) -> Result<Diagram, ImportFault>
     ensures { Gives (λ x. x) result (said_in cross (map (λ x. x.now) lines.now)) }
 {
     let mut progress = Progress {
@@ -314,13 +309,13 @@ fn said_in(
     progress.ended(lines.len())
 }
 
-/// The statements of a text, or its first fault.
+/// The diagram of a text, or its first fault.
 #[tactic(auto, unfolding(crate::specs::Mermaid::mermaid))]
 pub(crate) fn mermaid(
     alloc: Global,
     cross: Option<Cross>,
     text: &[u8],
-) -> Result<Listed<Placed>, ImportFault>
+) -> Result<Diagram, ImportFault>
     ensures { Gives (λ x. x) result (mermaid cross text.now) }
 {
     if text.len() > TEXT_LIMIT {

@@ -3,15 +3,18 @@
 ghost use Rattle.std.specs.Prelude.{◌≡◌, ◌≤◌, ◌+◌, false, map, length, [], Ok, IfOk};
 ghost use Rattle.std.specs.List.{slice_split};
 ghost use Rattle.msc_lexer.specs.Bytes.{begins};
+ghost use Rattle.msc_import.specs.Gives.{Gives};
+ghost use Rattle.msc_import.specs.Reading.{told, untold};
 ghost use Rattle.msc_import.specs.Reading.{Leaves, bare_from, bare_step, is_arrow, is_entity};
 ghost use Rattle.msc_import.specs.Reading.{is_semicolon, noted, read_line, read_one, read_pieces};
 ghost use Rattle.msc_import.specs.Reading.{room};
 
 use crate::fault::ImportFault;
 use crate::lines::{blanks_in_front, column_behind, trimmed};
+use crate::outline::Outline;
 use crate::row::{behind_first_word, word_length};
 use crate::saying::{Mode, Said, said_at};
-use crate::statement::{Cross, Placed, Statement};
+use crate::statement::{Cross, Diagram, Placed, Statement};
 use listed::Listed;
 use std::alloc::{AllocError, Global};
 use std::marker::Model;
@@ -82,12 +85,13 @@ fn is_arrow(statement: &Statement) -> bool
     matches!(statement, Statement::Says(_))
 }
 
-/// What was read so far: the lines that end with the next arrow, how many arrows, and the
-/// statements.
+/// What was read so far: the lines that end with the next arrow, how many arrows, the lines and the
+/// open blocks, and the statements.
 #[derive(Drop)]
 pub(crate) struct Reader {
     dying: Vec<Listed<u8>>,
     arrows: usize,
+    outline: Outline,
     said: Vec<Placed>,
 }
 
@@ -98,7 +102,7 @@ impl Model for Reader {
     ghost Value = { Read };
 
     ghost view = { λ r.
-        record { dying = r.dying.items; arrows = r.arrows; said = r.said.items } };
+        record { dying = r.dying.items; arrows = r.arrows; outline = r.outline; said = r.said.items } };
 
     // Each arrow is a statement.
     ghost invariant = { λ r. r.arrows ≤ length r.said.items };
@@ -107,31 +111,45 @@ impl Model for Reader {
 impl Reader {
     /// Nothing was read.
     pub(crate) fn new(alloc: Global) -> Self
-        ensures { result ≡ record { dying = []; arrows = 0; said = [] } }
+        ensures { result ≡ untold }
     {
         Reader {
             dying: Vec::new(alloc),
             arrows: 0,
+            outline: Outline::new(alloc),
             said: Vec::new(alloc),
         }
     }
 
-    /// The statements.
-    pub(crate) fn into_statements(self) -> Listed<Placed>
-        ensures { result ≡ self.said }
+    /// The diagram, where no block is open.
+    #[tactic(auto, unfolding(crate::specs::Reading::told))]
+    pub(crate) fn finish(self) -> Result<Diagram, ImportFault>
+        ensures { Gives (λ x. x) result (told self) }
     {
         let Reader {
             dying,
             arrows: _,
+            outline,
             said,
         } = self;
         drop(dying);
-        Listed::from_vec(said)
+        let lines = outline.finish()?;
+        Ok(Diagram {
+            lines,
+            statements: Listed::from_vec(said),
+        })
     }
 
-    /// Notes one statement more.
-    fn note(&mut self, line: usize, column: usize, said: Said) -> Result<(), ImportFault>
-        ensures { Leaves result self.new (Ok (noted self.old line column said)) }
+    /// Notes what a statement says.
+    #[tactic(auto, unfolding(crate::specs::Reading::noted))]
+    fn note(
+        &mut self,
+        alloc: Global,
+        line: usize,
+        column: usize,
+        said: Said,
+    ) -> Result<(), ImportFault>
+        ensures { Leaves result self.new (noted self.old line column said) }
     {
         match said {
             Said::Nothing => Ok(()),
@@ -140,6 +158,7 @@ impl Reader {
                 Ok(())
             }
             Said::Statement(statement) => {
+                self.outline.lay(alloc, line, &statement)?;
                 let arrow = is_arrow(&statement);
                 self.said.push(Placed {
                     line,
@@ -173,7 +192,7 @@ impl Reader {
             dying: self.dying.as_slice(),
         };
         let said = said_at(alloc, mode, line, bytes)?;
-        self.note(line, column, said)
+        self.note(alloc, line, column, said)
     }
 
     /// Reads the pieces of a line, of which the first one begins behind so many of its bytes.

@@ -1,10 +1,11 @@
 //! The table of Mermaid's statements: rows of patterns, and what each of them says.
 
-ghost use Rattle.std.specs.Prelude.{◌≡◌, ◌≤◌, ◌∷◌, [], length};
+ghost use Rattle.std.specs.Prelude.{◌≡◌, ◌≤◌, Some, length};
 ghost use Rattle.std.specs.Char.{is_ascii_digit};
 ghost use Rattle.std.specs.List.{prefix_len};
 ghost use Rattle.std.specs.Option.{option_copied};
 ghost use Rattle.msc_lexer.specs.Bytes.{begins, is_run_byte};
+ghost use Rattle.msc_import.specs.Expectations.{closer_word};
 ghost use Rattle.msc_import.specs.Keys.{spelling};
 ghost use Rattle.msc_import.specs.Rows.{behind, behind_first_word, first_fit, first_word, fits};
 ghost use Rattle.msc_import.specs.Rows.{is_word, meaning_of, only, parts_of, rows_of, says_nothing};
@@ -12,6 +13,7 @@ ghost use Rattle.msc_import.specs.Rows.{is_word, meaning_of, only, parts_of, row
 use crate::key::{Head, Key, Mark};
 use crate::lines::behind_blanks;
 use crate::seeking::{Sought, begins_blank};
+use std::fmt;
 
 /// What a block is.
 #[derive(Clone, Copy, Debug, PartialEq, Eq)]
@@ -32,15 +34,40 @@ pub enum Kind {
     Plain,
 }
 
-/// A word that begins a further branch of a block.
+/// A word that begins a further branch of a block, or ends it.
 #[derive(Clone, Copy, Debug, PartialEq, Eq)]
-pub enum Joint {
-    /// Of `alt`.
+pub enum Closer {
+    /// A branch of `alt`.
     Else,
-    /// Of `par`.
+    /// A branch of `par`.
     And,
-    /// Of `critical`.
+    /// A branch of `critical`.
     Option,
+    /// The end of any block.
+    End,
+}
+
+impl Closer {
+    /// The word in small letters.
+    fn word(self) -> &'static str
+        ensures { result.now ≡ closer_word self }
+    {
+        match self {
+            Closer::Else => "else",
+            Closer::And => "and",
+            Closer::Option => "option",
+            Closer::End => "end",
+        }
+    }
+}
+
+/// Shows the word in small letters.
+impl fmt::Display for Closer {
+    ghost output = { λ w. Some (closer_word w) };
+
+    fn fmt<W: fmt::Write>(&self, f: &mut fmt::Formatter<W>) -> fmt::Result {
+        f.write_str(self.word())
+    }
 }
 
 /// What a statement says by its first word.
@@ -56,10 +83,8 @@ pub(crate) enum Meaning {
     Destruction,
     /// A block begins.
     Begin(Kind),
-    /// A branch of a block begins.
-    Branch(Joint),
-    /// A block ends.
-    End,
+    /// A branch of a block begins, or it ends.
+    Close(Closer),
     /// Nothing, but of a name.
     Activation,
     /// An arrow, from its beginning on.
@@ -390,7 +415,7 @@ fn rows_of(key: Key) -> &'static [Row]
             },
             Row {
                 pattern: Pattern::Anything,
-                meaning: Meaning::Branch(Joint::Else),
+                meaning: Meaning::Close(Closer::Else),
             },
         ],
         Key::And => &[
@@ -400,7 +425,7 @@ fn rows_of(key: Key) -> &'static [Row]
             },
             Row {
                 pattern: Pattern::Anything,
-                meaning: Meaning::Branch(Joint::And),
+                meaning: Meaning::Close(Closer::And),
             },
         ],
         Key::Option => &[
@@ -410,7 +435,7 @@ fn rows_of(key: Key) -> &'static [Row]
             },
             Row {
                 pattern: Pattern::Anything,
-                meaning: Meaning::Branch(Joint::Option),
+                meaning: Meaning::Close(Closer::Option),
             },
         ],
         Key::End => &[
@@ -420,11 +445,11 @@ fn rows_of(key: Key) -> &'static [Row]
             },
             Row {
                 pattern: Pattern::Alone,
-                meaning: Meaning::End,
+                meaning: Meaning::Close(Closer::End),
             },
             Row {
                 pattern: Pattern::Comment,
-                meaning: Meaning::End,
+                meaning: Meaning::Close(Closer::End),
             },
         ],
         Key::Note => &[

@@ -302,8 +302,7 @@ fn said_as(
         Meaning::Declaration => Ok(Said::Statement(declared(alloc, line, rest)?)),
         Meaning::Destruction => Ok(Said::Dies(owned(alloc, name_at(line, rest)?)?)),
         Meaning::Begin(kind) => Ok(Said::Statement(Statement::Begins(kind))),
-        Meaning::Branch(joint) => Ok(Said::Statement(Statement::Branches(joint))),
-        Meaning::End => Ok(Said::Statement(Statement::Ends)),
+        Meaning::Close(closer) => Ok(Said::Statement(Statement::Closes(closer))),
         Meaning::Activation => {
             name_at(line, rest)?;
             Ok(Said::Nothing)

@@ -1,6 +1,6 @@
 //! What statements say, the same for all languages.
 
-use crate::row::{Joint, Kind};
+use crate::row::{Closer, Kind};
 use listed::Listed;
 
 /// An arrow: one message, from a line to a line, each by its identifier. The label is what stands
@@ -23,10 +23,8 @@ pub enum Statement {
     Says(Arrow),
     /// A block begins.
     Begins(Kind),
-    /// A branch of a block begins.
-    Branches(Joint),
-    /// A block ends.
-    Ends,
+    /// A further branch of a block begins, or it ends.
+    Closes(Closer),
 }
 
 /// A statement and where it begins: its line and its column, both from 1, and how many arrows stand
@@ -37,6 +35,14 @@ pub struct Placed {
     pub column: usize,
     pub arrows: usize,
     pub statement: Statement,
+}
+
+/// A diagram: its lines, each by its identifier, in the order in which they are declared or used
+/// first, and its statements. Each block of them has its end.
+#[derive(Drop)]
+pub struct Diagram {
+    pub lines: Listed<Listed<u8>>,
+    pub statements: Listed<Placed>,
 }
 
 /// What an arrow with a cross is.
