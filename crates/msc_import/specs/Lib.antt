@@ -9,3 +9,4 @@ pub mod Saying
 pub mod Outlines
 pub mod Reading
 pub mod Mermaid
+pub mod Naming

@@ -99,7 +99,7 @@ impl fmt::Display for Head {
 }
 
 /// Whether the bytes are this text.
-fn are_spelled(bytes: &[u8], text: &[u8]) -> bool
+pub(crate) fn are_spelled(bytes: &[u8], text: &[u8]) -> bool
     ensures { result ≡ are_spelled bytes.now text.now }
 {
     bytes.eq_ignore_ascii_case(text)

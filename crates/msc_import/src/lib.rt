@@ -10,6 +10,7 @@ mod fault;
 mod key;
 mod lines;
 mod mermaid;
+mod naming;
 mod outline;
 mod reading;
 mod row;

@@ -141,7 +141,7 @@ pub(crate) struct Row {
 }
 
 /// Whether words are made of this byte.
-fn is_word_byte(byte: u8) -> bool
+pub(crate) fn is_word_byte(byte: u8) -> bool
     ensures { result ≡ is_run_byte byte }
 {
     byte.is_ascii_alphanumeric() || byte == b'_'
