@@ -3,3 +3,4 @@ pub mod Found
 pub mod RowLemmas
 pub mod ReadingLemmas
 pub mod MermaidLemmas
+pub mod NamingLemmas

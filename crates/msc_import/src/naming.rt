@@ -1,14 +1,21 @@
 //! Names of charts, made of any bytes.
 
-ghost use Rattle.std.specs.Prelude.{◌≡◌, ◌≤◌, length, drop};
+ghost use Rattle.std.specs.Prelude.{◌≡◌, ◌≤◌, ◌<◌, length, drop, take, slice_index, IfOk};
 ghost use Rattle.std.specs.Char.{is_ascii_alphanumeric};
-ghost use Rattle.std.specs.List.{prefix_len};
+ghost use Rattle.std.specs.List.{prefix_len, suffix_len};
 ghost use Rattle.msc_lexer.specs.Bytes.{begins};
-ghost use Rattle.msc_import.specs.Naming.{behind_inner, is_break_tag, is_closing, is_escape};
-ghost use Rattle.msc_import.specs.Naming.{is_inner, is_opening, is_style_tag, opening_length};
-ghost use Rattle.msc_import.specs.Naming.{tag_length};
+ghost use Rattle.msc_import.specs.Naming.{before_bars, behind_bars, behind_inner, is_bar};
+ghost use Rattle.msc_import.specs.Naming.{is_break_tag, is_closing, is_escape, is_inner, is_opening};
+ghost use Rattle.msc_import.specs.Naming.{is_style_tag, made, opening_length, or_else, pass_step};
+ghost use Rattle.msc_import.specs.Naming.{passed, shortened, tag_length, unreserved};
 
 use crate::key::are_spelled;
+use crate::row::is_word_byte;
+use msc_lexer::Word;
+use std::alloc::{AllocError, Global};
+
+/// The greatest number of bytes of a made name, but for what is put behind it.
+const MADE_LIMIT: usize = 56;
 
 /// A pass over bytes of which a name is made.
 #[derive(Clone, Copy)]
@@ -132,4 +139,128 @@ fn tag_length(bytes: &[u8]) -> usize
         return 0;
     }
     bytes.len() - tail.len() + 1
+}
+
+impl Pass {
+    /// What stands for a byte of which this follows, if anything does, and the state behind it.
+    #[tactic(auto, unfolding(crate::specs::Naming::pass_step))]
+    fn step(self, state: usize, bytes: &[u8]) -> (Option<u8>, usize)
+        requires { 0 < length bytes.now }
+        ensures { result ≡ pass_step self state (slice_index bytes.now 0) (drop 1 bytes.now) }
+    {
+        match self {
+            Pass::Tags if state > 0 => (None, state - 1),
+            Pass::Tags => {
+                let length = tag_length(bytes);
+                if length > 0 {
+                    (Some(b' '), length - 1)
+                } else {
+                    (Some(bytes[0]), 0)
+                }
+            }
+            Pass::Escapes if state > 0 => (None, state - 1),
+            Pass::Escapes if bytes[0] == b'\\' && begins_escape(&bytes[1..]) => (Some(b' '), 1),
+            Pass::Escapes => (Some(bytes[0]), 0),
+            Pass::Gaps if is_word_byte(bytes[0]) => (Some(bytes[0]), 0),
+            Pass::Gaps if state > 0 => (None, 1),
+            Pass::Gaps => (Some(b'_'), 1),
+        }
+    }
+
+    /// The bytes that it leaves.
+    fn over(self, alloc: Global, bytes: &[u8]) -> Result<Vec<u8>, AllocError>
+        ensures { IfOk result (λ v. v.items ≡ passed self 0 bytes.now) }
+    {
+        let mut left = Vec::new(alloc);
+        let mut state = 0;
+        for i in 0..bytes.len() {
+            let (put, next) = self.step(state, &bytes[i..]);
+            if let Some(byte) = put {
+                left.push(byte)?;
+            }
+            state = next;
+        }
+        Ok(left)
+    }
+}
+
+/// How many underscores stand in front.
+fn bars_in_front(bytes: &[u8]) -> usize
+    ensures length { result ≡ prefix_len is_bar bytes.now }
+    ensures within { result ≤ length bytes.now }
+{
+    bytes.iter().take_while(|byte| **byte == b'_').count()
+}
+
+/// How many underscores stand at the end.
+fn bars_at_end(bytes: &[u8]) -> usize
+    ensures length { result ≡ suffix_len is_bar bytes.now }
+    ensures within { result ≤ length bytes.now }
+{
+    bytes.iter().rev().take_while(|byte| **byte == b'_').count()
+}
+
+/// Without underscores in front.
+fn behind_bars(bytes: &[u8]) -> &[u8]
+    ensures { result.now ≡ behind_bars bytes.now }
+{
+    &bytes[bars_in_front(bytes)..]
+}
+
+/// Without underscores at the end.
+fn before_bars(bytes: &[u8]) -> &[u8]
+    ensures { result.now ≡ before_bars bytes.now }
+{
+    &bytes[..bytes.len() - bars_at_end(bytes)]
+}
+
+/// The first bytes, so many at most.
+fn at_most(bytes: &[u8], limit: usize) -> &[u8]
+    ensures { result.now ≡ take limit bytes.now }
+{
+    if bytes.len() <= limit {
+        return bytes;
+    }
+    &bytes[..limit]
+}
+
+/// The first bytes that a made name may have, without underscores at their end.
+fn shortened(bytes: &[u8]) -> &[u8]
+    ensures { result.now ≡ shortened bytes.now }
+{
+    before_bars(at_most(bytes, MADE_LIMIT))
+}
+
+/// These bytes, and others where there are none.
+fn or_else<'b>(bytes: &'b [u8], others: &'b [u8]) -> &'b [u8]
+    ensures { result.now ≡ or_else bytes.now others.now }
+{
+    match bytes {
+        [] => others,
+        [_, ..] => bytes,
+    }
+}
+
+/// The name with an underscore behind it where it is a reserved word.
+fn unreserved(alloc: Global, name: &[u8]) -> Result<Vec<u8>, AllocError>
+    ensures { IfOk result (λ v. v.items ≡ unreserved name.now) }
+{
+    let mut free = Vec::from_slice(alloc, name)?;
+    if Word::of(name).is_some() {
+        free.push(b'_')?;
+    }
+    Ok(free)
+}
+
+/// The name that is made of bytes; where nothing is left of them, of these others. The only error
+/// is want of memory.
+#[tactic(auto, unfolding(crate::specs::Naming::made))]
+pub(crate) fn made(alloc: Global, bytes: &[u8], others: &[u8]) -> Result<Vec<u8>, AllocError>
+    ensures { IfOk result (λ v. v.items ≡ made bytes.now others.now) }
+{
+    let plain = Pass::Tags.over(alloc, bytes)?;
+    let plain = Pass::Escapes.over(alloc, plain.as_slice())?;
+    let plain = Pass::Gaps.over(alloc, plain.as_slice())?;
+    let left = shortened(before_bars(behind_bars(plain.as_slice())));
+    unreserved(alloc, or_else(left, others))
 }
