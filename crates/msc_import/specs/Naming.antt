@@ -1,11 +1,12 @@
 -- Names of charts, made of any bytes: of lines, of labels and of diagrams.
 use Rattle.std.specs.Prelude.{ℕ, zero, suc, ◌+◌, ◌-◌, Bool, true, false, cond, not, ◌||◌, ◌&&◌, ◌==◌, nat_lt, List, [], ◌∷◌, ◌++◌, length, take, drop, codes, Option, None, Some, is_some}
 use Rattle.std.specs.Char.{is_ascii_alphanumeric}
-use Rattle.std.specs.List.{list_any, prefix_len, suffix_len}
+use Rattle.std.specs.List.{flat_map, list_any, prefix_len, suffix_len}
 use Rattle.std.specs.Str.{bytes_eq}
 use Rattle.std.specs.Fmt.{decimal}
 use Rattle.msc_lexer.specs.Bytes.{begins, is_run_byte}
 use Rattle.msc_lexer.specs.Words.{word_of}
+use Rattle.msc_import.specs.declared.TheConstants.{LINE_LIMIT}
 use Rattle.msc_import.specs.declared.naming.Pass.{Pass}
 use Rattle.msc_import.specs.declared.naming.Pass.TheVariants as passes
 use Rattle.msc_import.specs.Keys.{are_spelled}
@@ -128,3 +129,22 @@ unfoldable pub free_name : List (List ℕ) → List ℕ → ℕ → ℕ → List
 free_name names name k zero = name
 free_name names name k (suc n) =
     cond (is_taken names (candidate name k)) (free_name names name (k + 1) n) (candidate name k)
+
+-- the names of lines behind these names: each is the first that is not there yet
+unfoldable pub names_behind : List (List ℕ) → List (List ℕ) → List (List ℕ)
+names_behind names [] = names
+names_behind names (ident ∷ idents) =
+    names_behind (names ++ free_name names (made ident (codes "p")) 1 LINE_LIMIT ∷ []) idents
+
+-- the round of a loop, behind an underscore
+abbrev pub round_text : ℕ → List ℕ
+round_text n = 95 ∷ decimal n
+
+-- the number of an arrow, and the rounds of the loops that it stands in, outermost first
+unfoldable pub number_name : ℕ → List ℕ → List ℕ
+number_name number rounds = decimal number ++ flat_map round_text rounds
+
+-- what a line is of, if its shown name says that
+unfoldable pub kind_of : List ℕ → List ℕ → List (List ℕ)
+kind_of name shown =
+    cond (is_empty (made shown []) || bytes_eq (made shown []) name) [] (made shown [] ∷ [])

@@ -8,6 +8,7 @@
 
 mod fault;
 mod key;
+mod line_name;
 mod lines;
 mod mermaid;
 mod naming;
