@@ -4,3 +4,4 @@ pub mod RowLemmas
 pub mod ReadingLemmas
 pub mod MermaidLemmas
 pub mod NamingLemmas
+pub mod CourseLemmas

@@ -10,3 +10,4 @@ pub mod Outlines
 pub mod Reading
 pub mod Mermaid
 pub mod Naming
+pub mod Courses

@@ -66,7 +66,7 @@ listed r line column s outline = record {
   dying = cond (is_arrow s) [] r.dying;
   arrows = cond (is_arrow s) (r.arrows + 1) r.arrows;
   outline = outline;
-  said = r.said ++ record { line = line; column = column; arrows = r.arrows; statement = s } ∷ [];
+  said = r.said ++ record { line = line; column = column; number = r.arrows + 1; statement = s } ∷ [];
 }
 
 -- what a statement says, noted

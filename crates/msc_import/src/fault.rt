@@ -87,6 +87,19 @@ pub enum ImportFault {
     /// A line beside as many as there may be.
     #[error("more than 32 instances")]
     TooManyLines(usize),
+    /// A choice of the block on this line, from 1, is more than its greatest one.
+    #[error("choice {1} is more than {2}")]
+    Choice(usize, usize, usize),
+    /// More choices are given than blocks were met.
+    #[error("{0} choices for {1} blocks")]
+    TooManyChoices(usize, usize),
+    /// An arrow of a scenario beside as many as there may be.
+    #[error("more than 1024 arrows")]
+    TooManyArrows(usize),
+    /// The branches of the block on this line are no coregion on a line of the diagram, which is
+    /// told by its number, from 0.
+    #[error("parallel branches share line {1}")]
+    Shared(usize, usize),
     /// A growth of memory was refused.
     #[error("memory fault")]
     Memory,

@@ -6,6 +6,7 @@
 //! from 1, choices and instances from 0.
 #![tactic(auto)]
 
+mod course;
 mod fault;
 mod key;
 mod line_name;
@@ -18,7 +19,9 @@ mod row;
 mod saying;
 mod seeking;
 mod statement;
+mod walking;
 
+pub use course::{Ending, Message, Step};
 pub use fault::{Expectation, ImportFault};
 pub use key::Head;
 pub use row::{Closer, Kind};
@@ -29,3 +32,9 @@ pub const DEPTH_LIMIT: usize = 10;
 
 /// The greatest number of lines of a diagram.
 pub const LINE_LIMIT: usize = 32;
+
+/// The greatest number of arrows of a scenario.
+pub const ARROW_LIMIT: usize = 1024;
+
+/// The greatest number of rounds of a loop.
+pub const ROUND_LIMIT: usize = 1024;

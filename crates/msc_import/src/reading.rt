@@ -163,7 +163,7 @@ impl Reader {
                 self.said.push(Placed {
                     line,
                     column,
-                    arrows: self.arrows,
+                    number: self.arrows + 1,
                     statement,
                 })?;
                 if arrow {

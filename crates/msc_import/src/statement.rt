@@ -27,13 +27,13 @@ pub enum Statement {
     Closes(Closer),
 }
 
-/// A statement and where it begins: its line and its column, both from 1, and how many arrows stand
-/// before it in the text. The number of an arrow is one more.
+/// A statement and where it begins: its line and its column, both from 1. The number is that of the
+/// arrow that it is, or of the next one behind it, from 1.
 #[derive(Drop)]
 pub struct Placed {
     pub line: usize,
     pub column: usize,
-    pub arrows: usize,
+    pub number: usize,
     pub statement: Statement,
 }
 
