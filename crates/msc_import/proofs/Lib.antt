@@ -5,3 +5,4 @@ pub mod ReadingLemmas
 pub mod MermaidLemmas
 pub mod NamingLemmas
 pub mod CourseLemmas
+pub mod WalkLemmas

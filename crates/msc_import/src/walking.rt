@@ -1,15 +1,17 @@
 //! Walks through a diagram's statements, block by block.
 
-ghost use Rattle.std.specs.Prelude.{◌≡◌, IfOk, OnOk};
-ghost use Rattle.msc_import.specs.Courses.{broken, choice_of, choose, goes, line_at, meet, message_of};
-ghost use Rattle.msc_import.specs.Courses.{put, unbroken};
+ghost use Rattle.std.specs.Prelude.{◌≡◌, ◌≤◌, length, map, IfOk, OnOk};
+ghost use Rattle.msc_import.specs.Courses.{block, branch_at, broken, choice_of, choose, follow};
+ghost use Rattle.msc_import.specs.Courses.{formed, goes, line_at, meet, message_of, one, owned_by};
+ghost use Rattle.msc_import.specs.Courses.{put, rounds_from, side_by_side, unbroken, walk};
 
 use crate::ARROW_LIMIT;
-use crate::course::{Ending, Message, Step};
+use crate::course::{Ending, Form, Message, Step, branches_of, extent, is_there};
 use crate::fault::ImportFault;
 use crate::line_name::number_name;
 use crate::naming::made;
-use crate::statement::{Arrow, Placed};
+use crate::row::Kind;
+use crate::statement::{Arrow, Placed, Statement};
 use listed::Listed;
 use msc_parser::Name;
 use std::alloc::{AllocError, Global};
@@ -143,5 +145,228 @@ impl Walker<'_> {
             self.ending = Ending::Stopped(ImportFault::Choice(line, number + 1, most));
         }
         Ok(choice)
+    }
+}
+
+/// A branch, and none where there are fewer.
+fn branch_at<'p>(branches: &[&'p [Placed]], i: usize) -> &'p [Placed]
+    ensures { result.now ≡ branch_at (map (λ x. x.now) branches.now) i }
+{
+    if i < branches.len() { branches[i] } else { &[] }
+}
+
+/// How many statements behind one belong to it.
+fn owned_by(statement: &Statement, rest: &[Placed]) -> usize
+    ensures value { result ≡ owned_by statement.now rest.now }
+    ensures within { result ≤ length rest.now }
+{
+    match statement {
+        Statement::Begins(_) => extent(rest),
+        _ => 0,
+    }
+}
+
+impl Walker<'_> {
+    /// Goes so many rounds of a loop.
+    #[cycle(walking)]
+    fn rounds(
+        &mut self,
+        alloc: Global,
+        depth: usize,
+        body: &[Placed],
+        rounds: &[usize],
+        count: usize,
+    ) -> Result<(), AllocError>
+        ensures { OnOk result
+            (self.new ≡ rounds_from (walk depth) body.now rounds.now 0 count self.old) }
+    {
+        for i in 0..count {
+            let mut inner = Vec::from_slice(alloc, rounds)?;
+            inner.push(i + 1)?;
+            self.walk(alloc, depth, body, inner.as_slice())?;
+            if !self.goes() {
+                return Ok(());
+            }
+        }
+        Ok(())
+    }
+
+    /// Walks parallel branches, one behind the other, with a mark behind each.
+    #[cycle(walking)]
+    fn side_by_side(
+        &mut self,
+        alloc: Global,
+        depth: usize,
+        branches: &[&[Placed]],
+        rounds: &[usize],
+    ) -> Result<(), AllocError>
+        ensures { OnOk result (self.new
+            ≡ side_by_side (walk depth) (map (λ x. x.now) branches.now) rounds.now self.old) }
+    {
+        for branch in branches {
+            self.walk(alloc, depth, branch, rounds)?;
+            self.heal();
+            if !self.goes() {
+                return Ok(());
+            }
+            self.put(Step::Next)?;
+        }
+        Ok(())
+    }
+
+    /// Does what follows the choice of a block of this form.
+    #[cycle(walking)]
+    #[tactic(auto, unfolding(crate::specs::Courses::follow))]
+    fn follow(
+        &mut self,
+        alloc: Global,
+        depth: usize,
+        form: Form,
+        branches: &[&[Placed]],
+        rounds: &[usize],
+        choice: usize,
+    ) -> Result<(), AllocError>
+        ensures { OnOk result (self.new ≡ follow
+            (walk depth) form (map (λ x. x.now) branches.now) rounds.now choice self.old) }
+    {
+        match form {
+            Form::OneOf => {
+                self.walk(alloc, depth, branch_at(branches, choice), rounds)?;
+                self.heal();
+            }
+            Form::Maybe if choice > 0 => {
+                self.walk(alloc, depth, branch_at(branches, choice - 1), rounds)?;
+                self.heal();
+            }
+            Form::Rounds => {
+                self.rounds(alloc, depth, branch_at(branches, 0), rounds, choice)?;
+                self.heal();
+            }
+            Form::Break if choice > 0 => {
+                self.walk(alloc, depth, branch_at(branches, 0), rounds)?;
+                self.cut_off();
+            }
+            Form::First => {
+                self.walk(alloc, depth, branch_at(branches, 0), rounds)?;
+                if choice > 0 && self.goes() {
+                    self.walk(alloc, depth, branch_at(branches, choice), rounds)?;
+                }
+                self.heal();
+            }
+            Form::Maybe | Form::Break | Form::Par | Form::Plain => {}
+        }
+        Ok(())
+    }
+
+    /// Walks a block of this form, on this line of the text.
+    #[cycle(walking)]
+    #[tactic(auto, unfolding(crate::specs::Courses::formed))]
+    fn formed(
+        &mut self,
+        alloc: Global,
+        depth: usize,
+        line: usize,
+        form: Form,
+        branches: &[&[Placed]],
+        rounds: &[usize],
+    ) -> Result<(), AllocError>
+        ensures { OnOk result (self.new ≡ formed
+            (walk depth) line form (map (λ x. x.now) branches.now) rounds.now self.old) }
+    {
+        match form {
+            Form::Plain => self.walk(alloc, depth, branch_at(branches, 0), rounds),
+            Form::Par => {
+                self.put(Step::Opens(line))?;
+                self.side_by_side(alloc, depth, branches, rounds)?;
+                if self.goes() {
+                    self.put(Step::Closes)?;
+                }
+                Ok(())
+            }
+            _ => {
+                let choice = self.choose(line, form.most(branches.len()), form.main())?;
+                if !self.goes() {
+                    return Ok(());
+                }
+                self.follow(alloc, depth, form, branches, rounds, choice)
+            }
+        }
+    }
+
+    /// Walks a block of this kind, with these statements inside.
+    #[cycle(walking)]
+    #[tactic(auto, unfolding(crate::specs::Courses::block))]
+    fn block(
+        &mut self,
+        alloc: Global,
+        depth: usize,
+        line: usize,
+        kind: Kind,
+        inside: &[Placed],
+        rounds: &[usize],
+    ) -> Result<(), AllocError>
+        ensures { OnOk result (self.new
+            ≡ block (walk depth) line kind inside.now rounds.now self.old) }
+    {
+        if !is_there(kind, inside) {
+            return Ok(());
+        }
+        let branches = branches_of(alloc, inside)?;
+        let form = Form::of(kind, branches.len());
+        self.formed(alloc, depth, line, form, branches.as_slice(), rounds)
+    }
+
+    /// Walks one statement, with those behind it.
+    #[cycle(walking)]
+    fn one(
+        &mut self,
+        alloc: Global,
+        depth: usize,
+        placed: &Placed,
+        rest: &[Placed],
+        rounds: &[usize],
+    ) -> Result<(), AllocError>
+        ensures { OnOk result (self.new
+            ≡ one (walk depth) placed.now placed.now.statement rest.now rounds.now self.old) }
+    {
+        match &placed.statement {
+            Statement::Says(arrow) => self.meet(alloc, placed, arrow, rounds),
+            Statement::Begins(kind) => {
+                let inside = &rest[..extent(rest)];
+                self.block(alloc, depth, placed.line, *kind, inside, rounds)
+            }
+            Statement::Declares(_, _) | Statement::Closes(_) => Ok(()),
+        }
+    }
+
+    /// Walks statements, with at most so many blocks inside each other.
+    #[cycle(walking)]
+    fn walk(
+        &mut self,
+        alloc: Global,
+        depth: usize,
+        statements: &[Placed],
+        rounds: &[usize],
+    ) -> Result<(), AllocError>
+        ensures { OnOk result (self.new ≡ walk depth statements.now rounds.now self.old) }
+    {
+        if depth == 0 {
+            return Ok(());
+        }
+        let mut owned = 0;
+        for i in 0..statements.len() {
+            if owned > 0 {
+                owned -= 1;
+                continue;
+            }
+            let placed = &statements[i];
+            let rest = &statements[i + 1..];
+            self.one(alloc, depth - 1, placed, rest, rounds)?;
+            if !self.goes() {
+                return Ok(());
+            }
+            owned = owned_by(&placed.statement, rest);
+        }
+        Ok(())
     }
 }
