@@ -6,3 +6,4 @@ pub mod MermaidLemmas
 pub mod NamingLemmas
 pub mod CourseLemmas
 pub mod WalkLemmas
+pub mod PlanLemmas

@@ -11,3 +11,4 @@ pub mod Reading
 pub mod Mermaid
 pub mod Naming
 pub mod Courses
+pub mod Drafting

@@ -14,6 +14,7 @@ mod lines;
 mod mermaid;
 mod naming;
 mod outline;
+mod plan;
 mod reading;
 mod row;
 mod saying;
@@ -24,6 +25,7 @@ mod walking;
 pub use course::{Ending, Message, Step};
 pub use fault::{Expectation, ImportFault};
 pub use key::Head;
+pub use plan::Own;
 pub use row::{Closer, Kind};
 pub use statement::{Arrow, Cross, Diagram, Placed, Statement};
 
