@@ -7,3 +7,4 @@ pub mod NamingLemmas
 pub mod CourseLemmas
 pub mod WalkLemmas
 pub mod PlanLemmas
+pub mod DraftLemmas

@@ -7,6 +7,8 @@
 #![tactic(auto)]
 
 mod course;
+mod drafting;
+mod drawing;
 mod fault;
 mod key;
 mod line_name;
