@@ -8,3 +8,4 @@ pub mod CourseLemmas
 pub mod WalkLemmas
 pub mod PlanLemmas
 pub mod DraftLemmas
+pub mod NamedLemmas

@@ -1,17 +1,19 @@
 //! Walks through a diagram's statements, block by block.
 
-ghost use Rattle.std.specs.Prelude.{◌≡◌, ◌≤◌, length, map, IfOk, OnOk};
+ghost use Rattle.std.specs.Prelude.{◌≡◌, ◌≤◌, ◌+◌, [], length, map, IfOk, OnOk};
+ghost use Rattle.msc_import.specs.Drafting.{at_rest, unended};
+ghost use Rattle.msc_import.specs.Reading.{Leaves};
 ghost use Rattle.msc_import.specs.Courses.{block, branch_at, broken, choice_of, choose, follow};
 ghost use Rattle.msc_import.specs.Courses.{formed, goes, line_at, meet, message_of, one, owned_by};
 ghost use Rattle.msc_import.specs.Courses.{put, rounds_from, side_by_side, unbroken, walk};
 
-use crate::ARROW_LIMIT;
 use crate::course::{Ending, Form, Message, Step, branches_of, extent, is_there};
 use crate::fault::ImportFault;
 use crate::line_name::number_name;
 use crate::naming::made;
 use crate::row::Kind;
-use crate::statement::{Arrow, Placed, Statement};
+use crate::statement::{Arrow, Diagram, Placed, Statement};
+use crate::{ARROW_LIMIT, DEPTH_LIMIT};
 use listed::Listed;
 use msc_parser::Name;
 use std::alloc::{AllocError, Global};
@@ -366,6 +368,56 @@ impl Walker<'_> {
                 return Ok(());
             }
             owned = owned_by(&placed.statement, rest);
+        }
+        Ok(())
+    }
+}
+
+impl<'w> Walker<'w> {
+    /// The walk through a diagram with these choices, and the main ones where they aren't given.
+    pub(crate) fn through(
+        alloc: Global,
+        diagram: &'w Diagram,
+        given: &'w [usize],
+    ) -> Result<Walker<'w>, AllocError>
+        ensures { IfOk result (λ w. w ≡ walk
+            (DEPTH_LIMIT + 1) diagram.now.statements [] (at_rest diagram.now.lines given.now)) }
+    {
+        let mut walker = Walker {
+            lines: diagram.lines.as_slice(),
+            given,
+            taken: Vec::new(alloc),
+            steps: Vec::new(alloc),
+            arrows: 0,
+            ending: Ending::Goes,
+        };
+        walker.walk(alloc, DEPTH_LIMIT + 1, diagram.statements.as_slice(), &[])?;
+        Ok(walker)
+    }
+
+    /// The steps.
+    pub(crate) fn steps(&self) -> &[Step]
+        ensures { result.now ≡ self.now.steps }
+    {
+        self.steps.as_slice()
+    }
+
+    /// The lines of the diagram.
+    pub(crate) fn lines(&self) -> &[Listed<u8>]
+        ensures { result.now ≡ self.now.lines }
+    {
+        self.lines
+    }
+
+    /// Nothing, or why the walk has no draft beside its lines.
+    pub(crate) fn whole(&self) -> Result<(), ImportFault>
+        ensures { Leaves result self.now (unended self.now self.now.ending) }
+    {
+        if let Ending::Stopped(fault) = self.ending {
+            return Err(fault);
+        }
+        if self.given.len() > self.taken.len() {
+            return Err(ImportFault::TooManyChoices(self.given.len(), self.taken.len()));
         }
         Ok(())
     }
