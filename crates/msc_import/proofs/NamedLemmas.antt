@@ -1,13 +1,15 @@
 -- What is drawn has names of charts alone.
-use Rattle.std.proofs.Common.{◌≡◌, ◌≢◌, ◌≤◌, ℕ, ◌+◌, Bool, true, false, not, ◌&&◌, ◌||◌, cond, List, [], ◌∷◌, ◌++◌, length, map, Option, None, Some, Result, Ok, Err, is_none, nat_le, nat_lt, codes, refl, sym, ap, ◌∙◌, subst, lit≤, arith, tests}
+use Rattle.std.proofs.Common.{◌≡◌, ◌≢◌, ◌<◌, ◌≤◌, ℕ, ◌+◌, Bool, true, false, not, ◌&&◌, ◌||◌, cond, List, [], ◌∷◌, ◌++◌, length, get_or, drop, map, Option, None, Some, Result, Ok, Err, is_none, nat_le, nat_lt, codes, refl, sym, ap, ◌∙◌, subst, lit≤, arith, tests}
 use Rattle.std.specs.List.{AllByRecursion, list_all}
 use Rattle.std.specs.Str.{bytes_eq}
 use Rattle.std.proofs.lemmas.Bool.{leb-true, false≢true}
+use Rattle.std.proofs.lemmas.List.{drop_more, drop_all}
 use Rattle.msc_lexer.specs.declared.TheConstants.{NAME_LIMIT, TEXT_LIMIT}
 use Rattle.msc_lexer.specs.Bytes.{is_run_byte}
 use Rattle.msc_lexer.specs.Lexemes.{IsName}
 use Rattle.msc_lexer.specs.declared.word.Word.{Word}
 use Rattle.msc_lexer.specs.Words.{word_of}
+use Rattle.msc_parser.specs.declared.tree.Decl.{Decl}
 use Rattle.msc_parser.specs.declared.tree.Section.{Section}
 use Rattle.msc_parser.specs.Drafts.{IsDeclNamed, IsSignalNamed, IsStatementNamed, IsItemNamed, IsSectionNamed, IsDraft, statements_of}
 use Rattle.msc_import.specs.declared.course.Message.{Message}
@@ -17,7 +19,8 @@ use Rattle.msc_import.specs.declared.plan.Own.{Own}
 use Rattle.msc_import.specs.declared.plan.Side.{Side}
 use Rattle.msc_import.specs.declared.plan.Side.TheVariants as sides
 use Rattle.msc_import.specs.declared.statement.Placed.{Placed}
-use Rattle.msc_import.specs.Gives.{◌>>=◌}
+use Rattle.msc_import.specs.Gives.{◌>>=◌, Fails}
+use Rattle.msc_import.proofs.ReadingLemmas.{bind_fails}
 use Rattle.msc_import.specs.Naming.{kind_of, made}
 use Rattle.msc_import.specs.Rows.{is_empty}
 use Rattle.msc_import.specs.Drafting.{Event, Plan, is_chart_name, fitted, drawn_side, drawn_event, drawn_item, drawn_items, between, decl_of, kind_by, shown_of, line_name, section_of, sections_on, plan_on, unplanned, tree_of}
@@ -159,3 +162,37 @@ tree_named name ss all few = record {
   sections = all;
   few_statements = few;
 }
+
+-- so is that of the parts that the code has
+pub draft_named : (name plain : List ℕ) (header : List Decl) (ts ss : List Section) → name ≡ fitted plain → header ≡ [] → ts ≡ ss → AllByRecursion IsSectionNamed ss → length (statements_of ss) ≤ TEXT_LIMIT → IsDraft (record { name = name; header = header; sections = ts })
+draft_named name plain header ts ss a b e all few =
+    subst (λ n. IsDraft (record { name = n; header = header; sections = ts })) (sym a) (subst (λ h. IsDraft (record { name = fitted plain; header = h; sections = ts })) (sym b) (subst (λ x. IsDraft (record { name = fitted plain; header = []; sections = x })) (sym e) (record {
+      name = fitted_named plain;
+      header = tt;
+      few_decls = lit≤ tt;
+      sections = all;
+      few_statements = few;
+    })))
+
+-- one line more
+sections_cons : (own : Own) (steps : List Step) (names : List (List ℕ)) (ps : List Placed) (line : ℕ) (ident : List ℕ) (idents : List (List ℕ)) (done : List Section) → sections_on own steps names ps line (ident ∷ idents) done ≡ (plan_on own line steps unplanned >>= (λ p. sections_on own steps names ps (line + 1) idents (done ++ section_of names line ident ps p ∷ [])))
+unfolding sections_on
+sections_cons own steps names ps line ident idents done = refl
+
+sections_none : (own : Own) (steps : List Step) (names : List (List ℕ)) (ps : List Placed) (line : ℕ) (done : List Section) → sections_on own steps names ps line [] done ≡ Ok done
+unfolding sections_on
+sections_none own steps names ps line done = refl
+
+module _ (own : Own) (steps : List Step) (names : List (List ℕ)) (ps : List Placed) (idents : List (List ℕ)) (i : ℕ) (done : List Section) where
+  module _ (d : List ℕ) (inside : i < length idents) where
+    sections_next : sections_on own steps names ps i (drop i idents) done ≡ (plan_on own i steps unplanned >>= (λ p. sections_on own steps names ps (i + 1) (drop (i + 1) idents) (done ++ section_of names i (get_or idents i d) ps p ∷ [])))
+    sections_next = ap (λ x. sections_on own steps names ps i x done) (drop_more idents i d inside) ∙ sections_cons own steps names ps i (get_or idents i d) (drop (i + 1) idents) done
+
+    pub sections_more : (p : Plan) → plan_on own i steps unplanned ≡ Ok p → sections_on own steps names ps i (drop i idents) done ≡ sections_on own steps names ps (i + 1) (drop (i + 1) idents) (done ++ section_of names i (get_or idents i d) ps p ∷ [])
+    sections_more p e = sections_next ∙ ap (λ x. x >>= (λ q. sections_on own steps names ps (i + 1) (drop (i + 1) idents) (done ++ section_of names i (get_or idents i d) ps q ∷ []))) e
+
+    pub sections_fail : (e : ImportFault) → Fails e (plan_on own i steps unplanned) → Fails e (sections_on own steps names ps i (drop i idents) done)
+    sections_fail e h = subst (Fails e) (sym sections_next) (bind_fails e _ _ h)
+
+  pub sections_end : length idents ≤ i → sections_on own steps names ps i (drop i idents) done ≡ Ok done
+  sections_end over = ap (λ x. sections_on own steps names ps i x done) (drop_all i idents over) ∙ sections_none own steps names ps i done

@@ -38,7 +38,7 @@ fn is_chart_name(bytes: &[u8]) -> bool
 
 /// The bytes where they are a name of charts, and else one letter.
 #[tactic(auto, unfolding(crate::specs::Drafting::fitted))]
-fn fitted(alloc: Global, bytes: &[u8]) -> Result<Name, AllocError>
+pub(crate) fn fitted(alloc: Global, bytes: &[u8]) -> Result<Name, AllocError>
     ensures { IfOk result (λ n. n ≡ fitted bytes.now) }
 {
     if !is_chart_name(bytes) {
@@ -58,7 +58,7 @@ fn ident_text(alloc: Global, message: &Message) -> Result<Vec<u8>, AllocError>
 }
 
 /// The name of a line.
-fn line_name(names: &[Name], line: usize) -> &[u8]
+pub(crate) fn line_name(names: &[Name], line: usize) -> &[u8]
     ensures { result.now ≡ line_name names.now line }
 {
     if line < names.len() {
@@ -154,7 +154,7 @@ fn between<'e, 's>(events: &'e [Planned<'s>], start: usize, stop: usize) -> &'e 
 }
 
 /// The segments of events.
-fn drawn_items(
+pub(crate) fn drawn_items(
     alloc: Global,
     names: &[Name],
     events: &[Planned],
@@ -209,7 +209,7 @@ fn fitted_kind(alloc: Global, name: &[u8], shown: &[u8]) -> Result<Listed<Name>,
 
 /// A line's name and what it is of.
 #[tactic(auto, unfolding(crate::specs::Drafting::decl_of))]
-fn decl_of(
+pub(crate) fn decl_of(
     alloc: Global,
     name: &[u8],
     ident: &[u8],

@@ -25,6 +25,7 @@ mod statement;
 mod walking;
 
 pub use course::{Ending, Message, Step};
+pub use drawing::draw;
 pub use fault::{Expectation, ImportFault};
 pub use key::Head;
 pub use plan::Own;

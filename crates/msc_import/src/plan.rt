@@ -1,8 +1,8 @@
 //! What each line of a diagram has of a course: ends of messages, in segments.
 
-ghost use Rattle.std.specs.Prelude.{◌≡◌, Ok, OnOk};
+ghost use Rattle.std.specs.Prelude.{◌≡◌, Ok, OnOk, map};
 ghost use Rattle.msc_import.specs.Drafting.{closed_last, last_frame, marked, marked_last, opened};
-ghost use Rattle.msc_import.specs.Drafting.{plan_on, planned, sides_on, unplanned, with_event};
+ghost use Rattle.msc_import.specs.Drafting.{plan_on, planned, seen, sides_on, unplanned, with_event};
 ghost use Rattle.msc_import.specs.Drafting.{with_sides};
 ghost use Rattle.msc_import.specs.Gives.{Gives};
 ghost use Rattle.msc_import.specs.Reading.{Leaves};
@@ -57,8 +57,8 @@ pub(crate) struct Frame {
 /// and the pars that are open, the innermost one last.
 #[derive(Drop)]
 pub(crate) struct Plan<'s> {
-    pub events: Vec<Planned<'s>>,
-    pub ends: Vec<usize>,
+    events: Vec<Planned<'s>>,
+    ends: Vec<usize>,
     frames: Vec<Frame>,
 }
 
@@ -123,6 +123,20 @@ impl<'s> Plan<'s> {
             ends: Vec::new(alloc),
             frames: Vec::new(alloc),
         }
+    }
+
+    /// The events.
+    pub(crate) fn events(&self) -> &[Planned<'s>]
+        ensures { map seen result.now ≡ self.now.events }
+    {
+        self.events.as_slice()
+    }
+
+    /// How many there are up to the end of each segment.
+    pub(crate) fn ends(&self) -> &[usize]
+        ensures { result.now ≡ self.now.ends }
+    {
+        self.ends.as_slice()
     }
 
     /// Puts one event more, which is a segment.
