@@ -10,6 +10,8 @@ mod course;
 mod drafting;
 mod drawing;
 mod fault;
+#[cfg(test)]
+mod gallery;
 mod key;
 mod line_name;
 mod lines;
@@ -22,12 +24,15 @@ mod row;
 mod saying;
 mod seeking;
 mod statement;
+#[cfg(test)]
+mod tests;
 mod walking;
 
 pub use course::{Ending, Message, Step};
 pub use drawing::draw;
 pub use fault::{Expectation, ImportFault};
 pub use key::Head;
+pub use mermaid::mermaid;
 pub use plan::Own;
 pub use row::{Closer, Kind};
 pub use statement::{Arrow, Cross, Diagram, Placed, Statement};

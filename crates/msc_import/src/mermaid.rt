@@ -311,11 +311,7 @@ fn said_in(alloc: Global, cross: Option<Cross>, lines: &[&[u8]]) -> Result<Diagr
 
 /// The diagram of a text, or its first fault.
 #[tactic(auto, unfolding(crate::specs::Mermaid::mermaid))]
-pub(crate) fn mermaid(
-    alloc: Global,
-    cross: Option<Cross>,
-    text: &[u8],
-) -> Result<Diagram, ImportFault>
+pub fn mermaid(alloc: Global, cross: Option<Cross>, text: &[u8]) -> Result<Diagram, ImportFault>
     ensures { Gives (λ x. x) result (mermaid cross text.now) }
 {
     if text.len() > TEXT_LIMIT {
