@@ -32,7 +32,7 @@ pub use course::{Ending, Message, Step};
 pub use drawing::draw;
 pub use fault::{Expectation, ImportFault};
 pub use key::Head;
-pub use mermaid::mermaid;
+pub use mermaid::diagram_of;
 pub use plan::Own;
 pub use row::{Closer, Kind};
 pub use statement::{Arrow, Cross, Diagram, Placed, Statement};

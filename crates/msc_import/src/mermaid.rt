@@ -309,9 +309,10 @@ fn said_in(alloc: Global, cross: Option<Cross>, lines: &[&[u8]]) -> Result<Diagr
     progress.ended(lines.len())
 }
 
-/// The diagram of a text, or its first fault.
+/// The diagram of a Mermaid text, or its first fault. Where it isn't said what crosses are, one that
+/// may be either is a fault.
 #[tactic(auto, unfolding(crate::specs::Mermaid::mermaid))]
-pub fn mermaid(alloc: Global, cross: Option<Cross>, text: &[u8]) -> Result<Diagram, ImportFault>
+pub fn diagram_of(alloc: Global, cross: Option<Cross>, text: &[u8]) -> Result<Diagram, ImportFault>
     ensures { Gives (λ x. x) result (mermaid cross text.now) }
 {
     if text.len() > TEXT_LIMIT {

@@ -2,7 +2,7 @@
 //! row with its line, and line ends.
 
 use crate::gallery::{self, Scenario};
-use crate::{Closer, Cross, Expectation, Head, ImportFault, Own, draw, mermaid};
+use crate::{Closer, Cross, Expectation, Head, ImportFault, Own, diagram_of, draw};
 use std::alloc::AllocGlobal;
 
 /// The chart of a scenario of a text, or the first fault. Its name is `name`.
@@ -14,7 +14,7 @@ fn chart(
     choices: &[usize],
     name: &[u8],
 ) -> Result<Vec<u8>, ImportFault> {
-    let diagram = mermaid(rt.alloc(), cross, text)?;
+    let diagram = diagram_of(rt.alloc(), cross, text)?;
     let draft = draw(rt.alloc(), &diagram, choices, own, name)?;
     Ok(draft.write(rt.alloc())?)
 }
@@ -902,7 +902,7 @@ const FAULTS: &[(&[u8], ImportFault)] = &[
 #[test]
 fn the_first_fault(rt: HostRuntime) {
     for &(text, wanted) in FAULTS {
-        let fault = mermaid(rt.alloc(), None, text).err();
+        let fault = diagram_of(rt.alloc(), None, text).err();
         assert!(rt; fault == Some(wanted), "{text:?}");
     }
 }
