@@ -6,6 +6,7 @@ pub mod MermaidLemmas
 pub mod NamingLemmas
 pub mod CourseLemmas
 pub mod WalkLemmas
+pub mod CountLemmas
 pub mod PlanLemmas
 pub mod DraftLemmas
 pub mod NamedLemmas

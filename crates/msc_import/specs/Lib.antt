@@ -11,4 +11,5 @@ pub mod Reading
 pub mod Mermaid
 pub mod Naming
 pub mod Courses
+pub mod Counting
 pub mod Drafting

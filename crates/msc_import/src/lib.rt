@@ -6,6 +6,7 @@
 //! from 1, choices and instances from 0.
 #![tactic(auto)]
 
+mod counting;
 mod course;
 mod drafting;
 mod drawing;
@@ -28,6 +29,7 @@ mod statement;
 mod tests;
 mod walking;
 
+pub use counting::scenarios;
 pub use course::{Ending, Message, Step};
 pub use drawing::draw;
 pub use fault::{Expectation, ImportFault};
@@ -48,3 +50,6 @@ pub const ARROW_LIMIT: usize = 1024;
 
 /// The greatest number of rounds of a loop.
 pub const ROUND_LIMIT: usize = 1024;
+
+/// The greatest number of scenarios that are counted.
+pub const SCENARIO_LIMIT: usize = 4096;

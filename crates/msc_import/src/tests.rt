@@ -2,7 +2,7 @@
 //! row with its line, and line ends.
 
 use crate::gallery::{self, Scenario};
-use crate::{Closer, Cross, Expectation, Head, ImportFault, Own, diagram_of, draw};
+use crate::{Closer, Cross, Expectation, Head, ImportFault, Own, diagram_of, draw, scenarios};
 use std::alloc::AllocGlobal;
 
 /// The chart of a scenario of a text, or the first fault. Its name is `name`.
@@ -954,5 +954,52 @@ const MOST: &[&[u8]] = &[
 fn as_many_as_may_be(rt: HostRuntime) {
     for &text in MOST {
         assert!(rt; main_chart(&rt, text).is_ok(), "{text:?}");
+    }
+}
+
+/// A text, the numbers of rounds, and how many scenarios there are.
+type Counted = (&'static [u8], &'static [usize], usize);
+
+/// Those of the gallery, and of texts with each block that has choices, and with many.
+const COUNTS: &[Counted] = &[
+    (gallery::CI_PIPELINE, &[0, 2], 3),
+    (gallery::DNS_RECURSION, &[0, 2], 2),
+    (gallery::HTTP_CACHE, &[0, 2], 8),
+    (gallery::OAUTH_CODE, &[0, 2], 2),
+    (gallery::ORDER_SAGA, &[0, 2], 2),
+    (gallery::PAYMENT_WEBHOOK, &[0, 2], 2),
+    (gallery::TLS13, &[0, 2], 4),
+    (gallery::WEBSOCKET_CHAT, &[0, 2], 2),
+    (b"sequenceDiagram\nA->>B: a", &[0, 2], 1),
+    (
+        b"sequenceDiagram\nloop x\nA->>B: a\nbreak y\nB->>A: b\nend\nalt z\nA->>B: c\nelse z\nB->>A: d\nend\nend\ncritical x\nbreak y\nA->>B: a\nend\noption z\nA->>C: c\noption y\nB->>A: d\nend\npar x\nopt y\nA->>B: e\nend\nand z\nopt y\nA->>B: e\nend\nend\n",
+        &[0, 2],
+        192,
+    ),
+    (
+        b"sequenceDiagram\nloop x\nA->>B: a\nbreak y\nB->>A: b\nend\nalt z\nA->>B: c\nelse z\nB->>A: d\nend\nend\ncritical x\nbreak y\nA->>B: a\nend\noption z\nA->>C: c\noption y\nB->>A: d\nend\npar x\nopt y\nA->>B: e\nend\nand z\nopt y\nA->>B: e\nend\nend\n",
+        &[1, 3],
+        432,
+    ),
+    (
+        b"sequenceDiagram\nopt x\nA->>B: a\nend\nopt x\nA->>B: a\nend\nopt x\nA->>B: a\nend\nopt x\nA->>B: a\nend\nopt x\nA->>B: a\nend\nopt x\nA->>B: a\nend\nopt x\nA->>B: a\nend\nopt x\nA->>B: a\nend\nopt x\nA->>B: a\nend\nopt x\nA->>B: a\nend\nopt x\nA->>B: a\nend\nopt x\nA->>B: a\nend\n",
+        &[0],
+        4096,
+    ),
+    (
+        b"sequenceDiagram\nopt x\nA->>B: a\nend\nopt x\nA->>B: a\nend\nopt x\nA->>B: a\nend\nopt x\nA->>B: a\nend\nopt x\nA->>B: a\nend\nopt x\nA->>B: a\nend\nopt x\nA->>B: a\nend\nopt x\nA->>B: a\nend\nopt x\nA->>B: a\nend\nopt x\nA->>B: a\nend\nopt x\nA->>B: a\nend\nopt x\nA->>B: a\nend\nopt x\nA->>B: a\nend",
+        &[0],
+        4097,
+    ),
+];
+
+#[test]
+fn the_number_of_scenarios(rt: HostRuntime) {
+    for &(text, rounds, wanted) in COUNTS {
+        let number = match diagram_of(rt.alloc(), None, text) {
+            Ok(diagram) => scenarios(rt.alloc(), &diagram, rounds),
+            Err(_) => Ok(0),
+        };
+        assert!(rt; number == Ok(wanted), "{text:?}");
     }
 }

@@ -151,14 +151,14 @@ impl Walker<'_> {
 }
 
 /// A branch, and none where there are fewer.
-fn branch_at<'p>(branches: &[&'p [Placed]], i: usize) -> &'p [Placed]
+pub(crate) fn branch_at<'p>(branches: &[&'p [Placed]], i: usize) -> &'p [Placed]
     ensures { result.now ≡ branch_at (map (λ x. x.now) branches.now) i }
 {
     if i < branches.len() { branches[i] } else { &[] }
 }
 
 /// How many statements behind one belong to it.
-fn owned_by(statement: &Statement, rest: &[Placed]) -> usize
+pub(crate) fn owned_by(statement: &Statement, rest: &[Placed]) -> usize
     ensures value { result ≡ owned_by statement.now rest.now }
     ensures within { result ≤ length rest.now }
 {
