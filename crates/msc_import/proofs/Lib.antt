@@ -8,5 +8,6 @@ pub mod CourseLemmas
 pub mod WalkLemmas
 pub mod CountLemmas
 pub mod PlanLemmas
+pub mod PlaceLemmas
 pub mod DraftLemmas
 pub mod NamedLemmas

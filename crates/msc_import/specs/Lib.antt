@@ -13,3 +13,4 @@ pub mod Naming
 pub mod Courses
 pub mod Counting
 pub mod Drafting
+pub mod Places

@@ -45,7 +45,7 @@ fn free_name(alloc: Global, names: &[Name], name: &[u8]) -> Result<Vec<u8>, Allo
 }
 
 /// The names of lines, each the first that is not there yet. The only error is want of memory.
-pub(crate) fn names_of(alloc: Global, idents: &[Listed<u8>]) -> Result<Vec<Name>, AllocError>
+pub fn names_of(alloc: Global, idents: &[Listed<u8>]) -> Result<Vec<Name>, AllocError>
     ensures { IfOk result (λ v. v.items ≡ names_behind [] idents.now) }
 {
     let mut names = Vec::new(alloc);

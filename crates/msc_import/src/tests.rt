@@ -2,7 +2,9 @@
 //! row with its line, and line ends.
 
 use crate::gallery::{self, Scenario};
-use crate::{Closer, Cross, Expectation, Head, ImportFault, Own, diagram_of, draw, scenarios};
+use crate::{
+    Closer, Cross, Expectation, Head, ImportFault, Own, Place, diagram_of, draw, places, scenarios,
+};
 use std::alloc::AllocGlobal;
 
 /// The chart of a scenario of a text, or the first fault. Its name is `name`.
@@ -1002,4 +1004,37 @@ fn the_number_of_scenarios(rt: HostRuntime) {
         };
         assert!(rt; number == Ok(wanted), "{text:?}");
     }
+}
+
+/// A text with columns that aren't bytes, and blanks before its statements.
+const PLACED: &[u8] =
+    b"sequenceDiagram\nparticipant B\n  \xc3\xa9->>B: a; B->>\xc3\xa9: b\n\topt x\n\tB->>B: c\nend\n\xc3\xa9 \xc3\xa9->>C: d";
+
+/// Where the arrow of each event of its chart begins.
+const PLACES: &[Place] = &[
+    Place { line: 3, column: 3 },
+    Place {
+        line: 3,
+        column: 13,
+    },
+    Place { line: 5, column: 2 },
+    Place { line: 3, column: 3 },
+    Place {
+        line: 3,
+        column: 13,
+    },
+    Place { line: 7, column: 1 },
+    Place { line: 7, column: 1 },
+];
+
+#[test]
+fn the_places_of_events(rt: HostRuntime) {
+    let found = match diagram_of(rt.alloc(), None, PLACED) {
+        Ok(diagram) => match places(rt.alloc(), &diagram, &[], Own::Action) {
+            Ok(found) => found.as_slice() == PLACES,
+            Err(_) => false,
+        },
+        Err(_) => false,
+    };
+    assert!(rt; found);
 }
