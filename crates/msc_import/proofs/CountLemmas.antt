@@ -67,11 +67,11 @@ on_skip : (inner : Counter) (rounds : List ℕ) (n : ℕ) (p : Placed) (ps : Lis
 unfolding count_on
 on_skip inner rounds n p ps w = refl
 
-on_one : (inner : Counter) (rounds : List ℕ) (p : Placed) (ps : List Placed) (w : Ways) → count_on inner rounds zero (p ∷ ps) w ≡ count_on inner rounds (owned_by p.statement ps) ps (behind w (one inner rounds p.statement ps))
+pub on_one : (inner : Counter) (rounds : List ℕ) (p : Placed) (ps : List Placed) (w : Ways) → count_on inner rounds zero (p ∷ ps) w ≡ count_on inner rounds (owned_by p.statement ps) ps (behind w (one inner rounds p.statement ps))
 unfolding count_on
 on_one inner rounds p ps w = refl
 
-on_none : (inner : Counter) (rounds : List ℕ) (n : ℕ) (w : Ways) → count_on inner rounds n [] w ≡ w
+pub on_none : (inner : Counter) (rounds : List ℕ) (n : ℕ) (w : Ways) → count_on inner rounds n [] w ≡ w
 unfolding count_on
 on_none inner rounds n w = refl
 

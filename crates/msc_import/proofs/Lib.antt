@@ -11,3 +11,4 @@ pub mod PlanLemmas
 pub mod PlaceLemmas
 pub mod DraftLemmas
 pub mod NamedLemmas
+pub mod LawLemmas

@@ -14,3 +14,4 @@ pub mod Courses
 pub mod Counting
 pub mod Drafting
 pub mod Places
+pub mod Laws

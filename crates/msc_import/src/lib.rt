@@ -14,6 +14,7 @@ mod fault;
 #[cfg(test)]
 mod gallery;
 mod key;
+pub mod laws;
 mod line_name;
 mod lines;
 mod mermaid;
