@@ -12,3 +12,4 @@ pub mod PlaceLemmas
 pub mod DraftLemmas
 pub mod NamedLemmas
 pub mod LawLemmas
+pub mod OrderLemmas
