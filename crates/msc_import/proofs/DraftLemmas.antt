@@ -1,9 +1,8 @@
 -- Drafts of courses: segments, and shown names.
-use Rattle.std.proofs.Common.{◌≡◌, ◌≢◌, ◌<◌, ◌≤◌, ℕ, suc, ◌+◌, ◌-◌, Bool, true, false, ◌&&◌, cond, List, [], ◌∷◌, ◌++◌, length, get_or, take, drop, map, Option, None, Some, nat_le, refl, sym, ap, ◌∙◌, arith, tests}
+use Rattle.std.proofs.Common.{◌≡◌, ◌<◌, ◌≤◌, ℕ, ◌+◌, ◌-◌, true, List, [], ◌∷◌, length, get_or, take, drop, map, Option, None, nat_le, refl, sym, ap, ◌∙◌, arith, tests}
 use Rattle.std.specs.Option.{option_or}
 use Rattle.std.proofs.lemmas.List.{drop_more, drop_all, take-map, drop-map, length-map}
 use Rattle.std.proofs.lemmas.Simd.{map-map}
-use Rattle.msc_parser.specs.declared.tree.Item.{Item}
 use Rattle.msc_parser.specs.declared.tree.Item.TheVariants.{Single, Coregion}
 use Rattle.msc_import.specs.declared.plan.Planned.{Planned}
 use Rattle.msc_import.specs.declared.statement.Placed.{Placed}

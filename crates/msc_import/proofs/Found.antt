@@ -1,5 +1,5 @@
 -- Looking for the first item that passes a test.
-use Rattle.std.proofs.Common.{◌≡◌, ◌<◌, ℕ, ◌+◌, Bool, true, false, cond, List, ◌∷◌, length, get_or, drop, Some, find, ap, ◌∙◌}
+use Rattle.std.proofs.Common.{◌≡◌, ◌<◌, ℕ, ◌+◌, Bool, true, false, cond, List, length, get_or, drop, Some, find, ap, ◌∙◌}
 use Rattle.std.proofs.lemmas.List.{drop_more}
 
 module _ {A : Type 0} (p : A → Bool) (xs : List A) (i : ℕ) (d : A) (inside : i < length xs) where

@@ -1,6 +1,6 @@
 -- Lines of a Mermaid text, one line more.
-use Rattle.std.proofs.Common.{◌≡◌, ◌<◌, ◌≤◌, ℕ, ◌+◌, ◌-◌, List, [], ◌∷◌, length, get_or, take, drop, map, Option, Result, Ok, refl, sym, ap, ◌∙◌, subst, length-take, length-drop, arith}
-use Rattle.std.specs.List.{prefix_len, suffix_len}
+use Rattle.std.proofs.Common.{◌≡◌, ◌<◌, ◌≤◌, ℕ, ◌+◌, ◌-◌, List, [], ◌∷◌, length, get_or, drop, map, Option, Ok, refl, sym, ap, ◌∙◌, subst, length-take, length-drop, arith}
+use Rattle.std.specs.List.{prefix_len}
 use Rattle.std.proofs.lemmas.List.{drop_more, drop_all}
 use Rattle.std.proofs.lemmas.List.Sums.{prefix_len-le-length}
 use Rattle.msc_import.specs.declared.fault.ImportFault.{ImportFault}

@@ -1,5 +1,5 @@
 -- What is drawn has names of charts alone.
-use Rattle.std.proofs.Common.{◌≡◌, ◌≢◌, ◌<◌, ◌≤◌, ℕ, ◌+◌, Bool, true, false, not, ◌&&◌, ◌||◌, cond, List, [], ◌∷◌, ◌++◌, length, get_or, drop, map, Option, None, Some, Result, Ok, Err, is_none, nat_le, nat_lt, codes, refl, sym, ap, ◌∙◌, subst, lit≤, arith, tests}
+use Rattle.std.proofs.Common.{◌≡◌, ◌≢◌, ◌<◌, ◌≤◌, ℕ, ◌+◌, Bool, true, false, not, ◌&&◌, ◌||◌, cond, List, [], ◌∷◌, ◌++◌, length, get_or, drop, map, Option, None, Some, Result, Ok, Err, is_none, nat_le, codes, refl, sym, ap, ◌∙◌, subst, lit≤}
 use Rattle.std.specs.List.{AllByRecursion, list_all}
 use Rattle.std.specs.Str.{bytes_eq}
 use Rattle.std.proofs.lemmas.Bool.{leb-true, false≢true}
@@ -11,7 +11,7 @@ use Rattle.msc_lexer.specs.declared.word.Word.{Word}
 use Rattle.msc_lexer.specs.Words.{word_of}
 use Rattle.msc_parser.specs.declared.tree.Decl.{Decl}
 use Rattle.msc_parser.specs.declared.tree.Section.{Section}
-use Rattle.msc_parser.specs.Drafts.{IsDeclNamed, IsSignalNamed, IsStatementNamed, IsItemNamed, IsSectionNamed, IsDraft, statements_of}
+use Rattle.msc_parser.specs.Drafts.{IsDeclNamed, IsStatementNamed, IsItemNamed, IsSectionNamed, IsDraft, statements_of}
 use Rattle.msc_import.specs.declared.course.Message.{Message}
 use Rattle.msc_import.specs.declared.course.Step.{Step}
 use Rattle.msc_import.specs.declared.fault.ImportFault.{ImportFault}

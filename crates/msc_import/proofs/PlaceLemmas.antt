@@ -1,5 +1,5 @@
 -- Places of a draft's events, one line more at a time.
-use Rattle.std.proofs.Common.{◌≡◌, ◌<◌, ◌≤◌, ℕ, ◌+◌, List, [], ◌∷◌, ◌++◌, length, get_or, drop, map, refl, sym, ap, ◌∙◌, subst, Result, Ok}
+use Rattle.std.proofs.Common.{◌≡◌, ◌<◌, ◌≤◌, ℕ, ◌+◌, List, [], ◌∷◌, ◌++◌, length, get_or, drop, map, refl, sym, ap, ◌∙◌, subst, Ok}
 use Rattle.std.proofs.lemmas.List.{drop_more, drop_all}
 use Rattle.msc_import.specs.declared.course.Step.{Step}
 use Rattle.msc_import.specs.declared.fault.ImportFault.{ImportFault}

@@ -1,5 +1,5 @@
 -- Plans of lines, one end and one step more.
-use Rattle.std.proofs.Common.{◌≡◌, ◌<◌, ◌≤◌, ℕ, ◌+◌, List, [], ◌∷◌, length, get_or, drop, Result, Ok, refl, sym, ap, ◌∙◌, subst}
+use Rattle.std.proofs.Common.{◌≡◌, ◌<◌, ◌≤◌, ℕ, ◌+◌, List, [], ◌∷◌, length, get_or, drop, Ok, refl, sym, ap, ◌∙◌, subst}
 use Rattle.std.proofs.lemmas.List.{drop_more, drop_all}
 use Rattle.msc_import.specs.declared.course.Message.{Message}
 use Rattle.msc_import.specs.declared.course.Step.{Step}

@@ -1,5 +1,5 @@
 -- Lines of statements, one byte and one piece more.
-use Rattle.std.proofs.Common.{◌≡◌, ◌<◌, ◌≤◌, ℕ, ◌+◌, Bool, true, false, cond, List, [], ◌∷◌, length, get_or, take, drop, map, Option, Result, Ok, ◌⊎◌, inl, inr, ⊎_elim, refl, sym, ap, ◌∙◌, subst, arith}
+use Rattle.std.proofs.Common.{◌≡◌, ◌<◌, ◌≤◌, ℕ, ◌+◌, Bool, true, false, cond, List, [], ◌∷◌, length, get_or, take, drop, map, Option, Result, Ok, inl, inr, ⊎_elim, refl, sym, ap, ◌∙◌, subst, arith}
 use Rattle.std.specs.List.{prefix_len, slice_split, onto_first}
 use Rattle.std.proofs.lemmas.List.{drop_more, drop_all}
 use Rattle.msc_import.specs.declared.fault.ImportFault.{ImportFault}

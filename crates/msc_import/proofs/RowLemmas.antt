@@ -1,8 +1,7 @@
 -- Seeking, patterns and rows, one step of each.
-use Rattle.std.proofs.Common.{◌≡◌, ◌<◌, ◌≤◌, ℕ, ◌+◌, Bool, true, false, cond, List, [], ◌∷◌, length, get_or, drop, Option, None, Some, refl, sym, ap, ◌∙◌}
+use Rattle.std.proofs.Common.{◌≡◌, ◌<◌, ◌≤◌, ℕ, ◌+◌, true, false, cond, List, [], ◌∷◌, length, get_or, drop, Option, Some, refl, sym, ap, ◌∙◌}
 use Rattle.std.specs.Prelude.{option_and_then}
 use Rattle.std.proofs.lemmas.List.{drop_more, drop_all}
-use Rattle.msc_import.specs.declared.row.Meaning.{Meaning}
 use Rattle.msc_import.specs.declared.row.Meaning.TheVariants as says
 use Rattle.msc_import.specs.declared.row.Part.{Part}
 use Rattle.msc_import.specs.declared.row.Row.{Row}

@@ -11,7 +11,6 @@ use Rattle.msc_import.specs.declared.course.Form.TheVariants as forms
 use Rattle.msc_import.specs.declared.course.Message.{Message}
 use Rattle.msc_import.specs.declared.course.Step.{Step}
 use Rattle.msc_import.specs.declared.course.Step.TheVariants as steps
-use Rattle.msc_import.specs.declared.fault.ImportFault.{ImportFault}
 use Rattle.msc_import.specs.declared.fault.ImportFault.TheVariants.{Choice, TooManyArrows}
 use Rattle.msc_import.specs.declared.row.Closer.TheVariants as closers
 use Rattle.msc_import.specs.declared.row.Kind.{Kind}

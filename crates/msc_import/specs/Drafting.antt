@@ -1,9 +1,9 @@
 -- The draft of a course: each line has the ends of its arrows in their order, and branches of a par that
 -- have one segment each on a line are a coregion there.
-use Rattle.std.specs.Prelude.{◌≡◌, ℕ, ◌+◌, ◌-◌, Bool, true, false, cond, not, ◌||◌, ◌&&◌, ◌==◌, nat_le, nat_lt, List, [], ◌∷◌, ◌++◌, length, take, drop, slice_get, map, codes, Option, None, Some, is_none, unwrap_or, Result, Ok, Err}
+use Rattle.std.specs.Prelude.{ℕ, ◌+◌, ◌-◌, Bool, false, cond, not, ◌||◌, ◌&&◌, ◌==◌, nat_le, nat_lt, List, [], ◌∷◌, ◌++◌, length, take, drop, slice_get, map, codes, Option, None, Some, is_none, unwrap_or, Result, Ok, Err}
 use Rattle.std.specs.Option.{option_or}
 use Rattle.std.specs.Str.{bytes_eq}
-use Rattle.std.specs.List.{flat_map, list_all}
+use Rattle.std.specs.List.{list_all}
 use Rattle.msc_lexer.specs.declared.TheConstants.{NAME_LIMIT, TEXT_LIMIT}
 use Rattle.msc_lexer.specs.Bytes.{is_run_byte}
 use Rattle.msc_lexer.specs.Words.{word_of}

@@ -1,5 +1,5 @@
 -- What holds of every import.
-use Rattle.std.specs.Prelude.{◌≡◌, ℕ, Bool, true, false, not, List, [], map, Option, Result, Ok}
+use Rattle.std.specs.Prelude.{◌≡◌, ℕ, Bool, true, false, not, List, [], map, Option, Ok}
 use Rattle.std.specs.List.{flat_map, list_all}
 use Rattle.msc_parser.specs.Drafts.{statements_in}
 use Rattle.msc_import.specs.declared.course.Step.{Step}

@@ -1,6 +1,6 @@
 -- The table of Mermaid's statements: which patterns may stand behind the word that a statement begins
 -- with, and what each says. The first one that fits counts.
-use Rattle.std.specs.Prelude.{ℕ, ◌+◌, Bool, true, false, cond, not, ◌||◌, ◌&&◌, nat_lt, nat_eq, List, [], ◌∷◌, length, take, drop, Option, None, Some, option_and_then, is_some}
+use Rattle.std.specs.Prelude.{ℕ, Bool, true, false, cond, not, ◌||◌, ◌&&◌, nat_lt, List, [], ◌∷◌, length, take, drop, Option, None, Some, option_and_then, is_some}
 use Rattle.std.specs.List.{prefix_len}
 use Rattle.std.specs.Char.{is_ascii_digit}
 use Rattle.msc_lexer.specs.Bytes.{begins, is_run_byte}

@@ -1,4 +1,4 @@
-use Rattle.std.proofs.Common.{◌≡◌, ◌<◌, false, nat_le, length, sym, ap, arith, rules, tests}
+use Rattle.std.proofs.Common.{◌<◌, length, ap, arith, rules, tests}
 use Rattle.std.specs.List.{flat_map}
 use Rattle.std.proofs.lemmas.List.Folds.{length-flat_map-take}
 use Rattle.msc_lexer.specs.declared.TheConstants.{TEXT_LIMIT}

@@ -1,5 +1,4 @@
-use Rattle.std.proofs.Common.{◌≡◌, ◌≤◌, ◌++◌, true, false, map, drop, take, ◌-◌}
-use Rattle.msc_import.specs.Lines.{led_by, lines_behind}
+use Rattle.std.proofs.Common.{map}
 use Rattle.msc_import.proofs.LineLemmas.{AreCut}
 use Rattle.msc_import.proofs.lines.lines_behind.Given as goal
 

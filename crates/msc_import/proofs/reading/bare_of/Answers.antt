@@ -1,5 +1,5 @@
-use Rattle.std.proofs.Common.{◌≡◌, ◌+◌, None, Some, false, sym, ap, ◌∙◌, ◌++◌, ◌∷◌, [], drop, append_assoc, arith}
-use Rattle.std.proofs.lemmas.List.{append-nil, take_rest, length_push}
+use Rattle.std.proofs.Common.{◌+◌, None, Some, sym, ap, ◌∙◌, ◌++◌, ◌∷◌, [], drop, append_assoc, arith}
+use Rattle.std.proofs.lemmas.List.{append-nil, take_rest}
 use Rattle.msc_import.specs.Reading.{bare_from, bare_step}
 use Rattle.msc_import.proofs.ReadingLemmas.{bare_more, bare_end}
 use Rattle.msc_import.proofs.reading.bare_of.Goals as goal

@@ -1,4 +1,4 @@
-use Rattle.std.proofs.Common.{◌+◌, ◌≤◌, ◌≡◌, [], length, take, map, sym, ap, ◌∙◌, length-take, arith}
+use Rattle.std.proofs.Common.{◌+◌, ◌≤◌, [], length, take, sym, ap, ◌∙◌, length-take, arith}
 use Rattle.std.proofs.lemmas.Result.{err_from_is_err_and}
 use Rattle.msc_import.specs.Lines.{column_behind}
 use Rattle.msc_import.proofs.ReadingLemmas.{next_room, reads_next, fails_next, reads_end}
