@@ -16,7 +16,7 @@ use Rattle.msc_reason.proofs.LacksIn.{all_lacks}
 use Rattle.msc_reason.specs.Counting.{is_listed}
 use Rattle.msc_reason.specs.Marked.{lack_in, listed_from}
 use Rattle.msc_reason.specs.declared.left_out.LeftOut.{LeftOut}
-use Rattle.msc_judge.specs.Findings.{run_of, AreChosen, AreShown, AreTables, Tables}
+use Rattle.msc_judge.specs.Findings.{run_of, AreShown, AreTables, Tables}
 
 -- an event's chosen run, where it is an event
 chosen_run : (e : EnforcedChart) → IsAccepted e.chart → AChosenRunExists → (x : ℕ)

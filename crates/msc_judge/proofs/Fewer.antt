@@ -1,5 +1,5 @@
 -- Fewer races count where some are accepted.
-use Rattle.std.proofs.Common.{◌≡◌, ◌+◌, ◌≤◌, ℕ, Bool, true, false, ◌&&◌, not, List, [], ◌∷◌, cond, length, refl, arith}
+use Rattle.std.proofs.Common.{◌≤◌, ℕ, Bool, true, false, ◌&&◌, not, List, [], ◌∷◌, cond, length, arith}
 use Rattle.std.specs.List.{filter}
 use Rattle.msc_race.specs.Views.{races_of}
 use Rattle.msc_race.specs.Wired.{EnforcedChart}

@@ -1,8 +1,8 @@
 -- What is written of races, as they come.
-use Rattle.std.proofs.Common.{◌≡◌, zero, suc, ℕ, ◌+◌, ◌-◌, ◌<◌, ◌≤◌, Bool, true, false, cond, nat_lt, List, [], ◌∷◌, ◌++◌, length, take, inl, inr, refl, sym, ap, ap₂, ◌∙◌, append_assoc, arith}
+use Rattle.std.proofs.Common.{◌≡◌, suc, ℕ, ◌+◌, ◌-◌, ◌<◌, ◌≤◌, Bool, cond, nat_lt, List, [], ◌∷◌, ◌++◌, length, take, drop, get_or, inl, inr, refl, sym, ap, ◌∙◌, append_assoc, arith}
 use Rattle.std.specs.List.{flat_map}
 use Rattle.std.proofs.lemmas.Bool.{cases_lt, le-ltb, lt-ltb}
-use Rattle.std.proofs.lemmas.List.{append-nil}
+use Rattle.std.proofs.lemmas.List.{append-nil, length-take, take_more, take-append-drop}
 use Rattle.std.proofs.Math.Seq.{take-nil}
 use Rattle.msc_reason.specs.declared.lack.Lack.{Lack}
 use Rattle.msc_judge.specs.Findings.{finding_of, findings_from}
@@ -16,6 +16,20 @@ module _ (text : ℕ → ℕ × ℕ → List ℕ) (most : ℕ) where
   told_behind n m (x ∷ xs) ys is =
       ap (λ (t : List ℕ). cond (nat_lt n most) (text n x) [] ++ t) (told_behind (n + 1) m xs ys (omega (arith, is)))
       ∙ sym (append_assoc (cond (nat_lt n most) (text n x) []) (told_from text most (n + 1) xs) (told_from text most m ys))
+
+  -- what is written of the first i, and of the others behind them
+  pub told_split : (n m i : ℕ) (xs : List (ℕ × ℕ)) → m ≡ n + i → i ≤ length xs
+      → told_from text most n xs ≡ told_from text most n (take i xs) ++ told_from text most m (drop i xs)
+  told_split n m i xs is inside =
+      let few = length-take i xs in
+      ap (told_from text most n) (sym (take-append-drop i xs)) ∙ told_behind n m (take i xs) (drop i xs) (omega (arith, is, inside, few))
+
+  -- and of one more of them
+  pub told_further : (n m i : ℕ) (xs : List (ℕ × ℕ)) → m ≡ n + i → i < length xs
+      → told_from text most n (take (i + 1) xs) ≡ told_from text most n (take i xs) ++ told_from text most m (get_or xs i (0, 0) ∷ [])
+  told_further n m i xs is inside =
+      let few = length-take i xs in
+      ap (told_from text most n) (take_more xs i (0, 0) inside) ∙ told_behind n m (take i xs) (get_or xs i (0, 0) ∷ []) (omega (arith, is, inside, few))
 
   -- one that is told is put
   pub put_one : (n : ℕ) (p : ℕ × ℕ) (old new : List ℕ) → n < most → new ≡ old ++ text n p → new ≡ old ++ told_from text most n (p ∷ [])

@@ -1,5 +1,5 @@
 -- What a renderer may rely on of a finding.
-use Rattle.std.specs.Prelude.{ℕ, ◌<◌, List, length, MatchOption}
+use Rattle.std.specs.Prelude.{◌<◌, length, MatchOption}
 use Rattle.msc_chart.specs.Drawings.{Drawing}
 use Rattle.msc_reason.specs.Named.{NamesLack}
 use Rattle.msc_judge.specs.declared.renderer.Finding.{Finding}

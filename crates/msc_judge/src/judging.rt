@@ -2,7 +2,7 @@
 
 ghost use Rattle.std.specs.Prelude.{◌≡◌, ◌+◌, ◌-◌, ◌<◌, ◌≤◌, ◌^◌, true, false, [], ◌∷◌, ◌++◌, ℕ, List};
 ghost use Rattle.std.specs.Prelude.{IfOk, IsTrue, None};
-ghost use Rattle.std.specs.Prelude.{MatchOption, OnOk, Some, cond, is_some, length, nat_eq, option_map};
+ghost use Rattle.std.specs.Prelude.{MatchOption, OnOk, Some, cond, get_or, is_some, length, nat_eq, option_map};
 ghost use Rattle.std.specs.Prelude.{◌&&◌};
 ghost use Rattle.msc_chart.specs.Chosen.{IsChosenRun};
 ghost use Rattle.msc_chart.specs.Orders.{IsRace};
@@ -109,12 +109,11 @@ fn heading_of(alloc: Global, listing: &Listing, races: u32) -> Result<Heading, A
     })
 }
 
-/// Whether the first of these races is shown by a chosen run, if it is told.
+/// Whether a chosen run shows the first of these races, with so many before it, if there is one.
 fn wants_run(number: u32, question: Question, races: &[(Event, Event)]) -> bool
-    ensures { number < question.show → question.short ≡ false → 0 < length races.now
-        → IsTrue result }
+    ensures { number < question.show → 0 < length races.now → IsTrue result }
 {
-    number < question.show && !question.short && !races.is_empty()
+    number < question.show && !races.is_empty()
 }
 
 /// What was made of a run, where it is shown.
@@ -235,35 +234,11 @@ impl<'t, 'a, R: Renderer> Teller<'t, 'a, R> {
         self.renderer.put_finding(page, chart, finding, shown)
     }
 
-    /// Puts a race behind a page, behind so many, with what is made of its short run; apart from the
-    /// loop over races, which few need it in.
-    #[inline(never)]
-    fn put_own(
-        &self,
-        alloc: Global,
-        page: &mut Page,
-        race: (Event, Event),
-        number: u32,
-    ) -> Result<(), AllocError>
-        requires fits { R.fits self.now.renderer.now self.now.listing.now.judged.chart }
-        requires race { IsRace (wiring_of self.now.listing.now.judged) race.0 race.1 }
-        requires short { self.now.question.short ≡ true }
-        ensures { OnOk result ((runs : ℕ × ℕ → List ℕ)
-            → AreShown self.now.question.short (wiring_of self.now.listing.now.judged) runs
-            → page.new.bytes.items ≡ page.old.bytes.items ++ race_text
-            (texts R.heading_text R.run_text R.finding_text R.end_text
-            self.now.renderer.now self.now.listing.now.judged.chart)
-            self.now.listing.now.judged self.now.question runs number race) }
-    {
-        let own = self.short_line(alloc, race)?;
-        self.put_race(page, race, number, own.as_slice())
-    }
-
     /// Puts a race behind a page, where it is one of the first, behind so many; `line` is what was
     /// made of the chosen run of its first event, where that shows it.
+    #[inline(always)]
     fn put_next(
         &self,
-        alloc: Global,
         page: &mut Page,
         race: (Event, Event),
         number: u32,
@@ -271,8 +246,8 @@ impl<'t, 'a, R: Renderer> Teller<'t, 'a, R> {
     ) -> Result<(), AllocError>
         requires fits { R.fits self.now.renderer.now self.now.listing.now.judged.chart }
         requires race { IsRace (wiring_of self.now.listing.now.judged) race.0 race.1 }
-        requires line { number < self.now.question.show → self.now.question.short ≡ false
-            → (run : List ℕ)
+        requires chosen { number < self.now.question.show → self.now.question.short ≡ false }
+        requires line { number < self.now.question.show → (run : List ℕ)
             → IsChosenRun (wiring_of self.now.listing.now.judged) race.0 run
             → line.now ≡ R.run_text self.now.renderer.now self.now.listing.now.judged.chart run }
         ensures { OnOk result ((runs : ℕ × ℕ → List ℕ)
@@ -286,14 +261,127 @@ impl<'t, 'a, R: Renderer> Teller<'t, 'a, R> {
         if number >= self.question.most {
             return Ok(());
         }
-        if self.question.short && number < self.question.show {
-            return self.put_own(alloc, page, race, number);
-        }
         self.put_race(page, race, number, line)
     }
 
+    /// What is made of the short run of a race with so many before it, where it is shown.
+    fn own_line(
+        &self,
+        alloc: Global,
+        race: (Event, Event),
+        number: u32,
+    ) -> Result<Vec<u8>, AllocError>
+        requires fits { R.fits self.now.renderer.now self.now.listing.now.judged.chart }
+        requires race { IsRace (wiring_of self.now.listing.now.judged) race.0 race.1 }
+        ensures { IfOk result (λ line. number < self.now.question.show → (run : List ℕ)
+            → IsShortRun (wiring_of self.now.listing.now.judged) race.0 race.1 run
+            → line.items ≡ R.run_text self.now.renderer.now
+            self.now.listing.now.judged.chart run) }
+    {
+        if number >= self.question.show {
+            return Ok(Vec::new(alloc));
+        }
+        self.short_line(alloc, race)
+    }
+
+    /// Puts a race behind a page, where it is one of the first, behind so many, with what is made of
+    /// its short run.
+    fn put_own(
+        &self,
+        alloc: Global,
+        page: &mut Page,
+        race: (Event, Event),
+        number: u32,
+    ) -> Result<(), AllocError>
+        requires fits { R.fits self.now.renderer.now self.now.listing.now.judged.chart }
+        requires race { IsRace (wiring_of self.now.listing.now.judged) race.0 race.1 }
+        requires short { self.now.question.short ≡ true }
+        ensures { OnOk result ((runs : ℕ × ℕ → List ℕ)
+            → AreShown self.now.question.short (wiring_of self.now.listing.now.judged) runs
+            → page.new.bytes.items ≡ page.old.bytes.items ++ told_from (race_text
+            (texts R.heading_text R.run_text R.finding_text R.end_text
+            self.now.renderer.now self.now.listing.now.judged.chart)
+            self.now.listing.now.judged self.now.question runs)
+            self.now.question.most number (race ∷ [])) }
+    {
+        if number >= self.question.most {
+            return Ok(());
+        }
+        let own = self.own_line(alloc, race, number)?;
+        self.put_race(page, race, number, own.as_slice())
+    }
+
     /// Puts these races of an event behind a page, those of the first that are told, behind so
-    /// many. Full pages go out. What is made of a chosen run serves all of them.
+    /// many. Full pages go out. `line` is what was made of the event's chosen run, which serves all
+    /// of them, where it shows one.
+    fn put_races<W: Write>(
+        &self,
+        writer: &mut W,
+        page: &mut Page,
+        races: &[(Event, Event)],
+        number: u32,
+        line: &[u8],
+    ) -> Result<(), WriteFault>
+        requires fits { R.fits self.now.renderer.now self.now.listing.now.judged.chart }
+        requires races { AreRacesOf self.now.listing.now.judged races.now }
+        requires few { number + length races.now < 2 ^ 32 }
+        requires chosen { number < self.now.question.show → self.now.question.short ≡ false }
+        requires line { number < self.now.question.show → (i : ℕ) → i < length races.now
+            → (run : List ℕ)
+            → IsChosenRun (wiring_of self.now.listing.now.judged) (get_or races.now i (0, 0)).0 run
+            → line.now ≡ R.run_text self.now.renderer.now self.now.listing.now.judged.chart run }
+        ensures { (runs : ℕ × ℕ → List ℕ)
+            → AreShown self.now.question.short (wiring_of self.now.listing.now.judged) runs
+            → Puts result (W.contents writer.old) (W.contents writer.new)
+            page.old.bytes.items page.new.bytes.items (told_from (race_text
+            (texts R.heading_text R.run_text R.finding_text R.end_text
+            self.now.renderer.now self.now.listing.now.judged.chart)
+            self.now.listing.now.judged self.now.question runs)
+            self.now.question.most number races.now) }
+    {
+        let mut next = number;
+        for race in races {
+            page.turn(writer)?;
+            self.put_next(page, *race, next, line)?;
+            next += 1;
+        }
+        Ok(())
+    }
+
+    /// Puts these races behind a page, those of the first that are told, behind so many, each with
+    /// what is made of its short run. Full pages go out.
+    fn put_own_races<W: Write>(
+        &self,
+        alloc: Global,
+        writer: &mut W,
+        page: &mut Page,
+        races: &[(Event, Event)],
+        number: u32,
+    ) -> Result<(), WriteFault>
+        requires fits { R.fits self.now.renderer.now self.now.listing.now.judged.chart }
+        requires races { AreRacesOf self.now.listing.now.judged races.now }
+        requires few { number + length races.now < 2 ^ 32 }
+        requires short { self.now.question.short ≡ true }
+        ensures { (runs : ℕ × ℕ → List ℕ)
+            → AreShown self.now.question.short (wiring_of self.now.listing.now.judged) runs
+            → Puts result (W.contents writer.old) (W.contents writer.new)
+            page.old.bytes.items page.new.bytes.items (told_from (race_text
+            (texts R.heading_text R.run_text R.finding_text R.end_text
+            self.now.renderer.now self.now.listing.now.judged.chart)
+            self.now.listing.now.judged self.now.question runs)
+            self.now.question.most number races.now) }
+    {
+        let mut next = number;
+        for race in races {
+            page.turn(writer)?;
+            self.put_own(alloc, page, *race, next)?;
+            next += 1;
+        }
+        Ok(())
+    }
+
+    /// Puts these races of an event behind a page, those of the first that are told, behind so
+    /// many. Which run shows them is asked once, and not for each.
     fn put_event<W: Write>(
         &self,
         alloc: Global,
@@ -317,15 +405,12 @@ impl<'t, 'a, R: Renderer> Teller<'t, 'a, R> {
             self.now.listing.now.judged self.now.question runs)
             self.now.question.most number races.now) }
     {
+        if self.question.short && number < self.question.show {
+            return self.put_own_races(alloc, writer, page, races, number);
+        }
         let wanted = wants_run(number, self.question, races);
         let line = self.chosen_line(alloc, e, wanted)?;
-        let mut next = number;
-        for race in races {
-            page.turn(writer)?;
-            self.put_next(alloc, page, *race, next, line.as_slice())?;
-            next += 1;
-        }
-        Ok(())
+        self.put_races(writer, page, races, number, line.as_slice())
     }
 
     /// Puts the races that are listed behind a page, the first that are told, of a chart with so

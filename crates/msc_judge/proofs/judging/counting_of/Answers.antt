@@ -1,4 +1,4 @@
-use Rattle.std.proofs.Common.{◌≡◌, ◌≤◌, ℕ, length, ap₂, ◌∙◌, arith}
+use Rattle.std.proofs.Common.{length, ap₂, ◌∙◌, arith}
 use Rattle.std.proofs.lemmas.Result.{IfOk-weaker}
 use Rattle.msc_race.specs.Wired.{EnforcedChart}
 use Rattle.msc_reason.specs.Counting.{counting}

@@ -1,6 +1,5 @@
-use Rattle.std.proofs.Common.{ℕ, List, subst, sym}
+use Rattle.std.proofs.Common.{subst}
 use Rattle.std.proofs.lemmas.Result.{err_from_is_err_and}
-use Rattle.msc_reason.specs.Marked.{lack_in}
 use Rattle.msc_reason.specs.Selected.{Selected}
 use Rattle.msc_judge.proofs.Asked.{all_tables, tables_of}
 use Rattle.msc_judge.proofs.Putting.{begins_none}

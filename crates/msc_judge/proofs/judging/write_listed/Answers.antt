@@ -3,7 +3,6 @@ use Rattle.std.specs.Io.KnownBytes.{Appends}
 use Rattle.std.proofs.lemmas.List.{append-nil}
 use Rattle.std.proofs.lemmas.Result.{err_from_is_err_and}
 use Rattle.msc_chart.specs.Drawings.{Drawing}
-use Rattle.msc_race.specs.Views.{wiring_of}
 use Rattle.msc_race.specs.Wired.{EnforcedChart, IsEnforced}
 use Rattle.msc_chart.specs.Drawings.{IsAccepted}
 use Rattle.msc_reason.specs.Counting.{listed}
@@ -12,7 +11,7 @@ use Rattle.msc_reason.specs.Selected.{Selected}
 use Rattle.msc_judge.proofs.Asked.{all_tables, are_shown, tables_of}
 use Rattle.msc_judge.proofs.Putting.{begins_none, pages_in, pages_out, pages_then, fails_within, stops_within, puts_written}
 use Rattle.msc_judge.proofs.Whole.{whole}
-use Rattle.msc_judge.specs.Findings.{answer_text, heading_of, left_of, run_of, texts}
+use Rattle.msc_judge.specs.Findings.{heading_of, left_of, run_of, texts}
 use Rattle.msc_judge.specs.Pages.{Pages, Puts, WritesBeginning}
 use Rattle.msc_judge.specs.Telling.{race_text, told_from}
 use Rattle.msc_judge.specs.declared.renderer.Heading.{Heading}

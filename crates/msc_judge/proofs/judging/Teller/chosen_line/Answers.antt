@@ -1,7 +1,6 @@
 use Rattle.std.proofs.Common.{ℕ, List, ap, ◌∙◌, subst}
 use Rattle.std.proofs.lemmas.Result.{IfOk-weaker}
 use Rattle.msc_chart.specs.Chosen.{IsChosenRun}
-use Rattle.msc_chart.specs.Runs.{Run}
 use Rattle.msc_race.specs.Views.{wiring_of}
 use Rattle.msc_race.specs.Wired.{EnforcedChart}
 use Rattle.msc_judge.proofs.judging.Teller.chosen_line.Goals as goal

@@ -1,4 +1,4 @@
-use Rattle.std.proofs.Common.{Bool, ◌≡◌, ◌≤◌, ℕ, ◌+◌, List, [], ◌++◌, length, Err, sym, ap, ◌∙◌, subst, arith}
+use Rattle.std.proofs.Common.{Bool, ◌≡◌, ◌≤◌, ℕ, ◌+◌, List, ◌++◌, length, Err, sym, ap, ◌∙◌, subst, arith}
 use Rattle.std.specs.List.{filter}
 use Rattle.std.proofs.lemmas.List.{append-nil, nil_from_length}
 use Rattle.std.proofs.lemmas.Result.{err_from_is_err_and}
@@ -8,7 +8,7 @@ use Rattle.msc_race.proofs.Listing.Raced.{races_after, races_below}
 use Rattle.std.proofs.lemmas.List.Elements.{filter-append}
 use Rattle.msc_reason.proofs.Sums.{count_more, kept_all, kept_below, kept_few, kept_more, kept_none}
 use Rattle.msc_reason.specs.Counting.{is_listed}
-use Rattle.msc_reason.specs.Marked.{lack_in, listed_from}
+use Rattle.msc_reason.specs.Marked.{lack_in}
 use Rattle.msc_judge.proofs.Asked.{are_from, are_races}
 use Rattle.msc_judge.proofs.Putting.{fails_within, pages_in, pages_then, stops_within}
 use Rattle.msc_judge.proofs.Telling.{told_behind, told_past}

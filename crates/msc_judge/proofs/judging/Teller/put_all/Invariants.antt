@@ -1,4 +1,4 @@
-use Rattle.std.proofs.Common.{◌≡◌, ◌+◌, ℕ, List, length}
+use Rattle.std.proofs.Common.{◌≡◌, ℕ, List, length}
 use Rattle.msc_race.specs.Views.{wiring_of}
 use Rattle.msc_race.specs.Walks.{HasReached}
 use Rattle.msc_reason.proofs.Sums.{kept_below}

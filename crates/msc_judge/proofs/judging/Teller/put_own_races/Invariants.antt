@@ -3,7 +3,7 @@ use Rattle.msc_race.specs.Views.{wiring_of}
 use Rattle.msc_judge.specs.Findings.{texts, AreShown}
 use Rattle.msc_judge.specs.Pages.{Pages}
 use Rattle.msc_judge.specs.Telling.{race_text, told_from}
-use Rattle.msc_judge.proofs.judging.Teller.put_event.Given as goal
+use Rattle.msc_judge.proofs.judging.Teller.put_own_races.Given as goal
 
 -- the races so far are put behind the page
 abbrev pub invariant-loop-race : goal.invariant-loop-race
