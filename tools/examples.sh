@@ -8,7 +8,10 @@
 # `msc read`, and NAME.pair.txt, NAME.mailbox.txt and NAME.single.txt, those of `msc check`, whose
 # status is 1 where there are races. NAME.run.QUEUES.txt is the output of `msc run`, where no
 # schedule of the threads gives another one, and NAME.impatient.QUEUES.txt that with a patience of
-# 0, with which nobody takes anything; the status is 3 where some instance did not finish. Beside
+# 0, with which nobody takes anything; the status is 3 where some instance did not finish.
+# NAME.drawn.txt, NAME.QUEUES.drawn.txt and NAME.QUEUES.svg are what `msc draw` prints,
+# NAME.QUEUES.report.html what `msc report` does, and NAME.reverse.E.F.QUEUES.txt and .svg what
+# `msc reverse` does of events E and F. Beside
 # charts/refused/NAME.msc stands NAME.txt: what is written to standard error, and then the status.
 # `msc check` and `msc run` refuse each of them. `msc read` meets no fault of charts: where such a
 # fault stands, it prints NAME.read.txt, or the chart as it is where that is missing.
@@ -56,6 +59,26 @@ compare_runs() {
 
 compare_runs run
 compare_runs impatient --patience 0
+
+# Compares a stored picture or report, by the parts of its name.
+compare_picture() {
+  local words chart svg=()
+  IFS=. read -r -a words <<<"${1#charts/}"
+  chart=charts/${words[0]}.msc
+  if [ "${1##*.}" = svg ]; then svg=(--svg); fi
+  case ${words[1]}.${words[2]} in
+  drawn.txt) compare "$1" /dev/null 0 draw "$chart" ;;
+  reverse.*)
+    compare "$1" /dev/null 0 reverse --queues "${words[4]}" "${svg[@]}" "$chart" "${words[@]:2:2}"
+    ;;
+  *.report) compare "$1" /dev/null 0 report --queues "${words[1]}" "$chart" ;;
+  *) compare "$1" /dev/null 0 draw --queues "${words[1]}" "${svg[@]}" "$chart" ;;
+  esac
+}
+
+for picture in charts/*.{drawn.txt,svg,report.html} charts/*.reverse.*.txt; do
+  compare_picture "$picture"
+done
 
 for chart in charts/refused/*.msc; do
   name=${chart%.msc}

@@ -18,6 +18,8 @@ from contracts import CRATES, PAGES, TOP
 # names, and behind them the file that they stand in, of this crate or another
 LISTED = re.compile(r"((?:`[^`]+`, )*`[^`]+`) \((?:`(\w+)`, )?`((?:specs|proofs)/[\w/]+)`\)")
 LAWS = re.compile(r"`(?:(\w+)::)?laws::(\w+)`((?:: (?:`\w+`(?:, )?)+)?)")
+# the crates of tests
+TESTS = ("program_tests", "chart_tests", "picture_tests")
 WORDS = r"(?m)^\s*(?:(?:pub|abbrev|unfoldable|opaque|data|record)\s+)*{}(?=[\s:(])"
 
 
@@ -84,7 +86,7 @@ def missing_tests(cell):
     """What a cell names that is there neither as a test, MODULE::NAME, nor as a module with tests,
     nor as a tool."""
     for module, name in re.findall(r"`(\w+)(?:::(\w+))?`", cell):
-        files = [CRATES / it / f"src/{module}.rt" for it in ("program_tests", "chart_tests")]
+        files = [CRATES / it / f"src/{module}.rt" for it in TESTS]
         said = "".join(it.read_text() for it in files if it.is_file())
         if f"fn {name}(" not in said if name else "#[test]" not in said:
             yield f"{module}::{name}" if name else f"test in {module}"

@@ -23,6 +23,7 @@ use Rattle.msc_text.specs.Explaining.{PrintsReason}
 use Rattle.msc_text.specs.Judging.{JudgesChart, Passes}
 use Rattle.msc_text.specs.declared.judging.Format.{Format}
 use Rattle.msc_tool.specs.Running.{PrintsExecution}
+use Rattle.msc_command.specs.Drawing.{PrintsPage, RefusesDrawn}
 use Rattle.msc_command.specs.Ending.{ended_by, ends_as, finished_by}
 use Rattle.msc_command.specs.Formats.{IsFormat}
 use Rattle.msc_command.specs.Marked.{AreMarked, HasFaultyMark}
@@ -36,7 +37,7 @@ use Rattle.msc_command.specs.declared.ending.Status.TheVariants.{Done}
 use Rattle.msc_command.specs.declared.tasks.Ask.{Ask}
 use Rattle.msc_command.specs.declared.tasks.Ask.TheVariants.{Check, Quiet, Explain, Run, List as Listing}
 use Rattle.msc_command.specs.declared.tasks.Task.{Task}
-use Rattle.msc_command.specs.declared.tasks.Task.TheVariants.{Read, Chart}
+use Rattle.msc_command.specs.declared.tasks.Task.TheVariants.{Read, Chart, Draw}
 
 -- What is printed of the chart of a text, of the file of this name, for what is asked of it, and how the
 -- run ends. A chart is run with a gate that is known to be open.
@@ -86,6 +87,8 @@ Prints Read file text status printed =
     (draft : Tree) × HasDraft text draft × (status ≡ Done) × (printed ≡ canonical draft)
 Prints (Chart ask) file text status printed =
     (d : Drawing) × IsChartOf text d × PrintsOf ask file (source_text MscPr text d) status printed
+Prints (Draw drawn) file text status printed =
+    (d : Drawing) × (is : IsChartOf text d) × PrintsPage drawn is.draft (source_text MscPr text d) status printed
 
 -- why a text is refused for a task, with its first fault: it has no draft, or its draft is no chart,
 -- or of its chart that is not to be had which is asked
@@ -93,6 +96,8 @@ abbrev pub Refuses : Task → List ℕ → Refusal → Type 0
 Refuses task text (refusals.Fault (Parse f)) = HasParseFault text f
 Refuses (Chart ask) text (refusals.Fault (faults.Chart f)) = (draft : Tree) × HasDraft text draft × IsFirstFault draft f
 Refuses (Chart ask) text refusal = (d : Drawing) × IsChartOf text d × RefusesOf ask (source_text MscPr text d) refusal
+Refuses (Draw drawn) text (refusals.Fault (faults.Chart f)) = (draft : Tree) × HasDraft text draft × IsFirstFault draft f
+Refuses (Draw drawn) text refusal = (d : Drawing) × IsChartOf text d × RefusesDrawn drawn (source_text MscPr text d) refusal
 Refuses Read text refusal = ⊥
 
 -- A task was done, where it is known what is right to print, with how the run ends then, and when it

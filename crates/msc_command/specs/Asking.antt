@@ -16,14 +16,18 @@ use Rattle.msc_reason.specs.declared.kinds.KindSet.{KindSet}
 use Rattle.msc_judge.specs.declared.question.Question.{Question}
 use Rattle.msc_report.specs.declared.pair.EventName.{EventName}
 use Rattle.msc_report.specs.declared.pair.EventName.TheVariants.{Number, Line}
+use Rattle.msc_draw.specs.declared.form.Form.{Form as PictureForm}
+use Rattle.msc_draw.specs.declared.form.Form.TheVariants as pictures
 use Rattle.msc_command.specs.declared.tasks.Checking.{Checking}
+use Rattle.msc_command.specs.declared.tasks.Drawn.TheVariants as drawn
+use Rattle.msc_command.specs.declared.tasks.Reversing.{Reversing}
 use Rattle.msc_command.specs.declared.tasks.Explaining.{Explaining}
 use Rattle.msc_command.specs.declared.tasks.Look.{Look}
 use Rattle.msc_command.specs.declared.tasks.Ask.TheVariants.{Check, Quiet, Explain, Run, List as Listing}
 use Rattle.msc_command.specs.declared.tasks.Form.{Form}
 use Rattle.msc_command.specs.declared.tasks.Form.TheVariants as forms
 use Rattle.msc_command.specs.declared.tasks.Task.{Task}
-use Rattle.msc_command.specs.declared.tasks.Task.TheVariants.{Read, Chart}
+use Rattle.msc_command.specs.declared.tasks.Task.TheVariants.{Read, Chart, Draw}
 use Rattle.msc_command.specs.declared.words.Verb.{Verb}
 use Rattle.msc_command.specs.declared.words.Verb.TheVariants as verbs
 use Rattle.msc_command.specs.declared.words.Word.TheVariants as words
@@ -148,6 +152,18 @@ file_of_word (Some word) = word
 abbrev pub file_of : Found → List ℕ
 file_of found = file_of_word (first_value found (word_name words.File))
 
+-- the words ask for a picture in this form
+abbrev pub IsDrawnForm : Found → PictureForm → Type 0
+IsDrawnForm found pictures.Text = IsFlag found (word_name words.Svg) false
+IsDrawnForm found pictures.Svg = IsFlag found (word_name words.Svg) true
+
+-- what the words of `reverse` ask for
+pub record IsReversing (found : Found) (r : Reversing) : Type 0 where
+  pub architecture_is : architecture found ≡ Some r.queues
+  pub first : IsEventWord found (word_name words.FirstEvent) r.first
+  pub second : IsEventWord found (word_name words.SecondEvent) r.second
+  pub form : IsDrawnForm found r.form
+
 -- What the words behind a command ask for. What is to be quiet is told by the status alone.
 abbrev pub AsksFor : Verb → Found → Task → Type 0
 AsksFor verbs.Read found Read = Unit {0}
@@ -160,15 +176,24 @@ AsksFor verbs.Run found (Chart (Run queues patience)) =
     IsOptionNumber found (word_name words.Patience) default_patience patience
     × (architecture found ≡ Some queues)
 AsksFor verbs.List found (Chart (Listing placed)) = IsFlag found (word_name words.Places) placed
+AsksFor verbs.Draw found (Draw (drawn.Chart queues form)) = (queues ≡ architecture found) × IsDrawnForm found form
+AsksFor verbs.Reverse found (Draw (drawn.Run r)) = IsReversing found r
+AsksFor verbs.Report found (Draw (drawn.Report queues)) = architecture found ≡ Some queues
 AsksFor verb found task = ⊥
+
+-- the words lack the architecture, or one of two events
+abbrev pub LacksPair : Found → Type 0
+LacksPair found =
+    (architecture found ≡ None)
+    ⊎ (LacksEvent found (word_name words.FirstEvent) ⊎ LacksEvent found (word_name words.SecondEvent))
 
 -- the words behind a command lack the architecture, or one of two events, where it takes them
 abbrev pub LacksWords : Verb → Found → Type 0
 LacksWords verbs.Read found = ⊥
 LacksWords verbs.List found = ⊥
-LacksWords verbs.Explain found =
-    (architecture found ≡ None)
-    ⊎ (LacksEvent found (word_name words.FirstEvent) ⊎ LacksEvent found (word_name words.SecondEvent))
+LacksWords verbs.Draw found = ⊥
+LacksWords verbs.Explain found = LacksPair found
+LacksWords verbs.Reverse found = LacksPair found
 LacksWords verb found = architecture found ≡ None
 
 -- words stand that exclude each other: that places are told, and that no more than plain lines are

@@ -103,6 +103,7 @@ rule_by p name takes.Nothing = flag_rule name
 rule_by p name takes.NothingOrQ = letter_rule name
 rule_by p name takes.Number = number_rule name
 rule_by p name takes.Architecture = needed_rule name p.architectures
+rule_by p name takes.ArchitectureIfAny = choice_rule name p.architectures
 rule_by p name takes.Kinds = choices_rule name p.kinds
 rule_by p name takes.Form = choice_rule name p.forms
 

@@ -6,6 +6,7 @@ pub mod Sited
 pub mod Naming
 pub mod Formats
 pub mod Marked
+pub mod Drawing
 pub mod Ending
 pub mod Refused
 pub mod Answering

@@ -6,7 +6,7 @@ use Rattle.msc_place.specs.Standing.{HasNoneOnLine, IsFirstOnLine}
 use Rattle.msc_report.specs.declared.pair.EventName.{EventName}
 use Rattle.msc_report.specs.declared.pair.EventName.TheVariants.{Number, Line}
 use Rattle.msc_report.specs.declared.pair.NamedFault.{NamedFault}
-use Rattle.msc_report.specs.declared.pair.NamedFault.TheVariants.{NoEvent, OneEvent}
+use Rattle.msc_report.specs.declared.pair.NamedFault.TheVariants.{NoEvent, OneEvent, NoRace}
 use Rattle.msc_source.specs.Texts.{SourceText}
 
 -- the name is that of event e: its number, or a line on which its statement is the first to begin
@@ -31,6 +31,7 @@ IsNamedFault s first second (NoEvent name) =
     ⊎ ((name ≡ second) × ((e : ℕ) × NamesEvent s first e) × NamesNone s second)
 IsNamedFault s first second (OneEvent a b) =
     (a ≡ first) × (b ≡ second) × ((e : ℕ) × NamesEvent s first e × NamesEvent s second e)
+IsNamedFault s first second (NoRace a b) = ⊥
 
 -- these are the two events of the names
 pub record AreTwoNamed (s : SourceText) (first second : EventName) (e f : ℕ) : Type 0 where

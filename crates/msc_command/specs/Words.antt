@@ -6,14 +6,15 @@ use Rattle.msc_command.specs.declared.tasks.Form.TheVariants as forms
 use Rattle.msc_command.specs.declared.words.Takes.{Takes}
 use Rattle.msc_command.specs.declared.words.Takes.TheVariants as takes
 use Rattle.msc_command.specs.declared.words.Verb.{Verb}
-use Rattle.msc_command.specs.declared.words.Verb.TheVariants.{Read, Check, Explain, Run, List as Listing}
+use Rattle.msc_command.specs.declared.words.Verb.TheVariants.{Read, Check, Explain, Run, List as Listing, Draw, Reverse, Report}
 use Rattle.msc_command.specs.declared.words.Word.{Word}
-use Rattle.msc_command.specs.declared.words.Word.TheVariants.{File, Queues, Closest, Why, Most, Show, Allow, Format, Quiet, Words, Short, Accept, Patience, Places, Plain, FirstEvent, SecondEvent}
+use Rattle.msc_command.specs.declared.words.Word.TheVariants.{File, Queues, QueuesIfAny, Closest, Why, Most, Show, Allow, Format, Quiet, Words, Short, Accept, Patience, Places, Plain, Svg, FirstEvent, SecondEvent}
 
 -- the name of a word behind a command
 abbrev pub word_name : Word → List ℕ
 word_name File = codes "FILE"
 word_name Queues = codes "queues"
+word_name QueuesIfAny = codes "queues"
 word_name Closest = codes "closest"
 word_name Why = codes "why"
 word_name Most = codes "most"
@@ -27,6 +28,7 @@ word_name Accept = codes "accept"
 word_name Patience = codes "patience"
 word_name Places = codes "places"
 word_name Plain = codes "plain"
+word_name Svg = codes "svg"
 word_name FirstEvent = codes "E"
 word_name SecondEvent = codes "F"
 
@@ -34,6 +36,7 @@ word_name SecondEvent = codes "F"
 abbrev pub takes_of : Word → Takes
 takes_of File = takes.File
 takes_of Queues = takes.Architecture
+takes_of QueuesIfAny = takes.ArchitectureIfAny
 takes_of Closest = takes.Nothing
 takes_of Why = takes.Nothing
 takes_of Most = takes.Number
@@ -47,6 +50,7 @@ takes_of Accept = takes.Nothing
 takes_of Patience = takes.Number
 takes_of Places = takes.Nothing
 takes_of Plain = takes.Nothing
+takes_of Svg = takes.Nothing
 takes_of FirstEvent = takes.Event
 takes_of SecondEvent = takes.Event
 
@@ -57,10 +61,13 @@ verb_name Check = codes "check"
 verb_name Explain = codes "explain"
 verb_name Run = codes "run"
 verb_name Listing = codes "list"
+verb_name Draw = codes "draw"
+verb_name Reverse = codes "reverse"
+verb_name Report = codes "report"
 
 -- all commands
 abbrev pub verbs : List Verb
-verbs = Read ∷ Check ∷ Explain ∷ Run ∷ Listing ∷ []
+verbs = Read ∷ Check ∷ Explain ∷ Run ∷ Listing ∷ Draw ∷ Reverse ∷ Report ∷ []
 
 -- the command of a name
 unfoldable pub verb_of_word : List ℕ → Option Verb
@@ -74,6 +81,9 @@ words_of Check =
 words_of Explain = Queues ∷ Words ∷ Short ∷ Places ∷ Plain ∷ File ∷ FirstEvent ∷ SecondEvent ∷ []
 words_of Run = Queues ∷ Patience ∷ Places ∷ Plain ∷ File ∷ []
 words_of Listing = Places ∷ Plain ∷ File ∷ []
+words_of Draw = QueuesIfAny ∷ Svg ∷ Places ∷ Plain ∷ File ∷ []
+words_of Reverse = Queues ∷ Svg ∷ Places ∷ Plain ∷ File ∷ FirstEvent ∷ SecondEvent ∷ []
+words_of Report = Queues ∷ Places ∷ Plain ∷ File ∷ []
 
 -- the word for the form of an answer
 abbrev pub form_word : Form → List ℕ

@@ -3,8 +3,10 @@
 
 ghost use Rattle.std.specs.Prelude.{◌≡◌, ℕ, List, option_map, IfErr, OnOk};
 ghost use Rattle.std.specs.Io.KnownBytes.{Keeps};
-ghost use Rattle.msc_command.specs.Answering.{AnswersOf, Delivers, Does, EndsAs, IsPut};
+ghost use Rattle.msc_chart.specs.Drawings.{chart_of};
+ghost use Rattle.msc_command.specs.Answering.{Answers, AnswersOf, Delivers, Does, EndsAs, IsPut};
 ghost use Rattle.msc_command.specs.Answering.{TellsQuietly};
+ghost use Rattle.msc_command.specs.Drawing.{PrintsPage, RefusesDrawn};
 ghost use Rattle.msc_command.specs.Ending.{ends_as};
 ghost use Rattle.msc_command.specs.Formats.{IsFormat};
 ghost use Rattle.msc_command.specs.Marked.{AreMarked};
@@ -12,6 +14,7 @@ ghost use Rattle.msc_command.specs.Refused.{IsToldIn, TellsThat, TellsUnread, Te
 ghost use Rattle.msc_report.specs.Refusals.{of_reading};
 ghost use Rattle.msc_source.specs.Inputs.{IsReadFrom};
 
+use crate::drawing::page_of;
 use crate::ending::{Refusal, Status, end_refused, end_unread, ended_by, finished_by, is_spent};
 use crate::marked::marks_of;
 use crate::naming::pair_named;
@@ -19,11 +22,12 @@ use crate::notes::{write_cause, write_notes};
 use crate::recorded::TellsFailure;
 use crate::refused::refusal_lines;
 use crate::sited::{sites_of, style_of};
-use crate::tasks::{Ask, Checking, Explaining, Form, Request, Task, form_of};
+use crate::tasks::{Ask, Checking, Drawn, Explaining, Form, Request, Task, form_of};
 use msc_chart::Queues;
 use msc_instance::AlwaysOpen;
 use msc_judge::Page;
 use msc_mark::Marks;
+use msc_parser::Draft;
 use msc_place::Sites;
 use msc_place::writing::write_file;
 use msc_reason::KindSet;
@@ -208,6 +212,22 @@ fn answer_chart<R: Threads + Wait + Sync, O: Write>(
     }
 }
 
+/// Lets what is drawn of a draft's chart go out.
+fn draw<O: Write>(
+    alloc: Global,
+    drawn: Drawn,
+    draft: &Draft,
+    source: &Source,
+    output: &mut O,
+) -> Result<Status, Refusal>
+    requires { source.now.chart ≡ chart_of draft.now }
+    ensures { Answers O.contents (PrintsPage drawn draft.now source.now)
+        (RefusesDrawn drawn source.now) result output.old output.new }
+{
+    let page = page_of(alloc, drawn, draft, source)?;
+    put(output, &page, Status::Done)
+}
+
 /// Writes the answer of a task to the text of a file of this name.
 fn answer<R: Threads + Wait + Sync, O: Write>(
     rt: &R,
@@ -228,6 +248,11 @@ fn answer<R: Threads + Wait + Sync, O: Write>(
         Task::Chart(ask) => {
             let source = Source::of(alloc, Language::MscPr, text)?;
             answer_chart(rt, alloc, ask, file, &source, output)
+        }
+        Task::Draw(drawn) => {
+            let read = Reading::of(alloc, Language::MscPr, text)?;
+            let source = Source::of_reading(alloc, &read)?;
+            draw(alloc, drawn, read.draft(), &source, output)
         }
     }
 }

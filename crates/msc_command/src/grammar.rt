@@ -146,7 +146,7 @@ impl Lists {
 }
 
 /// What `msc --version` prints behind the program's name.
-const VERSION: &str = "0.2.0";
+pub(crate) const VERSION: &str = "0.2.0";
 
 /// What stands below the help of all commands.
 const NOTES: &str = "\
@@ -263,6 +263,7 @@ fn argument<'a>(alloc: Global, word: Word, lent: Choices<'a>) -> Arg<'a>
         Takes::NothingOrQ => letter(alloc, name, help),
         Takes::Number => number(alloc, name, help),
         Takes::Architecture => one_needed(alloc, name, help, lent.architectures),
+        Takes::ArchitectureIfAny => one_of(alloc, name, help, lent.architectures),
         Takes::Kinds => any_of(alloc, name, help, lent.kinds),
         Takes::Form => one_of(alloc, name, help, lent.forms),
     }

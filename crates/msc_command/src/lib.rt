@@ -5,6 +5,7 @@
 #![tactic(auto)]
 
 mod answering;
+mod drawing;
 mod ending;
 mod grammar;
 mod marked;

@@ -3,7 +3,7 @@
 ghost use Rattle.std.specs.Prelude.{◌≡◌, MatchOption, Some, map};
 ghost use Rattle.clap.specs.Matches.{found_of};
 ghost use Rattle.msc_command.specs.Asking.{architecture, file_of, form, names_kind, AreAllowed};
-ghost use Rattle.msc_command.specs.Asking.{AsksFor, IsEventWord, IsFlag, IsLook, IsNoCommand, LacksWords};
+ghost use Rattle.msc_command.specs.Asking.{AsksFor, IsDrawnForm, IsEventWord, IsFlag, IsLook, IsNoCommand, LacksWords};
 ghost use Rattle.msc_command.specs.Asking.{tells_notes, IsTwofold, WantsNotes};
 ghost use Rattle.msc_command.specs.Asking.{IsNameText, IsNoName, IsNoNumber, IsNumberText};
 ghost use Rattle.msc_command.specs.Asking.{IsOptionNumber, IsQuestion, LacksEvent};
@@ -103,6 +103,26 @@ pub(crate) enum Ask {
     List(bool),
 }
 
+/// A race under an architecture of which a run is drawn, and how.
+#[derive(Clone, Copy)]
+pub(crate) struct Reversing {
+    pub queues: Queues,
+    pub first: EventName,
+    pub second: EventName,
+    pub form: msc_draw::Form,
+}
+
+/// What is drawn of a chart.
+#[derive(Clone, Copy)]
+pub(crate) enum Drawn {
+    /// The chart, with the marks of its closest races under an architecture, where one is named.
+    Chart(Option<Queues>, msc_draw::Form),
+    /// A run that reverses a race.
+    Run(Reversing),
+    /// The report of its races under an architecture.
+    Report(Queues),
+}
+
 /// What is asked of a text.
 #[derive(Clone, Copy)]
 pub(crate) enum Task {
@@ -110,6 +130,8 @@ pub(crate) enum Task {
     Read,
     /// What is asked of its chart.
     Chart(Ask),
+    /// What is drawn of its chart.
+    Draw(Drawn),
 }
 
 /// The form of a task's answer.
@@ -118,7 +140,7 @@ pub(crate) fn form_of(task: Task) -> Form
 {
     match task {
         Task::Chart(Ask::Check(checking)) => checking.form,
-        Task::Read | Task::Chart(_) => Form::Text,
+        Task::Read | Task::Chart(_) | Task::Draw(_) => Form::Text,
     }
 }
 
@@ -326,6 +348,38 @@ fn list_of(words: &ArgMatches) -> Task
     Task::Chart(Ask::List(is_given(words, Word::Places)))
 }
 
+/// The form of a picture that the words ask for.
+fn drawn_form(words: &ArgMatches) -> msc_draw::Form
+    ensures { IsDrawnForm (found_of words.now) result }
+{
+    if is_given(words, Word::Svg) {
+        msc_draw::Form::Svg
+    } else {
+        msc_draw::Form::Text
+    }
+}
+
+/// What the words of `msc draw` ask for.
+fn draw_of(words: &ArgMatches) -> Task
+    ensures { AsksFor Verb.Draw (found_of words.now) result }
+{
+    Task::Draw(Drawn::Chart(queues_of(words), drawn_form(words)))
+}
+
+/// What the words of `msc reverse` ask for, if they name two events.
+fn reverse_of(queues: Queues, words: &ArgMatches) -> Option<Task>
+    ensures { architecture (found_of words.now) ≡ Some queues
+        → MatchOption result (LacksWords Verb.Reverse (found_of words.now))
+        (AsksFor Verb.Reverse (found_of words.now)) }
+{
+    Some(Task::Draw(Drawn::Run(Reversing {
+        queues,
+        first: event_of(words, Word::FirstEvent)?,
+        second: event_of(words, Word::SecondEvent)?,
+        form: drawn_form(words),
+    })))
+}
+
 /// What the words behind a command ask for, if they are all there.
 fn complete_task(verb: Verb, words: &ArgMatches) -> Option<Task>
     ensures { MatchOption result (LacksWords verb (found_of words.now))
@@ -337,6 +391,9 @@ fn complete_task(verb: Verb, words: &ArgMatches) -> Option<Task>
         Verb::Explain => explain_of(queues_of(words)?, words),
         Verb::Run => Some(run_of(queues_of(words)?, words)),
         Verb::List => Some(list_of(words)),
+        Verb::Draw => Some(draw_of(words)),
+        Verb::Reverse => reverse_of(queues_of(words)?, words),
+        Verb::Report => Some(Task::Draw(Drawn::Report(queues_of(words)?))),
     }
 }
 

@@ -12,6 +12,9 @@ pub(crate) enum Verb {
     Explain,
     Run,
     List,
+    Draw,
+    Reverse,
+    Report,
 }
 
 /// A word behind a command: an argument, or an option with what it takes.
@@ -19,6 +22,7 @@ pub(crate) enum Verb {
 pub(crate) enum Word {
     File,
     Queues,
+    QueuesIfAny,
     Closest,
     Why,
     Most,
@@ -32,6 +36,7 @@ pub(crate) enum Word {
     Patience,
     Places,
     Plain,
+    Svg,
     FirstEvent,
     SecondEvent,
 }
@@ -51,6 +56,8 @@ pub(crate) enum Takes {
     Number,
     /// An option with an architecture, which has to stand.
     Architecture,
+    /// An option with an architecture.
+    ArchitectureIfAny,
     /// An option with a kind of races, which may stand often.
     Kinds,
     /// An option with the form of an answer.
@@ -64,7 +71,7 @@ impl Word {
     {
         match self {
             Word::File => "FILE",
-            Word::Queues => "queues",
+            Word::Queues | Word::QueuesIfAny => "queues",
             Word::Closest => "closest",
             Word::Why => "why",
             Word::Most => "most",
@@ -78,6 +85,7 @@ impl Word {
             Word::Patience => "patience",
             Word::Places => "places",
             Word::Plain => "plain",
+            Word::Svg => "svg",
             Word::FirstEvent => "E",
             Word::SecondEvent => "F",
         }
@@ -91,10 +99,11 @@ impl Word {
             Word::File => Takes::File,
             Word::FirstEvent | Word::SecondEvent => Takes::Event,
             Word::Closest | Word::Why | Word::Words | Word::Short => Takes::Nothing,
-            Word::Accept | Word::Places | Word::Plain => Takes::Nothing,
+            Word::Accept | Word::Places | Word::Plain | Word::Svg => Takes::Nothing,
             Word::Quiet => Takes::NothingOrQ,
             Word::Most | Word::Show | Word::Patience => Takes::Number,
             Word::Queues => Takes::Architecture,
+            Word::QueuesIfAny => Takes::ArchitectureIfAny,
             Word::Allow => Takes::Kinds,
             Word::Format => Takes::Form,
         }
@@ -106,6 +115,9 @@ impl Word {
             Word::File => "The chart's text; - is standard input",
             Word::Queues => {
                 "A queue for each sender and receiver, for each receiver, or for each message"
+            }
+            Word::QueuesIfAny => {
+                "Mark the closest races, with such queues as `msc check --help` tells"
             }
             Word::Closest => "List the closest races alone, and print how many there are",
             Word::Why => {
@@ -130,6 +142,7 @@ impl Word {
             }
             Word::Places => "Print where events stand, and what is said of a fault",
             Word::Plain => "Print nothing behind the line of a fault, also on a terminal",
+            Word::Svg => "Print SVG, for documents, and not lines of characters",
             Word::FirstEvent => "The first event: its number, or :LINE, the first one on that line",
             Word::SecondEvent => "The second event",
         }
@@ -138,12 +151,15 @@ impl Word {
 
 impl Verb {
     /// Each command once, in the order of the help.
-    pub const ALL: [Verb; 5] = [
+    pub const ALL: [Verb; 8] = [
         Verb::Read,
         Verb::Check,
         Verb::Explain,
         Verb::Run,
         Verb::List,
+        Verb::Draw,
+        Verb::Reverse,
+        Verb::Report,
     ];
 
     /// Its name.
@@ -156,6 +172,9 @@ impl Verb {
             Verb::Explain => "explain",
             Verb::Run => "run",
             Verb::List => "list",
+            Verb::Draw => "draw",
+            Verb::Reverse => "reverse",
+            Verb::Report => "report",
         }
     }
 
@@ -211,6 +230,23 @@ impl Verb {
                 Word::File,
             ],
             Verb::List => &[Word::Places, Word::Plain, Word::File],
+            Verb::Draw => &[
+                Word::QueuesIfAny,
+                Word::Svg,
+                Word::Places,
+                Word::Plain,
+                Word::File,
+            ],
+            Verb::Reverse => &[
+                Word::Queues,
+                Word::Svg,
+                Word::Places,
+                Word::Plain,
+                Word::File,
+                Word::FirstEvent,
+                Word::SecondEvent,
+            ],
+            Verb::Report => &[Word::Queues, Word::Places, Word::Plain, Word::File],
         }
     }
 
@@ -226,6 +262,9 @@ impl Verb {
                 "Run the chart on threads, and print how each instance ended and the trace"
             }
             Verb::List => "Print the chart's events with their numbers",
+            Verb::Draw => "Print the chart as a picture, in text or in SVG",
+            Verb::Reverse => "Print a picture of a run that reverses a race",
+            Verb::Report => "Print a page in HTML: the chart, its closest races, and runs that show them",
         }
     }
 
@@ -237,6 +276,9 @@ impl Verb {
             Verb::Explain => EXPLAIN_NOTES,
             Verb::Run => RUN_NOTES,
             Verb::List => LIST_NOTES,
+            Verb::Draw => DRAW_NOTES,
+            Verb::Reverse => REVERSE_NOTES,
+            Verb::Report => REPORT_NOTES,
         }
     }
 }
@@ -313,3 +355,34 @@ Exit status:
 
 Example:
   msc list --places relay.msc";
+
+/// What stands below the help of `msc draw`.
+const DRAW_NOTES: &str = "\
+Exit status:
+  0  the picture was written
+  2  the text was refused, or the words are no command
+  4  memory ran out, or a file or the output failed
+
+Example:
+  msc draw relay.msc
+  msc draw --queues mailbox --svg relay.msc";
+
+/// What stands below the help of `msc reverse`.
+const REVERSE_NOTES: &str = "\
+Exit status:
+  0  the picture was written
+  2  the text or the pair was refused, or the words are no command
+  4  memory ran out, or a file or the output failed
+
+Example:
+  msc reverse --queues pair relay.msc 2 3";
+
+/// What stands below the help of `msc report`.
+const REPORT_NOTES: &str = "\
+Exit status:
+  0  the page was written
+  2  the text was refused, or the words are no command
+  4  memory ran out, or a file or the output failed
+
+Example:
+  msc report --queues mailbox relay.msc >relay.html";

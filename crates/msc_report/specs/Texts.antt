@@ -16,7 +16,7 @@ use Rattle.msc_report.specs.declared.fault.Fault.TheVariants.{Parse, Chart, NotS
 use Rattle.msc_report.specs.declared.pair.EventName.{EventName}
 use Rattle.msc_report.specs.declared.pair.EventName.TheVariants.{Number, Line}
 use Rattle.msc_report.specs.declared.pair.NamedFault.{NamedFault}
-use Rattle.msc_report.specs.declared.pair.NamedFault.TheVariants.{NoEvent, OneEvent}
+use Rattle.msc_report.specs.declared.pair.NamedFault.TheVariants.{NoEvent, OneEvent, NoRace}
 
 -- one line of words
 abbrev pub text_line : List ℕ → List ℕ
@@ -76,11 +76,13 @@ abbrev pub event_word : EventName → List ℕ
 event_word (Number e) = decimal e
 event_word (Line line) = codes ":" ++ decimal line
 
--- the line of why two names are no two events of a chart
+-- the line of why two names are not what is asked for
 abbrev pub pair_fault_line : NamedFault → List ℕ
 pair_fault_line (NoEvent name) = codes "pair fault 1: no event " ++ text_line (event_word name)
 pair_fault_line (OneEvent e f) =
     codes "pair fault 2: " ++ (event_word e ++ (codes " and " ++ (event_word f ++ text_line (codes " are one event"))))
+pair_fault_line (NoRace e f) =
+    codes "pair fault 3: " ++ (event_word e ++ (codes " " ++ (event_word f ++ text_line (codes " is no race"))))
 
 -- the line of a comment that is to be a mark, and is none
 abbrev pub mark_fault_line : MarkFault → List ℕ

@@ -15,13 +15,15 @@ pub enum EventName {
     Line(u32),
 }
 
-/// Why two names are no two events of a chart.
+/// Why two names are not what is asked for: two events of a chart, or a race.
 #[derive(Clone, Copy, Debug, PartialEq, Eq)]
 pub enum NamedFault {
     /// This name is none of an event: the first such.
     NoEvent(EventName),
     /// Both names are those of one event.
     OneEvent(EventName, EventName),
+    /// They are those of two events that are no race, where one is wanted.
+    NoRace(EventName, EventName),
 }
 
 /// Writes the name of an event.
@@ -57,7 +59,19 @@ fn write_one_event<W: Write>(writer: &mut W, e: EventName, f: EventName) -> io::
     writer.write_all(b" are one event\n")
 }
 
-/// Writes the line of why two names are no two events of a chart.
+/// Writes the line of two names of events that are no race.
+fn write_no_race<W: Write>(writer: &mut W, e: EventName, f: EventName) -> io::Result<()>
+    ensures { OnOk result (Appends (W.contents writer.old) (W.contents writer.new)
+        (pair_fault_line (NamedFault.NoRace e f))) }
+{
+    writer.write_all(b"pair fault 3: ")?;
+    write_name(writer, e)?;
+    writer.write_all(b" ")?;
+    write_name(writer, f)?;
+    writer.write_all(b" is no race\n")
+}
+
+/// Writes the line of why two names are not what is asked for.
 pub fn write_pair_fault<W: Write>(writer: &mut W, fault: NamedFault) -> io::Result<()>
     ensures { OnOk result (Appends (W.contents writer.old) (W.contents writer.new)
         (pair_fault_line fault)) }
@@ -65,5 +79,6 @@ pub fn write_pair_fault<W: Write>(writer: &mut W, fault: NamedFault) -> io::Resu
     match fault {
         NamedFault::NoEvent(name) => write_no_event(writer, name),
         NamedFault::OneEvent(e, f) => write_one_event(writer, e, f),
+        NamedFault::NoRace(e, f) => write_no_race(writer, e, f),
     }
 }

@@ -1,6 +1,8 @@
 //! A text that was read, in two steps: its draft, and then its chart.
 
-ghost use Rattle.std.specs.Prelude.{◌≡◌};
+ghost use Rattle.std.specs.Prelude.{◌≡◌, IfOk, OnOk};
+ghost use Rattle.msc_chart.specs.Drawings.{chart_of};
+ghost use Rattle.msc_chart.specs.Faults.{IsFaultless};
 ghost use Rattle.msc_source.specs.Reading.{IsRead, IsReading};
 ghost use Rattle.msc_source.specs.Texts.{IsDrafted, IsSource};
 
@@ -90,7 +92,11 @@ impl<'t> Source<'t> {
     /// The chart of a text that was read, or why it has none: the first fault of its draft, or
     /// `Memory`. The draft stays with who holds it.
     pub fn of_reading(alloc: Global, read: &Reading<'t>) -> Result<Source<'t>, SourceFault>
-        ensures { IsReading read.now.language read.now.text result }
+        ensures told { IsReading read.now.language read.now.text result }
+
+        // The chart is that of the draft which is at hand, so both may be spoken of at once.
+        ensures drawn { IfOk result (λ source. source.chart ≡ chart_of read.now.draft) }
+        ensures faultless { OnOk result (IsFaultless read.now.draft) }
     {
         read.drafted();
         let chart = Chart::build(alloc, &read.draft)?;

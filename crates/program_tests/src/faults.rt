@@ -203,6 +203,10 @@ const PAIR_FAULTS: &[(NamedFault, &str)] = &[
         NamedFault::OneEvent(EventName::Line(3), EventName::Number(0)),
         "pair fault 2: :3 and 0 are one event\n",
     ),
+    (
+        NamedFault::NoRace(EventName::Line(3), EventName::Number(0)),
+        "pair fault 3: :3 0 is no race\n",
+    ),
 ];
 
 /// Whether the line of a fault of pairs is this.

@@ -1,0 +1,52 @@
+-- What is drawn of a chart.
+use Rattle.std.specs.Prelude.{◌≡◌, ℕ, List, Result, Ok, Err, codes}
+use Rattle.msc_draw.specs.Pictures.{IsNoRace, PrintsPicture, PrintsReversal}
+use Rattle.msc_html.specs.Reports.{PrintsReport}
+use Rattle.msc_judge.specs.declared.page.Page.{Page}
+use Rattle.msc_parser.specs.Grammar.{Tree}
+use Rattle.msc_report.specs.declared.fault.Fault.TheVariants.{Memory}
+use Rattle.msc_report.specs.declared.pair.NamedFault.TheVariants.{NoRace}
+use Rattle.msc_source.specs.Texts.{SourceText}
+use Rattle.msc_command.specs.Naming.{AreTwoNamed, IsNamedFault}
+use Rattle.msc_command.specs.declared.ending.Refusal.{Refusal}
+use Rattle.msc_command.specs.declared.ending.Refusal.TheVariants as refusals
+use Rattle.msc_command.specs.declared.ending.Status.{Status}
+use Rattle.msc_command.specs.declared.ending.Status.TheVariants.{Done}
+use Rattle.msc_command.specs.declared.tasks.Drawn.{Drawn}
+use Rattle.msc_command.specs.declared.tasks.Drawn.TheVariants.{Chart, Run, Report}
+use Rattle.msc_command.specs.declared.tasks.Reversing.{Reversing}
+
+-- the version of the program
+abbrev pub version : List ℕ
+version = codes "0.2.0"
+
+-- what is drawn of the chart of a draft
+abbrev pub PrintsDrawn : Drawn → Tree → SourceText → List ℕ → Type 0
+PrintsDrawn (Chart queues form) draft s printed = PrintsPicture draft s.chart queues form printed
+PrintsDrawn (Run r) draft s printed =
+    (e f : ℕ) × AreTwoNamed s r.first r.second e f × PrintsReversal draft s.chart r.queues r.form e f printed
+PrintsDrawn (Report queues) draft s printed = PrintsReport draft s.chart queues version printed
+
+-- the two events that are named are no race
+abbrev pub AreNoRace : Reversing → SourceText → Type 0
+AreNoRace r s = (e f : ℕ) × AreTwoNamed s r.first r.second e f × IsNoRace s.chart r.queues e f
+
+-- why a run can't be drawn: the names are those of no two events, or these are no race
+abbrev pub RefusesReversal : Reversing → SourceText → Refusal → Type 0
+RefusesReversal r s (refusals.Pair (NoRace a b)) = (a ≡ r.first) × (b ≡ r.second) × AreNoRace r s
+RefusesReversal r s (refusals.Pair fault) = IsNamedFault s r.first r.second fault
+RefusesReversal r s refusal = ⊥
+
+abbrev pub RefusesDrawn : Drawn → SourceText → Refusal → Type 0
+RefusesDrawn (Run r) s refusal = RefusesReversal r s refusal
+RefusesDrawn drawn s refusal = ⊥
+
+-- the page with what is drawn, or why there is none
+abbrev pub IsDrawnOn : Drawn → Tree → SourceText → Result Page Refusal → Type 0
+IsDrawnOn drawn draft s (Ok page) = PrintsDrawn drawn draft s page.bytes.items
+IsDrawnOn drawn draft s (Err (refusals.Fault Memory)) = Unit {0}
+IsDrawnOn drawn draft s (Err refusal) = RefusesDrawn drawn s refusal
+
+-- what is printed of it, and how the run ends
+abbrev pub PrintsPage : Drawn → Tree → SourceText → Status → List ℕ → Type 0
+PrintsPage drawn draft s status printed = (status ≡ Done) × PrintsDrawn drawn draft s printed

@@ -1,0 +1,3 @@
+pub mod Listings
+mod Lists
+mod MarkingLemmas

@@ -1,0 +1,24 @@
+use Rattle.std.proofs.Common.{refl, sym, ap, subst, ◌∙◌}
+use Rattle.msc_picture.specs.Marks.{marks_of}
+use Rattle.msc_race.specs.Views.{wiring_of}
+use Rattle.msc_reason.specs.Closest.{IsClosestList}
+use Rattle.msc_reason.specs.Marked.{lack_in}
+use Rattle.msc_reason.specs.Selected.{Selected}
+use Rattle.msc_draw.specs.Listed.{listed_of}
+use Rattle.msc_draw.proofs.closest.closest_marks.Goals as goal
+
+pub returns : goal.returns
+returns c =
+    let e = c.args.enforced in
+    let are = c.what_counts_is_listed.ensures.lacks e c.enforced.ensures.order c.enforced.ensures.chart in
+    let all = c.every_race_that_counts_spans_a_closest_one.ensures.list e c.enforced.ensures.order
+    c.enforced.ensures.chart _ (lack_in e) are refl in
+    let listing = c.in_ok-listing.listing in
+    record {
+      closest = listed_of listing;
+      are = subst (λ (s : Selected). IsClosestList (wiring_of e) (listed_of s))
+          (sym c.in_ok-listing.ensures) all;
+      marks = c.in_ok-marks.ensures.marks
+          ∙ ap (λ (s : Selected). marks_of s.judged.chart.events (listed_of listing)) c.in_ok-listing.ensures;
+      told = c.in_ok-marks.ensures.told;
+    }

@@ -1,0 +1,7 @@
+-- what is promised
+pub mod Forms
+pub mod Verdicts
+pub mod Pictures
+-- what the code keeps
+pub mod Listed
+pub mod Marking

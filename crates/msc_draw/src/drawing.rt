@@ -1,0 +1,104 @@
+//! The picture of a chart.
+
+ghost use Rattle.std.specs.Prelude.{◌≡◌, ◌++◌, IfOk, OnOk, codes, length};
+ghost use Rattle.std.specs.Fmt.{decimal};
+ghost use Rattle.msc_chart.specs.Drawings.{chart_of};
+ghost use Rattle.msc_draw.specs.Pictures.{PrintsChart, PrintsJudged, PrintsPicture};
+ghost use Rattle.msc_draw.specs.Verdicts.{counts_text, races_word, verdict_text};
+
+use crate::closest::closest_marks;
+use crate::form::{Form, page_in};
+use itoa::Buffer;
+use listed::Listed;
+use msc_chart::{Chart, Queues};
+use msc_judge::Page;
+use msc_parser::Draft;
+use msc_picture::chart_scene;
+use msc_race::Enforced;
+use std::alloc::{AllocError, Global};
+
+/// Puts how many races there are behind a text.
+fn put_races(text: &mut Vec<u8>, races: usize) -> Result<(), AllocError>
+    ensures { OnOk result
+        (text.new.items ≡ text.old.items ++ (decimal races ++ races_word races)) }
+{
+    let mut buffer = Buffer::new();
+    text.extend_from_slice(buffer.format(races).as_bytes())?;
+    if races == 1 {
+        return text.extend_from_slice(b" race, ");
+    }
+    text.extend_from_slice(b" races, ")
+}
+
+/// Puts how many races there are, and how many of them are closest, behind a text.
+fn put_counts(text: &mut Vec<u8>, races: usize, closest: usize) -> Result<(), AllocError>
+    ensures { OnOk result (text.new.items ≡ text.old.items ++ counts_text races closest) }
+{
+    put_races(text, races)?;
+    let mut buffer = Buffer::new();
+    text.extend_from_slice(buffer.format(closest).as_bytes())?;
+    text.extend_from_slice(b" closest")
+}
+
+/// The verdict over a chart with so many races. An error is a growth of memory that was refused.
+pub fn verdict(
+    alloc: Global,
+    queues: Queues,
+    races: usize,
+    closest: usize,
+) -> Result<Vec<u8>, AllocError>
+    ensures { IfOk result (λ text. text.items ≡ verdict_text queues races closest) }
+{
+    let mut text = Vec::from_slice(alloc, queues.word().as_bytes())?;
+    text.extend_from_slice(b": ")?;
+    if races == 0 {
+        text.extend_from_slice(b"pass")?;
+        return Ok(text);
+    }
+    put_counts(&mut text, races, closest)?;
+    Ok(text)
+}
+
+/// The picture of a chart with the marks of its closest races under an architecture.
+fn draw_judged(
+    alloc: Global,
+    draft: &Draft,
+    chart: &Chart,
+    queues: Queues,
+    form: Form,
+) -> Result<Page, AllocError>
+    requires { chart.now ≡ chart_of draft.now }
+    ensures { IfOk result (λ page.
+        PrintsJudged draft.now chart.now queues form page.bytes.items) }
+{
+    chart.accepted();
+    let enforced = Enforced::of(alloc, chart, queues)?;
+    enforced.enforced();
+    let races = enforced.count_races() as usize;
+    let (marks, closest) = closest_marks(alloc, enforced)?;
+    let more = verdict(alloc, queues, races, closest)?;
+    let scene = chart_scene(alloc, draft, chart, marks)?;
+    let page = page_in(alloc, form, &scene, more.as_slice())?;
+    Ok(page)
+}
+
+/// The picture of a draft's chart, in a form; with the marks of its closest races under an
+/// architecture, where one is named. An error is a growth of memory that was refused.
+pub fn draw_chart(
+    alloc: Global,
+    draft: &Draft,
+    chart: &Chart,
+    queues: Option<Queues>,
+    form: Form,
+) -> Result<Page, AllocError>
+    requires { chart.now ≡ chart_of draft.now }
+    ensures { IfOk result (λ page.
+        PrintsPicture draft.now chart.now queues form page.bytes.items) }
+{
+    if let Some(queues) = queues {
+        return draw_judged(alloc, draft, chart, queues, form);
+    }
+    let scene = chart_scene(alloc, draft, chart, Listed::from_vec(Vec::new(alloc)))?;
+    let page = page_in(alloc, form, &scene, b"")?;
+    Ok(page)
+}

@@ -1,0 +1,5 @@
+mod Bytes
+mod Blocks
+mod Pictured
+mod OneMore
+mod Always

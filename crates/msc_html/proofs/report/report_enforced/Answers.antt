@@ -1,0 +1,43 @@
+use Rattle.std.proofs.Common.{ℕ, length, refl, sym, ap, subst, ◌∙◌}
+use Rattle.msc_draw.specs.Listed.{listed_of}
+use Rattle.msc_html.specs.Findings.{AreArticles}
+use Rattle.msc_html.specs.Reports.{report, report_text}
+use Rattle.msc_parser.specs.Canonical.{canonical}
+use Rattle.msc_picture.specs.Scenes.{IsSceneOf}
+use Rattle.msc_race.specs.Views.{wiring_of}
+use Rattle.msc_race.specs.Wired.{EnforcedChart}
+use Rattle.msc_reason.specs.Closest.{IsClosestList}
+use Rattle.msc_reason.specs.Marked.{lack_in}
+use Rattle.msc_reason.specs.Selected.{Selected}
+use Rattle.msc_html.proofs.report.report_enforced.Goals as goal
+
+pub returns : goal.returns
+returns c =
+    let e = c.args.enforced in
+    let draft = c.args.draft.now in
+    let version = c.args.version.now in
+    let lacks = c.what_counts_is_listed.ensures.lacks e c.enforced.ensures.order c.enforced.ensures.chart in
+    let all = c.every_race_that_counts_spans_a_closest_one.ensures.list e c.enforced.ensures.order
+    c.enforced.ensures.chart _ (lack_in e) lacks refl in
+    let s = c.in_ok-listing.listing in
+    let judged = ap (λ (x : Selected). x.judged) c.in_ok-listing.ensures in
+    let told = c.in_ok-page.ensures in
+    let closest = listed_of s in
+    record {
+      order = e.order;
+      by_order = c.enforced.ensures.order;
+      closest = closest;
+      are = subst (λ (x : Selected). IsClosestList (wiring_of e) (listed_of x))
+          (sym c.in_ok-listing.ensures) all;
+      scene = told.scene;
+      right = subst (λ (x : EnforcedChart). IsSceneOf draft x.chart closest told.scene) judged told.right;
+      many = told.many;
+      articles = told.articles;
+      tell = subst (λ (x : EnforcedChart). AreArticles draft x.chart x.queues closest told.many told.articles)
+          judged told.are;
+      text = told.text
+          ∙ ap (λ (x : EnforcedChart). report_text (report x.queues c.count_races-races.result
+          (length closest) told.scene told.articles (canonical draft) version)) judged
+          ∙ ap (λ (n : ℕ). report_text (report e.queues n (length closest) told.scene told.articles
+          (canonical draft) version)) c.count_races-races.ensures;
+    }

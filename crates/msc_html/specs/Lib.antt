@@ -1,0 +1,11 @@
+-- what is promised
+pub mod Parts
+pub mod Telling
+pub mod Figures
+pub mod Articles
+pub mod Front
+pub mod Reports
+pub mod Findings
+pub mod Laws
+-- what the code keeps
+pub mod Progress

@@ -1,0 +1,183 @@
+//! What is told of one closest race.
+
+ghost use Rattle.std.specs.Prelude.{◌≡◌, ◌++◌, ◌∷◌, [], IfOk, None, OnOk, Some, codes, option_map};
+ghost use Rattle.std.specs.Fmt.{decimal};
+ghost use Rattle.msc_html.specs.Articles.{article, article_node, open_attributes, place_text};
+ghost use Rattle.msc_html.specs.Articles.{reverse_text, run_drawn, run_node, run_text, run_told};
+ghost use Rattle.msc_html.specs.Articles.{told_nodes};
+ghost use Rattle.msc_tree.specs.Shapes.{valued};
+ghost use Rattle.msc_tree.specs.Trees.{attribute_text, line_text, lines_text, opened};
+
+use crate::figure::put_figure;
+use crate::part::{Look, Tag, part_of, put_sentence};
+use crate::telling::{drawn_parts, lacks_parts, reason_parts, title_parts};
+use msc_chart::{Event, Queues};
+use msc_picture::Scene;
+use msc_reason::Lack;
+use msc_tree::{put_attribute, put_decimal, put_plain};
+use std::alloc::{AllocError, Global};
+
+/// A closest race: its number among them, from 1, its events, and why it is one.
+#[derive(Clone, Copy)]
+pub struct Told {
+    pub number: usize,
+    pub first: Event,
+    pub second: Event,
+    pub lack: Lack,
+}
+
+/// That a run reverses a race.
+fn run_text(alloc: Global, told: Told) -> Result<Vec<u8>, AllocError>
+    ensures { IfOk result (λ text. text.items ≡ run_text told) }
+{
+    let mut text = Vec::from_slice(alloc, b"A run with event ")?;
+    put_decimal(&mut text, told.second as usize)?;
+    text.extend_from_slice(b" before event ")?;
+    put_decimal(&mut text, told.first as usize)?;
+    Ok(text)
+}
+
+/// The command that draws the run.
+fn reverse_text(alloc: Global, queues: Queues, told: Told) -> Result<Vec<u8>, AllocError>
+    ensures { IfOk result (λ text. text.items ≡ reverse_text queues told) }
+{
+    let mut text = Vec::from_slice(alloc, b"msc reverse --queues ")?;
+    text.extend_from_slice(queues.word().as_bytes())?;
+    text.extend_from_slice(b" FILE ")?;
+    put_decimal(&mut text, told.first as usize)?;
+    text.extend_from_slice(b" ")?;
+    put_decimal(&mut text, told.second as usize)?;
+    Ok(text)
+}
+
+/// Puts how to have the run drawn behind a page.
+fn put_run_told(
+    page: &mut Vec<u8>,
+    alloc: Global,
+    queues: Queues,
+    told: Told,
+) -> Result<(), AllocError>
+    ensures { OnOk result
+        (page.new.items ≡ page.old.items ++ line_text (run_told queues told)) }
+{
+    let mut text = run_text(alloc, told)?;
+    text.extend_from_slice(b": ")?;
+    let command = reverse_text(alloc, queues, told)?;
+    let mut parts = Vec::new(alloc);
+    parts.push(part_of(alloc, Tag::Words, &text)?)?;
+    parts.push(part_of(alloc, Tag::Code, &command)?)?;
+    put_sentence(page, b"p", Look::Plain, &parts)?;
+    Ok(())
+}
+
+/// Puts the beginning of what can be opened behind a page. The runs of the first three races are
+/// open.
+fn put_details_begin(page: &mut Vec<u8>, k: usize) -> Result<(), AllocError>
+    ensures { OnOk result (page.new.items ≡ page.old.items
+        ++ (opened (codes "details") (open_attributes k) ++ codes ">\n")) }
+{
+    if k < 4 {
+        return page.extend_from_slice(b"<details open=\"\">\n");
+    }
+    page.extend_from_slice(b"<details>\n")
+}
+
+/// Puts the picture of a run behind a page.
+fn put_run_drawn(
+    page: &mut Vec<u8>,
+    alloc: Global,
+    told: Told,
+    run: &Scene,
+) -> Result<(), AllocError>
+    ensures { OnOk result
+        (page.new.items ≡ page.old.items ++ line_text (run_drawn told run.now)) }
+{
+    let text = run_text(alloc, told)?;
+    put_details_begin(page, told.number)?;
+    put_plain(page, b"summary", &text)?;
+    put_figure(page, alloc, run, &text, b"")?;
+    page.extend_from_slice(b"</details>\n")?;
+    Ok(())
+}
+
+/// Puts the run of a race behind a page, which is drawn or not.
+fn put_run(
+    page: &mut Vec<u8>,
+    alloc: Global,
+    queues: Queues,
+    told: Told,
+    run: Option<&Scene>,
+) -> Result<(), AllocError>
+    ensures { OnOk result (page.new.items ≡ page.old.items
+        ++ line_text (run_node queues told (option_map (λ s. s.now) run.entry))) }
+{
+    match run {
+        Some(run) => put_run_drawn(page, alloc, told, run),
+        None => put_run_told(page, alloc, queues, told),
+    }
+}
+
+/// Puts what is told of a race in words, by the picture of its chart, behind a page.
+fn put_told(page: &mut Vec<u8>, alloc: Global, scene: &Scene, told: Told) -> Result<(), AllocError>
+    ensures { OnOk result
+        (page.new.items ≡ page.old.items ++ lines_text (told_nodes scene.now told)) }
+{
+    let (e, f, lack) = (told.first, told.second, told.lack);
+    let title = title_parts(alloc, scene, told.number, e, lack)?;
+    let drawn = drawn_parts(alloc, scene, e, f)?;
+    let reason = reason_parts(alloc, scene, e, f, lack)?;
+    let lacks = lacks_parts(alloc, scene, lack)?;
+    put_sentence(page, b"h3", Look::Plain, &title)?;
+    put_sentence(page, b"p", Look::Plain, &drawn)?;
+    put_sentence(page, b"p", Look::Plain, &reason)?;
+    put_sentence(page, b"p", Look::Plain, &lacks)?;
+    Ok(())
+}
+
+/// Where the article of race `k` is found.
+fn place_text(alloc: Global, k: usize) -> Result<Vec<u8>, AllocError>
+    ensures { IfOk result (λ text. text.items ≡ place_text k) }
+{
+    let mut text = Vec::from_slice(alloc, b"race-")?;
+    put_decimal(&mut text, k)?;
+    Ok(text)
+}
+
+/// Puts where the article of race `k` is found behind a page.
+fn put_place(page: &mut Vec<u8>, alloc: Global, k: usize) -> Result<(), AllocError>
+    ensures { OnOk result (page.new.items
+        ≡ page.old.items ++ attribute_text (valued (codes "id") (place_text k))) }
+{
+    let place = place_text(alloc, k)?;
+    put_attribute(page, b"id", &place)
+}
+
+/// Puts the beginning of the article of race `k` behind a page.
+fn put_article_begin(page: &mut Vec<u8>, alloc: Global, k: usize) -> Result<(), AllocError>
+    ensures { OnOk result (page.new.items ≡ page.old.items ++ (opened (codes "article")
+        (valued (codes "id") (place_text k) ∷ []) ++ codes ">\n")) }
+{
+    page.extend_from_slice(b"<article")?;
+    put_place(page, alloc, k)?;
+    page.extend_from_slice(b">\n")?;
+    Ok(())
+}
+
+/// Puts the article of a race behind a page.
+pub fn put_article(
+    page: &mut Vec<u8>,
+    alloc: Global,
+    scene: &Scene,
+    queues: Queues,
+    told: Told,
+    run: Option<&Scene>,
+) -> Result<(), AllocError>
+    ensures { OnOk result (page.new.items ≡ page.old.items ++ line_text (article_node scene.now
+        queues (article told (option_map (λ s. s.now) run.entry)))) }
+{
+    put_article_begin(page, alloc, told.number)?;
+    put_told(page, alloc, scene, told)?;
+    put_run(page, alloc, queues, told, run)?;
+    page.extend_from_slice(b"</article>\n")?;
+    Ok(())
+}

@@ -1,0 +1,12 @@
+-- what is promised
+pub mod Frames
+pub mod RunFrames
+pub mod Rows
+pub mod Marks
+pub mod Scenes
+pub mod Columns
+pub mod Pieces
+pub mod Texts
+pub mod Laws
+-- what the code keeps
+pub mod Drawn

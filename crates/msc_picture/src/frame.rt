@@ -1,0 +1,75 @@
+//! What is drawn, and what of it has to be drawn before what.
+
+ghost use Rattle.std.specs.Prelude.{◌≡◌, ◌<◌, ◌↔◌, IfOk, IsTrue, length, vec_len};
+ghost use Rattle.msc_picture.specs.Frames.{chart_frame, is_above, is_queued_before, is_sent_as};
+ghost use Rattle.msc_picture.specs.Drawn.{blocks, frame_of};
+
+use msc_chart::{Chart, Event};
+use std::alloc::{AllocError, Global};
+
+/// A chart with the level of each event on its line, and for some outputs the output of the same
+/// queue that is drawn before it. Its calls take no memory.
+#[derive(Drop)]
+pub struct Framed<'a> {
+    pub chart: &'a Chart,
+    pub levels: Vec<usize>,
+    pub after: Vec<Option<Event>>,
+}
+
+impl Framed<'_> {
+    /// Whether event `x` is drawn above event `y`, on the same line.
+    fn is_above(&self, x: Event, y: Event) -> bool
+        requires long { vec_len self.now.levels ≡ length self.now.chart.now.events }
+        requires x_known { x < length self.now.chart.now.events }
+        requires y_known { y < length self.now.chart.now.events }
+        ensures { result ≡ is_above (frame_of self.now) x y }
+    {
+        self.chart.instance_of(x) == self.chart.instance_of(y)
+            && self.levels[x as usize] < self.levels[y as usize]
+    }
+
+    /// Whether event `x` is the output before output `y` in a queue.
+    fn is_queued_before(&self, x: Event, y: Event) -> bool
+        ensures { result ≡ is_queued_before (frame_of self.now) x y }
+    {
+        match self.after.get(y as usize) {
+            Some(Some(before)) => *before == x,
+            _ => false,
+        }
+    }
+
+    /// Whether event `x` is an output, and event `y` its input.
+    pub fn is_sent_as(&self, x: Event, y: Event) -> bool
+        requires x_known { x < length self.now.chart.now.events }
+        ensures { result ≡ is_sent_as (frame_of self.now) x y }
+    {
+        self.chart.is_output(x) && self.chart.other_end(x) == y
+    }
+
+    /// Whether event `x` has to be drawn before event `e`, and is not its output.
+    pub fn blocks(&self, x: Event, e: Event) -> bool
+        requires long { vec_len self.now.levels ≡ length self.now.chart.now.events }
+        requires x_known { x < length self.now.chart.now.events }
+        requires e_known { e < length self.now.chart.now.events }
+        ensures { result ≡ blocks (frame_of self.now) x e }
+    {
+        (self.is_above(x, e) || self.is_queued_before(x, e)) && !self.is_sent_as(x, e)
+    }
+}
+
+/// A chart as it is drawn: an event stands below all events of the segments above its own. An error
+/// is a growth of memory that was refused.
+pub fn frame_chart(alloc: Global, chart: &Chart) -> Result<Framed, AllocError>
+    ensures frame { IfOk result (λ f. frame_of f ≡ chart_frame chart.now.events) }
+    ensures long { IfOk result (λ f. vec_len f.levels ≡ length f.chart.now.events) }
+{
+    let mut levels = Vec::with_capacity(alloc, chart.events() as usize)?;
+    for e in 0..chart.events() {
+        levels.push(chart.segment(e) as usize)?;
+    }
+    Ok(Framed {
+        chart,
+        levels,
+        after: Vec::new(alloc),
+    })
+}

@@ -1,0 +1,210 @@
+//! The picture in text.
+
+ghost use Rattle.std.specs.Prelude.{◌≡◌, ◌<◌, ◌+◌, ◌++◌, IfOk, OnOk, fold};
+ghost use Rattle.std.specs.Prelude.{length, slice_set};
+ghost use Rattle.std.specs.Prelude.{nat_eq};
+ghost use Rattle.std.specs.List.{list_any};
+ghost use Rattle.std.specs.Fmt.{decimal};
+ghost use Rattle.msc_picture.specs.Rows.{row_passes};
+ghost use Rattle.msc_picture.specs.Texts.{head_line, in_band, is_marked, numbers_text, over};
+ghost use Rattle.msc_picture.specs.Texts.{picture_text, row_line, row_lines, with_axis, with_band};
+ghost use Rattle.msc_picture.specs.Texts.{with_mark, with_name};
+
+use crate::columns::{Columns, columns_of, plus};
+use crate::piece::{Piece, row_piece};
+use crate::scene::{Band, Mark, Row, Scene};
+use itoa::Buffer;
+use msc_chart::Event;
+use std::alloc::{AllocError, Global};
+
+/// Puts a byte into a line. A place behind the line takes none.
+fn put(line: &mut Vec<u8>, at: usize, byte: u8)
+    ensures { line.new.items ≡ slice_set line.old.items at byte }
+{
+    if at < line.len() {
+        line[at] = byte;
+    }
+}
+
+/// Puts a piece over a line.
+fn put_piece(line: &mut Vec<u8>, piece: &Piece) -> Result<(), AllocError>
+    ensures { OnOk result (line.new.items ≡ over piece.now line.old.items) }
+{
+    let text = piece.text.as_slice();
+    for k in 0..text.len() {
+        let at = plus(piece.start, k)?;
+        put(line, at, text[k]);
+    }
+    Ok(())
+}
+
+/// Whether row `r` is one of a band.
+fn in_band(r: usize, band: &Band) -> bool
+    ensures { result ≡ in_band r band.now }
+{
+    r >= band.first && band.last >= r
+}
+
+/// Puts the axes over a line.
+fn put_axes(line: &mut Vec<u8>, columns: &[usize])
+    ensures { line.new.items ≡ fold with_axis line.old.items columns.now }
+{
+    for column in columns {
+        put(line, *column, b'|');
+    }
+}
+
+/// Puts the bands of row `r` over a line.
+fn put_bands(line: &mut Vec<u8>, c: &Columns, bands: &[Band], r: usize)
+    ensures { line.new.items ≡ fold (with_band c.now r) line.old.items bands.now }
+{
+    for band in bands {
+        if in_band(r, band) {
+            put(line, c.column(band.instance as usize), b':');
+        }
+    }
+}
+
+/// Whether event `e` is one of these.
+fn is_among(events: &[Event], e: Event) -> bool
+    ensures { result ≡ list_any (nat_eq e) events.now }
+{
+    for f in events {
+        if e == *f {
+            return true;
+        }
+    }
+    false
+}
+
+/// Whether event `e` is one of a mark.
+pub fn is_marked(mark: &Mark, e: Event) -> bool
+    ensures { result ≡ is_marked mark.now e }
+{
+    is_among(mark.upper.as_slice(), e) || is_among(mark.lower.as_slice(), e)
+}
+
+/// Whether an event of a row is one of a mark.
+fn has_marked(mark: &Mark, row: Row) -> bool
+    ensures { result ≡ row_passes (is_marked mark.now) row }
+{
+    if is_marked(mark, row.first) {
+        return true;
+    }
+    match row.second {
+        Some(second) => is_marked(mark, second),
+        None => false,
+    }
+}
+
+/// Puts the marks of a row over a line.
+fn put_marks(line: &mut Vec<u8>, c: &Columns, marks: &[Mark], row: Row)
+    ensures { line.new.items ≡ fold (with_mark c.now row) line.old.items marks.now }
+{
+    for mark in marks {
+        if has_marked(mark, row) {
+            put(line, c.column(mark.instance as usize), b'*');
+        }
+    }
+}
+
+/// Puts the number of an event behind a text.
+fn put_number(text: &mut Vec<u8>, e: Event) -> Result<(), AllocError>
+    ensures { OnOk result (text.new.items ≡ text.old.items ++ decimal e) }
+{
+    let mut buffer = Buffer::new();
+    text.extend_from_slice(buffer.format(e).as_bytes())
+}
+
+/// Puts the numbers of the events of a row behind a line, and ends it.
+fn put_numbers(line: &mut Vec<u8>, row: Row) -> Result<(), AllocError>
+    ensures { OnOk result (line.new.items ≡ line.old.items ++ numbers_text row) }
+{
+    line.extend_from_slice(b"  ")?;
+    put_number(line, row.first)?;
+    if let Some(second) = row.second {
+        line.extend_from_slice(b" ")?;
+        put_number(line, second)?;
+    }
+    line.extend_from_slice(b"\n")
+}
+
+/// The line of row `r`.
+fn row_line(
+    alloc: Global,
+    scene: &Scene,
+    c: &Columns,
+    r: usize,
+    row: Row,
+) -> Result<Vec<u8>, AllocError>
+    ensures { IfOk result (λ line. line.items ≡ row_line scene.now c.now r row) }
+{
+    let piece = row_piece(alloc, scene, c, row)?;
+    let mut line = vec![in alloc; b' '; c.width]?;
+    put_axes(&mut line, c.columns.as_slice());
+    put_bands(&mut line, c, scene.bands.as_slice(), r);
+    put_piece(&mut line, &piece)?;
+    put_marks(&mut line, c, scene.marks.as_slice(), row);
+    put_numbers(&mut line, row)?;
+    Ok(line)
+}
+
+/// Puts the name of instance `i` behind a line, half its length left of its column.
+fn put_name(
+    alloc: Global,
+    line: &mut Vec<u8>,
+    scene: &Scene,
+    c: &Columns,
+    i: usize,
+) -> Result<(), AllocError>
+    requires { i < length scene.now.heads }
+    ensures { OnOk result (line.new.items ≡ with_name scene.now c.now line.old.items i) }
+{
+    let name = scene.heads.as_slice()[i].name.as_slice();
+    let start = c.column(i).saturating_sub(name.len() / 2);
+    let lacks = start.saturating_sub(line.len());
+    let blanks = vec![in alloc; b' '; lacks]?;
+    line.extend_from_slice(&blanks)?;
+    line.extend_from_slice(name)
+}
+
+/// The line of the names.
+fn head_line(alloc: Global, scene: &Scene, c: &Columns, many: usize) -> Result<Vec<u8>, AllocError>
+    requires { many ≡ length scene.now.heads }
+    ensures { IfOk result (λ line. line.items ≡ head_line scene.now c.now) }
+{
+    let mut line = Vec::new(alloc);
+    for i in 0..many {
+        put_name(alloc, &mut line, scene, c, i)?;
+    }
+    line.extend_from_slice(b"\n")?;
+    Ok(line)
+}
+
+/// Puts the lines of the rows behind a page.
+fn put_rows(alloc: Global, page: &mut Vec<u8>, scene: &Scene, c: &Columns) -> Result<(), AllocError>
+    ensures { OnOk result (page.new.items ≡ page.old.items ++ row_lines scene.now c.now) }
+{
+    let rows = scene.rows.as_slice();
+    for r in 0..rows.len() {
+        let row = rows[r];
+        let line = row_line(alloc, scene, c, r, row)?;
+        page.extend_from_slice(&line)?;
+    }
+    Ok(())
+}
+
+/// Puts the picture in text behind a page. An error is a growth of memory that was refused; what
+/// stands in the page is not said then.
+pub fn put_text(alloc: Global, page: &mut Vec<u8>, scene: &Scene) -> Result<(), AllocError>
+    ensures { OnOk result (page.new.items ≡ page.old.items ++ picture_text scene.now) }
+{
+    let many = scene.heads.as_slice().len();
+    if many == 0 {
+        return page.extend_from_slice(b"\n");
+    }
+    let c = columns_of(alloc, scene, many)?;
+    let head = head_line(alloc, scene, &c, many)?;
+    page.extend_from_slice(&head)?;
+    put_rows(alloc, page, scene, &c)
+}

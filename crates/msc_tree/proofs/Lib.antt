@@ -1,0 +1,3 @@
+mod Lines
+pub mod Nesting
+mod Escapes
