@@ -11,10 +11,10 @@
 # 0, with which nobody takes anything; the status is 3 where some instance did not finish.
 # NAME.drawn.txt, NAME.QUEUES.drawn.txt and NAME.QUEUES.svg are what `msc draw` prints,
 # NAME.QUEUES.report.html what `msc report` does, and NAME.reverse.E.F.QUEUES.txt and .svg what
-# `msc reverse` does of events E and F. Beside
-# charts/refused/NAME.msc stands NAME.txt: what is written to standard error, and then the status.
-# `msc check` and `msc run` refuse each of them. `msc read` meets no fault of charts: where such a
-# fault stands, it prints NAME.read.txt, or the chart as it is where that is missing.
+# `msc reverse` does of events E and F. Beside charts/refused/NAME.msc stands NAME.txt: what is
+# written to standard error, and then the status. `msc check` and `msc run` refuse each of them.
+# `msc read` meets no fault of charts: where such a fault stands, it prints NAME.read.txt, or the
+# chart as it is where that is missing.
 set -u
 cd "$(dirname "$(readlink -f "${BASH_SOURCE[0]}")")/.." || exit 1
 program=${1-./msc}
@@ -79,6 +79,8 @@ compare_picture() {
 for picture in charts/*.{drawn.txt,svg,report.html} charts/*.reverse.*.txt; do
   compare_picture "$picture"
 done
+compare docs/two_phase_commit.html /dev/null 0 \
+  report --queues mailbox charts/two_phase_commit.msc
 
 for chart in charts/refused/*.msc; do
   name=${chart%.msc}

@@ -21,6 +21,12 @@ from answer import check_answer, read_answer
 from refuse import Shim
 
 CHART = (TOP / "charts/two_senders.msc").read_bytes()
+# what is drawn of it, with the file of charts/ that has it: the words before and behind FILE
+DRAWN = {
+    "draw": (["--queues", "mailbox"], [], "two_senders.mailbox.drawn.txt"),
+    "reverse": (["--queues", "pair", "--svg"], ["1", "2"], "two_senders.reverse.1.2.pair.svg"),
+    "report": (["--queues", "mailbox"], [], "two_senders.mailbox.report.html"),
+}
 REFUSED = b"msc t;"
 FAULT = Answer(b"", b"device fault\n", 4)
 SILENT = Answer(b"", b"", 4)
@@ -51,6 +57,10 @@ class Commands:
                 yield words, Answer(*check_answer(CHART, queues))
             if "run" in self.wanted:
                 yield [program, "run", "--queues", queues, file], None
+        for command, (before, behind, drawn) in DRAWN.items():
+            if command in self.wanted:
+                words = [program, command, *before, file, *behind]
+                yield words, Answer((TOP / "charts" / drawn).read_bytes(), b"", 0)
 
 
 def outputs(count, commands, folder):

@@ -8,9 +8,9 @@ and tries it. Text T of a seed is always the same. Some go from place to place o
 and then to a token that may not follow; some are charts with header, kinds, message instance names,
 parameters and coregions, spelled with any white space and notes; some are tokens in any order. Of
 each sort many are then changed: tokens or bytes are taken away, put in, doubled, exchanged, or the
-text is cut. Each text is given to `msc read`, and to `msc check` and `msc run` under one
-architecture: both streams and the status are to be the same, and for a chart that is run the trace
-has to be a whole run of it. With `--places` nothing else may be printed but places, and behind the
+text is cut. Each text is given to `msc read`, and to `msc check`, `msc run`, `msc draw` and
+`msc report` under one architecture: both streams and the status are to be the same, for a chart that
+is run the trace has to be a whole run of it, and a report has to be read as XML. With `--places` nothing else may be printed but places, and behind the
 line of a fault what is said of it, all of it of bytes that move no cursor. As lines for editors, with
 marks, all that is printed is such lines, of such bytes, and a refusal is the first of them. Prints
 what differs, how many texts got which answer, and last `N passed, M failed`.
@@ -22,9 +22,10 @@ import random
 import re
 import sys
 import time
+import xml.etree.ElementTree
 
 from program import QUEUES, Count, add_commands, arguments, check_words, run
-from answer import ALL, check_answer, read_answer
+from answer import ALL, check_answer, draw_answer, read_answer
 from compare import chart
 from reading import PLACES, SUPPORTED, UNSUPPORTED, Draft, Event, tokens
 from whole_runs import Drawn
@@ -226,6 +227,19 @@ def wrong_lines(wanted, got):
     return None
 
 
+def wrong_page(wanted, got):
+    """What is wrong with a report, where this is wanted of the verdict, or None."""
+    if wanted[2] == 2:
+        return None if got == wanted else wanted
+    if got[1:] != (b"", 0) or moves(got.output):
+        return "a page of bytes that are shown"
+    try:
+        xml.etree.ElementTree.fromstring(got.output)
+    except xml.etree.ElementTree.ParseError as error:
+        return f"a page that is read as XML: {error}"
+    return None
+
+
 def tried(program, seed, number, commands):
     """What differs for a text, as the words of a run, what it answered and what it should; and its
     kind of answer."""
@@ -245,6 +259,17 @@ def tried(program, seed, number, commands):
         words = ["check", "--queues", queues, "--accept", "--format", "lines", "-"]
         got = run([program, *words], text)
         wrong = wrong_lines(checked, got)
+        if wrong:
+            told.append((words, text, got, wrong))
+    if "draw" in commands:
+        words, wanted = ["draw", "--queues", queues, "-"], draw_answer(text, queues)
+        got = run([program, *words], text)
+        if got != wanted:
+            told.append((words, text, got, wanted))
+    if "report" in commands:
+        words = ["report", "--queues", queues, "-"]
+        got = run([program, *words], text)
+        wrong = wrong_page(checked, got)
         if wrong:
             told.append((words, text, got, wrong))
     if "run" in commands:

@@ -140,8 +140,9 @@ def stacks(count, program, commands):
     succeeds."""
     for text in (of_events(1024, 1024), drawn(random.Random(1), INSTANCES, MESSAGES)):
         ways = [[program, "read", "-"], *(check_words(program, queues, 3) for queues in QUEUES)]
-        if "run" in commands:
-            ways += [[program, "run", "--queues", queues, "-"] for queues in QUEUES]
+        for command in ("run", "draw", "report"):
+            if command in commands:
+                ways += [[program, command, "--queues", queues, "-"] for queues in QUEUES]
         for words in ways:
             full = run(words, text)
             small = run(words, text, preexec_fn=small_stack, env={})

@@ -4,8 +4,8 @@ do so.
 
     memory.py [--most N] [--every K] [--commands C,..] [--limit] PROGRAM [CHART ..]
 
-Every chart of charts/ and of charts/refused/ is read, and checked and run under each architecture,
-where these are not given; of the runs with more than N allocations (400 where it is not said) each
+Every chart of charts/ and of charts/refused/ is read, and checked, run, drawn and reported under
+each architecture, where these are not given; of the runs with more than N allocations (400 where it is not said) each
 K-th allocation alone is refused. What a refused run has to answer says tools/refuse/refuse.py. With
 --limit no call is refused, but each command has less and less address space for a chart at the
 limits, down to too little for the program to begin. Prints for each run how many allocations it
@@ -32,7 +32,8 @@ def commands(wanted):
     if "read" in wanted:
         yield ["read", "-"], False
     for command in wanted:
-        if command != "read":
+        # a chart need not have a race for `reverse`, which tools/refuse tries
+        if command not in ("read", "reverse"):
             yield from (([command, "--queues", queues, "-"], command == "run") for queues in QUEUES)
 
 

@@ -11,6 +11,8 @@ sys.path += [str(TOP / "tools/naive"), str(TOP / "tools/refuse")]
 
 # the most seconds that a run may take
 MOST = 60
+# the commands that are tried
+COMMANDS = ["read", "check", "run", "draw", "reverse", "report"]
 # the architectures
 QUEUES = ("pair", "mailbox", "single")
 
@@ -42,7 +44,7 @@ def arguments(about):
 
 def add_commands(words):
     """Puts the option for the commands that are tried."""
-    words.add_argument("--commands", default=["read", "check", "run"], metavar="C,..",
+    words.add_argument("--commands", default=COMMANDS, metavar="C,..",
                        type=lambda text: text.split(","))
 
 

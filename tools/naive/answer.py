@@ -1,6 +1,8 @@
-"""What `msc read -` and `msc check --queues QUEUES --show SHOW -` answer to a text: what goes to
-standard output and to standard error, and the exit status. All of it by reading.py and verdict.py.
+"""What `msc read -`, `msc check --queues QUEUES --show SHOW -` and `msc draw --queues QUEUES -` answer
+to a text: what goes to standard output and to standard error, and the exit status. All of it by
+reading.py, verdict.py and picture.py.
 """
+from picture import chart_picture
 from reading import Draft, Refused
 from verdict import Chart
 
@@ -19,13 +21,28 @@ def read_answer(text):
         return refusal(fault)
 
 
-def check_answer(text, queues, show=ALL):
+def fault_of(text):
+    """The fault for which a text has no chart, or None."""
     try:
-        fault = Draft(text).fault()
+        return Draft(text).fault()
     except Refused as refused:
-        fault = refused
+        return refused
+
+
+def lines_answer(lines, status):
+    return "".join(line + "\n" for line in lines).encode("latin-1"), b"", status
+
+
+def check_answer(text, queues, show=ALL):
+    fault = fault_of(text)
     if fault:
         return refusal(fault)
     chart = Chart(text.decode("latin-1"), queues)
-    output = "".join(line + "\n" for line in chart.verdict(show))
-    return output.encode("latin-1"), b"", int(bool(chart.races()))
+    return lines_answer(chart.verdict(show), int(bool(chart.races())))
+
+
+def draw_answer(text, queues):
+    fault = fault_of(text)
+    if fault:
+        return refusal(fault)
+    return lines_answer(chart_picture(Chart(text.decode("latin-1"), queues), True), 0)
