@@ -1,6 +1,7 @@
 use Rattle.std.proofs.Common.{refl}
 use Rattle.std.proofs.lemmas.Result.{err_from_is_err_and}
 use Rattle.msc_command.proofs.Answered.{charted, no_chart, no_draft, not_written}
+use Rattle.msc_command.proofs.Drawn.{none_drawn, not_drafted, was_drawn}
 use Rattle.msc_command.proofs.answering.answer.Goals as goal
 
 pub returns-in_err-read-in-Read : goal.returns-in_err-read-in-Read
@@ -27,3 +28,8 @@ returns-in_ok-source-in-Chart g c =
     let read = c.in_ok-source-in-Chart.ensures in
     rw c.in-Chart.is (charted g.O.Write.contents c.args.file.now c.args.text.now c.in_ok-source-in-Chart.source read.0 read.1 read.2 c.in-Chart.ask
     c.answer_chart.result _ _ c.answer_chart.ensures)
+
+pub returns-in_err-read-in-Draw : goal.returns-in_err-read-in-Draw
+returns-in_err-read-in-Draw g c =
+    let p = err_from_is_err_and c.from_residual-in_err-read-in-Draw.result c.from_residual-in_err-read-in-Draw.ensures.1 in
+    rw (c.in-Draw.is, p.1, p.2) (not_drafted g.O.Write.contents c.args.file.now c.args.text.now c.in-Draw.drawn _ c.args.output.now c.in_err-read-in-Draw.ensures)

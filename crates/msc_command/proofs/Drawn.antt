@@ -22,7 +22,14 @@ use Rattle.msc_command.specs.Drawing.{PrintsPage, RefusesDrawn}
 use Rattle.msc_command.proofs.Answered.{answers_so}
 
 module _ {W : Type 0} (contents : W → Option (List ℕ)) (file text : List ℕ) where
-  -- of a text without a chart nothing is drawn
+  -- of a text without a draft nothing is drawn
+  pub not_drafted : (drawn : Drawn) (f : SourceFault) (now : W) → reading.RefusesDraft MscPr text f
+      → Does contents (tasks.Draw drawn) file text (Err (refusals.Fault (of_source f))) now now
+  not_drafted drawn (sources.Parse f) now has = (has, refl)
+  not_drafted drawn (sources.Chart f) now never = absurd never
+  not_drafted drawn sources.Memory now said = inl refl
+
+  -- nor of one without a chart
   pub none_drawn : (drawn : Drawn) (f : SourceFault) (now : W) → reading.Refuses MscPr text f
       → Does contents (tasks.Draw drawn) file text (Err (refusals.Fault (of_source f))) now now
   none_drawn drawn (sources.Parse f) now has = (has, refl)
