@@ -1,7 +1,8 @@
-use Rattle.std.proofs.Common.{refl, sym, ap, subst, ◌∙◌}
+use Rattle.std.proofs.Common.{sym, ap, subst, ◌∙◌}
 use Rattle.msc_picture.specs.Marks.{marks_of}
 use Rattle.msc_race.specs.Views.{wiring_of}
 use Rattle.msc_reason.specs.Closest.{IsClosestList}
+use Rattle.msc_reason.specs.LeftOut.{leaves_none}
 use Rattle.msc_reason.specs.Marked.{lack_in}
 use Rattle.msc_reason.specs.Selected.{Selected}
 use Rattle.msc_draw.specs.Listed.{listed_of}
@@ -12,7 +13,7 @@ returns c =
     let e = c.args.enforced in
     let are = c.what_counts_is_listed.ensures.lacks e c.enforced.ensures.order c.enforced.ensures.chart in
     let all = c.every_race_that_counts_spans_a_closest_one.ensures.list e c.enforced.ensures.order
-    c.enforced.ensures.chart _ (lack_in e) are refl in
+    c.enforced.ensures.chart _ (lack_in e) are (ap leaves_none c.of_kinds.ensures) in
     let listing = c.in_ok-listing.listing in
     record {
       closest = listed_of listing;

@@ -1,4 +1,4 @@
-use Rattle.std.proofs.Common.{ℕ, length, refl, sym, ap, subst, ◌∙◌}
+use Rattle.std.proofs.Common.{ℕ, length, sym, ap, subst, ◌∙◌}
 use Rattle.msc_draw.specs.Listed.{listed_of}
 use Rattle.msc_html.specs.Findings.{AreArticles}
 use Rattle.msc_html.specs.Reports.{report, report_text}
@@ -7,6 +7,7 @@ use Rattle.msc_picture.specs.Scenes.{IsSceneOf}
 use Rattle.msc_race.specs.Views.{wiring_of}
 use Rattle.msc_race.specs.Wired.{EnforcedChart}
 use Rattle.msc_reason.specs.Closest.{IsClosestList}
+use Rattle.msc_reason.specs.LeftOut.{leaves_none}
 use Rattle.msc_reason.specs.Marked.{lack_in}
 use Rattle.msc_reason.specs.Selected.{Selected}
 use Rattle.msc_html.proofs.report.report_enforced.Goals as goal
@@ -18,7 +19,7 @@ returns c =
     let version = c.args.version.now in
     let lacks = c.what_counts_is_listed.ensures.lacks e c.enforced.ensures.order c.enforced.ensures.chart in
     let all = c.every_race_that_counts_spans_a_closest_one.ensures.list e c.enforced.ensures.order
-    c.enforced.ensures.chart _ (lack_in e) lacks refl in
+    c.enforced.ensures.chart _ (lack_in e) lacks (ap leaves_none c.of_kinds.ensures) in
     let s = c.in_ok-listing.listing in
     let judged = ap (λ (x : Selected). x.judged) c.in_ok-listing.ensures in
     let told = c.in_ok-page.ensures in
