@@ -34,6 +34,7 @@ never_printed (tasks.Chart (asks.Quiet queues allowed accept)) file text printed
 never_printed (tasks.Chart (asks.Explain x)) file text printed (d, of_text, (e, f, two, style, its, enforced, same, says)) = never_ended enforced same
 never_printed (tasks.Chart (asks.Run queues patience)) file text printed (d, of_text, (finished, same, says)) = never_finished finished same
 never_printed (tasks.Chart (asks.List placed)) file text printed (d, of_text, (sites, are, same, is)) = cc
+never_printed (tasks.Draw drawn) file text printed (d, is, (same, says)) = cc
 
 module _ {W : Type 0} (contents : W → Option (List ℕ)) where
   -- of a refusal that was told, nothing or its lines went out

@@ -1,7 +1,10 @@
-use Rattle.std.proofs.Common.{refl}
+use Rattle.std.proofs.Common.{refl, subst, ◌∙◌}
 use Rattle.std.proofs.lemmas.Result.{err_from_is_err_and}
 use Rattle.msc_command.proofs.Answered.{charted, no_chart, no_draft, not_written}
 use Rattle.msc_command.proofs.Drawn.{not_charted, not_drafted, was_drawn}
+use Rattle.msc_command.specs.Answering.{Answers}
+use Rattle.msc_command.specs.Drawing.{PrintsPage, RefusesDrawn}
+use Rattle.msc_parser.specs.Grammar.{Tree}
 use Rattle.msc_command.proofs.answering.answer.Goals as goal
 
 pub returns-in_err-read-in-Read : goal.returns-in_err-read-in-Read
@@ -40,3 +43,14 @@ returns-in_err-source-in-Draw g c =
     let read = c.in_ok-read-in-Draw.ensures in
     rw (c.in-Draw.is, p.1, p.2) (not_charted g.O.Write.contents c.args.file.now c.args.text.now c.in-Draw.drawn _ c.args.output.now c.in_ok-read-in-Draw.read read.0 read.1
     c.in_err-source-in-Draw.ensures.told)
+
+pub returns-in_ok-source-in-Draw : goal.returns-in_ok-source-in-Draw
+returns-in_ok-source-in-Draw g c =
+    let read = c.in_ok-read-in-Draw.ensures in
+    let told = c.in_ok-source-in-Draw.ensures.told in
+    let source = c.in_ok-source-in-Draw.source in
+    let drawn = c.in-Draw.drawn in
+    let says = subst (λ (t : Tree). Answers g.O.Write.contents (PrintsPage drawn t source) (RefusesDrawn drawn source) c.draw.result c.args.output.now c.draw.new.output)
+    c.draft.ensures c.draw.ensures in
+    rw c.in-Draw.is (was_drawn g.O.Write.contents c.args.file.now c.args.text.now drawn c.in_ok-read-in-Draw.read.draft source (told.0 ∙ read.0) (told.1 ∙ read.1) read.2
+    c.in_ok-source-in-Draw.ensures.faultless c.in_ok-source-in-Draw.ensures.drawn c.draw.result _ _ says)

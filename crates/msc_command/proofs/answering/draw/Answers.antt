@@ -10,7 +10,7 @@ returns-in_err-page g c =
     let p = err_from_is_err_and c.from_residual.result c.from_residual.ensures.1 in
     rw (p.1, p.2) (undrawn g.O.Write.contents c.args.drawn c.args.draft.now c.args.source.now _ c.args.output.now c.in_err-page.ensures)
 
-pub returns-in_ok-page : goal.returns-in_ok-page
-returns-in_ok-page g c =
+pub returns : goal.returns
+returns g c =
     put_so g.O.Write.contents (PrintsPage c.args.drawn c.args.draft.now c.args.source.now) (RefusesDrawn c.args.drawn c.args.source.now)
     _ _ (refl, c.in_ok-page.ensures) c.put.result _ _ c.put.ensures
