@@ -1,11 +1,18 @@
 mod Events
-mod Following
-mod Drawing
+mod FollowLemmas
+mod DrawnLemmas
+mod CourseLemmas
+mod OpenLemmas
+mod ReadyLemmas
+mod NextListed
+mod SearchLemmas
 mod Wholes
 pub mod Ranges
 mod Parts
 mod Lines
 mod RunWitness
+mod Laying
+mod QueuedLemmas
 mod RowLemmas
 mod RunOrder
 mod RunLaws

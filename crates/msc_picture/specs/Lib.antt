@@ -9,4 +9,6 @@ pub mod Pieces
 pub mod Texts
 pub mod Laws
 -- what the code keeps
+pub mod Courses
 pub mod Drawn
+pub mod Ready
