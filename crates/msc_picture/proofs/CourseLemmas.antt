@@ -1,13 +1,12 @@
 -- How far along the course of a frame its lines are drawn.
-use Rattle.std.proofs.Common.{◌≡◌, ℕ, zero, suc, ◌+◌, ◌<◌, ◌≤◌, true, List, [], ◌∷◌, ◌++◌, length, get_or, set, replicate, max, inl, inr, sym, ap, subst, ◌∙◌, arith}
-use Rattle.std.proofs.lemmas.Bool.{cases_lt, cases_eq}
-use Rattle.std.proofs.lemmas.List.{length-replicate, get_or-replicate, length-set, get_or-set_same, get_or-set_other}
+use Rattle.std.proofs.Common.{◌≡◌, ℕ, ◌<◌, true, List, [], ◌∷◌, ◌++◌, length, get_or, replicate, sym, ap, subst, ◌∙◌, arith}
+use Rattle.std.proofs.lemmas.List.{length-replicate, get_or-replicate}
 use Rattle.std.proofs.lemmas.Grind.{get_or_default_zero}
 use Rattle.msc_chart.specs.Charts.{line}
 use Rattle.msc_chart.specs.Lists.{occurs}
 use Rattle.msc_chart.proofs.ListLemmas.{occurs-left, occurs_other}
 use Rattle.msc_picture.specs.Frames.{Frame}
-use Rattle.msc_picture.specs.Courses.{event_at, IsDrawnTo, IsLeftAt, IsNextLeft, IsBehind, AreBehind, IsReached}
+use Rattle.msc_picture.specs.Courses.{event_at, IsDrawnTo, IsLeftAt, AreBehind, IsReached}
 
 -- what stands at a place, as it was read
 pub read_at : (course : List ℕ) (p e : ℕ) → p < length course → e ≡ get_or course p e

@@ -1,9 +1,9 @@
 -- Which events are drawn, one more each time.
-use Rattle.std.proofs.Common.{◌≡◌, ℕ, ◌+◌, ◌<◌, ◌≤◌, Bool, true, false, List, [], ◌∷◌, ◌++◌, length, get_or, set, replicate, Option, Some, None, IfSome, inl, inr, sym, ap, subst, ◌∙◌, refl, arith}
-use Rattle.std.proofs.lemmas.Bool.{and_parts, and_from, cases_lt, cases_eq, not-true, not_from_false}
+use Rattle.std.proofs.Common.{◌≡◌, ℕ, ◌<◌, Bool, true, false, List, [], ◌∷◌, ◌++◌, length, get_or, set, replicate, Option, Some, None, IfSome, inl, inr, sym, ap, subst, ◌∙◌, refl, arith}
+use Rattle.std.proofs.lemmas.Bool.{cases_eq}
 use Rattle.std.proofs.lemmas.List.{length-replicate, get_or-replicate, length-set, get_or-set_same, get_or-set_other, get_or_default}
 use Rattle.msc_chart.specs.Lists.{Steps, occurs, IsLeast}
-use Rattle.msc_chart.proofs.ListLemmas.{by_test, clash, occurs-left, occurs-push, occurs_other, Steps-push}
+use Rattle.msc_chart.proofs.ListLemmas.{occurs-push, occurs_other, Steps-push}
 use Rattle.msc_chart.proofs.Left.{is_left, left_less}
 use Rattle.msc_chart.proofs.Numbers.{count_below}
 use Rattle.msc_picture.specs.declared.rule.Rule.{Rule}

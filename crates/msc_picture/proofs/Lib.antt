@@ -20,3 +20,6 @@ pub mod Reaching
 pub mod Standing
 pub mod MarkLemmas
 mod BandLemmas
+pub mod PlainBytes
+mod PlainTexts
+mod PlainScenes

@@ -1,11 +1,11 @@
 -- That each event which may come next is listed once one more is drawn: what only that lets come is
 -- its input, or on the level that its line has reached, or the other end of one of these.
-use Rattle.std.proofs.Common.{◌≡◌, ℕ, ◌<◌, ◌≤◌, true, false, ◌&&◌, ◌||◌, not, List, [], ◌∷◌, ◌++◌, length, get_or, inl, inr, refl, sym, ap, subst, ◌∙◌, arith}
+use Rattle.std.proofs.Common.{◌≡◌, ℕ, ◌<◌, ◌≤◌, true, false, not, List, [], ◌∷◌, ◌++◌, length, get_or, inl, inr, refl, sym, ap, subst, ◌∙◌, arith}
 use Rattle.std.proofs.lemmas.Bool.{and_parts, and_from, or_left, eqb-true, eq-eqb, ltb-true, lt-ltb, cases_eq, cases_lt, not-true, not_from_false, false_from_ne_true}
 use Rattle.bit_rows.specs.Rows.{has}
-use Rattle.msc_chart.specs.Charts.{line, partner, is_output, is_input, IsMatched}
-use Rattle.msc_chart.specs.Lists.{occurs, until, Steps}
-use Rattle.msc_chart.proofs.ListLemmas.{by_test, clash, occurs-left, occurs-push, occurs_other, step_at, until-within}
+use Rattle.msc_chart.specs.Charts.{line, partner, is_output, IsMatched}
+use Rattle.msc_chart.specs.Lists.{occurs, Steps}
+use Rattle.msc_chart.proofs.ListLemmas.{by_test, clash, occurs-push, occurs_other, step_at, until-within}
 use Rattle.msc_picture.specs.declared.ready.Ready.{Ready}
 use Rattle.msc_picture.specs.Frames.{Frame, level, is_above, is_sent_as, IsDrawnNext}
 use Rattle.msc_picture.specs.Courses.{event_at, IsCourse, IsBehind, IsReached, IsOpen, ShareLevel, is_over}

@@ -1,12 +1,12 @@
 -- Whether all events over an event are drawn, told by the first two events of its line that are left.
-use Rattle.std.proofs.Common.{◌≡◌, ℕ, ◌+◌, ◌<◌, ◌≤◌, Bool, true, false, ◌&&◌, not, List, length, get_or, nat_eq, nat_lt, ◌↔◌, IsTrue, inl, inr, sym, ap, subst, ◌∙◌, refl, arith}
+use Rattle.std.proofs.Common.{◌≡◌, ℕ, ◌<◌, ◌≤◌, Bool, true, false, not, List, length, get_or, ◌↔◌, IsTrue, inl, inr, sym, ap, subst, ◌∙◌, refl, arith}
 use Rattle.std.proofs.lemmas.Bool.{cases_lt, cases_eq, and_parts, and_from, eqb-true, eq-eqb, ltb-true, lt-ltb, not_from_false, not-true}
 use Rattle.std.proofs.lemmas.Grind.{get_or_default_zero}
-use Rattle.msc_chart.specs.Charts.{line, partner, is_output, IsMatched}
+use Rattle.msc_chart.specs.Charts.{line, partner, IsMatched}
 use Rattle.msc_chart.specs.Lists.{occurs}
 use Rattle.msc_chart.proofs.ListLemmas.{by_test, clash}
 use Rattle.msc_picture.specs.Frames.{Frame, level, is_above, is_sent_as}
-use Rattle.msc_picture.specs.Courses.{event_at, IsCourse, IsBehind, AreBehind, IsReached, IsFirstOther, IsOpen, is_over}
+use Rattle.msc_picture.specs.Courses.{event_at, IsCourse, IsBehind, AreBehind, IsReached, IsFirstOther, IsOpen}
 
 module _ {f : Frame} {course past firsts seconds : List ℕ} (laid : IsCourse f course) (i : ℕ)
     (behind : IsBehind f course past firsts seconds i)

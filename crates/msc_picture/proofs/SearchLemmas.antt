@@ -1,7 +1,7 @@
 -- That what fits a rule stands in a row, and none in a word of it that has no bit.
 use Rattle.std.proofs.Common.{◌≡◌, ℕ, ◌+◌, ◌*◌, ◌/◌, ◌%◌, ◌<◌, ◌≤◌, false, not, List, [], ◌∷◌, ◌++◌, length, get_or, inl, inr, sym, ap, ◌∙◌, arith}
 use Rattle.std.proofs.lemmas.Bool.{and_parts, or_left, or_right, cases_lt, cases_eq, not-true, false_from_ne_true}
-use Rattle.bit_rows.specs.Rows.{bit_of, has}
+use Rattle.bit_rows.specs.Rows.{bit_of}
 use Rattle.bit_rows.proofs.Bits.{bit_zero, words_few}
 use Rattle.bit_rows.proofs.Rows.{has_at}
 use Rattle.msc_chart.specs.declared.TheConstants.{EVENT_LIMIT}
@@ -12,7 +12,7 @@ use Rattle.msc_picture.specs.declared.ready.Ready.{Ready}
 use Rattle.msc_picture.specs.declared.rule.Rule.{Rule}
 use Rattle.msc_picture.specs.declared.rule.Rule.TheVariants.{Rest, Level, Send}
 use Rattle.msc_picture.specs.Courses.{IsOpen}
-use Rattle.msc_picture.specs.Frames.{Frame, Fits, MayFollow, is_above, is_sent_as}
+use Rattle.msc_picture.specs.Frames.{Frame, MayFollow, is_above, is_sent_as}
 use Rattle.msc_picture.specs.Ready.{AreListed, HasBits, HasNoneTo, HasRoom, IsFree, IsRowFor}
 use Rattle.msc_picture.proofs.DrawnLemmas.{fitting_may}
 use Rattle.msc_picture.proofs.FollowLemmas.{sent_from}

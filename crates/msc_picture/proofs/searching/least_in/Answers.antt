@@ -1,6 +1,5 @@
-use Rattle.std.proofs.Common.{ℕ, ◌*◌, ◌+◌, ◌%◌, subst, arith}
+use Rattle.std.proofs.Common.{◌%◌, arith}
 use Rattle.msc_picture.specs.Courses.{frame_of}
-use Rattle.msc_picture.specs.Ready.{HasNoneTo}
 use Rattle.msc_picture.proofs.SearchLemmas.{few_bits, none_in, none_under, none_past}
 use Rattle.msc_picture.proofs.searching.least_in.Goals as goal
 

@@ -1,4 +1,4 @@
-use Rattle.std.proofs.Common.{ℕ, sym, ap, subst, ◌∙◌, true, false, ◌≡◌, ◌<◌, length, arith}
+use Rattle.std.proofs.Common.{ℕ, sym, subst, ◌∙◌, true, false, ◌≡◌, ◌<◌, length, arith}
 use Rattle.std.proofs.lemmas.Grind.{get_or_default_zero}
 use Rattle.msc_picture.specs.Courses.{frame_of}
 use Rattle.msc_picture.specs.Frames.{is_sent_as}

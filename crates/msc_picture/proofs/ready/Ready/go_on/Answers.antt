@@ -1,4 +1,4 @@
-use Rattle.std.proofs.Common.{ℕ, ◌≡◌, get_or, length, subst, sym, ap, ◌∙◌, arith}
+use Rattle.std.proofs.Common.{ℕ, ◌≡◌, get_or, subst, ap, ◌∙◌, arith}
 use Rattle.msc_chart.specs.Charts.{line}
 use Rattle.msc_picture.specs.Courses.{frame_of}
 use Rattle.msc_picture.specs.Ready.{IsFromListed}

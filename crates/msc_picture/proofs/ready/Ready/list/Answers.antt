@@ -1,4 +1,3 @@
-use Rattle.std.proofs.Common.{arith}
 use Rattle.msc_picture.proofs.ReadyLemmas.{with_it}
 use Rattle.msc_picture.proofs.ready.Ready.list.Goals as goal
 
