@@ -1,9 +1,10 @@
 -- What the tests of charts say of events.
-use Rattle.std.proofs.Common.{◌≡◌, ℕ, ◌<◌, Bool, true, false, List, length, refl, sym, ◌∙◌, true≢false}
-use Rattle.std.proofs.lemmas.Bool.{and_parts, and_from, ltb-true, lt-ltb, eqb-true, eq-eqb}
+use Rattle.std.proofs.Common.{◌≡◌, ℕ, ◌<◌, Bool, true, false, List, length, Option, None, Some, refl, ap, sym, ◌∙◌, true≢false}
+use Rattle.std.proofs.lemmas.Bool.{and_parts, and_from, ltb-true, lt-ltb, eqb-true, eq-eqb, false≢true}
 use Rattle.msc_chart.specs.declared.event.EventKind.{EventKind}
 use Rattle.msc_chart.specs.declared.event.EventKind.TheVariants.{Output, Input, Local}
 use Rattle.msc_chart.specs.declared.event.ChartEvent.{ChartEvent}
+use Rattle.msc_picture.specs.Frames.{is_some}
 use Rattle.msc_chart.specs.Charts.{line, segment, kind, sends, takes, acts, is_output, is_input, is_local, before}
 
 -- no kind both sends and takes
@@ -17,6 +18,11 @@ quiet_kind : (k : EventKind) → sends k ≡ true → acts k ≡ false
 quiet_kind Output h = refl
 quiet_kind Input h = refl
 quiet_kind Local h = absurd (true≢false (sym h))
+
+-- a number that passes for an option
+pub some_is : (o : Option ℕ) (x : ℕ) → is_some o x ≡ true → o ≡ Some x
+some_is None x h = absurd (false≢true h)
+some_is (Some y) x h = ap Some (eqb-true y x h)
 
 module _ (events : List ChartEvent) where
   -- an output is no local event

@@ -1,11 +1,18 @@
 mod Events
-mod Following
-mod Drawing
+mod FollowLemmas
+mod DrawnLemmas
+mod CourseLemmas
+mod OpenLemmas
+mod ReadyLemmas
+mod NextListed
+mod SearchLemmas
 mod Wholes
 pub mod Ranges
 mod Parts
 mod Lines
 mod RunWitness
+mod Laying
+mod QueuedLemmas
 mod RowLemmas
 mod RunOrder
 mod RunLaws
@@ -13,3 +20,6 @@ pub mod Reaching
 pub mod Standing
 pub mod MarkLemmas
 mod BandLemmas
+pub mod PlainBytes
+mod PlainTexts
+mod PlainScenes

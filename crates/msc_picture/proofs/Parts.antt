@@ -11,7 +11,7 @@ use Rattle.msc_picture.specs.declared.scene.Act.TheVariants.{Sends, Takes, Does}
 use Rattle.msc_picture.specs.Columns.{short_text}
 use Rattle.msc_picture.specs.Scenes.{act_by, shown_byte}
 use Rattle.msc_picture.specs.Frames.{Frame, IsDrawnNext}
-use Rattle.msc_picture.proofs.Drawing.{next_may}
+use Rattle.msc_picture.proofs.DrawnLemmas.{next_may}
 
 -- what an output does
 sent_act : (d : Drawing) (e : ℕ) (k : EventKind) → sends k ≡ true

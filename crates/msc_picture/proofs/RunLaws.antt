@@ -10,7 +10,7 @@ use Rattle.msc_chart.proofs.ListLemmas.{by_test, clash, step_at, parts, until-ap
 use Rattle.msc_picture.specs.Frames.{Frame, level, is_some, is_sent_as, is_above, is_queued_before, goes_first, MayFollow, IsDrawnNext, IsDrawingOrder}
 use Rattle.msc_picture.specs.RunFrames.{place_of, are_queued, queued_before, run_frame}
 use Rattle.msc_picture.specs.Laws.{KeepsLinesOf}
-use Rattle.msc_picture.proofs.Drawing.{next_may}
+use Rattle.msc_picture.proofs.DrawnLemmas.{next_may}
 use Rattle.msc_picture.proofs.Events.{before_parts, output_known}
 use Rattle.msc_picture.proofs.RunOrder.{place_less, before_on, one_first, until_here, run_once, QueuedThere, queued_there}
 

@@ -1,6 +1,6 @@
 -- A run keeps what its picture keeps, so its picture has all events.
 use Rattle.std.proofs.Common.{◌≡◌, ℕ, suc, ◌+◌, ◌<◌, true, false, cond, ◌||◌, List, [], ◌∷◌, ◌++◌, length, get_or, Option, None, Some, All, eqb, nat_eq, nat_lt, inl, inr, sym, ap, subst, ◌∙◌, refl, append_assoc, arith}
-use Rattle.std.proofs.lemmas.Bool.{and_parts, or_left, or_right, or_cases, eqb-true, eq-eqb, ltb-true, false≢true}
+use Rattle.std.proofs.lemmas.Bool.{and_parts, or_left, or_right, or_cases, eqb-true, eq-eqb, ltb-true}
 use Rattle.std.proofs.lemmas.List.Elements.{All-cons, All-nil}
 use Rattle.std.proofs.lemmas.List.FromFn.{get_or-map-range_with_len}
 use Rattle.msc_chart.specs.Charts.{line, partner, is_output, is_input, IsMatched}
@@ -8,12 +8,13 @@ use Rattle.msc_chart.specs.Lists.{Steps, occurs}
 use Rattle.msc_chart.specs.Orders.{WiredChart, queue}
 use Rattle.msc_chart.specs.Runs.{Run, IsWhole, MayCome, is_waiting}
 use Rattle.msc_chart.proofs.ListLemmas.{by_test, clash, first_occurs}
-use Rattle.msc_picture.specs.Frames.{Frame, level, is_some, is_sent_as, is_above, is_queued_before, MayFollow, IsDrawingOrder, IsDrawnNext}
+use Rattle.msc_picture.specs.Frames.{Frame, level, is_sent_as, is_above, is_queued_before, MayFollow, IsDrawingOrder, IsDrawnNext}
 use Rattle.msc_picture.specs.RunFrames.{place_of, are_queued, queued_from, queued_before, run_frame}
+use Rattle.msc_picture.proofs.Events.{some_is}
 use Rattle.msc_picture.proofs.Wholes.{whole_by}
 
 -- a new event stands behind these
-place_here : (past : List ℕ) (e : ℕ) (rest : List ℕ) → occurs past e ≡ false
+pub place_here : (past : List ℕ) (e : ℕ) (rest : List ℕ) → occurs past e ≡ false
     → place_of (past ++ e ∷ rest) e ≡ length past
 unfolding occurs
 place_here [] e rest new = rw (eq-eqb e e refl) refl
@@ -52,11 +53,6 @@ queued_among chart (y ∷ ys) e rest last x new is other = by_test (eqb y e)
     (λ same. let equal : y ≡ x = cc in clash (eq-eqb y x equal) apart))))
     (λ no. or_right (eqb y x) (occurs ys x)
     (queued_among chart ys e rest last x later (rw no at on) other)))
-
--- a number that passes for an option
-some_is : (o : Option ℕ) (x : ℕ) → is_some o x ≡ true → o ≡ Some x
-some_is None x h = absurd (false≢true h)
-some_is (Some y) x h = ap Some (eqb-true y x h)
 
 -- an event of a run may follow those before it in the picture of the run
 run_may : (chart : WiredChart) → IsMatched chart.events → (past : List ℕ) (e : ℕ) (rest : List ℕ)

@@ -8,8 +8,8 @@ use Rattle.msc_chart.specs.Lists.{Steps, occurs}
 use Rattle.msc_chart.proofs.ListLemmas.{by_test, clash, occurs-left, occurs-append, Steps-map}
 use Rattle.msc_picture.proofs.Events.{before_from, before_parts, output_known}
 use Rattle.msc_picture.specs.Frames.{Frame, level, is_sent_as, is_above, goes_first, MayFollow, chart_frame, IsDrawnNext, IsDrawingOrder}
-use Rattle.msc_picture.proofs.Following.{sent_from}
-use Rattle.msc_picture.proofs.Drawing.{next_may}
+use Rattle.msc_picture.proofs.FollowLemmas.{sent_from}
+use Rattle.msc_picture.proofs.DrawnLemmas.{next_may}
 
 -- an event of the joined lists is in one of them
 occurs_cases : (xs ys : List ℕ) (e : ℕ) → occurs (xs ++ ys) e ≡ true

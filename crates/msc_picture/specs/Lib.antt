@@ -7,6 +7,9 @@ pub mod Scenes
 pub mod Columns
 pub mod Pieces
 pub mod Texts
+pub mod Plain
 pub mod Laws
 -- what the code keeps
+pub mod Courses
 pub mod Drawn
+pub mod Ready

@@ -1,24 +1,29 @@
 //! What is drawn, and what of it has to be drawn before what.
 
-ghost use Rattle.std.specs.Prelude.{◌≡◌, ◌<◌, ◌↔◌, IfOk, IsTrue, length, vec_len};
+ghost use Rattle.std.specs.Prelude.{◌≡◌, ◌<◌, ◌↔◌, IfOk, IsTrue, length, map, vec_len};
+ghost use Rattle.std.specs.List.{range_with_len};
+ghost use Rattle.msc_chart.specs.Charts.{segment};
+ghost use Rattle.msc_picture.specs.Courses.{IsLaid, ShareLevel, frame_of};
+ghost use Rattle.msc_picture.specs.Drawn.{blocks};
 ghost use Rattle.msc_picture.specs.Frames.{chart_frame, is_above, is_queued_before, is_sent_as};
-ghost use Rattle.msc_picture.specs.Drawn.{blocks, frame_of};
 
 use msc_chart::{Chart, Event};
 use std::alloc::{AllocError, Global};
 
 /// A chart with the level of each event on its line, and for some outputs the output of the same
-/// queue that is drawn before it. Its calls take no memory.
+/// queue that is drawn before it. The course has all events, those of a line by their levels. Its
+/// calls take no memory.
 #[derive(Drop)]
 pub struct Framed<'a> {
     pub chart: &'a Chart,
     pub levels: Vec<usize>,
     pub after: Vec<Option<Event>>,
+    pub course: Vec<Event>,
 }
 
 impl Framed<'_> {
     /// Whether event `x` is drawn above event `y`, on the same line.
-    fn is_above(&self, x: Event, y: Event) -> bool
+    pub fn is_above(&self, x: Event, y: Event) -> bool
         requires long { vec_len self.now.levels ≡ length self.now.chart.now.events }
         requires x_known { x < length self.now.chart.now.events }
         requires y_known { y < length self.now.chart.now.events }
@@ -26,6 +31,17 @@ impl Framed<'_> {
     {
         self.chart.instance_of(x) == self.chart.instance_of(y)
             && self.levels[x as usize] < self.levels[y as usize]
+    }
+
+    /// Whether events `x` and `y` are on one level of one line.
+    pub fn share_level(&self, x: Event, y: Event) -> bool
+        requires long { vec_len self.now.levels ≡ length self.now.chart.now.events }
+        requires x_known { x < length self.now.chart.now.events }
+        requires y_known { y < length self.now.chart.now.events }
+        ensures { IsTrue result ↔ ShareLevel (frame_of self.now) x y }
+    {
+        self.chart.instance_of(x) == self.chart.instance_of(y)
+            && self.levels[x as usize] == self.levels[y as usize]
     }
 
     /// Whether event `x` is the output before output `y` in a queue.
@@ -57,19 +73,41 @@ impl Framed<'_> {
     }
 }
 
-/// A chart as it is drawn: an event stands below all events of the segments above its own. An error
-/// is a growth of memory that was refused.
-pub fn frame_chart(alloc: Global, chart: &Chart) -> Result<Framed, AllocError>
-    ensures frame { IfOk result (λ f. frame_of f ≡ chart_frame chart.now.events) }
-    ensures long { IfOk result (λ f. vec_len f.levels ≡ length f.chart.now.events) }
+/// The segment of each event.
+fn segments_of(alloc: Global, chart: &Chart) -> Result<Vec<usize>, AllocError>
+    ensures { IfOk result (λ levels. levels.items
+        ≡ map (segment chart.now.events) (range_with_len 0 (length chart.now.events))) }
 {
     let mut levels = Vec::with_capacity(alloc, chart.events() as usize)?;
     for e in 0..chart.events() {
         levels.push(chart.segment(e) as usize)?;
     }
+    Ok(levels)
+}
+
+/// The numbers of so many events, ascending.
+fn numbers_to(alloc: Global, many: u32) -> Result<Vec<Event>, AllocError>
+    ensures { IfOk result (λ numbers. numbers.items ≡ range_with_len 0 many) }
+{
+    let mut numbers = Vec::with_capacity(alloc, many as usize)?;
+    for e in 0..many {
+        numbers.push(e)?;
+    }
+    Ok(numbers)
+}
+
+/// A chart as it is drawn: an event stands below all events of the segments above its own. An error
+/// is a growth of memory that was refused.
+pub fn frame_chart(alloc: Global, chart: &Chart) -> Result<Framed, AllocError>
+    ensures frame { IfOk result (λ f. frame_of f ≡ chart_frame chart.now.events) }
+    ensures laid { IfOk result (λ f. IsLaid f) }
+{
+    chart.accepted();
+    let many = chart.events();
     Ok(Framed {
         chart,
-        levels,
+        levels: segments_of(alloc, chart)?,
         after: Vec::new(alloc),
+        course: numbers_to(alloc, many)?,
     })
 }

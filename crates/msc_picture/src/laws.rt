@@ -5,6 +5,7 @@ ghost use Rattle.msc_picture.specs.Laws.{BandsAreOfCoregions, BandsHaveNoOther, 
 ghost use Rattle.msc_picture.specs.Laws.{EachClosestRaceIsMarked, EachCoregionHasABand};
 ghost use Rattle.msc_picture.specs.Laws.{MarksHaveNoOther, OneLabelInARow, RowsAreFull};
 ghost use Rattle.msc_picture.specs.Laws.{RowsKeepTheVisualOrder, RowsReadBack};
+ghost use Rattle.msc_picture.specs.Plain.{PicturesArePlain, TextsOfPicturesArePlain};
 
 use msc_chart::laws::{ends_share_queues, inputs_share_lines};
 
@@ -48,4 +49,12 @@ pub fn each_coregion_has_a_band()
 pub fn each_closest_race_is_marked()
     ensures each { EachClosestRaceIsMarked }
     ensures other { MarksHaveNoOther }
+{}
+
+/// Where the names of a chart are of the bytes 32 to 126, as the grammar has them, all texts of its
+/// pictures are, since those of actions are masked; and then the picture in text is of these bytes
+/// and line ends.
+pub fn plain_bytes()
+    ensures texts { TextsOfPicturesArePlain }
+    ensures picture { PicturesArePlain }
 {}

@@ -6,15 +6,19 @@
 
 mod band;
 mod columns;
+mod drawn;
+mod following;
 mod frame;
 pub mod laws;
 mod ordering;
 mod part;
 mod piece;
+mod ready;
 mod row;
 mod rule;
 mod run;
 mod scene;
+mod searching;
 mod text;
 
 pub use band::{begins_segment, grow};

@@ -1,13 +1,13 @@
 //! What a picture of a run keeps of the run.
 
-ghost use Rattle.std.specs.Prelude.{◌≡◌, ◌<◌, IfOk, length, vec_len};
-ghost use Rattle.std.specs.List.{All};
+ghost use Rattle.std.specs.Prelude.{◌≡◌, ◌<◌, IfOk, length, map};
+ghost use Rattle.std.specs.List.{All, range_with_len};
 ghost use Rattle.msc_chart.specs.Runs.{IsWhole, Run};
 ghost use Rattle.msc_chart.specs.Wirings.{size, wired_by};
-ghost use Rattle.msc_picture.specs.Drawn.{frame_of};
+ghost use Rattle.msc_picture.specs.Courses.{IsLaid, frame_of};
 ghost use Rattle.msc_picture.specs.Frames.{IsDrawingOrder};
 ghost use Rattle.msc_picture.specs.Laws.{KeepsLinesOf};
-ghost use Rattle.msc_picture.specs.RunFrames.{are_queued, place_of, queued_before, run_frame};
+ghost use Rattle.msc_picture.specs.RunFrames.{place_of, queued_before, run_frame};
 
 use crate::frame::Framed;
 use crate::laws::drawn_runs_are_runs;
@@ -15,70 +15,54 @@ use crate::ordering::draw_all;
 use msc_chart::{Event, Wiring};
 use std::alloc::{AllocError, Global};
 
-/// The place of an event in a list, or the length of the list.
-fn place_of(run: &[Event], e: Event) -> usize
-    ensures { result ≡ place_of run.now e }
+/// The place of each of so many events in a list, or the length of the list.
+fn places_of(alloc: Global, run: &[Event], many: u32) -> Result<Vec<usize>, AllocError>
+    requires { All (λ e. e < many) run.now }
+    ensures { IfOk result (λ places.
+        places.items ≡ map (place_of run.now) (range_with_len 0 many)) }
 {
-    for (k, x) in run.iter().enumerate() {
-        if *x == e {
-            return k;
-        }
+    let end = run.len();
+    let mut places = vec![in alloc; end; many as usize]?;
+    for back in 0..end {
+        let k = end - 1 - back;
+        places[run[k] as usize] = k;
     }
-    run.len()
+    Ok(places)
 }
 
-/// Whether both are outputs of one queue.
-fn are_queued(w: &Wiring, x: Event, y: Event) -> bool
-    requires x { x < size w.now }
-    requires y { y < size w.now }
-    ensures { result ≡ are_queued (wired_by w.now) x y }
+/// For each output the output before it in its queue, in the order of a run.
+fn queued_of(alloc: Global, w: &Wiring, run: &[Event]) -> Result<Vec<Option<Event>>, AllocError>
+    requires run { Run (wired_by w.now) run.now }
+    requires whole { IsWhole (wired_by w.now) run.now }
+    ensures { IfOk result (λ after.
+        after.items ≡ map (queued_before (wired_by w.now) run.now) (range_with_len 0 (size w.now))) }
 {
-    if !w.chart.is_output(x) {
-        return false;
-    }
-    if !w.chart.is_output(y) {
-        return false;
-    }
-    w.queue(x) == w.queue(y)
-}
-
-/// The output before event `y` in its queue, in the order of a run.
-fn queued_before(w: &Wiring, run: &[Event], y: Event) -> Option<Event>
-    requires y { y < size w.now }
-    requires run { All (λ e. e < size w.now) run.now }
-    ensures { result ≡ queued_before (wired_by w.now) run.now y }
-{
-    let mut last = None;
+    w.chart.accepted();
+    let mut after = vec![in alloc; None; w.chart.events() as usize]?;
+    let mut lasts = vec![in alloc; None; w.queue_count() as usize]?;
     for x in run {
-        if *x == y {
-            return last;
+        if !w.chart.is_output(*x) {
+            continue;
         }
-        if are_queued(w, *x, y) {
-            last = Some(*x);
-        }
+        let queue = w.queue(*x) as usize;
+        after[*x as usize] = lasts[queue];
+        lasts[queue] = Some(*x);
     }
-    last
+    Ok(after)
 }
 
 /// A run as it is drawn: each event is a level of its own.
 fn frame_run<'a>(alloc: Global, w: &Wiring<'a>, run: &[Event]) -> Result<Framed<'a>, AllocError>
-    requires { All (λ e. e < size w.now) run.now }
+    requires run { Run (wired_by w.now) run.now }
+    requires whole { IsWhole (wired_by w.now) run.now }
     ensures frame { IfOk result (λ f. frame_of f ≡ run_frame (wired_by w.now) run.now) }
-    ensures long { IfOk result (λ f. vec_len f.levels ≡ length f.chart.now.events) }
+    ensures laid { IfOk result (λ f. IsLaid f) }
 {
-    let many = w.chart.events();
-    let mut levels = Vec::with_capacity(alloc, many as usize)?;
-    let mut after = Vec::with_capacity(alloc, many as usize)?;
-    for e in 0..many {
-        let level = place_of(run, e);
-        let before = queued_before(w, run, e);
-        levels.push(level)?;
-        after.push(before)?;
-    }
     Ok(Framed {
         chart: w.chart,
-        levels,
-        after,
+        levels: places_of(alloc, run, w.chart.events())?,
+        after: queued_of(alloc, w, run)?,
+        course: Vec::from_slice(alloc, run)?,
     })
 }
 

@@ -1,17 +1,13 @@
-use Rattle.std.proofs.Common.{[]}
 use Rattle.msc_chart.specs.Wirings.{wired_by}
-use Rattle.msc_picture.specs.Drawn.{frame_of}
-use Rattle.msc_picture.proofs.RunWitness.{run_drawn, run_known}
+use Rattle.msc_picture.specs.Courses.{frame_of}
+use Rattle.msc_picture.proofs.RunWitness.{run_drawn}
 use Rattle.msc_picture.proofs.run.run_order.Goals as goal
-
-pub frame_run-requires : goal.frame_run-requires
-frame_run-requires c = run_known (wired_by c.args.w.now) [] c.args.run.now c.requires.run
 
 pub returns-clause-rules : goal.returns-clause-rules
 returns-clause-rules c =
     run_drawn (wired_by c.args.w.now) (frame_of c.in_ok-f.f) c.args.run.now _
     c.accepted.ensures.matched c.in_ok-f.ensures.frame c.requires.run c.requires.whole
-    c.in_ok-drawn.ensures.held.holds.steps c.in_ok-drawn.ensures.end
+    c.in_ok-drawn.ensures.held.steps c.in_ok-drawn.ensures.end
 
 pub returns-clause-run : goal.returns-clause-run
 returns-clause-run c =
@@ -19,7 +15,7 @@ returns-clause-run c =
     c.accepted.ensures c.requires.run c.requires.whole
     (run_drawn (wired_by c.args.w.now) (frame_of c.in_ok-f.f) c.args.run.now _
     c.accepted.ensures.matched c.in_ok-f.ensures.frame c.requires.run c.requires.whole
-    c.in_ok-drawn.ensures.held.holds.steps c.in_ok-drawn.ensures.end)).0
+    c.in_ok-drawn.ensures.held.steps c.in_ok-drawn.ensures.end)).0
 
 pub returns-clause-lines : goal.returns-clause-lines
 returns-clause-lines c =
@@ -27,4 +23,4 @@ returns-clause-lines c =
     c.accepted.ensures c.requires.run c.requires.whole
     (run_drawn (wired_by c.args.w.now) (frame_of c.in_ok-f.f) c.args.run.now _
     c.accepted.ensures.matched c.in_ok-f.ensures.frame c.requires.run c.requires.whole
-    c.in_ok-drawn.ensures.held.holds.steps c.in_ok-drawn.ensures.end)).1
+    c.in_ok-drawn.ensures.held.steps c.in_ok-drawn.ensures.end)).1
