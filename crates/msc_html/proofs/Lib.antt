@@ -3,3 +3,5 @@ mod Blocks
 mod Pictured
 mod OneMore
 mod Always
+mod PlainSentences
+mod PlainReports

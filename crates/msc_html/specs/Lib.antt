@@ -7,5 +7,6 @@ pub mod Front
 pub mod Reports
 pub mod Findings
 pub mod Laws
+pub mod Plain
 -- what the code keeps
 pub mod Progress

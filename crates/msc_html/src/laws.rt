@@ -2,6 +2,7 @@
 //! rest its own proof on the law.
 
 ghost use Rattle.msc_html.specs.Laws.{AlwaysLacksForGood};
+ghost use Rattle.msc_html.specs.Plain.{ReportsArePlain};
 
 use msc_chart::laws::ends_share_queues;
 
@@ -12,3 +13,9 @@ pub fn always_lacks_for_good()
 {
     ends_share_queues();
 }
+
+/// Where all texts of its pictures and the version are of the bytes 32 to 126, a report is of these
+/// bytes and line ends: its canonical text is masked.
+pub fn plain_bytes()
+    ensures { ReportsArePlain }
+{}

@@ -279,7 +279,7 @@ more_texts : (more : List ℕ) (b : Bool) → is_plain more ≡ true → ArePlai
 more_texts more true p = plain_by [] refl
 more_texts more false p = (p, plain_by [] refl)
 
-size_plain : (l : Layout) → PlainAttributes (size_attributes l)
+pub size_plain : (l : Layout) → PlainAttributes (size_attributes l)
 size_plain l =
     more_plain _ _ (numbered_plain (codes "width") l.width refl)
     (more_plain _ _ (numbered_plain (codes "height") l.height refl)
