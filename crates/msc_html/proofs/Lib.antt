@@ -5,3 +5,5 @@ mod OneMore
 mod Always
 mod PlainSentences
 mod PlainReports
+mod PlainNames
+mod PlainPrinted

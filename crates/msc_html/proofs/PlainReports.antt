@@ -1,5 +1,5 @@
 -- That reports are plain, where the texts of their pictures are.
-use Rattle.std.proofs.Common.{◌≡◌, ℕ, ◌-◌, Bool, true, false, cond, List, [], ◌∷◌, ◌++◌, Option, None, Some, codes, length, map, nat_eq, nat_lt, refl, inl, inr}
+use Rattle.std.proofs.Common.{◌≡◌, ℕ, ◌-◌, Bool, true, false, cond, List, [], ◌∷◌, Option, None, Some, codes, length, map, nat_eq, nat_lt, refl}
 use Rattle.std.specs.Fmt.{decimal}
 use Rattle.msc_chart.specs.Architectures.{queues_word}
 use Rattle.msc_chart.specs.declared.queue.Queues.{Queues}
@@ -18,13 +18,13 @@ use Rattle.msc_tree.specs.Trees.{Attribute, Node, children, opened}
 use Rattle.msc_tree.specs.Trees.Node.{block}
 use Rattle.msc_html.specs.declared.article.Told.{Told}
 use Rattle.msc_html.specs.declared.part.Look.TheVariants.{Plain, Soft, Verdict, Pass, Scrolled}
-use Rattle.msc_html.specs.Articles.{Article, article_node, open_attributes, place_text, reverse_text, run_drawn, run_node, run_text, run_told, told_nodes}
-use Rattle.msc_html.specs.Figures.{caption_nodes, drawing_attributes, drawing_node, figure_node, figure_of}
+use Rattle.msc_html.specs.Articles.{Article, article_node, open_attributes, place_text, run_node, run_text, run_told, told_nodes}
+use Rattle.msc_html.specs.Figures.{drawing_attributes, drawing_node, figure_node, figure_of}
 use Rattle.msc_html.specs.Front.{advice_nodes, head_node, named_meta, sheet, store_node}
 use Rattle.msc_html.specs.Parts.{code, words}
 use Rattle.msc_html.specs.Plain.{ArePlainRuns}
-use Rattle.msc_html.specs.Reports.{Report, begin_nodes, body_node, caption_text, chart_node, chart_nodes, checked_text, command_text, count_text, counted_nodes, end_nodes, front_nodes, if_any, left_text, main_nodes, more_node, more_nodes, passed_nodes, queues_text, race_text, races_nodes, races_title, report_node, report_text, shown_node, text_byte, title_text, verdict_nodes, version_node}
-use Rattle.msc_html.proofs.PlainSentences.{AreParts, drawn_plain, lacks_plain, next_part, no_parts, one_part, queues_plain, reason_plain, sentence_plain, title_plain}
+use Rattle.msc_html.specs.Reports.{Report, begin_nodes, body_node, caption_text, chart_node, chart_nodes, checked_text, count_text, counted_nodes, end_nodes, front_nodes, if_any, main_nodes, more_node, more_nodes, passed_nodes, queues_text, race_text, races_nodes, races_title, report_node, report_text, shown_node, text_byte, title_text, verdict_nodes, version_node}
+use Rattle.msc_html.proofs.PlainSentences.{drawn_plain, lacks_plain, next_part, no_parts, one_part, queues_plain, reason_plain, sentence_plain, title_plain}
 
 -- a block, which may be empty
 block_any : (name : List ℕ) (attributes : List Attribute) (xs : List Node) → looks_plain name ≡ true
@@ -128,16 +128,21 @@ verdict_plain races closest =
     (next_line _ _ (sentence_plain (codes "p") Verdict _ refl (one_part _ (count_plain races closest)))
     (next_line _ [] (held_plain (codes "p") race_text refl (plain_by _ refl)) no_lines))
 
-title_of_page : (name : List ℕ) (queues : Queues) (races closest : ℕ) → is_plain name ≡ true
-    → is_plain (title_text name queues races closest) ≡ true
-title_of_page name queues races closest p =
-    plain_join _ (verdict_text queues races closest) (plain_join name (codes ", ") p (plain_by _ refl))
-    (plain_join _ _ (plain_join (queues_word queues) (codes ": ") (queues_plain queues) (plain_by _ refl))
+-- the verdict over a picture
+pub over_plain : (queues : Queues) (races closest : ℕ) → is_plain (verdict_text queues races closest) ≡ true
+over_plain queues races closest =
+    plain_join _ _ (plain_join (queues_word queues) (codes ": ") (queues_plain queues) (plain_by _ refl))
     (plain_choice (nat_eq races 0) (codes "pass") (counts_text races closest) (plain_by _ refl)
     (plain_join _ (codes " closest") (plain_join _ (decimal closest)
     (plain_join (decimal races) (races_word races) (plain_decimal races)
     (plain_choice (nat_eq races 1) _ _ (plain_by _ refl) (plain_by _ refl)))
-    (plain_decimal closest)) (plain_by _ refl))))
+    (plain_decimal closest)) (plain_by _ refl)))
+
+title_of_page : (name : List ℕ) (queues : Queues) (races closest : ℕ) → is_plain name ≡ true
+    → is_plain (title_text name queues races closest) ≡ true
+title_of_page name queues races closest p =
+    plain_join _ (verdict_text queues races closest) (plain_join name (codes ", ") p (plain_by _ refl))
+    (over_plain queues races closest)
 
 queues_told : (queues : Queues) → is_plain (queues_text queues) ≡ true
 queues_told Pair = plain_by _ refl

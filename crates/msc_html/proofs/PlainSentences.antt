@@ -1,5 +1,5 @@
 -- Sentences of a report whose bytes are plain.
-use Rattle.std.proofs.Common.{◌≡◌, ℕ, Bool, true, false, cond, List, [], ◌∷◌, ◌++◌, Option, None, Some, codes, length, map, get_or, nat_eq, nat_lt, refl}
+use Rattle.std.proofs.Common.{◌≡◌, ℕ, Bool, true, false, cond, List, [], ◌∷◌, ◌++◌, Option, None, Some, codes, length, map, nat_lt, refl}
 use Rattle.std.specs.Prelude.{slice_get}
 use Rattle.std.specs.Fmt.{decimal}
 use Rattle.msc_chart.specs.Architectures.{queues_word}
@@ -24,8 +24,8 @@ use Rattle.msc_html.specs.declared.part.Look.TheVariants.{Plain, Soft, Verdict, 
 use Rattle.msc_html.specs.declared.part.Part.{Part}
 use Rattle.msc_html.specs.declared.part.Tag.{Tag}
 use Rattle.msc_html.specs.declared.part.Tag.TheVariants.{Words, Code, Number}
-use Rattle.msc_html.specs.Parts.{code, look_attributes, part_node, part_of, sentence, tagged, words}
-use Rattle.msc_html.specs.Telling.{act_done, act_label, act_other, act_text, action_text, can_parts, done, drawn_parts, early_parts, event_text, helping_parts, home, hopeless_parts, kind_text, label, label_at, label_of, lacks_parts, name_at, number_words, often_text, order_text, other, reason_parts, sender_at, sender_of, spot_done, spot_home, spot_label, spot_other, spot_text, taker_at, taker_of, title_parts, two_parts, way_text}
+use Rattle.msc_html.specs.Parts.{code, look_attributes, part_node, sentence, tagged, words}
+use Rattle.msc_html.specs.Telling.{act_done, act_label, act_other, act_text, action_text, can_parts, done, drawn_parts, event_text, helping_parts, home, hopeless_parts, label, label_at, label_of, lacks_parts, name_at, number_words, often_text, order_text, other, reason_parts, sender_at, sender_of, spot_done, spot_home, spot_label, spot_other, spot_text, taker_at, taker_of, title_parts, two_parts, way_text}
 
 -- each of several parts
 unfoldable pub AreParts : List Part → Type 0

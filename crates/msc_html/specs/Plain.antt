@@ -1,8 +1,15 @@
--- That reports are of the bytes 32 to 126 and line ends.
-use Rattle.std.specs.Prelude.{◌≡◌, List, [], ◌∷◌, Some}
+-- That pictures and reports are of the bytes 32 to 126 and line ends.
+use Rattle.std.specs.Prelude.{◌≡◌, ℕ, List, [], ◌∷◌, Option, Some}
+use Rattle.msc_chart.specs.Drawings.{chart_of}
+use Rattle.msc_chart.specs.declared.queue.Queues.{Queues}
+use Rattle.msc_draw.specs.Pictures.{PrintsPicture, PrintsReversal}
+use Rattle.msc_draw.specs.declared.form.Form.{Form}
+use Rattle.msc_parser.specs.Drafts.{IsDraft}
+use Rattle.msc_parser.specs.Grammar.{Tree}
 use Rattle.msc_picture.specs.declared.scene.Scene.{Scene}
 use Rattle.msc_picture.specs.Plain.{HasPlainTexts, IsPlain}
 use Rattle.msc_html.specs.Articles.{Article}
+use Rattle.msc_html.specs.Findings.{PrintsReport}
 use Rattle.msc_html.specs.Reports.{Report, report_text}
 
 -- the pictures of the runs of articles have plain texts
@@ -16,3 +23,21 @@ abbrev pub ReportsArePlain : Type 0
 ReportsArePlain =
     (r : Report) → HasPlainTexts r.scene → ArePlainRuns r.articles → IsPlain r.version
     → IsPlain (report_text r)
+
+-- a picture of a draft's chart is plain
+abbrev pub PrintedPicturesArePlain : Type 0
+PrintedPicturesArePlain =
+    (draft : Tree) → IsDraft draft → (queues : Option Queues) (form : Form) (printed : List ℕ)
+    → PrintsPicture draft (chart_of draft) queues form printed → IsPlain printed
+
+-- and so is one of a run that reverses a race
+abbrev pub PrintedReversalsArePlain : Type 0
+PrintedReversalsArePlain =
+    (draft : Tree) → IsDraft draft → (queues : Queues) (form : Form) (e f : ℕ) (printed : List ℕ)
+    → PrintsReversal draft (chart_of draft) queues form e f printed → IsPlain printed
+
+-- and a report, where the version is
+abbrev pub PrintedReportsArePlain : Type 0
+PrintedReportsArePlain =
+    (draft : Tree) → IsDraft draft → (queues : Queues) (version printed : List ℕ) → IsPlain version
+    → PrintsReport draft (chart_of draft) queues version printed → IsPlain printed

@@ -2,7 +2,8 @@
 //! rest its own proof on the law.
 
 ghost use Rattle.msc_html.specs.Laws.{AlwaysLacksForGood};
-ghost use Rattle.msc_html.specs.Plain.{ReportsArePlain};
+ghost use Rattle.msc_html.specs.Plain.{PrintedPicturesArePlain, PrintedReportsArePlain};
+ghost use Rattle.msc_html.specs.Plain.{PrintedReversalsArePlain, ReportsArePlain};
 
 use msc_chart::laws::ends_share_queues;
 
@@ -14,8 +15,15 @@ pub fn always_lacks_for_good()
     ends_share_queues();
 }
 
-/// Where all texts of its pictures and the version are of the bytes 32 to 126, a report is of these
-/// bytes and line ends: its canonical text is masked.
+/// Each picture of a draft's chart, in text and in SVG, each picture of a run that reverses a race,
+/// and each report is of the bytes 32 to 126 and line ends, where the version is: names are so by
+/// the grammar, and the texts of actions and the canonical text are masked.
 pub fn plain_bytes()
-    ensures { ReportsArePlain }
-{}
+    ensures reports { ReportsArePlain }
+    ensures pictures { PrintedPicturesArePlain }
+    ensures reversals { PrintedReversalsArePlain }
+    ensures printed { PrintedReportsArePlain }
+{
+    msc_picture::laws::plain_bytes();
+    msc_svg::laws::plain_bytes();
+}

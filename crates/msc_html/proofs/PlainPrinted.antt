@@ -1,0 +1,87 @@
+-- All that is printed of a draft's chart is plain.
+use Rattle.std.proofs.Common.{◌≡◌, ℕ, zero, suc, true, List, [], ◌∷◌, Option, None, Some, length, inl, inr, refl, sym, subst, ◌∙◌}
+use Rattle.std.specs.Prelude.{codes}
+use Rattle.std.specs.Fmt.{decimal}
+use Rattle.std.proofs.lemmas.Bool.{cases_lt}
+use Rattle.msc_chart.specs.Architectures.{queues_word}
+use Rattle.msc_chart.specs.Drawings.{chart_of}
+use Rattle.msc_chart.specs.Lists.{StandsAt}
+use Rattle.msc_chart.specs.declared.queue.Queues.{Queues}
+use Rattle.msc_draw.specs.Forms.{text_in}
+use Rattle.msc_draw.specs.Pictures.{PrintsPicture, PrintsReversal}
+use Rattle.msc_draw.specs.Verdicts.{reversal_text}
+use Rattle.msc_draw.specs.declared.form.Form.{Form}
+use Rattle.msc_draw.specs.declared.form.Form.TheVariants.{Text, Svg}
+use Rattle.msc_parser.specs.Canonical.{canonical}
+use Rattle.msc_parser.specs.Drafts.{IsDraft}
+use Rattle.msc_parser.specs.Grammar.{Tree}
+use Rattle.msc_picture.specs.Plain.{HasPlainTexts, IsPlain, PicturesArePlain, TextsOfPicturesArePlain, is_plain}
+use Rattle.msc_picture.specs.Scenes.{IsPopulated}
+use Rattle.msc_picture.specs.declared.scene.Scene.{Scene}
+use Rattle.msc_picture.proofs.PlainBytes.{plain_by, plain_decimal, plain_join}
+use Rattle.msc_race.specs.Views.{races_of}
+use Rattle.msc_race.specs.Wired.{enforced_chart}
+use Rattle.msc_svg.specs.Laws.{SvgPicturesArePlain}
+use Rattle.msc_html.specs.Articles.{Article}
+use Rattle.msc_html.specs.Findings.{AreDrawn, PrintsReport, ShowsIts}
+use Rattle.msc_html.specs.Plain.{ArePlainRuns}
+use Rattle.msc_html.specs.Reports.{report}
+use Rattle.msc_html.proofs.PlainNames.{names_plain}
+use Rattle.msc_html.proofs.PlainReports.{over_plain, report_plain}
+use Rattle.msc_html.proofs.PlainSentences.{queues_plain}
+
+-- what stands above the picture of a run
+run_over_plain : (queues : Queues) (e f : ℕ) → is_plain (reversal_text queues e f) ≡ true
+run_over_plain queues e f =
+    plain_join _ (decimal e) (plain_join _ (codes " before ") (plain_join _ (decimal f)
+    (plain_join (queues_word queues) (codes ": a run with ") (queues_plain queues) (plain_by _ refl))
+    (plain_decimal f)) (plain_by _ refl)) (plain_decimal e)
+
+-- the texts of the pictures of runs, where each article that has one has plain ones
+runs_plain : (articles : List Article)
+    → ((k : ℕ) (a : Article) → StandsAt articles k a → (s : Scene) → a.run ≡ Some s → HasPlainTexts s) → ArePlainRuns articles
+runs_plain [] each = plain_by [] refl
+runs_plain (a ∷ others) each = (each zero a refl, runs_plain others (λ k b at. each (suc k) b at))
+
+module _ (texts : TextsOfPicturesArePlain) (pictures : PicturesArePlain) (svgs : SvgPicturesArePlain) (draft : Tree) (is : IsDraft draft) where
+  -- the texts of a picture of the chart, or of a run of it
+  scene_plain : (s : Scene) → IsPopulated draft (chart_of draft) s → HasPlainTexts s
+  scene_plain s shows = texts draft (chart_of draft) s (names_plain draft is) shows
+
+  form_plain : (form : Form) (s : Scene) (more : List ℕ) → IsPopulated draft (chart_of draft) s → IsPlain more → IsPlain (text_in form s more)
+  form_plain Text s more shows over = pictures s (scene_plain s shows)
+  form_plain Svg s more shows over = svgs s more (scene_plain s shows) over
+
+  -- a picture is plain
+  pub picture_printed : (queues : Option Queues) (form : Form) (printed : List ℕ)
+      → PrintsPicture draft (chart_of draft) queues form printed → IsPlain printed
+  picture_printed None form printed says =
+      subst IsPlain (sym says.text) (form_plain form says.scene [] says.right.shows (plain_by [] refl))
+  picture_printed (Some queues) form printed says =
+      subst IsPlain (sym says.text) (form_plain form says.scene _ says.right.shows (over_plain queues _ _))
+
+  -- and so is one of a run
+  pub reversal_printed : (queues : Queues) (form : Form) (e f : ℕ) (printed : List ℕ)
+      → PrintsReversal draft (chart_of draft) queues form e f printed → IsPlain printed
+  reversal_printed queues form e f printed says =
+      subst IsPlain (sym says.run.text) (form_plain form says.run.scene _ says.run.shows (run_over_plain queues e f))
+
+  -- the picture of a run in an article
+  article_run : (queues : Queues) (many : ℕ) (articles : List Article) → AreDrawn (ShowsIts draft (chart_of draft) queues) many articles
+      → (k : ℕ) (a : Article) → StandsAt articles k a → (s : Scene) → a.run ≡ Some s → HasPlainTexts s
+  article_run queues many articles are k a at s same = elim (cases_lt k many) [
+    | inl less ↦
+        let drawn = are.some k a at less in
+        let one : drawn.0 ≡ s = let both = sym drawn.1 ∙ same in cc in
+        subst HasPlainTexts one (scene_plain drawn.0 drawn.2.shows)
+    | inr past ↦ absurd (let none = are.none k a at past in cc)
+  ]
+
+  -- and so is a report
+  pub report_printed : (queues : Queues) (version printed : List ℕ) → IsPlain version
+      → PrintsReport draft (chart_of draft) queues version printed → IsPlain printed
+  report_printed queues version printed plain says =
+      let races = length (races_of (enforced_chart (chart_of draft) queues says.order)) in
+      subst IsPlain (sym says.text) (report_plain
+      (report queues races (length says.closest) says.scene says.articles (canonical draft) version) (scene_plain says.scene says.right.shows)
+      (runs_plain says.articles (article_run queues says.many says.articles says.tell.drawn)) plain)
