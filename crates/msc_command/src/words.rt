@@ -363,7 +363,7 @@ Exit status:
   2  the text was refused, or the words are no command
   4  memory ran out, or a file or the output failed
 
-Example:
+Examples:
   msc draw relay.msc
   msc draw --queues mailbox --svg relay.msc";
 
