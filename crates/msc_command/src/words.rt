@@ -264,7 +264,8 @@ impl Verb {
             Verb::List => "Print the chart's events with their numbers",
             Verb::Draw => "Print the chart as a picture, in text or in SVG",
             Verb::Reverse => "Print a picture of a run that reverses a race",
-            Verb::Report => "Print a page in HTML: the chart, its closest races, and runs that show them",
+            Verb::Report =>
+                "Print a page in HTML: the chart, its closest races, and runs that show them",
         }
     }
 
