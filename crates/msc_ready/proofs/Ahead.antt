@@ -10,7 +10,7 @@ use Rattle.msc_ready.specs.Held.{ReadyChart, wiring_of, ready_in}
 use Rattle.msc_chart.specs.Charts.{partner}
 use Rattle.msc_ready.specs.Readiness.{ReadyOrder}
 use Rattle.msc_ready.specs.Sticks.{IsAhead, IsLeastAhead}
-use Rattle.msc_ready.specs.Views.{AreLeastFirsts, IsLeastFirst}
+use Rattle.msc_ready.specs.Views.{AreAhead, AreLeastFirsts, IsAheadOf, IsLeastFirst}
 use Rattle.msc_ready.specs.Lesser.{lesser_of, IsLeastOf, IsLeastBelow}
 use Rattle.msc_ready.proofs.Shared.{before_parts}
 
@@ -29,6 +29,22 @@ module _ (r : ReadyChart) where
             subst (λ (x : ℕ). IsLeastFirst r k x) (sym (get_or-append_seam firsts g [] 0)) own in
             subst (λ (n : ℕ). IsLeastFirst r n (get_or (firsts ++ g ∷ []) n 0)) (sym same)
             (subst (λ (n : ℕ). IsLeastFirst r k (get_or (firsts ++ g ∷ []) n 0)) size seam)
+      ]
+
+  -- one more event with what is ahead of it
+  pub aheads_more : (all : List (Option (ℕ × ℕ))) (k : ℕ) (own : Option (ℕ × ℕ)) → length all ≡ k → AreAhead r all k → IsAheadOf r k own
+      → AreAhead r (all ++ own ∷ []) (k + 1)
+  aheads_more all k own size before told f below =
+      elim (cases_lt f k) [
+        | inl less ↦
+            let same = get_or_append_left all (own ∷ []) None f (omega (arith, less, size)) in
+            subst (λ (x : Option (ℕ × ℕ)). IsAheadOf r f x) (sym same) (before f less)
+        | inr more ↦
+            let same : f ≡ k = omega (arith, more, below) in
+            let seam : IsAheadOf r k (get_or (all ++ own ∷ []) (length all) None) =
+            subst (λ (x : Option (ℕ × ℕ)). IsAheadOf r k x) (sym (get_or-append_seam all own [] None)) told in
+            subst (λ (n : ℕ). IsAheadOf r n (get_or (all ++ own ∷ []) n None)) (sym same)
+            (subst (λ (n : ℕ). IsAheadOf r k (get_or (all ++ own ∷ []) n None)) size seam)
       ]
 
   module _ (f h : ℕ) where

@@ -4,3 +4,4 @@ pub mod Holding
 pub mod Listing
 pub mod Ahead
 pub mod Begun
+pub mod Left

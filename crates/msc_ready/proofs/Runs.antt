@@ -12,3 +12,4 @@ pub mod Whole
 pub mod Lines
 pub mod Reversing
 pub mod Enforcing
+pub mod OneRun

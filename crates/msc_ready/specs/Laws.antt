@@ -1,5 +1,5 @@
 -- Laws of the ready runs of an accepted chart, under each architecture and with any lines ready.
-use Rattle.std.specs.Prelude.{ℕ, Bool, List, ◌++◌, IsTrue, ◌↔◌}
+use Rattle.std.specs.Prelude.{◌≡◌, ℕ, Bool, List, ◌++◌, IsTrue, ◌↔◌}
 use Rattle.msc_chart.specs.declared.queue.Queues.{Queues}
 use Rattle.msc_chart.specs.Lists.{occurs, until}
 use Rattle.msc_chart.specs.Charts.{before, is_output, partner, Visual}
@@ -8,7 +8,8 @@ use Rattle.msc_chart.specs.Orders.{WiredChart, wired, Enforced}
 use Rattle.msc_chart.specs.Runs.{Run, IsWhole, KeepsDrawnOrder, Reverses}
 use Rattle.msc_race.specs.Laws.{HasNoRace}
 use Rattle.msc_ready.specs.Readiness.{all_ready, none_ready, ReadyRun, KeepsReadyLines, HasStuck, ReadyOrder}
-use Rattle.msc_ready.specs.Sticks.{IsStick, IsFirstStick, HasNoStick, IsRaceLeft}
+use Rattle.msc_ready.specs.Running.{AreStickRuns, IsStickRun}
+use Rattle.msc_ready.specs.Sticks.{AreLeft, IsStick, IsFirstStick, HasNoStick, IsRaceLeft}
 use Rattle.msc_ready.specs.Finishing.{MayFinish, HasNoWholeRing}
 
 -- a ready run is a run in which ready lines keep the drawn order
@@ -88,6 +89,24 @@ EachFirstStickIsMet =
     → IsFirstStick (wired queues d) ready e f
     → (events : List ℕ) × HasStuck (wired queues d) ready events
     × Reverses events (partner d.events e) (partner d.events f)
+
+-- each first stick has its run
+abbrev pub EachFirstStickHasARun : Type 0
+EachFirstStickHasARun =
+    (queues : Queues) (d : Drawing) → IsAccepted d → (ready : ℕ → Bool)
+    → (runs : ℕ → List ℕ) × AreStickRuns (wired queues d) ready runs
+
+-- and no other one: it is that of each first stick with the same second event
+abbrev pub StickRunsAreUnique : Type 0
+StickRunsAreUnique =
+    (queues : Queues) (d : Drawing) (ready : ℕ → Bool) (e g f : ℕ) (xs ys : List ℕ)
+    → IsStickRun (wired queues d) ready e f xs → IsStickRun (wired queues d) ready g f ys → xs ≡ ys
+
+-- there is a test for the races that are left
+abbrev pub RacesLeftAreTold : Type 0
+RacesLeftAreTold =
+    (queues : Queues) (d : Drawing) → IsAccepted d → (ready : ℕ → Bool)
+    → (left : ℕ → ℕ → Bool) × AreLeft (wired queues d) ready left
 
 -- a chart without races has no stick, whichever lines are ready
 abbrev pub APassNeverSticks : Type 0

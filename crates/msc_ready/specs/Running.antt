@@ -5,6 +5,7 @@ use Rattle.msc_chart.specs.Charts.{partner, is_input, is_output}
 use Rattle.msc_chart.specs.Orders.{WiredChart}
 use Rattle.msc_chart.specs.Runs.{Reverses}
 use Rattle.msc_ready.specs.Readiness.{HasStuck, MayComeReady, ReadyOrder}
+use Rattle.msc_ready.specs.Sticks.{IsFirstStick}
 
 -- x is t or stands before it
 abbrev pub IsUpTo : WiredChart → (ℕ → Bool) → ℕ → ℕ → Type 0
@@ -36,6 +37,10 @@ pub record IsStickRun (chart : WiredChart) (ready : ℕ → Bool) (e f : ℕ) (e
   pub chosen : Steps (IsStickNext chart ready (partner chart.events f)) [] events
   pub stuck : HasStuck chart ready events
   pub reverses : Reverses events (partner chart.events e) (partner chart.events f)
+
+-- a run for each event, which shows each first stick of which the event is the second
+abbrev pub AreStickRuns : WiredChart → (ℕ → Bool) → (ℕ → List ℕ) → Type 0
+AreStickRuns chart ready runs = (e f : ℕ) → IsFirstStick chart ready e f → IsStickRun chart ready e f (runs f)
 
 -- each output of the list is t or stands before it
 abbrev pub HasOutputsUpTo : WiredChart → (ℕ → Bool) → ℕ → List ℕ → Type 0

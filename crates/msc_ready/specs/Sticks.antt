@@ -1,6 +1,6 @@
 -- Sticks: pairs of inputs for which a system whose instances are ready can stick. They are this
 -- project's own.
-use Rattle.std.specs.Prelude.{◌≡◌, ℕ, Bool, false, ◌&&◌, not, IsTrue, nat_eq}
+use Rattle.std.specs.Prelude.{◌≡◌, ◌↔◌, ℕ, Bool, false, ◌&&◌, not, IsTrue, nat_eq}
 use Rattle.msc_chart.specs.Charts.{line, partner, is_input, before}
 use Rattle.msc_chart.specs.Orders.{WiredChart, queue}
 use Rattle.msc_order.specs.Tables.{Table, orders}
@@ -56,3 +56,7 @@ is_stick chart ready order e f =
 abbrev pub IsRaceLeft : WiredChart → (ℕ → Bool) → ℕ → ℕ → Type 0
 IsRaceLeft chart ready e f =
     IsTrue (before chart.events e f) × (ready (line chart.events e) ≡ false) × (ReadyOrder chart ready e f → ⊥)
+
+-- a test for the races that are left
+abbrev pub AreLeft : WiredChart → (ℕ → Bool) → (ℕ → ℕ → Bool) → Type 0
+AreLeft chart ready left = (e f : ℕ) → IsTrue (left e f) ↔ IsRaceLeft chart ready e f

@@ -1,8 +1,8 @@
 -- What is said of the sticks of a chart under an architecture.
-use Rattle.std.specs.Prelude.{◌≡◌, ℕ, ◌<◌, ◌⊎◌, List, length, get_or, ◌↔◌}
+use Rattle.std.specs.Prelude.{◌≡◌, ℕ, ◌<◌, ◌⊎◌, List, Option, None, MatchOption, length, get_or, ◌↔◌}
 use Rattle.msc_chart.specs.Lists.{pairs_of, pairs_to, Occurs, IsLeast}
 use Rattle.msc_ready.specs.Held.{ReadyChart, wiring_of, ready_in}
-use Rattle.msc_ready.specs.Sticks.{IsStick, is_stick}
+use Rattle.msc_ready.specs.Sticks.{IsAhead, IsLeastAhead, IsStick, is_stick}
 
 -- all sticks, ascending
 abbrev pub sticks_of : ReadyChart → List (ℕ × ℕ)
@@ -35,3 +35,17 @@ AreLeastFirsts r firsts k = (h : ℕ) → h < k → IsLeastFirst r h (get_or fir
 pub record HasLeastFirsts (r : ReadyChart) (firsts : List ℕ) : Type 0 where
   pub each : length firsts ≡ length r.chart.events
   pub least : AreLeastFirsts r firsts (length r.chart.events)
+
+-- of event f the least stick that is ahead of it, if there is one
+abbrev pub IsAheadOf : ReadyChart → ℕ → Option (ℕ × ℕ) → Type 0
+IsAheadOf r f ahead =
+    MatchOption ahead ((p : ℕ × ℕ) → IsAhead (wiring_of r) (ready_in r) f p → ⊥) (IsLeastAhead (wiring_of r) (ready_in r) f)
+
+-- of each event below k so
+abbrev pub AreAhead : ReadyChart → List (Option (ℕ × ℕ)) → ℕ → Type 0
+AreAhead r all k = (f : ℕ) → f < k → IsAheadOf r f (get_or all f None)
+
+-- of all events of the chart so
+pub record HasAhead (r : ReadyChart) (all : List (Option (ℕ × ℕ))) : Type 0 where
+  pub each : length all ≡ length r.chart.events
+  pub ahead : AreAhead r all (length r.chart.events)

@@ -7,7 +7,9 @@ ghost use Rattle.msc_ready.specs.Laws.{EachFirstStickIsMet, NeverSticks, SomeSti
 ghost use Rattle.msc_ready.specs.Laws.{APassNeverSticks, AllReadyRunsKeepTheDrawnOrder};
 ghost use Rattle.msc_ready.specs.Laws.{ReadyRunsKeepReadyLines, ReadyRunsKeepTheReadyOrder};
 ghost use Rattle.msc_ready.specs.Laws.{MoreReadyEndNoSticking, OutputsAreInVisualOrder, SomeRunIsWhole};
-ghost use Rattle.msc_ready.specs.Laws.{NoneReadyIsEnforced, RacesLeftAreReversed};
+ghost use Rattle.msc_ready.specs.Laws.{EachFirstStickHasARun, NoneReadyIsEnforced};
+ghost use Rattle.msc_ready.specs.Laws.{RacesLeftAreReversed, StickRunsAreUnique};
+ghost use Rattle.msc_ready.specs.Laws.{RacesLeftAreTold};
 
 use msc_chart::laws::{ends_share_queues, inputs_share_lines};
 
@@ -117,4 +119,20 @@ pub fn races_left_are_reversed()
 {
     ends_share_queues();
     inputs_share_lines();
+}
+
+/// Each first stick has one run, which is that of each first stick with the same second event.
+pub fn each_first_stick_has_one_run()
+    ensures exists { EachFirstStickHasARun }
+    ensures unique { StickRunsAreUnique }
+{
+    ends_share_queues();
+    inputs_share_lines();
+}
+
+/// There is a test for the races that are left.
+pub fn races_left_are_told()
+    ensures { RacesLeftAreTold }
+{
+    ends_share_queues();
 }

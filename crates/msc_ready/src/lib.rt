@@ -8,6 +8,7 @@
 mod beginning;
 mod finishing;
 pub mod laws;
+mod leaving;
 mod ordering;
 mod ready;
 mod running;

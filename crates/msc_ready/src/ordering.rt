@@ -84,6 +84,11 @@ impl Ready<'_> {
         requires y_known { y < length self.now.chart.events }
         ensures { IsTrue result ↔ GoesOver (wiring_of self.now) (ready_in self.now) x y }
     {
+        self.kept();
+        inputs_share_lines();
+        if !self.is_loose(x) {
+            return false;
+        }
         for u in 0..self.events() {
             if self.are_mates(x, u) && self.is_up_to(u, y) {
                 return true;

@@ -5,7 +5,7 @@ ghost use Rattle.msc_chart.specs.Lists.{IsLeast};
 ghost use Rattle.msc_ready.specs.Held.{ready_in, wiring_of};
 ghost use Rattle.msc_ready.specs.Sticks.{HasNoStick, IsAhead, IsFirstStick, IsLeastAhead};
 ghost use Rattle.msc_ready.specs.Views.{sticks_from, sticks_of, AreLeastFirsts, AreSticks};
-ghost use Rattle.msc_ready.specs.Views.{AreSticksFrom};
+ghost use Rattle.msc_ready.specs.Views.{AreSticksFrom, HasAhead};
 ghost use Rattle.msc_race.specs.Races.{AreAscending};
 ghost use Rattle.msc_ready.specs.Lesser.{lesser_of};
 
@@ -133,6 +133,18 @@ impl<'a> Sticks<'a> {
             least = lesser(least, self.ahead_with(h, f), h);
         }
         least
+    }
+
+    /// Of each event, as the second of sticks, the least stick that is ahead of it, if there is one.
+    /// An error is a growth of memory that was refused.
+    pub fn all_ahead(&self, alloc: Global) -> Result<Vec<Option<(Event, Event)>>, AllocError>
+        ensures { IfOk result (λ all. HasAhead self.now all.items) }
+    {
+        let mut all = Vec::new(alloc);
+        for f in 0..self.ready.events() {
+            all.push(self.ahead_of(f))?;
+        }
+        Ok(all)
     }
 
     /// Whether two events are a first stick: a stick, and the second output of no stick stands
