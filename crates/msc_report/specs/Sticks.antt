@@ -47,16 +47,23 @@ stick_place d e f =
     codes "stick " ++ (decimal e ++ (codes " " ++ (decimal f
     ++ (codes " on " ++ instance_text d (line d.events e)))))
 
--- a stick, and its two outputs, of which the first would have to stand before the other
+-- the outputs of two inputs, of which the first would have to stand before the other
+abbrev pub needs_text : Option SitesIn → Drawing → ℕ → ℕ → List ℕ
+needs_text sites d e f = pair_text sites [] (codes "needs") d (partner d.events e) (partner d.events f)
+
+-- a stick, and its two outputs
 abbrev pub stick_lines : Option SitesIn → Drawing → ℕ → ℕ → List ℕ
 stick_lines sites d e f =
-    stick_place d e f ++ (codes ": " ++ (race_events d e f ++ (at_text sites [] e f
-    ++ pair_text sites [] (codes "needs") d (partner d.events e) (partner d.events f))))
+    stick_place d e f ++ (codes ": " ++ (race_events d e f ++ (at_text sites [] e f ++ needs_text sites d e f)))
+
+-- the name of the instance of an event
+abbrev pub owner_text : Drawing → ℕ → List ℕ
+owner_text d e = instance_text d (line d.events e)
 
 -- what the instance waits for, and what stands before that in its queue
 abbrev pub waits_line : Drawing → ℕ → ℕ → List ℕ
 waits_line d e f =
-    instance_text d (line d.events e) ++ (codes " waits for " ++ (coming_text d e
+    owner_text d e ++ (codes " waits for " ++ (coming_text d e
     ++ (codes "; in its queue " ++ (coming_text d f ++ text_line (codes " stands first")))))
 
 -- the same, where answers are in words

@@ -5,9 +5,9 @@ ghost use Rattle.std.specs.Io.KnownBytes.{Appends};
 ghost use Rattle.std.specs.Option.{option_copied};
 ghost use Rattle.msc_chart.specs.Charts.{is_input};
 ghost use Rattle.msc_report.specs.Sticks.{bare_stick, behind_line, coming_text, finishing_line};
-ghost use Rattle.msc_report.specs.Sticks.{left_line, left_race, ready_head, ready_line, ready_name};
-ghost use Rattle.msc_report.specs.Sticks.{ready_names, stick_lines, stick_place, waits_line};
-ghost use Rattle.msc_report.specs.Sticks.{waits_text};
+ghost use Rattle.msc_report.specs.Sticks.{left_line, left_race, needs_text, owner_text, ready_head};
+ghost use Rattle.msc_report.specs.Sticks.{ready_line, ready_name, ready_names, stick_lines, stick_place};
+ghost use Rattle.msc_report.specs.Sticks.{waits_line};
 
 use crate::lines::write_placed_pair;
 use crate::race::{write_events, write_instance, write_race, write_signal};
@@ -117,6 +117,24 @@ fn write_stick_place<W: Write>(writer: &mut W, chart: &Chart, e: Event, f: Event
     write_instance(writer, chart, chart.instance_of(e))
 }
 
+/// Writes the outputs of two inputs, of which the first would have to stand before the other.
+fn write_needs<W: Write>(
+    writer: &mut W,
+    chart: &Chart,
+    sites: Option<&Sites<'_>>,
+    e: Event,
+    f: Event,
+) -> io::Result<()>
+    requires e_known { e < length chart.now.events }
+    requires f_known { f < length chart.now.events }
+    ensures { OnOk result (Appends (W.contents writer.old) (W.contents writer.new)
+        (needs_text (option_map (λ s. s.now) sites.entry) chart.now e f)) }
+{
+    chart.accepted();
+    let (s, t) = (chart.other_end(e), chart.other_end(f));
+    write_placed_pair(writer, chart, sites, "", "needs", s, t)
+}
+
 /// Writes a stick and its two outputs, with their places, where places are told.
 fn write_stick_lines<W: Write>(
     writer: &mut W,
@@ -130,13 +148,11 @@ fn write_stick_lines<W: Write>(
     ensures { OnOk result (Appends (W.contents writer.old) (W.contents writer.new)
         (stick_lines (option_map (λ s. s.now) sites.entry) chart.now e f)) }
 {
-    chart.accepted();
     write_stick_place(writer, chart, e, f)?;
     writer.write_all(b": ")?;
     write_events(writer, chart, e, f)?;
     write_at(writer, sites, "", e, f)?;
-    let (s, t) = (chart.other_end(e), chart.other_end(f));
-    write_placed_pair(writer, chart, sites, "", "needs", s, t)
+    write_needs(writer, chart, sites, e, f)
 }
 
 /// Writes what comes at an input: its message, and from whom.
@@ -148,6 +164,16 @@ fn write_coming<W: Write>(writer: &mut W, chart: &Chart, e: Event) -> io::Result
     write_signal(writer, chart, e, b"", b" from ")
 }
 
+/// Writes the name of the instance of an input.
+fn write_owner<W: Write>(writer: &mut W, chart: &Chart, e: Event) -> io::Result<()>
+    requires { IsTrue (is_input chart.now.events e) }
+    ensures { OnOk result (Appends (W.contents writer.old) (W.contents writer.new)
+        (owner_text chart.now e)) }
+{
+    chart.accepted();
+    write_instance(writer, chart, chart.instance_of(e))
+}
+
 /// Writes what the instance of two inputs waits for, and what stands before that in its queue.
 fn write_waits<W: Write>(writer: &mut W, chart: &Chart, e: Event, f: Event) -> io::Result<()>
     requires e_input { IsTrue (is_input chart.now.events e) }
@@ -155,8 +181,7 @@ fn write_waits<W: Write>(writer: &mut W, chart: &Chart, e: Event, f: Event) -> i
     ensures { OnOk result (Appends (W.contents writer.old) (W.contents writer.new)
         (waits_line chart.now e f)) }
 {
-    chart.accepted();
-    write_instance(writer, chart, chart.instance_of(e))?;
+    write_owner(writer, chart, e)?;
     writer.write_all(b" waits for ")?;
     write_coming(writer, chart, e)?;
     writer.write_all(b"; in its queue ")?;

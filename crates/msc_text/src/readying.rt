@@ -1,8 +1,8 @@
 //! Whether a system of ready instances can stick, in bytes.
 
-ghost use Rattle.std.specs.Prelude.{◌≡◌, ◌<◌, ℕ, Bool, List, [], ◌++◌, IfOk, IsTrue, OnOk, Some};
-ghost use Rattle.std.specs.Prelude.{length};
-ghost use Rattle.std.specs.List.{All, flat_map};
+ghost use Rattle.std.specs.Prelude.{◌≡◌, ◌<◌, ℕ, Bool, List, ◌++◌, IfOk, Some};
+ghost use Rattle.std.specs.Prelude.{length, nat_eq, None, OnOk};
+ghost use Rattle.std.specs.List.{flat_map};
 ghost use Rattle.std.specs.Option.{option_copied};
 ghost use Rattle.msc_chart.specs.Lists.{pairs_of};
 ghost use Rattle.msc_judge.specs.Pages.{Puts, Tells, Writes};
