@@ -77,6 +77,14 @@ impl<'a> Sticks<'a> {
         &self.ready
     }
 
+    /// What is said of the sticks in their order. It does nothing; a caller calls it to rest its own
+    /// proof on that.
+    pub fn told(&self)
+        ensures { AreSticks self.now (sticks_of self.now) }
+    {
+        self.ready.sticks_are_told();
+    }
+
     /// How many sticks there are. It takes no memory.
     pub fn count(&self) -> u32
         ensures number { result ≡ length (sticks_of self.now) }

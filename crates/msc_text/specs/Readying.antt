@@ -1,5 +1,5 @@
 -- What is printed of a chart whose instances are ready, or some of them.
-use Rattle.std.specs.Prelude.{◌≡◌, ◌↔◌, ◌×◌, ◌-◌, ℕ, Bool, true, false, ◌&&◌, cond, List, [], ◌∷◌, ◌++◌, Option, None, Some, IsTrue, get_or, is_some, length, nat_eq}
+use Rattle.std.specs.Prelude.{◌≡◌, ◌↔◌, ◌-◌, ℕ, Bool, ◌&&◌, cond, List, [], ◌∷◌, ◌++◌, Option, None, Some, IsTrue, get_or, is_some, length, nat_eq}
 use Rattle.std.specs.List.{flat_map}
 use Rattle.msc_chart.specs.declared.queue.Queues.{Queues}
 use Rattle.msc_chart.specs.Drawings.{Drawing, IsAccepted}

@@ -440,12 +440,12 @@ pub fn write_ready<W: Write>(
     ready.kept();
     let may = ready.may_finish(alloc)?;
     let sticks = Sticks::of(alloc, ready)?;
+    sticks.told();
     let ahead = sticks.all_ahead(alloc)?;
     let teller = Teller {
         sticks: &sticks,
         ahead: ahead.as_slice(),
         style,
     };
-    let _ = teller.sticks.count();
     teller.write_told(alloc, writer, only, show, may)
 }
