@@ -3,12 +3,12 @@ use Rattle.std.proofs.Common.{◌≡◌, ℕ, ◌<◌, ◌⊎◌, Bool, true, fa
 use Rattle.std.specs.Prelude.{IsTrue}
 use Rattle.std.proofs.lemmas.Bool.{cases_eq, cases_lt}
 use Rattle.std.proofs.lemmas.List.{append-nil}
-use Rattle.msc_chart.specs.Charts.{IsAcyclic, is_input, is_output, partner}
+use Rattle.msc_chart.specs.Charts.{IsAcyclic, is_input, partner}
 use Rattle.msc_chart.specs.Lists.{occurs, until, IsLeast, Steps}
 use Rattle.msc_chart.specs.Orders.{WiredChart, IsWired}
 use Rattle.msc_race.proofs.Runs.ChosenRuns.{least_unique}
 use Rattle.msc_race.proofs.Runs.Deciding.{least_of}
-use Rattle.msc_ready.specs.Readiness.{MayComeReady, ReadyRun, ReadyOrder, IsReadyOrder}
+use Rattle.msc_ready.specs.Readiness.{MayComeReady}
 use Rattle.msc_ready.specs.Running.{AreStickRuns, ComesAsInput, ComesUpTo, HasOutputsUpTo, IsStickNext, IsStickRun, IsTowardNext, IsUpTo}
 use Rattle.msc_ready.specs.Sticks.{IsFirstStick}
 use Rattle.msc_ready.proofs.Shared.{by_test, clash, not_both, occurs-left, step_at, Steps-map}

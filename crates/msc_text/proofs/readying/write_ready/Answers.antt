@@ -1,11 +1,11 @@
-use Rattle.std.proofs.Common.{ℕ, Bool, List, refl, sym, subst, ◌∙◌, ap, ◌≡◌}
+use Rattle.std.proofs.Common.{ℕ, List, refl, sym, subst, ◌∙◌, ap, ◌≡◌}
 use Rattle.std.specs.Prelude.{IsTrue, ◌↔◌}
 use Rattle.std.specs.Option.{option_copied}
 use Rattle.std.proofs.lemmas.Result.{IfOk-weaker}
 use Rattle.msc_chart.specs.Drawings.{IsAccepted}
 use Rattle.msc_ready.specs.Finishing.{MayFinish}
 use Rattle.msc_ready.specs.Held.{ready_in, wiring_of, HasVisualOrder, ReadyChart}
-use Rattle.msc_text.specs.Readying.{finishes, lines_of, ready_text, IsKnown, Knowledge}
+use Rattle.msc_text.specs.Readying.{finishes, ready_text, IsKnown, Knowledge}
 use Rattle.msc_text.proofs.Readied.{prints, tells}
 use Rattle.msc_text.proofs.readying.write_ready.Goals as goal
 

@@ -1,5 +1,4 @@
-use Rattle.std.proofs.Common.{ℕ, ◌+◌, ◌*◌, length, ap, sym, ◌∙◌, arith}
-use Rattle.msc_chart.specs.declared.TheConstants.{EVENT_LIMIT}
+use Rattle.std.proofs.Common.{ℕ, length, ap, sym, ◌∙◌, arith}
 use Rattle.msc_race.proofs.Listing.Pairs.{below_all, below_none}
 use Rattle.msc_ready.proofs.Left.{left_below}
 use Rattle.msc_ready.proofs.ready.Ready.count_left.Goals as goal

@@ -1,10 +1,9 @@
-use Rattle.std.proofs.Common.{◌≡◌, ℕ, Bool, List, [], ◌++◌, length, sym, ap, ◌∙◌, subst}
+use Rattle.std.proofs.Common.{ℕ, Bool, List, [], ◌++◌, length, sym, ap, ◌∙◌}
 use Rattle.std.specs.List.{flat_map}
 use Rattle.std.proofs.lemmas.List.{append-nil}
 use Rattle.std.proofs.lemmas.Result.{err_from_is_err_and}
 use Rattle.msc_chart.specs.Lists.{pairs_of}
 use Rattle.msc_judge.proofs.Putting.{fails_within, pages_in, pages_then}
-use Rattle.msc_ready.specs.Held.{ready_in, wiring_of, ReadyChart}
 use Rattle.msc_report.specs.Sticks.{left_line, left_race}
 use Rattle.msc_text.proofs.Readied.{count_left}
 use Rattle.msc_text.proofs.readying.Teller.put_counted.Goals as goal

@@ -1,4 +1,4 @@
-use Rattle.std.proofs.Common.{◌≡◌, ◌<◌, ℕ, ◌+◌, Bool, List, [], ◌++◌, length, refl, sym, ap, ◌∙◌, subst, arith}
+use Rattle.std.proofs.Common.{ℕ, ◌+◌, List, ◌++◌, length, refl, sym, ap, ◌∙◌, subst, arith}
 use Rattle.std.specs.List.{flat_map}
 use Rattle.std.proofs.lemmas.List.{append-nil}
 use Rattle.std.proofs.lemmas.Result.{err_from_is_err_and}
@@ -6,8 +6,7 @@ use Rattle.msc_chart.specs.Lists.{pairs_of, pairs_to}
 use Rattle.msc_judge.proofs.Putting.{fails_within, pages_in, pages_then, stops_within}
 use Rattle.msc_judge.specs.Pages.{Pages}
 use Rattle.msc_race.proofs.Listing.Pairs.{below_all, below_more, below_none, of_rest, pairs_below}
-use Rattle.msc_ready.specs.Held.{ready_in, wiring_of, ReadyChart}
-use Rattle.msc_ready.specs.Sticks.{AreLeft}
+use Rattle.msc_ready.specs.Held.{ready_in, ReadyChart}
 use Rattle.msc_report.specs.Sticks.{left_race}
 use Rattle.msc_text.specs.Readied.{AreEvents}
 use Rattle.msc_text.proofs.Readied.{flat_then, list_left, pairs_events}

@@ -1,4 +1,4 @@
-use Rattle.std.proofs.Common.{◌<◌, ℕ, List, [], ◌++◌, length, get_or, drop, take, sym, ap, subst, arith}
+use Rattle.std.proofs.Common.{ℕ, List, [], ◌++◌, get_or, drop, take, sym, subst, arith}
 use Rattle.std.specs.List.{flat_map}
 use Rattle.std.proofs.lemmas.List.{append-nil, take_all}
 use Rattle.std.proofs.lemmas.Result.{err_from_is_err_and}

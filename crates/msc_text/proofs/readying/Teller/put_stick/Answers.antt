@@ -1,4 +1,4 @@
-use Rattle.std.proofs.Common.{List, ℕ, ap, sym, ◌∙◌, ◌++◌, append_assoc}
+use Rattle.std.proofs.Common.{List, ℕ, ap, ◌∙◌, ◌++◌, append_assoc}
 use Rattle.std.proofs.lemmas.Result.{on_ok_weaker}
 use Rattle.msc_report.specs.Sticks.{bare_stick, showing_text}
 use Rattle.msc_text.specs.Readying.{ahead_in, shown_run}

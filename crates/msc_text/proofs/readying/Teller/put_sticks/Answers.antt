@@ -1,14 +1,14 @@
-use Rattle.std.proofs.Common.{◌≡◌, ◌<◌, ℕ, ◌+◌, List, [], ◌++◌, Err, length, refl, sym, ap, ◌∙◌, subst, arith}
+use Rattle.std.proofs.Common.{ℕ, ◌+◌, List, ◌++◌, length, refl, sym, ap, ◌∙◌, subst, arith}
 use Rattle.std.proofs.lemmas.List.{append-nil}
 use Rattle.std.proofs.lemmas.Result.{err_from_is_err_and}
 use Rattle.msc_judge.proofs.Putting.{fails_within, pages_in, pages_then, stops_within}
-use Rattle.msc_judge.specs.Pages.{Pages, Puts}
+use Rattle.msc_judge.specs.Pages.{Pages}
 use Rattle.msc_race.proofs.Listing.Pairs.{below_all, below_more, below_none, of_rest, pairs_below}
 use Rattle.msc_ready.specs.Held.{ReadyChart}
 use Rattle.msc_ready.specs.Views.{sticks_from, sticks_of}
 use Rattle.msc_text.specs.Readied.{left_behind, AreSticksIn}
 use Rattle.msc_text.specs.Readying.{told_sticks}
-use Rattle.msc_text.proofs.Readied.{left_then, stick_test, sticks_in, told_behind, told_then}
+use Rattle.msc_text.proofs.Readied.{left_then, stick_test, sticks_in, told_then}
 use Rattle.msc_text.proofs.readying.Teller.put_sticks.Goals as goal
 
 pub loop-e-init : goal.loop-e-init
