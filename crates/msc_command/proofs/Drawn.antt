@@ -5,8 +5,9 @@ use Rattle.msc_chart.specs.Faults.{IsFaultless}
 use Rattle.msc_parser.specs.Grammar.{Tree}
 use Rattle.msc_parser.specs.Parsing.{HasDraft}
 use Rattle.msc_report.specs.Refusals.{of_source}
+use Rattle.msc_report.specs.declared.fault.Fault.TheVariants.{Parse, Chart as Built, NotStarted, Memory, Device}
 use Rattle.msc_source.specs.Reading as reading
-use Rattle.msc_source.specs.Texts.{IsChartOf, source_text, SourceText}
+use Rattle.msc_source.specs.Texts.{IsChartOf, source_text, ReadText, SourceText}
 use Rattle.msc_source.specs.declared.fault.SourceFault.{SourceFault}
 use Rattle.msc_source.specs.declared.fault.SourceFault.TheVariants as sources
 use Rattle.msc_source.specs.declared.language.Language.{Language}
@@ -18,7 +19,7 @@ use Rattle.msc_command.specs.declared.tasks.Drawn.{Drawn}
 use Rattle.msc_command.specs.declared.tasks.Drawn.TheVariants.{Chart, Run, Report}
 use Rattle.msc_command.specs.declared.tasks.Task.TheVariants as tasks
 use Rattle.msc_command.specs.Answering.{Answers, Does, Prints, Refuses}
-use Rattle.msc_command.specs.Drawing.{PrintsPage, RefusesDrawn}
+use Rattle.msc_command.specs.Drawing.{IsDrawnOn, PrintsPage, RefusesDrawn}
 use Rattle.msc_command.proofs.Answered.{answers_so}
 
 module _ {W : Type 0} (contents : W → Option (List ℕ)) (file text : List ℕ) where
@@ -30,11 +31,19 @@ module _ {W : Type 0} (contents : W → Option (List ℕ)) (file text : List ℕ
   not_drafted drawn sources.Memory now said = inl refl
 
   -- nor of one without a chart
-  pub none_drawn : (drawn : Drawn) (f : SourceFault) (now : W) → reading.Refuses MscPr text f
+  none_drawn : (drawn : Drawn) (f : SourceFault) (now : W) → reading.Refuses MscPr text f
       → Does contents (tasks.Draw drawn) file text (Err (refusals.Fault (of_source f))) now now
   none_drawn drawn (sources.Parse f) now has = (has, refl)
   none_drawn drawn (sources.Chart f) now has = (has, refl)
   none_drawn drawn sources.Memory now said = inl refl
+
+  -- nor where the draft that was read is no chart
+  pub not_charted : (drawn : Drawn) (f : SourceFault) (now : W) (r : ReadText) → r.language ≡ MscPr → r.text ≡ text
+      → reading.Refuses r.language r.text f → Does contents (tasks.Draw drawn) file text (Err (refusals.Fault (of_source f))) now now
+  not_charted drawn f now r language_is text_is said =
+      none_drawn drawn f now
+      (subst (λ (l : Language). reading.Refuses l text f) language_is
+      (subst (λ (t : List ℕ). reading.Refuses r.language t f) text_is said))
 
   -- what is refused of a chart is refused of its text
   refuses_drawn : (d : Drawing) → IsChartOf text d → (drawn : Drawn) (r : Refusal)
@@ -64,3 +73,14 @@ module _ {W : Type 0} (contents : W → Option (List ℕ)) (file text : List ℕ
       (subst (λ (t : List ℕ). s ≡ source_text s.language t s.chart) text_is refl) in
       drawn_at drawn s.chart (record { draft = draft; has = has; faultless = faultless; chart = chart_is }) answer old new
       (subst (λ (s' : SourceText). Answers contents (PrintsPage drawn draft s') (RefusesDrawn drawn s') answer old new) same said)
+
+-- why nothing is drawn is why the task is refused, or memory ran out
+pub undrawn : {W : Type 0} (contents : W → Option (List ℕ)) (drawn : Drawn) (draft : Tree) (s : SourceText) (r : Refusal) (now : W)
+    → IsDrawnOn drawn draft s (Err r) → Answers contents (PrintsPage drawn draft s) (RefusesDrawn drawn s) (Err r) now now
+undrawn contents drawn draft s (refusals.Fault Memory) now said = inl refl
+undrawn contents drawn draft s (refusals.Fault Device) now said = tt
+undrawn contents drawn draft s (refusals.Fault (Parse f)) now fails = (fails, refl)
+undrawn contents drawn draft s (refusals.Fault (Built f)) now fails = (fails, refl)
+undrawn contents drawn draft s (refusals.Fault (NotStarted i)) now fails = (fails, refl)
+undrawn contents drawn draft s (refusals.Pair f) now fails = (fails, refl)
+undrawn contents drawn draft s (refusals.Mark f) now fails = (fails, refl)

@@ -1,7 +1,7 @@
 -- What is drawn of a chart.
 use Rattle.std.specs.Prelude.{◌≡◌, ℕ, List, Result, Ok, Err, codes}
 use Rattle.msc_draw.specs.Pictures.{IsNoRace, PrintsPicture, PrintsReversal}
-use Rattle.msc_html.specs.Reports.{PrintsReport}
+use Rattle.msc_html.specs.Findings.{PrintsReport}
 use Rattle.msc_judge.specs.declared.page.Page.{Page}
 use Rattle.msc_parser.specs.Grammar.{Tree}
 use Rattle.msc_report.specs.declared.fault.Fault.TheVariants.{Memory}

@@ -1,7 +1,7 @@
 use Rattle.std.proofs.Common.{refl}
 use Rattle.std.proofs.lemmas.Result.{err_from_is_err_and}
 use Rattle.msc_command.proofs.Answered.{charted, no_chart, no_draft, not_written}
-use Rattle.msc_command.proofs.Drawn.{none_drawn, not_drafted, was_drawn}
+use Rattle.msc_command.proofs.Drawn.{not_charted, not_drafted, was_drawn}
 use Rattle.msc_command.proofs.answering.answer.Goals as goal
 
 pub returns-in_err-read-in-Read : goal.returns-in_err-read-in-Read
@@ -33,3 +33,10 @@ pub returns-in_err-read-in-Draw : goal.returns-in_err-read-in-Draw
 returns-in_err-read-in-Draw g c =
     let p = err_from_is_err_and c.from_residual-in_err-read-in-Draw.result c.from_residual-in_err-read-in-Draw.ensures.1 in
     rw (c.in-Draw.is, p.1, p.2) (not_drafted g.O.Write.contents c.args.file.now c.args.text.now c.in-Draw.drawn _ c.args.output.now c.in_err-read-in-Draw.ensures)
+
+pub returns-in_err-source-in-Draw : goal.returns-in_err-source-in-Draw
+returns-in_err-source-in-Draw g c =
+    let p = err_from_is_err_and c.from_residual-in_err-source-in-Draw.result c.from_residual-in_err-source-in-Draw.ensures.1 in
+    let read = c.in_ok-read-in-Draw.ensures in
+    rw (c.in-Draw.is, p.1, p.2) (not_charted g.O.Write.contents c.args.file.now c.args.text.now c.in-Draw.drawn _ c.args.output.now c.in_ok-read-in-Draw.read read.0 read.1
+    c.in_err-source-in-Draw.ensures.told)
