@@ -13,3 +13,4 @@ pub mod DraftLemmas
 pub mod NamedLemmas
 pub mod LawLemmas
 pub mod OrderLemmas
+pub mod ImportLemmas

@@ -15,7 +15,7 @@ use Rattle.msc_parser.specs.Drafts.{IsDeclNamed, IsStatementNamed, IsItemNamed, 
 use Rattle.msc_import.specs.declared.course.Message.{Message}
 use Rattle.msc_import.specs.declared.course.Step.{Step}
 use Rattle.msc_import.specs.declared.fault.ImportFault.{ImportFault}
-use Rattle.msc_import.specs.declared.plan.Own.{Own}
+use Rattle.msc_import.specs.declared.plan.Manner.{Manner}
 use Rattle.msc_import.specs.declared.plan.Side.{Side}
 use Rattle.msc_import.specs.declared.plan.Side.TheVariants as sides
 use Rattle.msc_import.specs.declared.statement.Placed.{Placed}
@@ -141,17 +141,17 @@ push_named [] s all one = (one, tt)
 push_named (t ∷ ss) s all one = (all.0, push_named ss s all.1 one)
 
 -- and all lines
-module _ (own : Own) (steps : List Step) (names : List (List ℕ)) (ps : List Placed) where
-  step_named : (line : ℕ) (ident : List ℕ) (idents : List (List ℕ)) (done ss : List Section) (r : Result Plan ImportFault) → ((p : Plan) → sections_on own steps names ps (line + 1) idents (done ++ section_of names line ident ps p ∷ []) ≡ Ok ss → AllByRecursion IsSectionNamed ss) → (r >>= (λ p. sections_on own steps names ps (line + 1) idents (done ++ section_of names line ident ps p ∷ []))) ≡ Ok ss → AllByRecursion IsSectionNamed ss
+module _ (manner : Manner) (steps : List Step) (names : List (List ℕ)) (ps : List Placed) where
+  step_named : (line : ℕ) (ident : List ℕ) (idents : List (List ℕ)) (done ss : List Section) (r : Result Plan ImportFault) → ((p : Plan) → sections_on manner steps names ps (line + 1) idents (done ++ section_of names line ident ps p ∷ []) ≡ Ok ss → AllByRecursion IsSectionNamed ss) → (r >>= (λ p. sections_on manner steps names ps (line + 1) idents (done ++ section_of names line ident ps p ∷ []))) ≡ Ok ss → AllByRecursion IsSectionNamed ss
   step_named line ident idents done ss (Ok p) rest e = rest p e
   step_named line ident idents done ss (Err f) rest e = cc
 
-  pub sections_named : (line : ℕ) (idents : List (List ℕ)) (done ss : List Section) → AllByRecursion IsSectionNamed done → sections_on own steps names ps line idents done ≡ Ok ss → AllByRecursion IsSectionNamed ss
+  pub sections_named : (line : ℕ) (idents : List (List ℕ)) (done ss : List Section) → AllByRecursion IsSectionNamed done → sections_on manner steps names ps line idents done ≡ Ok ss → AllByRecursion IsSectionNamed ss
   unfolding sections_on
   sections_named line [] done ss all e =
       let same : done ≡ ss = cc in subst (AllByRecursion IsSectionNamed) same all
   sections_named line (ident ∷ idents) done ss all e =
-      step_named line ident idents done ss (plan_on own line steps unplanned) (λ p q. sections_named (line + 1) idents (done ++ section_of names line ident ps p ∷ []) ss (push_named done (section_of names line ident ps p) all (section_named names line ident ps p)) q) e
+      step_named line ident idents done ss (plan_on manner line steps unplanned) (λ p q. sections_named (line + 1) idents (done ++ section_of names line ident ps p ∷ []) ss (push_named done (section_of names line ident ps p) all (section_named names line ident ps p)) q) e
 
 -- the draft is one that a text can have
 pub tree_named : (name : List ℕ) (ss : List Section) → AllByRecursion IsSectionNamed ss → length (statements_of ss) ≤ TEXT_LIMIT → IsDraft (tree_of name ss)
@@ -175,24 +175,24 @@ draft_named name plain header ts ss a b e all few =
     })))
 
 -- one line more
-sections_cons : (own : Own) (steps : List Step) (names : List (List ℕ)) (ps : List Placed) (line : ℕ) (ident : List ℕ) (idents : List (List ℕ)) (done : List Section) → sections_on own steps names ps line (ident ∷ idents) done ≡ (plan_on own line steps unplanned >>= (λ p. sections_on own steps names ps (line + 1) idents (done ++ section_of names line ident ps p ∷ [])))
+sections_cons : (manner : Manner) (steps : List Step) (names : List (List ℕ)) (ps : List Placed) (line : ℕ) (ident : List ℕ) (idents : List (List ℕ)) (done : List Section) → sections_on manner steps names ps line (ident ∷ idents) done ≡ (plan_on manner line steps unplanned >>= (λ p. sections_on manner steps names ps (line + 1) idents (done ++ section_of names line ident ps p ∷ [])))
 unfolding sections_on
-sections_cons own steps names ps line ident idents done = refl
+sections_cons manner steps names ps line ident idents done = refl
 
-sections_none : (own : Own) (steps : List Step) (names : List (List ℕ)) (ps : List Placed) (line : ℕ) (done : List Section) → sections_on own steps names ps line [] done ≡ Ok done
+sections_none : (manner : Manner) (steps : List Step) (names : List (List ℕ)) (ps : List Placed) (line : ℕ) (done : List Section) → sections_on manner steps names ps line [] done ≡ Ok done
 unfolding sections_on
-sections_none own steps names ps line done = refl
+sections_none manner steps names ps line done = refl
 
-module _ (own : Own) (steps : List Step) (names : List (List ℕ)) (ps : List Placed) (idents : List (List ℕ)) (i : ℕ) (done : List Section) where
+module _ (manner : Manner) (steps : List Step) (names : List (List ℕ)) (ps : List Placed) (idents : List (List ℕ)) (i : ℕ) (done : List Section) where
   module _ (d : List ℕ) (inside : i < length idents) where
-    sections_next : sections_on own steps names ps i (drop i idents) done ≡ (plan_on own i steps unplanned >>= (λ p. sections_on own steps names ps (i + 1) (drop (i + 1) idents) (done ++ section_of names i (get_or idents i d) ps p ∷ [])))
-    sections_next = ap (λ x. sections_on own steps names ps i x done) (drop_more idents i d inside) ∙ sections_cons own steps names ps i (get_or idents i d) (drop (i + 1) idents) done
+    sections_next : sections_on manner steps names ps i (drop i idents) done ≡ (plan_on manner i steps unplanned >>= (λ p. sections_on manner steps names ps (i + 1) (drop (i + 1) idents) (done ++ section_of names i (get_or idents i d) ps p ∷ [])))
+    sections_next = ap (λ x. sections_on manner steps names ps i x done) (drop_more idents i d inside) ∙ sections_cons manner steps names ps i (get_or idents i d) (drop (i + 1) idents) done
 
-    pub sections_more : (p : Plan) → plan_on own i steps unplanned ≡ Ok p → sections_on own steps names ps i (drop i idents) done ≡ sections_on own steps names ps (i + 1) (drop (i + 1) idents) (done ++ section_of names i (get_or idents i d) ps p ∷ [])
-    sections_more p e = sections_next ∙ ap (λ x. x >>= (λ q. sections_on own steps names ps (i + 1) (drop (i + 1) idents) (done ++ section_of names i (get_or idents i d) ps q ∷ []))) e
+    pub sections_more : (p : Plan) → plan_on manner i steps unplanned ≡ Ok p → sections_on manner steps names ps i (drop i idents) done ≡ sections_on manner steps names ps (i + 1) (drop (i + 1) idents) (done ++ section_of names i (get_or idents i d) ps p ∷ [])
+    sections_more p e = sections_next ∙ ap (λ x. x >>= (λ q. sections_on manner steps names ps (i + 1) (drop (i + 1) idents) (done ++ section_of names i (get_or idents i d) ps q ∷ []))) e
 
-    pub sections_fail : (e : ImportFault) → Fails e (plan_on own i steps unplanned) → Fails e (sections_on own steps names ps i (drop i idents) done)
+    pub sections_fail : (e : ImportFault) → Fails e (plan_on manner i steps unplanned) → Fails e (sections_on manner steps names ps i (drop i idents) done)
     sections_fail e h = subst (Fails e) (sym sections_next) (bind_fails e _ _ h)
 
-  pub sections_end : length idents ≤ i → sections_on own steps names ps i (drop i idents) done ≡ Ok done
-  sections_end over = ap (λ x. sections_on own steps names ps i x done) (drop_all i idents over) ∙ sections_none own steps names ps i done
+  pub sections_end : length idents ≤ i → sections_on manner steps names ps i (drop i idents) done ≡ Ok done
+  sections_end over = ap (λ x. sections_on manner steps names ps i x done) (drop_all i idents over) ∙ sections_none manner steps names ps i done

@@ -1,5 +1,5 @@
 -- Each line has the ends of its arrows in their order.
-use Rattle.std.proofs.Common.{◌≡◌, ◌≤◌, ℕ, zero, suc, ◌+◌, ◌-◌, Bool, true, false, ◌&&◌, cond, List, [], ◌∷◌, ◌++◌, length, take, drop, map, nat_le, Option, None, Some, Result, Ok, Err, refl, sym, ap, ◌∙◌, subst, arith, tests}
+use Rattle.std.proofs.Common.{◌≡◌, ◌≤◌, ℕ, zero, suc, ◌+◌, ◌-◌, Bool, true, false, cond, List, [], ◌∷◌, ◌++◌, length, take, drop, map, nat_le, Option, None, Some, Result, Ok, Err, refl, sym, ap, ◌∙◌, subst, arith, tests}
 use Rattle.std.specs.List.{flat_map}
 use Rattle.std.proofs.lemmas.List.{append-nil, append_assoc, drop-drop, drop_all, length_push, map-append, take-append-drop}
 use Rattle.msc_parser.specs.Drafts.{statements_in}
@@ -9,10 +9,11 @@ use Rattle.msc_import.specs.declared.course.Step.TheVariants as steps
 use Rattle.msc_import.specs.declared.fault.ImportFault.{ImportFault}
 use Rattle.msc_import.specs.declared.fault.ImportFault.TheVariants.{Shared}
 use Rattle.msc_import.specs.declared.plan.Frame.{Frame}
-use Rattle.msc_import.specs.declared.plan.Own.{Own}
+use Rattle.msc_import.specs.declared.plan.Manner.{Manner}
+use Rattle.msc_import.specs.declared.plan.Par.{Par}
 use Rattle.msc_import.specs.declared.plan.Side.{Side}
 use Rattle.msc_import.specs.Gives.{◌>>=◌}
-use Rattle.msc_import.specs.Drafting.{Event, Plan, between, closed_last, drawn_event, drawn_item, drawn_items, joined_ends, last_frame, marked_last, opened, plan_on, planned, sides_on, unplanned, with_event, with_sides}
+use Rattle.msc_import.specs.Drafting.{Event, Plan, between, closed_last, drawn_event, drawn_item, drawn_items, is_coregion, is_refused, joined_ends, last_frame, marked_last, opened, plan_on, planned, sides_on, unplanned, with_event, with_sides}
 use Rattle.msc_import.specs.Laws.{ends_on}
 
 -- places that ascend from the first to at most the last
@@ -98,33 +99,33 @@ without_fault : (b : Bool) (f : ImportFault) (x q : Plan) → cond b (Err f) (Ok
 without_fault true f x q e = cc
 without_fault false f x q e = cc
 
-closed_kept : (line : ℕ) (p : Plan) (f : Option Frame) (q : Plan) → closed_last line p f ≡ Ok q → Fits p → Kept p [] q
+closed_kept : (par : Par) (line : ℕ) (p : Plan) (f : Option Frame) (q : Plan) → closed_last par line p f ≡ Ok q → Fits p → Kept p [] q
 unfolding Fits
-closed_kept line p None q e h = kept_same p [] (closed_last line p None) p q refl e (kept_none p p refl h)
-closed_kept line p (Some f) q e h =
+closed_kept par line p None q e h = kept_same p [] (closed_last par line p None) p q refl e (kept_none p p refl h)
+closed_kept par line p (Some f) q e h =
     let x : Plan = record { events = p.events; ends = joined_ends p f; frames = take (length p.frames - 1) p.frames } in
-    subst (Kept p []) (without_fault (f.several && f.wide) (Shared f.line line) x q e) (kept_none p x refl (joined (length p.events) f.several f.start 0 p.ends h))
+    subst (Kept p []) (without_fault (is_refused par f) (Shared f.line line) x q e) (kept_none p x refl (joined (length p.events) (is_coregion f) f.start 0 p.ends h))
 
-module _ (own : Own) (line : ℕ) where
-  step_kept : (s : Step) (p q : Plan) → planned own line s p ≡ Ok q → Fits p → Kept p (ends_on own line s) q
+module _ (manner : Manner) (line : ℕ) where
+  step_kept : (s : Step) (p q : Plan) → planned manner line s p ≡ Ok q → Fits p → Kept p (ends_on manner.own line s) q
   unfolding planned Fits
-  step_kept (steps.Meets m) p q e h = kept_same p _ (planned own line (steps.Meets m) p) (with_sides m (sides_on own line m) p) q refl e (sides_kept m (sides_on own line m) p h)
-  step_kept (steps.Opens text) p q e h = kept_same p [] (planned own line (steps.Opens text) p) (opened text p) q refl e (kept_none p (opened text p) refl h)
-  step_kept steps.Next p q e h = kept_same p [] (planned own line steps.Next p) (marked_last p (last_frame p)) q refl e (marked_kept p (last_frame p) h)
-  step_kept steps.Closes p q e h = closed_kept line p (last_frame p) q e h
+  step_kept (steps.Meets m) p q e h = kept_same p _ (planned manner line (steps.Meets m) p) (with_sides m (sides_on manner.own line m) p) q refl e (sides_kept m (sides_on manner.own line m) p h)
+  step_kept (steps.Opens text) p q e h = kept_same p [] (planned manner line (steps.Opens text) p) (opened text p) q refl e (kept_none p (opened text p) refl h)
+  step_kept steps.Next p q e h = kept_same p [] (planned manner line steps.Next p) (marked_last p (last_frame p)) q refl e (marked_kept p (last_frame p) h)
+  step_kept steps.Closes p q e h = closed_kept manner.par line p (last_frame p) q e h
 
-  behind_step : (s : Step) (ss : List Step) (p q : Plan) (r : Result Plan ImportFault) → planned own line s p ≡ r → (r >>= (λ x. plan_on own line ss x)) ≡ Ok q → ((x : Plan) → plan_on own line ss x ≡ Ok q → Fits x → Kept x (flat_map (ends_on own line) ss) q) → Fits p → Kept p (flat_map (ends_on own line) (s ∷ ss)) q
+  behind_step : (s : Step) (ss : List Step) (p q : Plan) (r : Result Plan ImportFault) → planned manner line s p ≡ r → (r >>= (λ x. plan_on manner line ss x)) ≡ Ok q → ((x : Plan) → plan_on manner line ss x ≡ Ok q → Fits x → Kept x (flat_map (ends_on manner.own line) ss) q) → Fits p → Kept p (flat_map (ends_on manner.own line) (s ∷ ss)) q
   unfolding Kept
   behind_step s ss p q (Ok x) e f rest h =
       let first = step_kept s p x e h in
       let last = rest x f first.0 in
-      (last.0, last.1 ∙ ap (λ l. l ++ flat_map (ends_on own line) ss) first.1 ∙ append_assoc p.events (ends_on own line s) (flat_map (ends_on own line) ss))
+      (last.0, last.1 ∙ ap (λ l. l ++ flat_map (ends_on manner.own line) ss) first.1 ∙ append_assoc p.events (ends_on manner.own line s) (flat_map (ends_on manner.own line) ss))
   behind_step s ss p q (Err g) e f rest h = cc
 
-  plan_kept : (ss : List Step) (p q : Plan) → plan_on own line ss p ≡ Ok q → Fits p → Kept p (flat_map (ends_on own line) ss) q
+  plan_kept : (ss : List Step) (p q : Plan) → plan_on manner line ss p ≡ Ok q → Fits p → Kept p (flat_map (ends_on manner.own line) ss) q
   unfolding plan_on
   plan_kept [] p q e h = kept_same p [] (Ok p) p q refl e (kept_none p p refl h)
-  plan_kept (s ∷ ss) p q e h = behind_step s ss p q (planned own line s p) refl e (λ x f k. plan_kept ss x q f k) h
+  plan_kept (s ∷ ss) p q e h = behind_step s ss p q (planned manner line s p) refl e (λ x f k. plan_kept ss x q f k) h
 
 -- a segment has the events that stand in it
 module _ (names : List (List ℕ)) (es : List Event) where
@@ -156,8 +157,8 @@ module _ (names : List (List ℕ)) (es : List Event) where
       ∙ sym (map-append (drawn_event names) (between es start stop) (drop stop es))
       ∙ ap (map (drawn_event names)) (between_is start stop h.0 high)
 
-pub line_has : (own : Own) (names : List (List ℕ)) (line : ℕ) (ss : List Step) (p : Plan) → plan_on own line ss unplanned ≡ Ok p → flat_map statements_in (drawn_items names p.events 0 p.ends) ≡ map (drawn_event names) (flat_map (ends_on own line) ss)
+pub line_has : (manner : Manner) (names : List (List ℕ)) (line : ℕ) (ss : List Step) (p : Plan) → plan_on manner line ss unplanned ≡ Ok p → flat_map statements_in (drawn_items names p.events 0 p.ends) ≡ map (drawn_event names) (flat_map (ends_on manner.own line) ss)
 unfolding Kept Fits Reaches
-line_has own names line ss p e =
-    let kept = plan_kept own line ss unplanned p e refl in
+line_has manner names line ss p e =
+    let kept = plan_kept manner line ss unplanned p e refl in
     items_have names p.events 0 p.ends kept.0 ∙ ap (map (drawn_event names)) kept.1

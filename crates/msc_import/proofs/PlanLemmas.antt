@@ -4,7 +4,7 @@ use Rattle.std.proofs.lemmas.List.{drop_more, drop_all}
 use Rattle.msc_import.specs.declared.course.Message.{Message}
 use Rattle.msc_import.specs.declared.course.Step.{Step}
 use Rattle.msc_import.specs.declared.fault.ImportFault.{ImportFault}
-use Rattle.msc_import.specs.declared.plan.Own.{Own}
+use Rattle.msc_import.specs.declared.plan.Manner.{Manner}
 use Rattle.msc_import.specs.declared.plan.Side.{Side}
 use Rattle.msc_import.specs.Drafting.{Plan, with_event, with_sides, planned, plan_on}
 use Rattle.msc_import.specs.Gives.{◌>>=◌, Fails}
@@ -25,24 +25,24 @@ module _ (m : Message) (ss : List Side) (i : ℕ) (p : Plan) where
   pub sides_end : length ss ≤ i → with_sides m (drop i ss) p ≡ p
   sides_end over = ap (λ x. with_sides m x p) (drop_all i ss over) ∙ sides_none m p
 
-plan_cons : (own : Own) (line : ℕ) (s : Step) (ss : List Step) (p : Plan) → plan_on own line (s ∷ ss) p ≡ (planned own line s p >>= (λ q. plan_on own line ss q))
+plan_cons : (manner : Manner) (line : ℕ) (s : Step) (ss : List Step) (p : Plan) → plan_on manner line (s ∷ ss) p ≡ (planned manner line s p >>= (λ q. plan_on manner line ss q))
 unfolding plan_on
-plan_cons own line s ss p = refl
+plan_cons manner line s ss p = refl
 
-plan_none : (own : Own) (line : ℕ) (p : Plan) → plan_on own line [] p ≡ Ok p
+plan_none : (manner : Manner) (line : ℕ) (p : Plan) → plan_on manner line [] p ≡ Ok p
 unfolding plan_on
-plan_none own line p = refl
+plan_none manner line p = refl
 
-module _ (own : Own) (line : ℕ) (ss : List Step) (i : ℕ) (p : Plan) where
+module _ (manner : Manner) (line : ℕ) (ss : List Step) (i : ℕ) (p : Plan) where
   module _ (d : Step) (inside : i < length ss) where
-    plan_next : plan_on own line (drop i ss) p ≡ (planned own line (get_or ss i d) p >>= (λ q. plan_on own line (drop (i + 1) ss) q))
-    plan_next = ap (λ x. plan_on own line x p) (drop_more ss i d inside) ∙ plan_cons own line (get_or ss i d) (drop (i + 1) ss) p
+    plan_next : plan_on manner line (drop i ss) p ≡ (planned manner line (get_or ss i d) p >>= (λ q. plan_on manner line (drop (i + 1) ss) q))
+    plan_next = ap (λ x. plan_on manner line x p) (drop_more ss i d inside) ∙ plan_cons manner line (get_or ss i d) (drop (i + 1) ss) p
 
-    pub plan_more : (q : Plan) → planned own line (get_or ss i d) p ≡ Ok q → plan_on own line (drop i ss) p ≡ plan_on own line (drop (i + 1) ss) q
-    plan_more q e = plan_next ∙ ap (λ x. x >>= (λ n. plan_on own line (drop (i + 1) ss) n)) e
+    pub plan_more : (q : Plan) → planned manner line (get_or ss i d) p ≡ Ok q → plan_on manner line (drop i ss) p ≡ plan_on manner line (drop (i + 1) ss) q
+    plan_more q e = plan_next ∙ ap (λ x. x >>= (λ n. plan_on manner line (drop (i + 1) ss) n)) e
 
-    pub plan_fails : (e : ImportFault) → Fails e (planned own line (get_or ss i d) p) → Fails e (plan_on own line (drop i ss) p)
+    pub plan_fails : (e : ImportFault) → Fails e (planned manner line (get_or ss i d) p) → Fails e (plan_on manner line (drop i ss) p)
     plan_fails e h = subst (Fails e) (sym plan_next) (bind_fails e _ _ h)
 
-  pub plan_end : length ss ≤ i → plan_on own line (drop i ss) p ≡ Ok p
-  plan_end over = ap (λ x. plan_on own line x p) (drop_all i ss over) ∙ plan_none own line p
+  pub plan_end : length ss ≤ i → plan_on manner line (drop i ss) p ≡ Ok p
+  plan_end over = ap (λ x. plan_on manner line x p) (drop_all i ss over) ∙ plan_none manner line p

@@ -30,6 +30,9 @@ use Rattle.msc_import.specs.declared.statement.Diagram.{Diagram}
 use Rattle.msc_import.specs.declared.plan.Frame.{Frame}
 use Rattle.msc_import.specs.declared.plan.Own.{Own}
 use Rattle.msc_import.specs.declared.plan.Own.TheVariants as owns
+use Rattle.msc_import.specs.declared.plan.Manner.{Manner}
+use Rattle.msc_import.specs.declared.plan.Par.{Par}
+use Rattle.msc_import.specs.declared.plan.Par.TheVariants as pars
 use Rattle.msc_import.specs.declared.plan.Planned.{Planned}
 use Rattle.msc_import.specs.declared.plan.Side.{Side}
 use Rattle.msc_import.specs.declared.plan.Side.TheVariants as sides
@@ -107,36 +110,45 @@ marked_last p (Some f) = record {
   frames = take (length p.frames - 1) p.frames ++ marked (length p.ends) f ∷ [];
 }
 
--- the segments behind a par: one coregion where several branches have one each
+-- several branches of a par have a segment each, and none has more: they are a coregion
+abbrev pub is_coregion : Frame → Bool
+is_coregion f = f.several && not f.wide
+
+-- the segments behind a par: one coregion, or those of its branches one below the other
 abbrev pub joined_ends : Plan → Frame → List ℕ
 joined_ends p f =
-    cond f.several (take f.start p.ends ++ length p.events ∷ []) p.ends
+    cond (is_coregion f) (take f.start p.ends ++ length p.events ∷ []) p.ends
+
+-- a par is refused: of several branches with segments one has more than one
+abbrev pub is_refused : Par → Frame → Bool
+is_refused pars.Refused f = f.several && f.wide
+is_refused pars.Drawn f = false
 
 -- a par ends, on this line of the diagram
-abbrev pub closed_last : ℕ → Plan → Option Frame → Result Plan ImportFault
-closed_last line p None = Ok p
-closed_last line p (Some f) =
-    cond (f.several && f.wide) (Err (Shared f.line line)) (Ok (record { events = p.events; ends = joined_ends p f; frames = take (length p.frames - 1) p.frames }))
+abbrev pub closed_last : Par → ℕ → Plan → Option Frame → Result Plan ImportFault
+closed_last par line p None = Ok p
+closed_last par line p (Some f) =
+    cond (is_refused par f) (Err (Shared f.line line)) (Ok (record { events = p.events; ends = joined_ends p f; frames = take (length p.frames - 1) p.frames }))
 
 -- the innermost par
 abbrev pub last_frame : Plan → Option Frame
 last_frame p = slice_get p.frames (length p.frames - 1)
 
 -- one step more, on this line of the diagram
-unfoldable pub planned : Own → ℕ → Step → Plan → Result Plan ImportFault
-planned own line (steps.Meets m) p = Ok (with_sides m (sides_on own line m) p)
-planned own line (steps.Opens text) p = Ok (opened text p)
-planned own line steps.Next p = Ok (marked_last p (last_frame p))
-planned own line steps.Closes p = closed_last line p (last_frame p)
+unfoldable pub planned : Manner → ℕ → Step → Plan → Result Plan ImportFault
+planned manner line (steps.Meets m) p = Ok (with_sides m (sides_on manner.own line m) p)
+planned manner line (steps.Opens text) p = Ok (opened text p)
+planned manner line steps.Next p = Ok (marked_last p (last_frame p))
+planned manner line steps.Closes p = closed_last manner.par line p (last_frame p)
 
 -- nothing is planned
 abbrev pub unplanned : Plan
 unplanned = record { events = []; ends = []; frames = [] }
 
 -- these steps more
-unfoldable pub plan_on : Own → ℕ → List Step → Plan → Result Plan ImportFault
-plan_on own line [] p = Ok p
-plan_on own line (s ∷ ss) p = planned own line s p >>= (λ q. plan_on own line ss q)
+unfoldable pub plan_on : Manner → ℕ → List Step → Plan → Result Plan ImportFault
+plan_on manner line [] p = Ok p
+plan_on manner line (s ∷ ss) p = planned manner line s p >>= (λ q. plan_on manner line ss q)
 
 -- the bytes are a name of charts
 abbrev pub is_chart_name : List ℕ → Bool
@@ -221,10 +233,10 @@ section_of names line ident ps p = record {
 }
 
 -- the lines of the draft behind these
-unfoldable pub sections_on : Own → List Step → List (List ℕ) → List Placed → ℕ → List (List ℕ) → List Section → Result (List Section) ImportFault
-sections_on own ss names ps line [] done = Ok done
-sections_on own ss names ps line (ident ∷ idents) done =
-    plan_on own line ss unplanned >>= (λ p. sections_on own ss names ps (line + 1) idents (done ++ section_of names line ident ps p ∷ []))
+unfoldable pub sections_on : Manner → List Step → List (List ℕ) → List Placed → ℕ → List (List ℕ) → List Section → Result (List Section) ImportFault
+sections_on manner ss names ps line [] done = Ok done
+sections_on manner ss names ps line (ident ∷ idents) done =
+    plan_on manner line ss unplanned >>= (λ p. sections_on manner ss names ps (line + 1) idents (done ++ section_of names line ident ps p ∷ []))
 
 -- the draft of these lines
 abbrev pub tree_of : List ℕ → List Section → Tree
@@ -244,9 +256,9 @@ unended w ends.Broke =
 unended w (ends.Stopped f) = Err f
 
 -- the draft of a walk through these statements
-unfoldable pub drawn_walk : Own → List ℕ → List Placed → Walk → Result Tree ImportFault
-drawn_walk own name ps w = do
-  sections ← sections_on own w.steps (names_behind [] w.lines) ps 0 w.lines []
+unfoldable pub drawn_walk : Manner → List ℕ → List Placed → Walk → Result Tree ImportFault
+drawn_walk manner name ps w = do
+  sections ← sections_on manner w.steps (names_behind [] w.lines) ps 0 w.lines []
   whole ← unended w w.ending
   drawn_as name sections
 
@@ -263,6 +275,6 @@ at_rest lines given = record {
 
 -- The draft of a diagram's scenario with these choices: a walk through all of its statements, with those
 -- that are not given the main ones; or its first fault.
-unfoldable pub drawn : Own → List ℕ → Diagram → List ℕ → Result Tree ImportFault
-drawn own name d given =
-    drawn_walk own name d.statements (walk (DEPTH_LIMIT + 1) d.statements [] (at_rest d.lines given))
+unfoldable pub drawn : Manner → List ℕ → Diagram → List ℕ → Result Tree ImportFault
+drawn manner name d given =
+    drawn_walk manner name d.statements (walk (DEPTH_LIMIT + 1) d.statements [] (at_rest d.lines given))

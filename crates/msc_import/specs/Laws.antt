@@ -4,6 +4,7 @@ use Rattle.std.specs.List.{flat_map, list_all}
 use Rattle.msc_parser.specs.Drafts.{statements_in}
 use Rattle.msc_import.specs.declared.course.Step.{Step}
 use Rattle.msc_import.specs.declared.course.Step.TheVariants as steps
+use Rattle.msc_import.specs.declared.plan.Manner.{Manner}
 use Rattle.msc_import.specs.declared.plan.Own.{Own}
 use Rattle.msc_import.specs.declared.statement.Cross.{Cross}
 use Rattle.msc_import.specs.declared.statement.Diagram.{Diagram}
@@ -45,4 +46,4 @@ ends_on own line steps.Closes = []
 -- each line of a draft has the ends of the course's arrows in their order
 abbrev pub LinesKeepTheArrowsOrder : Type 0
 LinesKeepTheArrowsOrder =
-    (own : Own) (names : List (List ℕ)) (line : ℕ) (ident : List ℕ) (ps : List Placed) (ss : List Step) (p : Plan) → plan_on own line ss unplanned ≡ Ok p → flat_map statements_in (section_of names line ident ps p).items ≡ map (drawn_event names) (flat_map (ends_on own line) ss)
+    (manner : Manner) (names : List (List ℕ)) (line : ℕ) (ident : List ℕ) (ps : List Placed) (ss : List Step) (p : Plan) → plan_on manner line ss unplanned ≡ Ok p → flat_map statements_in (section_of names line ident ps p).items ≡ map (drawn_event names) (flat_map (ends_on manner.own line) ss)

@@ -14,4 +14,5 @@ pub mod Courses
 pub mod Counting
 pub mod Drafting
 pub mod Places
+pub mod Importing
 pub mod Laws

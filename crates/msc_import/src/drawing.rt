@@ -10,7 +10,7 @@ use crate::drafting::{decl_of, drawn_items, fitted, line_name};
 use crate::fault::ImportFault;
 use crate::line_name::names_of;
 use crate::naming::made;
-use crate::plan::{Own, Plan};
+use crate::plan::{Manner, Plan};
 use crate::statement::{Diagram, Placed};
 use crate::walking::Walker;
 use listed::Listed;
@@ -80,18 +80,18 @@ fn section_of(
 /// The lines of the draft.
 fn sections_of(
     alloc: Global,
-    own: Own,
+    manner: Manner,
     walker: &Walker,
     names: &[Name],
     statements: &[Placed],
 ) -> Result<Vec<Section>, ImportFault>
     ensures { Gives (λ v. v.items) result
-        (sections_on own walker.now.steps names.now statements.now 0 walker.now.lines []) }
+        (sections_on manner walker.now.steps names.now statements.now 0 walker.now.lines []) }
 {
     let lines = walker.lines();
     let mut sections = Vec::new(alloc);
     for i in 0..lines.len() {
-        let plan = Plan::of(alloc, own, i, walker.steps())?;
+        let plan = Plan::of(alloc, manner, i, walker.steps())?;
         let ident = lines[i].as_slice();
         let section = section_of(alloc, names, i, ident, statements, &plan)?;
         sections.push(section)?;
@@ -117,15 +117,15 @@ fn drawn_as(alloc: Global, name: &[u8], sections: Vec<Section>) -> Result<Draft,
 #[tactic(auto, unfolding(crate::specs::Drafting::drawn_walk))]
 fn drawn_walk(
     alloc: Global,
-    own: Own,
+    manner: Manner,
     name: &[u8],
     statements: &[Placed],
     walker: &Walker,
 ) -> Result<Draft, ImportFault>
-    ensures { Gives (λ d. d) result (drawn_walk own name.now statements.now walker.now) }
+    ensures { Gives (λ d. d) result (drawn_walk manner name.now statements.now walker.now) }
 {
     let names = names_of(alloc, walker.lines())?;
-    let sections = sections_of(alloc, own, walker, names.as_slice(), statements)?;
+    let sections = sections_of(alloc, manner, walker, names.as_slice(), statements)?;
     walker.whole()?;
     drawn_as(alloc, name, sections)
 }
@@ -140,11 +140,11 @@ pub fn draw(
     alloc: Global,
     diagram: &Diagram,
     choices: &[usize],
-    own: Own,
+    manner: Manner,
     name: &[u8],
 ) -> Result<Draft, ImportFault>
-    ensures { Gives (λ d. d) result (drawn own name.now diagram.now choices.now) }
+    ensures { Gives (λ d. d) result (drawn manner name.now diagram.now choices.now) }
 {
     let walker = Walker::through(alloc, diagram, choices)?;
-    drawn_walk(alloc, own, name, diagram.statements.as_slice(), &walker)
+    drawn_walk(alloc, manner, name, diagram.statements.as_slice(), &walker)
 }

@@ -21,6 +21,8 @@ pub enum Expectation {
     Description,
     /// Nothing behind such an end.
     LineEnd,
+    /// A line that a diagram of any language begins with.
+    AnyDiagram,
     /// The word that a Mermaid diagram begins with.
     Diagram,
     /// A statement.
@@ -41,6 +43,7 @@ impl Expectation {
             Expectation::Directive => "}%%",
             Expectation::Description => "}",
             Expectation::LineEnd => "the end of the line",
+            Expectation::AnyDiagram => "a diagram",
             Expectation::Diagram => "sequenceDiagram",
             Expectation::Statement => "a statement",
             Expectation::Name => "a name",
@@ -87,6 +90,10 @@ pub enum ImportFault {
     /// A line beside as many as there may be.
     #[error("more than 32 instances")]
     TooManyLines(usize),
+    /// The diagram has so many scenarios, and it isn't said which of them is meant; as many as one
+    /// more than are counted, where it has more.
+    #[error("{0} scenarios, say --choose or --into")]
+    Several(usize),
     /// A choice of the block on this line, from 1, is more than its greatest one.
     #[error("choice {1} is more than {2}")]
     Choice(usize, usize, usize),

@@ -2,7 +2,7 @@
 //! of charts.
 //!
 //! A text says statements, line by line; statements make a diagram; a course is one way through
-//! its blocks, and is drawn as a draft. Lines and columns of a text are numbered from 1, arrows
+//! its blocks, and is drawn as a draft ([`import`]). Lines and columns of a text are numbered from 1, arrows
 //! from 1, choices and instances from 0.
 #![tactic(auto)]
 
@@ -13,6 +13,7 @@ mod drawing;
 mod fault;
 #[cfg(test)]
 mod gallery;
+mod importing;
 mod key;
 pub mod laws;
 mod line_name;
@@ -26,6 +27,7 @@ mod reading;
 mod row;
 mod saying;
 mod seeking;
+mod short_name;
 mod statement;
 #[cfg(test)]
 mod tests;
@@ -35,12 +37,14 @@ pub use counting::scenarios;
 pub use course::{Ending, Message, Step};
 pub use drawing::draw;
 pub use fault::{Expectation, ImportFault};
+pub use importing::{Imported, Importing, Language, Refused, import};
 pub use key::Head;
 pub use line_name::names_of;
 pub use mermaid::diagram_of;
-pub use placing::{Place, places};
-pub use plan::Own;
+pub use placing::places;
+pub use plan::{Manner, Own, Par};
 pub use row::{Closer, Kind};
+pub use short_name::ShortName;
 pub use statement::{Arrow, Cross, Diagram, Placed, Statement};
 
 /// The greatest number of blocks inside each other.
@@ -54,6 +58,10 @@ pub const ARROW_LIMIT: usize = 1024;
 
 /// The greatest number of rounds of a loop.
 pub const ROUND_LIMIT: usize = 1024;
+
+/// The numbers of rounds that loops go, where scenarios are counted: of other numbers there are no
+/// other races, by place.
+const SCENARIO_ROUNDS: [usize; 2] = [0, 2];
 
 /// The greatest number of scenarios that are counted.
 pub const SCENARIO_LIMIT: usize = 4096;

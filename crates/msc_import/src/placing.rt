@@ -6,26 +6,20 @@ ghost use Rattle.msc_import.specs.Gives.{Gives};
 ghost use Rattle.msc_import.specs.Places.{place_of, places, places_on, walk_places};
 
 use crate::fault::ImportFault;
-use crate::plan::{Own, Plan, Planned};
+use crate::plan::{Manner, Plan, Planned};
 use crate::statement::Diagram;
 use crate::walking::Walker;
+use msc_place::Position;
 use std::alloc::{AllocError, Global};
 
-/// A place in the text: a line and a column.
-#[derive(Clone, Copy, Debug, PartialEq, Eq)]
-pub struct Place {
-    pub line: usize,
-    pub column: usize,
-}
-
 /// The places of these events' arrows.
-fn put_places(places: &mut Vec<Place>, events: &[Planned]) -> Result<(), AllocError>
+fn put_places(places: &mut Vec<Position>, events: &[Planned]) -> Result<(), AllocError>
     ensures { OnOk result
         (places.new.items ≡ places.old.items ++ map (λ e. place_of (seen e)) events.now) }
 {
     for event in events {
         let Planned { message, side: _ } = *event;
-        places.push(Place {
+        places.push(Position {
             line: message.line,
             column: message.column,
         })?;
@@ -35,23 +29,23 @@ fn put_places(places: &mut Vec<Place>, events: &[Planned]) -> Result<(), AllocEr
 
 /// The places of a walk's events.
 #[tactic(auto, unfolding(crate::specs::Places::walk_places))]
-fn walk_places(alloc: Global, own: Own, walker: &Walker) -> Result<Vec<Place>, ImportFault>
-    ensures { Gives (λ v. v.items) result (walk_places own walker.now) }
+fn walk_places(alloc: Global, manner: Manner, walker: &Walker) -> Result<Vec<Position>, ImportFault>
+    ensures { Gives (λ v. v.items) result (walk_places manner walker.now) }
 {
-    let places = places_on(alloc, own, walker)?;
+    let places = places_on(alloc, manner, walker)?;
     walker.whole()?;
     Ok(places)
 }
 
 /// The places of the events on all lines.
-fn places_on(alloc: Global, own: Own, walker: &Walker) -> Result<Vec<Place>, ImportFault>
+fn places_on(alloc: Global, manner: Manner, walker: &Walker) -> Result<Vec<Position>, ImportFault>
     ensures { Gives (λ v. v.items) result
-        (places_on own walker.now.steps 0 walker.now.lines []) }
+        (places_on manner walker.now.steps 0 walker.now.lines []) }
 {
     let count = walker.lines().len();
     let mut places = Vec::new(alloc);
     for i in 0..count {
-        let plan = Plan::of(alloc, own, i, walker.steps())?;
+        let plan = Plan::of(alloc, manner, i, walker.steps())?;
         put_places(&mut places, plan.events())?;
     }
     Ok(places)
@@ -64,10 +58,10 @@ pub fn places(
     alloc: Global,
     diagram: &Diagram,
     choices: &[usize],
-    own: Own,
-) -> Result<Vec<Place>, ImportFault>
-    ensures { Gives (λ v. v.items) result (places own diagram.now choices.now) }
+    manner: Manner,
+) -> Result<Vec<Position>, ImportFault>
+    ensures { Gives (λ v. v.items) result (places manner diagram.now choices.now) }
 {
     let walker = Walker::through(alloc, diagram, choices)?;
-    walk_places(alloc, own, &walker)
+    walk_places(alloc, manner, &walker)
 }

@@ -1,7 +1,8 @@
 //! What each line of a diagram has of a course: ends of messages, in segments.
 
 ghost use Rattle.std.specs.Prelude.{◌≡◌, Ok, OnOk, map};
-ghost use Rattle.msc_import.specs.Drafting.{closed_last, last_frame, marked, marked_last, opened};
+ghost use Rattle.msc_import.specs.Drafting.{closed_last, is_coregion, is_refused, last_frame};
+ghost use Rattle.msc_import.specs.Drafting.{marked, marked_last, opened};
 ghost use Rattle.msc_import.specs.Drafting.{plan_on, planned, seen, sides_on, unplanned, with_event};
 ghost use Rattle.msc_import.specs.Drafting.{with_sides};
 ghost use Rattle.msc_import.specs.Gives.{Gives};
@@ -19,6 +20,23 @@ pub enum Own {
     Action,
     /// An output, then its input.
     Message,
+}
+
+/// What parallel branches are that are no coregion on a line: where several have segments there, and
+/// one has more than one.
+#[derive(Clone, Copy, Debug, PartialEq, Eq)]
+pub enum Par {
+    /// A fault.
+    Refused,
+    /// One below the other on that line, in the order of the text.
+    Drawn,
+}
+
+/// How a scenario is drawn.
+#[derive(Clone, Copy, Debug, PartialEq, Eq)]
+pub struct Manner {
+    pub own: Own,
+    pub par: Par,
 }
 
 /// An end of a message.
@@ -96,6 +114,25 @@ fn sides_on(own: Own, line: usize, message: &Message) -> &'static [Side]
     match own {
         Own::Action => &[Side::Own],
         Own::Message => &[Side::Out, Side::In],
+    }
+}
+
+/// Whether several branches of a par have a segment each, and none has more.
+fn is_coregion(frame: Frame) -> bool
+    ensures { result ≡ is_coregion frame }
+{
+    frame.several && !frame.wide
+}
+
+impl Par {
+    /// Whether a par is refused.
+    fn is_refused(self, frame: Frame) -> bool
+        ensures { result ≡ is_refused self frame }
+    {
+        match self {
+            Par::Refused => frame.several && frame.wide,
+            Par::Drawn => false,
+        }
     }
 }
 
@@ -187,16 +224,16 @@ impl<'s> Plan<'s> {
     }
 
     /// Ends the innermost par, on this line of the diagram.
-    fn close_last(&mut self, line: usize) -> Result<(), ImportFault>
-        ensures { Leaves result self.new (closed_last line self.old (last_frame self.old)) }
+    fn close_last(&mut self, par: Par, line: usize) -> Result<(), ImportFault>
+        ensures { Leaves result self.new (closed_last par line self.old (last_frame self.old)) }
     {
         let Some(frame) = self.frames.pop() else {
             return Ok(());
         };
-        if frame.several && frame.wide {
+        if par.is_refused(frame) {
             return Err(ImportFault::Shared(frame.line, line));
         }
-        if frame.several {
+        if is_coregion(frame) {
             self.ends.truncate(frame.start);
             self.ends.push(self.events.len())?;
         }
@@ -205,14 +242,14 @@ impl<'s> Plan<'s> {
 
     /// Plans one step more, on this line of the diagram.
     #[tactic(auto, unfolding(crate::specs::Drafting::planned))]
-    fn step(&mut self, own: Own, line: usize, step: &'s Step) -> Result<(), ImportFault>
-        ensures { Leaves result self.new (planned own line step.now self.old) }
+    fn step(&mut self, manner: Manner, line: usize, step: &'s Step) -> Result<(), ImportFault>
+        ensures { Leaves result self.new (planned manner line step.now self.old) }
     {
         match step {
-            Step::Meets(message) => self.put_sides(message, sides_on(own, line, message))?,
+            Step::Meets(message) => self.put_sides(message, sides_on(manner.own, line, message))?,
             Step::Opens(text) => self.open(*text)?,
             Step::Next => self.mark_last()?,
-            Step::Closes => return self.close_last(line),
+            Step::Closes => return self.close_last(manner.par, line),
         }
         Ok(())
     }
@@ -220,15 +257,15 @@ impl<'s> Plan<'s> {
     /// What a line has of these steps.
     pub(crate) fn of(
         alloc: Global,
-        own: Own,
+        manner: Manner,
         line: usize,
         steps: &'s [Step],
     ) -> Result<Plan<'s>, ImportFault>
-        ensures { Gives (λ p. p) result (plan_on own line steps.now unplanned) }
+        ensures { Gives (λ p. p) result (plan_on manner line steps.now unplanned) }
     {
         let mut plan = Plan::new(alloc);
         for step in steps {
-            plan.step(own, line, step)?;
+            plan.step(manner, line, step)?;
         }
         Ok(plan)
     }

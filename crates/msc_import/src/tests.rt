@@ -3,9 +3,17 @@
 
 use crate::gallery::{self, Scenario};
 use crate::{
-    Closer, Cross, Expectation, Head, ImportFault, Own, Place, diagram_of, draw, places, scenarios,
+    Closer, Cross, Expectation, Head, ImportFault, Manner, Own, Par, diagram_of, draw, places,
+    scenarios,
 };
+use msc_place::Position;
 use std::alloc::AllocGlobal;
+
+/// The usual manner.
+const MANNER: Manner = Manner {
+    own: Own::Action,
+    par: Par::Refused,
+};
 
 /// The chart of a scenario of a text, or the first fault. Its name is `name`.
 fn chart(
@@ -16,8 +24,12 @@ fn chart(
     choices: &[usize],
     name: &[u8],
 ) -> Result<Vec<u8>, ImportFault> {
+    let manner = Manner {
+        own,
+        par: Par::Refused,
+    };
     let diagram = diagram_of(rt.alloc(), cross, text)?;
-    let draft = draw(rt.alloc(), &diagram, choices, own, name)?;
+    let draft = draw(rt.alloc(), &diagram, choices, manner, name)?;
     Ok(draft.write(rt.alloc())?)
 }
 
@@ -1011,26 +1023,26 @@ const PLACED: &[u8] =
     b"sequenceDiagram\nparticipant B\n  \xc3\xa9->>B: a; B->>\xc3\xa9: b\n\topt x\n\tB->>B: c\nend\n\xc3\xa9 \xc3\xa9->>C: d";
 
 /// Where the arrow of each event of its chart begins.
-const PLACES: &[Place] = &[
-    Place { line: 3, column: 3 },
-    Place {
+const PLACES: &[Position] = &[
+    Position { line: 3, column: 3 },
+    Position {
         line: 3,
         column: 13,
     },
-    Place { line: 5, column: 2 },
-    Place { line: 3, column: 3 },
-    Place {
+    Position { line: 5, column: 2 },
+    Position { line: 3, column: 3 },
+    Position {
         line: 3,
         column: 13,
     },
-    Place { line: 7, column: 1 },
-    Place { line: 7, column: 1 },
+    Position { line: 7, column: 1 },
+    Position { line: 7, column: 1 },
 ];
 
 #[test]
 fn the_places_of_events(rt: HostRuntime) {
     let found = match diagram_of(rt.alloc(), None, PLACED) {
-        Ok(diagram) => match places(rt.alloc(), &diagram, &[], Own::Action) {
+        Ok(diagram) => match places(rt.alloc(), &diagram, &[], MANNER) {
             Ok(found) => found.as_slice() == PLACES,
             Err(_) => false,
         },

@@ -4,4 +4,4 @@ use Rattle.msc_import.proofs.placing.places_on.Given as goal
 
 abbrev pub invariant-loop-i : goal.invariant-loop-i
 invariant-loop-i l =
-    places_on l.own l.walker.steps l.i (drop l.i l.walker.lines) l.places.items ≡ places_on l.own l.walker.steps 0 l.walker.lines []
+    places_on l.manner l.walker.steps l.i (drop l.i l.walker.lines) l.places.items ≡ places_on l.manner l.walker.steps 0 l.walker.lines []

@@ -4,4 +4,4 @@ use Rattle.msc_import.proofs.plan.Plan.of.Given as goal
 
 abbrev pub invariant-loop-step : goal.invariant-loop-step
 invariant-loop-step l =
-    plan_on l.own l.line (drop l.step-index l.steps) l.plan ≡ plan_on l.own l.line l.steps unplanned
+    plan_on l.manner l.line (drop l.step-index l.steps) l.plan ≡ plan_on l.manner l.line l.steps unplanned
