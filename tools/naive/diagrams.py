@@ -226,15 +226,15 @@ class Course:
         return found
 
     def par(self, block, branches):
-        """Parallel branches: a coregion where each has at most one segment on a line."""
+        """Parallel branches: on a line where each has at most one segment, a coregion."""
         found = {}
         for line in range(len(self.diagram.names.names)):
             own = [branch[line] for branch in branches if branch.get(line)]
-            if len(own) > 1 and self.options.par != "drawn":
-                if any(len(segments) > 1 for segments in own):
-                    name = self.diagram.names.names[line].decode()
-                    raise refuse(16, f"parallel branches share {name}", block.place.line)
+            if len(own) > 1 and all(len(segments) == 1 for segments in own):
                 found[line] = [[event for (segment,) in own for event in segment]]
+            elif len(own) > 1 and self.options.par != "drawn":
+                name = self.diagram.names.names[line].decode()
+                raise refuse(16, f"parallel branches share {name}", block.place.line)
             elif own:
                 found[line] = [segment for segments in own for segment in segments]
         return found

@@ -2,7 +2,7 @@
 """Reads a Mermaid sequence diagram, and prints what `msc import` prints: the chart of one scenario,
 or on standard error the line of the first fault.
 
-    mermaid.py [--name NAME] [--choose C] [--list FILE] [--into FOLDER] [--limit N] [--rounds R,R..]
+    mermaid.py [--from mermaid|any] [--name NAME] [--choose C] [--list FILE] [--into FOLDER] [--limit N] [--rounds R,R..]
                [--self action|message] [--cross lost|arrives] [--par drawn] < TEXT
 
 With --list the events stand in place of the chart, with the places of their arrows in FILE; with
@@ -210,8 +210,17 @@ def statements(text, cross):
             dying = []
 
 
+def look_for_one(text):
+    """Refuses a text of which no line begins a diagram."""
+    lines = lines_of(text)
+    if not any(is_word(trimmed(held), b"sequenceDiagram") for _, held in lines):
+        raise expected(lines[-1][0], "a diagram")
+
+
 def answer(text, options):
     """What is printed."""
+    if options.language == "any":
+        look_for_one(text)
     diagram = Diagram(statements(text, options.cross))
     name = made(options.name.encode(), b"diagram").decode()
     if options.into is not None:
@@ -238,9 +247,11 @@ def answer(text, options):
     return course.list(name, options.list) if options.list else course.text(name)
 
 
-def main():
+def options_of(given=None):
+    """The options of these words, and those of the command line where there are none."""
     style = argparse.RawDescriptionHelpFormatter
     words = argparse.ArgumentParser(description=__doc__, formatter_class=style)
+    words.add_argument("--from", dest="language", choices=("mermaid", "any"), default="any")
     words.add_argument("--name", default="diagram")
     words.add_argument("--choose")
     words.add_argument("--list", metavar="FILE")
@@ -250,8 +261,13 @@ def main():
     words.add_argument("--self", dest="own", choices=("action", "message"), default="action")
     words.add_argument("--cross", choices=("lost", "arrives"))
     words.add_argument("--par", choices=("drawn",))
-    options = words.parse_args()
+    options = words.parse_args(given)
     options.rounds = sorted({int(n) for n in options.rounds.split(",")})
+    return options
+
+
+def main():
+    options = options_of()
     try:
         said = answer(sys.stdin.buffer.read(), options)
     except Refused as fault:
