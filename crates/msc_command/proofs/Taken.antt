@@ -3,7 +3,7 @@ use Rattle.std.proofs.Common.{◌≡◌, ◌∙◌, ◌&&◌, refl, sym, subst, 
 use Rattle.std.proofs.lemmas.Option.{none-some}
 use Rattle.std.specs.Prelude.{MatchOption, map, option_map}
 use Rattle.std.specs.Box.{box_value}
-use Rattle.clap.specs.Words.{App, Kinds, Row, Text, built, fault_of, is_simple, is_simple_and_free, subcommand_of, subcommand_rows, subcommand_rows_of}
+use Rattle.clap.specs.Words.{App, Kinds, Row, Text, built, fault_of, subcommand_of, subcommand_rows, subcommand_rows_of}
 use Rattle.clap.specs.Kinds.{check_kinds, or_else}
 use Rattle.clap.specs.Faults.{defaults_fault, level_fault, settle_fault, walk_fault}
 use Rattle.clap.specs.Simple.{Shape}
@@ -11,26 +11,17 @@ use Rattle.clap.specs.Walk.{Held, Names as CommandNames, settled as settled_rows
 use Rattle.clap.specs.declared.parser.matches.ArgMatches.{ArgMatches}
 use Rattle.clap.specs.declared.parser.matches.ArgMatches.TheViews.{out-SubCommand}
 use Rattle.clap.specs.declared.parser.matches.SubCommand.{SubCommand}
-use Rattle.msc_command.specs.Grammar.{AreTaken, IsGrammar, architecture_words, form_words, kind_words, parsers_of, whole_command}
+use Rattle.msc_command.specs.Grammar.{AreParsers, AreTaken, IsGrammar, architecture_words, form_words, kind_words, parsers_of}
 use Rattle.msc_command.specs.declared.grammar.Choices.{Choices}
 use Rattle.msc_command.specs.Program.{ObeysMatches, ObeysNamed}
 use Rattle.msc_command.specs.declared.ending.Status.{Status}
 use Rattle.msc_command.specs.declared.ending.Status.TheVariants.{Refused}
 
--- the commands are told of with these words
-pub is_grammar : (lent : Choices) (grammar : App)
+-- the parsers take the words of which options take one
+pub are_parsers : (lent : Choices)
     → map (λ word. word.now) lent.architectures.words.now ≡ architecture_words → map (λ word. word.now) lent.kinds.words.now ≡ kind_words
-    → map (λ word. word.now) lent.forms.words.now ≡ form_words → grammar ≡ whole_command (parsers_of lent) → IsGrammar grammar
-is_grammar lent grammar one two three is =
-    (parsers_of lent, record { architectures = (_, refl, one); kinds = (_, refl, two); forms = (_, refl, three) }, is)
-
--- they are of the kind of which `clap` says all
-pub is_known : (grammar : App) → IsGrammar grammar → is_simple_and_free grammar ≡ true
-is_known grammar known = rw known.2 refl
-
--- and simple, so that it says their matches
-pub is_simple_grammar : (grammar : App) → IsGrammar grammar → is_simple grammar ≡ true
-is_simple_grammar grammar known = rw known.2 refl
+    → map (λ word. word.now) lent.forms.words.now ≡ form_words → AreParsers (parsers_of lent)
+are_parsers lent one two three = record { architectures = (_, refl, one); kinds = (_, refl, two); forms = (_, refl, three) }
 
 -- where neither of two steps fails, the second does not
 second_passes : (first second : Kinds) → or_else first second ≡ [] → second ≡ []

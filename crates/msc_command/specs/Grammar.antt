@@ -1,6 +1,7 @@
 -- The commands of the program and their words, as `clap` reads them.
-use Rattle.std.specs.Prelude.{◌≡◌, List, [], ◌∷◌, Some, codes, map, pos, true, false}
+use Rattle.std.specs.Prelude.{◌≡◌, List, [], ◌∷◌, Option, Some, codes, map, option_and_then, pos, slice_get, true, false}
 use Rattle.std.specs.Borrow.{Bor}
+use Rattle.std.specs.Option.{option_map_or}
 use Rattle.clap.specs.Words.{App, IsAmong, Row, Rule, Text, app_of, fault_of, new_app, new_rule, rule_of, subcommand_of, with_rule, with_subcommand}
 use Rattle.clap.specs.declared.builder.action.ArgAction.TheVariants.{Append, SetTrue}
 use Rattle.clap.specs.declared.builder.arg.Arg.{Arg}
@@ -17,7 +18,7 @@ use Rattle.msc_command.specs.declared.words.Takes.{Takes}
 use Rattle.msc_command.specs.declared.words.Takes.TheVariants as takes
 use Rattle.msc_command.specs.declared.words.Verb.{Verb}
 use Rattle.msc_command.specs.declared.words.Word.{Word}
-use Rattle.msc_command.specs.Words.{form_word, takes_of, verb_name, verbs, word_name, words_of}
+use Rattle.msc_command.specs.Words.{form_word, takes_of, verb_name, verb_of_word, verbs, word_name, words_of}
 use Rattle.msc_reason.specs.Lacks.{kind_word}
 use Rattle.msc_reason.specs.declared.lack.RaceKind.TheVariants.{Early, Queues, Unordered, Overtaken}
 
@@ -134,6 +135,14 @@ with_commands p app (verb ∷ rest) = with_commands p (with_subcommand app (comm
 -- `msc` with its commands
 abbrev pub whole_command : Parsers → App
 whole_command p = with_commands p bare_command verbs
+
+-- the command that words name, behind the program's name
+abbrev pub begun_by : List Text → Option Verb
+begun_by words = option_and_then verb_of_word (slice_get words 1)
+
+-- the commands of which `clap` is told for words: the one that they name, and else all
+abbrev pub verbs_for : List Text → List Verb
+verbs_for words = option_map_or (λ verb. verb ∷ []) (begun_by words) verbs
 
 -- a parser takes just these words
 abbrev pub IsOneOf : List Text → ValueParser → Type 0

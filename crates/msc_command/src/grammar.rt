@@ -1,11 +1,12 @@
 //! The grammar of command lines, as `clap` is told of it.
 
 ghost use Rattle.std.specs.Prelude.{◌≡◌, IfOk, map};
-ghost use Rattle.msc_command.specs.Grammar.{architecture_words, bare_command, choice_rule};
+ghost use Rattle.std.specs.String.{string_bytes};
+ghost use Rattle.msc_command.specs.Grammar.{architecture_words, bare_command, begun_by, choice_rule};
 ghost use Rattle.msc_command.specs.Grammar.{choices_rule, command_of, file_rule};
 ghost use Rattle.msc_command.specs.Grammar.{flag_rule, form_words, kind_words, letter_rule};
 ghost use Rattle.msc_command.specs.Grammar.{needed_rule, number_rule, parsers_of, rule_of_word};
-ghost use Rattle.msc_command.specs.Grammar.{whole_command, IsArgument, IsCommand};
+ghost use Rattle.msc_command.specs.Grammar.{verbs_for, with_commands, IsArgument, IsCommand};
 ghost use Rattle.clap.specs.Words.{App, Rule, new_app, with_rule, with_subcommand};
 ghost use Rattle.clap.specs.declared.builder.value_parser.ValueParser.TheVariants.{Names};
 
@@ -318,13 +319,43 @@ fn with<'a>(program: Command<'a>, command: Command<'a>) -> Result<Command<'a>, A
     program.subcommand(command)
 }
 
-/// The words that the program takes. An error is a growth of memory that was refused.
-pub(crate) fn grammar<'a>(alloc: Global, lent: Choices<'a>) -> Result<Command<'a>, AllocError>
-    ensures { IfOk result (IsCommand (whole_command (parsers_of lent.entry))) }
+/// The program with these commands. An error is a growth of memory that was refused.
+fn with_each<'a>(
+    alloc: Global,
+    verbs: &[Verb],
+    lent: Choices<'a>,
+) -> Result<Command<'a>, AllocError>
+    ensures { IfOk result (IsCommand
+        (with_commands (parsers_of lent.entry) bare_command verbs.now)) }
 {
     let mut command = bare(alloc)?;
-    for verb in Verb::ALL {
-        command = with(command, command_of(alloc, verb, lent)?)?;
+    for verb in verbs {
+        command = with(command, command_of(alloc, *verb, lent)?)?;
     }
     Ok(command)
+}
+
+/// The command that words name, behind the program's name.
+fn begun_by(words: &[String]) -> Option<Verb>
+    ensures { result ≡ begun_by (map string_bytes words.now) }
+{
+    let name = words.get(1)?;
+    Verb::of(name)
+}
+
+/// The words that the program takes, as far as they matter to these: of the command that they name,
+/// and else of all. An error is a growth of memory that was refused.
+// All commands take longer to tell of than a small chart to check.
+pub(crate) fn grammar<'a>(
+    alloc: Global,
+    words: &[String],
+    lent: Choices<'a>,
+) -> Result<Command<'a>, AllocError>
+    ensures { IfOk result (IsCommand (with_commands (parsers_of lent.entry) bare_command
+        (verbs_for (map string_bytes words.now)))) }
+{
+    match begun_by(words) {
+        Some(verb) => with_each(alloc, &[verb], lent),
+        None => with_each(alloc, &Verb::ALL, lent),
+    }
 }

@@ -148,7 +148,7 @@ fn run<R: Files + Threads + Wait + Sync, I: Read, O: TellsFailure, E: Write + Is
     ensures unknown { IfErr result (λ _. output.new ≡ output.old) }
 {
     let lists = Lists::of(alloc)?;
-    let command = grammar(alloc, lists.choices())?;
+    let command = grammar(alloc, words, lists.choices())?;
     match command.try_get_matches_from(words) {
         Ok(matches) => Ok(obey_matches(rt, alloc, &matches, input, output, faults)),
         Err(error) => Ok(tell_usage(output, faults, &error)),

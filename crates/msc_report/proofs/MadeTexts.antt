@@ -7,7 +7,7 @@ use Rattle.std.proofs.lemmas.List.Elements.{All-get_or, All-push, All-weaker}
 use Rattle.msc_chart.specs.Drawings.{Drawing}
 use Rattle.msc_report.specs.declared.event_texts.Span.{Span}
 use Rattle.msc_report.specs.EventTexts.{EventText, parts_of, no_text, AreTextsOf}
-use Rattle.msc_report.specs.Spans.{text_at, no_span, with_parts, IsSpanIn, HasPutText, AreMade}
+use Rattle.msc_report.specs.Spans.{text_at, no_span, with_parts, AllAreShort, AreShort, IsSpanIn, HasPutText, AreMade}
 use Rattle.msc_report.specs.Texts.{text_line}
 use Rattle.msc_report.specs.Verdicts.{race_text}
 
@@ -42,6 +42,36 @@ within_kept old rest s within = record {
   second = within.second;
   end = let size = length-append old rest in let end = within.end in omega (arith, size, end);
 }
+
+-- and the texts that were made stand there
+pub made_kept : (d : Drawing) (old rest : List ℕ) (spans : List Span) (e : ℕ)
+    → AreMade d old spans e → AreMade d (old ++ rest) spans e
+made_kept d old rest spans e made = record {
+  size = made.size;
+  within = All-weaker (IsSpanIn old) (IsSpanIn (old ++ rest)) (within_kept old rest) spans made.within;
+  each = λ k below.
+      let there : k < length spans = let size = made.size in omega (arith, below, size) in
+      text_kept old rest (get_or spans k no_span) (All-get_or (IsSpanIn old) spans k no_span there made.within)
+      ∙ made.each k below;
+}
+
+-- of texts whose parts are all short, each two make a race whose parts are short
+pub each_two_short : (bytes : List ℕ) (spans : List Span) (e f : ℕ) (one two : Span)
+    → AllAreShort bytes spans → e < length spans → f < length spans
+    → one ≡ get_or spans e one → two ≡ get_or spans f two → AreShort (length bytes) one two
+each_two_short bytes spans e f one two short e_known f_known one_is two_is =
+    let each : (k : ℕ) (s : Span) → k < length spans → s ≡ get_or spans k s → AreShort (length bytes) s s =
+    λ k s known is. rw is (All-get_or (λ s. AreShort (length bytes) s s) spans k s known short) in
+    let first = each e one e_known one_is in
+    let second = each f two f_known two_is in
+    record {
+      opening = first.opening;
+      number = second.number;
+      first = first.first;
+      second = second.second;
+      first_block = first.first_block;
+      second_block = second.second_block;
+    }
 
 -- one text more is made
 pub made_more : (d : Drawing) (old new : List ℕ) (spans : List Span) (e : ℕ) (s : Span)

@@ -48,6 +48,10 @@ pub record AreShort (size : ℕ) (one two : Span) : Type 0 where
   pub first_block : one.first + 64 ≤ size
   pub second_block : two.second + 64 ≤ size
 
+-- the parts of each of these texts do, as those of the first event and of the second
+abbrev pub AllAreShort : List ℕ → List Span → Type 0
+AllAreShort bytes spans = All (λ s. AreShort (length bytes) s s) spans
+
 -- what stands at a number past the last event; no rule speaks of it
 abbrev pub no_span : Span
 no_span = record { opening = 0; number = 0; first = 0; second = 0; end = 0 }

@@ -10,7 +10,7 @@ ghost use Rattle.msc_report.specs.Spans.{HasPutText, place_text};
 ghost use Rattle.msc_report.specs.Verdicts.{race_text, run_line};
 
 use crate::race::{write_event, write_instance, write_numbers};
-use crate::race_line::{are_short, put_blocks, put_number, put_slices};
+use crate::race_line::{WORDS, all_are_short, are_short, put_blocks, put_number, put_slices};
 use msc_chart::{Chart, Event};
 use std::alloc::{AllocError, Global};
 use std::io;
@@ -37,6 +37,9 @@ pub(crate) struct Span {
 pub struct EventTexts {
     bytes: Vec<u8>,
     spans: Vec<Span>,
+    /// Whether the parts of each race are known to fit into their blocks: that is not asked for each
+    /// race then.
+    short: bool,
 }
 
 impl Model for EventTexts {
@@ -46,11 +49,13 @@ impl Model for EventTexts {
 
     ghost Value = { List EventText };
 
-    ghost use Rattle.msc_report.specs.Spans.{text_at, IsSpanIn};
+    ghost use Rattle.std.specs.Prelude.{IsTrue};
+    ghost use Rattle.msc_report.specs.Spans.{text_at, AllAreShort, IsSpanIn};
 
     ghost view = { λ t. map (text_at t.bytes.items) t.spans.items };
 
-    ghost invariant = { λ t. All (IsSpanIn t.bytes.items) t.spans.items };
+    ghost invariant = { λ t. All (IsSpanIn t.bytes.items) t.spans.items
+        × (IsTrue t.short → AllAreShort t.bytes.items t.spans.items) };
 }
 
 /// Writes the name of the instance of event `e`, before what it does.
@@ -127,7 +132,14 @@ impl EventTexts {
             let span = put_parts(&mut bytes, chart, e)?;
             spans.push(span)?;
         }
-        Ok(EventTexts { bytes, spans })
+        // a block that begins within the texts ends within the bytes then
+        bytes.extend_from_slice(&[0; WORDS])?;
+        let short = all_are_short(bytes.as_slice(), spans.as_slice());
+        Ok(EventTexts {
+            bytes,
+            spans,
+            short,
+        })
     }
 
     /// Puts the number of event `e`, after a space, behind the first `at` bytes of a line, and
@@ -153,7 +165,7 @@ impl EventTexts {
     {
         let one = self.spans[e as usize];
         let two = self.spans[f as usize];
-        if are_short(self.bytes.as_slice(), &one, &two) {
+        if self.short || are_short(self.bytes.as_slice(), &one, &two) {
             put_blocks(page, self.bytes.as_slice(), &one, &two)
         } else {
             put_slices(page, self.bytes.as_slice(), &one, &two)

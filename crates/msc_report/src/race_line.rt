@@ -6,7 +6,8 @@
 
 ghost use Rattle.std.specs.Prelude.{◌≡◌, ◌+◌, ◌≤◌, ◌++◌, IsTrue, IfOk, OnOk, length, slice_range};
 ghost use Rattle.std.specs.Prelude.{take};
-ghost use Rattle.msc_report.specs.Spans.{text_at, with_parts, AreShort, IsSpanIn};
+ghost use Rattle.std.specs.List.{All};
+ghost use Rattle.msc_report.specs.Spans.{text_at, with_parts, AllAreShort, AreShort, IsSpanIn};
 
 use crate::event_texts::Span;
 use std::alloc::AllocError;
@@ -15,7 +16,7 @@ use std::alloc::AllocError;
 const NUMBER: usize = 16;
 
 /// The bytes of a block for the words of an event.
-const WORDS: usize = 64;
+pub(crate) const WORDS: usize = 64;
 
 /// The bytes of the four blocks of a race, or the room for ten numbers.
 const ROOM: usize = 160;
@@ -33,6 +34,19 @@ pub(crate) fn are_short(bytes: &[u8], one: &Span, two: &Span) -> bool
         && two.end - two.second <= WORDS
         && bytes.len() - one.first >= WORDS
         && bytes.len() - two.second >= WORDS
+}
+
+/// Whether that holds of each two of these texts.
+pub(crate) fn all_are_short(bytes: &[u8], spans: &[Span]) -> bool
+    requires { All (IsSpanIn bytes.now) spans.now }
+    ensures { IsTrue result → AllAreShort bytes.now spans.now }
+{
+    for span in spans {
+        if !are_short(bytes, span, span) {
+            return false;
+        }
+    }
+    true
 }
 
 /// Puts the bytes from one place to another into a room, as a block of N bytes. It answers the

@@ -1,14 +1,15 @@
-use Rattle.std.proofs.Common.{◌<◌, ◌∙◌, ℕ, length, ap, sym, subst, arith}
+use Rattle.std.proofs.Common.{◌<◌, ◌∙◌, ℕ, List, length, ap, sym, subst, arith}
 use Rattle.std.proofs.lemmas.List.{at_drop_all, drop_more}
 use Rattle.std.specs.Prelude.{get_or}
 use Rattle.clap.specs.Words.{App, with_subcommand}
+use Rattle.msc_command.specs.declared.words.Verb.{Verb}
 use Rattle.msc_command.specs.declared.words.Verb.TheVariants.{Read}
 use Rattle.msc_command.specs.Grammar.{command_of, parsers_of, with_commands, IsCommand}
-use Rattle.msc_command.specs.Words.{verbs}
-use Rattle.msc_command.proofs.grammar.grammar.Goals as goal
+use Rattle.msc_command.proofs.grammar.with_each.Goals as goal
 
 pub loop-verb-preserved : goal.loop-verb-preserved
 loop-verb-preserved c =
+    let verbs : List Verb = c.args.verbs.now in
     let at : ℕ = c.loop-verb.verb-index in
     let p = parsers_of c.args.lent in
     let inv = c.loop-verb.invariant in
@@ -23,4 +24,4 @@ returns c =
     let p = parsers_of c.args.lent in
     let inv = c.loop-verb.invariant in
     subst (λ (app : App). IsCommand app c.loop-verb.command)
-    (sym (at_drop_all (with_commands p inv.0) verbs c.loop-verb.verb-index (omega (arith, c.loop-verb-test.false))) ∙ inv.2) inv.1
+    (sym (at_drop_all (with_commands p inv.0) c.args.verbs.now c.loop-verb.verb-index (omega (arith, c.loop-verb-test.false))) ∙ inv.2) inv.1

@@ -1,0 +1,89 @@
+-- Of the command that words name `clap` is told alone: it takes the words as where it is told of all.
+use Rattle.std.proofs.Common.{◌≡◌, refl, sym, ap, true, false, Bool, List, [], ◌∷◌, Option, Some, None, cond, find}
+use Rattle.std.proofs.lemmas.Option.{none-some}
+use Rattle.std.proofs.lemmas.Slice.Eq.{bytes_eq-Decides}
+use Rattle.std.specs.Option.{option_map_or}
+use Rattle.std.specs.Str.{bytes_eq}
+use Rattle.clap.specs.Words.{App, Text, built, fault_of, is_simple, is_simple_and_free, subcommand_of}
+use Rattle.msc_command.specs.Grammar.{bare_command, begun_by, verbs_for, whole_command, with_commands, AreParsers, Parsers}
+use Rattle.msc_command.specs.Words.{verb_name, verb_of_word, verbs}
+use Rattle.msc_command.specs.declared.words.Verb.{Verb}
+use Rattle.msc_command.specs.declared.words.Verb.TheVariants.{Read, Check, Explain, Run, List as Listing, Draw, Reverse, Report}
+use Rattle.msc_command.proofs.Begun.{same_fault, same_found, KnowAlike}
+
+-- what is found passes: the first, or what is found behind it
+first_passes : {X : Type 0} (p : X → Bool) (y x : X) (rest : Option X) (b : Bool) → p y ≡ b
+    → (rest ≡ Some x → p x ≡ true) → cond b (Some y) rest ≡ Some x → p x ≡ true
+first_passes p y x rest true is behind found = let same : ◌≡◌ {A = Option _} (Some y) (Some x) = found in cc
+first_passes p y x rest false is behind found = behind found
+
+found_passes : {X : Type 0} (p : X → Bool) (xs : List X) (x : X) → find p xs ≡ Some x → p x ≡ true
+found_passes p [] x found = absurd (none-some _ found)
+found_passes p (y ∷ ys) x found = first_passes p y x (find p ys) (p y) refl (found_passes p ys x) found
+
+-- a word that names a command is its name
+is_name : (name : Text) (verb : Verb) → verb_of_word name ≡ Some verb → name ≡ verb_name verb
+unfolding verb_of_word
+is_name name verb found =
+    (bytes_eq-Decides name (verb_name verb)).0 (found_passes (λ verb. bytes_eq name (verb_name verb)) verbs verb found)
+
+-- the program with one command
+abbrev one_command : Parsers → Verb → App
+one_command p verb = with_commands p bare_command (verb ∷ [])
+
+-- it knows this command as the whole program does
+known_alike : (p : Parsers) (verb : Verb) → KnowAlike (built (one_command p verb)) (built (whole_command p)) (verb_name verb)
+known_alike p Read = record { top = refl; one = refl; two = refl; other = refl; found = refl }
+known_alike p Check = record { top = refl; one = refl; two = refl; other = refl; found = refl }
+known_alike p Explain = record { top = refl; one = refl; two = refl; other = refl; found = refl }
+known_alike p Run = record { top = refl; one = refl; two = refl; other = refl; found = refl }
+known_alike p Listing = record { top = refl; one = refl; two = refl; other = refl; found = refl }
+known_alike p Draw = record { top = refl; one = refl; two = refl; other = refl; found = refl }
+known_alike p Reverse = record { top = refl; one = refl; two = refl; other = refl; found = refl }
+known_alike p Report = record { top = refl; one = refl; two = refl; other = refl; found = refl }
+
+-- two programs take words alike
+abbrev pub TakeAlike : App → App → List Text → Type 0
+TakeAlike x y words = (fault_of x words ≡ fault_of y words) × (subcommand_of x words ≡ subcommand_of y words)
+
+-- and takes the words of it alike
+one_alike : (p : Parsers) (verb : Verb) (program : Text) (rest : List Text)
+    → TakeAlike (one_command p verb) (whole_command p) (program ∷ verb_name verb ∷ rest)
+one_alike p verb program rest = (
+  same_fault _ _ (verb_name verb) rest (known_alike p verb),
+  same_found _ _ (verb_name verb) rest (known_alike p verb),
+)
+
+-- what is told for words takes them as the whole program
+pub asked_alike : (p : Parsers) (words : List Text)
+    → TakeAlike (with_commands p bare_command (verbs_for words)) (whole_command p) words
+asked_alike p [] = (refl, refl)
+asked_alike p (program ∷ []) = (refl, refl)
+asked_alike p (program ∷ name ∷ rest) = go (verb_of_word name) refl
+  where
+    go : (found : Option Verb) → verb_of_word name ≡ found
+        → TakeAlike (with_commands p bare_command (verbs_for (program ∷ name ∷ rest))) (whole_command p) (program ∷ name ∷ rest)
+    go None none = rw none (refl, refl)
+    go (Some verb) is = rw (is, is_name name verb is) (one_alike p verb program rest)
+
+-- it is of the kind of which `clap` says all, and simple
+asked_kind : (p : Parsers) (found : Option Verb)
+    → (is_simple_and_free (with_commands p bare_command (option_map_or (λ verb. verb ∷ []) found verbs)) ≡ true)
+    × (is_simple (with_commands p bare_command (option_map_or (λ verb. verb ∷ []) found verbs)) ≡ true)
+asked_kind p None = (refl, refl)
+asked_kind p (Some Read) = (refl, refl)
+asked_kind p (Some Check) = (refl, refl)
+asked_kind p (Some Explain) = (refl, refl)
+asked_kind p (Some Run) = (refl, refl)
+asked_kind p (Some Listing) = (refl, refl)
+asked_kind p (Some Draw) = (refl, refl)
+asked_kind p (Some Reverse) = (refl, refl)
+asked_kind p (Some Report) = (refl, refl)
+
+-- `clap` says all of it
+pub is_asked_known : (p : Parsers) (words : List Text) → is_simple_and_free (with_commands p bare_command (verbs_for words)) ≡ true
+is_asked_known p words = (asked_kind p (begun_by words)).0
+
+-- and its matches
+pub is_asked_simple : (p : Parsers) (words : List Text) → is_simple (with_commands p bare_command (verbs_for words)) ≡ true
+is_asked_simple p words = (asked_kind p (begun_by words)).1
