@@ -1,7 +1,7 @@
 use Rattle.std.proofs.Common.{◌≡◌, ◌+◌, List, length, sym, subst, arith}
 use Rattle.msc_report.specs.declared.event_texts.Span.{Span}
 use Rattle.msc_report.specs.Spans.{AreMade}
-use Rattle.msc_report.proofs.MadeTexts.{made_more, made_all}
+use Rattle.msc_report.proofs.MadeTexts.{made_more, made_all, made_kept}
 use Rattle.msc_report.proofs.event_texts.EventTexts.new.Goals as goal
 
 pub loop-e-preserved : goal.loop-e-preserved
@@ -14,4 +14,5 @@ pub returns : goal.returns
 returns c =
     let all : c.loop-e.e ≡ length c.args.chart.now.events =
     let past = c.loop-e-test.false in let most = c.loop-e.auto.e-end in let number = c.events-e-end.ensures.number in omega (arith, past, most, number) in
-    made_all c.args.chart.now _ _ c.loop-e.e all c.loop-e.invariant
+    let kept = made_kept c.args.chart.now c.loop-e.bytes.items _ c.loop-e.spans.items c.loop-e.e c.loop-e.invariant in
+    made_all c.args.chart.now _ _ c.loop-e.e all (rw c.in_ok-extend_from_slice.ensures.items kept)
