@@ -3,7 +3,7 @@ use Rattle.std.proofs.Common.{◌≡◌, ℕ, ◌+◌, ◌<◌, Bool, false, Lis
 use Rattle.std.specs.Borrow.{Bor}
 use Rattle.std.specs.Prelude.{option_map, unwrap_or, IsTrue, Option, ◌↔◌}
 use Rattle.std.proofs.lemmas.Bool.{cases_lt}
-use Rattle.std.proofs.lemmas.Option.{slice_get-get_or, slice_get-map}
+use Rattle.std.proofs.lemmas.Option.{slice_get-get_or, slice_get-map, slice_get_within}
 use Rattle.std.proofs.lemmas.List.{get_or_append_left}
 use Rattle.std.proofs.Math.Seq.{get_or-append_seam}
 use Rattle.msc_chart.specs.Lists.{Occurs, StandsAt}
@@ -42,3 +42,8 @@ lines_more instances names lines i own size before told k below =
           subst (λ (n : ℕ). IsTrue (get_or (lines ++ own ∷ []) n false) ↔ Occurs names (get_or instances n [])) (sym same)
           (subst (λ (b : Bool). IsTrue b ↔ Occurs names (get_or instances i [])) (sym seam) told)
     ]
+
+-- the name of an instance that is there
+pub named_there : (instances : List (List ℕ)) (i : ℕ) (name : List ℕ) → StandsAt instances i name → name ≡ get_or instances i []
+named_there instances i name there =
+    ap (λ (o : Option (List ℕ)). unwrap_or o name) (sym there ∙ slice_get-get_or instances i [] (slice_get_within instances i name there))
