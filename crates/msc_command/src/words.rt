@@ -433,6 +433,6 @@ Exit status:
   2  the text or a name was refused, or the words are no command
   4  memory ran out, or a file or the output failed
 
-Example:
+Examples:
   msc ready --queues mailbox relay.msc
   msc ready --queues mailbox --only worker --words relay.msc";
