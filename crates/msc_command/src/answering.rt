@@ -184,8 +184,8 @@ fn list<O: Write>(
     put(output, &page, Status::Done)
 }
 
-/// Writes whether a system of ready instances can stick, of the chart of a text, of the file of this
-/// name.
+/// Writes whether a system of ready instances can stick, of the chart of a text, of the file of
+/// this name.
 fn ready<'w, O: Write>(
     alloc: Global,
     readying: Readying<'w>,
@@ -311,7 +311,8 @@ fn tell_in<O: Write>(
     refusal: Refusal<'_>,
     output: &mut O,
 ) -> Result<(), Refusal<'static>>
-    ensures { IsToldIn O.contents form file.now text.now refusal.entry result output.old output.new }
+    ensures { IsToldIn O.contents form file.now text.now refusal.entry result
+        output.old output.new }
 {
     match form {
         Form::Lines => tell_lines(alloc, file, text, refusal, output),
@@ -329,7 +330,8 @@ fn tell_refusal<'w, O: Write>(
     refusal: Refusal<'w>,
     output: &mut O,
 ) -> Refusal<'w>
-    ensures { TellsThat O.contents form file.now text.now refusal.entry result output.old output.new }
+    ensures { TellsThat O.contents form file.now text.now refusal.entry result
+        output.old output.new }
 {
     if is_spent(refusal) {
         return refusal;
