@@ -3,4 +3,5 @@ pub mod Marks
 pub mod Fronts
 pub mod Heads
 pub mod Next
+pub mod Barred
 pub mod Toward

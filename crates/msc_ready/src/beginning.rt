@@ -113,7 +113,7 @@ impl Beginning {
     }
 
     /// Whether all that is drawn before `x` has occurred.
-    fn is_settled(&self, ready: &Ready, x: Event) -> bool
+    pub fn is_settled(&self, ready: &Ready, x: Event) -> bool
         requires known { x < length ready.now.chart.events }
         requires fronts { HasFronts ready.now.chart self.now.run.items self.now.fronts.items }
         ensures { IsTrue result ↔ ((y : ℕ) → IsTrue (before ready.now.chart.events y x)

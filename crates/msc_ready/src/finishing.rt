@@ -29,7 +29,8 @@ impl Beginning {
         ready.kept();
         let chart = ready.chart();
         let u = chart.other_end(x);
-        for r in 0..chart.events() {
+        // A pair of a line: what is drawn before `u` stands above it.
+        for r in chart.line(chart.instance_of(u)).0..u {
             if ready.is_lined(r, u) && !self.done[chart.other_end(r) as usize] {
                 return false;
             }

@@ -1,12 +1,12 @@
 //! Runs after which a system has stuck.
 
-ghost use Rattle.std.specs.Prelude.{◌≡◌, ℕ, ◌<◌, ◌↔◌, [], length, IfNone, IfOk, IfSome, IsTrue};
-ghost use Rattle.std.specs.Prelude.{MatchOption, OnOk};
-ghost use Rattle.msc_chart.specs.Charts.{partner};
+ghost use Rattle.std.specs.Prelude.{◌≡◌, ℕ, ◌<◌, ◌≤◌, ◌↔◌, [], false, get_or, length, IfNone, IfOk};
+ghost use Rattle.std.specs.Prelude.{IfSome, IsTrue, MatchOption, OnOk};
+ghost use Rattle.msc_chart.specs.Charts.{line, partner};
 ghost use Rattle.msc_chart.specs.Lists.{occurs, IsLeast, Steps};
-ghost use Rattle.msc_ready.specs.Beginnings.{HoldsRun};
+ghost use Rattle.msc_ready.specs.Beginnings.{HasFronts, HoldsRun};
 ghost use Rattle.msc_ready.specs.Held.{ready_in, wiring_of};
-ghost use Rattle.msc_ready.specs.Looking.{ComesAmong, IsAmong};
+ghost use Rattle.msc_ready.specs.Looking.{ComesAmong, ComesOn, IsAmong, NoneComesFrom};
 ghost use Rattle.msc_ready.specs.Readiness.{MayComeReady};
 ghost use Rattle.msc_ready.specs.Running.{GoesOnAs, HasOutputsUpTo, IsStickNext, IsStickRun};
 ghost use Rattle.msc_ready.specs.Running.{IsTowardNext};
@@ -43,6 +43,62 @@ fn is_among(ready: &Ready, among: Among, x: Event) -> bool
 }
 
 impl Beginning {
+    /// Whether neither `x` nor an event of line `i` behind it may come next, since the line has ended,
+    /// or is ready and does not let `x` come. It is asked from the front of the line on.
+    fn is_barred(&self, ready: &Ready, i: u32, x: Event) -> bool
+        requires known { x < length ready.now.chart.events }
+        requires line { i < length ready.now.chart.instances }
+        requires fronts { HasFronts ready.now.chart self.now.run.items self.now.fronts.items }
+        requires later { get_or self.now.fronts.items i 0 ≤ x }
+        ensures barred { IsTrue result → NoneComesFrom (wiring_of ready.now) (ready_in ready.now)
+            self.now.run.items i x }
+        ensures on_line { result ≡ false → line ready.now.chart.events x ≡ i }
+    {
+        ready.kept();
+        if ready.chart().instance_of(x) != i {
+            return true;
+        }
+        if !ready.is_ready(i) {
+            return false;
+        }
+        !self.is_settled(ready, x)
+    }
+
+    /// Whether `x` is one of these events and may come next.
+    fn comes_among(&self, ready: &Ready, among: Among, x: Event) -> bool
+        requires known { x < length ready.now.chart.events }
+        requires held { HoldsRun ready.now self.now }
+        requires up_to { (t : ℕ) → among ≡ Among.UpTo t → t < length ready.now.chart.events }
+        ensures { IsTrue result ↔ ComesAmong (wiring_of ready.now) (ready_in ready.now) among
+            self.now.run.items x }
+    {
+        if !self.may_come(ready, x) {
+            return false;
+        }
+        is_among(ready, among, x)
+    }
+
+    /// The least of these events of line `i` that may come next.
+    fn least_on(&self, ready: &Ready, among: Among, i: u32) -> Option<Event>
+        requires held { HoldsRun ready.now self.now }
+        requires up_to { (t : ℕ) → among ≡ Among.UpTo t → t < length ready.now.chart.events }
+        requires line { i < length ready.now.chart.instances }
+        ensures { MatchOption result ((x : ℕ) → ComesOn (wiring_of ready.now)
+            (ready_in ready.now) among self.now.run.items i x → ⊥)
+            (IsLeast (ComesOn (wiring_of ready.now) (ready_in ready.now) among
+            self.now.run.items i)) }
+    {
+        for x in self.fronts[i as usize]..ready.events() {
+            if self.is_barred(ready, i, x) {
+                return None;
+            }
+            if self.comes_among(ready, among, x) {
+                return Some(x);
+            }
+        }
+        None
+    }
+
     /// The least of these events that may come next.
     fn least_next(&self, ready: &Ready, among: Among) -> Option<Event>
         requires held { HoldsRun ready.now self.now }
@@ -52,8 +108,9 @@ impl Beginning {
             (IsLeast (ComesAmong (wiring_of ready.now) (ready_in ready.now) among
             self.now.run.items)) }
     {
-        for x in 0..ready.events() {
-            if self.may_come(ready, x) && is_among(ready, among, x) {
+        ready.kept();
+        for i in 0..ready.chart().instances() {
+            if let Some(x) = self.least_on(ready, among, i) {
                 return Some(x);
             }
         }

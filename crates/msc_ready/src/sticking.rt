@@ -67,7 +67,9 @@ impl Ready<'_> {
         requires { h < length self.now.chart.events }
         ensures { IsLeastFirst self.now h result }
     {
-        for g in 0..self.events() {
+        self.kept();
+        let chart = self.chart();
+        for g in chart.line(chart.instance_of(h)).0..h {
             if self.is_stick(g, h) {
                 return g;
             }

@@ -187,3 +187,8 @@ untold_with only count some = ap (λ (b : Bool). is_some only && b) some ∙ no_
 pub is_some_copied : (only : Option (Bor (List Bool))) → is_some (option_copied only) ≡ is_some only
 is_some_copied None = refl
 is_some_copied (Some lines) = refl
+
+-- a run that shows a stick is of the chart's events
+pub shown_events : (r : ReadyChart) → ReadyRunsKeepReadyLines → (e f : ℕ) (run : List ℕ) → IsStickRun (wiring_of r) (ready_in r) e f run
+    → AreEventsOf r.chart run
+shown_events r lines e f run is = run_events (wiring_of r) run ((lines r.queues r.chart (ready_in r) run).0 is.stuck.run).0

@@ -1,7 +1,7 @@
 //! Whether a system of ready instances can stick, in bytes.
 
 ghost use Rattle.std.specs.Prelude.{◌≡◌, ◌<◌, ℕ, Bool, List, ◌++◌, IfOk, Some};
-ghost use Rattle.std.specs.Prelude.{length, nat_eq, None, OnOk};
+ghost use Rattle.std.specs.Prelude.{length, nat_eq, IfSome, None, OnOk};
 ghost use Rattle.std.specs.List.{flat_map};
 ghost use Rattle.std.specs.Option.{option_copied};
 ghost use Rattle.msc_chart.specs.Lists.{pairs_of};
@@ -9,6 +9,7 @@ ghost use Rattle.msc_judge.specs.Pages.{Puts, Tells, Writes};
 ghost use Rattle.msc_ready.specs.Held.{ready_in, wiring_of};
 ghost use Rattle.msc_ready.specs.Running.{AreStickRuns};
 ghost use Rattle.msc_ready.specs.Sticks.{AreLeft, IsFirstStick, IsStick};
+ghost use Rattle.msc_reason.specs.Named.{AreEventsOf};
 ghost use Rattle.msc_ready.specs.Views.{sticks_of, HasAhead};
 ghost use Rattle.msc_report.specs.Sticks.{behind_line, left_line, left_race, ready_head};
 ghost use Rattle.msc_report.specs.Sticks.{bare_stick, showing_text};
@@ -16,7 +17,7 @@ ghost use Rattle.msc_report.specs.Styles.{run_text};
 ghost use Rattle.msc_text.specs.Readying.{ahead_in, body_text, finishes, lines_of, ready_text};
 ghost use Rattle.msc_text.specs.Readying.{shown_after, shown_run, told_left, told_stick};
 ghost use Rattle.msc_text.specs.Readying.{told_sticks, IsKnown, Knowledge, PrintsReady};
-ghost use Rattle.msc_text.specs.Readied.{left_behind, AreEvents, AreSticksIn};
+ghost use Rattle.msc_text.specs.Readied.{left_behind, AreEvents, AreKnown, AreRuns, AreSticksIn};
 
 use msc_chart::{Chart, Event, Queues};
 use msc_judge::{Page, WriteFault};
@@ -92,6 +93,27 @@ fn put_left_count(page: &mut Page, count: u32) -> Result<(), AllocError>
     }
 }
 
+/// The run of the first sticks with this second event: it depends on that event alone, so it is made
+/// once.
+#[derive(Drop)]
+struct KnownRun {
+    second: Event,
+    run: Vec<Event>,
+}
+
+/// The run for a second event, where it is known.
+fn run_in(known: &[KnownRun], second: Event) -> Option<&[Event]>
+    ensures { (runs : ℕ → List ℕ) → AreRuns runs known.now
+        → IfSome result (λ run. run.now ≡ runs second) }
+{
+    for one in known {
+        if one.second == second {
+            return Some(one.run.as_slice());
+        }
+    }
+    None
+}
+
 /// Who tells the sticks of a chart: of each event, as the second of sticks, it has the stick that is
 /// ahead.
 #[derive(Drop)]
@@ -116,16 +138,33 @@ impl<'t, 'a> Teller<'t, 'a> {
         }
     }
 
-    /// Puts the run of a first stick behind a page.
+    /// Puts a run behind a page.
+    fn put_line(&self, page: &mut Page, run: &[Event]) -> Result<(), AllocError>
+        requires { AreEventsOf self.now.sticks.now.chart run.now }
+        ensures { OnOk result (page.new.bytes.items ≡ page.old.bytes.items
+            ++ run_text self.now.style.words self.now.sticks.now.chart run.now) }
+    {
+        let chart = self.sticks.ready().chart();
+        match write_run_in(page, chart, self.style.words, run) {
+            Ok(()) => Ok(()),
+            Err(_) => Err(AllocError),
+        }
+    }
+
+    /// Puts the run of a first stick behind a page. It is made where it is not known, and known
+    /// then.
     fn put_run(
         &self,
         alloc: Global,
         page: &mut Page,
+        known: &mut Vec<KnownRun>,
         stick: (Event, Event),
     ) -> Result<(), AllocError>
-        requires { IsFirstStick (wiring_of self.now.sticks.now) (ready_in self.now.sticks.now)
-            stick.0 stick.1 }
-        ensures { OnOk result ((runs : ℕ → List ℕ)
+        requires stick { IsFirstStick (wiring_of self.now.sticks.now)
+            (ready_in self.now.sticks.now) stick.0 stick.1 }
+        requires known { AreKnown self.now.sticks.now known.old.items }
+        ensures known { OnOk result (AreKnown self.now.sticks.now known.new.items) }
+        ensures page { OnOk result ((runs : ℕ → List ℕ)
             → AreStickRuns (wiring_of self.now.sticks.now) (ready_in self.now.sticks.now) runs
             → page.new.bytes.items ≡ page.old.bytes.items
             ++ run_text self.now.style.words self.now.sticks.now.chart (runs stick.1)) }
@@ -133,11 +172,17 @@ impl<'t, 'a> Teller<'t, 'a> {
         each_first_stick_has_one_run();
         ready_runs_keep_ready_lines();
         let ready = self.sticks.ready();
-        let run = ready.stick_run(alloc, stick.0, stick.1)?;
-        match write_run_in(page, ready.chart(), self.style.words, run.as_slice()) {
-            Ok(()) => Ok(()),
-            Err(_) => Err(AllocError),
+        ready.kept();
+        if let Some(run) = run_in(known.as_slice(), stick.1) {
+            return self.put_line(page, run);
         }
+        let run = ready.stick_run(alloc, stick.0, stick.1)?;
+        self.put_line(page, run.as_slice())?;
+        known.push(KnownRun {
+            second: stick.1,
+            run,
+        })?;
+        Ok(())
     }
 
     /// Puts the run of a first stick behind a page, where so many more are shown, and answers how
@@ -146,11 +191,14 @@ impl<'t, 'a> Teller<'t, 'a> {
         &self,
         alloc: Global,
         page: &mut Page,
+        known: &mut Vec<KnownRun>,
         stick: (Event, Event),
         more: u32,
     ) -> Result<u32, AllocError>
-        requires { IsFirstStick (wiring_of self.now.sticks.now) (ready_in self.now.sticks.now)
-            stick.0 stick.1 }
+        requires stick { IsFirstStick (wiring_of self.now.sticks.now)
+            (ready_in self.now.sticks.now) stick.0 stick.1 }
+        requires known { AreKnown self.now.sticks.now known.old.items }
+        ensures known { OnOk result (AreKnown self.now.sticks.now known.new.items) }
         ensures more { IfOk result (λ after. after ≡ shown_after more None) }
         ensures page { OnOk result ((runs : ℕ → List ℕ)
             → AreStickRuns (wiring_of self.now.sticks.now) (ready_in self.now.sticks.now) runs
@@ -161,7 +209,7 @@ impl<'t, 'a> Teller<'t, 'a> {
         if more == 0 {
             return Ok(0);
         }
-        self.put_run(alloc, page, stick)?;
+        self.put_run(alloc, page, known, stick)?;
         Ok(more - 1)
     }
 
@@ -171,12 +219,15 @@ impl<'t, 'a> Teller<'t, 'a> {
         &self,
         alloc: Global,
         page: &mut Page,
+        known: &mut Vec<KnownRun>,
         stick: (Event, Event),
         more: u32,
     ) -> Result<u32, AllocError>
         requires stick { IsStick (wiring_of self.now.sticks.now) (ready_in self.now.sticks.now)
             stick.0 stick.1 }
         requires ahead { HasAhead self.now.sticks.now self.now.ahead.now }
+        requires known { AreKnown self.now.sticks.now known.old.items }
+        ensures known { OnOk result (AreKnown self.now.sticks.now known.new.items) }
         ensures more { IfOk result
             (λ after. after ≡ shown_after more (ahead_in self.now.ahead.now stick.1)) }
         ensures page { OnOk result ((runs : ℕ → List ℕ)
@@ -190,7 +241,7 @@ impl<'t, 'a> Teller<'t, 'a> {
                 put_behind(page, ahead)?;
                 Ok(more)
             }
-            None => self.put_first(alloc, page, stick, more),
+            None => self.put_first(alloc, page, known, stick, more),
         }
     }
 
@@ -200,12 +251,15 @@ impl<'t, 'a> Teller<'t, 'a> {
         &self,
         alloc: Global,
         page: &mut Page,
+        known: &mut Vec<KnownRun>,
         stick: (Event, Event),
         more: u32,
     ) -> Result<u32, AllocError>
         requires stick { IsStick (wiring_of self.now.sticks.now) (ready_in self.now.sticks.now)
             stick.0 stick.1 }
         requires ahead { HasAhead self.now.sticks.now self.now.ahead.now }
+        requires known { AreKnown self.now.sticks.now known.old.items }
+        ensures known { OnOk result (AreKnown self.now.sticks.now known.new.items) }
         ensures more { IfOk result
             (λ after. after ≡ shown_after more (ahead_in self.now.ahead.now stick.1)) }
         ensures page { OnOk result ((runs : ℕ → List ℕ)
@@ -215,7 +269,7 @@ impl<'t, 'a> Teller<'t, 'a> {
             stick) }
     {
         self.put_bare(page, stick)?;
-        self.put_showing(alloc, page, stick, more)
+        self.put_showing(alloc, page, known, stick, more)
     }
 
     /// Puts these sticks behind a page, where so many more runs are shown, and answers how many more
@@ -225,11 +279,14 @@ impl<'t, 'a> Teller<'t, 'a> {
         alloc: Global,
         writer: &mut W,
         page: &mut Page,
+        known: &mut Vec<KnownRun>,
         sticks: &[(Event, Event)],
         more: u32,
     ) -> Result<u32, WriteFault>
         requires sticks { AreSticksIn self.now.sticks.now sticks.now }
         requires ahead { HasAhead self.now.sticks.now self.now.ahead.now }
+        requires known { AreKnown self.now.sticks.now known.old.items }
+        ensures known { OnOk result (AreKnown self.now.sticks.now known.new.items) }
         ensures more { IfOk result
             (λ after. after ≡ left_behind self.now.ahead.now more sticks.now) }
         ensures put { (runs : ℕ → List ℕ)
@@ -241,13 +298,13 @@ impl<'t, 'a> Teller<'t, 'a> {
         let mut now = more;
         for stick in sticks {
             page.turn(writer)?;
-            now = self.put_stick(alloc, page, *stick, now)?;
+            now = self.put_stick(alloc, page, known, *stick, now)?;
         }
         Ok(now)
     }
 
     /// Puts all sticks behind a page, with runs for so many first ones. One list serves the sticks
-    /// of each event.
+    /// of each event, and one run all that have it.
     fn put_sticks<W: Write>(
         &self,
         alloc: Global,
@@ -266,10 +323,11 @@ impl<'t, 'a> Teller<'t, 'a> {
         each_first_stick_has_one_run();
         self.sticks.ready().kept();
         let mut list = Vec::new(alloc);
+        let mut known = Vec::new(alloc);
         let mut more = show;
         for e in 0..self.sticks.ready().events() {
             self.sticks.next(&mut list, e)?;
-            more = self.put_event(alloc, writer, page, list.as_slice(), more)?;
+            more = self.put_event(alloc, writer, page, &mut known, list.as_slice(), more)?;
         }
         Ok(())
     }

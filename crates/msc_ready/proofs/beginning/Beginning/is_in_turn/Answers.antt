@@ -4,7 +4,8 @@ use Rattle.msc_chart.specs.Lists.{occurs}
 use Rattle.msc_ready.specs.Beginnings.{HasMarks}
 use Rattle.msc_ready.specs.Held.{ReadyChart, wiring_of, ready_in}
 use Rattle.msc_ready.specs.Sticks.{is_lined}
-use Rattle.msc_ready.proofs.Shared.{clash, input_below}
+use Rattle.msc_order.proofs.Drawing.{before_later}
+use Rattle.msc_ready.proofs.Shared.{before_parts, clash, input_below}
 use Rattle.msc_ready.proofs.Holding.{awaited_parts, lined_from, lined_parts}
 use Rattle.msc_ready.proofs.Begun.Marks.{mark_read}
 use Rattle.msc_ready.proofs.beginning.Beginning.is_in_turn.Goals as goal
@@ -30,6 +31,17 @@ returns-then-not-index c =
     let back = ap (λ (z : ℕ). partner d.events z) u ∙ c.kept.ensures.chart.matched.to_and_fro c.args.x c.requires.known in
     (λ h. clash h refl, λ turn. clash (turn c.loop-r.r c.other_end-u.result lined.1 lined.2 lined.3 drawn.0 drawn.1 back) (sym there ∙ c.if-not-index.true))
 
+pub loop-r-init : goal.loop-r-init
+loop-r-init c = λ y below lined.
+    let r = c.args.ready.now in
+    let parts = lined_parts (wiring_of r) (ready_in r) y c.other_end-u.result lined in
+    let drawn = awaited_parts (wiring_of r) (ready_in r) y c.other_end-u.result parts.0 in
+    let on = before_parts r.chart.events y c.other_end-u.result drawn.0 in
+    let here = rw c.chart-chart.ensures at c.instance_of.ensures in
+    let range = rw c.chart-chart.ensures at c.line.ensures.range in
+    let within = (range y on.0).0 (omega (arith, on.2, here)) in
+    absurd (omega (arith, below, within.0))
+
 pub loop-r-preserved : goal.loop-r-preserved
 loop-r-preserved c =
     let r = c.args.ready.now in
@@ -48,12 +60,12 @@ returns c =
     let r = c.args.ready.now in
     let d = r.chart in
     let u = rw c.chart-chart.ensures at c.other_end-u.ensures.value in
-    let all = rw c.chart-chart.ensures at c.events-r-end.ensures.number in (
+    let text = c.kept.ensures.chart.in_text_order in (
       λ h y v iy iv same b set is.
           let v_is : v ≡ c.other_end-u.result = sym (c.kept.ensures.chart.matched.to_and_fro v (input_below d.events v iv)) ∙ ap (λ (z : ℕ). partner d.events z) is ∙ sym u in
           let lined : is_lined (wiring_of r) (ready_in r) y c.other_end-u.result ≡ true =
           subst (λ (z : ℕ). is_lined (wiring_of r) (ready_in r) y z ≡ true) v_is (lined_from (wiring_of r) (ready_in r) y v b set iy iv same) in
-          let below = input_below d.events y iy in
-          c.loop-r.invariant y (omega (arith, below, c.loop-r-test.false, all)) lined,
+          let above : y < v = before_later d.events text y v b in
+          c.loop-r.invariant y (omega (arith, above, v_is, c.loop-r-test.false)) lined,
       λ turn. refl,
     )
