@@ -12,12 +12,16 @@ use Rattle.msc_chart.specs.declared.queue.Queues.{Queues}
 use Rattle.msc_chart.specs.Drawings.{Drawing, IsAccepted}
 use Rattle.msc_chart.specs.Lists.{pairs_of, pairs_to, Occurs}
 use Rattle.msc_race.proofs.Listing.Pairs.{to_parts}
+use Rattle.msc_race.proofs.Runs.RunEvents.{run_events}
 use Rattle.msc_judge.specs.Pages.{Tells, Writes}
 use Rattle.msc_judge.specs.declared.page.WriteFault.{WriteFault}
 use Rattle.msc_judge.specs.declared.page.WriteFault.TheVariants.{Memory, Device}
 use Rattle.msc_ready.specs.Held.{ready_chart, ready_in, wiring_of, HasVisualOrder, ReadyChart}
+use Rattle.msc_ready.specs.Laws.{ReadyRunsKeepReadyLines}
+use Rattle.msc_ready.specs.Running.{IsStickRun}
 use Rattle.msc_ready.specs.Sticks.{is_stick, AreLeft, IsStick}
 use Rattle.msc_ready.specs.Views.{sticks_of, AreSticks, AreSticksFrom}
+use Rattle.msc_reason.specs.Named.{AreEventsOf}
 use Rattle.msc_report.specs.Sticks.{ready_head}
 use Rattle.msc_report.specs.declared.style.Style.{Style}
 use Rattle.msc_text.specs.Readied.{left_behind, AreEvents, AreSticksIn}

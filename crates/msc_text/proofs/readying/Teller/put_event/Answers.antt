@@ -11,6 +11,7 @@ use Rattle.msc_text.proofs.readying.Teller.put_event.Goals as goal
 pub loop-stick-init : goal.loop-stick-init
 loop-stick-init g c = record {
   more = refl;
+  known = c.requires.known;
   put = λ runs are. pages_in _ c.args.page.now.bytes.items c.args.page.now.bytes.items [] (sym (append-nil c.args.page.now.bytes.items));
 }
 
@@ -47,6 +48,7 @@ loop-stick-preserved g c =
     record {
       more = left_next self.ahead.now c.args.more c.loop-stick.now _ (take i sticks) here before c.in_ok-now.ensures.more
           ∙ ap (left_behind self.ahead.now c.args.more) (sym more_taken);
+      known = c.in_ok-now.ensures.known;
       put = λ runs are.
           let told = told_sticks self.style self.sticks.now.chart self.ahead.now runs in
           let now : List ℕ = told_stick self.style self.sticks.now.chart self.ahead.now runs c.loop-stick.now here in

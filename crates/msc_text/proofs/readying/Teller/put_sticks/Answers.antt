@@ -19,6 +19,7 @@ loop-e-init g c =
     let none = below_none (stick_test r) (length r.chart.events) in
     record {
       more = sym (ap (left_behind self.ahead.now c.args.show) none);
+      known = λ runs are. rw c.new-known.ensures.items tt;
       put = λ runs are. pages_in _ page page _
           (sym (ap (λ (pairs : List (ℕ × ℕ)). page ++ told_sticks self.style r.chart self.ahead.now runs c.args.show pairs) none ∙ append-nil page));
     }
@@ -77,6 +78,7 @@ loop-e-preserved g c =
     let its = c.as_slice.ensures.value ∙ c.in_ok-next.ensures.list in
     record {
       more = left_then self.ahead.now c.args.show c.loop-e.more c.in_ok-more.more below (sticks_from r e) next list (below_more (stick_test r) n e) its c.loop-e.invariant.more c.in_ok-more.ensures.more;
+      known = c.in_ok-more.ensures.known;
       put = λ runs are.
           let told = told_sticks self.style r.chart self.ahead.now runs in
           let then = told_then self.style r.chart self.ahead.now runs c.args.show c.loop-e.more below (sticks_from r e) next list (below_more (stick_test r) n e) its c.loop-e.invariant.more in
