@@ -7,9 +7,10 @@ do so.
 Every chart of charts/ and of charts/refused/ is read, and checked, run, drawn, reported and asked
 for sticks under each architecture, where these are not given; of the runs with more than N
 allocations (400 where it is not said) each K-th allocation alone is refused. What a refused run has
-to answer says tools/refuse/refuse.py. With --limit no call is refused, but each command has less and less address space for a chart at the
-limits, down to too little for the program to begin. Prints for each run how many allocations it
-makes or how many limits there are, what does not end well, and last `N passed, M failed`.
+to answer says tools/refuse/refuse.py. With --limit no call is refused, but each command has less and
+less address space for a chart at the limits, down to too little for the program to begin. Prints for
+each run how many allocations it makes or how many limits there are, what does not end well, and last
+`N passed, M failed`.
 """
 import pathlib
 import random
