@@ -13,7 +13,7 @@ returns-then-instance_of-i c =
     record {
       barred = λ h. none_behind (wiring_of r) (ready_in r) c.kept.ensures.chart.in_text_order c.args.self.now.run.items c.args.x c.requires.known c.args.i _ front c.requires.later
           (λ on. c.if-instance_of-i.true (here ∙ on));
-      on_line = λ never. clash never refl;
+      on_line = λ never. clash refl never;
     }
 
 pub returns-clause-barred : goal.returns-clause-barred

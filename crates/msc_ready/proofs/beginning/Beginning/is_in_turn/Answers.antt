@@ -38,7 +38,7 @@ loop-r-init c = λ y below lined.
     let drawn = awaited_parts (wiring_of r) (ready_in r) y c.other_end-u.result parts.0 in
     let on = before_parts r.chart.events y c.other_end-u.result drawn.0 in
     let here = rw c.chart-chart.ensures at c.instance_of.ensures in
-    let range = rw c.chart-chart.ensures at c.line.ensures.range in
+    let range = rw c.chart-chart.ensures at c.line-r.ensures.range in
     let within = (range y on.0).0 (omega (arith, on.2, here)) in
     absurd (omega (arith, below, within.0))
 

@@ -22,7 +22,7 @@ returns-in-Some c =
 pub loop-i-preserved : goal.loop-i-preserved
 loop-i-preserved c = λ y below comes. elim (cases_lt (line c.args.ready.now.chart.events y) c.loop-i.i) [
   | inl before ↦ c.loop-i.invariant y before comes
-  | inr past ↦ c.in-None.ensures y (omega (arith, past, below), comes)
+  | inr past ↦ c.in_default.ensures y (omega (arith, past, below), comes)
 ]
 
 pub returns : goal.returns

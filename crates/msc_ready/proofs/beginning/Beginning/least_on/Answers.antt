@@ -9,14 +9,14 @@ pub loop-x-init : goal.loop-x-init
 loop-x-init c = λ y below comes.
     let d = c.args.ready.now.chart in
     let front = c.requires.held.lines.front c.args.i c.requires.line in
-    let read = front_read d c.args.self.now.run.items c.args.self.now.fronts.items c.args.i c.index.result.now c.requires.held.lines c.requires.line c.index.ensures in
+    let read = front_read d c.args.self.now.run.items c.args.self.now.fronts.items c.args.i c.index-x.result.now c.requires.held.lines c.requires.line c.index-x.ensures in
     let may = comes.1.1.may in
     clash (front.passed y (omega (arith, below, read)) may.event comes.0) may.new
 
 pub is_barred-requires-clause-later : goal.is_barred-requires-clause-later
 is_barred-requires-clause-later c =
     let d = c.args.ready.now.chart in
-    let read = front_read d c.args.self.now.run.items c.args.self.now.fronts.items c.args.i c.index.result.now c.requires.held.lines c.requires.line c.index.ensures in
+    let read = front_read d c.args.self.now.run.items c.args.self.now.fronts.items c.args.i c.index-x.result.now c.requires.held.lines c.requires.line c.index-x.ensures in
     let auto = c.loop-x.auto in
     omega (arith, read, auto)
 

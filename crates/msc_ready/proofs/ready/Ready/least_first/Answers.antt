@@ -9,7 +9,7 @@ loop-g-init c = λ x below s.
     let d = c.args.self.now.chart in
     let parts = before_parts d.events x c.args.h s.drawn in
     let here = rw c.chart-chart.ensures at c.instance_of.ensures in
-    let range = rw c.chart-chart.ensures at c.line.ensures.range in
+    let range = rw c.chart-chart.ensures at c.line-g.ensures.range in
     let within = (range x parts.0).0 (omega (arith, parts.2, here)) in
     absurd (omega (arith, below, within.0))
 
