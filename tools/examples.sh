@@ -82,6 +82,19 @@ done
 compare docs/two_phase_commit.html /dev/null 0 \
   report --queues mailbox charts/two_phase_commit.msc
 
+# Compares a stored output of `msc ready`, by the parts of its name.
+compare_ready() {
+  local words only=() status=1
+  IFS=. read -r -a words <<<"${1#charts/}"
+  if [ "${words[2]}" != "${words[-2]}" ]; then only=(--only "${words[2]}"); fi
+  if grep -q '^finishes$' "$1" && ! grep -q '^race ' "$1"; then status=0; fi
+  compare "$1" /dev/null "$status" ready --queues "${words[-2]}" "${only[@]}" "charts/${words[0]}.msc"
+}
+
+for answer in charts/*.ready.*.txt; do
+  compare_ready "$answer"
+done
+
 for chart in charts/refused/*.msc; do
   name=${chart%.msc}
   sed '/^status /d' "$name.txt" >"$room/fault"

@@ -26,6 +26,7 @@ DRAWN = {
     "draw": (["--queues", "mailbox"], [], "two_senders.mailbox.drawn.txt"),
     "reverse": (["--queues", "pair", "--svg"], ["1", "2"], "two_senders.reverse.1.2.pair.svg"),
     "report": (["--queues", "mailbox"], [], "two_senders.mailbox.report.html"),
+    "ready": (["--queues", "pair"], [], "two_senders.ready.pair.txt"),
 }
 REFUSED = b"msc t;"
 FAULT = Answer(b"", b"device fault\n", 4)

@@ -125,6 +125,13 @@ def numbers_of_races():
     yield many, "pair", 1024 * 1024, 1
 
 
+def numbers_of_sticks():
+    """Charts at the limits, architectures, and what is told of their sticks, and how many there are."""
+    yield of_events(1024), "pair", "finishes", 0
+    # all are overtaken: each two are a stick, and the first message that is waited for comes last
+    yield of_events(1024, step=-1), "pair", f"never finishes {1024 * 1023 // 2}", 1024 * 1023 // 2
+
+
 def are_listed(count, answer, head, races):
     """Counts whether an answer has this head and so many races."""
     is_told = answer.output.startswith(head.encode()) and answer.status == 1
@@ -140,7 +147,7 @@ def stacks(count, program, commands):
     succeeds."""
     for text in (of_events(1024, 1024), drawn(random.Random(1), INSTANCES, MESSAGES)):
         ways = [[program, "read", "-"], *(check_words(program, queues, 3) for queues in QUEUES)]
-        for command in ("run", "draw", "report"):
+        for command in ("run", "draw", "report", "ready"):
             if command in commands:
                 ways += [[program, command, "--queues", queues, "-"] for queues in QUEUES]
         for words in ways:
@@ -177,6 +184,11 @@ def main():
         are_listed(count, run(words, text), head, races)
         answer = run([*words[:-1], "--closest", "-"], text)
         are_listed(count, answer, f"{head}closest {closest}\n", closest)
+    for text, queues, told, sticks in numbers_of_sticks():
+        answer = run([program, "ready", "--queues", queues, "--show", "0", "-"], text)
+        is_told = answer.output.startswith(f"chart t\nqueues {queues}\n{told}\n".encode())
+        is_told = is_told and answer.output.count(b"\nstick ") == sticks
+        count.add(is_told and answer.status == int(bool(sticks)), told, answer.output[:100])
     stacks(count, program, options.commands)
     return count.end()
 

@@ -4,12 +4,13 @@ do so.
 
     memory.py [--most N] [--every K] [--commands C,..] [--limit] PROGRAM [CHART ..]
 
-Every chart of charts/ and of charts/refused/ is read, and checked, run, drawn and reported under
-each architecture, where these are not given; of the runs with more than N allocations (400 where it is not said) each
-K-th allocation alone is refused. What a refused run has to answer says tools/refuse/refuse.py. With
---limit no call is refused, but each command has less and less address space for a chart at the
-limits, down to too little for the program to begin. Prints for each run how many allocations it
-makes or how many limits there are, what does not end well, and last `N passed, M failed`.
+Every chart of charts/ and of charts/refused/ is read, and checked, run, drawn, reported and asked
+for sticks under each architecture, where these are not given; of the runs with more than N
+allocations (400 where it is not said) each K-th allocation alone is refused. What a refused run has
+to answer says tools/refuse/refuse.py. With --limit no call is refused, but each command has less and
+less address space for a chart at the limits, down to too little for the program to begin. Prints for
+each run how many allocations it makes or how many limits there are, what does not end well, and last
+`N passed, M failed`.
 """
 import pathlib
 import random
@@ -52,7 +53,7 @@ def limit_each(program, wanted):
     count = Count()
     for words, has_threads in commands(wanted):
         text = star(INSTANCES) if has_threads else drawn(random.Random(1), INSTANCES, MESSAGES)
-        if words[0] == "check":
+        if words[0] in ("check", "ready"):
             words[-1:] = ["--show", "0", "-"]
         full = run([program, *words], text)
         full = full.status, full.output, full.error

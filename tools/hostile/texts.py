@@ -6,14 +6,14 @@ of every byte; compares what the program answers with what tools/naive/answer.py
 
 The charts are charts/kinds_and_comments.msc and charts/texts_of_actions.msc where none is given.
 Each text, or each K-th, is given to `msc read`, and where it has a draft also to `msc check` under
-each architecture and to `msc draw` under one. Prints what differs, for each chart how many texts had a draft, and last `N
-passed, M failed`.
+each architecture and to `msc draw` and `msc ready` under one. Prints what differs, for each chart how
+many texts had a draft, and last `N passed, M failed`.
 """
 import pathlib
 import sys
 
 from program import QUEUES, TOP, Count, arguments, check_words, run
-from answer import check_answer, draw_answer, read_answer
+from answer import check_answer, draw_answer, read_answer, ready_answer
 
 CHARTS = [TOP / "charts/kinds_and_comments.msc", TOP / "charts/texts_of_actions.msc"]
 # marks and white space, the first and last bytes of what names are made of with their neighbours,
@@ -56,8 +56,9 @@ def main():
                 answer = run(check_words(program, queues), made)
                 count.compare(answer, check_answer(made, queues), queues, made)
             if wanted[2] == 0:
-                answer = run([program, "draw", "--queues", "mailbox", "-"], made)
-                count.compare(answer, draw_answer(made, "mailbox"), "draw", made)
+                for command, answered in (("draw", draw_answer), ("ready", ready_answer)):
+                    answer = run([program, command, "--queues", "mailbox", "-"], made)
+                    count.compare(answer, answered(made, "mailbox"), command, made)
         print(f"{pathlib.Path(chart).name}: {tried} texts, {drafts} of them have a draft")
     return count.end()
 

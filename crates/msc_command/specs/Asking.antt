@@ -1,5 +1,5 @@
 -- What the words behind a command ask for, by what `clap` found of them.
-use Rattle.std.specs.Prelude.{◌≡◌, ◌<◌, ◌⊎◌, ◌^◌, ◌&&◌, ◌||◌, not, ℕ, Bool, true, false, List, [], ◌++◌, Option, Some, None, codes}
+use Rattle.std.specs.Prelude.{◌≡◌, ◌<◌, ◌⊎◌, ◌^◌, ◌&&◌, ◌||◌, not, ℕ, Bool, true, false, List, [], ◌++◌, Option, Some, None, codes, map}
 use Rattle.std.specs.Prelude.{option_and_then, unwrap_or}
 use Rattle.std.specs.List.{list_any}
 use Rattle.std.specs.Option.{option_map_or}
@@ -23,7 +23,8 @@ use Rattle.msc_command.specs.declared.tasks.Drawn.TheVariants as drawn
 use Rattle.msc_command.specs.declared.tasks.Reversing.{Reversing}
 use Rattle.msc_command.specs.declared.tasks.Explaining.{Explaining}
 use Rattle.msc_command.specs.declared.tasks.Look.{Look}
-use Rattle.msc_command.specs.declared.tasks.Ask.TheVariants.{Check, Quiet, Explain, Run, List as Listing}
+use Rattle.msc_command.specs.declared.tasks.Readying.{Readying}
+use Rattle.msc_command.specs.declared.tasks.Ask.TheVariants.{Check, Quiet, Explain, Run, List as Listing, Ready}
 use Rattle.msc_command.specs.declared.tasks.Form.{Form}
 use Rattle.msc_command.specs.declared.tasks.Form.TheVariants as forms
 use Rattle.msc_command.specs.declared.tasks.Task.{Task}
@@ -143,6 +144,13 @@ pub record IsExplaining (found : Found) (x : Explaining) : Type 0 where
   pub short : IsFlag found (word_name words.Short) x.short
   pub look : IsLook found x.look
 
+-- what the words of `ready` ask of ready instances under an architecture
+pub record IsReadying (found : Found) (x : Readying) : Type 0 where
+  pub architecture_is : architecture found ≡ Some x.queues
+  pub only : map (λ word. word.now) x.only.now ≡ words_of found (word_name words.Only)
+  pub show : IsOptionNumber found (word_name words.ShowSticks) unlimited x.show
+  pub look : IsLook found x.look
+
 -- the file that a word names: the input, where none does
 abbrev pub file_of_word : Option (List ℕ) → List ℕ
 file_of_word None = codes "-"
@@ -179,6 +187,7 @@ AsksFor verbs.List found (Chart (Listing placed)) = IsFlag found (word_name word
 AsksFor verbs.Draw found (Draw (drawn.Chart queues form)) = (queues ≡ architecture found) × IsDrawnForm found form
 AsksFor verbs.Reverse found (Draw (drawn.Run r)) = IsReversing found r
 AsksFor verbs.Report found (Draw (drawn.Report queues)) = architecture found ≡ Some queues
+AsksFor verbs.Ready found (Chart (Ready x)) = IsReadying found x
 AsksFor verb found task = ⊥
 
 -- the words lack the architecture, or one of two events

@@ -2,7 +2,7 @@
 use Rattle.std.specs.Prelude.{ℕ, Bool, true, false, List}
 use Rattle.msc_report.specs.declared.fault.Fault.{Fault}
 use Rattle.msc_report.specs.declared.fault.Fault.TheVariants.{Parse, Chart, NotStarted, Memory, Device}
-use Rattle.msc_report.specs.Texts.{fault_line, mark_fault_line, pair_fault_line}
+use Rattle.msc_report.specs.Texts.{fault_line, instance_fault_line, mark_fault_line, pair_fault_line}
 use Rattle.msc_mark.specs.declared.fault.MarkFault.{MarkFault}
 use Rattle.msc_mark.specs.declared.fault.MarkFault.TheVariants as marks
 use Rattle.msc_command.specs.declared.ending.Status.{Status}
@@ -41,6 +41,7 @@ abbrev pub ends_as : Refusal → Status
 ends_as (refusals.Fault f) = status_of f
 ends_as (refusals.Pair f) = Refused
 ends_as (refusals.Mark f) = Refused
+ends_as (refusals.Instance name) = Refused
 
 -- how a text ends whose marks can't be read
 abbrev pub of_marks : MarkFault → Refusal
@@ -53,3 +54,4 @@ abbrev pub refusal_line : Refusal → List ℕ
 refusal_line (refusals.Fault f) = fault_line f
 refusal_line (refusals.Pair f) = pair_fault_line f
 refusal_line (refusals.Mark f) = mark_fault_line f
+refusal_line (refusals.Instance name) = instance_fault_line name.now

@@ -82,6 +82,14 @@ needed_rule name parser = record (choice_rule name parser) { required = true }
 abbrev pub choices_rule : Text → ValueParser → Rule
 choices_rule name parser = record (choice_rule name parser) { action = Some Append }
 
+-- an option with a name that may stand often
+abbrev pub names_rule : Text → Rule
+names_rule name = record (new_rule name) {
+  long = Some name;
+  value_names = 1;
+  action = Some Append;
+}
+
 -- the parsers of the words of which options take one
 pub record Parsers : Type 0 where
   pub architectures : ValueParser
@@ -107,6 +115,7 @@ rule_by p name takes.Architecture = needed_rule name p.architectures
 rule_by p name takes.ArchitectureIfAny = choice_rule name p.architectures
 rule_by p name takes.Kinds = choices_rule name p.kinds
 rule_by p name takes.Form = choice_rule name p.forms
+rule_by p name takes.Names = names_rule name
 
 -- how a word behind a command is read
 abbrev pub rule_of_word : Parsers → Word → Rule

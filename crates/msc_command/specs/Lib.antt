@@ -4,6 +4,7 @@ pub mod Grammar
 pub mod Asking
 pub mod Sited
 pub mod Naming
+pub mod Readied
 pub mod Formats
 pub mod Marked
 pub mod Drawing

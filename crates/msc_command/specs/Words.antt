@@ -6,9 +6,9 @@ use Rattle.msc_command.specs.declared.tasks.Form.TheVariants as forms
 use Rattle.msc_command.specs.declared.words.Takes.{Takes}
 use Rattle.msc_command.specs.declared.words.Takes.TheVariants as takes
 use Rattle.msc_command.specs.declared.words.Verb.{Verb}
-use Rattle.msc_command.specs.declared.words.Verb.TheVariants.{Read, Check, Explain, Run, List as Listing, Draw, Reverse, Report}
+use Rattle.msc_command.specs.declared.words.Verb.TheVariants.{Read, Check, Explain, Run, List as Listing, Draw, Reverse, Report, Ready}
 use Rattle.msc_command.specs.declared.words.Word.{Word}
-use Rattle.msc_command.specs.declared.words.Word.TheVariants.{File, Queues, QueuesIfAny, Closest, Why, Most, Show, Allow, Format, Quiet, Words, Short, Accept, Patience, Places, Plain, Svg, FirstEvent, SecondEvent}
+use Rattle.msc_command.specs.declared.words.Word.TheVariants.{File, Queues, QueuesIfAny, Closest, Why, Most, Show, ShowSticks, Only, Allow, Format, Quiet, Words, Short, Accept, Patience, Places, Plain, Svg, FirstEvent, SecondEvent}
 
 -- the name of a word behind a command
 abbrev pub word_name : Word → List ℕ
@@ -19,6 +19,8 @@ word_name Closest = codes "closest"
 word_name Why = codes "why"
 word_name Most = codes "most"
 word_name Show = codes "show"
+word_name ShowSticks = codes "show"
+word_name Only = codes "only"
 word_name Allow = codes "allow"
 word_name Format = codes "format"
 word_name Quiet = codes "quiet"
@@ -41,6 +43,8 @@ takes_of Closest = takes.Nothing
 takes_of Why = takes.Nothing
 takes_of Most = takes.Number
 takes_of Show = takes.Number
+takes_of ShowSticks = takes.Number
+takes_of Only = takes.Names
 takes_of Allow = takes.Kinds
 takes_of Format = takes.Form
 takes_of Quiet = takes.NothingOrQ
@@ -64,10 +68,11 @@ verb_name Listing = codes "list"
 verb_name Draw = codes "draw"
 verb_name Reverse = codes "reverse"
 verb_name Report = codes "report"
+verb_name Ready = codes "ready"
 
 -- all commands
 abbrev pub verbs : List Verb
-verbs = Read ∷ Check ∷ Explain ∷ Run ∷ Listing ∷ Draw ∷ Reverse ∷ Report ∷ []
+verbs = Read ∷ Check ∷ Explain ∷ Run ∷ Listing ∷ Draw ∷ Reverse ∷ Report ∷ Ready ∷ []
 
 -- the command of a name
 unfoldable pub verb_of_word : List ℕ → Option Verb
@@ -84,6 +89,7 @@ words_of Listing = Places ∷ Plain ∷ File ∷ []
 words_of Draw = QueuesIfAny ∷ Svg ∷ Places ∷ Plain ∷ File ∷ []
 words_of Reverse = Queues ∷ Svg ∷ Places ∷ Plain ∷ File ∷ FirstEvent ∷ SecondEvent ∷ []
 words_of Report = Queues ∷ Places ∷ Plain ∷ File ∷ []
+words_of Ready = Queues ∷ Only ∷ ShowSticks ∷ Words ∷ Places ∷ Plain ∷ File ∷ []
 
 -- the word for the form of an answer
 abbrev pub form_word : Form → List ℕ

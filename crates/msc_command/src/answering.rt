@@ -19,10 +19,11 @@ use crate::ending::{Refusal, Status, end_refused, end_unread, ended_by, finished
 use crate::marked::marks_of;
 use crate::naming::pair_named;
 use crate::notes::{write_cause, write_notes};
+use crate::readied::{first_unknown, lent, lines_named};
 use crate::recorded::TellsFailure;
 use crate::refused::refusal_lines;
 use crate::sited::{sites_of, style_of};
-use crate::tasks::{Ask, Checking, Drawn, Explaining, Form, Request, Task, form_of};
+use crate::tasks::{Ask, Checking, Drawn, Explaining, Form, Readying, Request, Task, form_of};
 use msc_chart::Queues;
 use msc_instance::AlwaysOpen;
 use msc_judge::Page;
@@ -33,7 +34,9 @@ use msc_place::writing::write_file;
 use msc_reason::KindSet;
 use msc_report::Fault;
 use msc_source::{Language, ReadFault, Reading, Source, read_all};
-use msc_text::{Format, explain_pair, judge_chart, list_chart, passes_chart, write_reading};
+use msc_text::{
+    Format, explain_pair, judge_chart, list_chart, passes_chart, write_reading, write_ready,
+};
 use msc_tool::print_execution;
 use std::alloc::Global;
 use std::io;
@@ -42,7 +45,7 @@ use std::sync::Wait;
 use std::thread::Threads;
 
 /// Lets a page go out, and tells how the run ends then.
-fn put<O: Write>(output: &mut O, page: &Page, status: Status) -> Result<Status, Refusal>
+fn put<O: Write>(output: &mut O, page: &Page, status: Status) -> Result<Status, Refusal<'static>>
     ensures { IsPut O.contents page.now.bytes.items status result output.old output.new }
 {
     match output.write_all(page.bytes.as_slice()) {
@@ -52,7 +55,7 @@ fn put<O: Write>(output: &mut O, page: &Page, status: Status) -> Result<Status, 
 }
 
 /// Lets all that was written go out.
-fn flush<O: Write>(output: &mut O) -> Result<(), Refusal>
+fn flush<O: Write>(output: &mut O) -> Result<(), Refusal<'static>>
     ensures kept { OnOk result (Keeps (O.contents output.old) (O.contents output.new)) }
     ensures failed { IfErr result (λ refusal. refusal ≡ Refusal.Fault Fault.Device) }
 {
@@ -70,7 +73,7 @@ fn check_in<O: Write>(
     format: Format<'_>,
     source: &Source,
     output: &mut O,
-) -> Result<Status, Refusal>
+) -> Result<Status, Refusal<'static>>
     requires { AreMarked checking.accept source.now.text (option_map (λ m. m.now) marks) }
     ensures { (file : List ℕ) → IsFormat checking file source.now.text format.entry
         → AnswersOf O.contents (Ask.Check checking) file source.now result output.old output.new }
@@ -95,7 +98,7 @@ fn check<O: Write>(
     file: &str,
     source: &Source,
     output: &mut O,
-) -> Result<Status, Refusal>
+) -> Result<Status, Refusal<'static>>
     ensures { AnswersOf O.contents (Ask.Check checking) file.now source.now result
         output.old output.new }
 {
@@ -133,7 +136,7 @@ fn quiet(
     allowed: KindSet,
     accept: bool,
     source: &Source,
-) -> Result<Status, Refusal>
+) -> Result<Status, Refusal<'static>>
     ensures { TellsQuietly queues allowed accept source.now result }
 {
     let marks = marks_of(alloc, accept, source.text())?;
@@ -149,7 +152,7 @@ fn explain<O: Write>(
     file: &str,
     source: &Source,
     output: &mut O,
-) -> Result<Status, Refusal>
+) -> Result<Status, Refusal<'static>>
     ensures { AnswersOf O.contents (Ask.Explain explaining) file.now source.now result
         output.old output.new }
 {
@@ -172,7 +175,7 @@ fn list<O: Write>(
     file: &str,
     source: &Source,
     output: &mut O,
-) -> Result<Status, Refusal>
+) -> Result<Status, Refusal<'static>>
     ensures { AnswersOf O.contents (Ask.List placed) file.now source.now result
         output.old output.new }
 {
@@ -181,16 +184,41 @@ fn list<O: Write>(
     put(output, &page, Status::Done)
 }
 
-/// Writes what is asked of the chart of a text, of the file of this name.
-fn answer_chart<R: Threads + Wait + Sync, O: Write>(
-    rt: &R,
+/// Writes whether a system of ready instances can stick, of the chart of a text, of the file of
+/// this name.
+fn ready<'w, O: Write>(
     alloc: Global,
-    ask: Ask,
+    readying: Readying<'w>,
     file: &str,
     source: &Source,
     output: &mut O,
-) -> Result<Status, Refusal>
-    ensures { AnswersOf O.contents ask file.now source.now result output.old output.new }
+) -> Result<Status, Refusal<'w>>
+    ensures { AnswersOf O.contents (Ask.Ready readying.entry) file.now source.now result
+        output.old output.new }
+{
+    let chart = source.chart();
+    if let Some(name) = first_unknown(chart, readying.only) {
+        return Err(Refusal::Instance(name));
+    }
+    let lines = lines_named(alloc, chart, readying.only)?;
+    let only = lent(&lines);
+    let sites = sites_of(alloc, readying.look.places, file, source.text())?;
+    let style = style_of(readying.look, sites.as_ref());
+    let (queues, show) = (readying.queues, readying.show);
+    let finishes = write_ready(alloc, chart, queues, only, show, style, output)?;
+    Ok(ended_by(finishes))
+}
+
+/// Writes what is asked of the chart of a text, of the file of this name.
+fn answer_chart<'w, R: Threads + Wait + Sync, O: Write>(
+    rt: &R,
+    alloc: Global,
+    ask: Ask<'w>,
+    file: &str,
+    source: &Source,
+    output: &mut O,
+) -> Result<Status, Refusal<'w>>
+    ensures { AnswersOf O.contents ask.entry file.now source.now result output.old output.new }
 {
     let chart = source.chart();
     match ask {
@@ -209,6 +237,7 @@ fn answer_chart<R: Threads + Wait + Sync, O: Write>(
             put(output, &page, finished_by(finished))
         }
         Ask::List(placed) => list(alloc, placed, file, source, output),
+        Ask::Ready(readying) => ready(alloc, readying, file, source, output),
     }
 }
 
@@ -219,7 +248,7 @@ fn draw<O: Write>(
     draft: &Draft,
     source: &Source,
     output: &mut O,
-) -> Result<Status, Refusal>
+) -> Result<Status, Refusal<'static>>
     requires { source.now.chart ≡ chart_of draft.now }
     ensures { Answers O.contents (PrintsPage drawn draft.now source.now)
         (RefusesDrawn drawn source.now) result output.old output.new }
@@ -229,15 +258,15 @@ fn draw<O: Write>(
 }
 
 /// Writes the answer of a task to the text of a file of this name.
-fn answer<R: Threads + Wait + Sync, O: Write>(
+fn answer<'w, R: Threads + Wait + Sync, O: Write>(
     rt: &R,
     alloc: Global,
-    task: Task,
+    task: Task<'w>,
     file: &str,
     text: &[u8],
     output: &mut O,
-) -> Result<Status, Refusal>
-    ensures { Does O.contents task file.now text.now result output.old output.new }
+) -> Result<Status, Refusal<'w>>
+    ensures { Does O.contents task.entry file.now text.now result output.old output.new }
 {
     match task {
         Task::Read => {
@@ -262,10 +291,10 @@ fn tell_lines<O: Write>(
     alloc: Global,
     file: &str,
     text: &[u8],
-    refusal: Refusal,
+    refusal: Refusal<'_>,
     output: &mut O,
-) -> Result<(), Refusal>
-    ensures { IsToldIn O.contents Form.Lines file.now text.now refusal result
+) -> Result<(), Refusal<'static>>
+    ensures { IsToldIn O.contents Form.Lines file.now text.now refusal.entry result
         output.old output.new }
 {
     let page = refusal_lines(alloc, file, text, refusal)?;
@@ -279,10 +308,11 @@ fn tell_in<O: Write>(
     form: Form,
     file: &str,
     text: &[u8],
-    refusal: Refusal,
+    refusal: Refusal<'_>,
     output: &mut O,
-) -> Result<(), Refusal>
-    ensures { IsToldIn O.contents form file.now text.now refusal result output.old output.new }
+) -> Result<(), Refusal<'static>>
+    ensures { IsToldIn O.contents form file.now text.now refusal.entry result
+        output.old output.new }
 {
     match form {
         Form::Lines => tell_lines(alloc, file, text, refusal, output),
@@ -292,15 +322,16 @@ fn tell_in<O: Write>(
 
 /// Tells a refusal on the output, where its form has it there; answers it, or what went wrong with
 /// that.
-fn tell_refusal<O: Write>(
+fn tell_refusal<'w, O: Write>(
     alloc: Global,
     form: Form,
     file: &str,
     text: &[u8],
-    refusal: Refusal,
+    refusal: Refusal<'w>,
     output: &mut O,
-) -> Refusal
-    ensures { TellsThat O.contents form file.now text.now refusal result output.old output.new }
+) -> Refusal<'w>
+    ensures { TellsThat O.contents form file.now text.now refusal.entry result
+        output.old output.new }
 {
     if is_spent(refusal) {
         return refusal;
@@ -313,15 +344,15 @@ fn tell_refusal<O: Write>(
 
 /// Lets the answer of a task go out, to the text of a file of this name, or tells why it is refused,
 /// before it is told how the run ends.
-fn deliver<R: Threads + Wait + Sync, O: Write>(
+fn deliver<'w, R: Threads + Wait + Sync, O: Write>(
     rt: &R,
     alloc: Global,
-    task: Task,
+    task: Task<'w>,
     file: &str,
     text: &[u8],
     output: &mut O,
-) -> Result<Status, Refusal>
-    ensures { Delivers O.contents task file.now text.now result output.old output.new }
+) -> Result<Status, Refusal<'w>>
+    ensures { Delivers O.contents task.entry file.now text.now result output.old output.new }
 {
     match answer(rt, alloc, task, file, text, output) {
         Ok(status) => {
@@ -336,7 +367,7 @@ fn deliver<R: Threads + Wait + Sync, O: Write>(
 }
 
 /// Writes why the output failed, where that is what went wrong.
-fn tell_failure<O: TellsFailure, E: Write>(faults: &mut E, refusal: Refusal, output: &O) {
+fn tell_failure<O: TellsFailure, E: Write>(faults: &mut E, refusal: Refusal<'_>, output: &O) {
     if let Refusal::Fault(Fault::Device) = refusal
         && let Some(error) = output.failure()
     {
@@ -350,11 +381,11 @@ fn end_told<O: TellsFailure, E: Write>(
     alloc: Global,
     request: Request<'_>,
     text: &[u8],
-    refusal: Refusal,
+    refusal: Refusal<'_>,
     output: &O,
     faults: &mut E,
 ) -> Status
-    ensures { result ≡ ends_as refusal }
+    ensures { result ≡ ends_as refusal.entry }
 {
     let status = end_refused(faults, refusal).0;
     if request.notes {

@@ -5,8 +5,9 @@ ghost use Rattle.std.specs.String.{string_bytes};
 ghost use Rattle.msc_command.specs.Grammar.{architecture_words, bare_command, begun_by, choice_rule};
 ghost use Rattle.msc_command.specs.Grammar.{choices_rule, command_of, file_rule};
 ghost use Rattle.msc_command.specs.Grammar.{flag_rule, form_words, kind_words, letter_rule};
-ghost use Rattle.msc_command.specs.Grammar.{needed_rule, number_rule, parsers_of, rule_of_word};
-ghost use Rattle.msc_command.specs.Grammar.{verbs_for, with_commands, IsArgument, IsCommand};
+ghost use Rattle.msc_command.specs.Grammar.{names_rule, needed_rule, number_rule, parsers_of};
+ghost use Rattle.msc_command.specs.Grammar.{rule_of_word, verbs_for, with_commands, IsArgument};
+ghost use Rattle.msc_command.specs.Grammar.{IsCommand};
 ghost use Rattle.clap.specs.Words.{App, Rule, new_app, with_rule, with_subcommand};
 ghost use Rattle.clap.specs.declared.builder.value_parser.ValueParser.TheVariants.{Names};
 
@@ -153,9 +154,10 @@ pub(crate) const VERSION: &str = "0.2.0";
 const NOTES: &str = "\
 Exit status:
   0  the answer was written; `check` found no races that count, `explain` that E is enforced
-     before F, `run` that all instances finish
-  1  `check` found races that count, or `explain` that E is not enforced before F
-  2  the text or the pair was refused, or the words are no command
+     before F, `run` that all instances finish, `ready` that the system does
+  1  `check` found races that count, `explain` that E is not enforced before F, or `ready` a
+     system that may stick, or races that are left
+  2  the text, the pair or a name was refused, or the words are no command
   3  some instance of `run` has not finished
   4  memory ran out, a thread could not be started, or a file or the output failed
 
@@ -253,6 +255,17 @@ fn any_of<'a>(
         .action(ArgAction::Append)
 }
 
+/// An option with a name, which may stand often.
+fn names<'a>(alloc: Global, name: &'static str, help: &'static str) -> Arg<'a>
+    ensures { IsArgument (names_rule name.now) result }
+{
+    Arg::new(alloc, name)
+        .long(name)
+        .value_name("NAME")
+        .help(help)
+        .action(ArgAction::Append)
+}
+
 /// A word behind a command.
 fn argument<'a>(alloc: Global, word: Word, lent: Choices<'a>) -> Arg<'a>
     ensures { IsArgument (rule_of_word (parsers_of lent.entry) word) result }
@@ -267,6 +280,7 @@ fn argument<'a>(alloc: Global, word: Word, lent: Choices<'a>) -> Arg<'a>
         Takes::ArchitectureIfAny => one_of(alloc, name, help, lent.architectures),
         Takes::Kinds => any_of(alloc, name, help, lent.kinds),
         Takes::Form => one_of(alloc, name, help, lent.forms),
+        Takes::Names => names(alloc, name, help),
     }
 }
 

@@ -13,6 +13,7 @@ mod misuse;
 mod naming;
 mod notes;
 mod program;
+mod readied;
 mod recorded;
 mod refused;
 mod sited;

@@ -6,7 +6,7 @@ ghost use Rattle.msc_command.specs.Asking.{architecture, file_of, form, names_ki
 ghost use Rattle.msc_command.specs.Asking.{AsksFor, IsDrawnForm, IsEventWord, IsFlag, IsLook, IsNoCommand, LacksWords};
 ghost use Rattle.msc_command.specs.Asking.{tells_notes, IsTwofold, WantsNotes};
 ghost use Rattle.msc_command.specs.Asking.{IsNameText, IsNoName, IsNoNumber, IsNumberText};
-ghost use Rattle.msc_command.specs.Asking.{IsOptionNumber, IsQuestion, LacksEvent};
+ghost use Rattle.msc_command.specs.Asking.{words_of, IsOptionNumber, IsQuestion, LacksEvent};
 ghost use Rattle.msc_command.specs.Refused.{form_of};
 ghost use Rattle.msc_command.specs.Words.{form_of_word, form_word, word_name};
 
@@ -87,9 +87,20 @@ pub(crate) struct Explaining {
     pub look: Look,
 }
 
+/// What is asked of ready instances under an architecture, and how it is answered.
+#[derive(Clone, Copy)]
+pub(crate) struct Readying<'w> {
+    pub queues: Queues,
+    /// The names of the instances that are ready; without one all are.
+    pub only: &'w [&'w str],
+    /// For how many first sticks a run is shown.
+    pub show: u32,
+    pub look: Look,
+}
+
 /// What is asked of a chart.
 #[derive(Clone, Copy)]
-pub(crate) enum Ask {
+pub(crate) enum Ask<'w> {
     /// What its races are.
     Check(Checking),
     /// Whether no race counts under an architecture, of none of these kinds, and where that is
@@ -101,6 +112,8 @@ pub(crate) enum Ask {
     Run(Queues, u32),
     /// Its events, and whether it is told where they stand.
     List(bool),
+    /// Whether a system of ready instances can stick.
+    Ready(Readying<'w>),
 }
 
 /// A race under an architecture of which a run is drawn, and how.
@@ -125,18 +138,18 @@ pub(crate) enum Drawn {
 
 /// What is asked of a text.
 #[derive(Clone, Copy)]
-pub(crate) enum Task {
+pub(crate) enum Task<'w> {
     /// The canonical text.
     Read,
     /// What is asked of its chart.
-    Chart(Ask),
+    Chart(Ask<'w>),
     /// What is drawn of its chart.
     Draw(Drawn),
 }
 
 /// The form of a task's answer.
-pub(crate) fn form_of(task: Task) -> Form
-    ensures { result ≡ form_of task }
+pub(crate) fn form_of(task: Task<'_>) -> Form
+    ensures { result ≡ form_of task.entry }
 {
     match task {
         Task::Chart(Ask::Check(checking)) => checking.form,
@@ -147,7 +160,7 @@ pub(crate) fn form_of(task: Task) -> Form
 /// What a run of the program has to do: a task, to the text of the file of this name.
 #[derive(Clone, Copy)]
 pub(crate) struct Request<'w> {
-    pub task: Task,
+    pub task: Task<'w>,
     pub file: &'w str,
     /// Whether it is told what is said of a refusal behind its line.
     pub notes: bool,
@@ -300,7 +313,7 @@ fn queues_of(words: &ArgMatches) -> Option<Queues>
 }
 
 /// What the words of `msc check` ask for. What is to be quiet is told by the status alone.
-fn check_of(queues: Queues, words: &ArgMatches) -> Task
+fn check_of(queues: Queues, words: &ArgMatches) -> Task<'static>
     ensures { architecture (found_of words.now) ≡ Some queues
         → AsksFor Verb.Check (found_of words.now) result }
 {
@@ -318,7 +331,7 @@ fn check_of(queues: Queues, words: &ArgMatches) -> Task
 }
 
 /// What the words of `msc run` ask for.
-fn run_of(queues: Queues, words: &ArgMatches) -> Task
+fn run_of(queues: Queues, words: &ArgMatches) -> Task<'static>
     ensures { architecture (found_of words.now) ≡ Some queues
         → AsksFor Verb.Run (found_of words.now) result }
 {
@@ -327,7 +340,7 @@ fn run_of(queues: Queues, words: &ArgMatches) -> Task
 }
 
 /// What the words of `msc explain` ask for, if they name two events.
-fn explain_of(queues: Queues, words: &ArgMatches) -> Option<Task>
+fn explain_of(queues: Queues, words: &ArgMatches) -> Option<Task<'static>>
     ensures { architecture (found_of words.now) ≡ Some queues
         → MatchOption result (LacksWords Verb.Explain (found_of words.now))
         (AsksFor Verb.Explain (found_of words.now)) }
@@ -342,7 +355,7 @@ fn explain_of(queues: Queues, words: &ArgMatches) -> Option<Task>
 }
 
 /// What the words of `msc list` ask for.
-fn list_of(words: &ArgMatches) -> Task
+fn list_of(words: &ArgMatches) -> Task<'static>
     ensures { AsksFor Verb.List (found_of words.now) result }
 {
     Task::Chart(Ask::List(is_given(words, Word::Places)))
@@ -360,14 +373,14 @@ fn drawn_form(words: &ArgMatches) -> msc_draw::Form
 }
 
 /// What the words of `msc draw` ask for.
-fn draw_of(words: &ArgMatches) -> Task
+fn draw_of(words: &ArgMatches) -> Task<'static>
     ensures { AsksFor Verb.Draw (found_of words.now) result }
 {
     Task::Draw(Drawn::Chart(queues_of(words), drawn_form(words)))
 }
 
 /// What the words of `msc reverse` ask for, if they name two events.
-fn reverse_of(queues: Queues, words: &ArgMatches) -> Option<Task>
+fn reverse_of(queues: Queues, words: &ArgMatches) -> Option<Task<'static>>
     ensures { architecture (found_of words.now) ≡ Some queues
         → MatchOption result (LacksWords Verb.Reverse (found_of words.now))
         (AsksFor Verb.Reverse (found_of words.now)) }
@@ -380,10 +393,31 @@ fn reverse_of(queues: Queues, words: &ArgMatches) -> Option<Task>
     })))
 }
 
+/// The names that the words have for the instances that are ready.
+fn names_of<'w>(words: &'w ArgMatches) -> &'w [&'w str]
+    ensures { map (λ word. word.now) result.now
+        ≡ words_of (found_of words.entry.now) (word_name Word.Only) }
+{
+    words.get_strs(Word::Only.name()).unwrap_or(&[])
+}
+
+/// What the words of `msc ready` ask for.
+fn ready_of<'w>(queues: Queues, words: &'w ArgMatches) -> Task<'w>
+    ensures { architecture (found_of words.entry.now) ≡ Some queues
+        → AsksFor Verb.Ready (found_of words.entry.now) result }
+{
+    Task::Chart(Ask::Ready(Readying {
+        queues,
+        only: names_of(words),
+        show: number_of(words, Word::ShowSticks, u32::MAX),
+        look: look_of(words),
+    }))
+}
+
 /// What the words behind a command ask for, if they are all there.
-fn complete_task(verb: Verb, words: &ArgMatches) -> Option<Task>
-    ensures { MatchOption result (LacksWords verb (found_of words.now))
-        (AsksFor verb (found_of words.now)) }
+fn complete_task<'w>(verb: Verb, words: &'w ArgMatches) -> Option<Task<'w>>
+    ensures { MatchOption result (LacksWords verb (found_of words.entry.now))
+        (AsksFor verb (found_of words.entry.now)) }
 {
     match verb {
         Verb::Read => Some(Task::Read),
@@ -394,13 +428,14 @@ fn complete_task(verb: Verb, words: &ArgMatches) -> Option<Task>
         Verb::Draw => Some(draw_of(words)),
         Verb::Reverse => reverse_of(queues_of(words)?, words),
         Verb::Report => Some(Task::Draw(Drawn::Report(queues_of(words)?))),
+        Verb::Ready => Some(ready_of(queues_of(words)?, words)),
     }
 }
 
 /// What the words behind a command ask for, if they are all there and none excludes another.
-pub(crate) fn task_of(verb: Verb, words: &ArgMatches) -> Option<Task>
-    ensures { MatchOption result (IsNoCommand verb (found_of words.now))
-        (AsksFor verb (found_of words.now)) }
+pub(crate) fn task_of<'w>(verb: Verb, words: &'w ArgMatches) -> Option<Task<'w>>
+    ensures { MatchOption result (IsNoCommand verb (found_of words.entry.now))
+        (AsksFor verb (found_of words.entry.now)) }
 {
     if is_twofold(words) {
         return None;

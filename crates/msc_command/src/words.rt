@@ -15,6 +15,7 @@ pub(crate) enum Verb {
     Draw,
     Reverse,
     Report,
+    Ready,
 }
 
 /// A word behind a command: an argument, or an option with what it takes.
@@ -27,6 +28,8 @@ pub(crate) enum Word {
     Why,
     Most,
     Show,
+    ShowSticks,
+    Only,
     Allow,
     Format,
     Quiet,
@@ -62,6 +65,8 @@ pub(crate) enum Takes {
     Kinds,
     /// An option with the form of an answer.
     Form,
+    /// An option with a name, which may stand often.
+    Names,
 }
 
 impl Word {
@@ -75,7 +80,8 @@ impl Word {
             Word::Closest => "closest",
             Word::Why => "why",
             Word::Most => "most",
-            Word::Show => "show",
+            Word::Show | Word::ShowSticks => "show",
+            Word::Only => "only",
             Word::Allow => "allow",
             Word::Format => "format",
             Word::Quiet => "quiet",
@@ -101,7 +107,8 @@ impl Word {
             Word::Closest | Word::Why | Word::Words | Word::Short => Takes::Nothing,
             Word::Accept | Word::Places | Word::Plain | Word::Svg => Takes::Nothing,
             Word::Quiet => Takes::NothingOrQ,
-            Word::Most | Word::Show | Word::Patience => Takes::Number,
+            Word::Most | Word::Show | Word::ShowSticks | Word::Patience => Takes::Number,
+            Word::Only => Takes::Names,
             Word::Queues => Takes::Architecture,
             Word::QueuesIfAny => Takes::ArchitectureIfAny,
             Word::Allow => Takes::Kinds,
@@ -125,6 +132,12 @@ impl Word {
             }
             Word::Most => "List the first N races alone",
             Word::Show => "Print a run for each of the first N races; without it, for all",
+            Word::ShowSticks => {
+                "Print a run for each of the first N sticks that are first; without it, for all"
+            }
+            Word::Only => {
+                "Let this instance be ready, and no other one that is not named; may be repeated"
+            }
             Word::Allow => {
                 "Leave out the races of this kind, in the list and in the status; may be repeated"
             }
@@ -151,7 +164,7 @@ impl Word {
 
 impl Verb {
     /// Each command once, in the order of the help.
-    pub const ALL: [Verb; 8] = [
+    pub const ALL: [Verb; 9] = [
         Verb::Read,
         Verb::Check,
         Verb::Explain,
@@ -160,6 +173,7 @@ impl Verb {
         Verb::Draw,
         Verb::Reverse,
         Verb::Report,
+        Verb::Ready,
     ];
 
     /// Its name.
@@ -175,6 +189,7 @@ impl Verb {
             Verb::Draw => "draw",
             Verb::Reverse => "reverse",
             Verb::Report => "report",
+            Verb::Ready => "ready",
         }
     }
 
@@ -247,6 +262,15 @@ impl Verb {
                 Word::SecondEvent,
             ],
             Verb::Report => &[Word::Queues, Word::Places, Word::Plain, Word::File],
+            Verb::Ready => &[
+                Word::Queues,
+                Word::Only,
+                Word::ShowSticks,
+                Word::Words,
+                Word::Places,
+                Word::Plain,
+                Word::File,
+            ],
         }
     }
 
@@ -266,6 +290,9 @@ impl Verb {
             Verb::Reverse => "Print a picture of a run that reverses a race",
             Verb::Report =>
                 "Print a page in HTML: the chart, its closest races, and runs that show them",
+            Verb::Ready => {
+                "Print whether instances that wait for one message can stick, and how"
+            }
         }
     }
 
@@ -280,6 +307,7 @@ impl Verb {
             Verb::Draw => DRAW_NOTES,
             Verb::Reverse => REVERSE_NOTES,
             Verb::Report => REPORT_NOTES,
+            Verb::Ready => READY_NOTES,
         }
     }
 }
@@ -387,3 +415,24 @@ Exit status:
 
 Example:
   msc report --queues mailbox relay.msc >relay.html";
+
+/// What stands below the help of `msc ready`.
+const READY_NOTES: &str = "\
+An instance is ready where it takes an input only when all that is drawn before has happened, and
+leaves the others in their queues. Without --only all instances are ready.
+
+  finishes        such a system never sticks
+  may stick N     some run sticks, and some run is whole; N is the number of sticks
+  never finishes  no run is whole
+
+A stick is a pair of inputs of one queue, of which the second may come to stand first.
+
+Exit status:
+  0  the system finishes, and with --only no race is left
+  1  it may stick, or never finishes, or with --only races are left
+  2  the text or a name was refused, or the words are no command
+  4  memory ran out, or a file or the output failed
+
+Examples:
+  msc ready --queues mailbox relay.msc
+  msc ready --queues mailbox --only worker --words relay.msc";

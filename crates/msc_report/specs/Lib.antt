@@ -11,6 +11,7 @@ pub mod Lines
 pub mod Counts
 pub mod Editors
 pub mod Reasons
+pub mod Sticks
 pub mod Fitting
 -- what the code keeps
 pub mod Spans
