@@ -23,3 +23,6 @@ mod BandLemmas
 pub mod PlainBytes
 mod PlainTexts
 mod PlainScenes
+pub mod SegmentLemmas
+mod IndexLemmas
+mod SignLemmas

@@ -9,6 +9,7 @@ mod columns;
 mod drawn;
 mod following;
 mod frame;
+mod index;
 pub mod laws;
 mod ordering;
 mod part;
@@ -23,7 +24,8 @@ mod text;
 
 pub use band::{begins_segment, grow};
 pub use columns::plus;
+pub use index::is_marked;
 pub use ordering::drawing_order;
 pub use run::run_order;
 pub use scene::{Act, Arrow, Band, Head, Mark, Reversed, Row, Scene, Spot, chart_scene, run_scene};
-pub use text::{is_marked, put_text};
+pub use text::put_text;

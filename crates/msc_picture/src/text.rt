@@ -2,17 +2,15 @@
 
 ghost use Rattle.std.specs.Prelude.{◌≡◌, ◌<◌, ◌+◌, ◌++◌, IfOk, OnOk, fold};
 ghost use Rattle.std.specs.Prelude.{length, slice_set};
-ghost use Rattle.std.specs.Prelude.{nat_eq};
-ghost use Rattle.std.specs.List.{list_any};
 ghost use Rattle.std.specs.Fmt.{decimal};
-ghost use Rattle.msc_picture.specs.Rows.{row_passes};
-ghost use Rattle.msc_picture.specs.Texts.{head_line, in_band, is_marked, numbers_text, over};
-ghost use Rattle.msc_picture.specs.Texts.{picture_text, row_line, row_lines, with_axis, with_band};
-ghost use Rattle.msc_picture.specs.Texts.{with_mark, with_name};
+ghost use Rattle.msc_picture.specs.Index.{IsIndexOf, PutsMarks, with_sign};
+ghost use Rattle.msc_picture.specs.Texts.{head_line, in_band, numbers_text, over, picture_text};
+ghost use Rattle.msc_picture.specs.Texts.{row_line, row_lines, with_axis, with_band, with_name};
 
 use crate::columns::{Columns, columns_of, plus};
+use crate::index::MarkIndex;
 use crate::piece::{Piece, row_piece};
-use crate::scene::{Band, Mark, Row, Scene};
+use crate::scene::{Band, Row, Scene};
 use itoa::Buffer;
 use msc_chart::Event;
 use std::alloc::{AllocError, Global};
@@ -65,46 +63,22 @@ fn put_bands(line: &mut Vec<u8>, c: &Columns, bands: &[Band], r: usize)
     }
 }
 
-/// Whether event `e` is one of these.
-fn is_among(events: &[Event], e: Event) -> bool
-    ensures { result ≡ list_any (nat_eq e) events.now }
+/// Puts a sign over a line, on the axes of these instances.
+fn put_signs(line: &mut Vec<u8>, c: &Columns, instances: &[u32], sign: u8)
+    ensures { line.new.items ≡ fold (with_sign c.now sign) line.old.items instances.now }
 {
-    for f in events {
-        if e == *f {
-            return true;
-        }
-    }
-    false
-}
-
-/// Whether event `e` is one of a mark.
-pub fn is_marked(mark: &Mark, e: Event) -> bool
-    ensures { result ≡ is_marked mark.now e }
-{
-    is_among(mark.upper.as_slice(), e) || is_among(mark.lower.as_slice(), e)
-}
-
-/// Whether an event of a row is one of a mark.
-fn has_marked(mark: &Mark, row: Row) -> bool
-    ensures { result ≡ row_passes (is_marked mark.now) row }
-{
-    if is_marked(mark, row.first) {
-        return true;
-    }
-    match row.second {
-        Some(second) => is_marked(mark, second),
-        None => false,
+    for instance in instances {
+        put(line, c.column(*instance as usize), sign);
     }
 }
 
-/// Puts the marks of a row over a line.
-fn put_marks(line: &mut Vec<u8>, c: &Columns, marks: &[Mark], row: Row)
-    ensures { line.new.items ≡ fold (with_mark c.now row) line.old.items marks.now }
+/// Puts the marks of a row over a line, of which this is the index.
+fn put_marks(line: &mut Vec<u8>, c: &Columns, index: &MarkIndex, row: Row)
+    ensures { PutsMarks c.now row index.now.instances.items line.old.items line.new.items }
 {
-    for mark in marks {
-        if has_marked(mark, row) {
-            put(line, c.column(mark.instance as usize), b'*');
-        }
+    put_signs(line, c, index.at(row.first), b'*');
+    if let Some(second) = row.second {
+        put_signs(line, c, index.at(second), b'*');
     }
 }
 
@@ -134,9 +108,11 @@ fn row_line(
     alloc: Global,
     scene: &Scene,
     c: &Columns,
+    index: &MarkIndex,
     r: usize,
     row: Row,
 ) -> Result<Vec<u8>, AllocError>
+    requires { IsIndexOf scene.now.marks index.now.instances.items }
     ensures { IfOk result (λ line. line.items ≡ row_line scene.now c.now r row) }
 {
     let piece = row_piece(alloc, scene, c, row)?;
@@ -144,7 +120,7 @@ fn row_line(
     put_axes(&mut line, c.columns.as_slice());
     put_bands(&mut line, c, scene.bands.as_slice(), r);
     put_piece(&mut line, &piece)?;
-    put_marks(&mut line, c, scene.marks.as_slice(), row);
+    put_marks(&mut line, c, index, row);
     put_numbers(&mut line, row)?;
     Ok(line)
 }
@@ -185,10 +161,11 @@ fn head_line(alloc: Global, scene: &Scene, c: &Columns, many: usize) -> Result<V
 fn put_rows(alloc: Global, page: &mut Vec<u8>, scene: &Scene, c: &Columns) -> Result<(), AllocError>
     ensures { OnOk result (page.new.items ≡ page.old.items ++ row_lines scene.now c.now) }
 {
+    let index = MarkIndex::of(alloc, scene.marks.as_slice())?;
     let rows = scene.rows.as_slice();
     for r in 0..rows.len() {
         let row = rows[r];
-        let line = row_line(alloc, scene, c, r, row)?;
+        let line = row_line(alloc, scene, c, &index, r, row)?;
         page.extend_from_slice(&line)?;
     }
     Ok(())
