@@ -24,5 +24,6 @@ pub mod PlainBytes
 mod PlainTexts
 mod PlainScenes
 pub mod SegmentLemmas
-mod IndexLemmas
+mod PutLemmas
+mod SpanLemmas
 mod SignLemmas

@@ -1,5 +1,5 @@
 -- Segments of events: which events share one, and which begin one.
-use Rattle.std.proofs.Common.{◌≡◌, ℕ, ◌+◌, ◌-◌, ◌<◌, ◌≤◌, Bool, true, false, ◌&&◌, not, List, length, nat_lt, refl, sym, subst, ◌∙◌, arith}
+use Rattle.std.proofs.Common.{◌≡◌, ℕ, ◌-◌, ◌<◌, ◌≤◌, Bool, true, false, ◌&&◌, not, List, length, nat_lt, refl, sym, subst, arith}
 use Rattle.std.proofs.lemmas.Bool.{and_from, and_right, false≢true, false_from_ne_true, lt-ltb, not_from_false}
 use Rattle.msc_chart.specs.declared.event.ChartEvent.{ChartEvent}
 use Rattle.msc_chart.specs.Charts.{line, IsInTextOrder}

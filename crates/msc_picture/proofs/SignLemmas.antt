@@ -1,9 +1,9 @@
--- Signs on the axes of a row are the same whether marks put them or an index of these does.
-use Rattle.std.proofs.Common.{◌≡◌, ℕ, ◌<◌, Bool, true, false, cond, ◌&&◌, ◌||◌, List, [], ◌∷◌, ◌++◌, length, get_or, map, filter, fold, nat_eq, Option, None, Some, inl, inr, refl, sym, ap, subst, ◌∙◌, arith, Vec, Global}
+-- Signs on the axes of a row are the same whether marks or bands put them one by one or what stands in the row does.
+use Rattle.std.proofs.Common.{◌≡◌, ℕ, ◌<◌, Bool, true, false, cond, ◌&&◌, ◌||◌, List, [], ◌∷◌, ◌++◌, length, get_or, map, filter, fold, nat_eq, Option, None, Some, inl, inr, refl, sym, ap, subst, ◌∙◌, Vec, Global}
 use Rattle.std.specs.Prelude.{slice_set}
 use Rattle.std.specs.List.{list_any}
-use Rattle.std.proofs.Math.Bool.{or-false, or-true}
-use Rattle.std.proofs.lemmas.Bool.{cases_eq, eq-eqb, eqb-true, ne_eqb, false≢true}
+use Rattle.std.proofs.Math.Bool.{or-true}
+use Rattle.std.proofs.lemmas.Bool.{cases_eq, eq-eqb, ne_eqb, false≢true}
 use Rattle.std.proofs.lemmas.List.{get_or-set_same, get_or-set_other, length-set}
 use Rattle.std.proofs.lemmas.Grind.{same_number_lists}
 use Rattle.std.proofs.lemmas.List.Folds.{list_any-append, list_any_none}
@@ -13,7 +13,7 @@ use Rattle.msc_picture.specs.declared.columns.Columns.{Columns}
 use Rattle.msc_picture.specs.declared.scene.Mark.{Mark}
 use Rattle.msc_picture.specs.declared.scene.Row.{Row}
 use Rattle.msc_picture.specs.Columns.{column}
-use Rattle.msc_picture.specs.Index.{has_at, instances_at, is_named, second_at, with_sign, IsIndexOf}
+use Rattle.msc_picture.specs.Signs.{instances_at, is_named, second_at, with_sign, AreMarksIn}
 use Rattle.msc_picture.specs.Rows.{row_passes, second_passes}
 use Rattle.msc_picture.specs.Texts.{is_marked, with_mark}
 
@@ -165,30 +165,30 @@ module _ (c : Columns) (sign : ℕ) where
       ∙ sym (items_put p f line xs)
 
 -- what stands at the place of a second event
-second_has : (marks : List Mark) (index : List (Vec ℕ Global)) (second : Option ℕ) (i : ℕ)
-    → IsIndexOf marks index
-    → list_any (nat_eq i) (second_at index second)
+second_has : (marks : List Mark) (signs : List (Vec ℕ Global)) (second : Option ℕ) (i : ℕ)
+    → AreMarksIn marks signs
+    → list_any (nat_eq i) (second_at signs second)
     ≡ list_any (λ m. second_passes (is_marked m) second && nat_eq i m.instance) marks
-second_has marks index None i of =
+second_has marks signs None i of =
     sym (list_any_none (λ m. second_passes (is_marked m) None && nat_eq i m.instance) marks
     (λ k d below. refl))
-second_has marks index (Some e) i of = of e i
+second_has marks signs (Some e) i of = of e i
 
 -- the stars of a row's events are those of its marks
 pub row_stars : (c : Columns) (row : Row) (line : List ℕ) (marks : List Mark)
-    (index : List (Vec ℕ Global)) → IsIndexOf marks index
-    → fold (with_sign c 42) (fold (with_sign c 42) line (instances_at index row.first))
-    (second_at index row.second)
+    (signs : List (Vec ℕ Global)) → AreMarksIn marks signs
+    → fold (with_sign c 42) (fold (with_sign c 42) line (instances_at signs row.first))
+    (second_at signs row.second)
     ≡ fold (with_mark c row) line marks
-row_stars c row line marks index of =
-    let first = instances_at index row.first in
-    let second = second_at index row.second in
+row_stars c row line marks signs of =
+    let first = instances_at signs row.first in
+    let second = second_at signs row.second in
     sym (fold-append (with_sign c 42) line first second)
     ∙ same_put c 42 (λ (m : Mark). row_passes (is_marked m) row) (λ m. m.instance) line
     (first ++ second) marks
     (λ i.
     list_any-append (nat_eq i) first second
     ∙ ap (λ (b : Bool). b || list_any (nat_eq i) second) (of row.first i)
-    ∙ ap (λ (b : Bool). is_named marks row.first i || b) (second_has marks index row.second i of)
+    ∙ ap (λ (b : Bool). is_named marks row.first i || b) (second_has marks signs row.second i of)
     ∙ any_of_both (λ (m : Mark). is_marked m row.first) (λ m. second_passes (is_marked m) row.second)
     (λ m. nat_eq i m.instance) marks)

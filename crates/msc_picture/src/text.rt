@@ -3,14 +3,14 @@
 ghost use Rattle.std.specs.Prelude.{◌≡◌, ◌<◌, ◌+◌, ◌++◌, IfOk, OnOk, fold};
 ghost use Rattle.std.specs.Prelude.{length, slice_set};
 ghost use Rattle.std.specs.Fmt.{decimal};
-ghost use Rattle.msc_picture.specs.Index.{IsIndexOf, PutsMarks, with_sign};
-ghost use Rattle.msc_picture.specs.Texts.{head_line, in_band, numbers_text, over, picture_text};
-ghost use Rattle.msc_picture.specs.Texts.{row_line, row_lines, with_axis, with_band, with_name};
+ghost use Rattle.msc_picture.specs.Signs.{AreBandsIn, AreMarksIn, PutsBands, PutsMarks, with_sign};
+ghost use Rattle.msc_picture.specs.Texts.{head_line, numbers_text, over, picture_text};
+ghost use Rattle.msc_picture.specs.Texts.{row_line, row_lines, with_axis, with_name};
 
 use crate::columns::{Columns, columns_of, plus};
-use crate::index::MarkIndex;
 use crate::piece::{Piece, row_piece};
-use crate::scene::{Band, Row, Scene};
+use crate::scene::{Row, Scene};
+use crate::signs::Signs;
 use itoa::Buffer;
 use msc_chart::Event;
 use std::alloc::{AllocError, Global};
@@ -36,30 +36,12 @@ fn put_piece(line: &mut Vec<u8>, piece: &Piece) -> Result<(), AllocError>
     Ok(())
 }
 
-/// Whether row `r` is one of a band.
-fn in_band(r: usize, band: &Band) -> bool
-    ensures { result ≡ in_band r band.now }
-{
-    r >= band.first && band.last >= r
-}
-
 /// Puts the axes over a line.
 fn put_axes(line: &mut Vec<u8>, columns: &[usize])
     ensures { line.new.items ≡ fold with_axis line.old.items columns.now }
 {
     for column in columns {
         put(line, *column, b'|');
-    }
-}
-
-/// Puts the bands of row `r` over a line.
-fn put_bands(line: &mut Vec<u8>, c: &Columns, bands: &[Band], r: usize)
-    ensures { line.new.items ≡ fold (with_band c.now r) line.old.items bands.now }
-{
-    for band in bands {
-        if in_band(r, band) {
-            put(line, c.column(band.instance as usize), b':');
-        }
     }
 }
 
@@ -72,13 +54,20 @@ fn put_signs(line: &mut Vec<u8>, c: &Columns, instances: &[u32], sign: u8)
     }
 }
 
-/// Puts the marks of a row over a line, of which this is the index.
-fn put_marks(line: &mut Vec<u8>, c: &Columns, index: &MarkIndex, row: Row)
-    ensures { PutsMarks c.now row index.now.instances.items line.old.items line.new.items }
+/// Puts the bands over row `r` over a line, whose signs these are.
+fn put_bands(line: &mut Vec<u8>, c: &Columns, bands: &Signs, r: usize)
+    ensures { PutsBands c.now r bands.now.instances.items line.old.items line.new.items }
 {
-    put_signs(line, c, index.at(row.first), b'*');
+    put_signs(line, c, bands.at(r), b':');
+}
+
+/// Puts the marks of a row over a line, whose signs these are.
+fn put_marks(line: &mut Vec<u8>, c: &Columns, marks: &Signs, row: Row)
+    ensures { PutsMarks c.now row marks.now.instances.items line.old.items line.new.items }
+{
+    put_signs(line, c, marks.at(row.first as usize), b'*');
     if let Some(second) = row.second {
-        put_signs(line, c, index.at(second), b'*');
+        put_signs(line, c, marks.at(second as usize), b'*');
     }
 }
 
@@ -108,19 +97,22 @@ fn row_line(
     alloc: Global,
     scene: &Scene,
     c: &Columns,
-    index: &MarkIndex,
+    bands: &Signs,
+    marks: &Signs,
     r: usize,
     row: Row,
 ) -> Result<Vec<u8>, AllocError>
-    requires { IsIndexOf scene.now.marks index.now.instances.items }
+    requires known { r < length scene.now.rows }
+    requires bands { AreBandsIn scene.now.bands (length scene.now.rows) bands.now.instances.items }
+    requires marks { AreMarksIn scene.now.marks marks.now.instances.items }
     ensures { IfOk result (λ line. line.items ≡ row_line scene.now c.now r row) }
 {
     let piece = row_piece(alloc, scene, c, row)?;
     let mut line = vec![in alloc; b' '; c.width]?;
     put_axes(&mut line, c.columns.as_slice());
-    put_bands(&mut line, c, scene.bands.as_slice(), r);
+    put_bands(&mut line, c, bands, r);
     put_piece(&mut line, &piece)?;
-    put_marks(&mut line, c, index, row);
+    put_marks(&mut line, c, marks, row);
     put_numbers(&mut line, row)?;
     Ok(line)
 }
@@ -161,11 +153,12 @@ fn head_line(alloc: Global, scene: &Scene, c: &Columns, many: usize) -> Result<V
 fn put_rows(alloc: Global, page: &mut Vec<u8>, scene: &Scene, c: &Columns) -> Result<(), AllocError>
     ensures { OnOk result (page.new.items ≡ page.old.items ++ row_lines scene.now c.now) }
 {
-    let index = MarkIndex::of(alloc, scene.marks.as_slice())?;
     let rows = scene.rows.as_slice();
+    let bands = Signs::of_bands(alloc, scene.bands.as_slice(), rows.len())?;
+    let marks = Signs::of_marks(alloc, scene.marks.as_slice())?;
     for r in 0..rows.len() {
         let row = rows[r];
-        let line = row_line(alloc, scene, c, &index, r, row)?;
+        let line = row_line(alloc, scene, c, &bands, &marks, r, row)?;
         page.extend_from_slice(&line)?;
     }
     Ok(())

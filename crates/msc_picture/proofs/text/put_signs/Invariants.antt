@@ -1,5 +1,5 @@
 use Rattle.std.proofs.Common.{◌≡◌, take, fold}
-use Rattle.msc_picture.specs.Index.{with_sign}
+use Rattle.msc_picture.specs.Signs.{with_sign}
 use Rattle.msc_picture.proofs.text.put_signs.Given as goal
 
 abbrev pub invariant-loop-instance : goal.invariant-loop-instance

@@ -1,7 +1,7 @@
 use Rattle.std.proofs.Common.{◌≡◌, ℕ, ◌&&◌, ◌||◌, nat_eq, take}
 use Rattle.std.specs.List.{list_any}
-use Rattle.msc_picture.specs.Index.{has_at}
-use Rattle.msc_picture.proofs.index.MarkIndex.put_all.Given as goal
+use Rattle.msc_picture.specs.Signs.{has_at}
+use Rattle.msc_picture.proofs.signs.Signs.put_all.Given as goal
 
 abbrev pub invariant-loop-e : goal.invariant-loop-e
 invariant-loop-e l =

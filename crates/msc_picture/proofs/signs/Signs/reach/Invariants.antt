@@ -1,6 +1,6 @@
 use Rattle.std.proofs.Common.{◌≡◌, ℕ, length}
-use Rattle.msc_picture.specs.Index.{has_at}
-use Rattle.msc_picture.proofs.index.MarkIndex.reach.Given as goal
+use Rattle.msc_picture.specs.Signs.{has_at}
+use Rattle.msc_picture.proofs.signs.Signs.reach.Given as goal
 
 -- there are so many places, and they have what they had
 abbrev pub invariant-loop : goal.invariant-loop
