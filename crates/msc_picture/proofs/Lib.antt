@@ -23,3 +23,7 @@ mod BandLemmas
 pub mod PlainBytes
 mod PlainTexts
 mod PlainScenes
+pub mod SegmentLemmas
+mod PutLemmas
+mod SpanLemmas
+mod SignLemmas

@@ -13,3 +13,4 @@ pub mod Laws
 pub mod Courses
 pub mod Drawn
 pub mod Ready
+pub mod Signs

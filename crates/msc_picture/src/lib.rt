@@ -19,6 +19,7 @@ mod rule;
 mod run;
 mod scene;
 mod searching;
+mod signs;
 mod text;
 
 pub use band::{begins_segment, grow};
@@ -26,4 +27,5 @@ pub use columns::plus;
 pub use ordering::drawing_order;
 pub use run::run_order;
 pub use scene::{Act, Arrow, Band, Head, Mark, Reversed, Row, Scene, Spot, chart_scene, run_scene};
-pub use text::{is_marked, put_text};
+pub use signs::is_marked;
+pub use text::put_text;

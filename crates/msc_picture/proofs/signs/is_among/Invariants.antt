@@ -1,6 +1,6 @@
 use Rattle.std.proofs.Common.{◌≡◌, false, take, nat_eq}
 use Rattle.std.specs.List.{list_any}
-use Rattle.msc_picture.proofs.text.is_among.Given as goal
+use Rattle.msc_picture.proofs.signs.is_among.Given as goal
 
 abbrev pub invariant-loop-f : goal.invariant-loop-f
 invariant-loop-f l =
