@@ -24,6 +24,7 @@ pub mod PlainBytes
 mod PlainTexts
 mod PlainScenes
 pub mod SegmentLemmas
+mod ExtentLemmas
 mod PutLemmas
 mod SpanLemmas
 mod SignLemmas

@@ -7,6 +7,7 @@
 mod band;
 mod columns;
 mod drawn;
+mod extent;
 mod following;
 mod frame;
 pub mod laws;
