@@ -28,5 +28,4 @@ pub use columns::plus;
 pub use ordering::drawing_order;
 pub use run::run_order;
 pub use scene::{Act, Arrow, Band, Head, Mark, Reversed, Row, Scene, Spot, chart_scene, run_scene};
-pub use signs::is_marked;
 pub use text::put_text;

@@ -5,7 +5,7 @@ ghost use Rattle.std.specs.Prelude.{◌≡◌, ◌<◌, ◌&&◌, ◌||◌, ◌+
 ghost use Rattle.std.specs.Prelude.{nat_eq};
 ghost use Rattle.std.specs.List.{list_any};
 ghost use Rattle.msc_picture.specs.Signs.{AreBandsIn, AreMarksIn, has_at, instances_at};
-ghost use Rattle.msc_picture.specs.Texts.{in_band, is_marked};
+ghost use Rattle.msc_picture.specs.Texts.{in_band};
 
 use crate::scene::{Band, Mark};
 use msc_chart::Event;
@@ -20,25 +20,6 @@ fn end_of(band: Band, many: usize) -> usize
     } else {
         many
     }
-}
-
-/// Whether event `e` is one of these.
-fn is_among(events: &[Event], e: Event) -> bool
-    ensures { result ≡ list_any (nat_eq e) events.now }
-{
-    for f in events {
-        if e == *f {
-            return true;
-        }
-    }
-    false
-}
-
-/// Whether event `e` is one of a mark.
-pub fn is_marked(mark: &Mark, e: Event) -> bool
-    ensures { result ≡ is_marked mark.now e }
-{
-    is_among(mark.upper.as_slice(), e) || is_among(mark.lower.as_slice(), e)
 }
 
 /// At each place the instances on whose axes a sign stands there. An instance stands there as often
