@@ -10,8 +10,8 @@ use Rattle.msc_text.specs.declared.readying.KnownRun.{KnownRun}
 use Rattle.msc_text.proofs.Readied.{shown_events}
 use Rattle.msc_text.proofs.readying.Teller.put_run.Goals as goal
 
-pub put_line-in-Some-requires : goal.put_line-in-Some-requires
-put_line-in-Some-requires c =
+pub put_line-requires : goal.put_line-requires
+put_line-requires c =
     let r = c.args.self.now.sticks.now in
     let accepted = rw c.ready-ready.ensures at c.kept.ensures.chart in
     let law = c.each_first_stick_has_one_run.ensures.exists r.queues r.chart accepted (ready_in r) in
@@ -23,12 +23,12 @@ pub returns-in-Some-clause-page : goal.returns-in-Some-clause-page
 returns-in-Some-clause-page c =
     let r = c.args.self.now.sticks.now in
     let words = c.args.self.now.style.words in
-    on_ok_weaker c.put_line-in-Some.result (λ put runs are.
+    on_ok_weaker c.put_line.result (λ put runs are.
     let its = c.in-Some.ensures runs (subst (AreRuns runs) (sym c.as_slice.ensures.value) (c.requires.known runs are)) in
-    put ∙ ap (λ (run : List ℕ). c.args.page.now.bytes.items ++ run_text words r.chart run) its) c.put_line-in-Some.ensures
+    put ∙ ap (λ (run : List ℕ). c.args.page.now.bytes.items ++ run_text words r.chart run) its) c.put_line.ensures
 
-pub put_line-requires : goal.put_line-requires
-put_line-requires c =
+pub put_line-requires-2 : goal.put_line-requires-2
+put_line-requires-2 c =
     let r = c.args.self.now.sticks.now in
     let is = rw c.ready-ready.ensures at c.in_ok-run.ensures in
     subst (AreEventsOf r.chart) (sym c.as_slice-2.ensures.value)

@@ -19,7 +19,7 @@ loop-e-init g c =
     let none = below_none (stick_test r) (length r.chart.events) in
     record {
       more = sym (ap (left_behind self.ahead.now c.args.show) none);
-      known = λ runs are. rw c.new-known.ensures.items tt;
+      known = λ runs are. rw c.new-known.ensures.items (λ k d below. absurd (omega (arith, below)));
       put = λ runs are. pages_in _ page page _
           (sym (ap (λ (pairs : List (ℕ × ℕ)). page ++ told_sticks self.style r.chart self.ahead.now runs c.args.show pairs) none ∙ append-nil page));
     }
