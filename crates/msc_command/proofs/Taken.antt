@@ -13,6 +13,7 @@ use Rattle.clap.specs.declared.parser.matches.ArgMatches.TheViews.{out-SubComman
 use Rattle.clap.specs.declared.parser.matches.SubCommand.{SubCommand}
 use Rattle.msc_command.specs.Grammar.{AreTaken, IsGrammar, architecture_words, form_words, kind_words, parsers_of, whole_command}
 use Rattle.msc_command.specs.declared.grammar.Choices.{Choices}
+use Rattle.msc_command.specs.Words.{cross_words, language_words, own_words, par_words}
 use Rattle.msc_command.specs.Program.{ObeysMatches, ObeysNamed}
 use Rattle.msc_command.specs.declared.ending.Status.{Status}
 use Rattle.msc_command.specs.declared.ending.Status.TheVariants.{Refused}
@@ -20,9 +21,22 @@ use Rattle.msc_command.specs.declared.ending.Status.TheVariants.{Refused}
 -- the commands are told of with these words
 pub is_grammar : (lent : Choices) (grammar : App)
     → map (λ word. word.now) lent.architectures.words.now ≡ architecture_words → map (λ word. word.now) lent.kinds.words.now ≡ kind_words
-    → map (λ word. word.now) lent.forms.words.now ≡ form_words → grammar ≡ whole_command (parsers_of lent) → IsGrammar grammar
-is_grammar lent grammar one two three is =
-    (parsers_of lent, record { architectures = (_, refl, one); kinds = (_, refl, two); forms = (_, refl, three) }, is)
+    → map (λ word. word.now) lent.forms.words.now ≡ form_words → map (λ word. word.now) lent.languages.words.now ≡ language_words
+    → map (λ word. word.now) lent.owns.words.now ≡ own_words → map (λ word. word.now) lent.crosses.words.now ≡ cross_words
+    → map (λ word. word.now) lent.pars.words.now ≡ par_words → grammar ≡ whole_command (parsers_of lent) → IsGrammar grammar
+is_grammar lent grammar one two three four five six seven is = (
+  parsers_of lent,
+  record {
+    architectures = (_, refl, one);
+    kinds = (_, refl, two);
+    forms = (_, refl, three);
+    languages = (_, refl, four);
+    owns = (_, refl, five);
+    crosses = (_, refl, six);
+    pars = (_, refl, seven);
+  },
+  is,
+)
 
 -- they are of the kind of which `clap` says all
 pub is_known : (grammar : App) → IsGrammar grammar → is_simple_and_free grammar ≡ true

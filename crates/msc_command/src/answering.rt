@@ -9,6 +9,7 @@ ghost use Rattle.msc_command.specs.Answering.{TellsQuietly};
 ghost use Rattle.msc_command.specs.Drawing.{PrintsPage, RefusesDrawn};
 ghost use Rattle.msc_command.specs.Ending.{ends_as};
 ghost use Rattle.msc_command.specs.Formats.{IsFormat};
+ghost use Rattle.msc_command.specs.Importing.{PrintsImportPage, RefusesImport};
 ghost use Rattle.msc_command.specs.Marked.{AreMarked};
 ghost use Rattle.msc_command.specs.Refused.{IsToldIn, TellsThat, TellsUnread, TellsUnreadIn};
 ghost use Rattle.msc_report.specs.Refusals.{of_reading};
@@ -16,13 +17,14 @@ ghost use Rattle.msc_source.specs.Inputs.{IsReadFrom};
 
 use crate::drawing::page_of;
 use crate::ending::{Refusal, Status, end_refused, end_unread, ended_by, finished_by, is_spent};
+use crate::importing::import_page;
 use crate::marked::marks_of;
 use crate::naming::pair_named;
 use crate::notes::{write_cause, write_notes};
 use crate::recorded::TellsFailure;
 use crate::refused::refusal_lines;
 use crate::sited::{sites_of, style_of};
-use crate::tasks::{Ask, Checking, Drawn, Explaining, Form, Request, Task, form_of};
+use crate::tasks::{Ask, Checking, Drawn, Explaining, Form, ImportWords, Request, Task, form_of};
 use msc_chart::Queues;
 use msc_instance::AlwaysOpen;
 use msc_judge::Page;
@@ -228,16 +230,31 @@ fn draw<O: Write>(
     put(output, &page, Status::Done)
 }
 
-/// Writes the answer of a task to the text of a file of this name.
-fn answer<R: Threads + Wait + Sync, O: Write>(
-    rt: &R,
+/// Lets what is imported of the text of a file of this name go out.
+fn import<O: Write>(
     alloc: Global,
-    task: Task,
+    words: ImportWords<'_>,
     file: &str,
     text: &[u8],
     output: &mut O,
 ) -> Result<Status, Refusal>
-    ensures { Does O.contents task file.now text.now result output.old output.new }
+    ensures { Answers O.contents (PrintsImportPage words.entry file.now text.now)
+        (RefusesImport words.entry text.now) result output.old output.new }
+{
+    let page = import_page(alloc, words, file, text)?;
+    put(output, &page, Status::Done)
+}
+
+/// Writes the answer of a task to the text of a file of this name.
+fn answer<R: Threads + Wait + Sync, O: Write>(
+    rt: &R,
+    alloc: Global,
+    task: Task<'_>,
+    file: &str,
+    text: &[u8],
+    output: &mut O,
+) -> Result<Status, Refusal>
+    ensures { Does O.contents task.entry file.now text.now result output.old output.new }
 {
     match task {
         Task::Read => {
@@ -254,6 +271,7 @@ fn answer<R: Threads + Wait + Sync, O: Write>(
             let source = Source::of_reading(alloc, &read)?;
             draw(alloc, drawn, read.draft(), &source, output)
         }
+        Task::Import(words) => import(alloc, words, file, text, output),
     }
 }
 
@@ -316,12 +334,12 @@ fn tell_refusal<O: Write>(
 fn deliver<R: Threads + Wait + Sync, O: Write>(
     rt: &R,
     alloc: Global,
-    task: Task,
+    task: Task<'_>,
     file: &str,
     text: &[u8],
     output: &mut O,
 ) -> Result<Status, Refusal>
-    ensures { Delivers O.contents task file.now text.now result output.old output.new }
+    ensures { Delivers O.contents task.entry file.now text.now result output.old output.new }
 {
     match answer(rt, alloc, task, file, text, output) {
         Ok(status) => {

@@ -10,9 +10,12 @@ ghost use Rattle.msc_report.specs.Texts.{fault_line};
 
 use crate::notes::write_cause;
 use msc_ending::RunFault;
+use msc_import::{ImportFault, Refused};
 use msc_judge::WriteFault;
 use msc_mark::MarkFault;
-use msc_report::{Fault, NamedFault, write_fault, write_mark_fault, write_pair_fault};
+use msc_report::{
+    Fault, NamedFault, write_fault, write_import_fault, write_mark_fault, write_pair_fault,
+};
 use msc_source::{ReadFault, SourceFault};
 use std::alloc::AllocError;
 use std::io;
@@ -77,6 +80,8 @@ pub(crate) enum Refusal {
     Pair(NamedFault),
     /// A comment of the text is to be a mark, and is none.
     Mark(MarkFault),
+    /// Nothing is imported of the text.
+    Import(Refused),
 }
 
 impl From<AllocError> for Refusal {
@@ -125,6 +130,19 @@ impl From<MarkFault> for Refusal {
     }
 }
 
+impl From<Refused> for Refusal {
+    ghost use Rattle.msc_command.specs.Ending.{of_import};
+
+    ghost from_gives = { λ refused refusal. refusal ≡ of_import refused };
+
+    fn from(refused: Refused) -> Refusal {
+        match refused.fault {
+            ImportFault::Memory => Refusal::Fault(Fault::Memory),
+            _ => Refusal::Import(refused),
+        }
+    }
+}
+
 impl From<RunFault> for Refusal {
     ghost use Rattle.msc_command.specs.declared.ending.Refusal.{Refusal};
     ghost use Rattle.msc_report.specs.Refusals.{of_run};
@@ -163,7 +181,7 @@ pub(crate) fn is_spent(refusal: Refusal) -> bool
 {
     match refusal {
         Refusal::Fault(Fault::Memory) | Refusal::Fault(Fault::Device) => true,
-        Refusal::Fault(_) | Refusal::Pair(_) | Refusal::Mark(_) => false,
+        Refusal::Fault(_) | Refusal::Pair(_) | Refusal::Mark(_) | Refusal::Import(_) => false,
     }
 }
 
@@ -173,7 +191,7 @@ fn ends_as(refusal: Refusal) -> Status
 {
     match refusal {
         Refusal::Fault(fault) => status_of(fault),
-        Refusal::Pair(_) | Refusal::Mark(_) => Status::Refused,
+        Refusal::Pair(_) | Refusal::Mark(_) | Refusal::Import(_) => Status::Refused,
     }
 }
 
@@ -196,6 +214,7 @@ pub(crate) fn write_refusal<W: Write>(writer: &mut W, refusal: Refusal) -> io::R
         Refusal::Fault(fault) => write_fault(writer, &fault),
         Refusal::Pair(fault) => write_pair_fault(writer, fault),
         Refusal::Mark(fault) => write_mark_fault(writer, fault),
+        Refusal::Import(refused) => write_import_fault(writer, &refused),
     }
 }
 

@@ -75,9 +75,9 @@ fn tell_usage<O: Write, E: Write>(output: &mut O, faults: &mut E, error: &Error)
 
 /// What the words behind a command ask for, if they name it and are all there. Why they ask for
 /// nothing goes to `faults`.
-fn task_named<E: Write>(name: &str, words: &ArgMatches, faults: &mut E) -> Option<Task>
-    ensures { MatchOption result (IsNamedVainly name.now (found_of words.now))
-        (IsNamed name.now (found_of words.now)) }
+fn task_named<'w, E: Write>(name: &str, words: &'w ArgMatches, faults: &mut E) -> Option<Task<'w>>
+    ensures { MatchOption result (IsNamedVainly name.now (found_of words.entry.now))
+        (IsNamed name.now (found_of words.entry.now)) }
 {
     let verb = Verb::of(name)?;
     let task = task_of(verb, words);
