@@ -6,7 +6,8 @@ use Rattle.std.proofs.lemmas.Simd.{map-map}
 use Rattle.msc_parser.specs.declared.tree.Item.TheVariants.{Single, Coregion}
 use Rattle.msc_import.specs.declared.plan.Planned.{Planned}
 use Rattle.msc_import.specs.declared.statement.Placed.{Placed}
-use Rattle.msc_import.specs.Drafting.{Event, seen, drawn_event, drawn_item, drawn_items, between, shown_by, shown_of}
+use Rattle.msc_import.specs.Drafting.{drawn_event, drawn_item, drawn_items, between, shown_by, shown_of}
+use Rattle.msc_import.specs.Plans.{Event, seen}
 
 -- one event
 single : (names : List (List ℕ)) (es : List Planned) (d : Planned) → length es ≡ 1 → drawn_item names (map seen es) ≡ Single (drawn_event names (seen (get_or es 0 d)))

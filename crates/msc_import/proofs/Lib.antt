@@ -8,9 +8,9 @@ pub mod CourseLemmas
 pub mod WalkLemmas
 pub mod CountLemmas
 pub mod PlanLemmas
-pub mod PlaceLemmas
 pub mod DraftLemmas
 pub mod NamedLemmas
 pub mod LawLemmas
 pub mod OrderLemmas
+pub mod TogetherLemmas
 pub mod ImportLemmas

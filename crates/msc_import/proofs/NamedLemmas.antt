@@ -1,5 +1,5 @@
 -- What is drawn has names of charts alone.
-use Rattle.std.proofs.Common.{◌≡◌, ◌≢◌, ◌<◌, ◌≤◌, ℕ, ◌+◌, Bool, true, false, not, ◌&&◌, ◌||◌, cond, List, [], ◌∷◌, ◌++◌, length, get_or, drop, map, Option, None, Some, Result, Ok, Err, is_none, nat_le, codes, refl, sym, ap, ◌∙◌, subst, lit≤}
+use Rattle.std.proofs.Common.{◌≡◌, ◌≢◌, ◌<◌, ◌≤◌, ℕ, ◌+◌, Bool, true, false, not, ◌&&◌, ◌||◌, cond, List, [], ◌∷◌, ◌++◌, length, get_or, drop, map, Option, None, Some, is_none, nat_le, codes, refl, sym, ap, ◌∙◌, subst, lit≤}
 use Rattle.std.specs.List.{AllByRecursion, list_all}
 use Rattle.std.specs.Str.{bytes_eq}
 use Rattle.std.proofs.lemmas.Bool.{leb-true, false≢true}
@@ -13,17 +13,13 @@ use Rattle.msc_parser.specs.declared.tree.Decl.{Decl}
 use Rattle.msc_parser.specs.declared.tree.Section.{Section}
 use Rattle.msc_parser.specs.Drafts.{IsDeclNamed, IsStatementNamed, IsItemNamed, IsSectionNamed, IsDraft, statements_of}
 use Rattle.msc_import.specs.declared.course.Message.{Message}
-use Rattle.msc_import.specs.declared.course.Step.{Step}
-use Rattle.msc_import.specs.declared.fault.ImportFault.{ImportFault}
-use Rattle.msc_import.specs.declared.plan.Manner.{Manner}
 use Rattle.msc_import.specs.declared.plan.Side.{Side}
 use Rattle.msc_import.specs.declared.plan.Side.TheVariants as sides
 use Rattle.msc_import.specs.declared.statement.Placed.{Placed}
-use Rattle.msc_import.specs.Gives.{◌>>=◌, Fails}
-use Rattle.msc_import.proofs.ReadingLemmas.{bind_fails}
 use Rattle.msc_import.specs.Naming.{kind_of, made}
 use Rattle.msc_import.specs.Rows.{is_empty}
-use Rattle.msc_import.specs.Drafting.{Event, Plan, is_chart_name, fitted, drawn_side, drawn_event, drawn_item, drawn_items, between, decl_of, kind_by, shown_of, line_name, section_of, sections_on, plan_on, unplanned, tree_of}
+use Rattle.msc_import.specs.Drafting.{is_chart_name, fitted, drawn_side, drawn_event, drawn_item, drawn_items, between, decl_of, kind_by, shown_of, line_name, section_of, sections_on, tree_of}
+use Rattle.msc_import.specs.Plans.{Event, Plan}
 
 -- both parts of a test
 both : (a b : Bool) → (a && b) ≡ true → (a ≡ true) × (b ≡ true)
@@ -141,17 +137,13 @@ push_named [] s all one = (one, tt)
 push_named (t ∷ ss) s all one = (all.0, push_named ss s all.1 one)
 
 -- and all lines
-module _ (manner : Manner) (steps : List Step) (names : List (List ℕ)) (ps : List Placed) where
-  step_named : (line : ℕ) (ident : List ℕ) (idents : List (List ℕ)) (done ss : List Section) (r : Result Plan ImportFault) → ((p : Plan) → sections_on manner steps names ps (line + 1) idents (done ++ section_of names line ident ps p ∷ []) ≡ Ok ss → AllByRecursion IsSectionNamed ss) → (r >>= (λ p. sections_on manner steps names ps (line + 1) idents (done ++ section_of names line ident ps p ∷ []))) ≡ Ok ss → AllByRecursion IsSectionNamed ss
-  step_named line ident idents done ss (Ok p) rest e = rest p e
-  step_named line ident idents done ss (Err f) rest e = cc
-
-  pub sections_named : (line : ℕ) (idents : List (List ℕ)) (done ss : List Section) → AllByRecursion IsSectionNamed done → sections_on manner steps names ps line idents done ≡ Ok ss → AllByRecursion IsSectionNamed ss
+module _ (lines names : List (List ℕ)) (ps : List Placed) where
+  pub sections_named : (line : ℕ) (plans : List Plan) (done : List Section) → AllByRecursion IsSectionNamed done → AllByRecursion IsSectionNamed (sections_on lines names ps line plans done)
   unfolding sections_on
-  sections_named line [] done ss all e =
-      let same : done ≡ ss = cc in subst (AllByRecursion IsSectionNamed) same all
-  sections_named line (ident ∷ idents) done ss all e =
-      step_named line ident idents done ss (plan_on manner line steps unplanned) (λ p q. sections_named (line + 1) idents (done ++ section_of names line ident ps p ∷ []) ss (push_named done (section_of names line ident ps p) all (section_named names line ident ps p)) q) e
+  sections_named line [] done all = all
+  sections_named line (p ∷ plans) done all =
+      let here = section_named names line (line_name lines line) ps p in
+      sections_named (line + 1) plans (done ++ section_of names line (line_name lines line) ps p ∷ []) (push_named done (section_of names line (line_name lines line) ps p) all here)
 
 -- the draft is one that a text can have
 pub tree_named : (name : List ℕ) (ss : List Section) → AllByRecursion IsSectionNamed ss → length (statements_of ss) ≤ TEXT_LIMIT → IsDraft (tree_of name ss)
@@ -175,24 +167,20 @@ draft_named name plain header ts ss a b e all few =
     })))
 
 -- one line more
-sections_cons : (manner : Manner) (steps : List Step) (names : List (List ℕ)) (ps : List Placed) (line : ℕ) (ident : List ℕ) (idents : List (List ℕ)) (done : List Section) → sections_on manner steps names ps line (ident ∷ idents) done ≡ (plan_on manner line steps unplanned >>= (λ p. sections_on manner steps names ps (line + 1) idents (done ++ section_of names line ident ps p ∷ [])))
-unfolding sections_on
-sections_cons manner steps names ps line ident idents done = refl
+module _ (lines names : List (List ℕ)) (ps : List Placed) where
+  sections_cons : (line : ℕ) (p : Plan) (plans : List Plan) (done : List Section) → sections_on lines names ps line (p ∷ plans) done ≡ sections_on lines names ps (line + 1) plans (done ++ section_of names line (line_name lines line) ps p ∷ [])
+  unfolding sections_on
+  sections_cons line p plans done = refl
 
-sections_none : (manner : Manner) (steps : List Step) (names : List (List ℕ)) (ps : List Placed) (line : ℕ) (done : List Section) → sections_on manner steps names ps line [] done ≡ Ok done
-unfolding sections_on
-sections_none manner steps names ps line done = refl
+  sections_none : (line : ℕ) (done : List Section) → sections_on lines names ps line [] done ≡ done
+  unfolding sections_on
+  sections_none line done = refl
 
-module _ (manner : Manner) (steps : List Step) (names : List (List ℕ)) (ps : List Placed) (idents : List (List ℕ)) (i : ℕ) (done : List Section) where
-  module _ (d : List ℕ) (inside : i < length idents) where
-    sections_next : sections_on manner steps names ps i (drop i idents) done ≡ (plan_on manner i steps unplanned >>= (λ p. sections_on manner steps names ps (i + 1) (drop (i + 1) idents) (done ++ section_of names i (get_or idents i d) ps p ∷ [])))
-    sections_next = ap (λ x. sections_on manner steps names ps i x done) (drop_more idents i d inside) ∙ sections_cons manner steps names ps i (get_or idents i d) (drop (i + 1) idents) done
+  module _ (plans : List Plan) (i : ℕ) (done : List Section) where
+    pub sections_more : (p : Plan) → i < length plans → get_or plans i p ≡ p → sections_on lines names ps i (drop i plans) done ≡ sections_on lines names ps (i + 1) (drop (i + 1) plans) (done ++ section_of names i (line_name lines i) ps p ∷ [])
+    sections_more p inside is =
+        ap (λ x. sections_on lines names ps i x done) (drop_more plans i p inside) ∙ sections_cons i (get_or plans i p) (drop (i + 1) plans) done
+        ∙ ap (λ x. sections_on lines names ps (i + 1) (drop (i + 1) plans) (done ++ section_of names i (line_name lines i) ps x ∷ [])) is
 
-    pub sections_more : (p : Plan) → plan_on manner i steps unplanned ≡ Ok p → sections_on manner steps names ps i (drop i idents) done ≡ sections_on manner steps names ps (i + 1) (drop (i + 1) idents) (done ++ section_of names i (get_or idents i d) ps p ∷ [])
-    sections_more p e = sections_next ∙ ap (λ x. x >>= (λ q. sections_on manner steps names ps (i + 1) (drop (i + 1) idents) (done ++ section_of names i (get_or idents i d) ps q ∷ []))) e
-
-    pub sections_fail : (e : ImportFault) → Fails e (plan_on manner i steps unplanned) → Fails e (sections_on manner steps names ps i (drop i idents) done)
-    sections_fail e h = subst (Fails e) (sym sections_next) (bind_fails e _ _ h)
-
-  pub sections_end : length idents ≤ i → sections_on manner steps names ps i (drop i idents) done ≡ Ok done
-  sections_end over = ap (λ x. sections_on manner steps names ps i x done) (drop_all i idents over) ∙ sections_none manner steps names ps i done
+    pub sections_end : length plans ≤ i → sections_on lines names ps i (drop i plans) done ≡ done
+    sections_end over = ap (λ x. sections_on lines names ps i x done) (drop_all i plans over) ∙ sections_none i done

@@ -13,7 +13,8 @@ use Rattle.msc_import.specs.declared.plan.Manner.{Manner}
 use Rattle.msc_import.specs.declared.plan.Par.{Par}
 use Rattle.msc_import.specs.declared.plan.Side.{Side}
 use Rattle.msc_import.specs.Gives.{◌>>=◌}
-use Rattle.msc_import.specs.Drafting.{Event, Plan, between, closed_last, drawn_event, drawn_item, drawn_items, is_coregion, is_refused, joined_ends, last_frame, marked_last, opened, plan_on, planned, sides_on, unplanned, with_event, with_sides}
+use Rattle.msc_import.specs.Drafting.{between, drawn_event, drawn_item, drawn_items}
+use Rattle.msc_import.specs.Plans.{Event, Plan, closed_last, is_coregion, is_refused, joined_ends, last_frame, marked_last, opened, plan_on, planned, sides_on, unplanned, with_event, with_sides}
 use Rattle.msc_import.specs.Laws.{ends_on}
 
 -- places that ascend from the first to at most the last

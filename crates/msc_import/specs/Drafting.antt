@@ -1,5 +1,4 @@
--- The draft of a course: each line has the ends of its arrows in their order, and branches of a par that
--- have one segment each on a line are a coregion there.
+-- The draft of a course: its lines, each with its events.
 use Rattle.std.specs.Prelude.{ℕ, ◌+◌, ◌-◌, Bool, false, cond, not, ◌||◌, ◌&&◌, ◌==◌, nat_le, nat_lt, List, [], ◌∷◌, ◌++◌, length, take, drop, slice_get, map, codes, Option, None, Some, is_none, unwrap_or, Result, Ok, Err}
 use Rattle.std.specs.Option.{option_or}
 use Rattle.std.specs.Str.{bytes_eq}
@@ -19,21 +18,13 @@ use Rattle.msc_parser.specs.declared.tree.Way.TheVariants as ways
 use Rattle.msc_parser.specs.Drafts.{statements_of}
 use Rattle.msc_parser.specs.Grammar.{Tree}
 use Rattle.msc_import.specs.declared.course.Message.{Message}
-use Rattle.msc_import.specs.declared.course.Step.{Step}
-use Rattle.msc_import.specs.declared.course.Step.TheVariants as steps
 use Rattle.msc_import.specs.declared.fault.ImportFault.{ImportFault}
-use Rattle.msc_import.specs.declared.fault.ImportFault.TheVariants.{Shared, TooManyArrows, TooManyChoices}
+use Rattle.msc_import.specs.declared.fault.ImportFault.TheVariants.{TooManyArrows, TooManyChoices}
 use Rattle.msc_import.specs.declared.TheConstants.{DEPTH_LIMIT}
 use Rattle.msc_import.specs.declared.course.Ending.{Ending}
 use Rattle.msc_import.specs.declared.course.Ending.TheVariants as ends
 use Rattle.msc_import.specs.declared.statement.Diagram.{Diagram}
-use Rattle.msc_import.specs.declared.plan.Frame.{Frame}
-use Rattle.msc_import.specs.declared.plan.Own.{Own}
-use Rattle.msc_import.specs.declared.plan.Own.TheVariants as owns
 use Rattle.msc_import.specs.declared.plan.Manner.{Manner}
-use Rattle.msc_import.specs.declared.plan.Par.{Par}
-use Rattle.msc_import.specs.declared.plan.Par.TheVariants as pars
-use Rattle.msc_import.specs.declared.plan.Planned.{Planned}
 use Rattle.msc_import.specs.declared.plan.Side.{Side}
 use Rattle.msc_import.specs.declared.plan.Side.TheVariants as sides
 use Rattle.msc_import.specs.declared.statement.Placed.{Placed}
@@ -41,114 +32,9 @@ use Rattle.msc_import.specs.declared.statement.Statement.{Statement}
 use Rattle.msc_import.specs.declared.statement.Statement.TheVariants.{Declares, Says, Begins, Closes}
 use Rattle.msc_import.specs.Courses.{Walk, walk}
 use Rattle.msc_import.specs.Gives.{◌>>=◌, unless}
+use Rattle.msc_import.specs.Plans.{Event, Plan, plans_of}
 use Rattle.msc_import.specs.Naming.{kind_of, made, names_behind}
 use Rattle.msc_import.specs.Rows.{is_empty}
-
--- the ends that a message to oneself has
-abbrev pub own_sides : Own → List Side
-own_sides owns.Action = sides.Own ∷ []
-own_sides owns.Message = sides.Out ∷ sides.In ∷ []
-
--- the ends of a message on a line, the upper one first
-unfoldable pub sides_on : Own → ℕ → Message → List Side
-sides_on own line m =
-    cond m.lost (cond (m.from == line) (sides.Lost ∷ []) []) (cond (m.from == line) (cond (m.to == line) (own_sides own) (sides.Out ∷ [])) (cond (m.to == line) (sides.In ∷ []) []))
-
--- an end of a message
-pub record Event : Type 0 where
-  pub message : Message
-  pub side : Side
-
--- an end as the code has it
-abbrev pub seen : Planned → Event
-seen p = record { message = p.message.now; side = p.side }
-
--- What a line has so far: its events, how many there are up to the end of each of its segments, and the
--- pars that are open, the innermost one last.
-pub record Plan : Type 0 where
-  pub events : List Event
-  pub ends : List ℕ
-  pub frames : List Frame
-
--- one event more, which is a segment
-abbrev pub with_event : Plan → Event → Plan
-with_event p e = record {
-  events = p.events ++ e ∷ [];
-  ends = p.ends ++ (length p.events + 1) ∷ [];
-  frames = p.frames;
-}
-
--- these ends of a message more
-unfoldable pub with_sides : Message → List Side → Plan → Plan
-with_sides m [] p = p
-with_sides m (s ∷ ss) p = with_sides m ss (with_event p (record { message = m; side = s }))
-
--- a par begins on this line of the text
-abbrev pub opened : ℕ → Plan → Plan
-opened line p = record {
-  events = p.events;
-  ends = p.ends;
-  frames = p.frames ++ record { line = line; start = length p.ends; mark = length p.ends; busy = false; several = false; wide = false } ∷ [];
-}
-
--- the innermost par, behind one branch more, when there are so many segments
-abbrev pub marked : ℕ → Frame → Frame
-marked n f = record {
-  line = f.line;
-  start = f.start;
-  mark = n;
-  busy = f.busy || nat_lt f.mark n;
-  several = f.several || (f.busy && nat_lt f.mark n);
-  wide = f.wide || nat_lt (f.mark + 1) n;
-}
-
-abbrev pub marked_last : Plan → Option Frame → Plan
-marked_last p None = p
-marked_last p (Some f) = record {
-  events = p.events;
-  ends = p.ends;
-  frames = take (length p.frames - 1) p.frames ++ marked (length p.ends) f ∷ [];
-}
-
--- several branches of a par have a segment each, and none has more: they are a coregion
-abbrev pub is_coregion : Frame → Bool
-is_coregion f = f.several && not f.wide
-
--- the segments behind a par: one coregion, or those of its branches one below the other
-abbrev pub joined_ends : Plan → Frame → List ℕ
-joined_ends p f =
-    cond (is_coregion f) (take f.start p.ends ++ length p.events ∷ []) p.ends
-
--- a par is refused: of several branches with segments one has more than one
-abbrev pub is_refused : Par → Frame → Bool
-is_refused pars.Refused f = f.several && f.wide
-is_refused pars.Drawn f = false
-
--- a par ends, on this line of the diagram
-abbrev pub closed_last : Par → ℕ → Plan → Option Frame → Result Plan ImportFault
-closed_last par line p None = Ok p
-closed_last par line p (Some f) =
-    cond (is_refused par f) (Err (Shared f.line line)) (Ok (record { events = p.events; ends = joined_ends p f; frames = take (length p.frames - 1) p.frames }))
-
--- the innermost par
-abbrev pub last_frame : Plan → Option Frame
-last_frame p = slice_get p.frames (length p.frames - 1)
-
--- one step more, on this line of the diagram
-unfoldable pub planned : Manner → ℕ → Step → Plan → Result Plan ImportFault
-planned manner line (steps.Meets m) p = Ok (with_sides m (sides_on manner.own line m) p)
-planned manner line (steps.Opens text) p = Ok (opened text p)
-planned manner line steps.Next p = Ok (marked_last p (last_frame p))
-planned manner line steps.Closes p = closed_last manner.par line p (last_frame p)
-
--- nothing is planned
-abbrev pub unplanned : Plan
-unplanned = record { events = []; ends = []; frames = [] }
-
--- these steps more
-unfoldable pub plan_on : Manner → ℕ → List Step → Plan → Result Plan ImportFault
-plan_on manner line [] p = Ok p
-plan_on manner line (s ∷ ss) p = planned manner line s p >>= (λ q. plan_on manner line ss q)
 
 -- the bytes are a name of charts
 abbrev pub is_chart_name : List ℕ → Bool
@@ -232,11 +118,11 @@ section_of names line ident ps p = record {
   items = drawn_items names p.events 0 p.ends;
 }
 
--- the lines of the draft behind these
-unfoldable pub sections_on : Manner → List Step → List (List ℕ) → List Placed → ℕ → List (List ℕ) → List Section → Result (List Section) ImportFault
-sections_on manner ss names ps line [] done = Ok done
-sections_on manner ss names ps line (ident ∷ idents) done =
-    plan_on manner line ss unplanned >>= (λ p. sections_on manner ss names ps (line + 1) idents (done ++ section_of names line ident ps p ∷ []))
+-- the lines of the draft behind these, of which the first has this number
+unfoldable pub sections_on : List (List ℕ) → List (List ℕ) → List Placed → ℕ → List Plan → List Section → List Section
+sections_on lines names ps line [] done = done
+sections_on lines names ps line (p ∷ plans) done =
+    sections_on lines names ps (line + 1) plans (done ++ section_of names line (line_name lines line) ps p ∷ [])
 
 -- the draft of these lines
 abbrev pub tree_of : List ℕ → List Section → Tree
@@ -258,9 +144,9 @@ unended w (ends.Stopped f) = Err f
 -- the draft of a walk through these statements
 unfoldable pub drawn_walk : Manner → List ℕ → List Placed → Walk → Result Tree ImportFault
 drawn_walk manner name ps w = do
-  sections ← sections_on manner w.steps (names_behind [] w.lines) ps 0 w.lines []
+  plans ← plans_of manner w.steps (length w.lines)
   whole ← unended w w.ending
-  drawn_as name sections
+  drawn_as name (sections_on w.lines (names_behind [] w.lines) ps 0 plans [])
 
 -- a walk that has not begun
 abbrev pub at_rest : List (List ℕ) → List ℕ → Walk

@@ -1,6 +1,6 @@
 -- What holds of every import.
-use Rattle.std.specs.Prelude.{◌≡◌, ℕ, Bool, true, false, not, List, [], map, Option, Ok}
-use Rattle.std.specs.List.{flat_map, list_all}
+use Rattle.std.specs.Prelude.{◌≡◌, ℕ, Bool, true, false, not, List, [], map, Option, Some, Ok}
+use Rattle.std.specs.List.{flat_map, list_all, slice_get}
 use Rattle.msc_parser.specs.Drafts.{statements_in}
 use Rattle.msc_import.specs.declared.course.Step.{Step}
 use Rattle.msc_import.specs.declared.course.Step.TheVariants as steps
@@ -12,7 +12,8 @@ use Rattle.msc_import.specs.declared.statement.Placed.{Placed}
 use Rattle.msc_import.specs.declared.statement.Statement.{Statement}
 use Rattle.msc_import.specs.declared.statement.Statement.TheVariants.{Declares, Says, Begins, Closes}
 use Rattle.msc_import.specs.Counting.{scenarios}
-use Rattle.msc_import.specs.Drafting.{Event, Plan, drawn_event, plan_on, section_of, sides_on, unplanned}
+use Rattle.msc_import.specs.Drafting.{drawn_event, section_of}
+use Rattle.msc_import.specs.Plans.{Event, Plan, plans_of, sides_on}
 use Rattle.msc_import.specs.Mermaid.{mermaid}
 
 -- the diagram of a text, where crosses are this
@@ -46,4 +47,4 @@ ends_on own line steps.Closes = []
 -- each line of a draft has the ends of the course's arrows in their order
 abbrev pub LinesKeepTheArrowsOrder : Type 0
 LinesKeepTheArrowsOrder =
-    (manner : Manner) (names : List (List ℕ)) (line : ℕ) (ident : List ℕ) (ps : List Placed) (ss : List Step) (p : Plan) → plan_on manner line ss unplanned ≡ Ok p → flat_map statements_in (section_of names line ident ps p).items ≡ map (drawn_event names) (flat_map (ends_on manner.own line) ss)
+    (manner : Manner) (names : List (List ℕ)) (line : ℕ) (ident : List ℕ) (ps : List Placed) (ss : List Step) (lines : ℕ) (plans : List Plan) (p : Plan) → plans_of manner ss lines ≡ Ok plans → slice_get plans line ≡ Some p → flat_map statements_in (section_of names line ident ps p).items ≡ map (drawn_event names) (flat_map (ends_on manner.own line) ss)

@@ -5,7 +5,8 @@ ghost use Rattle.std.specs.List.{list_all};
 ghost use Rattle.msc_lexer.specs.Bytes.{is_run_byte};
 ghost use Rattle.std.specs.Option.{option_copied};
 ghost use Rattle.msc_import.specs.Drafting.{between, decl_of, drawn_event, drawn_item, drawn_items};
-ghost use Rattle.msc_import.specs.Drafting.{fitted, ident_text, is_chart_name, line_name, seen};
+ghost use Rattle.msc_import.specs.Drafting.{fitted, ident_text, is_chart_name, line_name};
+ghost use Rattle.msc_import.specs.Plans.{seen};
 ghost use Rattle.msc_import.specs.Drafting.{shown_by, shown_of, signal};
 ghost use Rattle.msc_import.specs.Naming.{kind_of};
 

@@ -3,14 +3,15 @@
 ghost use Rattle.std.specs.Prelude.{◌≡◌, ◌+◌, ◌<◌, [], length, IfOk, IfSome, IfNone, nat_le};
 ghost use Rattle.std.specs.List.{AllByRecursion, flat_map};
 ghost use Rattle.msc_parser.specs.Drafts.{IsSectionNamed, statements_in, statements_of};
-ghost use Rattle.msc_import.specs.Drafting.{drawn, drawn_as, drawn_walk, section_of, sections_on};
+ghost use Rattle.msc_import.specs.Drafting.{drawn, drawn_as, drawn_walk, line_name};
+ghost use Rattle.msc_import.specs.Drafting.{section_of, sections_on};
 ghost use Rattle.msc_import.specs.Gives.{Gives};
 
 use crate::drafting::{decl_of, drawn_items, fitted, line_name};
 use crate::fault::ImportFault;
 use crate::line_name::names_of;
 use crate::naming::made;
-use crate::plan::{Manner, Plan};
+use crate::plan::{Manner, Plan, plans_of};
 use crate::statement::{Diagram, Placed};
 use crate::walking::Walker;
 use listed::Listed;
@@ -77,23 +78,32 @@ fn section_of(
     })
 }
 
+/// A line of the diagram.
+fn ident_at(lines: &[Listed<u8>], line: usize) -> &[u8]
+    ensures { result.now ≡ line_name lines.now line }
+{
+    if line < lines.len() {
+        lines[line].as_slice()
+    } else {
+        &[]
+    }
+}
+
 /// The lines of the draft.
 fn sections_of(
     alloc: Global,
-    manner: Manner,
-    walker: &Walker,
+    lines: &[Listed<u8>],
     names: &[Name],
     statements: &[Placed],
-) -> Result<Vec<Section>, ImportFault>
-    ensures { Gives (λ v. v.items) result
-        (sections_on manner walker.now.steps names.now statements.now 0 walker.now.lines []) }
+    plans: &[Plan],
+) -> Result<Vec<Section>, AllocError>
+    ensures { IfOk result (λ v.
+        v.items ≡ sections_on lines.now names.now statements.now 0 plans.now []) }
 {
-    let lines = walker.lines();
     let mut sections = Vec::new(alloc);
-    for i in 0..lines.len() {
-        let plan = Plan::of(alloc, manner, i, walker.steps())?;
-        let ident = lines[i].as_slice();
-        let section = section_of(alloc, names, i, ident, statements, &plan)?;
+    for i in 0..plans.len() {
+        let ident = ident_at(lines, i);
+        let section = section_of(alloc, names, i, ident, statements, &plans[i])?;
         sections.push(section)?;
     }
     Ok(sections)
@@ -124,9 +134,11 @@ fn drawn_walk(
 ) -> Result<Draft, ImportFault>
     ensures { Gives (λ d. d) result (drawn_walk manner name.now statements.now walker.now) }
 {
-    let names = names_of(alloc, walker.lines())?;
-    let sections = sections_of(alloc, manner, walker, names.as_slice(), statements)?;
+    let lines = walker.lines();
+    let plans = plans_of(alloc, manner, lines.len(), walker.steps())?;
     walker.whole()?;
+    let names = names_of(alloc, lines)?;
+    let sections = sections_of(alloc, lines, names.as_slice(), statements, plans.as_slice())?;
     drawn_as(alloc, name, sections)
 }
 

@@ -1,12 +1,13 @@
 //! Where the arrows of a scenario's events begin in the text.
 
-ghost use Rattle.std.specs.Prelude.{◌≡◌, ◌++◌, [], map, OnOk};
-ghost use Rattle.msc_import.specs.Drafting.{seen};
+ghost use Rattle.std.specs.Prelude.{◌≡◌, ◌++◌, [], map, IfOk, OnOk};
+ghost use Rattle.std.specs.List.{flat_map};
+ghost use Rattle.msc_import.specs.Plans.{seen};
 ghost use Rattle.msc_import.specs.Gives.{Gives};
-ghost use Rattle.msc_import.specs.Places.{place_of, places, places_on, walk_places};
+ghost use Rattle.msc_import.specs.Places.{place_of, places, places_in, walk_places};
 
 use crate::fault::ImportFault;
-use crate::plan::{Manner, Plan, Planned};
+use crate::plan::{Manner, Plan, Planned, plans_of};
 use crate::statement::Diagram;
 use crate::walking::Walker;
 use msc_place::Position;
@@ -27,28 +28,25 @@ fn put_places(places: &mut Vec<Position>, events: &[Planned]) -> Result<(), Allo
     Ok(())
 }
 
+/// The places of the events on all lines.
+fn places_in(alloc: Global, plans: &[Plan]) -> Result<Vec<Position>, AllocError>
+    ensures { IfOk result (λ v. v.items ≡ flat_map places_in plans.now) }
+{
+    let mut places = Vec::new(alloc);
+    for plan in plans {
+        put_places(&mut places, plan.events())?;
+    }
+    Ok(places)
+}
+
 /// The places of a walk's events.
 #[tactic(auto, unfolding(crate::specs::Places::walk_places))]
 fn walk_places(alloc: Global, manner: Manner, walker: &Walker) -> Result<Vec<Position>, ImportFault>
     ensures { Gives (λ v. v.items) result (walk_places manner walker.now) }
 {
-    let places = places_on(alloc, manner, walker)?;
+    let plans = plans_of(alloc, manner, walker.lines().len(), walker.steps())?;
     walker.whole()?;
-    Ok(places)
-}
-
-/// The places of the events on all lines.
-fn places_on(alloc: Global, manner: Manner, walker: &Walker) -> Result<Vec<Position>, ImportFault>
-    ensures { Gives (λ v. v.items) result
-        (places_on manner walker.now.steps 0 walker.now.lines []) }
-{
-    let count = walker.lines().len();
-    let mut places = Vec::new(alloc);
-    for i in 0..count {
-        let plan = Plan::of(alloc, manner, i, walker.steps())?;
-        put_places(&mut places, plan.events())?;
-    }
-    Ok(places)
+    Ok(places_in(alloc, plans.as_slice())?)
 }
 
 /// Where in the text the arrows of the events begin that the draft of a diagram's scenario with

@@ -1,10 +1,10 @@
 //! What each line of a diagram has of a course: ends of messages, in segments.
 
-ghost use Rattle.std.specs.Prelude.{◌≡◌, Ok, OnOk, map};
-ghost use Rattle.msc_import.specs.Drafting.{closed_last, is_coregion, is_refused, last_frame};
-ghost use Rattle.msc_import.specs.Drafting.{marked, marked_last, opened};
-ghost use Rattle.msc_import.specs.Drafting.{plan_on, planned, seen, sides_on, unplanned, with_event};
-ghost use Rattle.msc_import.specs.Drafting.{with_sides};
+ghost use Rattle.std.specs.Prelude.{◌≡◌, [], IfOk, OnOk, map, replicate};
+ghost use Rattle.msc_import.specs.Plans.{closed_last, is_coregion, is_refused, last_frame};
+ghost use Rattle.msc_import.specs.Plans.{marked, marked_last, opened};
+ghost use Rattle.msc_import.specs.Plans.{planned, planned_all, plans_of, seen, sides_on};
+ghost use Rattle.msc_import.specs.Plans.{unplanned, with_event, with_sides};
 ghost use Rattle.msc_import.specs.Gives.{Gives};
 ghost use Rattle.msc_import.specs.Reading.{Leaves};
 
@@ -82,7 +82,7 @@ pub(crate) struct Plan<'s> {
 
 impl<'s> Model for Plan<'s> {
     ghost use Rattle.std.specs.Prelude.{map};
-    ghost use Rattle.msc_import.specs.Drafting.{Event, Plan as Drawing};
+    ghost use Rattle.msc_import.specs.Plans.{Event, Plan as Drawing};
 
     ghost Value = { Drawing };
 
@@ -94,7 +94,7 @@ impl<'s> Model for Plan<'s> {
 }
 
 /// The ends of a message on a line, the upper one first.
-#[tactic(auto, unfolding(crate::specs::Drafting::sides_on))]
+#[tactic(auto, unfolding(crate::specs::Plans::sides_on))]
 fn sides_on(own: Own, line: usize, message: &Message) -> &'static [Side]
     ensures { result.now ≡ sides_on own line message.now }
 {
@@ -241,7 +241,7 @@ impl<'s> Plan<'s> {
     }
 
     /// Plans one step more, on this line of the diagram.
-    #[tactic(auto, unfolding(crate::specs::Drafting::planned))]
+    #[tactic(auto, unfolding(crate::specs::Plans::planned))]
     fn step(&mut self, manner: Manner, line: usize, step: &'s Step) -> Result<(), ImportFault>
         ensures { Leaves result self.new (planned manner line step.now self.old) }
     {
@@ -253,20 +253,45 @@ impl<'s> Plan<'s> {
         }
         Ok(())
     }
+}
 
-    /// What a line has of these steps.
-    pub(crate) fn of(
-        alloc: Global,
-        manner: Manner,
-        line: usize,
-        steps: &'s [Step],
-    ) -> Result<Plan<'s>, ImportFault>
-        ensures { Gives (λ p. p) result (plan_on manner line steps.now unplanned) }
-    {
-        let mut plan = Plan::new(alloc);
-        for step in steps {
-            plan.step(manner, line, step)?;
-        }
-        Ok(plan)
+/// All lines take a step, the first line first.
+fn step_all<'s>(
+    plans: &mut Vec<Plan<'s>>,
+    manner: Manner,
+    step: &'s Step,
+) -> Result<(), ImportFault>
+    ensures { Leaves result plans.new.items (planned_all manner step.now [] plans.old.items) }
+{
+    for line in 0..plans.len() {
+        plans[line].step(manner, line, step)?;
     }
+    Ok(())
+}
+
+/// So many lines of which nothing is planned.
+fn unplanned<'s>(alloc: Global, lines: usize) -> Result<Vec<Plan<'s>>, AllocError>
+    ensures { IfOk result (λ v. v.items ≡ replicate lines unplanned) }
+{
+    let mut plans = Vec::new(alloc);
+    for _ in 0..lines {
+        plans.push(Plan::new(alloc))?;
+    }
+    Ok(plans)
+}
+
+/// What so many lines have of these steps; or the first par that one of them refuses.
+pub(crate) fn plans_of<'s>(
+    alloc: Global,
+    manner: Manner,
+    lines: usize,
+    steps: &'s [Step],
+) -> Result<Vec<Plan<'s>>, ImportFault>
+    ensures { Gives (λ v. v.items) result (plans_of manner steps.now lines) }
+{
+    let mut plans = unplanned(alloc, lines)?;
+    for step in steps {
+        step_all(&mut plans, manner, step)?;
+    }
+    Ok(plans)
 }

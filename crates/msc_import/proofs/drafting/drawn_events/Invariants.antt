@@ -1,5 +1,6 @@
 use Rattle.std.proofs.Common.{◌≡◌, map, take}
-use Rattle.msc_import.specs.Drafting.{drawn_event, seen}
+use Rattle.msc_import.specs.Drafting.{drawn_event}
+use Rattle.msc_import.specs.Plans.{seen}
 use Rattle.msc_import.proofs.drafting.drawn_events.Given as goal
 
 abbrev pub invariant-loop-event : goal.invariant-loop-event

@@ -1,6 +1,7 @@
 use Rattle.std.proofs.Common.{sym, ap, ◌∙◌}
 use Rattle.msc_parser.specs.declared.tree.Item.TheVariants.{Single, Coregion}
-use Rattle.msc_import.specs.Drafting.{drawn_event, seen}
+use Rattle.msc_import.specs.Drafting.{drawn_event}
+use Rattle.msc_import.specs.Plans.{seen}
 use Rattle.msc_import.proofs.DraftLemmas.{item_one, item_many}
 use Rattle.msc_import.proofs.drafting.drawn_item.Goals as goal
 

@@ -1,6 +1,7 @@
 use Rattle.std.proofs.Common.{◌+◌, ◌++◌, ◌∷◌, [], get_or, drop, map, sym, ap, ◌∙◌, append_assoc}
 use Rattle.std.proofs.lemmas.List.{append-nil}
-use Rattle.msc_import.specs.Drafting.{drawn_item, drawn_items, seen}
+use Rattle.msc_import.specs.Drafting.{drawn_item, drawn_items}
+use Rattle.msc_import.specs.Plans.{seen}
 use Rattle.msc_import.proofs.DraftLemmas.{items_more, items_end}
 use Rattle.msc_import.proofs.drafting.drawn_items.Goals as goal
 

@@ -1,5 +1,6 @@
 use Rattle.std.proofs.Common.{◌≡◌, ◌++◌, map, drop}
-use Rattle.msc_import.specs.Drafting.{drawn_items, seen}
+use Rattle.msc_import.specs.Drafting.{drawn_items}
+use Rattle.msc_import.specs.Plans.{seen}
 use Rattle.msc_import.proofs.drafting.drawn_items.Given as goal
 
 abbrev pub invariant-loop-stop : goal.invariant-loop-stop

@@ -1,5 +1,5 @@
 use Rattle.std.proofs.Common.{◌≡◌, ◌++◌, map, take}
-use Rattle.msc_import.specs.Drafting.{seen}
+use Rattle.msc_import.specs.Plans.{seen}
 use Rattle.msc_import.specs.Places.{place_of}
 use Rattle.msc_import.proofs.placing.put_places.Given as goal
 

@@ -1,5 +1,5 @@
 use Rattle.std.proofs.Common.{◌+◌, drop, sym, ap, ◌∙◌}
-use Rattle.msc_import.specs.Drafting.{with_sides}
+use Rattle.msc_import.specs.Plans.{with_sides}
 use Rattle.msc_import.proofs.PlanLemmas.{sides_more, sides_end}
 use Rattle.msc_import.proofs.plan.Plan.put_sides.Goals as goal
 

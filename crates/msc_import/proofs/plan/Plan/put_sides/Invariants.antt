@@ -1,5 +1,5 @@
 use Rattle.std.proofs.Common.{◌≡◌, drop}
-use Rattle.msc_import.specs.Drafting.{with_sides}
+use Rattle.msc_import.specs.Plans.{with_sides}
 use Rattle.msc_import.proofs.plan.Plan.put_sides.Given as goal
 
 abbrev pub invariant-loop-side : goal.invariant-loop-side
