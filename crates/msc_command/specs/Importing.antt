@@ -5,6 +5,7 @@ use Rattle.std.specs.Str.{bytes_eq}
 use Rattle.msc_chart.specs.Drawings.{Drawing, chart_of}
 use Rattle.msc_chart.specs.Faults.{IsFaultless, IsFirstFault}
 use Rattle.msc_import.specs.declared.importing.Imported.{Imported}
+use Rattle.msc_import.specs.Drafting.{IsReadAgain}
 use Rattle.msc_import.specs.Importing.{Wanted, imported, seen}
 use Rattle.msc_judge.specs.declared.page.Page.{Page}
 use Rattle.msc_parser.specs.Canonical.{canonical}
@@ -86,15 +87,19 @@ before_ending name =
 abbrev pub title_of : List ℕ → List ℕ
 title_of file = before_ending (behind_folder file)
 
--- what is wanted of a text
-abbrev pub wanted_of : ImportWords → Wanted
-wanted_of x = record {
+-- what is wanted of a text, with these choices
+abbrev pub wanted_with : ImportWords → Option (List ℕ) → Wanted
+wanted_with x choices = record {
   language = x.language;
   cross = x.cross;
   manner = x.manner;
-  choices = option_map (λ c. choices_in c.now) x.choose;
+  choices = choices;
   name = x.name.now;
 }
+
+-- what is wanted of a text
+abbrev pub wanted_of : ImportWords → Wanted
+wanted_of x = wanted_with x (option_map (λ c. choices_in c.now) x.choose)
 
 -- What is printed of what was imported: its canonical text, or of its chart the list of its events, with
 -- the places of their arrows in the file.
@@ -117,17 +122,20 @@ IsPageOf list file is (Err (refusals.Fault Memory)) = Unit {0}
 IsPageOf list file is (Err (refusals.Fault (Chart f))) = (list ≡ true) × IsFirstFault is.draft f
 IsPageOf list file is (Err refusal) = ⊥
 
--- what is imported of a text, or why nothing is
-abbrev pub IsImport : ImportWords → List ℕ → Result Imported Refusal → Type 0
-IsImport x text (Ok is) = imported (wanted_of x) text ≡ Ok is
-IsImport x text (Err (refusals.Import e)) = imported (wanted_of x) text ≡ Err (seen e)
-IsImport x text (Err (refusals.Fault Memory)) = Unit {0}
-IsImport x text (Err refusal) = ⊥
+-- what is imported of a text by what is wanted of it, and its text is read again; or why nothing is
+abbrev pub IsImportAs : Wanted → List ℕ → Result Imported Refusal → Type 0
+IsImportAs x text (Ok is) = (imported x text ≡ Ok is) × IsReadAgain is.draft
+IsImportAs x text (Err (refusals.Import e)) = imported x text ≡ Err (seen e)
+IsImportAs x text (Err (refusals.Fault Memory)) = Unit {0}
+IsImportAs x text (Err refusal) = ⊥
 
--- what is printed of the text of a file
+abbrev pub IsImport : ImportWords → List ℕ → Result Imported Refusal → Type 0
+IsImport x text answer = IsImportAs (wanted_of x) text answer
+
+-- what is printed of the text of a file: what is imported of it, whose text is read again as that draft
 abbrev pub PrintsImport : ImportWords → List ℕ → List ℕ → List ℕ → Type 0
 PrintsImport x file text printed =
-    (is : Imported) × (imported (wanted_of x) text ≡ Ok is) × PrintsImported x.list file is printed
+    (is : Imported) × (imported (wanted_of x) text ≡ Ok is) × IsReadAgain is.draft × PrintsImported x.list file is printed
 
 -- why nothing is printed: nothing is imported, or what is listed is no chart
 abbrev pub RefusesImport : ImportWords → List ℕ → Refusal → Type 0

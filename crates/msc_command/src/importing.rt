@@ -1,16 +1,15 @@
 //! Imports, as pages: the canonical text of a scenario of a diagram, or the list of its events with
 //! the places of their arrows.
 
-ghost use Rattle.std.specs.Prelude.{◌≡◌, option_map};
+ghost use Rattle.std.specs.Prelude.{option_map};
 ghost use Rattle.msc_command.specs.Importing.{IsChartOrFault, IsImport, IsImportedOn, IsPageOf};
-ghost use Rattle.msc_command.specs.Importing.{wanted_of};
-ghost use Rattle.msc_import.specs.Importing.{Imports, imported, Wanted};
+ghost use Rattle.msc_command.specs.Importing.{IsImportAs, wanted_with};
 
 use crate::choices::choices_in;
 use crate::ending::Refusal;
 use crate::tasks::ImportWords;
 use msc_chart::Chart;
-use msc_import::{Imported, Importing, Refused, import};
+use msc_import::{Imported, Importing, import};
 use msc_judge::Page;
 use msc_report::write_list_at;
 use msc_source::SourceFault;
@@ -44,9 +43,9 @@ fn import_with(
     words: ImportWords<'_>,
     choices: Option<&[usize]>,
     text: &[u8],
-) -> Result<Imported, Refused>
-    requires { option_map (λ c. c.now) choices ≡ (wanted_of words).choices }
-    ensures { Imports result (imported (wanted_of words.entry) text.now) }
+) -> Result<Imported, Refusal>
+    ensures { IsImportAs (wanted_with words.entry (option_map (λ c. c.now) choices.entry))
+        text.now result }
 {
     let importing = Importing {
         language: words.language,
@@ -55,18 +54,21 @@ fn import_with(
         choices,
         name: words.name,
     };
-    import(alloc, importing, text)
+    let imported = import(alloc, importing, text)?;
+    Ok(imported)
 }
 
 /// What is imported of a text.
 fn import_by(alloc: Global, words: ImportWords<'_>, text: &[u8]) -> Result<Imported, Refusal>
     ensures { IsImport words.entry text.now result }
 {
-    let Some(word) = words.choose else {
-        return Ok(import_with(alloc, words, None, text)?);
-    };
-    let choices = choices_in(alloc, word)?;
-    Ok(import_with(alloc, words, Some(choices.as_slice()), text)?)
+    match words.choose {
+        None => import_with(alloc, words, None, text),
+        Some(word) => {
+            let choices = choices_in(alloc, word)?;
+            import_with(alloc, words, Some(choices.as_slice()), text)
+        }
+    }
 }
 
 /// What is imported of the text of a file of this name, on a page.

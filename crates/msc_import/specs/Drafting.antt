@@ -15,8 +15,10 @@ use Rattle.msc_parser.specs.declared.tree.Statement.{Statement as Drawn}
 use Rattle.msc_parser.specs.declared.tree.Statement.TheVariants.{Message as Signalled, Action as Acts}
 use Rattle.msc_parser.specs.declared.tree.Way.{Way}
 use Rattle.msc_parser.specs.declared.tree.Way.TheVariants as ways
+use Rattle.msc_parser.specs.Canonical.{canonical}
 use Rattle.msc_parser.specs.Drafts.{statements_of}
 use Rattle.msc_parser.specs.Grammar.{Tree}
+use Rattle.msc_parser.specs.Parsing.{HasDraft}
 use Rattle.msc_import.specs.declared.course.Message.{Message}
 use Rattle.msc_import.specs.declared.fault.ImportFault.{ImportFault}
 use Rattle.msc_import.specs.declared.fault.ImportFault.TheVariants.{TooManyArrows, TooManyChoices}
@@ -129,9 +131,22 @@ abbrev pub tree_of : List ℕ → List Section → Tree
 tree_of name sections = record { name = fitted (made name (codes "diagram")); header = []; sections = sections }
 
 -- the draft, where it has no more events than a text has bytes
-abbrev pub drawn_as : List ℕ → List Section → Result Tree ImportFault
-drawn_as name sections =
+abbrev pub few_events : List ℕ → List Section → Result Tree ImportFault
+few_events name sections =
     unless (nat_le (length (statements_of sections)) TEXT_LIMIT) (TooManyArrows 0) (tree_of name sections)
+
+-- A draft whose text is no longer than a text may be. The limits of arrows, lines and names leave none that
+-- is longer; it is looked at all the same, so that what is drawn is read again.
+abbrev pub short_enough : Tree → Result Tree ImportFault
+short_enough d = unless (nat_le (length (canonical d)) TEXT_LIMIT) (TooManyArrows 0) d
+
+-- the draft of these lines
+abbrev pub drawn_as : List ℕ → List Section → Result Tree ImportFault
+drawn_as name sections = few_events name sections >>= short_enough
+
+-- the text of a draft is read again, as this draft
+abbrev pub IsReadAgain : Tree → Type 0
+IsReadAgain d = HasDraft (canonical d) d
 
 -- why a walk has no draft beside its lines: its own fault, or more choices than blocks
 abbrev pub unended : Walk → Ending → Result Walk ImportFault

@@ -1,11 +1,12 @@
 //! Scenarios: a walk through a diagram, and its draft.
 
-ghost use Rattle.std.specs.Prelude.{◌≡◌, ◌+◌, ◌<◌, [], length, IfOk, IfSome, IfNone, nat_le};
+ghost use Rattle.std.specs.Prelude.{◌≡◌, ◌+◌, ◌<◌, [], length, IfOk, IfSome, IfNone, OnOk, nat_le};
 ghost use Rattle.std.specs.List.{AllByRecursion, flat_map};
 ghost use Rattle.msc_parser.specs.Drafts.{IsSectionNamed, statements_in, statements_of};
-ghost use Rattle.msc_import.specs.Drafting.{drawn, drawn_as, drawn_walk, line_name};
-ghost use Rattle.msc_import.specs.Drafting.{section_of, sections_on};
+ghost use Rattle.msc_import.specs.Drafting.{drawn, drawn_as, drawn_walk, few_events, line_name};
+ghost use Rattle.msc_import.specs.Drafting.{section_of, sections_on, short_enough, IsReadAgain};
 ghost use Rattle.msc_import.specs.Gives.{Gives};
+ghost use Rattle.msc_import.specs.Reading.{Leaves};
 
 use crate::drafting::{decl_of, drawn_items, fitted, line_name};
 use crate::fault::ImportFault;
@@ -109,10 +110,10 @@ fn sections_of(
     Ok(sections)
 }
 
-/// The draft of these lines.
-fn drawn_as(alloc: Global, name: &[u8], sections: Vec<Section>) -> Result<Draft, ImportFault>
+/// The draft of these lines, where they have no more events than a text has bytes.
+fn few_events(alloc: Global, name: &[u8], sections: Vec<Section>) -> Result<Draft, ImportFault>
     requires { AllByRecursion IsSectionNamed sections.items }
-    ensures { Gives (λ d. d) result (drawn_as name.now sections.items) }
+    ensures { Gives (λ d. d) result (few_events name.now sections.items) }
 {
     if !is_few(sections.as_slice()) {
         return Err(ImportFault::TooManyArrows(0));
@@ -121,6 +122,29 @@ fn drawn_as(alloc: Global, name: &[u8], sections: Vec<Section>) -> Result<Draft,
     let name = fitted(alloc, plain.as_slice())?;
     let header = Listed::from_vec(Vec::new(alloc));
     Ok(Draft::new(name, header, Listed::from_vec(sections)))
+}
+
+/// Nothing, where the text of a draft is no longer than a text may be.
+fn short_enough(alloc: Global, draft: &Draft) -> Result<(), ImportFault>
+    ensures short { Leaves result draft.now (short_enough draft.now) }
+    ensures again { OnOk result (IsReadAgain draft.now) }
+{
+    let text = draft.write(alloc)?;
+    if text.len() > TEXT_LIMIT {
+        return Err(ImportFault::TooManyArrows(0));
+    }
+    Ok(())
+}
+
+/// The draft of these lines.
+fn drawn_as(alloc: Global, name: &[u8], sections: Vec<Section>) -> Result<Draft, ImportFault>
+    requires { AllByRecursion IsSectionNamed sections.items }
+    ensures drawn { Gives (λ d. d) result (drawn_as name.now sections.items) }
+    ensures again { IfOk result (λ d. IsReadAgain d) }
+{
+    let draft = few_events(alloc, name, sections)?;
+    short_enough(alloc, &draft)?;
+    Ok(draft)
 }
 
 /// The draft of a walk through these statements.
@@ -132,7 +156,8 @@ fn drawn_walk(
     statements: &[Placed],
     walker: &Walker,
 ) -> Result<Draft, ImportFault>
-    ensures { Gives (λ d. d) result (drawn_walk manner name.now statements.now walker.now) }
+    ensures drawn { Gives (λ d. d) result (drawn_walk manner name.now statements.now walker.now) }
+    ensures again { IfOk result (λ d. IsReadAgain d) }
 {
     let lines = walker.lines();
     let plans = plans_of(alloc, manner, lines.len(), walker.steps())?;
@@ -155,7 +180,10 @@ pub fn draw(
     manner: Manner,
     name: &[u8],
 ) -> Result<Draft, ImportFault>
-    ensures { Gives (λ d. d) result (drawn manner name.now diagram.now choices.now) }
+    ensures drawn { Gives (λ d. d) result (drawn manner name.now diagram.now choices.now) }
+
+    // Its text is read again, as this draft.
+    ensures again { IfOk result (λ d. IsReadAgain d) }
 {
     let walker = Walker::through(alloc, diagram, choices)?;
     drawn_walk(alloc, manner, name, diagram.statements.as_slice(), &walker)

@@ -1,7 +1,8 @@
 //! Imports: from a text to the draft of one of its scenarios, with the places of its events.
 
-ghost use Rattle.std.specs.Prelude.{◌≡◌, ◌⊎◌, [], option_map};
+ghost use Rattle.std.specs.Prelude.{◌≡◌, ◌⊎◌, [], IfOk, option_map};
 ghost use Rattle.std.specs.List.{list_any};
+ghost use Rattle.msc_import.specs.Drafting.{IsReadAgain};
 ghost use Rattle.msc_import.specs.Gives.{Gives};
 ghost use Rattle.msc_import.specs.Importing.{Imports, chosen, diagram_in};
 ghost use Rattle.msc_import.specs.Importing.{imported, scenario_of, seen, short_bytes};
@@ -130,7 +131,8 @@ fn scenario_of(
     importing: Importing<'_>,
     diagram: &Diagram,
 ) -> Result<Imported, ImportFault>
-    ensures { Gives (λ x. x) result (scenario_of (wanted importing.entry) diagram.now) }
+    ensures given { Gives (λ x. x) result (scenario_of (wanted importing.entry) diagram.now) }
+    ensures again { IfOk result (λ x. IsReadAgain x.draft) }
 {
     let given = chosen(alloc, importing.choices, diagram)?;
     let draft = draw(alloc, diagram, given, importing.manner, importing.name)?;
@@ -173,7 +175,10 @@ fn unnamed(fault: ImportFault) -> Refused
 /// several scenarios; the first fault of the scenario; or a growth of memory that was refused.
 #[tactic(auto, unfolding(crate::specs::Importing::imported_of))]
 pub fn import(alloc: Global, importing: Importing<'_>, text: &[u8]) -> Result<Imported, Refused>
-    ensures { Imports result (imported (wanted importing.entry) text.now) }
+    ensures given { Imports result (imported (wanted importing.entry) text.now) }
+
+    // The text of the draft is read again, as this draft.
+    ensures again { IfOk result (λ x. IsReadAgain x.draft) }
 {
     let diagram = match diagram_in(alloc, importing.language, importing.cross, text) {
         Ok(diagram) => diagram,

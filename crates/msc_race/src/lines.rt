@@ -146,6 +146,8 @@ impl Lines {
     }
 
     /// `x` occurs.
+    // Called for each event of a run, from two loops: as a call it costs more than a tenth of a run.
+    #[inline(always)]
     pub fn occur(&mut self, choice: &Choice, x: Event)
         requires settled { IsChoice choice.now }
         requires known { x < event_count choice.now }

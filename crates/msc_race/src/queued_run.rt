@@ -116,6 +116,7 @@ impl QueuedRun {
     }
 
     /// `x` occurs.
+    #[inline(always)]
     pub fn occur(&mut self, choice: &Choice, x: Event) -> Result<(), AllocError>
         requires settled { IsChoice choice.now }
         requires queues { HoldsQueues (wired_chart choice.now) self.old.run.items self.old }

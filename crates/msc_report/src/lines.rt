@@ -273,6 +273,7 @@ impl<'s> Lines<'s> {
     }
 
     /// Puts the line of a race behind a page.
+    #[inline(always)]
     fn put_race(&self, page: &mut Page, chart: &Chart, e: Event, f: Event) -> Result<(), AllocError>
         requires fits { FitsLines chart.now self.now }
         requires e_known { e < length chart.now.events }

@@ -17,7 +17,7 @@ pub const BYTE_LIMIT: usize = TEXT_LIMIT + 1;
 pub const CALL_LIMIT: u32 = 2_097_152;
 
 /// How many bytes one call of `read` may give.
-const CHUNK: usize = 65_536;
+const CHUNK: usize = 16_384;
 
 /// Room for the bytes of one call of `read`.
 fn chunk_of(alloc: Global, len: usize) -> Result<Vec<u8>, AllocError>

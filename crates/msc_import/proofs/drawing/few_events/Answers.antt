@@ -3,7 +3,7 @@ use Rattle.std.proofs.lemmas.Bool.{leb-true}
 use Rattle.msc_lexer.specs.declared.TheConstants.{TEXT_LIMIT}
 use Rattle.msc_parser.specs.Drafts.{statements_of}
 use Rattle.msc_import.proofs.NamedLemmas.{draft_named}
-use Rattle.msc_import.proofs.drawing.drawn_as.Goals as goal
+use Rattle.msc_import.proofs.drawing.few_events.Goals as goal
 
 pub new-requires-2 : goal.new-requires-2
 new-requires-2 c =
