@@ -23,7 +23,7 @@ CHARTS = [TOP / "charts/kinds_and_comments.msc", TOP / "charts/texts_of_actions.
 # letters that make other words of reserved ones, and bytes that begin no token
 TELLING = b";,:()'/* \t\r\n09AZaz_^@[`{emotEM\0\x0b\x1f.\"\\-\x7f\xc3\xff"
 # the same of diagrams: marks, parts of arrows and of tags, letters of key words
-IN_DIAGRAMS = b";,:()#%+-=<>@{} \t\r\n/*09AZaz_xXndbi\0\"\\\x7f\xbf\xef\xc3\xff"
+IN_DIAGRAMS = b";,:()#%+-=<>@{} \t\r\n/09AZaz_xndbi\0\"\\\x7f\xbf\xef\xc3\xff"
 
 
 def cut(text):

@@ -4,7 +4,8 @@
     imports.py [--texts N] [--seed S] PROGRAM
 
 Of each text, PROGRAM import with random options has to print what mermaid.py prints, on both
-streams, with its status; what it prints as a chart is read again as the same text, by PROGRAM read.
+streams, with its status; what it prints as a chart is read again as the same text, by PROGRAM read,
+and is one that PROGRAM check judges.
 A third of the texts are diagrams, a third of them have a mistake in their lines, and of a third
 some bytes are changed. Prints how many texts had which first fault. The exit status is 1 at the
 first difference, whose text is printed. Before these come diagrams at each limit and one past it.
@@ -175,6 +176,10 @@ def difference(program, text, words, listed, wanted):
     again = subprocess.run([program, "read", "-"], input=got[0], capture_output=True)
     if (again.stdout, again.returncode) != (got[0], 0):
         return f"{whole}\nis not read again: {again.stdout} {again.stderr}"
+    words = [program, "check", "--queues", "pair", "--quiet", "-"]
+    judged = subprocess.run(words, input=got[0], capture_output=True)
+    if judged.returncode not in (0, 1):
+        return f"{whole}\nis no chart: {judged.stderr}"
     return None
 
 

@@ -27,6 +27,7 @@ unfolding number_of
 number_some [] some = absurd (omega (arith, some))
 number_some (b ∷ bs) some = refl
 
-pub number_none : number_of [] ≡ None
+pub number_empty : (bs : List ℕ) → length bs ≡ 0 → number_of bs ≡ None
 unfolding number_of
-number_none = refl
+number_empty [] none = refl
+number_empty (b ∷ bs) none = absurd (omega (arith, none))

@@ -47,10 +47,13 @@ number_of (b ∷ bs) = number_behind 0 (b ∷ bs)
 abbrev pub is_comma : ℕ → Bool
 is_comma b = b == 44
 
+-- the parts between commas are numbers
+abbrev pub are_numbers : List ℕ → Bool
+are_numbers word = list_all (λ part. is_some (number_of part)) (slice_split is_comma word)
+
 -- a word gives choices: it is `main`, or numbers with commas between
 abbrev pub gives_choices : List ℕ → Bool
-gives_choices word =
-    bytes_eq word (codes "main") || list_all (λ part. is_some (number_of part)) (slice_split is_comma word)
+gives_choices word = bytes_eq word (codes "main") || are_numbers word
 
 -- the choice that a part of such a word is
 abbrev pub choice_in : List ℕ → ℕ

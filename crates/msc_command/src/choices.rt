@@ -2,7 +2,7 @@
 
 ghost use Rattle.std.specs.Prelude.{◌≡◌, ◌≤◌, IfOk, IfSome, length, map};
 ghost use Rattle.std.specs.List.{slice_split};
-ghost use Rattle.msc_command.specs.Importing.{before_ending, behind_dot, behind_folder};
+ghost use Rattle.msc_command.specs.Importing.{are_numbers, before_ending, behind_dot, behind_folder};
 ghost use Rattle.msc_command.specs.Importing.{behind_slash, choice_in, choices_in, gives_choices};
 ghost use Rattle.msc_command.specs.Importing.{greatest_choice, is_comma, is_dot, is_slash};
 ghost use Rattle.msc_command.specs.Importing.{number_of, title_of, with_digit};
@@ -42,16 +42,20 @@ fn number_of(bytes: &[u8]) -> Option<usize>
     Some(number)
 }
 
+/// Whether the parts of a word, with commas between, are numbers.
+fn are_numbers(bytes: &[u8]) -> bool
+    ensures { result ≡ are_numbers bytes.now }
+{
+    bytes
+        .split(|byte| *byte == b',')
+        .all(|part| number_of(part).is_some())
+}
+
 /// Whether a word gives choices: it is `main`, or numbers with commas between.
 pub(crate) fn gives_choices(word: &str) -> bool
     ensures { result ≡ gives_choices word.now }
 {
-    if word == "main" {
-        return true;
-    }
-    word.as_bytes()
-        .split(|byte| *byte == b',')
-        .all(|part| number_of(part).is_some())
+    word == "main" || are_numbers(word.as_bytes())
 }
 
 /// The parts of a word, with commas between.
@@ -80,7 +84,8 @@ pub(crate) fn choices_in(alloc: Global, word: &str) -> Result<Vec<usize>, AllocE
         return Ok(Vec::new(alloc));
     }
     let parts = parts_of(alloc, word.as_bytes())?;
-    choices_of(alloc, parts.as_slice())
+    let choices = choices_of(alloc, parts.as_slice())?;
+    Ok(choices)
 }
 
 /// Whether the byte ends a folder.

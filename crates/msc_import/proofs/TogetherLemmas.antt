@@ -1,5 +1,5 @@
 -- What all lines have together is what each has by itself.
-use Rattle.std.proofs.Common.{◌≡◌, ◌≤◌, ℕ, zero, suc, ◌+◌, List, [], ◌∷◌, ◌++◌, length, get_or, replicate, Some, Result, Ok, Err, refl, sym, ap, ◌∙◌, subst, ⊎_elim, arith}
+use Rattle.std.proofs.Common.{◌≡◌, ◌<◌, ◌≤◌, ℕ, zero, suc, ◌+◌, List, [], ◌∷◌, ◌++◌, length, get_or, replicate, Some, Result, Ok, Err, refl, sym, ap, ◌∙◌, subst, ⊎_elim, arith}
 use Rattle.std.specs.List.{slice_get}
 use Rattle.std.proofs.lemmas.Bool.{cases_lt}
 use Rattle.std.proofs.lemmas.List.{append-nil, append_assoc, length_push, get_or-replicate, get_or_past, length-replicate}
@@ -31,7 +31,7 @@ module _ (manner : Manner) (s : Step) where
   unfolding Behind Step_by
   one_behind done p ps qs (Ok q) e f rest =
       let b = rest q f in
-      (q ∷ b.0, b.1.0 ∙ append_assoc done (q ∷ []) b.0, (e, subst (λ n. Step_by manner s n ps b.0) (length_push done q) b.1.1))
+      (q ∷ b.0, b.1 ∙ append_assoc done (q ∷ []) b.0, (e, subst (λ n. Step_by manner s n ps b.0) (length_push done q) b.2))
   one_behind done p ps qs (Err x) e f rest = cc
 
   all_behind : (done ps qs : List Plan) → planned_all manner s done ps ≡ Ok qs → Behind done ps qs
@@ -43,7 +43,7 @@ module _ (manner : Manner) (s : Step) where
   all_step : (ps qs : List Plan) → planned_all manner s [] ps ≡ Ok qs → Step_by manner s 0 ps qs
   unfolding Behind
   all_step ps qs e =
-      let b = all_behind [] ps qs e in subst (Step_by manner s 0 ps) (sym b.1.0) b.1.1
+      let b = all_behind [] ps qs e in subst (Step_by manner s 0 ps) (sym b.1) b.2
 
   -- a step and those behind it
   step_on : (ss : List Step) (line : ℕ) (ps rs qs : List Plan) → Step_by manner s line ps rs → Steps_by manner ss line rs qs → Steps_by manner (s ∷ ss) line ps qs
@@ -88,11 +88,13 @@ module _ (manner : Manner) where
 
 unplanned_at : (n j : ℕ) → get_or (replicate n unplanned) j unplanned ≡ unplanned
 unplanned_at n j =
-    let within = λ inside. get_or-replicate n j unplanned unplanned inside in
-    let beyond = λ over. get_or_past (replicate n unplanned) j unplanned (subst (λ k. k ≤ j) (sym (length-replicate n unplanned)) over) in
+    let within : j < n → get_or (replicate n unplanned) j unplanned ≡ unplanned = λ inside. get_or-replicate n j unplanned unplanned inside in
+    let beyond : n ≤ j → get_or (replicate n unplanned) j unplanned ≡ unplanned = λ over. get_or_past (replicate n unplanned) j unplanned (subst (λ k. k ≤ j) (sym (length-replicate n unplanned)) over) in
     ⊎_elim within beyond (cases_lt j n)
 
 -- of so many lines each has what it has by itself
 pub line_planned : (manner : Manner) (ss : List Step) (lines : ℕ) (plans : List Plan) (line : ℕ) (p : Plan) → plans_of manner ss lines ≡ Ok plans → slice_get plans line ≡ Some p → plan_on manner line ss unplanned ≡ Ok p
 line_planned manner ss lines plans line p e at =
-    subst (λ x. plan_on manner line ss x ≡ Ok p) (unplanned_at lines line) (one_of manner ss 0 (replicate lines unplanned) plans line p unplanned (together manner ss (replicate lines unplanned) plans e) at)
+    let one = one_of manner ss 0 (replicate lines unplanned) plans line p unplanned (together manner ss (replicate lines unplanned) plans e) at in
+    let same : 0 + line ≡ line = omega arith in
+    subst (λ n. plan_on manner n ss unplanned ≡ Ok p) same (subst (λ x. plan_on manner (0 + line) ss x ≡ Ok p) (unplanned_at lines line) one)

@@ -1,5 +1,5 @@
 -- Where the arrows of a draft's events begin in the text.
-use Rattle.std.specs.Prelude.{ℕ, List, [], length, map, Result, Ok}
+use Rattle.std.specs.Prelude.{ℕ, ◌+◌, List, [], length, map, Result, Ok}
 use Rattle.std.specs.List.{flat_map}
 use Rattle.msc_import.specs.declared.TheConstants.{DEPTH_LIMIT}
 use Rattle.msc_import.specs.declared.fault.ImportFault.{ImportFault}

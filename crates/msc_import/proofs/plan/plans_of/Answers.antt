@@ -7,7 +7,7 @@ use Rattle.msc_import.proofs.plan.plans_of.Goals as goal
 
 pub returns-in_err-step_all : goal.returns-in_err-step_all
 returns-in_err-step_all c =
-    let l = c.loop-step in let p = err_from_is_err_and c.from_residual.result c.from_residual.ensures.1 in
+    let l = c.loop-step in let p = err_from_is_err_and c.from_residual-in_err-step_all.result c.from_residual-in_err-step_all.ensures.1 in
     let manner = c.args.manner in let e = c.in_err-step_all.field-0.0 in
     let there = subst (λ s. Fails e (planned_all manner s [] l.plans.items)) c.step-item.is c.in_err-step_all.ensures in
     rw (p.1, p.2, ← l.invariant) (plans_fail manner c.args.steps.now l.step-index l.plans.items c.step-item.result c.loop-step-test.true e there)
