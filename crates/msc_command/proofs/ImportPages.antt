@@ -1,5 +1,5 @@
 -- Why nothing is imported of a text, and what is printed of what is.
-use Rattle.std.proofs.Common.{◌≡◌, ℕ, List, Option, Result, Ok, Err, inl, inr, refl, sym, ◌∙◌}
+use Rattle.std.proofs.Common.{◌≡◌, ℕ, true, List, Option, Result, Ok, Err, inl, inr, refl, sym, ◌∙◌}
 use Rattle.msc_import.specs.declared.fault.ImportFault.{ImportFault}
 use Rattle.msc_import.specs.declared.fault.ImportFault.TheVariants as imports
 use Rattle.msc_import.specs.declared.importing.Imported.{Imported}
@@ -8,9 +8,12 @@ use Rattle.msc_import.specs.Drafting.{IsReadAgain}
 use Rattle.msc_import.specs.Importing.{Refusal as Said, RefusesSo, Wanted, imported, seen}
 use Rattle.msc_judge.specs.declared.page.Page.{Page}
 use Rattle.msc_report.specs.declared.fault.Fault.TheVariants.{Parse, Chart, NotStarted, Memory, Device}
+use Rattle.msc_report.specs.Refusals.{of_source}
+use Rattle.msc_source.specs.declared.fault.SourceFault.{SourceFault}
+use Rattle.msc_source.specs.declared.fault.SourceFault.TheVariants as sources
 use Rattle.msc_command.specs.Answering.{Answers}
 use Rattle.msc_command.specs.Ending.{of_import, of_import_fault}
-use Rattle.msc_command.specs.Importing.{IsImport, IsImportAs, IsImportedOn, IsPageOf, PrintsImportPage, RefusesImport, wanted_of}
+use Rattle.msc_command.specs.Importing.{IsChartOrFault, IsImport, IsImportAs, IsImportedOn, IsPageOf, PrintsImportPage, RefusesImport, wanted_of}
 use Rattle.msc_command.specs.declared.ending.Refusal.{Refusal}
 use Rattle.msc_command.specs.declared.ending.Refusal.TheVariants as refusals
 use Rattle.msc_command.specs.declared.tasks.ImportWords.{ImportWords}
@@ -76,3 +79,9 @@ module _ (x : ImportWords) (text file : List ℕ) where
   unprinted contents (refusals.Pair f) now fails = (fails, refl)
   unprinted contents (refusals.Mark f) now fails = (fails, refl)
   unprinted contents (refusals.Import e) now fails = (fails, refl)
+
+-- a draft that is no chart is not listed
+pub not_listed : (file : List ℕ) (is : Imported) (fault : SourceFault) → IsChartOrFault is.draft (Err fault) → IsPageOf true file is (Err (refusals.Fault (of_source fault)))
+not_listed file is (sources.Parse f) said = absurd said
+not_listed file is (sources.Chart f) said = (refl, said)
+not_listed file is sources.Memory said = tt

@@ -1,7 +1,7 @@
 //! Imports, as pages: the canonical text of a scenario of a diagram, or the list of its events with
 //! the places of their arrows.
 
-ghost use Rattle.std.specs.Prelude.{option_map};
+ghost use Rattle.std.specs.Prelude.{option_map, true};
 ghost use Rattle.msc_command.specs.Importing.{IsChartOrFault, IsImport, IsImportedOn, IsPageOf};
 ghost use Rattle.msc_command.specs.Importing.{IsImportAs, wanted_with};
 
@@ -22,19 +22,27 @@ fn chart_of(alloc: Global, imported: &Imported) -> Result<Chart, SourceFault>
     Ok(Chart::build(alloc, &imported.draft)?)
 }
 
-/// What is printed of what was imported of the text of a file of this name, on a page.
-fn page_of(alloc: Global, list: bool, file: &str, imported: &Imported) -> Result<Page, Refusal>
-    ensures { IsPageOf list file.now imported.now result }
+/// The events of what was imported of the text of a file of this name, on a page.
+fn list_page(alloc: Global, file: &str, imported: &Imported) -> Result<Page, Refusal>
+    ensures { IsPageOf true file.now imported.now result }
 {
-    if !list {
-        let bytes = imported.draft.write(alloc)?;
-        return Ok(Page { bytes });
-    }
     let chart = chart_of(alloc, imported)?;
     let mut page = Page::new(alloc);
     let places = imported.places.as_slice();
     let written = write_list_at(&mut page, &chart, file.as_bytes(), places);
-    Ok(page.if_written(written)?)
+    let page = page.if_written(written)?;
+    Ok(page)
+}
+
+/// What is printed of what was imported of the text of a file of this name, on a page.
+fn page_of(alloc: Global, list: bool, file: &str, imported: &Imported) -> Result<Page, Refusal>
+    ensures { IsPageOf list file.now imported.now result }
+{
+    if list {
+        return list_page(alloc, file, imported);
+    }
+    let bytes = imported.draft.write(alloc)?;
+    Ok(Page { bytes })
 }
 
 /// What is imported of a text, with these choices.
