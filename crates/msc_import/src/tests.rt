@@ -948,6 +948,18 @@ const REFUSED: &[(&[u8], &[usize], ImportFault)] = &[
         &[],
         ImportFault::Shared(3, 0),
     ),
+    // of two pars the one that ends first, on a later line of the diagram
+    (
+        b"sequenceDiagram\nactor A\npar x\nB->>C: a\nC->>B: b\nand y\nB->>C: c\nend\npar x\nA->>B: d\nB->>A: e\nand y\nA->>B: f\nend",
+        &[],
+        ImportFault::Shared(3, 1),
+    ),
+    // what is met before a par ends comes before it
+    (
+        b"sequenceDiagram\npar x\nA->>B: a\nB->>A: b\nopt z\nA->>B: c\nend\nand y\nA->>B: d\nend",
+        &[2],
+        ImportFault::Choice(5, 1, 1),
+    ),
 ];
 
 #[test]
