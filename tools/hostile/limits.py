@@ -6,7 +6,8 @@
 Texts at the limit are read or checked, and texts one past it are refused with the limit's line;
 texts that are as large as a text may be, each made of one thing, are read (with --quick those of
 few tokens alone, since the naive reader takes its time for the others). Wanted answers are those of
-tools/naive/reading.py or stand here. The largest charts are answered the same with a stack of 128
+tools/naive/reading.py or stand here; the limits of diagrams are met by tools/naive/imports.py. The
+largest charts and diagrams are answered the same with a stack of 128
 KiB, for each thread too. Prints what differs, and last `N passed, M failed`.
 """
 import random
@@ -16,6 +17,7 @@ import sys
 from load import INSTANCES, MESSAGES, drawn
 from program import QUEUES, Answer, Count, add_commands, arguments, check_words, run
 from answer import read_answer
+from imports import at_the_limits
 
 LIMIT = 1048576
 # bytes of a small stack
@@ -142,8 +144,12 @@ def small_stack():
     resource.setrlimit(resource.RLIMIT_STACK, (STACK, STACK))
 
 
+# how a run has one
+SMALL = {"preexec_fn": small_stack, "env": {}}
+
+
 def stacks(count, program, commands):
-    """Runs the largest charts with a small stack; of `run`, whose traces differ, only that it
+    """Runs the largest charts and diagrams with a small stack; of `run`, whose traces differ, only that it
     succeeds."""
     for text in (of_events(1024, 1024), drawn(random.Random(1), INSTANCES, MESSAGES)):
         ways = [[program, "read", "-"], *(check_words(program, queues, 3) for queues in QUEUES)]
@@ -152,9 +158,13 @@ def stacks(count, program, commands):
                 ways += [[program, command, "--queues", queues, "-"] for queues in QUEUES]
         for words in ways:
             full = run(words, text)
-            small = run(words, text, preexec_fn=small_stack, env={})
+            small = run(words, text, **SMALL)
             is_same = small[1:] == (b"", 0) if words[1] == "run" else small == full
             count.add(is_same, *words[1:], f"with a stack of {STACK} bytes", small[1:])
+    for text, words in at_the_limits() if "import" in commands else ():
+        words = [program, "import", *words, "-"]
+        full, small = (run(words, text.encode(), **how) for how in ({}, SMALL))
+        count.add(small == full, *words[1:4], f"with a stack of {STACK} bytes", small[1:])
 
 
 def main():

@@ -79,6 +79,7 @@ module _ {W : Type 0} (contents : W → Option (List ℕ)) where
   answers_so prints so refuses not_so right wrong (Err (refusals.Pair f)) old new (fails, same) = (wrong _ fails, same)
   answers_so prints so refuses not_so right wrong (Err (refusals.Mark f)) old new (fails, same) = (wrong _ fails, same)
   answers_so prints so refuses not_so right wrong (Err (refusals.Instance name)) old new (fails, same) = (wrong _ fails, same)
+  answers_so prints so refuses not_so right wrong (Err (refusals.Import e)) old new (fails, same) = (wrong _ fails, same)
 
   -- what is right to print was put
   pub put_so : (prints : Status → List ℕ → Type 0) (refuses : Refusal → Type 0) (bytes : List ℕ) (status : Status) → prints status bytes
@@ -135,6 +136,7 @@ module _ {W : Type 0} (contents : W → Option (List ℕ)) where
   told_quietly queues allowed accept file s (Err (refusals.Pair f)) now says = absurd says
   told_quietly queues allowed accept file s (Err (refusals.Mark f)) now says = (says, refl)
   told_quietly queues allowed accept file s (Err (refusals.Instance name)) now says = absurd says
+  told_quietly queues allowed accept file s (Err (refusals.Import e)) now says = absurd says
 
   -- a chart that was not run is answered so
   pub not_run : (queues : Queues) (patience : ℕ) (file : List ℕ) (s : SourceText) (f : RunFault) (now : W)
@@ -174,6 +176,7 @@ module _ {W : Type 0} (contents : W → Option (List ℕ)) where
     refuses_so d of_text ask (refusals.Pair f) fails = (d, of_text, fails)
     refuses_so d of_text ask (refusals.Mark f) fails = (d, of_text, fails)
     refuses_so d of_text ask (refusals.Instance name) fails = (d, of_text, fails)
+    refuses_so d of_text ask (refusals.Import e) fails = absurd fails
 
     -- what was answered of a chart was answered of its text
     charted_at : (d : Drawing) → IsChartOf text d → (ask : Ask) (answer : Result Status Refusal) (old new : W)
@@ -212,6 +215,7 @@ module _ {W : Type 0} (contents : W → Option (List ℕ)) where
     spent_so (refusals.Pair f) old new spent does = absurd cc
     spent_so (refusals.Mark f) old new spent does = absurd cc
     spent_so (refusals.Instance name) old new spent does = absurd cc
+    spent_so (refusals.Import e) old new spent does = absurd cc
 
     -- where something is, the writer has had no call before it is told
     untouched : (refusal : Refusal) (old new : W) → is_spent refusal ≡ false → Does contents task file text (Err refusal) old new → new ≡ old
@@ -223,6 +227,7 @@ module _ {W : Type 0} (contents : W → Option (List ℕ)) where
     untouched (refusals.Pair f) old new refused does = does.1
     untouched (refusals.Mark f) old new refused does = does.1
     untouched (refusals.Instance name) old new refused does = does.1
+    untouched (refusals.Import e) old new refused does = does.1
 
     -- and then it is told
     told_so : (refusal : Refusal) (old mid new : W) → is_spent refusal ≡ false → Does contents task file text (Err refusal) old mid
@@ -235,6 +240,7 @@ module _ {W : Type 0} (contents : W → Option (List ℕ)) where
     told_so (refusals.Pair f) old mid new refused does tells = (does.0, tells)
     told_so (refusals.Mark f) old mid new refused does tells = (does.0, tells)
     told_so (refusals.Instance name) old mid new refused does tells = (does.0, tells)
+    told_so (refusals.Import e) old mid new refused does tells = (does.0, tells)
 
     -- so a task that is refused is left as it has to be
     pub delivered : (refusal told : Refusal) (old mid new : W) → Does contents task file text (Err refusal) old mid

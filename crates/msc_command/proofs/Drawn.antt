@@ -54,6 +54,7 @@ module _ {W : Type 0} (contents : W → Option (List ℕ)) (file text : List ℕ
   refuses_drawn d of_text (Run x) (refusals.Pair f) fails = (d, of_text, fails)
   refuses_drawn d of_text (Run x) (refusals.Mark f) fails = absurd fails
   refuses_drawn d of_text (Run x) (refusals.Instance name) fails = absurd fails
+  refuses_drawn d of_text (Run x) (refusals.Import e) fails = absurd fails
 
   -- what was drawn of a chart was drawn of its text
   drawn_at : (drawn : Drawn) (d : Drawing) (is : IsChartOf text d) (answer : Result Status Refusal) (old new : W)

@@ -27,6 +27,7 @@ use Rattle.msc_tool.specs.Running.{PrintsExecution}
 use Rattle.msc_command.specs.Drawing.{PrintsPage, RefusesDrawn}
 use Rattle.msc_command.specs.Ending.{ended_by, ends_as, finished_by}
 use Rattle.msc_command.specs.Formats.{IsFormat}
+use Rattle.msc_command.specs.Importing.{PrintsImportPage, RefusesImport}
 use Rattle.msc_command.specs.Marked.{AreMarked, HasFaultyMark}
 use Rattle.msc_command.specs.Naming.{AreTwoNamed, IsNamedFault}
 use Rattle.msc_command.specs.Readied.{names_of, AreReady, IsFirstUnknown}
@@ -39,7 +40,7 @@ use Rattle.msc_command.specs.declared.ending.Status.TheVariants.{Done}
 use Rattle.msc_command.specs.declared.tasks.Ask.{Ask}
 use Rattle.msc_command.specs.declared.tasks.Ask.TheVariants.{Check, Quiet, Explain, Run, List as Listing, Ready}
 use Rattle.msc_command.specs.declared.tasks.Task.{Task}
-use Rattle.msc_command.specs.declared.tasks.Task.TheVariants.{Read, Chart, Draw}
+use Rattle.msc_command.specs.declared.tasks.Task.TheVariants.{Read, Chart, Draw, Import}
 
 -- What is printed of the chart of a text, of the file of this name, for what is asked of it, and how the
 -- run ends. A chart is run with a gate that is known to be open.
@@ -100,10 +101,12 @@ Prints (Chart ask) file text status printed =
     (d : Drawing) × IsChartOf text d × PrintsOf ask file (source_text MscPr text d) status printed
 Prints (Draw drawn) file text status printed =
     (d : Drawing) × (is : IsChartOf text d) × PrintsPage drawn is.draft (source_text MscPr text d) status printed
+Prints (Import x) file text status printed = PrintsImportPage x file text status printed
 
 -- why a text is refused for a task, with its first fault: it has no draft, or its draft is no chart,
--- or of its chart that is not to be had which is asked
+-- or of its chart that is not to be had which is asked; nothing is imported of it
 abbrev pub Refuses : Task → List ℕ → Refusal → Type 0
+Refuses (Import x) text refusal = RefusesImport x text refusal
 Refuses task text (refusals.Fault (Parse f)) = HasParseFault text f
 Refuses (Chart ask) text (refusals.Fault (faults.Chart f)) = (draft : Tree) × HasDraft text draft × IsFirstFault draft f
 Refuses (Chart ask) text refusal = (d : Drawing) × IsChartOf text d × RefusesOf ask (source_text MscPr text d) refusal

@@ -1,6 +1,7 @@
 -- what is promised
 pub mod Words
 pub mod Grammar
+pub mod Importing
 pub mod Asking
 pub mod Sited
 pub mod Naming

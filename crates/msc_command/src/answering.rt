@@ -9,6 +9,7 @@ ghost use Rattle.msc_command.specs.Answering.{TellsQuietly};
 ghost use Rattle.msc_command.specs.Drawing.{PrintsPage, RefusesDrawn};
 ghost use Rattle.msc_command.specs.Ending.{ends_as};
 ghost use Rattle.msc_command.specs.Formats.{IsFormat};
+ghost use Rattle.msc_command.specs.Importing.{PrintsImportPage, RefusesImport};
 ghost use Rattle.msc_command.specs.Marked.{AreMarked};
 ghost use Rattle.msc_command.specs.Refused.{IsToldIn, TellsThat, TellsUnread, TellsUnreadIn};
 ghost use Rattle.msc_report.specs.Refusals.{of_reading};
@@ -16,6 +17,7 @@ ghost use Rattle.msc_source.specs.Inputs.{IsReadFrom};
 
 use crate::drawing::page_of;
 use crate::ending::{Refusal, Status, end_refused, end_unread, ended_by, finished_by, is_spent};
+use crate::importing::import_page;
 use crate::marked::marks_of;
 use crate::naming::pair_named;
 use crate::notes::{write_cause, write_notes};
@@ -23,7 +25,9 @@ use crate::readied::{first_unknown, lent, lines_named};
 use crate::recorded::TellsFailure;
 use crate::refused::refusal_lines;
 use crate::sited::{sites_of, style_of};
-use crate::tasks::{Ask, Checking, Drawn, Explaining, Form, Readying, Request, Task, form_of};
+use crate::tasks::{
+    Ask, Checking, Drawn, Explaining, Form, ImportWords, Readying, Request, Task, form_of,
+};
 use msc_chart::Queues;
 use msc_instance::AlwaysOpen;
 use msc_judge::Page;
@@ -257,6 +261,21 @@ fn draw<O: Write>(
     put(output, &page, Status::Done)
 }
 
+/// Lets what is imported of the text of a file of this name go out.
+fn import<O: Write>(
+    alloc: Global,
+    words: ImportWords<'_>,
+    file: &str,
+    text: &[u8],
+    output: &mut O,
+) -> Result<Status, Refusal>
+    ensures { Answers O.contents (PrintsImportPage words.entry file.now text.now)
+        (RefusesImport words.entry text.now) result output.old output.new }
+{
+    let page = import_page(alloc, words, file, text)?;
+    put(output, &page, Status::Done)
+}
+
 /// Writes the answer of a task to the text of a file of this name.
 fn answer<'w, R: Threads + Wait + Sync, O: Write>(
     rt: &R,
@@ -283,6 +302,7 @@ fn answer<'w, R: Threads + Wait + Sync, O: Write>(
             let source = Source::of_reading(alloc, &read)?;
             draw(alloc, drawn, read.draft(), &source, output)
         }
+        Task::Import(words) => import(alloc, words, file, text, output),
     }
 }
 

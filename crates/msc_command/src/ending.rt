@@ -10,10 +10,12 @@ ghost use Rattle.msc_report.specs.Texts.{fault_line};
 
 use crate::notes::write_cause;
 use msc_ending::RunFault;
+use msc_import::{ImportFault, Refused};
 use msc_judge::WriteFault;
 use msc_mark::MarkFault;
 use msc_report::{
-    Fault, NamedFault, write_fault, write_instance_fault, write_mark_fault, write_pair_fault,
+    Fault, NamedFault, write_fault, write_import_fault, write_instance_fault, write_mark_fault,
+    write_pair_fault,
 };
 use msc_source::{ReadFault, SourceFault};
 use std::alloc::AllocError;
@@ -82,6 +84,8 @@ pub(crate) enum Refusal<'w> {
     Mark(MarkFault),
     /// This name is that of no instance: the first such.
     Instance(&'w str),
+    /// Nothing is imported of the text.
+    Import(Refused),
 }
 
 impl<'w> From<AllocError> for Refusal<'w> {
@@ -130,6 +134,19 @@ impl<'w> From<MarkFault> for Refusal<'w> {
     }
 }
 
+impl<'w> From<Refused> for Refusal<'w> {
+    ghost use Rattle.msc_command.specs.Ending.{of_import};
+
+    ghost from_gives = { λ refused refusal. refusal ≡ of_import refused };
+
+    fn from(refused: Refused) -> Refusal<'w> {
+        match refused.fault {
+            ImportFault::Memory => Refusal::Fault(Fault::Memory),
+            _ => Refusal::Import(refused),
+        }
+    }
+}
+
 impl<'w> From<RunFault> for Refusal<'w> {
     ghost use Rattle.msc_command.specs.declared.ending.Refusal.{Refusal};
     ghost use Rattle.msc_report.specs.Refusals.{of_run};
@@ -168,7 +185,8 @@ pub(crate) fn is_spent(refusal: Refusal<'_>) -> bool
 {
     match refusal {
         Refusal::Fault(Fault::Memory) | Refusal::Fault(Fault::Device) => true,
-        Refusal::Fault(_) | Refusal::Pair(_) | Refusal::Mark(_) | Refusal::Instance(_) => false,
+        Refusal::Fault(_) | Refusal::Pair(_) | Refusal::Mark(_) => false,
+        Refusal::Instance(_) | Refusal::Import(_) => false,
     }
 }
 
@@ -179,6 +197,7 @@ fn ends_as(refusal: Refusal<'_>) -> Status
     match refusal {
         Refusal::Fault(fault) => status_of(fault),
         Refusal::Pair(_) | Refusal::Mark(_) | Refusal::Instance(_) => Status::Refused,
+        Refusal::Import(_) => Status::Refused,
     }
 }
 
@@ -202,6 +221,7 @@ pub(crate) fn write_refusal<W: Write>(writer: &mut W, refusal: Refusal<'_>) -> i
         Refusal::Pair(fault) => write_pair_fault(writer, fault),
         Refusal::Mark(fault) => write_mark_fault(writer, fault),
         Refusal::Instance(name) => write_instance_fault(writer, name.as_bytes()),
+        Refusal::Import(refused) => write_import_fault(writer, &refused),
     }
 }
 

@@ -5,9 +5,8 @@ ghost use Rattle.std.specs.String.{string_bytes};
 ghost use Rattle.msc_command.specs.Grammar.{architecture_words, bare_command, begun_by, choice_rule};
 ghost use Rattle.msc_command.specs.Grammar.{choices_rule, command_of, file_rule};
 ghost use Rattle.msc_command.specs.Grammar.{flag_rule, form_words, kind_words, letter_rule};
-ghost use Rattle.msc_command.specs.Grammar.{names_rule, needed_rule, number_rule, parsers_of};
-ghost use Rattle.msc_command.specs.Grammar.{rule_of_word, verbs_for, with_commands, IsArgument};
-ghost use Rattle.msc_command.specs.Grammar.{IsCommand};
+ghost use Rattle.msc_command.specs.Grammar.{names_rule, needed_rule, number_rule, parsers_of, rule_of_word, verbs_for, with_commands, IsArgument, IsCommand, text_rule};
+ghost use Rattle.msc_command.specs.Words.{cross_words, language_words, own_words, par_words};
 ghost use Rattle.clap.specs.Words.{App, Rule, new_app, with_rule, with_subcommand};
 ghost use Rattle.clap.specs.declared.builder.value_parser.ValueParser.TheVariants.{Names};
 
@@ -97,6 +96,46 @@ fn form_words(alloc: Global) -> Result<Vec<&'static str>, AllocError>
     Ok(words)
 }
 
+/// The words for the languages of texts.
+fn language_words() -> Alternatives<'static>
+    ensures { map (λ word. word.now) result.words.now ≡ language_words }
+{
+    Alternatives {
+        words: &["mermaid", "any"],
+        shown: "mermaid|any",
+    }
+}
+
+/// The words for what arrows to oneself are.
+fn own_words() -> Alternatives<'static>
+    ensures { map (λ word. word.now) result.words.now ≡ own_words }
+{
+    Alternatives {
+        words: &["action", "message"],
+        shown: "action|message",
+    }
+}
+
+/// The words for what arrows with a cross are.
+fn cross_words() -> Alternatives<'static>
+    ensures { map (λ word. word.now) result.words.now ≡ cross_words }
+{
+    Alternatives {
+        words: &["lost", "arrives"],
+        shown: "lost|arrives",
+    }
+}
+
+/// The word for parallel branches that are no coregion.
+fn par_words() -> Alternatives<'static>
+    ensures { map (λ word. word.now) result.words.now ≡ par_words }
+{
+    Alternatives {
+        words: &["drawn"],
+        shown: "drawn",
+    }
+}
+
 /// The words of which options take one, each list made once.
 #[derive(Drop)]
 pub(crate) struct Lists {
@@ -111,6 +150,10 @@ pub(crate) struct Choices<'a> {
     architectures: Alternatives<'a>,
     kinds: Alternatives<'a>,
     forms: Alternatives<'a>,
+    languages: Alternatives<'a>,
+    owns: Alternatives<'a>,
+    crosses: Alternatives<'a>,
+    pars: Alternatives<'a>,
 }
 
 impl Lists {
@@ -138,11 +181,19 @@ impl Lists {
         ensures architectures { result.architectures.words.now ≡ self.now.architectures.words.items }
         ensures kinds { result.kinds.words.now ≡ self.now.kinds.words.items }
         ensures forms { result.forms.words.now ≡ self.now.forms.words.items }
+        ensures languages { map (λ word. word.now) result.languages.words.now ≡ language_words }
+        ensures owns { map (λ word. word.now) result.owns.words.now ≡ own_words }
+        ensures crosses { map (λ word. word.now) result.crosses.words.now ≡ cross_words }
+        ensures pars { map (λ word. word.now) result.pars.words.now ≡ par_words }
     {
         Choices {
             architectures: self.architectures.alternatives(),
             kinds: self.kinds.alternatives(),
             forms: self.forms.alternatives(),
+            languages: language_words(),
+            owns: own_words(),
+            crosses: cross_words(),
+            pars: par_words(),
         }
     }
 }
@@ -203,6 +254,16 @@ fn number<'a>(alloc: Global, name: &'static str, help: &'static str) -> Arg<'a>
         .value_name("N")
         .help(help)
         .value_parser(value_parser!(u32))
+}
+
+/// An option with any text, shown as this one.
+fn text<'a>(alloc: Global, name: &'static str, help: &'static str, shown: &'static str) -> Arg<'a>
+    ensures { IsArgument (text_rule name.now) result }
+{
+    Arg::new(alloc, name)
+        .long(name)
+        .value_name(shown)
+        .help(help)
 }
 
 /// An option with one of these words.
@@ -281,6 +342,12 @@ fn argument<'a>(alloc: Global, word: Word, lent: Choices<'a>) -> Arg<'a>
         Takes::Kinds => any_of(alloc, name, help, lent.kinds),
         Takes::Form => one_of(alloc, name, help, lent.forms),
         Takes::Names => names(alloc, name, help),
+        Takes::Language => one_of(alloc, name, help, lent.languages),
+        Takes::Choices => text(alloc, name, help, "C"),
+        Takes::Name => text(alloc, name, help, "NAME"),
+        Takes::Own => one_of(alloc, name, help, lent.owns),
+        Takes::Cross => one_of(alloc, name, help, lent.crosses),
+        Takes::Par => one_of(alloc, name, help, lent.pars),
     }
 }
 

@@ -5,9 +5,11 @@
 #![tactic(auto)]
 
 mod answering;
+mod choices;
 mod drawing;
 mod ending;
 mod grammar;
+mod importing;
 mod marked;
 mod misuse;
 mod naming;

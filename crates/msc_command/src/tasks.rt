@@ -1,18 +1,22 @@
 //! What a command line asks for, by the words that `clap` took.
 
 ghost use Rattle.std.specs.Prelude.{◌≡◌, MatchOption, Some, map};
-ghost use Rattle.clap.specs.Matches.{found_of};
+ghost use Rattle.clap.specs.Matches.{first_value, found_of};
 ghost use Rattle.msc_command.specs.Asking.{architecture, file_of, form, names_kind, AreAllowed};
 ghost use Rattle.msc_command.specs.Asking.{AsksFor, IsDrawnForm, IsEventWord, IsFlag, IsLook, IsNoCommand, LacksWords};
+ghost use Rattle.msc_command.specs.Asking.{chart_named, cross_named, lacks_choices, language_named};
+ghost use Rattle.msc_command.specs.Asking.{own_named, par_named};
 ghost use Rattle.msc_command.specs.Asking.{tells_notes, IsTwofold, WantsNotes};
 ghost use Rattle.msc_command.specs.Asking.{IsNameText, IsNoName, IsNoNumber, IsNumberText};
 ghost use Rattle.msc_command.specs.Asking.{words_of, IsOptionNumber, IsQuestion, LacksEvent};
 ghost use Rattle.msc_command.specs.Refused.{form_of};
 ghost use Rattle.msc_command.specs.Words.{form_of_word, form_word, word_name};
 
+use crate::choices::{gives_choices, title_of};
 use crate::words::{Verb, Word};
 use clap::ArgMatches;
 use msc_chart::Queues;
+use msc_import::{Cross, Language, Manner, Own, Par};
 use msc_judge::Question;
 use msc_reason::{KindSet, RaceKind};
 use msc_report::EventName;
@@ -136,6 +140,20 @@ pub(crate) enum Drawn {
     Report(Queues),
 }
 
+/// What is imported of a text, and how it is answered, as words tell it.
+#[derive(Clone, Copy)]
+pub(crate) struct ImportWords<'w> {
+    pub language: Language,
+    pub cross: Option<Cross>,
+    pub manner: Manner,
+    /// The word for the choices of the scenario.
+    pub choose: Option<&'w str>,
+    /// What the name of the chart is made of.
+    pub name: &'w [u8],
+    /// Whether the events are listed, with the places of their arrows.
+    pub list: bool,
+}
+
 /// What is asked of a text.
 #[derive(Clone, Copy)]
 pub(crate) enum Task<'w> {
@@ -145,6 +163,8 @@ pub(crate) enum Task<'w> {
     Chart(Ask<'w>),
     /// What is drawn of its chart.
     Draw(Drawn),
+    /// The chart of a scenario of its diagram.
+    Import(ImportWords<'w>),
 }
 
 /// The form of a task's answer.
@@ -153,7 +173,7 @@ pub(crate) fn form_of(task: Task<'_>) -> Form
 {
     match task {
         Task::Chart(Ask::Check(checking)) => checking.form,
-        Task::Read | Task::Chart(_) | Task::Draw(_) => Form::Text,
+        Task::Read | Task::Chart(_) | Task::Draw(_) | Task::Import(_) => Form::Text,
     }
 }
 
@@ -414,6 +434,88 @@ fn ready_of<'w>(queues: Queues, words: &'w ArgMatches) -> Task<'w>
     }))
 }
 
+/// The language that the words name.
+fn language_of(words: &ArgMatches) -> Language
+    ensures { result ≡ language_named (first_value (found_of words.now) (word_name Word.From)) }
+{
+    match words.get_str(Word::From.name()) {
+        Some(word) if word == "mermaid" => Language::Mermaid,
+        _ => Language::Any,
+    }
+}
+
+/// What the words say of arrows to oneself.
+fn own_of(words: &ArgMatches) -> Own
+    ensures { result ≡ own_named (first_value (found_of words.now) (word_name Word.Own)) }
+{
+    match words.get_str(Word::Own.name()) {
+        Some(word) if word == "message" => Own::Message,
+        _ => Own::Action,
+    }
+}
+
+/// What the words say of arrows with a cross.
+fn cross_of(words: &ArgMatches) -> Option<Cross>
+    ensures { result ≡ cross_named (first_value (found_of words.now) (word_name Word.Cross)) }
+{
+    match words.get_str(Word::Cross.name()) {
+        Some(word) if word == "lost" => Some(Cross::Lost),
+        Some(_) => Some(Cross::Arrives),
+        None => None,
+    }
+}
+
+/// What the words say of parallel branches that are no coregion.
+fn par_of(words: &ArgMatches) -> Par
+    ensures { result ≡ par_named (first_value (found_of words.now) (word_name Word.Par)) }
+{
+    match words.get_str(Word::Par.name()) {
+        Some(_) => Par::Drawn,
+        None => Par::Refused,
+    }
+}
+
+/// What the words have the name of the chart made of.
+fn chart_name_of<'w>(words: &'w ArgMatches) -> &'w [u8]
+    ensures { result.now ≡ chart_named (found_of words.entry.now) }
+{
+    match words.get_str(Word::Name.name()) {
+        Some(name) => name.as_bytes(),
+        None => title_of(file_of(words)),
+    }
+}
+
+/// The word for choices, if it gives them where it stands.
+pub(crate) fn lacks_choices(words: &ArgMatches) -> bool
+    ensures { result ≡ lacks_choices (first_value (found_of words.now) (word_name Word.Choose)) }
+{
+    match words.get_str(Word::Choose.name()) {
+        Some(word) => !gives_choices(word),
+        None => false,
+    }
+}
+
+/// What the words of `msc import` ask for, if the word for choices gives them.
+fn import_of<'w>(words: &'w ArgMatches) -> Option<Task<'w>>
+    ensures { MatchOption result (LacksWords Verb.Import (found_of words.entry.now))
+        (AsksFor Verb.Import (found_of words.entry.now)) }
+{
+    if lacks_choices(words) {
+        return None;
+    }
+    Some(Task::Import(ImportWords {
+        language: language_of(words),
+        cross: cross_of(words),
+        manner: Manner {
+            own: own_of(words),
+            par: par_of(words),
+        },
+        choose: words.get_str(Word::Choose.name()),
+        name: chart_name_of(words),
+        list: is_given(words, Word::Listed),
+    }))
+}
+
 /// What the words behind a command ask for, if they are all there.
 fn complete_task<'w>(verb: Verb, words: &'w ArgMatches) -> Option<Task<'w>>
     ensures { MatchOption result (LacksWords verb (found_of words.entry.now))
@@ -429,6 +531,7 @@ fn complete_task<'w>(verb: Verb, words: &'w ArgMatches) -> Option<Task<'w>>
         Verb::Reverse => reverse_of(queues_of(words)?, words),
         Verb::Report => Some(Task::Draw(Drawn::Report(queues_of(words)?))),
         Verb::Ready => Some(ready_of(queues_of(words)?, words)),
+        Verb::Import => import_of(words),
     }
 }
 

@@ -16,6 +16,7 @@ pub(crate) enum Verb {
     Reverse,
     Report,
     Ready,
+    Import,
 }
 
 /// A word behind a command: an argument, or an option with what it takes.
@@ -40,6 +41,13 @@ pub(crate) enum Word {
     Places,
     Plain,
     Svg,
+    From,
+    Choose,
+    Listed,
+    Name,
+    Own,
+    Cross,
+    Par,
     FirstEvent,
     SecondEvent,
 }
@@ -67,6 +75,18 @@ pub(crate) enum Takes {
     Form,
     /// An option with a name, which may stand often.
     Names,
+    /// An option with the language of a text.
+    Language,
+    /// An option with the choices of a scenario.
+    Choices,
+    /// An option with a name.
+    Name,
+    /// An option with what an arrow to oneself is.
+    Own,
+    /// An option with what an arrow with a cross is.
+    Cross,
+    /// An option with what parallel branches are that are no coregion.
+    Par,
 }
 
 impl Word {
@@ -92,6 +112,13 @@ impl Word {
             Word::Places => "places",
             Word::Plain => "plain",
             Word::Svg => "svg",
+            Word::From => "from",
+            Word::Choose => "choose",
+            Word::Listed => "list",
+            Word::Name => "name",
+            Word::Own => "self",
+            Word::Cross => "cross",
+            Word::Par => "par",
             Word::FirstEvent => "E",
             Word::SecondEvent => "F",
         }
@@ -106,6 +133,7 @@ impl Word {
             Word::FirstEvent | Word::SecondEvent => Takes::Event,
             Word::Closest | Word::Why | Word::Words | Word::Short => Takes::Nothing,
             Word::Accept | Word::Places | Word::Plain | Word::Svg => Takes::Nothing,
+            Word::Listed => Takes::Nothing,
             Word::Quiet => Takes::NothingOrQ,
             Word::Most | Word::Show | Word::ShowSticks | Word::Patience => Takes::Number,
             Word::Only => Takes::Names,
@@ -113,6 +141,12 @@ impl Word {
             Word::QueuesIfAny => Takes::ArchitectureIfAny,
             Word::Allow => Takes::Kinds,
             Word::Format => Takes::Form,
+            Word::From => Takes::Language,
+            Word::Choose => Takes::Choices,
+            Word::Name => Takes::Name,
+            Word::Own => Takes::Own,
+            Word::Cross => Takes::Cross,
+            Word::Par => Takes::Par,
         }
     }
 
@@ -156,6 +190,16 @@ impl Word {
             Word::Places => "Print where events stand, and what is said of a fault",
             Word::Plain => "Print nothing behind the line of a fault, also on a terminal",
             Word::Svg => "Print SVG, for documents, and not lines of characters",
+            Word::From => "The language of the text; any, as without it, is told by the text",
+            Word::Choose => {
+                "The scenario: main, or its choices, numbers with commas between, block by block"
+            }
+            Word::Listed =>
+                "Print the chart's events with their numbers, and where their arrows stand",
+            Word::Name => "The chart's name; without it, that of the file",
+            Word::Own => "What an arrow to oneself is; without it, an action",
+            Word::Cross => "What an arrow with a cross is",
+            Word::Par => "Draw parallel branches that are no coregion one below the other",
             Word::FirstEvent => "The first event: its number, or :LINE, the first one on that line",
             Word::SecondEvent => "The second event",
         }
@@ -174,6 +218,7 @@ impl Verb {
         Verb::Reverse,
         Verb::Report,
         Verb::Ready,
+        Verb::Import,
     ];
 
     /// Its name.
@@ -190,6 +235,7 @@ impl Verb {
             Verb::Reverse => "reverse",
             Verb::Report => "report",
             Verb::Ready => "ready",
+            Verb::Import => "import",
         }
     }
 
@@ -271,6 +317,18 @@ impl Verb {
                 Word::Plain,
                 Word::File,
             ],
+            Verb::Import => &[
+                Word::From,
+                Word::Choose,
+                Word::Listed,
+                Word::Name,
+                Word::Own,
+                Word::Cross,
+                Word::Par,
+                Word::Places,
+                Word::Plain,
+                Word::File,
+            ],
         }
     }
 
@@ -293,6 +351,7 @@ impl Verb {
             Verb::Ready => {
                 "Print whether instances that wait for one message can stick, and how"
             }
+            Verb::Import => "Print the chart of a sequence diagram of Mermaid",
         }
     }
 
@@ -308,6 +367,7 @@ impl Verb {
             Verb::Reverse => REVERSE_NOTES,
             Verb::Report => REPORT_NOTES,
             Verb::Ready => READY_NOTES,
+            Verb::Import => IMPORT_NOTES,
         }
     }
 }
@@ -436,3 +496,19 @@ Exit status:
 Examples:
   msc ready --queues mailbox relay.msc
   msc ready --queues mailbox --only worker --words relay.msc";
+
+/// What stands below the help of `msc import`.
+const IMPORT_NOTES: &str = "\
+A diagram without blocks that leave a choice has one scenario. Of another say which one:
+  --choose main   each alt takes its first branch, each opt is there, each loop goes one round
+  --choose 1,0,2  the choices in the order in which blocks are met, the others as in main
+
+Exit status:
+  0  the chart, or the list of its events, was written
+  2  the text was refused, or the words are no command
+  4  memory ran out, or a file or the output failed
+
+Example:
+  msc import checkout.mmd
+  msc import --choose 1 --list checkout.mmd
+  msc import --choose main checkout.mmd | msc check --queues pair -";

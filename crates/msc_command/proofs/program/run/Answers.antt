@@ -11,7 +11,8 @@ returns-in-Ok-clause-followed g c =
     let p = parsers_of c.choices.result in
     let words : List Text = map string_bytes c.args.words.now in
     let are : AreParsers p = are_parsers c.choices.result (rw c.choices.ensures.architectures c.in_ok-lists.ensures.architectures)
-    (rw c.choices.ensures.kinds c.in_ok-lists.ensures.kinds) (rw c.choices.ensures.forms c.in_ok-lists.ensures.forms) in
+    (rw c.choices.ensures.kinds c.in_ok-lists.ensures.kinds) (rw c.choices.ensures.forms c.in_ok-lists.ensures.forms)
+    c.choices.ensures.languages c.choices.ensures.owns c.choices.ensures.crosses c.choices.ensures.pars in
     let is = c.in_ok-command.ensures.0 in
     let alike = asked_alike p words in
     let taken = c.in-Ok.ensures.kinds (rw is (is_asked_known p words)) in
@@ -24,7 +25,8 @@ returns-clause-followed g c =
     let p = parsers_of c.choices.result in
     let words : List Text = map string_bytes c.args.words.now in
     let are : AreParsers p = are_parsers c.choices.result (rw c.choices.ensures.architectures c.in_ok-lists.ensures.architectures)
-    (rw c.choices.ensures.kinds c.in_ok-lists.ensures.kinds) (rw c.choices.ensures.forms c.in_ok-lists.ensures.forms) in
+    (rw c.choices.ensures.kinds c.in_ok-lists.ensures.kinds) (rw c.choices.ensures.forms c.in_ok-lists.ensures.forms)
+    c.choices.ensures.languages c.choices.ensures.owns c.choices.ensures.crosses c.choices.ensures.pars in
     let is = c.in_ok-command.ensures.0 in
     let alike = asked_alike p words in
     elim (c.in-Err.ensures.kinds (rw is (is_asked_known p words))) [
