@@ -268,7 +268,7 @@ fn import<O: Write>(
     file: &str,
     text: &[u8],
     output: &mut O,
-) -> Result<Status, Refusal>
+) -> Result<Status, Refusal<'static>>
     ensures { Answers O.contents (PrintsImportPage words.entry file.now text.now)
         (RefusesImport words.entry text.now) result output.old output.new }
 {

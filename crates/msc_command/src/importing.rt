@@ -23,7 +23,7 @@ fn chart_of(alloc: Global, imported: &Imported) -> Result<Chart, SourceFault>
 }
 
 /// The events of what was imported of the text of a file of this name, on a page.
-fn list_page(alloc: Global, file: &str, imported: &Imported) -> Result<Page, Refusal>
+fn list_page(alloc: Global, file: &str, imported: &Imported) -> Result<Page, Refusal<'static>>
     ensures { IsPageOf true file.now imported.now result }
 {
     let chart = chart_of(alloc, imported)?;
@@ -35,7 +35,12 @@ fn list_page(alloc: Global, file: &str, imported: &Imported) -> Result<Page, Ref
 }
 
 /// What is printed of what was imported of the text of a file of this name, on a page.
-fn page_of(alloc: Global, list: bool, file: &str, imported: &Imported) -> Result<Page, Refusal>
+fn page_of(
+    alloc: Global,
+    list: bool,
+    file: &str,
+    imported: &Imported,
+) -> Result<Page, Refusal<'static>>
     ensures { IsPageOf list file.now imported.now result }
 {
     if list {
@@ -51,7 +56,7 @@ fn import_with(
     words: ImportWords<'_>,
     choices: Option<&[usize]>,
     text: &[u8],
-) -> Result<Imported, Refusal>
+) -> Result<Imported, Refusal<'static>>
     ensures { IsImportAs (wanted_with words.entry (option_map (λ c. c.now) choices.entry))
         text.now result }
 {
@@ -67,7 +72,11 @@ fn import_with(
 }
 
 /// What is imported of a text.
-fn import_by(alloc: Global, words: ImportWords<'_>, text: &[u8]) -> Result<Imported, Refusal>
+fn import_by(
+    alloc: Global,
+    words: ImportWords<'_>,
+    text: &[u8],
+) -> Result<Imported, Refusal<'static>>
     ensures { IsImport words.entry text.now result }
 {
     match words.choose {
@@ -85,7 +94,7 @@ pub(crate) fn import_page(
     words: ImportWords<'_>,
     file: &str,
     text: &[u8],
-) -> Result<Page, Refusal>
+) -> Result<Page, Refusal<'static>>
     ensures { IsImportedOn words.entry file.now text.now result }
 {
     let imported = import_by(alloc, words, text)?;

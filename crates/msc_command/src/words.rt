@@ -208,7 +208,7 @@ impl Word {
 
 impl Verb {
     /// Each command once, in the order of the help.
-    pub const ALL: [Verb; 9] = [
+    pub const ALL: [Verb; 10] = [
         Verb::Read,
         Verb::Check,
         Verb::Explain,
