@@ -1,3 +1,5 @@
 pub mod Listings
 mod Lists
+mod NoteLemmas
+mod EndLemmas
 mod MarkingLemmas

@@ -1,133 +1,22 @@
 -- Marks that are made of the races of one event after the other.
-use Rattle.std.proofs.Common.{◌≡◌, ℕ, ◌+◌, ◌-◌, ◌<◌, ◌≤◌, ◌⊎◌, Bool, true, false, cond, not, ◌&&◌, ◌||◌, List, [], ◌∷◌, ◌++◌, length, get_or, Option, None, Some, eqb, inl, inr, nat_lt, refl, sym, ap, subst, ◌∙◌, arith}
+use Rattle.std.proofs.Common.{◌≡◌, ℕ, ◌+◌, ◌-◌, ◌<◌, ◌≤◌, ◌⊎◌, Bool, true, false, cond, List, [], ◌∷◌, ◌++◌, length, get_or, Option, None, Some, inl, inr, refl, sym, ap, subst, ◌∙◌, arith}
 use Rattle.std.specs.Prelude.{replicate, slice_set}
 use Rattle.std.specs.List.{All, flat_map, range_with_len}
-use Rattle.std.proofs.lemmas.Bool.{and_from, and_right, cases_eq, eq-eqb, false≢true, false_from_ne_true, lt-ltb, ne_eqb, not_from_false}
-use Rattle.std.proofs.Math.Bool.{or-false, or-true}
-use Rattle.std.proofs.lemmas.List.{get_or-replicate, get_or-set_other, get_or-set_same, length-append, length-replicate, length-set}
-use Rattle.std.proofs.lemmas.List.Elements.{filter_agree, All-append, All-cons, All-nil}
-use Rattle.std.proofs.lemmas.List.Folds.{list_any-append, list_any_none}
+use Rattle.std.proofs.lemmas.Bool.{cases_eq, false_from_ne_true}
+use Rattle.std.proofs.lemmas.List.{get_or-replicate, length-append, length-replicate, length-set}
+use Rattle.std.proofs.lemmas.List.Elements.{All-append, All-cons, All-nil}
 use Rattle.msc_chart.specs.declared.event.ChartEvent.{ChartEvent}
-use Rattle.msc_chart.specs.Charts.{line, IsInTextOrder}
-use Rattle.msc_chart.proofs.ListLemmas.{by_test, clash}
+use Rattle.msc_chart.specs.Charts.{IsInTextOrder}
+use Rattle.msc_chart.proofs.ListLemmas.{clash}
 use Rattle.msc_picture.specs.declared.scene.Mark.{Mark}
-use Rattle.msc_picture.specs.Marks.{end_of, ends_of, is_end_of, is_from, mark_at, mark_over, marks_of}
+use Rattle.msc_picture.specs.Marks.{is_from, mark_at, mark_over, marks_of}
 use Rattle.msc_picture.specs.Rows.{begins_segment, grown, reach_of, share_segment}
-use Rattle.msc_picture.proofs.MarkLemmas.{share_from, share_parts}
+use Rattle.msc_picture.proofs.MarkLemmas.{share_on}
 use Rattle.msc_picture.proofs.Ranges.{flat_next}
-use Rattle.msc_draw.specs.Marking.{mark_by, noted, IsMarking}
-use Rattle.msc_draw.proofs.Lists.{made_quiet, reach_push, reach_quiet, same_kept, same_made}
-
-module _ (events : List ChartEvent) where
-  -- sharing a segment has no direction
-  share_back : (e f : ℕ) → share_segment events e f ≡ true → share_segment events f e ≡ true
-  share_back e f h =
-      let p = share_parts events e f h in share_from events f e (sym p.0) (sym p.1)
-
-  -- and goes on
-  share_on : (e f g : ℕ) → share_segment events e f ≡ true → share_segment events f g ≡ true
-      → share_segment events e g ≡ true
-  share_on e f g h k =
-      let p = share_parts events e f h in
-      let q = share_parts events f g k in
-      share_from events e g (p.0 ∙ q.0) (p.1 ∙ q.1)
-
-  -- what stands between two events of a segment is of it
-  share_between : IsInTextOrder events → (x y z : ℕ) → x ≤ y → y ≤ z → z < length events
-      → share_segment events x z ≡ true → share_segment events y z ≡ true
-  share_between order x y z low high below h =
-      let p = share_parts events x z h in
-      let upper : line events x ≤ line events y = order.lines x y low (omega arith) in
-      let lower : line events y ≤ line events z = order.lines y z high below in
-      let first : line events x ≡ line events y = omega (arith, p.0, upper, lower) in
-      let second : line events y ≡ line events z = omega (arith, p.0, upper, lower) in
-      let above = order.rising x y low (omega arith) first in
-      let under = order.rising y z high below second in
-      share_from events y z second (omega (arith, p.1, above, under))
-
-  -- an event shares no segment with one behind the beginning of a later segment
-  pub apart : IsInTextOrder events → (y b x : ℕ) → y < b → b ≤ x → x < length events
-      → begins_segment events b ≡ true → share_segment events y x ≡ false
-  apart order y b x less within below begins = false_from_ne_true _ (λ shared.
-      let low : y ≤ b - 1 = omega arith in
-      let high : b - 1 ≤ x = omega arith in
-      let before = share_between order y (b - 1) x low high below shared in
-      let here = share_between order y b x (omega arith) within below shared in
-      let both : (nat_lt 0 b && share_segment events (b - 1) b) ≡ true =
-      and_from _ _ (lt-ltb 0 b (omega arith)) (share_on (b - 1) x b before (share_back b x here)) in
-      let f : not true ≡ true = subst (λ (c : Bool). not c ≡ true) both begins in
-      absurd (false≢true f))
-
-  -- what begins no segment is of that of the event above
-  of_above : (e : ℕ) → begins_segment events e ≡ false → share_segment events (e - 1) e ≡ true
-  of_above e h = by_test (share_segment events (e - 1) e) (λ yes. yes)
-      (λ no. clash (not_from_false _ (and_right (nat_lt 0 e) (share_segment events (e - 1) e) no)) h)
-
-  -- an event is of its own segment
-  share_own : (e : ℕ) → share_segment events e e ≡ true
-  share_own e = share_from events e e refl refl
-
-  -- where no race leads from the segment of e, no event is an end of such a one
-  no_end : (races : List (ℕ × ℕ)) (e : ℕ) (lower : Bool) (x : ℕ)
-      → All (λ p. is_from events e p ≡ false) races → is_end_of events races e lower x ≡ false
-  no_end races e lower x none =
-      list_any_none (λ p. is_from events e p && eqb (end_of lower p) x) races
-      (λ k d below. ap (λ (b : Bool). b && eqb (end_of lower (get_or races k d)) x) (none k d below))
-
-  -- whether an event is an end of a race, after one more race
-  end_more : (races : List (ℕ × ℕ)) (p : ℕ × ℕ) (e : ℕ) (lower : Bool) (x : ℕ)
-      → is_end_of events (races ++ p ∷ []) e lower x
-      ≡ (is_end_of events races e lower x || ((is_from events e p && eqb (end_of lower p) x) || false))
-  end_more races p e lower x =
-      list_any-append (λ q. is_from events e q && eqb (end_of lower q) x) races (p ∷ [])
-
-  -- a race from another segment changes nothing
-  end_same : (races : List (ℕ × ℕ)) (p : ℕ × ℕ) (e : ℕ) (lower : Bool) → is_from events e p ≡ false
-      → (x : ℕ) → is_end_of events (races ++ p ∷ []) e lower x ≡ is_end_of events races e lower x
-  end_same races p e lower other x =
-      end_more races p e lower x
-      ∙ ap (λ (b : Bool). is_end_of events races e lower x || ((b && eqb (end_of lower p) x) || false)) other
-      ∙ or-false (is_end_of events races e lower x)
-
-  -- the mark of the same ends over the same range
-  over_same : (a b : List (ℕ × ℕ)) (e : ℕ) (o : Option (ℕ × ℕ))
-      → ends_of events a e false ≡ ends_of events b e false
-      → ends_of events a e true ≡ ends_of events b e true
-      → mark_over events a e o ≡ mark_over events b e o
-  over_same a b e None upper lower = refl
-  over_same a b e (Some reach) upper lower = cc
-
-  -- the mark of a segment, after a race from another one
-  mark_same : (races : List (ℕ × ℕ)) (p : ℕ × ℕ) (e : ℕ) → is_from events e p ≡ false
-      → mark_at events (races ++ p ∷ []) e ≡ mark_at events races e
-  mark_same races p e other =
-      let test = is_from events e in
-      let kept = λ (lower : Bool). filter_agree (is_end_of events (races ++ p ∷ []) e lower)
-      (is_end_of events races e lower) (end_same races p e lower other)
-      (range_with_len 0 (length events)) in
-      let reach : reach_of test (races ++ p ∷ []) ≡ reach_of test races =
-      reach_push test None 0 races p
-      ∙ ap (λ (b : Bool). cond b (Some (grown (reach_of test races) (0 + length races)))
-      (reach_of test races)) other in
-      ap (λ (l : List Mark). cond (begins_segment events e) l [])
-      (ap (mark_over events (races ++ p ∷ []) e) reach
-      ∙ over_same (races ++ p ∷ []) races e (reach_of test races) (kept false) (kept true))
-
-  -- the mark of what is noted is that of the races
-  mark_noted : (races : List (ℕ × ℕ)) (upper lower : List Bool) (e : ℕ) (o : Option (ℕ × ℕ))
-      → noted upper (length events) ≡ ends_of events races e false
-      → noted lower (length events) ≡ ends_of events races e true
-      → mark_by events upper lower e o ≡ mark_over events races e o
-  mark_noted races upper lower e None u l = refl
-  mark_noted races upper lower e (Some reach) u l = cc
-
-  -- the tables note the ends of the races
-  noted_ends : (races : List (ℕ × ℕ)) (table : List Bool) (e : ℕ) (lower : Bool)
-      → ((x : ℕ) → x < length events → get_or table x false ≡ is_end_of events races e lower x)
-      → noted table (length events) ≡ ends_of events races e lower
-  noted_ends races table e lower told =
-      same_kept (λ x. get_or table x false) (is_end_of events races e lower) (length events) 0
-      (λ x low high. told x (omega (arith, high)))
+use Rattle.msc_picture.proofs.SegmentLemmas.{apart, of_above, share_back, share_own}
+use Rattle.msc_draw.specs.Marking.{mark_by, IsMarking}
+use Rattle.msc_draw.proofs.EndLemmas.{mark_noted, mark_same, no_end, noted_ends, noted_more}
+use Rattle.msc_draw.proofs.Lists.{made_quiet, reach_push, reach_quiet, same_made}
 
 module _ (events : List ChartEvent) (n : ℕ) (races : List (ℕ × ℕ)) (marks : List Mark)
     (upper lower : List Bool) (begun : ℕ) (reach : Option (ℕ × ℕ)) (told : ℕ)
@@ -243,31 +132,6 @@ module _ (events : List ChartEvent) (e : ℕ) (races : List (ℕ × ℕ)) (marks
         long_upper = length-replicate _ _;
         long_lower = length-replicate _ _;
       }
-
--- a table with one more event noted
-noted_more : (events : List ChartEvent) (races : List (ℕ × ℕ)) (p : ℕ × ℕ) (begun : ℕ) (lower : Bool)
-    (table : List Bool) → is_from events begun p ≡ true → length table ≡ length events
-    → end_of lower p < length events
-    → ((x : ℕ) → x < length events → get_or table x false ≡ is_end_of events races begun lower x)
-    → (x : ℕ) → x < length events
-    → get_or (slice_set table (end_of lower p) true) x false
-    ≡ is_end_of events (races ++ p ∷ []) begun lower x
-noted_more events races p begun lower table own long inside told x below =
-    let end = end_of lower p in
-    let before = is_end_of events races begun lower x in
-    let more = end_more events races p begun lower x
-    ∙ ap (λ (b : Bool). before || ((b && eqb end x) || false)) own in
-    elim (cases_eq x end) [
-      | inl same ↦
-          let hit : eqb end x ≡ true = eq-eqb end x (sym same) in
-          ap (λ (j : ℕ). get_or (slice_set table end true) j false) same
-          ∙ get_or-set_same table end true false (omega (arith, long, inside))
-          ∙ sym (more ∙ ap (λ (b : Bool). before || (b || false)) hit ∙ or-true before)
-      | inr other ↦
-          let miss : eqb end x ≡ false = ne_eqb end x (λ same. other (sym same)) in
-          get_or-set_other table end x true false other ∙ told x below
-          ∙ sym (more ∙ ap (λ (b : Bool). before || (b || false)) miss ∙ or-false before)
-    ]
 
 -- one more race of the event that was reached last
 pub added : (events : List ChartEvent) (e f : ℕ) (races : List (ℕ × ℕ)) (marks : List Mark)

@@ -4,4 +4,5 @@ pub mod Verdicts
 pub mod Pictures
 -- what the code keeps
 pub mod Listed
+pub mod Notes
 pub mod Marking

@@ -1,5 +1,5 @@
 -- What the code keeps while it makes the marks of closest races, event by event.
-use Rattle.std.specs.Prelude.{◌≡◌, ℕ, ◌+◌, ◌-◌, ◌<◌, Bool, true, false, List, [], ◌∷◌, Option, None, Some, filter, get_or, length, max, replicate, slice_set, IsTrue}
+use Rattle.std.specs.Prelude.{◌≡◌, ℕ, ◌+◌, ◌-◌, ◌<◌, Bool, true, false, List, [], ◌∷◌, Option, None, Some, get_or, length, max, replicate, slice_set, IsTrue}
 use Rattle.std.specs.List.{flat_map, range_with_len, All}
 use Rattle.msc_chart.specs.declared.event.ChartEvent.{ChartEvent}
 use Rattle.msc_chart.specs.Charts.{line}
@@ -7,10 +7,7 @@ use Rattle.msc_picture.specs.declared.scene.Mark.{Mark}
 use Rattle.msc_picture.specs.Marks.{is_end_of, is_from, mark_at}
 use Rattle.msc_picture.specs.Rows.{begins_segment, grown, reach_of, share_segment}
 use Rattle.msc_draw.specs.declared.marking.Marking.{Marking}
-
--- the events below this number that are noted in a table, ascending
-abbrev pub noted : List Bool → ℕ → List ℕ
-noted table many = filter (λ x. get_or table x false) (range_with_len 0 many)
+use Rattle.msc_draw.specs.Notes.{noted}
 
 -- the mark of the races of the segment that event e begins, whose first and second events are noted in
 -- these tables, and which stand in this range of places, if there are any
@@ -27,21 +24,21 @@ mark_by events upper lower e (Some reach) =
 
 -- the tables have a place for each event, and the segment at hand begins with an event
 pub record HasTables (events : List ChartEvent) (m : Marking) : Type 0 where
-  pub upper : length m.upper.items ≡ length events
-  pub lower : length m.lower.items ≡ length events
+  pub upper : length m.upper ≡ length events
+  pub lower : length m.lower ≡ length events
   pub within : m.begun < max 1 (length events)
 
 -- the segment that event e begins is at hand, and no race of it is noted
 pub record IsFresh (events : List ChartEvent) (e : ℕ) (m : Marking) : Type 0 where
-  pub upper : m.upper.items ≡ replicate (length events) false
-  pub lower : m.lower.items ≡ replicate (length events) false
+  pub upper : m.upper ≡ replicate (length events) false
+  pub lower : m.lower ≡ replicate (length events) false
   pub begun : m.begun ≡ e
   pub reach : m.reach ≡ None
 
 -- one more race is noted
 pub record IsAdded (race : ℕ × ℕ) (old new : Marking) : Type 0 where
-  pub upper : new.upper.items ≡ slice_set old.upper.items race.0 true
-  pub lower : new.lower.items ≡ slice_set old.lower.items race.1 true
+  pub upper : new.upper ≡ slice_set old.upper race.0 true
+  pub lower : new.lower ≡ slice_set old.lower race.1 true
   pub reach : new.reach ≡ Some (grown old.reach old.told)
   pub told : new.told ≡ old.told + 1
   pub marks : new.marks.items ≡ old.marks.items
@@ -71,4 +68,4 @@ pub record IsMarking (events : List ChartEvent) (n : ℕ) (races : List (ℕ × 
 -- the same, as the code holds it
 abbrev pub HoldsMarking : List ChartEvent → ℕ → List (ℕ × ℕ) → Marking → Type 0
 HoldsMarking events n races m =
-    IsMarking events n races m.marks.items m.upper.items m.lower.items m.begun m.reach m.told
+    IsMarking events n races m.marks.items m.upper m.lower m.begun m.reach m.told

@@ -8,6 +8,7 @@ mod closest;
 mod drawing;
 mod form;
 mod marking;
+mod notes;
 mod reversing;
 
 pub use closest::marks_listed;

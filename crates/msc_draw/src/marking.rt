@@ -8,8 +8,9 @@ ghost use Rattle.msc_chart.specs.Charts.{line};
 ghost use Rattle.msc_picture.specs.Marks.{marks_of};
 ghost use Rattle.msc_picture.specs.Rows.{grown};
 ghost use Rattle.msc_draw.specs.Marking.{AreOf, HasTables, HoldsMarking, IsAdded};
-ghost use Rattle.msc_draw.specs.Marking.{IsFresh, mark_by, noted};
+ghost use Rattle.msc_draw.specs.Marking.{IsFresh, mark_by};
 
+use crate::notes::Notes;
 use listed::Listed;
 use msc_chart::{Chart, Event};
 use msc_picture::{Mark, begins_segment, grow, plus};
@@ -21,33 +22,11 @@ use std::alloc::{AllocError, Global};
 #[derive(Drop)]
 pub struct Marking {
     marks: Vec<Mark>,
-    upper: Vec<bool>,
-    lower: Vec<bool>,
+    upper: Notes,
+    lower: Notes,
     begun: Event,
     reach: Option<(usize, usize)>,
     told: usize,
-}
-
-/// Puts event `x` behind the events, where it is noted.
-fn put_if(events: &mut Vec<Event>, x: Event, is_noted: bool) -> Result<(), AllocError>
-    ensures { OnOk result (events.new.items ≡ events.old.items ++ cond is_noted (x ∷ []) []) }
-{
-    if is_noted {
-        events.push(x)?;
-    }
-    Ok(())
-}
-
-/// The events that are noted in a table of so many, ascending.
-fn noted(alloc: Global, table: &[bool], many: Event) -> Result<Listed<Event>, AllocError>
-    requires { length table.now ≡ many }
-    ensures { IfOk result (λ events. events ≡ noted table.now many) }
-{
-    let mut events = Vec::new(alloc);
-    for x in 0..many {
-        put_if(&mut events, x, table[x as usize])?;
-    }
-    Ok(Listed::from_vec(events))
 }
 
 impl Marking {
@@ -55,11 +34,11 @@ impl Marking {
     pub fn start(alloc: Global, chart: &Chart) -> Result<Marking, AllocError>
         ensures { IfOk result (HoldsMarking chart.now.events 0 []) }
     {
-        let many = chart.events() as usize;
+        let many = chart.events();
         Ok(Marking {
             marks: Vec::new(alloc),
-            upper: vec![in alloc; false; many]?,
-            lower: vec![in alloc; false; many]?,
+            upper: Notes::none(alloc, many)?,
+            lower: Notes::none(alloc, many)?,
             begun: 0,
             reach: None,
             told: 0,
@@ -71,18 +50,18 @@ impl Marking {
         requires tables { HasTables chart.now.events self.old }
         requires some { 0 < length chart.now.events }
         ensures marks { OnOk result (self.new.marks.items ≡ self.old.marks.items
-            ++ mark_by chart.now.events self.old.upper.items self.old.lower.items self.old.begun
+            ++ mark_by chart.now.events self.old.upper self.old.lower self.old.begun
             self.old.reach) }
+        ensures tables { OnOk result (HasTables chart.now.events self.new) }
         ensures told { OnOk result (self.new.told ≡ self.old.told) }
     {
         let Some((first, last)) = self.reach else {
             return Ok(());
         };
-        let many = chart.events();
         self.marks.push(Mark {
             instance: chart.instance_of(self.begun),
-            upper: noted(alloc, &self.upper, many)?,
-            lower: noted(alloc, &self.lower, many)?,
+            upper: self.upper.list(alloc)?,
+            lower: self.lower.list(alloc)?,
             first: plus(first, 1)?,
             last: plus(last, 1)?,
         })?;
@@ -94,15 +73,14 @@ impl Marking {
         requires tables { HasTables chart.now.events self.old }
         requires some { 0 < length chart.now.events }
         ensures marks { OnOk result (self.new.marks.items ≡ self.old.marks.items
-            ++ mark_by chart.now.events self.old.upper.items self.old.lower.items self.old.begun
+            ++ mark_by chart.now.events self.old.upper self.old.lower self.old.begun
             self.old.reach) }
         ensures fresh { OnOk result (IsFresh chart.now.events e self.new) }
         ensures told { OnOk result (self.new.told ≡ self.old.told) }
     {
         self.close(alloc, chart)?;
-        let many = chart.events() as usize;
-        self.upper = vec![in alloc; false; many]?;
-        self.lower = vec![in alloc; false; many]?;
+        self.upper.clear();
+        self.lower.clear();
         self.begun = e;
         self.reach = None;
         Ok(())
@@ -127,12 +105,12 @@ impl Marking {
 
     /// Notes a race from the segment at hand.
     fn add(&mut self, race: (Event, Event)) -> Result<(), AllocError>
-        requires upper { race.0 < length self.old.upper.items }
-        requires lower { race.1 < length self.old.lower.items }
+        requires upper { race.0 < length self.old.upper }
+        requires lower { race.1 < length self.old.lower }
         ensures { OnOk result (IsAdded race self.old self.new) }
     {
-        self.upper[race.0 as usize] = true;
-        self.lower[race.1 as usize] = true;
+        self.upper.note(race.0);
+        self.lower.note(race.1);
         self.reach = Some(grow(self.reach, self.told));
         self.told = plus(self.told, 1)?;
         Ok(())

@@ -23,3 +23,8 @@ mod BandLemmas
 pub mod PlainBytes
 mod PlainTexts
 mod PlainScenes
+pub mod SegmentLemmas
+mod ExtentLemmas
+mod PutLemmas
+mod SpanLemmas
+mod SignLemmas

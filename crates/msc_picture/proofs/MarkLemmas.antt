@@ -33,7 +33,7 @@ module _ (events : List ChartEvent) where
       (eq-eqb (line events e) (line events f) l) (eq-eqb (segment events e) (segment events f) s)
 
 -- sharing a segment goes on
-share_on : (events : List ChartEvent) (e f g : ℕ) → share_segment events e f ≡ true
+pub share_on : (events : List ChartEvent) (e f g : ℕ) → share_segment events e f ≡ true
     → share_segment events f g ≡ true → share_segment events e g ≡ true
 share_on events e f g h k =
     let p = share_parts events e f h in

@@ -5,6 +5,7 @@ use Rattle.std.proofs.lemmas.List.Sums.{fold_more}
 use Rattle.std.proofs.lemmas.List.FromFn.{map-range_with_len_more}
 use Rattle.std.proofs.lemmas.Grind.{flat_map-append}
 use Rattle.std.proofs.lemmas.List.Elements.{filter-append}
+use Rattle.std.proofs.lemmas.List.{get_or_default}
 
 -- a range with its last number apart
 range_last : (a n j : ℕ) → a + n ≡ j → range_with_len a (suc n) ≡ range_with_len a n ++ j ∷ []
@@ -82,3 +83,8 @@ drop_next {X} (y ∷ ys) zero x below is = ap (λ (z : X). z ∷ ys) (sym is)
 drop_next {X} (y ∷ ys) (suc k) x below is =
     let on : suc k + 1 ≡ suc (k + 1) = omega arith in
     drop_next ys k x (omega arith) is ∙ ap (λ (n : ℕ). x ∷ drop n (y ∷ ys)) (sym on)
+
+-- the same, with another default
+pub drop_at : {X : Type 0} (xs : List X) (k : ℕ) (d : X) → k < length xs
+    → drop k xs ≡ get_or xs k d ∷ drop (k + 1) xs
+drop_at xs k d below = drop_next xs k (get_or xs k d) below (get_or_default xs k d (get_or xs k d) below)

@@ -13,3 +13,5 @@ pub mod Laws
 pub mod Courses
 pub mod Drawn
 pub mod Ready
+pub mod Extents
+pub mod Signs

@@ -1,11 +1,11 @@
 //! Bands: where coregions reach from and to.
 
-ghost use Rattle.std.specs.Prelude.{◌≡◌, ◌<◌, ◌≤◌, ◌+◌, ◌++◌, IfOk, IfSome, OnOk, length, ℕ};
-ghost use Rattle.std.specs.List.{All};
-ghost use Rattle.msc_picture.specs.Rows.{AreKnownRows, IsKnownRow, band_at, bands_of};
-ghost use Rattle.msc_picture.specs.Rows.{begins_band, begins_segment, grown, reach_of, row_passes};
-ghost use Rattle.msc_picture.specs.Rows.{share_segment};
+ghost use Rattle.std.specs.Prelude.{◌≡◌, ◌<◌, ◌++◌, [], IfOk, OnOk, cond, length};
+ghost use Rattle.msc_chart.specs.Charts.{line};
+ghost use Rattle.msc_picture.specs.Rows.{AreKnownRows, band_over, bands_of, begins_band};
+ghost use Rattle.msc_picture.specs.Rows.{begins_segment, grown, share_segment};
 
+use crate::extent::reaches_of;
 use crate::scene::{Band, Row};
 use msc_chart::{Chart, Event};
 use std::alloc::{AllocError, Global};
@@ -46,47 +46,22 @@ pub fn grow(reach: Option<(usize, usize)>, k: usize) -> (usize, usize)
     }
 }
 
-/// Whether an event of the row is in the segment of event `e`.
-fn has_of_segment(chart: &Chart, row: &Row, e: Event) -> bool
-    requires e { e < length chart.now.events }
-    requires row { IsKnownRow (length chart.now.events) row.now }
-    ensures { result ≡ row_passes (share_segment chart.now.events e) row.now }
-{
-    if share_segment(chart, e, row.first) {
-        return true;
-    }
-    match row.second {
-        Some(second) => share_segment(chart, e, second),
-        None => false,
-    }
-}
-
-/// The first and the last row with an event of the segment of event `e`.
-fn reach(chart: &Chart, rows: &[Row], e: Event) -> Option<(usize, usize)>
-    requires e { e < length chart.now.events }
-    requires rows { AreKnownRows (length chart.now.events) rows.now }
-    ensures { result ≡ reach_of (row_passes (share_segment chart.now.events e)) rows.now }
-{
-    let mut reach = None;
-    for (k, row) in rows.iter().enumerate() {
-        if has_of_segment(chart, row, e) {
-            reach = Some(grow(reach, k));
-        }
-    }
-    reach
-}
-
-/// Puts the band of the segment that event `e` begins behind the bands, where it has one.
-fn put_band(bands: &mut Vec<Band>, chart: &Chart, rows: &[Row], e: Event) -> Result<(), AllocError>
-    requires e { e < length chart.now.events }
-    requires rows { AreKnownRows (length chart.now.events) rows.now }
-    ensures { OnOk result
-        (bands.new.items ≡ bands.old.items ++ band_at chart.now.events rows.now e) }
+/// Puts the band of the segment that event `e` begins behind the bands, where it has one: from the
+/// first to the last row that the segment reaches to.
+fn put_band(
+    bands: &mut Vec<Band>,
+    chart: &Chart,
+    e: Event,
+    reach: Option<(usize, usize)>,
+) -> Result<(), AllocError>
+    requires { e < length chart.now.events }
+    ensures { OnOk result (bands.new.items ≡ bands.old.items
+        ++ cond (begins_band chart.now.events e) (band_over (line chart.now.events e) reach) []) }
 {
     if !begins_band(chart, e) {
         return Ok(());
     }
-    let Some((first, last)) = reach(chart, rows, e) else {
+    let Some((first, last)) = reach else {
         return Ok(());
     };
     bands.push(Band {
@@ -102,9 +77,11 @@ pub fn bands_of(alloc: Global, chart: &Chart, rows: &[Row]) -> Result<Vec<Band>,
     requires { AreKnownRows (length chart.now.events) rows.now }
     ensures { IfOk result (λ bands. bands.items ≡ bands_of chart.now.events rows.now) }
 {
+    let reaches = reaches_of(alloc, chart, rows)?;
     let mut bands = Vec::new(alloc);
     for e in 0..chart.events() {
-        put_band(&mut bands, chart, rows, e)?;
+        let reach = reaches[e as usize];
+        put_band(&mut bands, chart, e, reach)?;
     }
     Ok(bands)
 }

@@ -7,6 +7,7 @@
 mod band;
 mod columns;
 mod drawn;
+mod extent;
 mod following;
 mod frame;
 pub mod laws;
@@ -19,6 +20,7 @@ mod rule;
 mod run;
 mod scene;
 mod searching;
+mod signs;
 mod text;
 
 pub use band::{begins_segment, grow};
@@ -26,4 +28,4 @@ pub use columns::plus;
 pub use ordering::drawing_order;
 pub use run::run_order;
 pub use scene::{Act, Arrow, Band, Head, Mark, Reversed, Row, Scene, Spot, chart_scene, run_scene};
-pub use text::{is_marked, put_text};
+pub use text::put_text;

@@ -2,17 +2,15 @@
 
 ghost use Rattle.std.specs.Prelude.{◌≡◌, ◌<◌, ◌+◌, ◌++◌, IfOk, OnOk, fold};
 ghost use Rattle.std.specs.Prelude.{length, slice_set};
-ghost use Rattle.std.specs.Prelude.{nat_eq};
-ghost use Rattle.std.specs.List.{list_any};
 ghost use Rattle.std.specs.Fmt.{decimal};
-ghost use Rattle.msc_picture.specs.Rows.{row_passes};
-ghost use Rattle.msc_picture.specs.Texts.{head_line, in_band, is_marked, numbers_text, over};
-ghost use Rattle.msc_picture.specs.Texts.{picture_text, row_line, row_lines, with_axis, with_band};
-ghost use Rattle.msc_picture.specs.Texts.{with_mark, with_name};
+ghost use Rattle.msc_picture.specs.Signs.{AreBandsIn, AreMarksIn, PutsBands, PutsMarks, with_sign};
+ghost use Rattle.msc_picture.specs.Texts.{head_line, numbers_text, over, picture_text};
+ghost use Rattle.msc_picture.specs.Texts.{row_line, row_lines, with_axis, with_name};
 
 use crate::columns::{Columns, columns_of, plus};
 use crate::piece::{Piece, row_piece};
-use crate::scene::{Band, Mark, Row, Scene};
+use crate::scene::{Row, Scene};
+use crate::signs::Signs;
 use itoa::Buffer;
 use msc_chart::Event;
 use std::alloc::{AllocError, Global};
@@ -38,13 +36,6 @@ fn put_piece(line: &mut Vec<u8>, piece: &Piece) -> Result<(), AllocError>
     Ok(())
 }
 
-/// Whether row `r` is one of a band.
-fn in_band(r: usize, band: &Band) -> bool
-    ensures { result ≡ in_band r band.now }
-{
-    r >= band.first && band.last >= r
-}
-
 /// Puts the axes over a line.
 fn put_axes(line: &mut Vec<u8>, columns: &[usize])
     ensures { line.new.items ≡ fold with_axis line.old.items columns.now }
@@ -54,57 +45,29 @@ fn put_axes(line: &mut Vec<u8>, columns: &[usize])
     }
 }
 
-/// Puts the bands of row `r` over a line.
-fn put_bands(line: &mut Vec<u8>, c: &Columns, bands: &[Band], r: usize)
-    ensures { line.new.items ≡ fold (with_band c.now r) line.old.items bands.now }
+/// Puts a sign over a line, on the axes of these instances.
+fn put_signs(line: &mut Vec<u8>, c: &Columns, instances: &[u32], sign: u8)
+    ensures { line.new.items ≡ fold (with_sign c.now sign) line.old.items instances.now }
 {
-    for band in bands {
-        if in_band(r, band) {
-            put(line, c.column(band.instance as usize), b':');
-        }
+    for instance in instances {
+        put(line, c.column(*instance as usize), sign);
     }
 }
 
-/// Whether event `e` is one of these.
-fn is_among(events: &[Event], e: Event) -> bool
-    ensures { result ≡ list_any (nat_eq e) events.now }
+/// Puts the bands over row `r` over a line, whose signs these are.
+fn put_bands(line: &mut Vec<u8>, c: &Columns, bands: &Signs, r: usize)
+    ensures { PutsBands c.now r bands.now.instances.items line.old.items line.new.items }
 {
-    for f in events {
-        if e == *f {
-            return true;
-        }
-    }
-    false
+    put_signs(line, c, bands.at(r), b':');
 }
 
-/// Whether event `e` is one of a mark.
-pub fn is_marked(mark: &Mark, e: Event) -> bool
-    ensures { result ≡ is_marked mark.now e }
+/// Puts the marks of a row over a line, whose signs these are.
+fn put_marks(line: &mut Vec<u8>, c: &Columns, marks: &Signs, row: Row)
+    ensures { PutsMarks c.now row marks.now.instances.items line.old.items line.new.items }
 {
-    is_among(mark.upper.as_slice(), e) || is_among(mark.lower.as_slice(), e)
-}
-
-/// Whether an event of a row is one of a mark.
-fn has_marked(mark: &Mark, row: Row) -> bool
-    ensures { result ≡ row_passes (is_marked mark.now) row }
-{
-    if is_marked(mark, row.first) {
-        return true;
-    }
-    match row.second {
-        Some(second) => is_marked(mark, second),
-        None => false,
-    }
-}
-
-/// Puts the marks of a row over a line.
-fn put_marks(line: &mut Vec<u8>, c: &Columns, marks: &[Mark], row: Row)
-    ensures { line.new.items ≡ fold (with_mark c.now row) line.old.items marks.now }
-{
-    for mark in marks {
-        if has_marked(mark, row) {
-            put(line, c.column(mark.instance as usize), b'*');
-        }
+    put_signs(line, c, marks.at(row.first as usize), b'*');
+    if let Some(second) = row.second {
+        put_signs(line, c, marks.at(second as usize), b'*');
     }
 }
 
@@ -134,17 +97,22 @@ fn row_line(
     alloc: Global,
     scene: &Scene,
     c: &Columns,
+    bands: &Signs,
+    marks: &Signs,
     r: usize,
     row: Row,
 ) -> Result<Vec<u8>, AllocError>
+    requires known { r < length scene.now.rows }
+    requires bands { AreBandsIn scene.now.bands (length scene.now.rows) bands.now.instances.items }
+    requires marks { AreMarksIn scene.now.marks marks.now.instances.items }
     ensures { IfOk result (λ line. line.items ≡ row_line scene.now c.now r row) }
 {
     let piece = row_piece(alloc, scene, c, row)?;
     let mut line = vec![in alloc; b' '; c.width]?;
     put_axes(&mut line, c.columns.as_slice());
-    put_bands(&mut line, c, scene.bands.as_slice(), r);
+    put_bands(&mut line, c, bands, r);
     put_piece(&mut line, &piece)?;
-    put_marks(&mut line, c, scene.marks.as_slice(), row);
+    put_marks(&mut line, c, marks, row);
     put_numbers(&mut line, row)?;
     Ok(line)
 }
@@ -186,9 +154,11 @@ fn put_rows(alloc: Global, page: &mut Vec<u8>, scene: &Scene, c: &Columns) -> Re
     ensures { OnOk result (page.new.items ≡ page.old.items ++ row_lines scene.now c.now) }
 {
     let rows = scene.rows.as_slice();
+    let bands = Signs::of_bands(alloc, scene.bands.as_slice(), rows.len())?;
+    let marks = Signs::of_marks(alloc, scene.marks.as_slice())?;
     for r in 0..rows.len() {
         let row = rows[r];
-        let line = row_line(alloc, scene, c, r, row)?;
+        let line = row_line(alloc, scene, c, &bands, &marks, r, row)?;
         page.extend_from_slice(&line)?;
     }
     Ok(())

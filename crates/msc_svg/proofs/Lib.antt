@@ -4,3 +4,4 @@ mod Apart
 pub mod PlainTrees
 mod PlainWords
 pub mod PlainSvg
+mod RowLemmas

@@ -6,3 +6,4 @@ pub mod Captions
 pub mod Elements
 pub mod Svg
 pub mod Laws
+pub mod Hits

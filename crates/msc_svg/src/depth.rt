@@ -40,7 +40,7 @@ fn next_depth(under: &[Underway], instance: u32) -> Result<usize, AllocError>
 }
 
 /// Puts a number into a table. A place behind it takes none.
-fn put(table: &mut Vec<usize>, at: usize, n: usize)
+pub fn put(table: &mut Vec<usize>, at: usize, n: usize)
     ensures { table.new.items ≡ slice_set table.old.items at n }
 {
     if at < table.len() {

@@ -2,21 +2,22 @@
 
 ghost use Rattle.std.specs.Prelude.{◌≡◌, ◌<◌, ◌+◌, ◌*◌, ◌-◌, ◌++◌, ◌∷◌, [], IfOk, OnOk, codes};
 ghost use Rattle.std.specs.Prelude.{cond, get_or, length, map, slice_get};
-ghost use Rattle.std.specs.List.{flat_map, list_any, range_with_len};
+ghost use Rattle.std.specs.List.{flat_map, range_with_len};
 ghost use Rattle.msc_picture.specs.Laws.{events_of_rows};
-ghost use Rattle.msc_picture.specs.Texts.{is_marked};
-ghost use Rattle.msc_svg.specs.Elements.{area, arrow_node, box_class, box_nodes, boxes, is_hit};
+ghost use Rattle.msc_svg.specs.Elements.{area, arrow_node, box_nodes, boxes};
 ghost use Rattle.msc_svg.specs.Elements.{other_path, own_path, plate_nodes, spot_nodes, words_at};
 ghost use Rattle.msc_svg.specs.Elements.{words_nodes};
+ghost use Rattle.msc_svg.specs.Hits.{AreHits};
 ghost use Rattle.msc_tree.specs.Trees.{line_text, lines_text};
 
 use crate::action::{ActionBox, action_box};
 use crate::caption::{Caption, plates};
+use crate::hits::hits_of;
 use crate::layout::Layout;
 use crate::measure::times;
 use crate::place::place;
 use msc_chart::Event;
-use msc_picture::{Act, Arrow, Scene, is_marked, plus};
+use msc_picture::{Act, Arrow, Scene, plus};
 use msc_tree::{Area, put_path, put_point, put_rect, put_step, put_text_at};
 use std::alloc::{AllocError, Global};
 
@@ -135,28 +136,11 @@ fn put_words(page: &mut Vec<u8>, x: usize, y: usize, at: &ActionBox) -> Result<(
     Ok(())
 }
 
-/// Whether event `e` is one of a mark.
-fn is_hit(scene: &Scene, e: Event) -> bool
-    ensures { result ≡ is_hit scene.now e }
+/// The class of the box of an event that is of a mark, or of none.
+fn box_class(is_hit: bool) -> &'static [u8]
+    ensures { result.now ≡ cond is_hit (codes "action hit") (codes "action") }
 {
-    let marks = scene.marks.as_slice();
-    for mark in marks {
-        if is_marked(mark, e) {
-            return true;
-        }
-    }
-    false
-}
-
-/// The class of the box of event `e`.
-fn box_class(scene: &Scene, e: Event) -> &'static [u8]
-    ensures { result.now ≡ box_class scene.now e }
-{
-    if is_hit(scene, e) {
-        b"action hit"
-    } else {
-        b"action"
-    }
+    if is_hit { b"action hit" } else { b"action" }
 }
 
 /// Puts a box behind a page.
@@ -186,8 +170,10 @@ fn put_spot(
     alloc: Global,
     scene: &Scene,
     layout: &Layout,
+    hits: &[bool],
     e: Event,
 ) -> Result<(), AllocError>
+    requires { AreHits scene.now hits.now }
     ensures { OnOk result (page.new.items ≡ page.old.items
         ++ lines_text (spot_nodes scene.now layout.now e (slice_get scene.now.spots e))) }
 {
@@ -199,7 +185,7 @@ fn put_spot(
             let at = action_box(alloc, text.as_slice())?;
             let x = layout.axis(spot.instance);
             let y = layout.event_middle(e)?;
-            put_box(page, box_class(scene, e), x, y, &at)
+            put_box(page, box_class(hits[e as usize]), x, y, &at)
         }
         Act::Sends(_) | Act::Takes(_) => Ok(()),
     }
@@ -217,8 +203,9 @@ pub fn put_boxes(
     ensures { OnOk result
         (page.new.items ≡ page.old.items ++ lines_text (boxes scene.now layout.now)) }
 {
+    let hits = hits_of(alloc, scene)?;
     for e in order {
-        put_spot(page, alloc, scene, layout, *e)?;
+        put_spot(page, alloc, scene, layout, &hits, *e)?;
     }
     Ok(())
 }

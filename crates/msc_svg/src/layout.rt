@@ -1,16 +1,16 @@
 //! Where everything in a picture stands.
 
-ghost use Rattle.std.specs.Prelude.{◌≡◌, ◌≤◌, ◌+◌, ◌*◌, ◌/◌, ◌-◌, IfOk, cond, fold, length, map};
-ghost use Rattle.std.specs.Prelude.{max, nat_eq, slice_get};
+ghost use Rattle.std.specs.Prelude.{◌≡◌, ◌<◌, ◌≤◌, ◌+◌, ◌*◌, ◌/◌, ◌-◌, IfOk, cond, fold, get_or};
+ghost use Rattle.std.specs.Prelude.{length, map, max, nat_eq, slice_get, ℕ};
 ghost use Rattle.std.specs.List.{range_with_len};
 ghost use Rattle.msc_picture.specs.Rows.{row_passes};
 ghost use Rattle.msc_svg.specs.Layouts.{across_of, act_height, below_of, down_of, first_axis};
 ghost use Rattle.msc_svg.specs.Layouts.{has_kind, head_height, head_room, heading_width, height_of};
 ghost use Rattle.msc_svg.specs.Layouts.{is_short, is_short_arrow, layout_of, need, row_height};
-ghost use Rattle.msc_svg.specs.Layouts.{row_heights, row_number, row_numbers, sums, top_of, total};
+ghost use Rattle.msc_svg.specs.Layouts.{row_heights, row_numbers, sums, top_of, total};
 
 use crate::action::action_box;
-use crate::depth::depths_of;
+use crate::depth::{depths_of, put};
 use crate::measure::{at, gaps_of, left, right, times};
 use listed::Listed;
 use msc_parser::Label;
@@ -121,39 +121,28 @@ fn head_height(heads: &[Head]) -> usize
     most
 }
 
-/// Whether an event is one of a row.
-fn is_in_row(row: &Row, e: usize) -> bool
-    ensures { result ≡ row_passes (nat_eq e) row.now }
+/// Puts the number of a row to its events.
+fn put_row(numbers: &mut Vec<usize>, row: Row, r: usize)
+    ensures long { length numbers.new.items ≡ length numbers.old.items }
+    ensures each { (e : ℕ) → e < length numbers.old.items → get_or numbers.new.items e 0
+        ≡ cond (row_passes (nat_eq e) row) r (get_or numbers.old.items e 0) }
 {
-    if e == row.first as usize {
-        return true;
-    }
-    match row.second {
-        Some(second) => e == second as usize,
-        None => false,
+    put(numbers, row.first as usize, r);
+    if let Some(second) = row.second {
+        put(numbers, second as usize, r);
     }
 }
 
-/// The number of the row of an event, or how many rows there are.
-fn row_number(rows: &[Row], e: usize) -> usize
-    ensures { result ≡ row_number rows.now e }
-{
-    for (r, row) in rows.iter().enumerate() {
-        if is_in_row(row, e) {
-            return r;
-        }
-    }
-    rows.len()
-}
-
-/// The numbers of the rows of the events.
+/// The numbers of the rows of the events, from the last row up: so each event keeps its first row.
 fn row_numbers(alloc: Global, scene: &Scene) -> Result<Vec<usize>, AllocError>
     ensures { IfOk result (λ numbers. numbers.items ≡ row_numbers scene.now) }
 {
-    let mut numbers = Vec::new(alloc);
-    for e in 0..scene.spots.as_slice().len() {
-        let r = row_number(scene.rows.as_slice(), e);
-        numbers.push(r)?;
+    let rows = scene.rows.as_slice();
+    let many = rows.len();
+    let mut numbers = vec![in alloc; many; scene.spots.as_slice().len()]?;
+    for k in 0..many {
+        let r = many - 1 - k;
+        put_row(&mut numbers, rows[r], r);
     }
     Ok(numbers)
 }

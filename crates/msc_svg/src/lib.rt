@@ -9,6 +9,7 @@ mod caption;
 mod depth;
 mod element;
 mod head;
+mod hits;
 pub mod laws;
 mod layout;
 mod mark;

@@ -3,7 +3,6 @@ use Rattle.msc_picture.specs.Marks.{marks_of}
 use Rattle.msc_race.specs.Views.{wiring_of}
 use Rattle.msc_reason.specs.Closest.{IsClosestList}
 use Rattle.msc_reason.specs.LeftOut.{leaves_none}
-use Rattle.msc_reason.specs.declared.left_out.LeftOut.{LeftOut}
 use Rattle.msc_reason.specs.LeftOut.{leaves_none}
 use Rattle.msc_reason.specs.Marked.{lack_in}
 use Rattle.msc_reason.specs.Selected.{Selected}

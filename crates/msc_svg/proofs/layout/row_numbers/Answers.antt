@@ -1,11 +1,11 @@
-use Rattle.msc_picture.specs.declared.scene.Row.{Row}
-use Rattle.std.proofs.Common.{List, ap, ◌∙◌}
-use Rattle.msc_svg.proofs.Ranges.{map_next}
-use Rattle.msc_svg.specs.Layouts.{row_number}
+use Rattle.std.proofs.Common.{◌≡◌, ◌-◌, length, ap, arith}
+use Rattle.msc_svg.proofs.RowLemmas.{all_numbers}
 use Rattle.msc_svg.proofs.layout.row_numbers.Goals as goal
 
-pub loop-e-preserved : goal.loop-e-preserved
-loop-e-preserved c =
-    map_next (row_number c.args.scene.now.rows) c.loop-e.e _ _ _ c.loop-e.invariant
-    (c.row_number-r.ensures ∙ ap (λ (l : List Row). row_number l c.loop-e.e) c.as_slice.ensures)
-    c.in_ok-push.ensures.items
+pub returns : goal.returns
+returns c =
+    let rows = c.args.scene.now.rows in
+    let inv = c.loop-k.invariant in
+    let left = length rows - c.loop-k.k in
+    let none : left ≡ 0 = omega (arith, c.loop-k-test.false, ap length c.as_slice-rows.ensures) in
+    all_numbers rows (length c.args.scene.now.spots) left c.loop-k.numbers.items none inv.long inv.each

@@ -16,7 +16,7 @@ returns c =
             let some : 0 < length events = omega (arith, w.if-events-gt0.true, c.events.ensures.number) in
             c.from_vec.ensures ∙ ap (λ (x : Marking). x.marks.items) w.all-is
             ∙ w.in_ok-close.ensures.marks
-            ∙ all_marked events told m.marks.items m.upper.items m.lower.items m.begun m.reach m.told h some;
+            ∙ all_marked events told m.marks.items m.upper m.lower m.begun m.reach m.told h some;
         told = ap (λ (x : Marking). x.told) w.all-is ∙ w.in_ok-close.ensures.told;
       }
       | else-events-gt0 w ↦ record {

@@ -31,13 +31,13 @@ loop-race-preserved c =
     let own = c.requires.races k (0, 0) below in
     let pair : (e, p.1) ≡ p = ap (λ (x : ℕ). (x, p.1)) (sym own.0) in
     let so_far = take k races in
-    let upper : next.upper.items ≡ slice_set m.upper.items e true =
-    is.upper ∙ ap (λ (x : ℕ). slice_set m.upper.items x true) own.0 in
+    let upper : next.upper ≡ slice_set m.upper e true =
+    is.upper ∙ ap (λ (x : ℕ). slice_set m.upper x true) own.0 in
     record {
-      upper = ap length is.upper ∙ length-set m.upper.items p.0 true ∙ c.loop-race.invariant.upper;
-      lower = ap length is.lower ∙ length-set m.lower.items p.1 true ∙ c.loop-race.invariant.lower;
+      upper = ap length is.upper ∙ length-set m.upper p.0 true ∙ c.loop-race.invariant.upper;
+      lower = ap length is.lower ∙ length-set m.lower p.1 true ∙ c.loop-race.invariant.lower;
       held = λ told h.
-          let more = added events e p.1 (told ++ so_far) m.marks.items m.upper.items m.lower.items m.begun
+          let more = added events e p.1 (told ++ so_far) m.marks.items m.upper m.lower m.begun
           m.reach m.told c.accepted.ensures.in_text_order c.requires.known own.1
           (c.loop-race.invariant.held told h) in
           let list : (told ++ so_far) ++ (e, p.1) ∷ [] ≡ told ++ take (k + 1) races =
@@ -46,8 +46,8 @@ loop-race-preserved c =
           ∙ ap (λ (l : List (ℕ × ℕ)). told ++ l) (sym (take_more races k (0, 0) below)) in
           subst (λ (l : List (ℕ × ℕ)). HoldsMarking events (e + 1) l next) list
           (same_marking events (e + 1) ((told ++ so_far) ++ (e, p.1) ∷ []) m.marks.items
-          next.marks.items (slice_set m.upper.items e true) next.upper.items
-          (slice_set m.lower.items p.1 true) next.lower.items m.begun next.begun
+          next.marks.items (slice_set m.upper e true) next.upper
+          (slice_set m.lower p.1 true) next.lower m.begun next.begun
           (Some (grown m.reach m.told)) next.reach (m.told + 1) next.told is.marks upper is.lower
           is.begun is.reach is.told more);
     }

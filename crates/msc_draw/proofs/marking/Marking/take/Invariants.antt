@@ -5,8 +5,8 @@ use Rattle.msc_draw.proofs.marking.Marking.take.Given as goal
 -- the tables are as long as they were, and the races so far are noted
 abbrev pub invariant-loop-race : goal.invariant-loop-race
 invariant-loop-race l = record {
-  upper : length l.self.upper.items ≡ length l.chart.events;
-  lower : length l.self.lower.items ≡ length l.chart.events;
+  upper : length l.self.upper ≡ length l.chart.events;
+  lower : length l.self.lower ≡ length l.chart.events;
   held : (told : List (ℕ × ℕ)) → HoldsMarking l.chart.events l.e told l.fn.self
       → HoldsMarking l.chart.events (l.e + 1) (told ++ take l.race-index l.races) l.self;
 }

@@ -18,7 +18,7 @@ returns-else-e-gt0 c =
       | else-e-gt0-via-else-e-gt0 w ↦ inl (omega arith)
     ] in
     record {
-      told = λ told h. turned_same events e told m.marks.items m.upper.items m.lower.items m.begun m.reach
+      told = λ told h. turned_same events e told m.marks.items m.upper m.lower m.begun m.reach
           m.told h inner;
       tables = c.requires.tables;
     }
@@ -35,11 +35,11 @@ returns-in_ok-begin c =
     record {
       told = λ told h.
           same_marking events (e + 1) told
-          (m.marks.items ++ mark_by events m.upper.items m.lower.items m.begun m.reach)
-          next.marks.items (replicate n false) next.upper.items (replicate n false) next.lower.items e
+          (m.marks.items ++ mark_by events m.upper m.lower m.begun m.reach)
+          next.marks.items (replicate n false) next.upper (replicate n false) next.lower e
           next.begun None next.reach m.told next.told c.in_ok-begin.ensures.marks fresh.upper
           fresh.lower fresh.begun fresh.reach c.in_ok-begin.ensures.told
-          (turned_new events e told m.marks.items m.upper.items m.lower.items m.begun m.reach m.told h
+          (turned_new events e told m.marks.items m.upper m.lower m.begun m.reach m.told h
           c.accepted.ensures.in_text_order c.if-e-gt0.true c.requires.known begins);
       tables = record {
         upper = ap length fresh.upper ∙ length-replicate n false;
