@@ -31,5 +31,5 @@ returns-clause-followed g c =
       | inl memory ↦ inr (inr (rw memory at c.tell_usage.ensures.ends))
       | inr among ↦
           let whole = rw alike.0 at (rw is at among) in
-          inr (inl (_, (_, (p, are, refl), whole), c.tell_usage.ensures.ends))
+          inr (inl (_, (whole_command p, (p, are, refl), whole), c.tell_usage.ensures.ends))
     ]
