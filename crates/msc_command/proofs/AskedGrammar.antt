@@ -1,11 +1,12 @@
 -- Of the command that words name `clap` is told alone: it takes the words as where it is told of all.
-use Rattle.std.proofs.Common.{◌≡◌, refl, sym, ap, true, false, Bool, List, [], ◌∷◌, Option, Some, None, cond, find}
+use Rattle.std.proofs.Common.{◌≡◌, refl, sym, ap, subst, true, false, Bool, List, [], ◌∷◌, Option, Some, None, cond, find}
 use Rattle.std.proofs.lemmas.Option.{none-some}
 use Rattle.std.proofs.lemmas.Slice.Eq.{bytes_eq-Decides}
 use Rattle.std.specs.Option.{option_map_or}
 use Rattle.std.specs.Str.{bytes_eq}
-use Rattle.clap.specs.Words.{App, Text, built, fault_of, is_simple, is_simple_and_free, subcommand_of}
-use Rattle.msc_command.specs.Grammar.{bare_command, begun_by, verbs_for, whole_command, with_commands, AreParsers, Parsers}
+use Rattle.clap.specs.Words.{App, IsAmong, Text, built, fault_of, is_simple, is_simple_and_free, subcommand_of}
+use Rattle.clap.specs.declared.error.kind.ErrorKind.{ErrorKind}
+use Rattle.msc_command.specs.Grammar.{bare_command, begun_by, verbs_for, whole_command, with_commands, AreAnswered, AreParsers, Parsers}
 use Rattle.msc_command.specs.Words.{verb_name, verb_of_word, verbs}
 use Rattle.msc_command.specs.declared.words.Verb.{Verb}
 use Rattle.msc_command.specs.declared.words.Verb.TheVariants.{Read, Check, Explain, Run, List as Listing, Draw, Reverse, Report, Ready, Import}
@@ -84,10 +85,24 @@ asked_kind p (Some Report) = (refl, refl)
 asked_kind p (Some Ready) = (refl, refl)
 asked_kind p (Some Import) = (refl, refl)
 
--- `clap` says all of it
-pub is_asked_known : (p : Parsers) (words : List Text) → is_simple_and_free (with_commands p bare_command (verbs_for words)) ≡ true
-is_asked_known p words = (asked_kind p (begun_by words)).0
+module _ (p : Parsers) (words : List Text) (grammar : App) (is : grammar ≡ with_commands p bare_command (verbs_for words)) where
+  -- `clap` says all of it
+  pub is_asked_known : is_simple_and_free grammar ≡ true
+  is_asked_known = rw is (asked_kind p (begun_by words)).0
 
--- and its matches
-pub is_asked_simple : (p : Parsers) (words : List Text) → is_simple (with_commands p bare_command (verbs_for words)) ≡ true
-is_asked_simple p words = (asked_kind p (begun_by words)).1
+  -- and its matches
+  pub is_asked_simple : is_simple grammar ≡ true
+  is_asked_simple = rw is (asked_kind p (begun_by words)).1
+
+  -- it has the faults of the whole program
+  pub whole_fault : fault_of (whole_command p) words ≡ fault_of grammar words
+  whole_fault = rw is (sym (asked_alike p words).0)
+
+  -- and finds the same
+  pub whole_found : subcommand_of grammar words ≡ subcommand_of (whole_command p) words
+  whole_found = rw is (asked_alike p words).1
+
+  -- and answers what the whole program may answer
+  pub answers_whole : AreParsers p → (kind : ErrorKind) → IsAmong kind (fault_of grammar words) → AreAnswered words kind
+  answers_whole are kind among =
+      (whole_command p, (p, are, refl), subst (λ kinds. IsAmong kind kinds) (sym whole_fault) among)
