@@ -132,6 +132,7 @@ impl Lines {
     }
 
     /// The lines before any event has occurred.
+    #[inline(always)]
     pub fn start(alloc: Global, choice: &Choice) -> Result<Lines, AllocError>
         requires { IsChoice choice.now }
         ensures kept { IfOk result (λ l. HoldsLines choice.now.wiring.chart.now l) }

@@ -1,4 +1,5 @@
-//! A run, and what is in its queues, so that it is known which inputs may come next.
+//! A run, and what is in its queues, so that it is known which inputs may come next. What is done for
+//! each event is inlined: chosen and short runs both ask for it, and it would be a call in each.
 
 ghost use Rattle.std.specs.Prelude.{◌≡◌, ℕ, ◌<◌, ◌≤◌, [], ◌∷◌, ◌++◌, IfOk, OnOk};
 ghost use Rattle.std.specs.Prelude.{IsTrue};
@@ -53,6 +54,7 @@ impl QueuedRun {
     }
 
     /// Puts output `x` at the end of its queue.
+    #[inline(always)]
     fn send(&mut self, choice: &Choice, x: Event)
         requires settled { IsChoice choice.now }
         requires coming { IsComing (wired_chart choice.now) self.old x }
@@ -74,6 +76,7 @@ impl QueuedRun {
     }
 
     /// Takes the message of input `x` out of its queue.
+    #[inline(always)]
     fn take(&mut self, choice: &Choice, x: Event)
         requires settled { IsChoice choice.now }
         requires coming { IsComing (wired_chart choice.now) self.old x }
@@ -97,6 +100,7 @@ impl QueuedRun {
     }
 
     /// The queues change with `x`: an output's message is put, an input's is taken.
+    #[inline(always)]
     fn change(&mut self, choice: &Choice, x: Event)
         requires settled { IsChoice choice.now }
         requires queues { HoldsQueues (wired_chart choice.now) self.old.run.items self.old }
