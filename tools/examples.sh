@@ -13,6 +13,11 @@
 # NAME.QUEUES.report.html what `msc report` does, and NAME.reverse.E.F.QUEUES.txt and .svg what
 # `msc reverse` does of events E and F. Beside charts/refused/NAME.msc stands NAME.txt: what is
 # written to standard error, and then the status. `msc check` and `msc run` refuse each of them.
+# Beside charts/import/NAME.mmd stands NAME.scenarios.txt, with a line for each of its scenarios: a
+# chart and its choices. What `msc import` prints of these is that chart, which `msc read` prints as
+# it is, and with --list NAME_I.list.txt, if that is there.
+# Beside charts/import/refused/NAME.mmd stands NAME.txt: what `msc import --choose main` writes to
+# standard error of it, and the status.
 # `msc read` meets no fault of charts: where such a fault stands, it prints NAME.read.txt, or the
 # chart as it is where that is missing.
 set -u
@@ -81,6 +86,43 @@ for picture in charts/*.{drawn.txt,svg,report.html} charts/*.reverse.*.txt; do
 done
 compare docs/two_phase_commit.html /dev/null 0 \
   report --queues mailbox charts/two_phase_commit.msc
+
+# Compares a stored output of `msc ready`, by the parts of its name.
+compare_ready() {
+  local words only=() status=1
+  IFS=. read -r -a words <<<"${1#charts/}"
+  if [ "${words[2]}" != "${words[-2]}" ]; then only=(--only "${words[2]}"); fi
+  if grep -q '^finishes$' "$1" && ! grep -q '^race ' "$1"; then status=0; fi
+  compare "$1" /dev/null "$status" ready --queues "${words[-2]}" "${only[@]}" "charts/${words[0]}.msc"
+}
+
+for answer in charts/*.ready.*.txt; do
+  compare_ready "$answer"
+done
+
+# Compares what is imported of a diagram, with these choices, with a chart of the same folder.
+compare_import() {
+  local chart=charts/import/$2 name=${2%.msc}
+  compare "$chart" /dev/null 0 import --name "$name" --choose "$3" "$1"
+  compare "$chart" /dev/null 0 read "$chart"
+  if [ -e "${chart%.msc}.list.txt" ]; then
+    compare "${chart%.msc}.list.txt" /dev/null 0 \
+      import --from mermaid --name "$name" --choose "$3" --list "$1"
+  fi
+}
+
+for diagram in charts/import/*.mmd; do
+  while read -r chart _ choices; do
+    compare_import "$diagram" "$chart" "$choices"
+  done <"${diagram%.mmd}.scenarios.txt"
+done
+
+for diagram in charts/import/refused/*.mmd; do
+  name=${diagram%.mmd}
+  sed '/^status /d' "$name.txt" >"$room/fault"
+  compare /dev/null "$room/fault" "$(sed -n 's/^status //p' "$name.txt")" \
+    import --choose main "$diagram"
+done
 
 for chart in charts/refused/*.msc; do
   name=${chart%.msc}

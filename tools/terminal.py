@@ -23,6 +23,7 @@ FAULTS = [
     (["check", "--queues", "pair", "--plain", DEADLOCK], False, False),
     (["check", "--queues", "pair", "--places", DEADLOCK], True, True),
     (["list", DEADLOCK], False, True),
+    (["ready", "--queues", "pair", DEADLOCK], False, True),
     (["run", "--queues", "pair", DEADLOCK], False, True),
     (["explain", "--queues", "pair", DEADLOCK, "0", "1"], False, True),
     (["read", "charts/no_such_chart.msc"], False, True),

@@ -18,6 +18,7 @@ import tempfile
 
 from program import MOST, QUEUES, TOP, Answer, Count, add_commands, arguments, check_words, run
 from answer import check_answer, read_answer
+from imports import wanted_of
 from refuse import Shim
 
 CHART = (TOP / "charts/two_senders.msc").read_bytes()
@@ -26,9 +27,13 @@ DRAWN = {
     "draw": (["--queues", "mailbox"], [], "two_senders.mailbox.drawn.txt"),
     "reverse": (["--queues", "pair", "--svg"], ["1", "2"], "two_senders.reverse.1.2.pair.svg"),
     "report": (["--queues", "mailbox"], [], "two_senders.mailbox.report.html"),
+    "ready": (["--queues", "pair"], [], "two_senders.ready.pair.txt"),
 }
 REFUSED = b"msc t;"
 FAULT = Answer(b"", b"device fault\n", 4)
+# a text that is longer than a text may be, and the blanks before a text that changes
+LONG, BLANK = b" " * 2 ** 21, b" " * 200000
+DIAGRAM = (TOP / "charts/import/websocket_chat.mmd").read_bytes()
 SILENT = Answer(b"", b"", 4)
 # a user that owns nothing here
 NOBODY = 64321
@@ -40,14 +45,19 @@ def redirected(words, streams, before="true"):
 
 
 class Commands:
-    """The runs of the program that are tried."""
+    """The runs of the program on charts that are tried."""
+    text = CHART
 
     def __init__(self, program, wanted):
         self.program, self.wanted = program, wanted
 
+    def answer(self, text):
+        """What is printed of a text that is refused."""
+        return Answer(*read_answer(text))
+
     def on(self, file="-", program=None):
-        """A run of each command, and what is printed of CHART; for `run`, which may print one of
-        several traces, None."""
+        """A run of each command, and what is printed of the text; for `run`, which may print one
+        of several traces, None."""
         program = program or self.program
         if "read" in self.wanted:
             yield [program, "read", file], Answer(*read_answer(CHART))
@@ -63,25 +73,39 @@ class Commands:
                 yield words, Answer((TOP / "charts" / drawn).read_bytes(), b"", 0)
 
 
+class Imports(Commands):
+    """Those on diagrams."""
+    text = DIAGRAM
+
+    def answer(self, text):
+        return Answer(*wanted_of(text, ["--choose", "main"], False))
+
+    def on(self, file="-", program=None):
+        if "import" in self.wanted:
+            words = ["import", "--name", "t", "--choose", "main"]
+            wanted = wanted_of(self.text, words[1:], False)
+            yield [program or self.program, *words, file], Answer(*wanted)
+
+
 def outputs(count, commands, folder):
     """Standard output closed, full, not to be written, without a reader; standard error closed and
     full."""
     chart = folder / "chart"
-    chart.write_bytes(CHART)
+    chart.write_bytes(commands.text)
     for file in ("-", chart):
         for words, wanted in commands.on(file):
             for streams in (">&-", ">/dev/full", f"1<{chart}"):
-                count.compare(run(redirected(words, streams), CHART), FAULT, *words[1:], streams)
-                answer = run(redirected(words, f"{streams} 2>&-"), CHART)
+                count.compare(run(redirected(words, streams), commands.text), FAULT, *words[1:], streams)
+                answer = run(redirected(words, f"{streams} 2>&-"), commands.text)
                 count.compare(answer, SILENT, *words[1:], streams, "2>&-")
             # a run of two_senders prints one of two traces
-            whole = run(redirected(words, "2>&-"), CHART)
+            whole = run(redirected(words, "2>&-"), commands.text)
             is_whole = whole == wanted if wanted else whole.status == 0
             count.add(is_whole, *words[1:], "2>&-", whole)
             for streams in ("2>&-", "2>/dev/full"):
                 answer = run(redirected(words, streams), REFUSED)
                 count.add(file != "-" or answer == Answer(b"", b"", 2), *words[1:], streams, answer)
-            without_reader(count, words)
+            without_reader(count, words, commands.text)
     for words in (["--help"], ["--version"]):
         answer = run(redirected([commands.program, *words], ">/dev/full"))
         count.compare(answer, FAULT, *words, ">/dev/full")
@@ -90,14 +114,14 @@ def outputs(count, commands, folder):
         count.compare(answer, Answer(b"", b"", 2), *words, "2>/dev/full")
 
 
-def without_reader(count, words):
+def without_reader(count, words, text):
     """Standard output is a pipe whose reader has gone: whether or not SIGPIPE is ignored, a device
     fault."""
     for before in ("true", "trap '' PIPE"):
         reader, writer = os.pipe()
         os.close(reader)
         process = begun(redirected(words, "", before), stdin=subprocess.PIPE, stdout=writer)
-        error = process.communicate(CHART, timeout=MOST)[1]
+        error = process.communicate(text, timeout=MOST)[1]
         os.close(writer)
         answer = Answer(b"", error, process.returncode)
         count.compare(answer, FAULT, *words[1:], "no reader", before)
@@ -107,12 +131,11 @@ def inputs(count, commands, folder):
     """FILE and standard input of every sort."""
     (folder / "dangling").symlink_to("nothing")
     (folder / "round").symlink_to("round")
-    (folder / "denied").write_bytes(CHART)
+    (folder / "denied").write_bytes(commands.text)
     (folder / "denied").chmod(0)
     names = ["dangling", "round", "none", "denied/x"]
     faulty = [folder, *(folder / name for name in names), "", "x" * 5000, "/proc/self/mem"]
-    too_long = Answer(*read_answer(b" " * 2 ** 21))
-    nothing = Answer(*read_answer(b""))
+    too_long, nothing = commands.answer(LONG), commands.answer(b"")
     endless = [("/dev/zero", too_long), ("/dev/full", too_long)]
     wanted = [*((file, FAULT) for file in faulty), *endless, ("/dev/null", nothing)]
     for file, answer in wanted:
@@ -163,12 +186,12 @@ def pieces(count, commands, folder):
     for words, wanted in commands.on(pipe):
         process = begun(words)
         with open(pipe, "wb", buffering=0) as file:
-            for byte in CHART:
+            for byte in commands.text:
                 file.write(bytes([byte]))
         is_right(count, ended(process), wanted, *words[1:], "a FIFO")
     for words, wanted in commands.on():
         process = begun(words, stdin=subprocess.PIPE, bufsize=0)
-        for byte in CHART:
+        for byte in commands.text:
             process.stdin.write(bytes([byte]))
         is_right(count, ended(process), wanted, *words[1:], "byte by byte")
 
@@ -180,10 +203,9 @@ def is_right(count, answer, wanted, *told):
 
 def while_read(count, commands, folder, shim):
     """FILE is removed, cut or grows when a part of it has been read."""
-    blank, length = b" " * 200000, 200000 + len(CHART)
-    too_long = Answer(*read_answer(b" " * 2 ** 21))
-    cut = Answer(b"", b"grammar fault 3 at 100000: expected msc\n", 2)
-    grown = Answer(b"", f"grammar fault 3 at {length}: expected the end of the text\n".encode(), 2)
+    whole = BLANK + commands.text
+    too_long = commands.answer(LONG)
+    cut, grown = commands.answer(whole[:100000]), commands.answer(whole + b"x")
 
     def append(file, more):
         with open(file, "ab") as opened:
@@ -197,7 +219,7 @@ def while_read(count, commands, folder, shim):
     ):
         file = folder / "changing"
         for words, wanted in commands.on(file):
-            file.write_bytes(blank + CHART)
+            file.write_bytes(whole)
             process = begun(words, env=shim.env(HOLD_READ="2"))
             os.waitid(os.P_PID, process.pid, os.WSTOPPED)
             change(file)
@@ -208,19 +230,19 @@ def while_read(count, commands, folder, shim):
 def calls(count, commands, shim):
     """Reads and writes are interrupted, move a byte, or fail."""
     for words, wanted in commands.on():
-        is_right(count, run(words, CHART, env=shim.env()), wanted, *words[1:], "in full")
+        is_right(count, run(words, commands.text, env=shim.env()), wanted, *words[1:], "in full")
         made = dict(zip(("READ", "WRITE"), shim.made()[2:]))
-        narrow = run(words, CHART, env=shim.env(SHORT="1+"))
+        narrow = run(words, commands.text, env=shim.env(SHORT="1+"))
         is_right(count, narrow, wanted, *words[1:], "a byte at a time")
         for call, times in made.items():
             for number in range(1, times + 1):
-                again = run(words, CHART, env=shim.env(**{f"INTERRUPT_{call}": str(number)}))
+                again = run(words, commands.text, env=shim.env(**{f"INTERRUPT_{call}": str(number)}))
                 is_right(count, again, wanted, *words[1:], call, number, "interrupted")
                 for later in ("", "+"):
                     rule = {f"REFUSE_{call}": f"{number}{later}"}
-                    answer = run(words, CHART, env=shim.env(**rule))
+                    answer = run(words, commands.text, env=shim.env(**rule))
                     count.add(fails(answer, wanted, call), *words[1:], rule, answer)
-        always = run(words, CHART, env=shim.env(INTERRUPT_READ="1+"))
+        always = run(words, commands.text, env=shim.env(INTERRUPT_READ="1+"))
         count.compare(always, FAULT, *words[1:], "always interrupted")
 
 
@@ -239,15 +261,16 @@ def main():
     add_commands(words)
     options = words.parse_args()
     program = str(pathlib.Path(options.program).resolve())
-    commands, count = Commands(program, options.commands), Count()
-    with tempfile.TemporaryDirectory() as name:
-        folder = pathlib.Path(name)
-        shim = Shim(name)
-        outputs(count, commands, folder)
-        inputs(count, commands, folder)
-        pieces(count, commands, folder)
-        while_read(count, commands, folder, shim)
-        calls(count, commands, shim)
+    count = Count()
+    for commands in (Commands(program, options.commands), Imports(program, options.commands)):
+        with tempfile.TemporaryDirectory() as name:
+            folder = pathlib.Path(name)
+            shim = Shim(name)
+            outputs(count, commands, folder)
+            inputs(count, commands, folder)
+            pieces(count, commands, folder)
+            while_read(count, commands, folder, shim)
+            calls(count, commands, shim)
     return count.end()
 
 

@@ -8,12 +8,13 @@ and tries it. Text T of a seed is always the same. Some go from place to place o
 and then to a token that may not follow; some are charts with header, kinds, message instance names,
 parameters and coregions, spelled with any white space and notes; some are tokens in any order. Of
 each sort many are then changed: tokens or bytes are taken away, put in, doubled, exchanged, or the
-text is cut. Each text is given to `msc read`, and to `msc check`, `msc run`, `msc draw` and
-`msc report` under one architecture: both streams and the status are to be the same, for a chart that
-is run the trace has to be a whole run of it, and a report has to be read as XML. With `--places` nothing else may be printed but places, and behind the
-line of a fault what is said of it, all of it of bytes that move no cursor. As lines for editors, with
-marks, all that is printed is such lines, of such bytes, and a refusal is the first of them. Prints
-what differs, how many texts got which answer, and last `N passed, M failed`.
+text is cut. Each text is given to `msc read`, and to `msc check`, `msc run`, `msc draw`, `msc ready`
+and `msc report` under one architecture: both streams and the status are to be the same, for a chart
+that is run the trace has to be a whole run of it, and a report has to be read as XML. With `--places`
+nothing else may be printed but places, and behind the line of a fault what is said of it, all of it
+of bytes that move no cursor. As lines for editors, with marks, all that is printed is such lines, of
+such bytes, and a refusal is the first of them. Prints what differs, how many texts got which answer,
+and last `N passed, M failed`.
 """
 import collections
 import multiprocessing
@@ -25,7 +26,7 @@ import time
 import xml.etree.ElementTree
 
 from program import QUEUES, Count, add_commands, arguments, check_words, run
-from answer import ALL, check_answer, draw_answer, read_answer
+from answer import ALL, check_answer, draw_answer, read_answer, ready_answer
 from compare import chart
 from reading import PLACES, SUPPORTED, UNSUPPORTED, Draft, Event, tokens
 from whole_runs import Drawn
@@ -261,11 +262,12 @@ def tried(program, seed, number, commands):
         wrong = wrong_lines(checked, got)
         if wrong:
             told.append((words, text, got, wrong))
-    if "draw" in commands:
-        words, wanted = ["draw", "--queues", queues, "-"], draw_answer(text, queues)
-        got = run([program, *words], text)
-        if got != wanted:
-            told.append((words, text, got, wanted))
+    for command, answered in (("draw", draw_answer), ("ready", ready_answer)):
+        if command in commands:
+            words, wanted = [command, "--queues", queues, "-"], answered(text, queues)
+            got = run([program, *words], text)
+            if got != wanted:
+                told.append((words, text, got, wanted))
     if "report" in commands:
         words = ["report", "--queues", queues, "-"]
         got = run([program, *words], text)

@@ -6,7 +6,8 @@
 Texts at the limit are read or checked, and texts one past it are refused with the limit's line;
 texts that are as large as a text may be, each made of one thing, are read (with --quick those of
 few tokens alone, since the naive reader takes its time for the others). Wanted answers are those of
-tools/naive/reading.py or stand here. The largest charts are answered the same with a stack of 128
+tools/naive/reading.py or stand here; the limits of diagrams are met by tools/naive/imports.py. The
+largest charts and diagrams are answered the same with a stack of 128
 KiB, for each thread too. Prints what differs, and last `N passed, M failed`.
 """
 import random
@@ -16,6 +17,7 @@ import sys
 from load import INSTANCES, MESSAGES, drawn
 from program import QUEUES, Answer, Count, add_commands, arguments, check_words, run
 from answer import read_answer
+from imports import at_the_limits
 
 LIMIT = 1048576
 # bytes of a small stack
@@ -125,6 +127,13 @@ def numbers_of_races():
     yield many, "pair", 1024 * 1024, 1
 
 
+def numbers_of_sticks():
+    """Charts at the limits, architectures, and what is told of their sticks, and how many there are."""
+    yield of_events(1024), "pair", "finishes", 0
+    # all are overtaken: each two are a stick, and the first message that is waited for comes last
+    yield of_events(1024, step=-1), "pair", f"never finishes {1024 * 1023 // 2}", 1024 * 1023 // 2
+
+
 def are_listed(count, answer, head, races):
     """Counts whether an answer has this head and so many races."""
     is_told = answer.output.startswith(head.encode()) and answer.status == 1
@@ -135,19 +144,27 @@ def small_stack():
     resource.setrlimit(resource.RLIMIT_STACK, (STACK, STACK))
 
 
+# how a run has one
+SMALL = {"preexec_fn": small_stack, "env": {}}
+
+
 def stacks(count, program, commands):
-    """Runs the largest charts with a small stack; of `run`, whose traces differ, only that it
+    """Runs the largest charts and diagrams with a small stack; of `run`, whose traces differ, only that it
     succeeds."""
     for text in (of_events(1024, 1024), drawn(random.Random(1), INSTANCES, MESSAGES)):
         ways = [[program, "read", "-"], *(check_words(program, queues, 3) for queues in QUEUES)]
-        for command in ("run", "draw", "report"):
+        for command in ("run", "draw", "report", "ready"):
             if command in commands:
                 ways += [[program, command, "--queues", queues, "-"] for queues in QUEUES]
         for words in ways:
             full = run(words, text)
-            small = run(words, text, preexec_fn=small_stack, env={})
+            small = run(words, text, **SMALL)
             is_same = small[1:] == (b"", 0) if words[1] == "run" else small == full
             count.add(is_same, *words[1:], f"with a stack of {STACK} bytes", small[1:])
+    for text, words in at_the_limits() if "import" in commands else ():
+        words = [program, "import", *words, "-"]
+        full, small = (run(words, text.encode(), **how) for how in ({}, SMALL))
+        count.add(small == full, *words[1:4], f"with a stack of {STACK} bytes", small[1:])
 
 
 def main():
@@ -177,6 +194,11 @@ def main():
         are_listed(count, run(words, text), head, races)
         answer = run([*words[:-1], "--closest", "-"], text)
         are_listed(count, answer, f"{head}closest {closest}\n", closest)
+    for text, queues, told, sticks in numbers_of_sticks():
+        answer = run([program, "ready", "--queues", queues, "--show", "0", "-"], text)
+        is_told = answer.output.startswith(f"chart t\nqueues {queues}\n{told}\n".encode())
+        is_told = is_told and answer.output.count(b"\nstick ") == sticks
+        count.add(is_told and answer.status == int(bool(sticks)), told, answer.output[:100])
     stacks(count, program, options.commands)
     return count.end()
 

@@ -4,12 +4,13 @@ do so.
 
     memory.py [--most N] [--every K] [--commands C,..] [--limit] PROGRAM [CHART ..]
 
-Every chart of charts/ and of charts/refused/ is read, and checked, run, drawn and reported under
-each architecture, where these are not given; of the runs with more than N allocations (400 where it is not said) each
-K-th allocation alone is refused. What a refused run has to answer says tools/refuse/refuse.py. With
---limit no call is refused, but each command has less and less address space for a chart at the
-limits, down to too little for the program to begin. Prints for each run how many allocations it
-makes or how many limits there are, what does not end well, and last `N passed, M failed`.
+Every chart of charts/ and of charts/refused/ is read, and checked, run, drawn, reported and asked
+for sticks under each architecture, and every diagram of charts/import/ is imported, where these are
+not given; of the runs with more than N allocations (400 where it is not said) each K-th allocation
+alone is refused. What a refused run has to answer says tools/refuse/refuse.py. With --limit no call
+is refused, but each command has less and less address space for a chart at the limits, down to too
+little for the program to begin. Prints for each run how many allocations it makes or how many limits
+there are, what does not end well, and last `N passed, M failed`.
 """
 import pathlib
 import random
@@ -20,6 +21,7 @@ import tempfile
 
 from load import INSTANCES, MESSAGES, drawn
 from program import QUEUES, TOP, Count, add_commands, arguments, run
+from imports import at_the_limits
 from refuse import Program, Shim, is_well, refuse_each
 from threads import star
 
@@ -28,13 +30,27 @@ STEP = 256 * 1024
 
 
 def commands(wanted):
-    """The words of each command, and whether it has threads."""
+    """The words of each command on charts, and whether it has threads."""
     if "read" in wanted:
         yield ["read", "-"], False
     for command in wanted:
         # a chart need not have a race for `reverse`, which tools/refuse tries
-        if command not in ("read", "reverse"):
+        if command not in ("read", "reverse", "import"):
             yield from (([command, "--queues", queues, "-"], command == "run") for queues in QUEUES)
+
+
+def imports(wanted):
+    """The words of each command on diagrams."""
+    if "import" in wanted:
+        main_one = ["import", "--choose", "main"]
+        yield from ([*main_one, *more, "-"] for more in ([], ["--list"], ["--self", "message"]))
+
+
+def commands_on(chart, wanted):
+    """The words of each command on a file, and whether it has threads."""
+    if chart.suffix == ".mmd":
+        return ((words, False) for words in imports(wanted))
+    return commands(wanted)
 
 
 def in_space(most):
@@ -50,9 +66,13 @@ def is_unborn(ended):
 def limit_each(program, wanted):
     """Runs each command with less and less address space."""
     count = Count()
-    for words, has_threads in commands(wanted):
+    largest = max((text for text, _ in at_the_limits()), key=lambda text: text.count("->>")).encode()
+    on_diagrams = ((words, False) for words in imports(wanted))
+    for words, has_threads in [*commands(wanted), *on_diagrams]:
         text = star(INSTANCES) if has_threads else drawn(random.Random(1), INSTANCES, MESSAGES)
-        if words[0] == "check":
+        if words[0] == "import":
+            text = largest
+        if words[0] in ("check", "ready"):
             words[-1:] = ["--show", "0", "-"]
         full = run([program, *words], text)
         full = full.status, full.output, full.error
@@ -72,12 +92,13 @@ def limit_each(program, wanted):
 
 
 def refuse_all(options):
-    charts = options.charts or sorted(TOP.glob("charts/**/*.msc"))
+    diagrams = sorted(TOP.glob("charts/import/*.mmd"))
+    charts = options.charts or [*sorted(TOP.glob("charts/**/*.msc")), *diagrams]
     passed = failed = 0
     with tempfile.TemporaryDirectory() as folder:
         shim = Shim(folder)
         for chart in map(pathlib.Path, charts):
-            for words, has_threads in commands(options.commands):
+            for words, has_threads in commands_on(chart, options.commands):
                 program = Program([options.program, *words], chart.read_bytes(), shim)
                 told = f"msc {' '.join(words)} < {chart.name}"
                 right, wrong = refuse_each(program, told, has_threads, options.most, options.every)

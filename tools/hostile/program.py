@@ -12,7 +12,7 @@ sys.path += [str(TOP / "tools/naive"), str(TOP / "tools/refuse")]
 # the most seconds that a run may take
 MOST = 60
 # the commands that are tried
-COMMANDS = ["read", "check", "run", "draw", "reverse", "report"]
+COMMANDS = ["read", "check", "run", "draw", "reverse", "report", "ready", "import"]
 # the architectures
 QUEUES = ("pair", "mailbox", "single")
 

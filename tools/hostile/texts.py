@@ -4,21 +4,26 @@ of every byte; compares what the program answers with what tools/naive/answer.py
 
     texts.py [--every K] PROGRAM [CHART ..]
 
-The charts are charts/kinds_and_comments.msc and charts/texts_of_actions.msc where none is given.
-Each text, or each K-th, is given to `msc read`, and where it has a draft also to `msc check` under
-each architecture and to `msc draw` under one. Prints what differs, for each chart how many texts had a draft, and last `N
-passed, M failed`.
+The charts are charts/kinds_and_comments.msc and charts/texts_of_actions.msc where none is given,
+and charts/import/websocket_chat.mmd. Each text, or each K-th, is given to `msc read`, and where it
+has a draft also to `msc check` under each architecture and to `msc draw` and `msc ready` under one.
+Those of a diagram are given to `msc import`, and compared with tools/naive/mermaid.py. Prints what
+differs, for each chart how many texts had a draft, and last `N passed, M failed`.
 """
 import pathlib
 import sys
 
 from program import QUEUES, TOP, Count, arguments, check_words, run
-from answer import check_answer, draw_answer, read_answer
+from answer import check_answer, draw_answer, read_answer, ready_answer
+from imports import wanted_of
 
-CHARTS = [TOP / "charts/kinds_and_comments.msc", TOP / "charts/texts_of_actions.msc"]
+CHARTS = [TOP / "charts/kinds_and_comments.msc", TOP / "charts/texts_of_actions.msc",
+          TOP / "charts/import/websocket_chat.mmd"]
 # marks and white space, the first and last bytes of what names are made of with their neighbours,
 # letters that make other words of reserved ones, and bytes that begin no token
 TELLING = b";,:()'/* \t\r\n09AZaz_^@[`{emotEM\0\x0b\x1f.\"\\-\x7f\xc3\xff"
+# the same of diagrams: marks, parts of arrows and of tags, letters of key words
+IN_DIAGRAMS = b";,:()#%+-=<>@{} \t\r\n/09AZaz_xndbi\0\"\\\x7f\xbf\xef\xc3\xff"
 
 
 def cut(text):
@@ -31,34 +36,50 @@ def left_out(text):
     return (text[:place] + text[place + 1:] for place in range(len(text)))
 
 
-def replaced(text):
+def replaced(text, telling):
     """The text with each of its bytes replaced by each telling one."""
     for place in range(len(text)):
-        for byte in TELLING:
+        for byte in telling:
             yield text[:place] + bytes([byte]) + text[place + 1:]
 
 
+def compare_chart(count, program, text):
+    """Compares what is answered of a chart; whether it has a draft."""
+    wanted = read_answer(text)
+    count.compare(run([program, "read", "-"], text), wanted, text)
+    if wanted[2] != 0:
+        return False
+    for queues in QUEUES:
+        answer = run(check_words(program, queues), text)
+        count.compare(answer, check_answer(text, queues), queues, text)
+    for command, answered in (("draw", draw_answer), ("ready", ready_answer)):
+        answer = run([program, command, "--queues", "mailbox", "-"], text)
+        count.compare(answer, answered(text, "mailbox"), command, text)
+    return True
+
+
+def compare_diagram(count, program, text):
+    """Compares what is imported of a diagram; whether a scenario of it has a draft."""
+    words = ["--choose", "main"]
+    wanted = wanted_of(text, words, False)
+    count.compare(run([program, "import", *words, "-"], text), wanted, text)
+    return wanted[2] == 0
+
+
 def main():
-    assert len(set(TELLING)) == 40
+    assert len(set(TELLING)) == len(set(IN_DIAGRAMS)) == 40
     words = arguments(__doc__)
     words.add_argument("--every", type=int, default=1, metavar="K")
     words.add_argument("charts", nargs="*", default=CHARTS, metavar="CHART")
     options = words.parse_args()
-    program, count = options.program, Count()
-    for chart in options.charts:
-        text, tried, drafts = pathlib.Path(chart).read_bytes(), 0, 0
-        texts = [*cut(text), *left_out(text), *replaced(text)]
-        for made in texts[::options.every]:
-            wanted = read_answer(made)
-            count.compare(run([program, "read", "-"], made), wanted, made)
-            tried, drafts = tried + 1, drafts + (wanted[2] == 0)
-            for queues in QUEUES if wanted[2] == 0 else ():
-                answer = run(check_words(program, queues), made)
-                count.compare(answer, check_answer(made, queues), queues, made)
-            if wanted[2] == 0:
-                answer = run([program, "draw", "--queues", "mailbox", "-"], made)
-                count.compare(answer, draw_answer(made, "mailbox"), "draw", made)
-        print(f"{pathlib.Path(chart).name}: {tried} texts, {drafts} of them have a draft")
+    count = Count()
+    for chart in map(pathlib.Path, options.charts):
+        text, is_diagram = chart.read_bytes(), chart.suffix == ".mmd"
+        telling = IN_DIAGRAMS if is_diagram else TELLING
+        compare = compare_diagram if is_diagram else compare_chart
+        texts = [*cut(text), *left_out(text), *replaced(text, telling)][::options.every]
+        drafts = sum(compare(count, options.program, made) for made in texts)
+        print(f"{chart.name}: {len(texts)} texts, {drafts} of them have a draft")
     return count.end()
 
 

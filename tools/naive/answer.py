@@ -1,9 +1,10 @@
-"""What `msc read -`, `msc check --queues QUEUES --show SHOW -` and `msc draw --queues QUEUES -` answer
-to a text: what goes to standard output and to standard error, and the exit status. All of it by
-reading.py, verdict.py and picture.py.
+"""What `msc read -`, `msc check --queues QUEUES --show SHOW -`, `msc draw --queues QUEUES -` and `msc
+ready --queues QUEUES -` answer to a text: what goes to standard output and to standard error, and the
+exit status. All of it by reading.py, verdict.py, picture.py and ready.py.
 """
 from picture import chart_picture
 from reading import Draft, Refused
+from ready import answer as ready_lines
 from verdict import Chart
 
 # a run for every race
@@ -46,3 +47,10 @@ def draw_answer(text, queues):
     if fault:
         return refusal(fault)
     return lines_answer(chart_picture(Chart(text.decode("latin-1"), queues), True), 0)
+
+
+def ready_answer(text, queues):
+    fault = fault_of(text)
+    if fault:
+        return refusal(fault)
+    return lines_answer(*ready_lines(text.decode("latin-1"), queues))

@@ -31,6 +31,8 @@ mod positions;
 #[cfg(test)]
 mod races;
 #[cfg(test)]
+mod ready;
+#[cfg(test)]
 mod reasons;
 #[cfg(test)]
 mod rings_of_tables;

@@ -37,6 +37,11 @@ use Rattle.msc_command.specs.Answering.{Answers, AnswersOf, Delivers, Does, Ends
 use Rattle.msc_command.specs.Ending.{ended_by, of_marks}
 use Rattle.msc_command.specs.Formats.{IsFormat}
 use Rattle.msc_command.specs.Marked.{AreMarked, ReadsMarks}
+use Rattle.msc_command.specs.Readied.{names_of, AreReady}
+use Rattle.msc_command.specs.Sited.{IsStyle}
+use Rattle.msc_command.specs.declared.tasks.Readying.{Readying}
+use Rattle.msc_report.specs.declared.style.Style.{Style}
+use Rattle.msc_text.specs.Readying.{PrintsReady}
 use Rattle.msc_command.specs.Refused.{form_of, is_spent, TellsIn, TellsThat, TellsUnread}
 
 -- nothing more stands behind known bytes
@@ -73,6 +78,8 @@ module _ {W : Type 0} (contents : W → Option (List ℕ)) where
   answers_so prints so refuses not_so right wrong (Err (refusals.Fault (NotStarted i))) old new (fails, same) = (wrong _ fails, same)
   answers_so prints so refuses not_so right wrong (Err (refusals.Pair f)) old new (fails, same) = (wrong _ fails, same)
   answers_so prints so refuses not_so right wrong (Err (refusals.Mark f)) old new (fails, same) = (wrong _ fails, same)
+  answers_so prints so refuses not_so right wrong (Err (refusals.Instance name)) old new (fails, same) = (wrong _ fails, same)
+  answers_so prints so refuses not_so right wrong (Err (refusals.Import e)) old new (fails, same) = (wrong _ fails, same)
 
   -- what is right to print was put
   pub put_so : (prints : Status → List ℕ → Type 0) (refuses : Refusal → Type 0) (bytes : List ℕ) (status : Status) → prints status bytes
@@ -95,6 +102,21 @@ module _ {W : Type 0} (contents : W → Option (List ℕ)) where
         inr (ended_by passed, printed, (format, its, marks, are, passed, refl, says), begun)
     not_judged writing.Device old new said = tt
 
+  module _ (x : Readying) (file : List ℕ) (s : SourceText) (only : Option (List Bool)) (are : AreReady s.chart (names_of x) only)
+      (style : Style) (its : IsStyle x.look file s.text style) where
+    -- what was told of ready instances was answered of them
+    pub readied : (passed : Bool) (old new : W) → pages.Tells contents (PrintsReady s.chart x.queues only x.show style) (Ok passed) old new
+        → AnswersOf contents (asks.Ready x) file s (Ok (ended_by passed)) old new
+    readied passed old new (printed, says, wrote) = (printed, (only, are, style, its, passed, refl, says), wrote)
+
+    -- and so it was where it was not written to its end
+    pub not_readied : (f : WriteFault) (old new : W) → pages.Tells contents (PrintsReady s.chart x.queues only x.show style) (Err f) old new
+        → AnswersOf contents (asks.Ready x) file s (Err (refusals.Fault (of_writing f))) old new
+    not_readied writing.Memory old new (inl same) = inl same
+    not_readied writing.Memory old new (inr (passed, printed, says, begun)) =
+        inr (ended_by passed, printed, (only, are, style, its, passed, refl, says), begun)
+    not_readied writing.Device old new said = tt
+
   -- marks that can't be read are answered so
   pub not_marked : (c : Checking) (file : List ℕ) (s : SourceText) (f : MarkFault) (now : W) → ReadsMarks c.accept s.text (Err f)
       → AnswersOf contents (asks.Check c) file s (Err (of_marks f)) now now
@@ -113,6 +135,8 @@ module _ {W : Type 0} (contents : W → Option (List ℕ)) where
   told_quietly queues allowed accept file s (Err (refusals.Fault Device)) now says = tt
   told_quietly queues allowed accept file s (Err (refusals.Pair f)) now says = absurd says
   told_quietly queues allowed accept file s (Err (refusals.Mark f)) now says = (says, refl)
+  told_quietly queues allowed accept file s (Err (refusals.Instance name)) now says = absurd says
+  told_quietly queues allowed accept file s (Err (refusals.Import e)) now says = absurd says
 
   -- a chart that was not run is answered so
   pub not_run : (queues : Queues) (patience : ℕ) (file : List ℕ) (s : SourceText) (f : RunFault) (now : W)
@@ -151,6 +175,8 @@ module _ {W : Type 0} (contents : W → Option (List ℕ)) where
     refuses_so d of_text ask (refusals.Fault Device) fails = absurd fails
     refuses_so d of_text ask (refusals.Pair f) fails = (d, of_text, fails)
     refuses_so d of_text ask (refusals.Mark f) fails = (d, of_text, fails)
+    refuses_so d of_text ask (refusals.Instance name) fails = (d, of_text, fails)
+    refuses_so d of_text ask (refusals.Import e) fails = absurd fails
 
     -- what was answered of a chart was answered of its text
     charted_at : (d : Drawing) → IsChartOf text d → (ask : Ask) (answer : Result Status Refusal) (old new : W)
@@ -188,6 +214,8 @@ module _ {W : Type 0} (contents : W → Option (List ℕ)) where
     spent_so (refusals.Fault Device) old new spent does = tt
     spent_so (refusals.Pair f) old new spent does = absurd cc
     spent_so (refusals.Mark f) old new spent does = absurd cc
+    spent_so (refusals.Instance name) old new spent does = absurd cc
+    spent_so (refusals.Import e) old new spent does = absurd cc
 
     -- where something is, the writer has had no call before it is told
     untouched : (refusal : Refusal) (old new : W) → is_spent refusal ≡ false → Does contents task file text (Err refusal) old new → new ≡ old
@@ -198,6 +226,8 @@ module _ {W : Type 0} (contents : W → Option (List ℕ)) where
     untouched (refusals.Fault Device) old new refused does = absurd cc
     untouched (refusals.Pair f) old new refused does = does.1
     untouched (refusals.Mark f) old new refused does = does.1
+    untouched (refusals.Instance name) old new refused does = does.1
+    untouched (refusals.Import e) old new refused does = does.1
 
     -- and then it is told
     told_so : (refusal : Refusal) (old mid new : W) → is_spent refusal ≡ false → Does contents task file text (Err refusal) old mid
@@ -209,6 +239,8 @@ module _ {W : Type 0} (contents : W → Option (List ℕ)) where
     told_so (refusals.Fault Device) old mid new refused does tells = absurd cc
     told_so (refusals.Pair f) old mid new refused does tells = (does.0, tells)
     told_so (refusals.Mark f) old mid new refused does tells = (does.0, tells)
+    told_so (refusals.Instance name) old mid new refused does tells = (does.0, tells)
+    told_so (refusals.Import e) old mid new refused does tells = (does.0, tells)
 
     -- so a task that is refused is left as it has to be
     pub delivered : (refusal told : Refusal) (old mid new : W) → Does contents task file text (Err refusal) old mid

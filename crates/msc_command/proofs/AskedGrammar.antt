@@ -9,7 +9,7 @@ use Rattle.clap.specs.declared.error.kind.ErrorKind.{ErrorKind}
 use Rattle.msc_command.specs.Grammar.{bare_command, begun_by, verbs_for, whole_command, with_commands, AreAnswered, AreParsers, Parsers}
 use Rattle.msc_command.specs.Words.{verb_name, verb_of_word, verbs}
 use Rattle.msc_command.specs.declared.words.Verb.{Verb}
-use Rattle.msc_command.specs.declared.words.Verb.TheVariants.{Read, Check, Explain, Run, List as Listing, Draw, Reverse, Report}
+use Rattle.msc_command.specs.declared.words.Verb.TheVariants.{Read, Check, Explain, Run, List as Listing, Draw, Reverse, Report, Ready, Import}
 use Rattle.msc_command.proofs.Begun.{same_fault, same_found, KnowAlike}
 
 -- what is found passes: the first, or what is found behind it
@@ -42,6 +42,8 @@ known_alike p Listing = record { top = refl; one = refl; two = refl; other = ref
 known_alike p Draw = record { top = refl; one = refl; two = refl; other = refl; found = refl }
 known_alike p Reverse = record { top = refl; one = refl; two = refl; other = refl; found = refl }
 known_alike p Report = record { top = refl; one = refl; two = refl; other = refl; found = refl }
+known_alike p Ready = record { top = refl; one = refl; two = refl; other = refl; found = refl }
+known_alike p Import = record { top = refl; one = refl; two = refl; other = refl; found = refl }
 
 -- two programs take words alike
 abbrev pub TakeAlike : App → App → List Text → Type 0
@@ -80,6 +82,8 @@ asked_kind p (Some Listing) = (refl, refl)
 asked_kind p (Some Draw) = (refl, refl)
 asked_kind p (Some Reverse) = (refl, refl)
 asked_kind p (Some Report) = (refl, refl)
+asked_kind p (Some Ready) = (refl, refl)
+asked_kind p (Some Import) = (refl, refl)
 
 module _ (p : Parsers) (words : List Text) (grammar : App) (is : grammar ≡ with_commands p bare_command (verbs_for words)) where
   -- `clap` says all of it

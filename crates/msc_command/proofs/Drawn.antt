@@ -53,6 +53,8 @@ module _ {W : Type 0} (contents : W → Option (List ℕ)) (file text : List ℕ
   refuses_drawn d of_text (Run x) (refusals.Fault f) fails = absurd fails
   refuses_drawn d of_text (Run x) (refusals.Pair f) fails = (d, of_text, fails)
   refuses_drawn d of_text (Run x) (refusals.Mark f) fails = absurd fails
+  refuses_drawn d of_text (Run x) (refusals.Instance name) fails = absurd fails
+  refuses_drawn d of_text (Run x) (refusals.Import e) fails = absurd fails
 
   -- what was drawn of a chart was drawn of its text
   drawn_at : (drawn : Drawn) (d : Drawing) (is : IsChartOf text d) (answer : Result Status Refusal) (old new : W)
@@ -84,3 +86,4 @@ undrawn contents drawn draft s (refusals.Fault (Built f)) now fails = (fails, re
 undrawn contents drawn draft s (refusals.Fault (NotStarted i)) now fails = (fails, refl)
 undrawn contents drawn draft s (refusals.Pair f) now fails = (fails, refl)
 undrawn contents drawn draft s (refusals.Mark f) now fails = (fails, refl)
+undrawn contents drawn draft s (refusals.Instance name) now fails = (fails, refl)

@@ -34,7 +34,9 @@ never_printed (tasks.Chart (asks.Quiet queues allowed accept)) file text printed
 never_printed (tasks.Chart (asks.Explain x)) file text printed (d, of_text, (e, f, two, style, its, enforced, same, says)) = never_ended enforced same
 never_printed (tasks.Chart (asks.Run queues patience)) file text printed (d, of_text, (finished, same, says)) = never_finished finished same
 never_printed (tasks.Chart (asks.List placed)) file text printed (d, of_text, (sites, are, same, is)) = cc
+never_printed (tasks.Chart (asks.Ready x)) file text printed (d, of_text, (only, are, style, its, passed, same, says)) = never_ended passed same
 never_printed (tasks.Draw drawn) file text printed (d, is, (same, says)) = cc
+never_printed (tasks.Import x) file text printed (same, says) = cc
 
 module _ {W : Type 0} (contents : W → Option (List ℕ)) where
   -- of a refusal that was told, nothing or its lines went out
@@ -65,6 +67,10 @@ module _ {W : Type 0} (contents : W → Option (List ℕ)) where
   tells task file reads (Err (refusals.Pair f)) old new (inr (never, same)) = absurd never
   tells task file reads (Err (refusals.Mark f)) old new (inl (text, read, (refused, told))) = refused_told (form_of task) file text (refusals.Mark f) old new told
   tells task file reads (Err (refusals.Mark f)) old new (inr (never, same)) = absurd never
+  tells task file reads (Err (refusals.Instance name)) old new (inl (text, read, (refused, told))) = refused_told (form_of task) file text (refusals.Instance name) old new told
+  tells task file reads (Err (refusals.Instance name)) old new (inr (never, same)) = absurd never
+  tells task file reads (Err (refusals.Import e)) old new (inl (text, read, (refused, told))) = refused_told (form_of task) file text (refusals.Import e) old new told
+  tells task file reads (Err (refusals.Import e)) old new (inr (never, same)) = absurd never
 
   -- and of words that were obeyed
   pub obeyed : (name : List ℕ) (found : Found) (status : Status) (reads : List ℕ → Type 0) (old new : W)

@@ -21,13 +21,16 @@ use Rattle.msc_source.specs.Texts.{IsChartOf, source_text, SourceText}
 use Rattle.msc_source.specs.declared.language.Language.TheVariants.{MscPr}
 use Rattle.msc_text.specs.Explaining.{PrintsReason}
 use Rattle.msc_text.specs.Judging.{JudgesChart, Passes}
+use Rattle.msc_text.specs.Readying.{PrintsReady}
 use Rattle.msc_text.specs.declared.judging.Format.{Format}
 use Rattle.msc_tool.specs.Running.{PrintsExecution}
 use Rattle.msc_command.specs.Drawing.{PrintsPage, RefusesDrawn}
 use Rattle.msc_command.specs.Ending.{ended_by, ends_as, finished_by}
 use Rattle.msc_command.specs.Formats.{IsFormat}
+use Rattle.msc_command.specs.Importing.{PrintsImportPage, RefusesImport}
 use Rattle.msc_command.specs.Marked.{AreMarked, HasFaultyMark}
 use Rattle.msc_command.specs.Naming.{AreTwoNamed, IsNamedFault}
+use Rattle.msc_command.specs.Readied.{names_of, AreReady, IsFirstUnknown}
 use Rattle.msc_command.specs.Refused.{TellsRefusal, TellsUnread}
 use Rattle.msc_command.specs.Sited.{AreSited, IsStyle}
 use Rattle.msc_command.specs.declared.ending.Refusal.{Refusal}
@@ -35,9 +38,9 @@ use Rattle.msc_command.specs.declared.ending.Refusal.TheVariants as refusals
 use Rattle.msc_command.specs.declared.ending.Status.{Status}
 use Rattle.msc_command.specs.declared.ending.Status.TheVariants.{Done}
 use Rattle.msc_command.specs.declared.tasks.Ask.{Ask}
-use Rattle.msc_command.specs.declared.tasks.Ask.TheVariants.{Check, Quiet, Explain, Run, List as Listing}
+use Rattle.msc_command.specs.declared.tasks.Ask.TheVariants.{Check, Quiet, Explain, Run, List as Listing, Ready}
 use Rattle.msc_command.specs.declared.tasks.Task.{Task}
-use Rattle.msc_command.specs.declared.tasks.Task.TheVariants.{Read, Chart, Draw}
+use Rattle.msc_command.specs.declared.tasks.Task.TheVariants.{Read, Chart, Draw, Import}
 
 -- What is printed of the chart of a text, of the file of this name, for what is asked of it, and how the
 -- run ends. A chart is run with a gate that is known to be open.
@@ -56,6 +59,9 @@ PrintsOf (Run queues patience) file s status printed =
     (finished : Bool) × (status ≡ finished_by finished) × PrintsExecution s.chart queues true patience finished printed
 PrintsOf (Listing placed) file s status printed =
     (sites : Option SitesIn) × AreSited placed file s.text sites × (status ≡ Done) × (printed ≡ listed_text s.chart sites)
+PrintsOf (Ready x) file s status printed =
+    (only : Option (List Bool)) × AreReady s.chart (names_of x) only × (style : Style) × IsStyle x.look file s.text style
+    × (passed : Bool) × (status ≡ ended_by passed) × PrintsReady s.chart x.queues only x.show style passed printed
 
 -- the names of a pair that is asked for are those of no two events of the chart
 abbrev pub RefusesPair : Ask → SourceText → NamedFault → Type 0
@@ -68,6 +74,11 @@ RefusesMark (Check c) s fault = HasFaultyMark c.accept s.text fault
 RefusesMark (Quiet queues allowed accept) s fault = HasFaultyMark accept s.text fault
 RefusesMark ask s fault = ⊥
 
+-- a name that is asked for is that of no instance, and is the first such
+abbrev pub RefusesInstance : Ask → Drawing → List ℕ → Type 0
+RefusesInstance (Ready x) d name = IsFirstUnknown d (names_of x) name
+RefusesInstance ask d name = ⊥
+
 -- an instance of a chart that is to be run could not be started
 abbrev pub FailsToStart : Ask → Drawing → ℕ → Type 0
 FailsToStart (Run queues patience) d i = i < length d.instances
@@ -77,6 +88,7 @@ FailsToStart ask d i = ⊥
 abbrev pub RefusesOf : Ask → SourceText → Refusal → Type 0
 RefusesOf ask s (refusals.Pair fault) = RefusesPair ask s fault
 RefusesOf ask s (refusals.Mark fault) = RefusesMark ask s fault
+RefusesOf ask s (refusals.Instance name) = RefusesInstance ask s.chart name.now
 RefusesOf ask s (refusals.Fault (NotStarted i)) = FailsToStart ask s.chart i
 RefusesOf ask s refusal = ⊥
 
@@ -89,10 +101,12 @@ Prints (Chart ask) file text status printed =
     (d : Drawing) × IsChartOf text d × PrintsOf ask file (source_text MscPr text d) status printed
 Prints (Draw drawn) file text status printed =
     (d : Drawing) × (is : IsChartOf text d) × PrintsPage drawn is.draft (source_text MscPr text d) status printed
+Prints (Import x) file text status printed = PrintsImportPage x file text status printed
 
 -- why a text is refused for a task, with its first fault: it has no draft, or its draft is no chart,
--- or of its chart that is not to be had which is asked
+-- or of its chart that is not to be had which is asked; nothing is imported of it
 abbrev pub Refuses : Task → List ℕ → Refusal → Type 0
+Refuses (Import x) text refusal = RefusesImport x text refusal
 Refuses task text (refusals.Fault (Parse f)) = HasParseFault text f
 Refuses (Chart ask) text (refusals.Fault (faults.Chart f)) = (draft : Tree) × HasDraft text draft × IsFirstFault draft f
 Refuses (Chart ask) text refusal = (d : Drawing) × IsChartOf text d × RefusesOf ask (source_text MscPr text d) refusal

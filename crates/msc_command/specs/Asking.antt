@@ -1,6 +1,5 @@
 -- What the words behind a command ask for, by what `clap` found of them.
-use Rattle.std.specs.Prelude.{◌≡◌, ◌<◌, ◌⊎◌, ◌^◌, ◌&&◌, ◌||◌, not, ℕ, Bool, true, false, List, [], ◌++◌, Option, Some, None, codes}
-use Rattle.std.specs.Prelude.{option_and_then, unwrap_or}
+use Rattle.std.specs.Prelude.{◌≡◌, ◌<◌, ◌⊎◌, ◌^◌, ◌&&◌, ◌||◌, not, ℕ, Bool, true, false, List, [], ◌++◌, Option, Some, None, codes, map, option_and_then, unwrap_or, cond, option_map}
 use Rattle.std.specs.List.{list_any}
 use Rattle.std.specs.Option.{option_map_or}
 use Rattle.std.specs.Str.{bytes_eq}
@@ -16,21 +15,32 @@ use Rattle.msc_reason.specs.declared.kinds.KindSet.{KindSet}
 use Rattle.msc_judge.specs.declared.question.Question.{Question}
 use Rattle.msc_report.specs.declared.pair.EventName.{EventName}
 use Rattle.msc_report.specs.declared.pair.EventName.TheVariants.{Number, Line}
+use Rattle.msc_import.specs.declared.importing.Language.{Language}
+use Rattle.msc_import.specs.declared.importing.Language.TheVariants as languages
+use Rattle.msc_import.specs.declared.plan.Own.{Own}
+use Rattle.msc_import.specs.declared.plan.Own.TheVariants as owns
+use Rattle.msc_import.specs.declared.plan.Par.{Par}
+use Rattle.msc_import.specs.declared.plan.Par.TheVariants as pars
+use Rattle.msc_import.specs.declared.statement.Cross.{Cross}
+use Rattle.msc_import.specs.declared.statement.Cross.TheVariants as crosses
 use Rattle.msc_draw.specs.declared.form.Form.{Form as PictureForm}
 use Rattle.msc_draw.specs.declared.form.Form.TheVariants as pictures
 use Rattle.msc_command.specs.declared.tasks.Checking.{Checking}
 use Rattle.msc_command.specs.declared.tasks.Drawn.TheVariants as drawn
 use Rattle.msc_command.specs.declared.tasks.Reversing.{Reversing}
 use Rattle.msc_command.specs.declared.tasks.Explaining.{Explaining}
+use Rattle.msc_command.specs.declared.tasks.ImportWords.{ImportWords}
 use Rattle.msc_command.specs.declared.tasks.Look.{Look}
-use Rattle.msc_command.specs.declared.tasks.Ask.TheVariants.{Check, Quiet, Explain, Run, List as Listing}
+use Rattle.msc_command.specs.declared.tasks.Readying.{Readying}
+use Rattle.msc_command.specs.declared.tasks.Ask.TheVariants.{Check, Quiet, Explain, Run, List as Listing, Ready}
 use Rattle.msc_command.specs.declared.tasks.Form.{Form}
 use Rattle.msc_command.specs.declared.tasks.Form.TheVariants as forms
 use Rattle.msc_command.specs.declared.tasks.Task.{Task}
-use Rattle.msc_command.specs.declared.tasks.Task.TheVariants.{Read, Chart, Draw}
+use Rattle.msc_command.specs.declared.tasks.Task.TheVariants.{Read, Chart, Draw, Import}
 use Rattle.msc_command.specs.declared.words.Verb.{Verb}
 use Rattle.msc_command.specs.declared.words.Verb.TheVariants as verbs
 use Rattle.msc_command.specs.declared.words.Word.TheVariants as words
+use Rattle.msc_command.specs.Importing.{gives_choices, title_of}
 use Rattle.msc_command.specs.Words.{form_of_word, word_name}
 
 -- the architecture that the words name
@@ -143,6 +153,13 @@ pub record IsExplaining (found : Found) (x : Explaining) : Type 0 where
   pub short : IsFlag found (word_name words.Short) x.short
   pub look : IsLook found x.look
 
+-- what the words of `ready` ask of ready instances under an architecture
+pub record IsReadying (found : Found) (x : Readying) : Type 0 where
+  pub architecture_is : architecture found ≡ Some x.queues
+  pub only : map (λ word. word.now) x.only.now ≡ words_of found (word_name words.Only)
+  pub show : IsOptionNumber found (word_name words.ShowSticks) unlimited x.show
+  pub look : IsLook found x.look
+
 -- the file that a word names: the input, where none does
 abbrev pub file_of_word : Option (List ℕ) → List ℕ
 file_of_word None = codes "-"
@@ -164,6 +181,46 @@ pub record IsReversing (found : Found) (r : Reversing) : Type 0 where
   pub second : IsEventWord found (word_name words.SecondEvent) r.second
   pub form : IsDrawnForm found r.form
 
+-- the language that a word names: what the text tells, where none does
+abbrev pub language_named : Option (List ℕ) → Language
+language_named None = languages.Any
+language_named (Some word) = cond (bytes_eq word (codes "mermaid")) languages.Mermaid languages.Any
+
+-- what an arrow to oneself is by a word: an action, where none says it
+abbrev pub own_named : Option (List ℕ) → Own
+own_named None = owns.Action
+own_named (Some word) = cond (bytes_eq word (codes "message")) owns.Message owns.Action
+
+-- what an arrow with a cross is by a word: not said, where none does
+abbrev pub cross_named : Option (List ℕ) → Option Cross
+cross_named None = None
+cross_named (Some word) = cond (bytes_eq word (codes "lost")) (Some crosses.Lost) (Some crosses.Arrives)
+
+-- what parallel branches are that are no coregion: a fault, where no word stands
+abbrev pub par_named : Option (List ℕ) → Par
+par_named None = pars.Refused
+par_named (Some word) = pars.Drawn
+
+-- what the name of a chart is made of: a word, and where none stands the title of the file
+abbrev pub chart_named : Found → List ℕ
+chart_named found = unwrap_or (first_value found (word_name words.Name)) (title_of (file_of found))
+
+-- a word for choices gives none
+abbrev pub lacks_choices : Option (List ℕ) → Bool
+lacks_choices None = false
+lacks_choices (Some word) = not (gives_choices word)
+
+-- what the words of `import` ask for
+pub record IsImporting (found : Found) (x : ImportWords) : Type 0 where
+  pub language : x.language ≡ language_named (first_value found (word_name words.From))
+  pub cross : x.cross ≡ cross_named (first_value found (word_name words.Cross))
+  pub own : x.manner.own ≡ own_named (first_value found (word_name words.Own))
+  pub par : x.manner.par ≡ par_named (first_value found (word_name words.Par))
+  pub choose : option_map (λ c. c.now) x.choose ≡ first_value found (word_name words.Choose)
+  pub gives : lacks_choices (first_value found (word_name words.Choose)) ≡ false
+  pub name : x.name.now ≡ chart_named found
+  pub list : IsFlag found (word_name words.Listed) x.list
+
 -- What the words behind a command ask for. What is to be quiet is told by the status alone.
 abbrev pub AsksFor : Verb → Found → Task → Type 0
 AsksFor verbs.Read found Read = Unit {0}
@@ -179,6 +236,8 @@ AsksFor verbs.List found (Chart (Listing placed)) = IsFlag found (word_name word
 AsksFor verbs.Draw found (Draw (drawn.Chart queues form)) = (queues ≡ architecture found) × IsDrawnForm found form
 AsksFor verbs.Reverse found (Draw (drawn.Run r)) = IsReversing found r
 AsksFor verbs.Report found (Draw (drawn.Report queues)) = architecture found ≡ Some queues
+AsksFor verbs.Ready found (Chart (Ready x)) = IsReadying found x
+AsksFor verbs.Import found (Import x) = IsImporting found x
 AsksFor verb found task = ⊥
 
 -- the words lack the architecture, or one of two events
@@ -187,11 +246,13 @@ LacksPair found =
     (architecture found ≡ None)
     ⊎ (LacksEvent found (word_name words.FirstEvent) ⊎ LacksEvent found (word_name words.SecondEvent))
 
--- the words behind a command lack the architecture, or one of two events, where it takes them
+-- the words behind a command lack the architecture, or one of two events, where it takes them; or the
+-- word for choices gives none
 abbrev pub LacksWords : Verb → Found → Type 0
 LacksWords verbs.Read found = ⊥
 LacksWords verbs.List found = ⊥
 LacksWords verbs.Draw found = ⊥
+LacksWords verbs.Import found = lacks_choices (first_value found (word_name words.Choose)) ≡ true
 LacksWords verbs.Explain found = LacksPair found
 LacksWords verbs.Reverse found = LacksPair found
 LacksWords verb found = architecture found ≡ None

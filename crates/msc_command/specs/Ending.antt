@@ -2,7 +2,12 @@
 use Rattle.std.specs.Prelude.{ℕ, Bool, true, false, List}
 use Rattle.msc_report.specs.declared.fault.Fault.{Fault}
 use Rattle.msc_report.specs.declared.fault.Fault.TheVariants.{Parse, Chart, NotStarted, Memory, Device}
-use Rattle.msc_report.specs.Texts.{fault_line, mark_fault_line, pair_fault_line}
+use Rattle.msc_report.specs.Texts.{fault_line, instance_fault_line, mark_fault_line, pair_fault_line}
+use Rattle.msc_report.specs.Imports.{import_refusal_line}
+use Rattle.msc_import.specs.Importing.{seen}
+use Rattle.msc_import.specs.declared.fault.ImportFault.{ImportFault}
+use Rattle.msc_import.specs.declared.fault.ImportFault.TheVariants as imports
+use Rattle.msc_import.specs.declared.importing.Refused.{Refused as NotImported}
 use Rattle.msc_mark.specs.declared.fault.MarkFault.{MarkFault}
 use Rattle.msc_mark.specs.declared.fault.MarkFault.TheVariants as marks
 use Rattle.msc_command.specs.declared.ending.Status.{Status}
@@ -41,6 +46,8 @@ abbrev pub ends_as : Refusal → Status
 ends_as (refusals.Fault f) = status_of f
 ends_as (refusals.Pair f) = Refused
 ends_as (refusals.Mark f) = Refused
+ends_as (refusals.Instance name) = Refused
+ends_as (refusals.Import e) = Refused
 
 -- how a text ends whose marks can't be read
 abbrev pub of_marks : MarkFault → Refusal
@@ -48,8 +55,18 @@ of_marks (marks.Part at) = refusals.Mark (marks.Part at)
 of_marks (marks.Reason at) = refusals.Mark (marks.Reason at)
 of_marks marks.Memory = refusals.Fault Memory
 
+-- how a text ends of which nothing is imported, with such a fault
+abbrev pub of_import_fault : NotImported → ImportFault → Refusal
+of_import_fault e imports.Memory = refusals.Fault Memory
+of_import_fault e fault = refusals.Import e
+
+abbrev pub of_import : NotImported → Refusal
+of_import e = of_import_fault e e.fault
+
 -- the line of a refusal
 abbrev pub refusal_line : Refusal → List ℕ
 refusal_line (refusals.Fault f) = fault_line f
 refusal_line (refusals.Pair f) = pair_fault_line f
 refusal_line (refusals.Mark f) = mark_fault_line f
+refusal_line (refusals.Instance name) = instance_fault_line name.now
+refusal_line (refusals.Import e) = import_refusal_line (seen e)

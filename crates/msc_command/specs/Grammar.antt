@@ -18,7 +18,7 @@ use Rattle.msc_command.specs.declared.words.Takes.{Takes}
 use Rattle.msc_command.specs.declared.words.Takes.TheVariants as takes
 use Rattle.msc_command.specs.declared.words.Verb.{Verb}
 use Rattle.msc_command.specs.declared.words.Word.{Word}
-use Rattle.msc_command.specs.Words.{form_word, takes_of, verb_name, verb_of_word, verbs, word_name, words_of}
+use Rattle.msc_command.specs.Words.{form_word, takes_of, verb_name, verb_of_word, verbs, word_name, words_of, cross_words, language_words, own_words, par_words}
 use Rattle.msc_reason.specs.Lacks.{kind_word}
 use Rattle.msc_reason.specs.declared.lack.RaceKind.TheVariants.{Early, Queues, Unordered, Overtaken}
 
@@ -66,6 +66,10 @@ number_rule name = record (new_rule name) {
   parser = Some number_parser;
 }
 
+-- an option with any text
+abbrev pub text_rule : Text → Rule
+text_rule name = record (new_rule name) { long = Some name; value_names = 1 }
+
 -- an option with one of the words that a parser takes
 abbrev pub choice_rule : Text → ValueParser → Rule
 choice_rule name parser = record (new_rule name) {
@@ -82,11 +86,23 @@ needed_rule name parser = record (choice_rule name parser) { required = true }
 abbrev pub choices_rule : Text → ValueParser → Rule
 choices_rule name parser = record (choice_rule name parser) { action = Some Append }
 
+-- an option with a name that may stand often
+abbrev pub names_rule : Text → Rule
+names_rule name = record (new_rule name) {
+  long = Some name;
+  value_names = 1;
+  action = Some Append;
+}
+
 -- the parsers of the words of which options take one
 pub record Parsers : Type 0 where
   pub architectures : ValueParser
   pub kinds : ValueParser
   pub forms : ValueParser
+  pub languages : ValueParser
+  pub owns : ValueParser
+  pub crosses : ValueParser
+  pub pars : ValueParser
 
 -- those that take these words
 abbrev pub parsers_of : Choices → Parsers
@@ -94,6 +110,10 @@ parsers_of lent = record {
   architectures = Names lent.architectures.words;
   kinds = Names lent.kinds.words;
   forms = Names lent.forms.words;
+  languages = Names lent.languages.words;
+  owns = Names lent.owns.words;
+  crosses = Names lent.crosses.words;
+  pars = Names lent.pars.words;
 }
 
 -- how a word of this name that takes this is read
@@ -107,6 +127,13 @@ rule_by p name takes.Architecture = needed_rule name p.architectures
 rule_by p name takes.ArchitectureIfAny = choice_rule name p.architectures
 rule_by p name takes.Kinds = choices_rule name p.kinds
 rule_by p name takes.Form = choice_rule name p.forms
+rule_by p name takes.Names = names_rule name
+rule_by p name takes.Language = choice_rule name p.languages
+rule_by p name takes.Choices = text_rule name
+rule_by p name takes.Name = text_rule name
+rule_by p name takes.Own = choice_rule name p.owns
+rule_by p name takes.Cross = choice_rule name p.crosses
+rule_by p name takes.Par = choice_rule name p.pars
 
 -- how a word behind a command is read
 abbrev pub rule_of_word : Parsers → Word → Rule
@@ -149,11 +176,16 @@ abbrev pub IsOneOf : List Text → ValueParser → Type 0
 IsOneOf words parser = (names : Bor (List (Bor Text)))
     × (parser ≡ Names names) × (map (λ name. name.now) names.now ≡ words)
 
--- the parsers take the words of architectures, of kinds and of forms
+-- the parsers take the words of architectures, of kinds, of forms, of languages, and of what arrows and
+-- parallel branches are
 pub record AreParsers (p : Parsers) : Type 0 where
   pub architectures : IsOneOf architecture_words p.architectures
   pub kinds : IsOneOf kind_words p.kinds
   pub forms : IsOneOf form_words p.forms
+  pub languages : IsOneOf language_words p.languages
+  pub owns : IsOneOf own_words p.owns
+  pub crosses : IsOneOf cross_words p.crosses
+  pub pars : IsOneOf par_words p.pars
 
 -- what `clap` is told of the program's words
 abbrev pub IsGrammar : App → Type 0

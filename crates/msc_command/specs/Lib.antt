@@ -1,9 +1,11 @@
 -- what is promised
 pub mod Words
 pub mod Grammar
+pub mod Importing
 pub mod Asking
 pub mod Sited
 pub mod Naming
+pub mod Readied
 pub mod Formats
 pub mod Marked
 pub mod Drawing

@@ -9,6 +9,7 @@ ghost use Rattle.msc_command.specs.Answering.{TellsQuietly};
 ghost use Rattle.msc_command.specs.Drawing.{PrintsPage, RefusesDrawn};
 ghost use Rattle.msc_command.specs.Ending.{ends_as};
 ghost use Rattle.msc_command.specs.Formats.{IsFormat};
+ghost use Rattle.msc_command.specs.Importing.{PrintsImportPage, RefusesImport};
 ghost use Rattle.msc_command.specs.Marked.{AreMarked};
 ghost use Rattle.msc_command.specs.Refused.{IsToldIn, TellsThat, TellsUnread, TellsUnreadIn};
 ghost use Rattle.msc_report.specs.Refusals.{of_reading};
@@ -16,13 +17,17 @@ ghost use Rattle.msc_source.specs.Inputs.{IsReadFrom};
 
 use crate::drawing::page_of;
 use crate::ending::{Refusal, Status, end_refused, end_unread, ended_by, finished_by, is_spent};
+use crate::importing::import_page;
 use crate::marked::marks_of;
 use crate::naming::pair_named;
 use crate::notes::{write_cause, write_notes};
+use crate::readied::{first_unknown, lent, lines_named};
 use crate::recorded::TellsFailure;
 use crate::refused::refusal_lines;
 use crate::sited::{sites_of, style_of};
-use crate::tasks::{Ask, Checking, Drawn, Explaining, Form, Request, Task, form_of};
+use crate::tasks::{
+    Ask, Checking, Drawn, Explaining, Form, ImportWords, Readying, Request, Task, form_of,
+};
 use msc_chart::Queues;
 use msc_instance::AlwaysOpen;
 use msc_judge::Page;
@@ -33,7 +38,9 @@ use msc_place::writing::write_file;
 use msc_reason::KindSet;
 use msc_report::Fault;
 use msc_source::{Language, ReadFault, Reading, Source, read_all};
-use msc_text::{Format, explain_pair, judge_chart, list_chart, passes_chart, write_reading};
+use msc_text::{
+    Format, explain_pair, judge_chart, list_chart, passes_chart, write_reading, write_ready,
+};
 use msc_tool::print_execution;
 use std::alloc::Global;
 use std::io;
@@ -42,7 +49,7 @@ use std::sync::Wait;
 use std::thread::Threads;
 
 /// Lets a page go out, and tells how the run ends then.
-fn put<O: Write>(output: &mut O, page: &Page, status: Status) -> Result<Status, Refusal>
+fn put<O: Write>(output: &mut O, page: &Page, status: Status) -> Result<Status, Refusal<'static>>
     ensures { IsPut O.contents page.now.bytes.items status result output.old output.new }
 {
     match output.write_all(page.bytes.as_slice()) {
@@ -52,7 +59,7 @@ fn put<O: Write>(output: &mut O, page: &Page, status: Status) -> Result<Status, 
 }
 
 /// Lets all that was written go out.
-fn flush<O: Write>(output: &mut O) -> Result<(), Refusal>
+fn flush<O: Write>(output: &mut O) -> Result<(), Refusal<'static>>
     ensures kept { OnOk result (Keeps (O.contents output.old) (O.contents output.new)) }
     ensures failed { IfErr result (λ refusal. refusal ≡ Refusal.Fault Fault.Device) }
 {
@@ -70,7 +77,7 @@ fn check_in<O: Write>(
     format: Format<'_>,
     source: &Source,
     output: &mut O,
-) -> Result<Status, Refusal>
+) -> Result<Status, Refusal<'static>>
     requires { AreMarked checking.accept source.now.text (option_map (λ m. m.now) marks) }
     ensures { (file : List ℕ) → IsFormat checking file source.now.text format.entry
         → AnswersOf O.contents (Ask.Check checking) file source.now result output.old output.new }
@@ -95,7 +102,7 @@ fn check<O: Write>(
     file: &str,
     source: &Source,
     output: &mut O,
-) -> Result<Status, Refusal>
+) -> Result<Status, Refusal<'static>>
     ensures { AnswersOf O.contents (Ask.Check checking) file.now source.now result
         output.old output.new }
 {
@@ -133,7 +140,7 @@ fn quiet(
     allowed: KindSet,
     accept: bool,
     source: &Source,
-) -> Result<Status, Refusal>
+) -> Result<Status, Refusal<'static>>
     ensures { TellsQuietly queues allowed accept source.now result }
 {
     let marks = marks_of(alloc, accept, source.text())?;
@@ -149,7 +156,7 @@ fn explain<O: Write>(
     file: &str,
     source: &Source,
     output: &mut O,
-) -> Result<Status, Refusal>
+) -> Result<Status, Refusal<'static>>
     ensures { AnswersOf O.contents (Ask.Explain explaining) file.now source.now result
         output.old output.new }
 {
@@ -172,7 +179,7 @@ fn list<O: Write>(
     file: &str,
     source: &Source,
     output: &mut O,
-) -> Result<Status, Refusal>
+) -> Result<Status, Refusal<'static>>
     ensures { AnswersOf O.contents (Ask.List placed) file.now source.now result
         output.old output.new }
 {
@@ -181,16 +188,41 @@ fn list<O: Write>(
     put(output, &page, Status::Done)
 }
 
-/// Writes what is asked of the chart of a text, of the file of this name.
-fn answer_chart<R: Threads + Wait + Sync, O: Write>(
-    rt: &R,
+/// Writes whether a system of ready instances can stick, of the chart of a text, of the file of
+/// this name.
+fn ready<'w, O: Write>(
     alloc: Global,
-    ask: Ask,
+    readying: Readying<'w>,
     file: &str,
     source: &Source,
     output: &mut O,
-) -> Result<Status, Refusal>
-    ensures { AnswersOf O.contents ask file.now source.now result output.old output.new }
+) -> Result<Status, Refusal<'w>>
+    ensures { AnswersOf O.contents (Ask.Ready readying.entry) file.now source.now result
+        output.old output.new }
+{
+    let chart = source.chart();
+    if let Some(name) = first_unknown(chart, readying.only) {
+        return Err(Refusal::Instance(name));
+    }
+    let lines = lines_named(alloc, chart, readying.only)?;
+    let only = lent(&lines);
+    let sites = sites_of(alloc, readying.look.places, file, source.text())?;
+    let style = style_of(readying.look, sites.as_ref());
+    let (queues, show) = (readying.queues, readying.show);
+    let finishes = write_ready(alloc, chart, queues, only, show, style, output)?;
+    Ok(ended_by(finishes))
+}
+
+/// Writes what is asked of the chart of a text, of the file of this name.
+fn answer_chart<'w, R: Threads + Wait + Sync, O: Write>(
+    rt: &R,
+    alloc: Global,
+    ask: Ask<'w>,
+    file: &str,
+    source: &Source,
+    output: &mut O,
+) -> Result<Status, Refusal<'w>>
+    ensures { AnswersOf O.contents ask.entry file.now source.now result output.old output.new }
 {
     let chart = source.chart();
     match ask {
@@ -209,6 +241,7 @@ fn answer_chart<R: Threads + Wait + Sync, O: Write>(
             put(output, &page, finished_by(finished))
         }
         Ask::List(placed) => list(alloc, placed, file, source, output),
+        Ask::Ready(readying) => ready(alloc, readying, file, source, output),
     }
 }
 
@@ -219,7 +252,7 @@ fn draw<O: Write>(
     draft: &Draft,
     source: &Source,
     output: &mut O,
-) -> Result<Status, Refusal>
+) -> Result<Status, Refusal<'static>>
     requires { source.now.chart ≡ chart_of draft.now }
     ensures { Answers O.contents (PrintsPage drawn draft.now source.now)
         (RefusesDrawn drawn source.now) result output.old output.new }
@@ -228,16 +261,31 @@ fn draw<O: Write>(
     put(output, &page, Status::Done)
 }
 
-/// Writes the answer of a task to the text of a file of this name.
-fn answer<R: Threads + Wait + Sync, O: Write>(
-    rt: &R,
+/// Lets what is imported of the text of a file of this name go out.
+fn import<O: Write>(
     alloc: Global,
-    task: Task,
+    words: ImportWords<'_>,
     file: &str,
     text: &[u8],
     output: &mut O,
-) -> Result<Status, Refusal>
-    ensures { Does O.contents task file.now text.now result output.old output.new }
+) -> Result<Status, Refusal<'static>>
+    ensures { Answers O.contents (PrintsImportPage words.entry file.now text.now)
+        (RefusesImport words.entry text.now) result output.old output.new }
+{
+    let page = import_page(alloc, words, file, text)?;
+    put(output, &page, Status::Done)
+}
+
+/// Writes the answer of a task to the text of a file of this name.
+fn answer<'w, R: Threads + Wait + Sync, O: Write>(
+    rt: &R,
+    alloc: Global,
+    task: Task<'w>,
+    file: &str,
+    text: &[u8],
+    output: &mut O,
+) -> Result<Status, Refusal<'w>>
+    ensures { Does O.contents task.entry file.now text.now result output.old output.new }
 {
     match task {
         Task::Read => {
@@ -254,6 +302,7 @@ fn answer<R: Threads + Wait + Sync, O: Write>(
             let source = Source::of_reading(alloc, &read)?;
             draw(alloc, drawn, read.draft(), &source, output)
         }
+        Task::Import(words) => import(alloc, words, file, text, output),
     }
 }
 
@@ -262,10 +311,10 @@ fn tell_lines<O: Write>(
     alloc: Global,
     file: &str,
     text: &[u8],
-    refusal: Refusal,
+    refusal: Refusal<'_>,
     output: &mut O,
-) -> Result<(), Refusal>
-    ensures { IsToldIn O.contents Form.Lines file.now text.now refusal result
+) -> Result<(), Refusal<'static>>
+    ensures { IsToldIn O.contents Form.Lines file.now text.now refusal.entry result
         output.old output.new }
 {
     let page = refusal_lines(alloc, file, text, refusal)?;
@@ -279,10 +328,11 @@ fn tell_in<O: Write>(
     form: Form,
     file: &str,
     text: &[u8],
-    refusal: Refusal,
+    refusal: Refusal<'_>,
     output: &mut O,
-) -> Result<(), Refusal>
-    ensures { IsToldIn O.contents form file.now text.now refusal result output.old output.new }
+) -> Result<(), Refusal<'static>>
+    ensures { IsToldIn O.contents form file.now text.now refusal.entry result
+        output.old output.new }
 {
     match form {
         Form::Lines => tell_lines(alloc, file, text, refusal, output),
@@ -292,15 +342,16 @@ fn tell_in<O: Write>(
 
 /// Tells a refusal on the output, where its form has it there; answers it, or what went wrong with
 /// that.
-fn tell_refusal<O: Write>(
+fn tell_refusal<'w, O: Write>(
     alloc: Global,
     form: Form,
     file: &str,
     text: &[u8],
-    refusal: Refusal,
+    refusal: Refusal<'w>,
     output: &mut O,
-) -> Refusal
-    ensures { TellsThat O.contents form file.now text.now refusal result output.old output.new }
+) -> Refusal<'w>
+    ensures { TellsThat O.contents form file.now text.now refusal.entry result
+        output.old output.new }
 {
     if is_spent(refusal) {
         return refusal;
@@ -313,15 +364,15 @@ fn tell_refusal<O: Write>(
 
 /// Lets the answer of a task go out, to the text of a file of this name, or tells why it is refused,
 /// before it is told how the run ends.
-fn deliver<R: Threads + Wait + Sync, O: Write>(
+fn deliver<'w, R: Threads + Wait + Sync, O: Write>(
     rt: &R,
     alloc: Global,
-    task: Task,
+    task: Task<'w>,
     file: &str,
     text: &[u8],
     output: &mut O,
-) -> Result<Status, Refusal>
-    ensures { Delivers O.contents task file.now text.now result output.old output.new }
+) -> Result<Status, Refusal<'w>>
+    ensures { Delivers O.contents task.entry file.now text.now result output.old output.new }
 {
     match answer(rt, alloc, task, file, text, output) {
         Ok(status) => {
@@ -336,7 +387,7 @@ fn deliver<R: Threads + Wait + Sync, O: Write>(
 }
 
 /// Writes why the output failed, where that is what went wrong.
-fn tell_failure<O: TellsFailure, E: Write>(faults: &mut E, refusal: Refusal, output: &O) {
+fn tell_failure<O: TellsFailure, E: Write>(faults: &mut E, refusal: Refusal<'_>, output: &O) {
     if let Refusal::Fault(Fault::Device) = refusal
         && let Some(error) = output.failure()
     {
@@ -350,11 +401,11 @@ fn end_told<O: TellsFailure, E: Write>(
     alloc: Global,
     request: Request<'_>,
     text: &[u8],
-    refusal: Refusal,
+    refusal: Refusal<'_>,
     output: &O,
     faults: &mut E,
 ) -> Status
-    ensures { result ≡ ends_as refusal }
+    ensures { result ≡ ends_as refusal.entry }
 {
     let status = end_refused(faults, refusal).0;
     if request.notes {

@@ -22,7 +22,7 @@ fn reversal(
     draft: &Draft,
     source: &Source,
     reversing: Reversing,
-) -> Result<Page, Refusal>
+) -> Result<Page, Refusal<'static>>
     requires { source.now.chart ≡ chart_of draft.now }
     ensures { IsDrawnOn (Drawn.Run reversing) draft.now source.now result }
 {
@@ -44,7 +44,7 @@ pub(crate) fn page_of(
     drawn: Drawn,
     draft: &Draft,
     source: &Source,
-) -> Result<Page, Refusal>
+) -> Result<Page, Refusal<'static>>
     requires { source.now.chart ≡ chart_of draft.now }
     ensures { IsDrawnOn drawn draft.now source.now result }
 {

@@ -10,9 +10,13 @@ ghost use Rattle.msc_report.specs.Texts.{fault_line};
 
 use crate::notes::write_cause;
 use msc_ending::RunFault;
+use msc_import::{ImportFault, Refused};
 use msc_judge::WriteFault;
 use msc_mark::MarkFault;
-use msc_report::{Fault, NamedFault, write_fault, write_mark_fault, write_pair_fault};
+use msc_report::{
+    Fault, NamedFault, write_fault, write_import_fault, write_instance_fault, write_mark_fault,
+    write_pair_fault,
+};
 use msc_source::{ReadFault, SourceFault};
 use std::alloc::AllocError;
 use std::io;
@@ -22,10 +26,11 @@ use std::io::Write;
 #[derive(Clone, Copy)]
 pub(crate) enum Status {
     /// The chart has no race that counts, or the pair is enforced, or each instance that was run
-    /// has finished, and the answer was written, where one is wanted.
+    /// has finished, or a system of ready instances does, and the answer was written, where one is
+    /// wanted.
     Done,
-    /// The chart has races that count, or the pair is not enforced, and the answer was written,
-    /// where one is wanted.
+    /// The chart has races that count or are left, or the pair is not enforced, or the system can
+    /// stick, and the answer was written, where one is wanted.
     Races,
     /// The text or the pair was refused, or the words are no command.
     Refused,
@@ -70,54 +75,58 @@ pub(crate) fn finished_by(finished: bool) -> Status
 
 /// Why a task has no answer: a fault of any phase, or of what was asked.
 #[derive(Clone, Copy)]
-pub(crate) enum Refusal {
+pub(crate) enum Refusal<'w> {
     /// A fault was met.
     Fault(Fault),
     /// The names are those of no two events of the chart.
     Pair(NamedFault),
     /// A comment of the text is to be a mark, and is none.
     Mark(MarkFault),
+    /// This name is that of no instance: the first such.
+    Instance(&'w str),
+    /// Nothing is imported of the text.
+    Import(Refused),
 }
 
-impl From<AllocError> for Refusal {
+impl<'w> From<AllocError> for Refusal<'w> {
     ghost use Rattle.msc_command.specs.declared.ending.Refusal.{Refusal};
     ghost use Rattle.msc_report.specs.declared.fault.Fault.TheVariants.{Memory};
 
     ghost from_gives = { λ _ refusal. refusal ≡ Refusal.Fault Memory };
 
-    fn from(_e: AllocError) -> Refusal {
+    fn from(_e: AllocError) -> Refusal<'w> {
         Refusal::Fault(Fault::Memory)
     }
 }
 
-impl From<ReadFault> for Refusal {
+impl<'w> From<ReadFault> for Refusal<'w> {
     ghost use Rattle.msc_command.specs.declared.ending.Refusal.{Refusal};
     ghost use Rattle.msc_report.specs.Refusals.{of_reading};
 
     ghost from_gives = { λ fault refusal. refusal ≡ Refusal.Fault (of_reading fault) };
 
-    fn from(fault: ReadFault) -> Refusal {
+    fn from(fault: ReadFault) -> Refusal<'w> {
         Refusal::Fault(fault.into())
     }
 }
 
-impl From<SourceFault> for Refusal {
+impl<'w> From<SourceFault> for Refusal<'w> {
     ghost use Rattle.msc_command.specs.declared.ending.Refusal.{Refusal};
     ghost use Rattle.msc_report.specs.Refusals.{of_source};
 
     ghost from_gives = { λ fault refusal. refusal ≡ Refusal.Fault (of_source fault) };
 
-    fn from(fault: SourceFault) -> Refusal {
+    fn from(fault: SourceFault) -> Refusal<'w> {
         Refusal::Fault(fault.into())
     }
 }
 
-impl From<MarkFault> for Refusal {
+impl<'w> From<MarkFault> for Refusal<'w> {
     ghost use Rattle.msc_command.specs.Ending.{of_marks};
 
     ghost from_gives = { λ fault refusal. refusal ≡ of_marks fault };
 
-    fn from(fault: MarkFault) -> Refusal {
+    fn from(fault: MarkFault) -> Refusal<'w> {
         match fault {
             MarkFault::Memory => Refusal::Fault(Fault::Memory),
             MarkFault::Part(_) | MarkFault::Reason(_) => Refusal::Mark(fault),
@@ -125,24 +134,37 @@ impl From<MarkFault> for Refusal {
     }
 }
 
-impl From<RunFault> for Refusal {
+impl<'w> From<Refused> for Refusal<'w> {
+    ghost use Rattle.msc_command.specs.Ending.{of_import};
+
+    ghost from_gives = { λ refused refusal. refusal ≡ of_import refused };
+
+    fn from(refused: Refused) -> Refusal<'w> {
+        match refused.fault {
+            ImportFault::Memory => Refusal::Fault(Fault::Memory),
+            _ => Refusal::Import(refused),
+        }
+    }
+}
+
+impl<'w> From<RunFault> for Refusal<'w> {
     ghost use Rattle.msc_command.specs.declared.ending.Refusal.{Refusal};
     ghost use Rattle.msc_report.specs.Refusals.{of_run};
 
     ghost from_gives = { λ fault refusal. refusal ≡ Refusal.Fault (of_run fault) };
 
-    fn from(fault: RunFault) -> Refusal {
+    fn from(fault: RunFault) -> Refusal<'w> {
         Refusal::Fault(fault.into())
     }
 }
 
-impl From<WriteFault> for Refusal {
+impl<'w> From<WriteFault> for Refusal<'w> {
     ghost use Rattle.msc_command.specs.declared.ending.Refusal.{Refusal};
     ghost use Rattle.msc_report.specs.Refusals.{of_writing};
 
     ghost from_gives = { λ fault refusal. refusal ≡ Refusal.Fault (of_writing fault) };
 
-    fn from(fault: WriteFault) -> Refusal {
+    fn from(fault: WriteFault) -> Refusal<'w> {
         Refusal::Fault(fault.into())
     }
 }
@@ -158,22 +180,24 @@ pub(crate) fn status_of(fault: Fault) -> Status
 }
 
 /// Whether memory ran out, or a device failed: then nothing is refused.
-pub(crate) fn is_spent(refusal: Refusal) -> bool
-    ensures { result ≡ is_spent refusal }
+pub(crate) fn is_spent(refusal: Refusal<'_>) -> bool
+    ensures { result ≡ is_spent refusal.entry }
 {
     match refusal {
         Refusal::Fault(Fault::Memory) | Refusal::Fault(Fault::Device) => true,
         Refusal::Fault(_) | Refusal::Pair(_) | Refusal::Mark(_) => false,
+        Refusal::Instance(_) | Refusal::Import(_) => false,
     }
 }
 
 /// How a run ends that is refused.
-fn ends_as(refusal: Refusal) -> Status
-    ensures { result ≡ ends_as refusal }
+fn ends_as(refusal: Refusal<'_>) -> Status
+    ensures { result ≡ ends_as refusal.entry }
 {
     match refusal {
         Refusal::Fault(fault) => status_of(fault),
-        Refusal::Pair(_) | Refusal::Mark(_) => Status::Refused,
+        Refusal::Pair(_) | Refusal::Mark(_) | Refusal::Instance(_) => Status::Refused,
+        Refusal::Import(_) => Status::Refused,
     }
 }
 
@@ -188,22 +212,27 @@ pub(crate) fn end_with<E: Write>(faults: &mut E, fault: Fault) -> (Status, io::R
 }
 
 /// Writes the line of a refusal.
-pub(crate) fn write_refusal<W: Write>(writer: &mut W, refusal: Refusal) -> io::Result<()>
+pub(crate) fn write_refusal<W: Write>(writer: &mut W, refusal: Refusal<'_>) -> io::Result<()>
     ensures { OnOk result
-        (Appends (W.contents writer.old) (W.contents writer.new) (refusal_line refusal)) }
+        (Appends (W.contents writer.old) (W.contents writer.new) (refusal_line refusal.entry)) }
 {
     match refusal {
         Refusal::Fault(fault) => write_fault(writer, &fault),
         Refusal::Pair(fault) => write_pair_fault(writer, fault),
         Refusal::Mark(fault) => write_mark_fault(writer, fault),
+        Refusal::Instance(name) => write_instance_fault(writer, name.as_bytes()),
+        Refusal::Import(refused) => write_import_fault(writer, &refused),
     }
 }
 
 /// Writes the line of a refusal, and tells how the run ended, and whether the line went out.
-pub(crate) fn end_refused<E: Write>(faults: &mut E, refusal: Refusal) -> (Status, io::Result<()>)
-    ensures status { result.0 ≡ ends_as refusal }
+pub(crate) fn end_refused<E: Write>(
+    faults: &mut E,
+    refusal: Refusal<'_>,
+) -> (Status, io::Result<()>)
+    ensures status { result.0 ≡ ends_as refusal.entry }
     ensures line { OnOk result.1
-        (Appends (E.contents faults.old) (E.contents faults.new) (refusal_line refusal)) }
+        (Appends (E.contents faults.old) (E.contents faults.new) (refusal_line refusal.entry)) }
 {
     let told = write_refusal(faults, refusal);
     (ends_as(refusal), told)

@@ -5,8 +5,10 @@ ghost use Rattle.std.specs.String.{string_bytes};
 ghost use Rattle.msc_command.specs.Grammar.{architecture_words, bare_command, begun_by, choice_rule};
 ghost use Rattle.msc_command.specs.Grammar.{choices_rule, command_of, file_rule};
 ghost use Rattle.msc_command.specs.Grammar.{flag_rule, form_words, kind_words, letter_rule};
-ghost use Rattle.msc_command.specs.Grammar.{needed_rule, number_rule, parsers_of, rule_of_word};
-ghost use Rattle.msc_command.specs.Grammar.{verbs_for, with_commands, IsArgument, IsCommand};
+ghost use Rattle.msc_command.specs.Grammar.{names_rule, needed_rule, number_rule, parsers_of};
+ghost use Rattle.msc_command.specs.Grammar.{rule_of_word, text_rule, verbs_for, with_commands};
+ghost use Rattle.msc_command.specs.Grammar.{IsArgument, IsCommand};
+ghost use Rattle.msc_command.specs.Words.{cross_words, language_words, own_words, par_words};
 ghost use Rattle.clap.specs.Words.{App, Rule, new_app, with_rule, with_subcommand};
 ghost use Rattle.clap.specs.declared.builder.value_parser.ValueParser.TheVariants.{Names};
 
@@ -96,6 +98,46 @@ fn form_words(alloc: Global) -> Result<Vec<&'static str>, AllocError>
     Ok(words)
 }
 
+/// The words for the languages of texts.
+fn language_words() -> Alternatives<'static>
+    ensures { map (λ word. word.now) result.words.now ≡ language_words }
+{
+    Alternatives {
+        words: &["mermaid", "any"],
+        shown: "mermaid|any",
+    }
+}
+
+/// The words for what arrows to oneself are.
+fn own_words() -> Alternatives<'static>
+    ensures { map (λ word. word.now) result.words.now ≡ own_words }
+{
+    Alternatives {
+        words: &["action", "message"],
+        shown: "action|message",
+    }
+}
+
+/// The words for what arrows with a cross are.
+fn cross_words() -> Alternatives<'static>
+    ensures { map (λ word. word.now) result.words.now ≡ cross_words }
+{
+    Alternatives {
+        words: &["lost", "arrives"],
+        shown: "lost|arrives",
+    }
+}
+
+/// The word for parallel branches that are no coregion.
+fn par_words() -> Alternatives<'static>
+    ensures { map (λ word. word.now) result.words.now ≡ par_words }
+{
+    Alternatives {
+        words: &["drawn"],
+        shown: "drawn",
+    }
+}
+
 /// The words of which options take one, each list made once.
 #[derive(Drop)]
 pub(crate) struct Lists {
@@ -110,6 +152,10 @@ pub(crate) struct Choices<'a> {
     architectures: Alternatives<'a>,
     kinds: Alternatives<'a>,
     forms: Alternatives<'a>,
+    languages: Alternatives<'a>,
+    owns: Alternatives<'a>,
+    crosses: Alternatives<'a>,
+    pars: Alternatives<'a>,
 }
 
 impl Lists {
@@ -137,11 +183,19 @@ impl Lists {
         ensures architectures { result.architectures.words.now ≡ self.now.architectures.words.items }
         ensures kinds { result.kinds.words.now ≡ self.now.kinds.words.items }
         ensures forms { result.forms.words.now ≡ self.now.forms.words.items }
+        ensures languages { map (λ word. word.now) result.languages.words.now ≡ language_words }
+        ensures owns { map (λ word. word.now) result.owns.words.now ≡ own_words }
+        ensures crosses { map (λ word. word.now) result.crosses.words.now ≡ cross_words }
+        ensures pars { map (λ word. word.now) result.pars.words.now ≡ par_words }
     {
         Choices {
             architectures: self.architectures.alternatives(),
             kinds: self.kinds.alternatives(),
             forms: self.forms.alternatives(),
+            languages: language_words(),
+            owns: own_words(),
+            crosses: cross_words(),
+            pars: par_words(),
         }
     }
 }
@@ -153,9 +207,10 @@ pub(crate) const VERSION: &str = "0.2.0";
 const NOTES: &str = "\
 Exit status:
   0  the answer was written; `check` found no races that count, `explain` that E is enforced
-     before F, `run` that all instances finish
-  1  `check` found races that count, or `explain` that E is not enforced before F
-  2  the text or the pair was refused, or the words are no command
+     before F, `run` that all instances finish, `ready` that the system does
+  1  `check` found races that count, `explain` that E is not enforced before F, or `ready` a
+     system that may stick, or races that are left
+  2  the text, the pair or a name was refused, or the words are no command
   3  some instance of `run` has not finished
   4  memory ran out, a thread could not be started, or a file or the output failed
 
@@ -201,6 +256,16 @@ fn number<'a>(alloc: Global, name: &'static str, help: &'static str) -> Arg<'a>
         .value_name("N")
         .help(help)
         .value_parser(value_parser!(u32))
+}
+
+/// An option with any text, shown as this one.
+fn text<'a>(alloc: Global, name: &'static str, help: &'static str, shown: &'static str) -> Arg<'a>
+    ensures { IsArgument (text_rule name.now) result }
+{
+    Arg::new(alloc, name)
+        .long(name)
+        .value_name(shown)
+        .help(help)
 }
 
 /// An option with one of these words.
@@ -253,6 +318,17 @@ fn any_of<'a>(
         .action(ArgAction::Append)
 }
 
+/// An option with a name, which may stand often.
+fn names<'a>(alloc: Global, name: &'static str, help: &'static str) -> Arg<'a>
+    ensures { IsArgument (names_rule name.now) result }
+{
+    Arg::new(alloc, name)
+        .long(name)
+        .value_name("NAME")
+        .help(help)
+        .action(ArgAction::Append)
+}
+
 /// A word behind a command.
 fn argument<'a>(alloc: Global, word: Word, lent: Choices<'a>) -> Arg<'a>
     ensures { IsArgument (rule_of_word (parsers_of lent.entry) word) result }
@@ -267,6 +343,13 @@ fn argument<'a>(alloc: Global, word: Word, lent: Choices<'a>) -> Arg<'a>
         Takes::ArchitectureIfAny => one_of(alloc, name, help, lent.architectures),
         Takes::Kinds => any_of(alloc, name, help, lent.kinds),
         Takes::Form => one_of(alloc, name, help, lent.forms),
+        Takes::Names => names(alloc, name, help),
+        Takes::Language => one_of(alloc, name, help, lent.languages),
+        Takes::Choices => text(alloc, name, help, "C"),
+        Takes::Name => text(alloc, name, help, "NAME"),
+        Takes::Own => one_of(alloc, name, help, lent.owns),
+        Takes::Cross => one_of(alloc, name, help, lent.crosses),
+        Takes::Par => one_of(alloc, name, help, lent.pars),
     }
 }
 

@@ -5,14 +5,17 @@
 #![tactic(auto)]
 
 mod answering;
+mod choices;
 mod drawing;
 mod ending;
 mod grammar;
+mod importing;
 mod marked;
 mod misuse;
 mod naming;
 mod notes;
 mod program;
+mod readied;
 mod recorded;
 mod refused;
 mod sited;

@@ -1,7 +1,7 @@
 //! What is said of words that `clap` takes and the program does not: words that exclude each other,
 //! and words that name no event. It is said as `clap` says such things.
 
-use crate::tasks::{is_twofold, name_in};
+use crate::tasks::{is_twofold, lacks_choices, name_in};
 use crate::words::{Verb, Word};
 use clap::ArgMatches;
 use std::io;
@@ -49,11 +49,25 @@ fn tell_no_name<E: Write>(faults: &mut E, words: &ArgMatches, word: Word) -> boo
     true
 }
 
+/// Writes that a word gives no choices.
+fn write_no_choices<E: Write>(faults: &mut E, words: &ArgMatches) -> io::Result<()> {
+    let word = words.get_str(Word::Choose.name()).unwrap_or("");
+    writeln!(
+        faults,
+        "error: invalid value '{word}' for '--choose <C>': expected main, or numbers with commas{HELP}"
+    )
+}
+
 /// Writes why the words behind a command ask for nothing.
 pub(crate) fn tell_misuse<E: Write>(faults: &mut E, verb: Verb, words: &ArgMatches) {
     if is_twofold(words) {
         let _ = write_twofold(faults);
         return;
+    }
+    if let Verb::Import = verb
+        && lacks_choices(words)
+    {
+        let _ = write_no_choices(faults, words);
     }
     if let Verb::Explain = verb {
         let _ = tell_no_name(faults, words, Word::FirstEvent)

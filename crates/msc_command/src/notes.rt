@@ -93,7 +93,7 @@ pub(crate) fn write_notes<E: Write>(
     faults: &mut E,
     file: &str,
     text: &[u8],
-    refusal: Refusal,
+    refusal: Refusal<'_>,
 ) -> io::Result<()> {
     match refusal {
         Refusal::Fault(Fault::Parse(fault)) => write_parse_notes(alloc, faults, file, text, fault),

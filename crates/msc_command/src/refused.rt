@@ -25,9 +25,9 @@ fn put_error(
     file: &str,
     lines: &Lines<'_>,
     place: Option<usize>,
-    refusal: Refusal,
+    refusal: Refusal<'_>,
 ) -> Result<(), AllocError>
-    ensures { OnOk result (BeginsSo file.now lines.now place (refusal_line refusal)
+    ensures { OnOk result (BeginsSo file.now lines.now place (refusal_line refusal.entry)
         page.old.bytes.items page.new.bytes.items) }
 {
     if write_error(page, file.as_bytes(), lines, place).is_err() {
@@ -71,10 +71,10 @@ fn put_told(
     file: &str,
     lines: &Lines<'_>,
     told: &Told,
-    refusal: Refusal,
+    refusal: Refusal<'_>,
 ) -> Result<(), AllocError>
     ensures { OnOk result ((more : List ℕ) × BeginsSo file.now lines.now told.now.place
-        (refusal_line refusal ++ more) page.old.bytes.items page.new.bytes.items) }
+        (refusal_line refusal.entry ++ more) page.old.bytes.items page.new.bytes.items) }
 {
     put_error(page, file, lines, told.place, refusal)?;
     put_notes(page, file, lines, told)
@@ -120,9 +120,9 @@ fn bare_lines(
     file: &str,
     text: &[u8],
     place: Option<usize>,
-    refusal: Refusal,
+    refusal: Refusal<'_>,
 ) -> Result<Page, AllocError>
-    ensures { IfOk result (λ page. BeginsSo file.now text.now place (refusal_line refusal)
+    ensures { IfOk result (λ page. BeginsSo file.now text.now place (refusal_line refusal.entry)
         [] page.bytes.items) }
 {
     let lines = Lines::of(alloc, text)?;
@@ -188,9 +188,9 @@ pub(crate) fn refusal_lines(
     alloc: Global,
     file: &str,
     text: &[u8],
-    refusal: Refusal,
+    refusal: Refusal<'_>,
 ) -> Result<Page, AllocError>
-    ensures { IfOk result (λ page. IsRefusalText file.now text.now refusal page.bytes.items) }
+    ensures { IfOk result (λ page. IsRefusalText file.now text.now refusal.entry page.bytes.items) }
 {
     match refusal {
         Refusal::Fault(Fault::Parse(fault)) => parse_lines(alloc, file, text, fault),

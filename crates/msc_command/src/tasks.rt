@@ -1,18 +1,22 @@
 //! What a command line asks for, by the words that `clap` took.
 
 ghost use Rattle.std.specs.Prelude.{◌≡◌, MatchOption, Some, map};
-ghost use Rattle.clap.specs.Matches.{found_of};
+ghost use Rattle.clap.specs.Matches.{first_value, found_of};
 ghost use Rattle.msc_command.specs.Asking.{architecture, file_of, form, names_kind, AreAllowed};
 ghost use Rattle.msc_command.specs.Asking.{AsksFor, IsDrawnForm, IsEventWord, IsFlag, IsLook, IsNoCommand, LacksWords};
+ghost use Rattle.msc_command.specs.Asking.{chart_named, cross_named, lacks_choices, language_named};
+ghost use Rattle.msc_command.specs.Asking.{own_named, par_named};
 ghost use Rattle.msc_command.specs.Asking.{tells_notes, IsTwofold, WantsNotes};
 ghost use Rattle.msc_command.specs.Asking.{IsNameText, IsNoName, IsNoNumber, IsNumberText};
-ghost use Rattle.msc_command.specs.Asking.{IsOptionNumber, IsQuestion, LacksEvent};
+ghost use Rattle.msc_command.specs.Asking.{words_of, IsOptionNumber, IsQuestion, LacksEvent};
 ghost use Rattle.msc_command.specs.Refused.{form_of};
 ghost use Rattle.msc_command.specs.Words.{form_of_word, form_word, word_name};
 
+use crate::choices::{gives_choices, title_of};
 use crate::words::{Verb, Word};
 use clap::ArgMatches;
 use msc_chart::Queues;
+use msc_import::{Cross, Language, Manner, Own, Par};
 use msc_judge::Question;
 use msc_reason::{KindSet, RaceKind};
 use msc_report::EventName;
@@ -87,9 +91,20 @@ pub(crate) struct Explaining {
     pub look: Look,
 }
 
+/// What is asked of ready instances under an architecture, and how it is answered.
+#[derive(Clone, Copy)]
+pub(crate) struct Readying<'w> {
+    pub queues: Queues,
+    /// The names of the instances that are ready; without one all are.
+    pub only: &'w [&'w str],
+    /// For how many first sticks a run is shown.
+    pub show: u32,
+    pub look: Look,
+}
+
 /// What is asked of a chart.
 #[derive(Clone, Copy)]
-pub(crate) enum Ask {
+pub(crate) enum Ask<'w> {
     /// What its races are.
     Check(Checking),
     /// Whether no race counts under an architecture, of none of these kinds, and where that is
@@ -101,6 +116,8 @@ pub(crate) enum Ask {
     Run(Queues, u32),
     /// Its events, and whether it is told where they stand.
     List(bool),
+    /// Whether a system of ready instances can stick.
+    Ready(Readying<'w>),
 }
 
 /// A race under an architecture of which a run is drawn, and how.
@@ -123,31 +140,47 @@ pub(crate) enum Drawn {
     Report(Queues),
 }
 
+/// What is imported of a text, and how it is answered, as words tell it.
+#[derive(Clone, Copy)]
+pub(crate) struct ImportWords<'w> {
+    pub language: Language,
+    pub cross: Option<Cross>,
+    pub manner: Manner,
+    /// The word for the choices of the scenario.
+    pub choose: Option<&'w str>,
+    /// What the name of the chart is made of.
+    pub name: &'w [u8],
+    /// Whether the events are listed, with the places of their arrows.
+    pub list: bool,
+}
+
 /// What is asked of a text.
 #[derive(Clone, Copy)]
-pub(crate) enum Task {
+pub(crate) enum Task<'w> {
     /// The canonical text.
     Read,
     /// What is asked of its chart.
-    Chart(Ask),
+    Chart(Ask<'w>),
     /// What is drawn of its chart.
     Draw(Drawn),
+    /// The chart of a scenario of its diagram.
+    Import(ImportWords<'w>),
 }
 
 /// The form of a task's answer.
-pub(crate) fn form_of(task: Task) -> Form
-    ensures { result ≡ form_of task }
+pub(crate) fn form_of(task: Task<'_>) -> Form
+    ensures { result ≡ form_of task.entry }
 {
     match task {
         Task::Chart(Ask::Check(checking)) => checking.form,
-        Task::Read | Task::Chart(_) | Task::Draw(_) => Form::Text,
+        Task::Read | Task::Chart(_) | Task::Draw(_) | Task::Import(_) => Form::Text,
     }
 }
 
 /// What a run of the program has to do: a task, to the text of the file of this name.
 #[derive(Clone, Copy)]
 pub(crate) struct Request<'w> {
-    pub task: Task,
+    pub task: Task<'w>,
     pub file: &'w str,
     /// Whether it is told what is said of a refusal behind its line.
     pub notes: bool,
@@ -300,7 +333,7 @@ fn queues_of(words: &ArgMatches) -> Option<Queues>
 }
 
 /// What the words of `msc check` ask for. What is to be quiet is told by the status alone.
-fn check_of(queues: Queues, words: &ArgMatches) -> Task
+fn check_of(queues: Queues, words: &ArgMatches) -> Task<'static>
     ensures { architecture (found_of words.now) ≡ Some queues
         → AsksFor Verb.Check (found_of words.now) result }
 {
@@ -318,7 +351,7 @@ fn check_of(queues: Queues, words: &ArgMatches) -> Task
 }
 
 /// What the words of `msc run` ask for.
-fn run_of(queues: Queues, words: &ArgMatches) -> Task
+fn run_of(queues: Queues, words: &ArgMatches) -> Task<'static>
     ensures { architecture (found_of words.now) ≡ Some queues
         → AsksFor Verb.Run (found_of words.now) result }
 {
@@ -327,7 +360,7 @@ fn run_of(queues: Queues, words: &ArgMatches) -> Task
 }
 
 /// What the words of `msc explain` ask for, if they name two events.
-fn explain_of(queues: Queues, words: &ArgMatches) -> Option<Task>
+fn explain_of(queues: Queues, words: &ArgMatches) -> Option<Task<'static>>
     ensures { architecture (found_of words.now) ≡ Some queues
         → MatchOption result (LacksWords Verb.Explain (found_of words.now))
         (AsksFor Verb.Explain (found_of words.now)) }
@@ -342,7 +375,7 @@ fn explain_of(queues: Queues, words: &ArgMatches) -> Option<Task>
 }
 
 /// What the words of `msc list` ask for.
-fn list_of(words: &ArgMatches) -> Task
+fn list_of(words: &ArgMatches) -> Task<'static>
     ensures { AsksFor Verb.List (found_of words.now) result }
 {
     Task::Chart(Ask::List(is_given(words, Word::Places)))
@@ -360,14 +393,14 @@ fn drawn_form(words: &ArgMatches) -> msc_draw::Form
 }
 
 /// What the words of `msc draw` ask for.
-fn draw_of(words: &ArgMatches) -> Task
+fn draw_of(words: &ArgMatches) -> Task<'static>
     ensures { AsksFor Verb.Draw (found_of words.now) result }
 {
     Task::Draw(Drawn::Chart(queues_of(words), drawn_form(words)))
 }
 
 /// What the words of `msc reverse` ask for, if they name two events.
-fn reverse_of(queues: Queues, words: &ArgMatches) -> Option<Task>
+fn reverse_of(queues: Queues, words: &ArgMatches) -> Option<Task<'static>>
     ensures { architecture (found_of words.now) ≡ Some queues
         → MatchOption result (LacksWords Verb.Reverse (found_of words.now))
         (AsksFor Verb.Reverse (found_of words.now)) }
@@ -380,10 +413,113 @@ fn reverse_of(queues: Queues, words: &ArgMatches) -> Option<Task>
     })))
 }
 
+/// The names that the words have for the instances that are ready.
+fn names_of<'w>(words: &'w ArgMatches) -> &'w [&'w str]
+    ensures { map (λ word. word.now) result.now
+        ≡ words_of (found_of words.entry.now) (word_name Word.Only) }
+{
+    words.get_strs(Word::Only.name()).unwrap_or(&[])
+}
+
+/// What the words of `msc ready` ask for.
+fn ready_of<'w>(queues: Queues, words: &'w ArgMatches) -> Task<'w>
+    ensures { architecture (found_of words.entry.now) ≡ Some queues
+        → AsksFor Verb.Ready (found_of words.entry.now) result }
+{
+    Task::Chart(Ask::Ready(Readying {
+        queues,
+        only: names_of(words),
+        show: number_of(words, Word::ShowSticks, u32::MAX),
+        look: look_of(words),
+    }))
+}
+
+/// The language that the words name.
+fn language_of(words: &ArgMatches) -> Language
+    ensures { result ≡ language_named (first_value (found_of words.now) (word_name Word.From)) }
+{
+    match words.get_str(Word::From.name()) {
+        Some(word) if word == "mermaid" => Language::Mermaid,
+        _ => Language::Any,
+    }
+}
+
+/// What the words say of arrows to oneself.
+fn own_of(words: &ArgMatches) -> Own
+    ensures { result ≡ own_named (first_value (found_of words.now) (word_name Word.Own)) }
+{
+    match words.get_str(Word::Own.name()) {
+        Some(word) if word == "message" => Own::Message,
+        _ => Own::Action,
+    }
+}
+
+/// What the words say of arrows with a cross.
+fn cross_of(words: &ArgMatches) -> Option<Cross>
+    ensures { result ≡ cross_named (first_value (found_of words.now) (word_name Word.Cross)) }
+{
+    match words.get_str(Word::Cross.name()) {
+        Some(word) if word == "lost" => Some(Cross::Lost),
+        Some(_) => Some(Cross::Arrives),
+        None => None,
+    }
+}
+
+/// What the words say of parallel branches that are no coregion.
+fn par_of(words: &ArgMatches) -> Par
+    ensures { result ≡ par_named (first_value (found_of words.now) (word_name Word.Par)) }
+{
+    match words.get_str(Word::Par.name()) {
+        Some(_) => Par::Drawn,
+        None => Par::Refused,
+    }
+}
+
+/// What the words have the name of the chart made of.
+fn chart_name_of<'w>(words: &'w ArgMatches) -> &'w [u8]
+    ensures { result.now ≡ chart_named (found_of words.entry.now) }
+{
+    match words.get_str(Word::Name.name()) {
+        Some(name) => name.as_bytes(),
+        None => title_of(file_of(words)),
+    }
+}
+
+/// The word for choices, if it gives them where it stands.
+pub(crate) fn lacks_choices(words: &ArgMatches) -> bool
+    ensures { result ≡ lacks_choices (first_value (found_of words.now) (word_name Word.Choose)) }
+{
+    match words.get_str(Word::Choose.name()) {
+        Some(word) => !gives_choices(word),
+        None => false,
+    }
+}
+
+/// What the words of `msc import` ask for, if the word for choices gives them.
+fn import_of<'w>(words: &'w ArgMatches) -> Option<Task<'w>>
+    ensures { MatchOption result (LacksWords Verb.Import (found_of words.entry.now))
+        (AsksFor Verb.Import (found_of words.entry.now)) }
+{
+    if lacks_choices(words) {
+        return None;
+    }
+    Some(Task::Import(ImportWords {
+        language: language_of(words),
+        cross: cross_of(words),
+        manner: Manner {
+            own: own_of(words),
+            par: par_of(words),
+        },
+        choose: words.get_str(Word::Choose.name()),
+        name: chart_name_of(words),
+        list: is_given(words, Word::Listed),
+    }))
+}
+
 /// What the words behind a command ask for, if they are all there.
-fn complete_task(verb: Verb, words: &ArgMatches) -> Option<Task>
-    ensures { MatchOption result (LacksWords verb (found_of words.now))
-        (AsksFor verb (found_of words.now)) }
+fn complete_task<'w>(verb: Verb, words: &'w ArgMatches) -> Option<Task<'w>>
+    ensures { MatchOption result (LacksWords verb (found_of words.entry.now))
+        (AsksFor verb (found_of words.entry.now)) }
 {
     match verb {
         Verb::Read => Some(Task::Read),
@@ -394,13 +530,15 @@ fn complete_task(verb: Verb, words: &ArgMatches) -> Option<Task>
         Verb::Draw => Some(draw_of(words)),
         Verb::Reverse => reverse_of(queues_of(words)?, words),
         Verb::Report => Some(Task::Draw(Drawn::Report(queues_of(words)?))),
+        Verb::Ready => Some(ready_of(queues_of(words)?, words)),
+        Verb::Import => import_of(words),
     }
 }
 
 /// What the words behind a command ask for, if they are all there and none excludes another.
-pub(crate) fn task_of(verb: Verb, words: &ArgMatches) -> Option<Task>
-    ensures { MatchOption result (IsNoCommand verb (found_of words.now))
-        (AsksFor verb (found_of words.now)) }
+pub(crate) fn task_of<'w>(verb: Verb, words: &'w ArgMatches) -> Option<Task<'w>>
+    ensures { MatchOption result (IsNoCommand verb (found_of words.entry.now))
+        (AsksFor verb (found_of words.entry.now)) }
 {
     if is_twofold(words) {
         return None;

@@ -15,6 +15,8 @@ pub(crate) enum Verb {
     Draw,
     Reverse,
     Report,
+    Ready,
+    Import,
 }
 
 /// A word behind a command: an argument, or an option with what it takes.
@@ -27,6 +29,8 @@ pub(crate) enum Word {
     Why,
     Most,
     Show,
+    ShowSticks,
+    Only,
     Allow,
     Format,
     Quiet,
@@ -37,6 +41,13 @@ pub(crate) enum Word {
     Places,
     Plain,
     Svg,
+    From,
+    Choose,
+    Listed,
+    Name,
+    Own,
+    Cross,
+    Par,
     FirstEvent,
     SecondEvent,
 }
@@ -62,6 +73,20 @@ pub(crate) enum Takes {
     Kinds,
     /// An option with the form of an answer.
     Form,
+    /// An option with a name, which may stand often.
+    Names,
+    /// An option with the language of a text.
+    Language,
+    /// An option with the choices of a scenario.
+    Choices,
+    /// An option with a name.
+    Name,
+    /// An option with what an arrow to oneself is.
+    Own,
+    /// An option with what an arrow with a cross is.
+    Cross,
+    /// An option with what parallel branches are that are no coregion.
+    Par,
 }
 
 impl Word {
@@ -75,7 +100,8 @@ impl Word {
             Word::Closest => "closest",
             Word::Why => "why",
             Word::Most => "most",
-            Word::Show => "show",
+            Word::Show | Word::ShowSticks => "show",
+            Word::Only => "only",
             Word::Allow => "allow",
             Word::Format => "format",
             Word::Quiet => "quiet",
@@ -86,6 +112,13 @@ impl Word {
             Word::Places => "places",
             Word::Plain => "plain",
             Word::Svg => "svg",
+            Word::From => "from",
+            Word::Choose => "choose",
+            Word::Listed => "list",
+            Word::Name => "name",
+            Word::Own => "self",
+            Word::Cross => "cross",
+            Word::Par => "par",
             Word::FirstEvent => "E",
             Word::SecondEvent => "F",
         }
@@ -100,12 +133,20 @@ impl Word {
             Word::FirstEvent | Word::SecondEvent => Takes::Event,
             Word::Closest | Word::Why | Word::Words | Word::Short => Takes::Nothing,
             Word::Accept | Word::Places | Word::Plain | Word::Svg => Takes::Nothing,
+            Word::Listed => Takes::Nothing,
             Word::Quiet => Takes::NothingOrQ,
-            Word::Most | Word::Show | Word::Patience => Takes::Number,
+            Word::Most | Word::Show | Word::ShowSticks | Word::Patience => Takes::Number,
+            Word::Only => Takes::Names,
             Word::Queues => Takes::Architecture,
             Word::QueuesIfAny => Takes::ArchitectureIfAny,
             Word::Allow => Takes::Kinds,
             Word::Format => Takes::Form,
+            Word::From => Takes::Language,
+            Word::Choose => Takes::Choices,
+            Word::Name => Takes::Name,
+            Word::Own => Takes::Own,
+            Word::Cross => Takes::Cross,
+            Word::Par => Takes::Par,
         }
     }
 
@@ -125,6 +166,12 @@ impl Word {
             }
             Word::Most => "List the first N races alone",
             Word::Show => "Print a run for each of the first N races; without it, for all",
+            Word::ShowSticks => {
+                "Print a run for each of the first N sticks that are first; without it, for all"
+            }
+            Word::Only => {
+                "Let this instance be ready, and no other one that is not named; may be repeated"
+            }
             Word::Allow => {
                 "Leave out the races of this kind, in the list and in the status; may be repeated"
             }
@@ -143,6 +190,16 @@ impl Word {
             Word::Places => "Print where events stand, and what is said of a fault",
             Word::Plain => "Print nothing behind the line of a fault, also on a terminal",
             Word::Svg => "Print SVG, for documents, and not lines of characters",
+            Word::From => "The language of the text; any, as without it, is told by the text",
+            Word::Choose => {
+                "The scenario: main, or its choices, numbers with commas between, block by block"
+            }
+            Word::Listed =>
+                "Print the chart's events with their numbers, and where their arrows stand",
+            Word::Name => "The chart's name; without it, that of the file",
+            Word::Own => "What an arrow to oneself is; without it, an action",
+            Word::Cross => "What an arrow with a cross is",
+            Word::Par => "Draw parallel branches that are no coregion one below the other",
             Word::FirstEvent => "The first event: its number, or :LINE, the first one on that line",
             Word::SecondEvent => "The second event",
         }
@@ -151,7 +208,7 @@ impl Word {
 
 impl Verb {
     /// Each command once, in the order of the help.
-    pub const ALL: [Verb; 8] = [
+    pub const ALL: [Verb; 10] = [
         Verb::Read,
         Verb::Check,
         Verb::Explain,
@@ -160,6 +217,8 @@ impl Verb {
         Verb::Draw,
         Verb::Reverse,
         Verb::Report,
+        Verb::Ready,
+        Verb::Import,
     ];
 
     /// Its name.
@@ -175,6 +234,8 @@ impl Verb {
             Verb::Draw => "draw",
             Verb::Reverse => "reverse",
             Verb::Report => "report",
+            Verb::Ready => "ready",
+            Verb::Import => "import",
         }
     }
 
@@ -247,6 +308,27 @@ impl Verb {
                 Word::SecondEvent,
             ],
             Verb::Report => &[Word::Queues, Word::Places, Word::Plain, Word::File],
+            Verb::Ready => &[
+                Word::Queues,
+                Word::Only,
+                Word::ShowSticks,
+                Word::Words,
+                Word::Places,
+                Word::Plain,
+                Word::File,
+            ],
+            Verb::Import => &[
+                Word::From,
+                Word::Choose,
+                Word::Listed,
+                Word::Name,
+                Word::Own,
+                Word::Cross,
+                Word::Par,
+                Word::Places,
+                Word::Plain,
+                Word::File,
+            ],
         }
     }
 
@@ -266,6 +348,10 @@ impl Verb {
             Verb::Reverse => "Print a picture of a run that reverses a race",
             Verb::Report =>
                 "Print a page in HTML: the chart, its closest races, and runs that show them",
+            Verb::Ready => {
+                "Print whether instances that wait for one message can stick, and how"
+            }
+            Verb::Import => "Print the chart of a sequence diagram of Mermaid",
         }
     }
 
@@ -280,6 +366,8 @@ impl Verb {
             Verb::Draw => DRAW_NOTES,
             Verb::Reverse => REVERSE_NOTES,
             Verb::Report => REPORT_NOTES,
+            Verb::Ready => READY_NOTES,
+            Verb::Import => IMPORT_NOTES,
         }
     }
 }
@@ -387,3 +475,40 @@ Exit status:
 
 Example:
   msc report --queues mailbox relay.msc >relay.html";
+
+/// What stands below the help of `msc ready`.
+const READY_NOTES: &str = "\
+An instance is ready where it takes an input only when all that is drawn before has happened, and
+leaves the others in their queues. Without --only all instances are ready.
+
+  finishes        such a system never sticks
+  may stick N     some run sticks, and some run is whole; N is the number of sticks
+  never finishes  no run is whole
+
+A stick is a pair of inputs of one queue, of which the second may come to stand first.
+
+Exit status:
+  0  the system finishes, and with --only no race is left
+  1  it may stick, or never finishes, or with --only races are left
+  2  the text or a name was refused, or the words are no command
+  4  memory ran out, or a file or the output failed
+
+Examples:
+  msc ready --queues mailbox relay.msc
+  msc ready --queues mailbox --only worker --words relay.msc";
+
+/// What stands below the help of `msc import`.
+const IMPORT_NOTES: &str = "\
+A diagram without blocks that leave a choice has one scenario. Of another say which one:
+  --choose main   each alt takes its first branch, each opt is there, each loop goes one round
+  --choose 1,0,2  the choices in the order in which blocks are met, the others as in main
+
+Exit status:
+  0  the chart, or the list of its events, was written
+  2  the text was refused, or the words are no command
+  4  memory ran out, or a file or the output failed
+
+Example:
+  msc import checkout.mmd
+  msc import --choose 1 --list checkout.mmd
+  msc import --choose main checkout.mmd | msc check --queues pair -";

@@ -6,11 +6,13 @@ pub mod Traces
 pub mod EventTexts
 pub mod Styles
 pub mod Lists
+pub mod Imports
 pub mod Stale
 pub mod Lines
 pub mod Counts
 pub mod Editors
 pub mod Reasons
+pub mod Sticks
 pub mod Fitting
 -- what the code keeps
 pub mod Spans

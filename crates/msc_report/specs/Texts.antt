@@ -1,9 +1,10 @@
 -- The lines that faults are printed as. This project's own formats.
-use Rattle.std.specs.Prelude.{ℕ, List, [], ◌∷◌, ◌++◌, Option, None, Some, codes}
+use Rattle.std.specs.Prelude.{ℕ, List, [], ◌∷◌, ◌++◌, Option, None, Some, codes, map}
 use Rattle.std.specs.Fmt.{decimal}
 use Rattle.msc_lexer.specs.declared.fault.LexFault.{LexFault}
 use Rattle.msc_lexer.specs.declared.fault.LexFault.TheVariants as lexical
 use Rattle.msc_lexer.specs.Words.{spelling}
+use Rattle.msc_place.specs.Texts.{shown_byte}
 use Rattle.msc_parser.specs.Expectations.{expectation}
 use Rattle.msc_parser.specs.declared.fault.ParseFault.{ParseFault}
 use Rattle.msc_parser.specs.declared.fault.ParseFault.TheVariants as grammar
@@ -83,6 +84,10 @@ pair_fault_line (OneEvent e f) =
     codes "pair fault 2: " ++ (event_word e ++ (codes " and " ++ (event_word f ++ text_line (codes " are one event"))))
 pair_fault_line (NoRace e f) =
     codes "pair fault 3: " ++ (event_word e ++ (codes " " ++ (event_word f ++ text_line (codes " is no race"))))
+
+-- the line of a name that is that of no instance; a byte that can't be printed is a question mark
+abbrev pub instance_fault_line : List ℕ → List ℕ
+instance_fault_line name = codes "ready fault 1: no instance " ++ text_line (map shown_byte name)
 
 -- the line of a comment that is to be a mark, and is none
 abbrev pub mark_fault_line : MarkFault → List ℕ

@@ -59,7 +59,7 @@ fn address_of(chart: &Chart, e: Event) -> u32
 }
 
 /// Writes an event by its words, its message and the instance at the other end.
-fn write_signal<W: Write>(
+pub(crate) fn write_signal<W: Write>(
     writer: &mut W,
     chart: &Chart,
     e: Event,
@@ -193,7 +193,12 @@ pub(crate) fn write_race_place<W: Write>(
 }
 
 /// Writes what two events do, to the end of the line.
-fn write_events<W: Write>(writer: &mut W, chart: &Chart, e: Event, f: Event) -> io::Result<()>
+pub(crate) fn write_events<W: Write>(
+    writer: &mut W,
+    chart: &Chart,
+    e: Event,
+    f: Event,
+) -> io::Result<()>
     requires e_known { e < length chart.now.events }
     requires f_known { f < length chart.now.events }
     ensures { OnOk result (Appends (W.contents writer.old) (W.contents writer.new)

@@ -145,8 +145,8 @@ fn write_late<W: Write>(
     }
 }
 
-/// Writes a run in a style.
-fn write_run_in<W: Write>(
+/// Writes a run of the chart's events: by their numbers, or in words, a line for each.
+pub fn write_run_in<W: Write>(
     writer: &mut W,
     chart: &Chart,
     words: bool,

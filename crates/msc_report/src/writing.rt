@@ -150,7 +150,8 @@ fn write_not_started<W: Write>(writer: &mut W, i: u32) -> io::Result<()>
 }
 
 /// Writes the line of a fault. The printed words of faults come from here, from
-/// [`crate::write_pair_fault`] and from [`crate::write_mark_fault`] alone.
+/// [`crate::write_pair_fault`], [`crate::write_mark_fault`] and [`crate::write_instance_fault`]
+/// alone.
 pub fn write_fault<W: Write>(writer: &mut W, fault: &Fault) -> io::Result<()>
     ensures { OnOk result (Appends (W.contents writer.old) (W.contents writer.new)
         (fault_line fault.now)) }

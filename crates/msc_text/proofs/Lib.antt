@@ -3,3 +3,4 @@ pub mod Shown
 pub mod Told
 pub mod Plain
 pub mod Judged
+pub mod Readied

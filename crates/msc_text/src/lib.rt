@@ -6,10 +6,12 @@ mod checking;
 mod explaining;
 mod judging;
 mod listing;
+mod readying;
 mod text;
 
 pub use checking::check_text;
 pub use explaining::explain_pair;
 pub use judging::{Format, judge_chart, passes_chart};
 pub use listing::list_chart;
+pub use readying::write_ready;
 pub use text::{read_text, write_reading};

@@ -1,4 +1,4 @@
-use Rattle.std.proofs.Common.{◌≡◌, ◌<◌, ℕ, All, List, Some, None, length, refl, sym, ap, ◌∙◌, subst}
+use Rattle.std.proofs.Common.{◌<◌, ℕ, All, Some, None, length, refl, sym, ◌∙◌, subst}
 use Rattle.msc_chart.specs.Drawings.{Drawing}
 use Rattle.msc_text.proofs.Judged.{marking_of, stale_known, told_chart}
 use Rattle.msc_text.proofs.judging.judge_chart.Goals as goal

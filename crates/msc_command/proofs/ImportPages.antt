@@ -1,0 +1,87 @@
+-- Why nothing is imported of a text, and what is printed of what is.
+use Rattle.std.proofs.Common.{◌≡◌, ℕ, true, List, Option, Result, Ok, Err, inl, inr, refl, sym, ◌∙◌}
+use Rattle.msc_import.specs.declared.fault.ImportFault.{ImportFault}
+use Rattle.msc_import.specs.declared.fault.ImportFault.TheVariants as imports
+use Rattle.msc_import.specs.declared.importing.Imported.{Imported}
+use Rattle.msc_import.specs.declared.importing.Refused.{Refused as NotImported}
+use Rattle.msc_import.specs.Drafting.{IsReadAgain}
+use Rattle.msc_import.specs.Importing.{Refusal as Said, RefusesSo, Wanted, imported, seen}
+use Rattle.msc_judge.specs.declared.page.Page.{Page}
+use Rattle.msc_report.specs.declared.fault.Fault.TheVariants.{Parse, Chart, NotStarted, Memory, Device}
+use Rattle.msc_report.specs.Refusals.{of_source}
+use Rattle.msc_source.specs.declared.fault.SourceFault.{SourceFault}
+use Rattle.msc_source.specs.declared.fault.SourceFault.TheVariants as sources
+use Rattle.msc_command.specs.Answering.{Answers}
+use Rattle.msc_command.specs.Ending.{of_import, of_import_fault}
+use Rattle.msc_command.specs.Importing.{IsChartOrFault, IsImport, IsImportAs, IsImportedOn, IsPageOf, PrintsImportPage, RefusesImport, wanted_of}
+use Rattle.msc_command.specs.declared.ending.Refusal.{Refusal}
+use Rattle.msc_command.specs.declared.ending.Refusal.TheVariants as refusals
+use Rattle.msc_command.specs.declared.tasks.ImportWords.{ImportWords}
+
+-- a fault that is not want of memory is the one of the definition
+is_said : (e : NotImported) (said : Result Imported Said) (f : ImportFault) → e.fault ≡ f → (f ≡ imports.Memory → ⊥) → RefusesSo e said → said ≡ Err (seen e)
+is_said e said f is other (inl spent) = absurd (other (sym is ∙ spent))
+is_said e said f is other (inr same) = same
+
+module _ (x : Wanted) (text : List ℕ) where
+  by_fault : (e : NotImported) (f : ImportFault) → e.fault ≡ f → RefusesSo e (imported x text) → IsImportAs x text (Err (of_import_fault e f))
+  by_fault e imports.Memory is h = tt
+  by_fault e imports.TooLong is h = is_said e _ imports.TooLong is (λ m. cc) h
+  by_fault e (imports.Expected a b) is h = is_said e _ (imports.Expected a b) is (λ m. cc) h
+  by_fault e (imports.Unsupported a b) is h = is_said e _ (imports.Unsupported a b) is (λ m. cc) h
+  by_fault e (imports.Cross a) is h = is_said e _ (imports.Cross a) is (λ m. cc) h
+  by_fault e (imports.Unended a) is h = is_said e _ (imports.Unended a) is (λ m. cc) h
+  by_fault e (imports.Outside a b) is h = is_said e _ (imports.Outside a b) is (λ m. cc) h
+  by_fault e (imports.TooDeep a) is h = is_said e _ (imports.TooDeep a) is (λ m. cc) h
+  by_fault e (imports.TooManyLines a) is h = is_said e _ (imports.TooManyLines a) is (λ m. cc) h
+  by_fault e (imports.Several a) is h = is_said e _ (imports.Several a) is (λ m. cc) h
+  by_fault e (imports.Choice a b d) is h = is_said e _ (imports.Choice a b d) is (λ m. cc) h
+  by_fault e (imports.TooManyChoices a b) is h = is_said e _ (imports.TooManyChoices a b) is (λ m. cc) h
+  by_fault e (imports.TooManyArrows a) is h = is_said e _ (imports.TooManyArrows a) is (λ m. cc) h
+  by_fault e (imports.Shared a b) is h = is_said e _ (imports.Shared a b) is (λ m. cc) h
+
+  -- so nothing is imported of the text
+  pub not_imported : (e : NotImported) → RefusesSo e (imported x text) → IsImportAs x text (Err (of_import e))
+  not_imported e h = by_fault e e.fault refl h
+
+module _ (x : ImportWords) (text file : List ℕ) where
+  -- and there is no page of it
+  pub not_on_page : (r : Refusal) → IsImport x text (Err r) → IsImportedOn x file text (Err r)
+  not_on_page (refusals.Import e) said = said
+  not_on_page (refusals.Fault Memory) said = tt
+  not_on_page (refusals.Fault Device) said = absurd said
+  not_on_page (refusals.Fault (Parse f)) said = absurd said
+  not_on_page (refusals.Fault (Chart f)) said = absurd said
+  not_on_page (refusals.Fault (NotStarted i)) said = absurd said
+  not_on_page (refusals.Pair f) said = absurd said
+  not_on_page (refusals.Mark f) said = absurd said
+
+  -- the page of what was imported
+  pub on_page : (is : Imported) (r : Result Page Refusal) → (imported (wanted_of x) text ≡ Ok is) × IsReadAgain is.draft → IsPageOf x.list file is r → IsImportedOn x file text r
+  on_page is (Ok page) of_text prints = (is, of_text.0, of_text.1, prints)
+  on_page is (Err (refusals.Fault Memory)) of_text said = tt
+  on_page is (Err (refusals.Fault (Chart f))) of_text said = (said.0, (is, of_text.0, said.1))
+  on_page is (Err (refusals.Fault Device)) of_text said = absurd said
+  on_page is (Err (refusals.Fault (Parse f))) of_text said = absurd said
+  on_page is (Err (refusals.Fault (NotStarted i))) of_text said = absurd said
+  on_page is (Err (refusals.Import e)) of_text said = absurd said
+  on_page is (Err (refusals.Pair f)) of_text said = absurd said
+  on_page is (Err (refusals.Mark f)) of_text said = absurd said
+
+  -- why there is no page is why the task is refused, or memory ran out
+  pub unprinted : {W : Type 0} (contents : W → Option (List ℕ)) (r : Refusal) (now : W) → IsImportedOn x file text (Err r)
+      → Answers contents (PrintsImportPage x file text) (RefusesImport x text) (Err r) now now
+  unprinted contents (refusals.Fault Memory) now said = inl refl
+  unprinted contents (refusals.Fault Device) now said = tt
+  unprinted contents (refusals.Fault (Parse f)) now fails = (fails, refl)
+  unprinted contents (refusals.Fault (Chart f)) now fails = (fails, refl)
+  unprinted contents (refusals.Fault (NotStarted i)) now fails = (fails, refl)
+  unprinted contents (refusals.Pair f) now fails = (fails, refl)
+  unprinted contents (refusals.Mark f) now fails = (fails, refl)
+  unprinted contents (refusals.Import e) now fails = (fails, refl)
+
+-- a draft that is no chart is not listed
+pub not_listed : (file : List ℕ) (is : Imported) (fault : SourceFault) → IsChartOrFault is.draft (Err fault) → IsPageOf true file is (Err (refusals.Fault (of_source fault)))
+not_listed file is (sources.Parse f) said = absurd said
+not_listed file is (sources.Chart f) said = (refl, said)
+not_listed file is sources.Memory said = tt

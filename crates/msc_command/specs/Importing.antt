@@ -1,0 +1,158 @@
+-- What is imported of a text, and what is printed of it.
+use Rattle.std.specs.Prelude.{◌≡◌, ◌+◌, ◌-◌, ◌*◌, ◌&&◌, ◌||◌, ◌==◌, nat_le, not, ℕ, Bool, true, false, cond, List, [], ◌∷◌, length, take, drop, map, Option, None, Some, Result, Ok, Err, codes, option_map, option_and_then, is_some, unwrap_or}
+use Rattle.std.specs.List.{list_all, slice_split, suffix_len}
+use Rattle.std.specs.Str.{bytes_eq}
+use Rattle.msc_chart.specs.Drawings.{Drawing, chart_of}
+use Rattle.msc_chart.specs.Faults.{IsFaultless, IsFirstFault}
+use Rattle.msc_import.specs.declared.importing.Imported.{Imported}
+use Rattle.msc_import.specs.Drafting.{IsReadAgain}
+use Rattle.msc_import.specs.Importing.{Wanted, imported, seen}
+use Rattle.msc_judge.specs.declared.page.Page.{Page}
+use Rattle.msc_parser.specs.Canonical.{canonical}
+use Rattle.msc_parser.specs.Grammar.{Tree}
+use Rattle.msc_report.specs.declared.fault.Fault.TheVariants.{Chart, Memory}
+use Rattle.msc_report.specs.Imports.{placed_list}
+use Rattle.msc_source.specs.declared.fault.SourceFault.{SourceFault}
+use Rattle.msc_source.specs.declared.fault.SourceFault.TheVariants as sources
+use Rattle.msc_command.specs.declared.ending.Refusal.{Refusal}
+use Rattle.msc_command.specs.declared.ending.Refusal.TheVariants as refusals
+use Rattle.msc_command.specs.declared.ending.Status.{Status}
+use Rattle.msc_command.specs.declared.ending.Status.TheVariants.{Done}
+use Rattle.msc_command.specs.declared.tasks.ImportWords.{ImportWords}
+
+-- a decimal digit
+abbrev pub is_digit : ℕ → Bool
+is_digit b = nat_le 48 b && nat_le b 57
+
+-- the greatest number of a choice
+abbrev pub greatest_choice : ℕ
+greatest_choice = 4294967295
+
+-- a number with one digit more, where the byte is one and no greater number comes of it
+abbrev pub with_digit : ℕ → ℕ → Option ℕ
+with_digit n b =
+    cond (is_digit b && nat_le (n * 10 + (b - 48)) greatest_choice) (Some (n * 10 + (b - 48))) None
+
+-- the number of these digits behind such a number
+unfoldable pub number_behind : ℕ → List ℕ → Option ℕ
+number_behind n [] = Some n
+number_behind n (b ∷ bs) = option_and_then (λ m. number_behind m bs) (with_digit n b)
+
+-- the number of a text: digits, at least one
+unfoldable pub number_of : List ℕ → Option ℕ
+number_of [] = None
+number_of (b ∷ bs) = number_behind 0 (b ∷ bs)
+
+-- `,`
+abbrev pub is_comma : ℕ → Bool
+is_comma b = b == 44
+
+-- the parts between commas are numbers
+abbrev pub are_numbers : List ℕ → Bool
+are_numbers word = list_all (λ part. is_some (number_of part)) (slice_split is_comma word)
+
+-- a word gives choices: it is `main`, or numbers with commas between
+abbrev pub gives_choices : List ℕ → Bool
+gives_choices word = bytes_eq word (codes "main") || are_numbers word
+
+-- the choice that a part of such a word is
+abbrev pub choice_in : List ℕ → ℕ
+choice_in part = unwrap_or (number_of part) 0
+
+-- the choices that it gives: of `main` none, so that all are the main ones
+abbrev pub choices_in : List ℕ → List ℕ
+choices_in word = cond (bytes_eq word (codes "main")) [] (map choice_in (slice_split is_comma word))
+
+-- `/`, and `.`
+abbrev pub is_slash : ℕ → Bool
+is_slash b = b == 47
+
+abbrev pub is_dot : ℕ → Bool
+is_dot b = b == 46
+
+-- how many bytes stand behind the last `/` of the name of a file, and behind the last `.` of a name
+abbrev pub behind_slash : List ℕ → ℕ
+behind_slash file = suffix_len (λ b. not (is_slash b)) file
+
+abbrev pub behind_dot : List ℕ → ℕ
+behind_dot name = suffix_len (λ b. not (is_dot b)) name
+
+-- the name of a file without its folder, and a name without its last ending
+abbrev pub behind_folder : List ℕ → List ℕ
+behind_folder file = drop (length file - behind_slash file) file
+
+abbrev pub before_ending : List ℕ → List ℕ
+before_ending name =
+    cond (nat_le (length name) (behind_dot name)) name (take (length name - behind_dot name - 1) name)
+
+-- what the name of a chart is made of where no word says it: the name of the file, without its folder and
+-- its last ending
+abbrev pub title_of : List ℕ → List ℕ
+title_of file = before_ending (behind_folder file)
+
+-- what is wanted of a text, with these choices
+abbrev pub wanted_with : ImportWords → Option (List ℕ) → Wanted
+wanted_with x choices = record {
+  language = x.language;
+  cross = x.cross;
+  manner = x.manner;
+  choices = choices;
+  name = x.name.now;
+}
+
+-- what is wanted of a text
+abbrev pub wanted_of : ImportWords → Wanted
+wanted_of x = wanted_with x (option_map (λ c. choices_in c.now) x.choose)
+
+-- What is printed of what was imported: its canonical text, or of its chart the list of its events, with
+-- the places of their arrows in the file.
+abbrev pub PrintsImported : Bool → List ℕ → Imported → List ℕ → Type 0
+PrintsImported false file is printed = printed ≡ canonical is.draft
+PrintsImported true file is printed =
+    IsFaultless is.draft × (printed ≡ placed_list (chart_of is.draft) file is.places)
+
+-- the chart of a draft, or its first fault, or memory ran out
+abbrev pub IsChartOrFault : Tree → Result Drawing SourceFault → Type 0
+IsChartOrFault draft (Ok d) = IsFaultless draft × (d ≡ chart_of draft)
+IsChartOrFault draft (Err (sources.Chart f)) = IsFirstFault draft f
+IsChartOrFault draft (Err sources.Memory) = Unit {0}
+IsChartOrFault draft (Err fault) = ⊥
+
+-- the page with that, or why there is none: memory ran out, or what is listed is no chart
+abbrev pub IsPageOf : Bool → List ℕ → Imported → Result Page Refusal → Type 0
+IsPageOf list file is (Ok page) = PrintsImported list file is page.bytes.items
+IsPageOf list file is (Err (refusals.Fault Memory)) = Unit {0}
+IsPageOf list file is (Err (refusals.Fault (Chart f))) = (list ≡ true) × IsFirstFault is.draft f
+IsPageOf list file is (Err refusal) = ⊥
+
+-- what is imported of a text by what is wanted of it, and its text is read again; or why nothing is
+abbrev pub IsImportAs : Wanted → List ℕ → Result Imported Refusal → Type 0
+IsImportAs x text (Ok is) = (imported x text ≡ Ok is) × IsReadAgain is.draft
+IsImportAs x text (Err (refusals.Import e)) = imported x text ≡ Err (seen e)
+IsImportAs x text (Err (refusals.Fault Memory)) = Unit {0}
+IsImportAs x text (Err refusal) = ⊥
+
+abbrev pub IsImport : ImportWords → List ℕ → Result Imported Refusal → Type 0
+IsImport x text answer = IsImportAs (wanted_of x) text answer
+
+-- what is printed of the text of a file: what is imported of it, whose text is read again as that draft
+abbrev pub PrintsImport : ImportWords → List ℕ → List ℕ → List ℕ → Type 0
+PrintsImport x file text printed =
+    (is : Imported) × (imported (wanted_of x) text ≡ Ok is) × IsReadAgain is.draft × PrintsImported x.list file is printed
+
+-- why nothing is printed: nothing is imported, or what is listed is no chart
+abbrev pub RefusesImport : ImportWords → List ℕ → Refusal → Type 0
+RefusesImport x text (refusals.Import e) = imported (wanted_of x) text ≡ Err (seen e)
+RefusesImport x text (refusals.Fault (Chart f)) =
+    (x.list ≡ true) × ((is : Imported) × (imported (wanted_of x) text ≡ Ok is) × IsFirstFault is.draft f)
+RefusesImport x text refusal = ⊥
+
+-- the page with what is imported, or why there is none
+abbrev pub IsImportedOn : ImportWords → List ℕ → List ℕ → Result Page Refusal → Type 0
+IsImportedOn x file text (Ok page) = PrintsImport x file text page.bytes.items
+IsImportedOn x file text (Err (refusals.Fault Memory)) = Unit {0}
+IsImportedOn x file text (Err refusal) = RefusesImport x text refusal
+
+-- what is printed, and how the run ends
+abbrev pub PrintsImportPage : ImportWords → List ℕ → List ℕ → Status → List ℕ → Type 0
+PrintsImportPage x file text status printed = (status ≡ Done) × PrintsImport x file text printed

@@ -1,0 +1,147 @@
+//! The choices that a word of a command line gives, and the title of a file.
+
+ghost use Rattle.std.specs.Prelude.{◌≡◌, ◌≤◌, IfOk, IfSome, length, map};
+ghost use Rattle.std.specs.List.{slice_split};
+ghost use Rattle.msc_command.specs.Importing.{are_numbers, before_ending, behind_dot, behind_folder};
+ghost use Rattle.msc_command.specs.Importing.{behind_slash, choice_in, choices_in, gives_choices};
+ghost use Rattle.msc_command.specs.Importing.{greatest_choice, is_comma, is_dot, is_slash};
+ghost use Rattle.msc_command.specs.Importing.{number_of, title_of, with_digit};
+
+use std::alloc::{AllocError, Global};
+
+/// The greatest number of a choice.
+const GREATEST_CHOICE: usize = 4_294_967_295;
+
+/// A number with one digit more, where the byte is one and no greater number comes of it.
+fn with_digit(number: usize, byte: u8) -> Option<usize>
+    requires { number ≤ greatest_choice }
+    ensures value { result ≡ with_digit number byte }
+    ensures within { IfSome result (λ n. n ≤ greatest_choice) }
+{
+    if byte < b'0' || byte > b'9' {
+        return None;
+    }
+    let next = number * 10 + usize::from(byte - b'0');
+    if next > GREATEST_CHOICE {
+        return None;
+    }
+    Some(next)
+}
+
+/// The number of a text: digits, at least one.
+fn number_of(bytes: &[u8]) -> Option<usize>
+    ensures { result ≡ number_of bytes.now }
+{
+    if bytes.is_empty() {
+        return None;
+    }
+    let mut number = 0;
+    for byte in bytes {
+        number = with_digit(number, *byte)?;
+    }
+    Some(number)
+}
+
+/// Whether the parts of a word, with commas between, are numbers.
+fn are_numbers(bytes: &[u8]) -> bool
+    ensures { result ≡ are_numbers bytes.now }
+{
+    bytes
+        .split(|byte| *byte == b',')
+        .all(|part| number_of(part).is_some())
+}
+
+/// Whether a word gives choices: it is `main`, or numbers with commas between.
+pub(crate) fn gives_choices(word: &str) -> bool
+    ensures { result ≡ gives_choices word.now }
+{
+    word == "main" || are_numbers(word.as_bytes())
+}
+
+/// The parts of a word, with commas between.
+fn parts_of(alloc: Global, bytes: &[u8]) -> Result<Vec<&[u8]>, AllocError>
+    ensures { IfOk result (λ v. map (λ x. x.now) v.items ≡ slice_split is_comma bytes.now) }
+{
+    bytes.split(|byte| *byte == b',').collect(alloc)
+}
+
+/// The choices that these parts are.
+fn choices_of(alloc: Global, parts: &[&[u8]]) -> Result<Vec<usize>, AllocError>
+    ensures { IfOk result (λ v. v.items ≡ map (λ part. choice_in part.now) parts.now) }
+{
+    let mut choices = Vec::new(alloc);
+    for part in parts {
+        choices.push(number_of(part).unwrap_or(0))?;
+    }
+    Ok(choices)
+}
+
+/// The choices that a word gives: of `main` none, so that all are the main ones.
+pub(crate) fn choices_in(alloc: Global, word: &str) -> Result<Vec<usize>, AllocError>
+    ensures { IfOk result (λ v. v.items ≡ choices_in word.now) }
+{
+    if word == "main" {
+        return Ok(Vec::new(alloc));
+    }
+    let parts = parts_of(alloc, word.as_bytes())?;
+    let choices = choices_of(alloc, parts.as_slice())?;
+    Ok(choices)
+}
+
+/// Whether the byte ends a folder.
+fn is_slash(byte: u8) -> bool
+    ensures { result ≡ is_slash byte }
+{
+    byte == b'/'
+}
+
+/// Whether an ending begins.
+fn is_dot(byte: u8) -> bool
+    ensures { result ≡ is_dot byte }
+{
+    byte == b'.'
+}
+
+/// How many bytes stand behind the last folder.
+fn behind_slash(file: &[u8]) -> usize
+    ensures value { result ≡ behind_slash file.now }
+    ensures within { result ≤ length file.now }
+{
+    file.iter()
+        .rev()
+        .take_while(|byte| !is_slash(**byte))
+        .count()
+}
+
+/// How many bytes stand behind the last `.`.
+fn behind_dot(name: &[u8]) -> usize
+    ensures value { result ≡ behind_dot name.now }
+    ensures within { result ≤ length name.now }
+{
+    name.iter().rev().take_while(|byte| !is_dot(**byte)).count()
+}
+
+/// The name of a file without its folder.
+fn behind_folder(file: &[u8]) -> &[u8]
+    ensures { result.now ≡ behind_folder file.now }
+{
+    &file[file.len() - behind_slash(file)..]
+}
+
+/// A name without its last ending.
+fn before_ending(name: &[u8]) -> &[u8]
+    ensures { result.now ≡ before_ending name.now }
+{
+    let ending = behind_dot(name);
+    if name.len() <= ending {
+        return name;
+    }
+    &name[..name.len() - ending - 1]
+}
+
+/// The name of a file, without its folder and its last ending.
+pub(crate) fn title_of(file: &str) -> &[u8]
+    ensures { result.now ≡ title_of file.now }
+{
+    before_ending(behind_folder(file.as_bytes()))
+}

@@ -1,0 +1,102 @@
+//! Imports, as pages: the canonical text of a scenario of a diagram, or the list of its events with
+//! the places of their arrows.
+
+ghost use Rattle.std.specs.Prelude.{option_map, true};
+ghost use Rattle.msc_command.specs.Importing.{IsChartOrFault, IsImport, IsImportedOn, IsPageOf};
+ghost use Rattle.msc_command.specs.Importing.{IsImportAs, wanted_with};
+
+use crate::choices::choices_in;
+use crate::ending::Refusal;
+use crate::tasks::ImportWords;
+use msc_chart::Chart;
+use msc_import::{Imported, Importing, import};
+use msc_judge::Page;
+use msc_report::write_list_at;
+use msc_source::SourceFault;
+use std::alloc::Global;
+
+/// The chart of what was imported, or why it is none.
+fn chart_of(alloc: Global, imported: &Imported) -> Result<Chart, SourceFault>
+    ensures { IsChartOrFault imported.now.draft result }
+{
+    Ok(Chart::build(alloc, &imported.draft)?)
+}
+
+/// The events of what was imported of the text of a file of this name, on a page.
+fn list_page(alloc: Global, file: &str, imported: &Imported) -> Result<Page, Refusal<'static>>
+    ensures { IsPageOf true file.now imported.now result }
+{
+    let chart = chart_of(alloc, imported)?;
+    let mut page = Page::new(alloc);
+    let places = imported.places.as_slice();
+    let written = write_list_at(&mut page, &chart, file.as_bytes(), places);
+    let page = page.if_written(written)?;
+    Ok(page)
+}
+
+/// What is printed of what was imported of the text of a file of this name, on a page.
+fn page_of(
+    alloc: Global,
+    list: bool,
+    file: &str,
+    imported: &Imported,
+) -> Result<Page, Refusal<'static>>
+    ensures { IsPageOf list file.now imported.now result }
+{
+    if list {
+        return list_page(alloc, file, imported);
+    }
+    let bytes = imported.draft.write(alloc)?;
+    Ok(Page { bytes })
+}
+
+/// What is imported of a text, with these choices.
+fn import_with(
+    alloc: Global,
+    words: ImportWords<'_>,
+    choices: Option<&[usize]>,
+    text: &[u8],
+) -> Result<Imported, Refusal<'static>>
+    ensures { IsImportAs (wanted_with words.entry (option_map (λ c. c.now) choices.entry))
+        text.now result }
+{
+    let importing = Importing {
+        language: words.language,
+        cross: words.cross,
+        manner: words.manner,
+        choices,
+        name: words.name,
+    };
+    let imported = import(alloc, importing, text)?;
+    Ok(imported)
+}
+
+/// What is imported of a text.
+fn import_by(
+    alloc: Global,
+    words: ImportWords<'_>,
+    text: &[u8],
+) -> Result<Imported, Refusal<'static>>
+    ensures { IsImport words.entry text.now result }
+{
+    match words.choose {
+        None => import_with(alloc, words, None, text),
+        Some(word) => {
+            let choices = choices_in(alloc, word)?;
+            import_with(alloc, words, Some(choices.as_slice()), text)
+        }
+    }
+}
+
+/// What is imported of the text of a file of this name, on a page.
+pub(crate) fn import_page(
+    alloc: Global,
+    words: ImportWords<'_>,
+    file: &str,
+    text: &[u8],
+) -> Result<Page, Refusal<'static>>
+    ensures { IsImportedOn words.entry file.now text.now result }
+{
+    let imported = import_by(alloc, words, text)?;
+    page_of(alloc, words.list, file, &imported)
+}

@@ -1,0 +1,59 @@
+-- What a text is taken as by what it holds, and names that are held in place.
+use Rattle.std.proofs.Common.{◌≡◌, ◌≤◌, ℕ, min, take, ◌++◌, Bool, true, false, ◌||◌, List, [], ◌∷◌, length, map, nat_lt, Option, Result, Err, refl, sym, ap, ◌∙◌, subst, ⊎_elim, inl, inr, arith, tests}
+use Rattle.std.specs.List.{list_any}
+use Rattle.std.proofs.Math.Nat.{min-eq_left, min-eq_right, min-le_left}
+use Rattle.std.proofs.Math.Seq.{take-append_seam}
+use Rattle.std.proofs.lemmas.Bool.{cases_lt}
+use Rattle.std.proofs.lemmas.List.{take_all, length-take-le}
+use Rattle.msc_lexer.specs.declared.TheConstants.{NAME_LIMIT, TEXT_LIMIT}
+use Rattle.msc_import.specs.declared.fault.Expectation.TheVariants.{AnyDiagram}
+use Rattle.msc_import.specs.declared.fault.ImportFault.TheVariants.{Expected}
+use Rattle.msc_import.specs.declared.statement.Cross.{Cross}
+use Rattle.msc_import.specs.declared.importing.Refused.{Refused}
+use Rattle.msc_import.specs.declared.statement.Diagram.{Diagram}
+use Rattle.msc_import.specs.declared.fault.ImportFault.{ImportFault}
+use Rattle.msc_import.specs.Gives.{Fails}
+use Rattle.msc_import.specs.Importing.{RefusesSo, Wanted, begins_diagram, imported_of, short_bytes, told_by_content}
+use Rattle.msc_import.specs.Lines.{lines_of, trimmed}
+use Rattle.msc_import.specs.Mermaid.{is_head, mermaid}
+
+-- a test of what a view makes of the items of a list
+list_any_map : {X Y : Type 0} (p : Y → Bool) (f : X → Y) (xs : List X) → list_any p (map f xs) ≡ list_any (λ x. p (f x)) xs
+list_any_map p f [] = refl
+list_any_map p f (x ∷ xs) = ap (λ b. p (f x) || b) (list_any_map p f xs)
+
+module _ {X : Type 0} (view : X → List ℕ) (cross : Option Cross) (text : List ℕ) (lines : List X) (of_text : map view lines ≡ lines_of text) (short : length text ≤ TEXT_LIMIT) where
+  begins_so : (b : Bool) → list_any (λ line. is_head (trimmed (view line))) lines ≡ b → begins_diagram text ≡ b
+  begins_so b is = ap (list_any (λ line. is_head (trimmed line))) (sym of_text) ∙ list_any_map (λ line. is_head (trimmed line)) view lines ∙ is
+
+  -- none of its lines begins a diagram
+  pub told_none : list_any (λ line. is_head (trimmed (view line))) lines ≡ false → told_by_content cross text ≡ Err (Expected (length (lines_of text)) AnyDiagram)
+  unfolding told_by_content
+  told_none none =
+      let a : nat_lt TEXT_LIMIT (length text) ≡ false = search (arith, tests) in
+      rw (a, begins_so false none) refl
+
+  -- one of them does
+  pub told_some : list_any (λ line. is_head (trimmed (view line))) lines ≡ true → told_by_content cross text ≡ mermaid cross text
+  unfolding told_by_content
+  told_some some =
+      let a : nat_lt TEXT_LIMIT (length text) ≡ false = search (arith, tests) in
+      rw (a, begins_so true some) refl
+
+-- as many bytes of a name as there is room for, before others
+pub filled : (name : List ℕ) (n : ℕ) (front rest : List ℕ) → n ≡ min (length name) NAME_LIMIT → front ≡ take n name → take n (front ++ rest) ≡ take NAME_LIMIT name
+filled name n front rest size is =
+    let low : n ≤ length name = subst (λ k. k ≤ length name) (sym size) (min-le_left (length name) NAME_LIMIT) in
+    let room : length front ≡ n = ap length is ∙ length-take-le n name low in
+    let first : take n (front ++ rest) ≡ front = subst (λ k. take k (front ++ rest) ≡ front) room (take-append_seam front rest) in
+    let same : take n name ≡ take NAME_LIMIT name = ⊎_elim
+    (λ over. ap (λ k. take k name) (size ∙ min-eq_right (omega (arith, over))))
+    (λ within. take_all n name (let e : n ≡ length name = size ∙ min-eq_left within in omega (arith, e)) ∙ sym (take_all NAME_LIMIT name within))
+    (cases_lt NAME_LIMIT (length name)) in
+    first ∙ is ∙ same
+
+-- a fault of a text is told without a name
+pub untold : (x : Wanted) (e : Refused) (fault : ImportFault) (said : Result Diagram ImportFault) → e.fault ≡ fault → short_bytes e.name ≡ [] → Fails fault said → RefusesSo e (imported_of x said)
+unfolding imported_of
+untold x e fault said is none (inl spent) = inl (is ∙ spent)
+untold x e fault said is none (inr same) = inr (rw (same, is, none) refl)

@@ -1,0 +1,16 @@
+pub mod LineLemmas
+pub mod Found
+pub mod RowLemmas
+pub mod ReadingLemmas
+pub mod MermaidLemmas
+pub mod NamingLemmas
+pub mod CourseLemmas
+pub mod WalkLemmas
+pub mod CountLemmas
+pub mod PlanLemmas
+pub mod DraftLemmas
+pub mod NamedLemmas
+pub mod LawLemmas
+pub mod OrderLemmas
+pub mod TogetherLemmas
+pub mod ImportLemmas

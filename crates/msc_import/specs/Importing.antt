@@ -1,0 +1,119 @@
+-- Imports: the draft of one scenario of a text, with the places of its events, or why there is none.
+use Rattle.std.specs.Prelude.{◌≡◌, ◌⊎◌, ℕ, Bool, cond, ◌==◌, nat_lt, List, [], ◌∷◌, length, take, Option, None, Some, Result, Ok, Err, option_map}
+use Rattle.std.specs.List.{list_any}
+use Rattle.msc_lexer.specs.declared.TheConstants.{NAME_LIMIT, TEXT_LIMIT}
+use Rattle.msc_import.specs.declared.fault.Expectation.TheVariants as expectations
+use Rattle.msc_import.specs.declared.fault.ImportFault.{ImportFault}
+use Rattle.msc_import.specs.declared.fault.ImportFault.TheVariants.{TooLong, Expected, Memory, Several, Shared}
+use Rattle.msc_import.specs.declared.importing.Imported.{Imported}
+use Rattle.msc_import.specs.declared.importing.Importing.{Importing}
+use Rattle.msc_import.specs.declared.importing.Language.{Language}
+use Rattle.msc_import.specs.declared.importing.Language.TheVariants as languages
+use Rattle.msc_import.specs.declared.importing.Refused.{Refused}
+use Rattle.msc_import.specs.declared.short_name.ShortName.{ShortName}
+use Rattle.msc_import.specs.declared.plan.Manner.{Manner}
+use Rattle.msc_import.specs.declared.statement.Cross.{Cross}
+use Rattle.msc_import.specs.declared.statement.Diagram.{Diagram}
+use Rattle.msc_import.specs.Counting.{scenarios}
+use Rattle.msc_import.specs.Drafting.{drawn, line_name}
+use Rattle.msc_import.specs.Gives.{◌>>=◌}
+use Rattle.msc_import.specs.Lines.{lines_of, trimmed}
+use Rattle.msc_import.specs.Mermaid.{is_head, mermaid}
+use Rattle.msc_import.specs.Naming.{names_behind}
+use Rattle.msc_import.specs.Places.{places}
+
+-- a line of the text begins with the word that a Mermaid diagram begins with
+abbrev pub begins_diagram : List ℕ → Bool
+begins_diagram text = list_any (λ line. is_head (trimmed line)) (lines_of text)
+
+-- the diagram of a text that is to be told by what it holds
+unfoldable pub told_by_content : Option Cross → List ℕ → Result Diagram ImportFault
+told_by_content cross text =
+    cond (nat_lt TEXT_LIMIT (length text)) (Err TooLong) (cond (begins_diagram text) (mermaid cross text) (Err (Expected (length (lines_of text)) expectations.AnyDiagram)))
+
+-- the diagram of a text in its language
+unfoldable pub diagram_in : Language → Option Cross → List ℕ → Result Diagram ImportFault
+diagram_in languages.Mermaid cross text = mermaid cross text
+diagram_in languages.Any cross text = told_by_content cross text
+
+-- the numbers of rounds that loops go, where scenarios are counted
+abbrev pub usual_rounds : List ℕ
+usual_rounds = 0 ∷ 2 ∷ []
+
+-- the choices of the scenario that is asked for: those that are given, else of a diagram of one scenario
+-- none
+unfoldable pub chosen : Option (List ℕ) → Diagram → Result (List ℕ) ImportFault
+chosen (Some given) d = Ok given
+chosen None d = cond (scenarios usual_rounds d == 1) (Ok []) (Err (Several (scenarios usual_rounds d)))
+
+-- what is wanted of a text: in which language it is, what arrows with a cross are, how the scenario is
+-- drawn, its choices, if they are given, and what the name of its chart is made of
+pub record Wanted : Type 0 where
+  pub language : Language
+  pub cross : Option Cross
+  pub manner : Manner
+  pub choices : Option (List ℕ)
+  pub name : List ℕ
+
+-- the same as the code has it
+abbrev pub wanted : Importing → Wanted
+wanted x = record {
+  language = x.language;
+  cross = x.cross;
+  manner = x.manner;
+  choices = option_map (λ c. c.now) x.choices;
+  name = x.name.now;
+}
+
+-- the draft of that scenario, and the places of its events
+unfoldable pub scenario_of : Wanted → Diagram → Result Imported ImportFault
+scenario_of x d = do
+  given ← chosen x.choices d
+  draft ← drawn x.manner x.name d given
+  at ← places x.manner d given
+  Ok (record { draft = draft; places = at })
+
+-- the bytes of a name that is held in place
+abbrev pub short_bytes : ShortName → List ℕ
+short_bytes name = take name.length name.bytes
+
+-- why nothing is imported: the first fault, and the name of the line that it speaks of, if it does
+pub record Refusal : Type 0 where
+  pub fault : ImportFault
+  pub name : List ℕ
+
+-- the same as the code has it
+abbrev pub seen : Refused → Refusal
+seen e = record { fault = e.fault; name = short_bytes e.name }
+
+-- the line of a diagram that a fault speaks of, by its name in charts, of which names have no more bytes
+abbrev pub line_shared : List (List ℕ) → ImportFault → List ℕ
+line_shared lines (Shared at line) = take NAME_LIMIT (line_name (names_behind [] lines) line)
+line_shared lines fault = []
+
+-- a fault of a diagram with these lines, with the name of the line that it speaks of
+abbrev pub with_name : List (List ℕ) → ImportFault → Refusal
+with_name lines fault = record { fault = fault; name = line_shared lines fault }
+
+-- what is answered of a diagram with these lines
+abbrev pub told_of : {A : Type 0} → List (List ℕ) → Result A ImportFault → Result A Refusal
+told_of lines (Ok x) = Ok x
+told_of lines (Err fault) = Err (with_name lines fault)
+
+-- what is imported of a diagram, if it is one
+unfoldable pub imported_of : Wanted → Result Diagram ImportFault → Result Imported Refusal
+imported_of x (Ok d) = told_of d.lines (scenario_of x d)
+imported_of x (Err fault) = Err (record { fault = fault; name = [] })
+
+-- what is imported of a text
+abbrev pub imported : Wanted → List ℕ → Result Imported Refusal
+imported x text = imported_of x (diagram_in x.language x.cross text)
+
+-- what the code refuses is what the definition says, unless memory ran out
+abbrev pub RefusesSo : Refused → Result Imported Refusal → Type 0
+RefusesSo e said = (e.fault ≡ Memory) ⊎ (said ≡ Err (seen e))
+
+-- what the code answers is what the definition says, unless memory ran out
+abbrev pub Imports : Result Imported Refused → Result Imported Refusal → Type 0
+Imports (Ok x) said = said ≡ Ok x
+Imports (Err e) said = RefusesSo e said

@@ -1,0 +1,50 @@
+-- What holds of every import.
+use Rattle.std.specs.Prelude.{◌≡◌, ℕ, Bool, true, false, not, List, [], map, Option, Some, Ok}
+use Rattle.std.specs.List.{flat_map, list_all, slice_get}
+use Rattle.msc_parser.specs.Drafts.{statements_in}
+use Rattle.msc_import.specs.declared.course.Step.{Step}
+use Rattle.msc_import.specs.declared.course.Step.TheVariants as steps
+use Rattle.msc_import.specs.declared.plan.Manner.{Manner}
+use Rattle.msc_import.specs.declared.plan.Own.{Own}
+use Rattle.msc_import.specs.declared.statement.Cross.{Cross}
+use Rattle.msc_import.specs.declared.statement.Diagram.{Diagram}
+use Rattle.msc_import.specs.declared.statement.Placed.{Placed}
+use Rattle.msc_import.specs.declared.statement.Statement.{Statement}
+use Rattle.msc_import.specs.declared.statement.Statement.TheVariants.{Declares, Says, Begins, Closes}
+use Rattle.msc_import.specs.Counting.{scenarios}
+use Rattle.msc_import.specs.Drafting.{drawn_event, section_of}
+use Rattle.msc_import.specs.Plans.{Event, Plan, plans_of, sides_on}
+use Rattle.msc_import.specs.Mermaid.{mermaid}
+
+-- the diagram of a text, where crosses are this
+abbrev pub HasDiagram : Option Cross → List ℕ → Diagram → Type 0
+HasDiagram cross text d = mermaid cross text ≡ Ok d
+
+-- a block begins
+abbrev pub is_begin : Statement → Bool
+is_begin (Begins kind) = true
+is_begin (Declares ident shown) = false
+is_begin (Says arrow) = false
+is_begin (Closes closer) = false
+
+-- a text has one diagram
+abbrev pub OneDiagram : Type 0
+OneDiagram =
+    (cross : Option Cross) (text : List ℕ) (d e : Diagram) → HasDiagram cross text d → HasDiagram cross text e → d ≡ e
+
+-- without a block there is one scenario
+abbrev pub NoBlocksOneScenario : Type 0
+NoBlocksOneScenario =
+    (rounds : List ℕ) (d : Diagram) → list_all (λ p. not (is_begin p.statement)) d.statements ≡ true → scenarios rounds d ≡ 1
+
+-- the ends that the arrow of a step has on a line, the upper one first
+abbrev pub ends_on : Own → ℕ → Step → List Event
+ends_on own line (steps.Meets m) = map (λ s. record { message = m; side = s }) (sides_on own line m)
+ends_on own line (steps.Opens text) = []
+ends_on own line steps.Next = []
+ends_on own line steps.Closes = []
+
+-- each line of a draft has the ends of the course's arrows in their order
+abbrev pub LinesKeepTheArrowsOrder : Type 0
+LinesKeepTheArrowsOrder =
+    (manner : Manner) (names : List (List ℕ)) (line : ℕ) (ident : List ℕ) (ps : List Placed) (ss : List Step) (lines : ℕ) (plans : List Plan) (p : Plan) → plans_of manner ss lines ≡ Ok plans → slice_get plans line ≡ Some p → flat_map statements_in (section_of names line ident ps p).items ≡ map (drawn_event names) (flat_map (ends_on manner.own line) ss)

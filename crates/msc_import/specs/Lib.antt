@@ -1,0 +1,19 @@
+-- what is promised
+pub mod Expectations
+pub mod Lines
+pub mod Keys
+pub mod Seeking
+pub mod Rows
+pub mod Gives
+pub mod Saying
+pub mod Outlines
+pub mod Reading
+pub mod Mermaid
+pub mod Naming
+pub mod Courses
+pub mod Counting
+pub mod Plans
+pub mod Drafting
+pub mod Places
+pub mod Importing
+pub mod Laws

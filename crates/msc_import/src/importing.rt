@@ -1,0 +1,191 @@
+//! Imports: from a text to the draft of one of its scenarios, with the places of its events.
+
+ghost use Rattle.std.specs.Prelude.{◌≡◌, ◌⊎◌, [], IfOk, option_map};
+ghost use Rattle.std.specs.List.{list_any};
+ghost use Rattle.msc_import.specs.Drafting.{IsReadAgain};
+ghost use Rattle.msc_import.specs.Gives.{Gives};
+ghost use Rattle.msc_import.specs.Importing.{Imports, chosen, diagram_in};
+ghost use Rattle.msc_import.specs.Importing.{imported, scenario_of, seen, short_bytes};
+ghost use Rattle.msc_import.specs.Importing.{told_by_content, wanted, with_name};
+ghost use Rattle.msc_import.specs.Lines.{trimmed};
+ghost use Rattle.msc_import.specs.Mermaid.{is_head};
+ghost use Rattle.msc_import.specs.declared.fault.ImportFault.TheVariants.{Memory};
+
+use crate::SCENARIO_ROUNDS;
+use crate::counting::scenarios;
+use crate::drafting::line_name;
+use crate::drawing::draw;
+use crate::fault::{Expectation, ImportFault};
+use crate::line_name::names_of;
+use crate::lines::{lines_of, trimmed};
+use crate::mermaid::{diagram_of, is_head};
+use crate::placing::places;
+use crate::plan::Manner;
+use crate::short_name::ShortName;
+use crate::statement::{Cross, Diagram};
+use listed::Listed;
+use msc_lexer::TEXT_LIMIT;
+use msc_parser::Draft;
+use msc_place::Position;
+use std::alloc::Global;
+
+/// In which language a text draws its diagram.
+#[derive(Clone, Copy, Debug, PartialEq, Eq)]
+pub enum Language {
+    /// Mermaid's sequence diagrams.
+    Mermaid,
+    /// The language that the text itself tells: that of the first line that begins a diagram.
+    Any,
+}
+
+/// What is imported of a text, and how.
+#[derive(Clone, Copy)]
+pub struct Importing<'a> {
+    pub language: Language,
+    /// What arrows with a cross are; where it isn't said, one that may be either is a fault.
+    pub cross: Option<Cross>,
+    pub manner: Manner,
+    /// The choices of the scenario, in the order in which blocks are met; where none are given, the
+    /// diagram has to have one scenario.
+    pub choices: Option<&'a [usize]>,
+    /// What the name of the chart is made of.
+    pub name: &'a [u8],
+}
+
+/// What was imported: a draft, and where in the text the arrows of its events begin, in their order.
+#[derive(Drop)]
+pub struct Imported {
+    pub draft: Draft,
+    pub places: Listed<Position>,
+}
+
+/// Why nothing was imported: the first fault, and the name of the line of the diagram that it speaks
+/// of, if it does.
+#[derive(Clone, Copy)]
+pub struct Refused {
+    pub fault: ImportFault,
+    pub name: ShortName,
+}
+
+/// Whether a line of the text begins a diagram.
+fn begins_diagram(lines: &[&[u8]]) -> bool
+    ensures { result ≡ list_any (λ line. is_head (trimmed line.now)) lines.now }
+{
+    lines.iter().any(|line| is_head(trimmed(line)))
+}
+
+/// The diagram of a text that is to be told by what it holds.
+#[tactic(auto, unfolding(crate::specs::Importing::told_by_content))]
+fn told_by_content(alloc: Global, cross: Option<Cross>, text: &[u8]) -> Result<Diagram, ImportFault>
+    ensures { Gives (λ x. x) result (told_by_content cross text.now) }
+{
+    if text.len() > TEXT_LIMIT {
+        return Err(ImportFault::TooLong);
+    }
+    let lines = lines_of(alloc, text)?;
+    if !begins_diagram(lines.as_slice()) {
+        return Err(ImportFault::Expected(lines.len(), Expectation::AnyDiagram));
+    }
+    diagram_of(alloc, cross, text)
+}
+
+/// The diagram of a text in its language.
+#[tactic(auto, unfolding(crate::specs::Importing::diagram_in))]
+fn diagram_in(
+    alloc: Global,
+    language: Language,
+    cross: Option<Cross>,
+    text: &[u8],
+) -> Result<Diagram, ImportFault>
+    ensures { Gives (λ x. x) result (diagram_in language cross text.now) }
+{
+    match language {
+        Language::Mermaid => diagram_of(alloc, cross, text),
+        Language::Any => told_by_content(alloc, cross, text),
+    }
+}
+
+/// The choices of the scenario that is asked for.
+#[tactic(auto, unfolding(crate::specs::Importing::chosen))]
+fn chosen<'a>(
+    alloc: Global,
+    choices: Option<&'a [usize]>,
+    diagram: &Diagram,
+) -> Result<&'a [usize], ImportFault>
+    ensures { Gives (λ x. x.now) result (chosen (option_map (λ c. c.now) choices.entry) diagram.now) }
+{
+    if let Some(given) = choices {
+        return Ok(given);
+    }
+    let count = scenarios(alloc, diagram, &SCENARIO_ROUNDS)?;
+    if count != 1 {
+        return Err(ImportFault::Several(count));
+    }
+    Ok(&[])
+}
+
+/// The draft of that scenario, and the places of its events.
+#[tactic(auto, unfolding(crate::specs::Importing::scenario_of))]
+fn scenario_of(
+    alloc: Global,
+    importing: Importing<'_>,
+    diagram: &Diagram,
+) -> Result<Imported, ImportFault>
+    ensures given { Gives (λ x. x) result (scenario_of (wanted importing.entry) diagram.now) }
+    ensures again { IfOk result (λ x. IsReadAgain x.draft) }
+{
+    let given = chosen(alloc, importing.choices, diagram)?;
+    let draft = draw(alloc, diagram, given, importing.manner, importing.name)?;
+    let found = places(alloc, diagram, given, importing.manner)?;
+    Ok(Imported {
+        draft,
+        places: Listed::from_vec(found),
+    })
+}
+
+/// A fault of a diagram, with the name of the line that it speaks of.
+fn with_name(alloc: Global, diagram: &Diagram, fault: ImportFault) -> Refused
+    ensures { (result.fault ≡ Memory) ⊎ (seen result ≡ with_name diagram.now.lines fault) }
+{
+    let ImportFault::Shared(_, line) = fault else {
+        return unnamed(fault);
+    };
+    match names_of(alloc, diagram.lines.as_slice()) {
+        Ok(names) => Refused {
+            fault,
+            name: ShortName::of(line_name(names.as_slice(), line)),
+        },
+        Err(_) => unnamed(ImportFault::Memory),
+    }
+}
+
+/// A fault that speaks of no line of a diagram.
+fn unnamed(fault: ImportFault) -> Refused
+    ensures fault { result.fault ≡ fault }
+    ensures name { short_bytes result.name ≡ [] }
+{
+    Refused {
+        fault,
+        name: ShortName::of(&[]),
+    }
+}
+
+/// What is imported of a text: the draft of the scenario that is asked for, with the places of its
+/// events. An error is the first fault of the text; where no choices are given, that the diagram has
+/// several scenarios; the first fault of the scenario; or a growth of memory that was refused.
+#[tactic(auto, unfolding(crate::specs::Importing::imported_of))]
+pub fn import(alloc: Global, importing: Importing<'_>, text: &[u8]) -> Result<Imported, Refused>
+    ensures given { Imports result (imported (wanted importing.entry) text.now) }
+
+    // The text of the draft is read again, as this draft.
+    ensures again { IfOk result (λ x. IsReadAgain x.draft) }
+{
+    let diagram = match diagram_in(alloc, importing.language, importing.cross, text) {
+        Ok(diagram) => diagram,
+        Err(fault) => return Err(unnamed(fault)),
+    };
+    match scenario_of(alloc, importing, &diagram) {
+        Ok(imported) => Ok(imported),
+        Err(fault) => Err(with_name(alloc, &diagram, fault)),
+    }
+}

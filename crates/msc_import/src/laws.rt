@@ -1,0 +1,19 @@
+//! Laws of imports, over the definitions alone. The functions do nothing when they run: a caller
+//! calls one to rest its own proof on the law.
+
+ghost use Rattle.msc_import.specs.Laws.{LinesKeepTheArrowsOrder, NoBlocksOneScenario, OneDiagram};
+
+/// A text has one diagram.
+pub fn one_diagram()
+    ensures { OneDiagram }
+{}
+
+/// Without a block there is one scenario.
+pub fn no_blocks_one_scenario()
+    ensures { NoBlocksOneScenario }
+{}
+
+/// Each line of a draft has the ends of the course's arrows in their order.
+pub fn lines_keep_the_arrows_order()
+    ensures { LinesKeepTheArrowsOrder }
+{}

@@ -1,0 +1,297 @@
+//! What each line of a diagram has of a course: ends of messages, in segments.
+
+ghost use Rattle.std.specs.Prelude.{◌≡◌, [], IfOk, OnOk, map, replicate};
+ghost use Rattle.msc_import.specs.Plans.{closed_last, is_coregion, is_refused, last_frame};
+ghost use Rattle.msc_import.specs.Plans.{marked, marked_last, opened};
+ghost use Rattle.msc_import.specs.Plans.{planned, planned_all, plans_of, seen, sides_on};
+ghost use Rattle.msc_import.specs.Plans.{unplanned, with_event, with_sides};
+ghost use Rattle.msc_import.specs.Gives.{Gives};
+ghost use Rattle.msc_import.specs.Reading.{Leaves};
+
+use crate::course::{Message, Step};
+use crate::fault::ImportFault;
+use std::alloc::{AllocError, Global};
+use std::marker::Model;
+
+/// What an arrow to oneself is.
+#[derive(Clone, Copy, Debug, PartialEq, Eq)]
+pub enum Own {
+    /// An action.
+    Action,
+    /// An output, then its input.
+    Message,
+}
+
+/// What parallel branches are that are no coregion on a line: where several have segments there, and
+/// one has more than one.
+#[derive(Clone, Copy, Debug, PartialEq, Eq)]
+pub enum Par {
+    /// A fault.
+    Refused,
+    /// One below the other on that line, in the order of the text.
+    Drawn,
+}
+
+/// How a scenario is drawn.
+#[derive(Clone, Copy, Debug, PartialEq, Eq)]
+pub struct Manner {
+    pub own: Own,
+    pub par: Par,
+}
+
+/// An end of a message.
+#[derive(Clone, Copy)]
+pub(crate) enum Side {
+    /// Its output.
+    Out,
+    /// Its input.
+    In,
+    /// Both: an action.
+    Own,
+    /// The output of what nobody takes.
+    Lost,
+}
+
+/// An end of this message.
+#[derive(Clone, Copy)]
+pub(crate) struct Planned<'s> {
+    pub message: &'s Message,
+    pub side: Side,
+}
+
+/// A par: where it begins in the text; how many segments stood before it, and before its latest
+/// branch; whether a branch has segments, whether several have, and whether one has several.
+#[derive(Clone, Copy)]
+pub(crate) struct Frame {
+    pub line: usize,
+    pub start: usize,
+    pub mark: usize,
+    pub busy: bool,
+    pub several: bool,
+    pub wide: bool,
+}
+
+/// What a line has so far: its events, how many there are up to the end of each of its segments,
+/// and the pars that are open, the innermost one last.
+#[derive(Drop)]
+pub(crate) struct Plan<'s> {
+    events: Vec<Planned<'s>>,
+    ends: Vec<usize>,
+    frames: Vec<Frame>,
+}
+
+impl<'s> Model for Plan<'s> {
+    ghost use Rattle.std.specs.Prelude.{map};
+    ghost use Rattle.msc_import.specs.Plans.{Event, Plan as Drawing};
+
+    ghost Value = { Drawing };
+
+    ghost view = { λ p. record {
+      events = map (λ e. record { message = e.message.now; side = e.side }) p.events.items;
+      ends = p.ends.items;
+      frames = p.frames.items;
+    } };
+}
+
+/// The ends of a message on a line, the upper one first.
+#[tactic(auto, unfolding(crate::specs::Plans::sides_on))]
+fn sides_on(own: Own, line: usize, message: &Message) -> &'static [Side]
+    ensures { result.now ≡ sides_on own line message.now }
+{
+    if message.lost {
+        return if message.from == line {
+            &[Side::Lost]
+        } else {
+            &[]
+        };
+    }
+    if message.from != line {
+        return if message.to == line { &[Side::In] } else { &[] };
+    }
+    if message.to != line {
+        return &[Side::Out];
+    }
+    match own {
+        Own::Action => &[Side::Own],
+        Own::Message => &[Side::Out, Side::In],
+    }
+}
+
+/// Whether several branches of a par have a segment each, and none has more.
+fn is_coregion(frame: Frame) -> bool
+    ensures { result ≡ is_coregion frame }
+{
+    frame.several && !frame.wide
+}
+
+impl Par {
+    /// Whether a par is refused.
+    fn is_refused(self, frame: Frame) -> bool
+        ensures { result ≡ is_refused self frame }
+    {
+        match self {
+            Par::Refused => frame.several && frame.wide,
+            Par::Drawn => false,
+        }
+    }
+}
+
+/// The par behind one branch more, when there are so many segments.
+fn marked(segments: usize, frame: Frame) -> Frame
+    ensures { result ≡ marked segments frame }
+{
+    Frame {
+        line: frame.line,
+        start: frame.start,
+        mark: segments,
+        busy: frame.busy || frame.mark < segments,
+        several: frame.several || (frame.busy && frame.mark < segments),
+        wide: frame.wide || segments.saturating_sub(frame.mark) > 1,
+    }
+}
+
+impl<'s> Plan<'s> {
+    /// Nothing is planned.
+    fn new(alloc: Global) -> Self
+        ensures { result ≡ unplanned }
+    {
+        Plan {
+            events: Vec::new(alloc),
+            ends: Vec::new(alloc),
+            frames: Vec::new(alloc),
+        }
+    }
+
+    /// The events.
+    pub(crate) fn events(&self) -> &[Planned<'s>]
+        ensures { map seen result.now ≡ self.now.events }
+    {
+        self.events.as_slice()
+    }
+
+    /// How many there are up to the end of each segment.
+    pub(crate) fn ends(&self) -> &[usize]
+        ensures { result.now ≡ self.now.ends }
+    {
+        self.ends.as_slice()
+    }
+
+    /// Puts one event more, which is a segment.
+    fn put(&mut self, message: &'s Message, side: Side) -> Result<(), AllocError>
+        ensures { OnOk result
+            (self.new ≡ with_event self.old (record { message = message.now; side = side })) }
+    {
+        self.events.push(Planned { message, side })?;
+        self.ends.push(self.events.len())?;
+        Ok(())
+    }
+
+    /// Puts these ends of a message more.
+    fn put_sides(&mut self, message: &'s Message, sides: &[Side]) -> Result<(), AllocError>
+        ensures { OnOk result (self.new ≡ with_sides message.now sides.now self.old) }
+    {
+        for side in sides {
+            self.put(message, *side)?;
+        }
+        Ok(())
+    }
+
+    /// Begins a par, on this line of the text.
+    fn open(&mut self, line: usize) -> Result<(), AllocError>
+        ensures { OnOk result (self.new ≡ opened line self.old) }
+    {
+        let segments = self.ends.len();
+        self.frames.push(Frame {
+            line,
+            start: segments,
+            mark: segments,
+            busy: false,
+            several: false,
+            wide: false,
+        })?;
+        Ok(())
+    }
+
+    /// Goes to the next branch of the innermost par.
+    fn mark_last(&mut self) -> Result<(), AllocError>
+        ensures { OnOk result (self.new ≡ marked_last self.old (last_frame self.old)) }
+    {
+        let segments = self.ends.len();
+        if let Some(frame) = self.frames.pop() {
+            self.frames.push(marked(segments, frame))?;
+        }
+        Ok(())
+    }
+
+    /// Ends the innermost par, on this line of the diagram.
+    fn close_last(&mut self, par: Par, line: usize) -> Result<(), ImportFault>
+        ensures { Leaves result self.new (closed_last par line self.old (last_frame self.old)) }
+    {
+        let Some(frame) = self.frames.pop() else {
+            return Ok(());
+        };
+        if par.is_refused(frame) {
+            return Err(ImportFault::Shared(frame.line, line));
+        }
+        if is_coregion(frame) {
+            self.ends.truncate(frame.start);
+            self.ends.push(self.events.len())?;
+        }
+        Ok(())
+    }
+
+    /// Plans one step more, on this line of the diagram.
+    #[tactic(auto, unfolding(crate::specs::Plans::planned))]
+    fn step(&mut self, manner: Manner, line: usize, step: &'s Step) -> Result<(), ImportFault>
+        ensures { Leaves result self.new (planned manner line step.now self.old) }
+    {
+        match step {
+            Step::Meets(message) => self.put_sides(message, sides_on(manner.own, line, message))?,
+            Step::Opens(text) => self.open(*text)?,
+            Step::Next => self.mark_last()?,
+            Step::Closes => return self.close_last(manner.par, line),
+        }
+        Ok(())
+    }
+}
+
+/// All lines take a step, the first line first.
+fn step_all<'s>(
+    plans: &mut Vec<Plan<'s>>,
+    manner: Manner,
+    step: &'s Step,
+) -> Result<(), ImportFault>
+    ensures { Leaves result plans.new.items (planned_all manner step.now [] plans.old.items) }
+{
+    for line in 0..plans.len() {
+        plans[line].step(manner, line, step)?;
+    }
+    Ok(())
+}
+
+/// So many lines of which nothing is planned.
+fn unplanned<'s>(alloc: Global, lines: usize) -> Result<Vec<Plan<'s>>, AllocError>
+    ensures { IfOk result (λ v. v.items ≡ replicate lines unplanned) }
+{
+    let mut plans = Vec::new(alloc);
+    for _ in 0..lines {
+        plans.push(Plan::new(alloc))?;
+    }
+    Ok(plans)
+}
+
+/// What so many lines have of these steps; or the first par that one of them refuses.
+pub(crate) fn plans_of<'s>(
+    alloc: Global,
+    manner: Manner,
+    lines: usize,
+    steps: &'s [Step],
+) -> Result<Vec<Plan<'s>>, ImportFault>
+    ensures { Gives (λ v. v.items) result (plans_of manner steps.now lines) }
+{
+    let mut plans = unplanned(alloc, lines)?;
+    for step in steps {
+        step_all(&mut plans, manner, step)?;
+    }
+    Ok(plans)
+}

@@ -1,0 +1,13 @@
+-- what is promised
+pub mod Readiness
+pub mod Sticks
+pub mod Finishing
+pub mod Running
+pub mod Laws
+pub mod Held
+pub mod Views
+-- what the code keeps
+pub mod Plain
+pub mod Lesser
+pub mod Looking
+pub mod Beginnings

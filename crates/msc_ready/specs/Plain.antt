@@ -1,0 +1,29 @@
+-- The part of the ready order that lines and messages alone give.
+use Rattle.std.specs.Prelude.{◌≡◌, ℕ, ◌⊎◌, Bool, false, IsTrue}
+use Rattle.msc_chart.specs.Charts.{line, partner, is_output, is_input, is_controlled, before}
+use Rattle.msc_chart.specs.Orders.{WiredChart, queue}
+
+-- the least transitive relation that holds what is drawn before a controlled event or an input of a
+-- ready line, and an output before its input
+pub data Plain (chart : WiredChart) (ready : ℕ → Bool) : ℕ → ℕ → Type 0 where
+  plain_drawn : {x s : ℕ} → IsTrue (before chart.events x s) → IsTrue (is_controlled chart.events s) → Plain chart ready x s
+  plain_awaited : {x r : ℕ} → IsTrue (before chart.events x r) → IsTrue (is_input chart.events r)
+      → IsTrue (ready (line chart.events r)) → Plain chart ready x r
+  plain_sent : {s r : ℕ} → IsTrue (is_output chart.events s) → partner chart.events s ≡ r → Plain chart ready s r
+  plain_joined : {x y z : ℕ} → Plain chart ready x y → Plain chart ready y z → Plain chart ready x z
+
+-- x is y, or stands before it so
+abbrev pub IsPlainUpTo : WiredChart → (ℕ → Bool) → ℕ → ℕ → Type 0
+IsPlainUpTo chart ready x y = (x ≡ y) ⊎ Plain chart ready x y
+
+-- r and u are inputs of one queue whose line is not ready, and their outputs stand so in this order
+pub record AreMates (chart : WiredChart) (ready : ℕ → Bool) (r u : ℕ) : Type 0 where
+  pub first : IsTrue (is_input chart.events r)
+  pub second : IsTrue (is_input chart.events u)
+  pub one_queue : queue chart r ≡ queue chart u
+  pub loose : ready (line chart.events u) ≡ false
+  pub outputs : Plain chart ready (partner chart.events r) (partner chart.events u)
+
+-- x stands before y over one use of the rule of queues, from x itself
+abbrev pub GoesOver : WiredChart → (ℕ → Bool) → ℕ → ℕ → Type 0
+GoesOver chart ready x y = (u : ℕ) × AreMates chart ready x u × IsPlainUpTo chart ready u y

@@ -1,0 +1,209 @@
+//! A chart under an architecture, with its ready instances.
+//!
+//! The visual order is kept with it: whichever instances are ready, the ready order is told by it.
+
+ghost use Rattle.std.specs.Prelude.{◌≡◌, ℕ, ◌<◌, ◌↔◌, [], length, nat_eq, IfOk, IsTrue};
+ghost use Rattle.msc_chart.specs.Charts.{is_input, line};
+ghost use Rattle.msc_chart.specs.Orders.{queue};
+ghost use Rattle.msc_chart.specs.Drawings.{IsAccepted};
+ghost use Rattle.msc_order.specs.Tables.{orders};
+ghost use Rattle.msc_ready.specs.Held.{HasVisualOrder, ready_in, ready_of, wiring_of};
+ghost use Rattle.msc_ready.specs.Sticks.{is_awaited, is_lined, is_stick, IsStick};
+
+use msc_chart::laws::{ends_share_queues, inputs_share_lines};
+use msc_chart::{Chart, Event, Queues, Wiring};
+use msc_order::Order;
+use std::alloc::{AllocError, Global};
+use std::marker::Model;
+
+/// A chart under an architecture, which of its lines are ready, and its visual order. Contracts see
+/// these four.
+#[derive(Drop)]
+pub struct Ready<'a> {
+    chart: &'a Chart,
+    queues: Queues,
+    lines: Vec<bool>,
+    order: Order,
+}
+
+impl<'a> Model for Ready<'a> {
+    ghost use Rattle.msc_ready.specs.Held.{ReadyChart, ready_chart, HasVisualOrder};
+
+    ghost Value = { ReadyChart };
+
+    ghost view = { λ r. ready_chart r.chart.now r.queues r.lines.items r.order };
+
+    ghost invariant = { λ r.
+        HasVisualOrder (ready_chart r.chart.now r.queues r.lines.items r.order) };
+}
+
+impl<'a> Ready<'a> {
+    /// A chart under an architecture, all of whose instances are ready. An error is a growth of
+    /// memory that was refused.
+    pub fn all(alloc: Global, chart: &'a Chart, queues: Queues) -> Result<Ready<'a>, AllocError>
+        ensures chart { IfOk result (λ ready. ready.chart ≡ chart.now) }
+        ensures queues { IfOk result (λ ready. ready.queues ≡ queues) }
+        ensures lines { IfOk result (λ ready. ready.lines ≡ []) }
+    {
+        Ready::some(alloc, chart, queues, Vec::new(alloc))
+    }
+
+    /// A chart under an architecture, where those instances are ready of which the list says so, or
+    /// says nothing. An error is a growth of memory that was refused.
+    pub fn some(
+        alloc: Global,
+        chart: &'a Chart,
+        queues: Queues,
+        lines: Vec<bool>,
+    ) -> Result<Ready<'a>, AllocError>
+        ensures chart { IfOk result (λ ready. ready.chart ≡ chart.now) }
+        ensures queues { IfOk result (λ ready. ready.queues ≡ queues) }
+        ensures lines { IfOk result (λ ready. ready.lines ≡ lines.items) }
+    {
+        let order = Order::visual(alloc, chart)?;
+        Ok(Ready {
+            chart,
+            queues,
+            lines,
+            order,
+        })
+    }
+
+    /// The chart.
+    pub fn chart(&self) -> &'a Chart
+        ensures { result.now ≡ self.now.chart }
+    {
+        self.chart
+    }
+
+    /// The architecture.
+    pub fn queues(&self) -> Queues
+        ensures { result ≡ self.now.queues }
+    {
+        self.queues
+    }
+
+    /// The chart under the architecture.
+    pub fn wiring(&self) -> Wiring<'a>
+        ensures chart { result.chart.now ≡ self.now.chart }
+        ensures queues { result.queues ≡ self.now.queues }
+    {
+        Wiring {
+            chart: self.chart,
+            queues: self.queues,
+        }
+    }
+
+    /// What every such chart keeps. It does nothing; a caller calls it to rest its own proof on
+    /// that.
+    pub fn kept(&self)
+        ensures order { HasVisualOrder self.now }
+        ensures chart { IsAccepted self.now.chart }
+    {
+        let chart = self.chart;
+        chart.accepted();
+    }
+
+    /// How many events the chart has. It takes no memory.
+    pub fn events(&self) -> u32
+        ensures { result ≡ length self.now.chart.events }
+    {
+        self.chart.events()
+    }
+
+    /// Whether line `i` is ready. It takes no memory.
+    pub fn is_ready(&self, i: u32) -> bool
+        ensures { result ≡ ready_in self.now i }
+    {
+        match self.lines.get(i as usize) {
+            Some(ready) => *ready,
+            None => true,
+        }
+    }
+
+    /// Whether `e` stands before `f` in the visual order.
+    pub(crate) fn precedes(&self, e: Event, f: Event) -> bool
+        requires e_known { e < length self.now.chart.events }
+        requires f_known { f < length self.now.chart.events }
+        ensures { result ≡ orders self.now.order e f }
+    {
+        self.order.holds(e, f)
+    }
+
+    /// Whether event `e` is an input. It takes no memory.
+    pub fn is_input(&self, e: Event) -> bool
+        requires { e < length self.now.chart.events }
+        ensures { result ≡ is_input self.now.chart.events e }
+    {
+        let chart = self.chart();
+        !chart.is_controlled(e)
+    }
+
+    /// Whether `e` is drawn before `f`, and the line of `f` is ready.
+    fn is_awaited(&self, e: Event, f: Event) -> bool
+        requires e_known { e < length self.now.chart.events }
+        requires f_known { f < length self.now.chart.events }
+        ensures { result ≡ is_awaited (wiring_of self.now) (ready_in self.now) e f }
+    {
+        let chart = self.chart();
+        let above = chart.before(e, f);
+        if !above {
+            return false;
+        }
+        self.is_ready(chart.instance_of(f))
+    }
+
+    /// Whether the inputs `e` and `f` are of one queue.
+    pub(crate) fn share_queue(&self, e: Event, f: Event) -> bool
+        requires e_input { IsTrue (is_input self.now.chart.events e) }
+        requires f_input { IsTrue (is_input self.now.chart.events f) }
+        ensures { result ≡ nat_eq (queue (wiring_of self.now) e) (queue (wiring_of self.now) f) }
+    {
+        let wiring = self.wiring();
+        wiring.queue(e) == wiring.queue(f)
+    }
+
+    /// Whether these are two inputs of one queue, `e` drawn before `f` on a ready line.
+    pub(crate) fn is_lined(&self, e: Event, f: Event) -> bool
+        requires e_known { e < length self.now.chart.events }
+        requires f_known { f < length self.now.chart.events }
+        ensures { result ≡ is_lined (wiring_of self.now) (ready_in self.now) e f }
+    {
+        if !self.is_awaited(e, f) {
+            return false;
+        }
+        if !self.is_input(e) {
+            return false;
+        }
+        if !self.is_input(f) {
+            return false;
+        }
+        self.share_queue(e, f)
+    }
+
+    /// Whether two events are a stick. Both are numbers of events, from 0. It takes no memory.
+    pub fn is_stick(&self, e: Event, f: Event) -> bool
+        requires e_known { e < length self.now.chart.events }
+        requires f_known { f < length self.now.chart.events }
+        ensures value { result
+            ≡ is_stick (wiring_of self.now) (ready_in self.now) self.now.order e f }
+        ensures exact { IsTrue result ↔ IsStick (wiring_of self.now) (ready_in self.now) e f }
+    {
+        self.sticks_are_told();
+        if !self.is_lined(e, f) {
+            return false;
+        }
+        let chart = self.chart();
+        !self.precedes(chart.other_end(e), chart.other_end(f))
+    }
+
+    /// What the test for sticks says. It does nothing.
+    pub(crate) fn sticks_are_told(&self)
+        ensures { (e f : ℕ) → IsTrue (is_stick (wiring_of self.now) (ready_in self.now)
+            self.now.order e f) ↔ IsStick (wiring_of self.now) (ready_in self.now) e f }
+    {
+        self.kept();
+        ends_share_queues();
+        inputs_share_lines();
+    }
+}

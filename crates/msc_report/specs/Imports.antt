@@ -1,0 +1,52 @@
+-- The lines that faults of imports are printed as, and the list of what was imported. This project's own
+-- formats.
+use Rattle.std.specs.Prelude.{ℕ, cond, nat_le, List, ◌++◌, Some, codes}
+use Rattle.std.specs.Fmt.{decimal}
+use Rattle.msc_chart.specs.Drawings.{Drawing}
+use Rattle.msc_import.specs.Expectations.{closer_word, expectation}
+use Rattle.msc_import.specs.Keys.{head_text}
+use Rattle.msc_import.specs.declared.TheConstants.{SCENARIO_LIMIT}
+use Rattle.msc_import.specs.declared.fault.ImportFault.{ImportFault}
+use Rattle.msc_import.specs.declared.fault.ImportFault.TheVariants as imports
+use Rattle.msc_import.specs.Importing.{Refusal}
+use Rattle.msc_place.specs.Sites.{sites_in}
+use Rattle.msc_place.specs.declared.position.Position.{Position}
+use Rattle.msc_report.specs.Lists.{listed_text}
+use Rattle.msc_report.specs.Texts.{text_line}
+
+-- the line of a fault by its number, on a line of the text
+abbrev pub import_line : ℕ → ℕ → List ℕ → List ℕ
+import_line number line words =
+    codes "import fault " ++ (decimal number ++ (codes " at " ++ (decimal line ++ (codes ": " ++ text_line words))))
+
+-- the line of a diagram that has several scenarios, so many or more than are counted
+abbrev pub several_line : ℕ → List ℕ
+several_line count =
+    cond (nat_le count SCENARIO_LIMIT) (codes "import fault 12: " ++ (decimal count ++ text_line (codes " scenarios, say --choose or --into"))) (text_line (codes "import fault 12: more than 4096 scenarios, say --choose"))
+
+-- the line of a fault of an import, and of the name that it speaks of
+abbrev pub import_fault_line : ImportFault → List ℕ → List ℕ
+import_fault_line imports.TooLong name = text_line (codes "import fault 1: text longer than 1048576 bytes")
+import_fault_line (imports.Expected line what) name = codes "import fault 2 at " ++ (decimal line ++ (codes ": expected " ++ text_line (expectation what)))
+import_fault_line (imports.Unsupported line head) name = codes "import fault 3 at " ++ (decimal line ++ (codes ": " ++ (head_text head ++ text_line (codes " is not supported"))))
+import_fault_line (imports.Unended line) name = import_line 4 line (codes "block without end")
+import_fault_line (imports.Outside line word) name = codes "import fault 5 at " ++ (decimal line ++ (codes ": " ++ (closer_word word ++ text_line (codes " outside of its block"))))
+import_fault_line (imports.TooDeep line) name = import_line 6 line (codes "more than 10 blocks inside each other")
+import_fault_line (imports.TooManyLines line) name = import_line 7 line (codes "more than 32 instances")
+import_fault_line (imports.Cross line) name = import_line 9 line (codes "say --cross lost or --cross arrives")
+import_fault_line (imports.Several count) name = several_line count
+import_fault_line (imports.Choice line choice most) name =
+    codes "import fault 13 at " ++ (decimal line ++ (codes ": choice " ++ (decimal choice ++ (codes " is more than " ++ text_line (decimal most)))))
+import_fault_line (imports.TooManyChoices given met) name =
+    codes "import fault 14: " ++ (decimal given ++ (codes " choices for " ++ (decimal met ++ text_line (codes " blocks"))))
+import_fault_line (imports.TooManyArrows line) name = import_line 15 line (codes "more than 1024 arrows")
+import_fault_line (imports.Shared line at) name = codes "import fault 16 at " ++ (decimal line ++ (codes ": parallel branches share " ++ text_line name))
+import_fault_line imports.Memory name = text_line (codes "memory fault")
+
+-- the line of why nothing is imported
+abbrev pub import_refusal_line : Refusal → List ℕ
+import_refusal_line refused = import_fault_line refused.fault refused.name
+
+-- the events of a chart, with these places of a file
+abbrev pub placed_list : Drawing → List ℕ → List Position → List ℕ
+placed_list d file places = listed_text d (Some (sites_in file places))
