@@ -5,3 +5,4 @@ pub mod Listing
 pub mod Ahead
 pub mod Begun
 pub mod Left
+pub mod Putting

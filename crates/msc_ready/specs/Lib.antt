@@ -8,6 +8,7 @@ pub mod Held
 pub mod Views
 -- what the code keeps
 pub mod Plain
+pub mod Rows
 pub mod Lesser
 pub mod Looking
 pub mod Beginnings

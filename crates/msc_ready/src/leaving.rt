@@ -1,16 +1,51 @@
 //! The races that are left, event by event: they are counted and told without a list of all of
 //! them.
 
-ghost use Rattle.std.specs.Prelude.{◌≡◌, ℕ, ◌<◌, ◌≤◌, ◌++◌, Bool, length, OnOk};
-ghost use Rattle.msc_chart.specs.Lists.{pairs_of, pairs_to};
+ghost use Rattle.std.specs.Prelude.{◌≡◌, ℕ, ◌<◌, ◌≤◌, ◌↔◌, ◌++◌, Bool, length, IsTrue, MatchOption};
+ghost use Rattle.std.specs.Prelude.{OnOk};
+ghost use Rattle.msc_chart.specs.Lists.{pairs_of, pairs_to, IsLeast};
 ghost use Rattle.msc_ready.specs.Held.{ready_in, wiring_of};
-ghost use Rattle.msc_ready.specs.Sticks.{AreLeft};
+ghost use Rattle.msc_ready.specs.Sticks.{AreLeft, IsRaceLeft};
 
 use crate::ready::Ready;
 use msc_chart::Event;
 use std::alloc::AllocError;
 
 impl Ready<'_> {
+    /// Whether two events are a race that is left: a pair that is drawn on a line that is not
+    /// ready, in an order which is not that of the ready order. Both are numbers of events, from 0.
+    /// It takes no memory.
+    pub fn is_race_left(&self, e: Event, f: Event) -> bool
+        requires e_known { e < length self.now.chart.events }
+        requires f_known { f < length self.now.chart.events }
+        ensures { IsTrue result ↔ IsRaceLeft (wiring_of self.now) (ready_in self.now) e f }
+    {
+        let chart = self.chart();
+        if !chart.before(e, f) {
+            return false;
+        }
+        if self.is_ready(chart.instance_of(e)) {
+            return false;
+        }
+        !self.holds(e, f)
+    }
+
+    /// The least event from `start` on with which `e` is a race that is left, if there is one. It
+    /// takes no memory.
+    pub fn next_race_left(&self, e: Event, start: Event) -> Option<Event>
+        requires { e < length self.now.chart.events }
+        ensures { MatchOption result ((f : ℕ) → start ≤ f
+            → IsRaceLeft (wiring_of self.now) (ready_in self.now) e f → ⊥)
+            (IsLeast (λ f. (start ≤ f) × IsRaceLeft (wiring_of self.now) (ready_in self.now) e f)) }
+    {
+        for f in start..self.events() {
+            if self.is_race_left(e, f) {
+                return Some(f);
+            }
+        }
+        None
+    }
+
     /// Appends the races that are left whose first event is `e`, ascending. An error is a growth of
     /// memory that was refused.
     pub fn push_left(&self, list: &mut Vec<(Event, Event)>, e: Event) -> Result<(), AllocError>

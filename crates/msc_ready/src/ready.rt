@@ -1,6 +1,7 @@
 //! A chart under an architecture, with its ready instances.
 //!
 //! The visual order is kept with it: whichever instances are ready, the ready order is told by it.
+//! Where a list says which are, the rows of the ready order are made of it once.
 
 ghost use Rattle.std.specs.Prelude.{◌≡◌, ℕ, ◌<◌, ◌↔◌, [], length, nat_eq, IfOk, IsTrue};
 ghost use Rattle.msc_chart.specs.Charts.{is_input, line};
@@ -8,8 +9,10 @@ ghost use Rattle.msc_chart.specs.Orders.{queue};
 ghost use Rattle.msc_chart.specs.Drawings.{IsAccepted};
 ghost use Rattle.msc_order.specs.Tables.{orders};
 ghost use Rattle.msc_ready.specs.Held.{HasVisualOrder, ready_in, ready_of, wiring_of};
+ghost use Rattle.msc_ready.specs.Readiness.{ReadyOrder};
 ghost use Rattle.msc_ready.specs.Sticks.{is_awaited, is_lined, is_stick, IsStick};
 
+use bit_rows::table::has;
 use msc_chart::laws::{ends_share_queues, inputs_share_lines};
 use msc_chart::{Chart, Event, Queues, Wiring};
 use msc_order::Order;
@@ -24,17 +27,31 @@ pub struct Ready<'a> {
     queues: Queues,
     lines: Vec<bool>,
     order: Order,
+    /// The rows of the ready order, where a list says which lines are ready.
+    rows: Vec<u64>,
 }
 
 impl<'a> Model for Ready<'a> {
     ghost use Rattle.msc_ready.specs.Held.{ReadyChart, ready_chart, HasVisualOrder};
+    ghost use Rattle.msc_ready.specs.Rows.{HasRows};
 
     ghost Value = { ReadyChart };
 
     ghost view = { λ r. ready_chart r.chart.now r.queues r.lines.items r.order };
 
     ghost invariant = { λ r.
-        HasVisualOrder (ready_chart r.chart.now r.queues r.lines.items r.order) };
+        HasVisualOrder (ready_chart r.chart.now r.queues r.lines.items r.order)
+        × HasRows (ready_chart r.chart.now r.queues r.lines.items r.order) r.rows.items };
+}
+
+/// Whether line `i` is ready by a list: a line of which it says nothing is.
+pub(crate) fn is_listed(lines: &[bool], i: u32) -> bool
+    ensures { result ≡ ready_of lines.now i }
+{
+    match lines.get(i as usize) {
+        Some(ready) => *ready,
+        None => true,
+    }
 }
 
 impl<'a> Ready<'a> {
@@ -61,11 +78,24 @@ impl<'a> Ready<'a> {
         ensures lines { IfOk result (λ ready. ready.lines ≡ lines.items) }
     {
         let order = Order::visual(alloc, chart)?;
+        let all = Ready {
+            chart,
+            queues,
+            lines: Vec::new(alloc),
+            order,
+            rows: Vec::new(alloc),
+        };
+        if lines.is_empty() {
+            return Ok(all);
+        }
+        let rows = all.rows_of(alloc, lines.as_slice())?;
+        let order = all.order;
         Ok(Ready {
             chart,
             queues,
             lines,
             order,
+            rows,
         })
     }
 
@@ -115,10 +145,7 @@ impl<'a> Ready<'a> {
     pub fn is_ready(&self, i: u32) -> bool
         ensures { result ≡ ready_in self.now i }
     {
-        match self.lines.get(i as usize) {
-            Some(ready) => *ready,
-            None => true,
-        }
+        is_listed(&self.lines, i)
     }
 
     /// Whether `e` stands before `f` in the visual order.
@@ -128,6 +155,22 @@ impl<'a> Ready<'a> {
         ensures { result ≡ orders self.now.order e f }
     {
         self.order.holds(e, f)
+    }
+
+    /// Whether `x` stands before `y` in the ready order. Both are numbers of events, from 0. It
+    /// takes no memory.
+    pub fn holds(&self, x: Event, y: Event) -> bool
+        requires x_known { x < length self.now.chart.events }
+        requires y_known { y < length self.now.chart.events }
+        ensures { IsTrue result ↔ ReadyOrder (wiring_of self.now) (ready_in self.now) x y }
+    {
+        self.kept();
+        ends_share_queues();
+        inputs_share_lines();
+        if self.lines.is_empty() {
+            return self.precedes(x, y);
+        }
+        has(&self.rows, self.events(), x, y)
     }
 
     /// Whether event `e` is an input. It takes no memory.

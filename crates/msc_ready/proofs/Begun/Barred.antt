@@ -1,5 +1,5 @@
 -- Where a walk along a line ends.
-use Rattle.std.proofs.Common.{◌≡◌, ℕ, ◌<◌, ◌≤◌, Bool, true, List, length, get_or, sym, ap, ◌∙◌, subst, arith, inl, inr}
+use Rattle.std.proofs.Common.{◌≡◌, ℕ, ◌<◌, ◌≤◌, Bool, true, List, length, get_or, sym, ◌∙◌, arith, inl, inr}
 use Rattle.msc_chart.specs.Lists.{occurs}
 use Rattle.msc_chart.specs.Charts.{line, segment, before, IsInTextOrder}
 use Rattle.msc_chart.specs.Drawings.{Drawing}

@@ -1,6 +1,5 @@
-use Rattle.std.proofs.Common.{◌≡◌, ℕ, ◌<◌, ◌≤◌, below_more, sym, ◌∙◌, subst, inl, inr, arith}
+use Rattle.std.proofs.Common.{below_more, inl, inr, arith}
 use Rattle.std.proofs.lemmas.Bool.{cases_lt}
-use Rattle.msc_ready.specs.Held.{wiring_of, ready_in}
 use Rattle.msc_ready.proofs.Shared.{clash}
 use Rattle.msc_ready.proofs.Begun.Barred.{front_read}
 use Rattle.msc_ready.proofs.beginning.Beginning.least_on.Goals as goal

@@ -1,24 +1,39 @@
-use Rattle.std.proofs.Common.{inl, inr}
-use Rattle.msc_ready.specs.Held.{wiring_of, ready_in}
-use Rattle.msc_ready.proofs.Shared.{clash}
-use Rattle.msc_ready.proofs.Runs.Keeping.{HaveOneLine}
-use Rattle.msc_ready.proofs.Runs.Fewer.{ready_told}
+use Rattle.std.proofs.Common.{◌≡◌, ℕ, Bool, false, List, [], eqb, length, sym, ◌∙◌, ap, subst, vec_len}
+use Rattle.bit_rows.proofs.Cells.{row_fits}
+use Rattle.msc_ready.specs.Held.{ReadyChart, wiring_of, ready_in}
+use Rattle.msc_ready.specs.Rows.{AreRowsOf, HasRows}
+use Rattle.msc_ready.proofs.Putting.{all_visual, no_lines, rows_by}
 use Rattle.msc_ready.proofs.ready.Ready.holds.Goals as goal
 
-pub returns-then-is_plain : goal.returns-then-is_plain
-returns-then-is_plain c =
+pub returns-then-is_empty : goal.returns-then-is_empty
+returns-then-is_empty c =
     let r = c.args.self.now in
-    let accepted = c.kept.ensures.chart in
-    let lines : HaveOneLine (wiring_of r) = λ x y ix iy. c.inputs_share_lines.ensures r.queues r.chart x y accepted ix iy in
-    let told = ready_told (wiring_of r) (ready_in r) (c.ends_share_queues.ensures r.queues r.chart accepted) lines c.args.x c.args.y in
-    (λ h. told.1 (inl (c.is_plain.ensures.0 h)), λ h. c.if-is_plain.true)
+    let lines = c.self.inside.lines in
+    let none : r.lines ≡ [] =
+    sym (ap (λ (s : ReadyChart). s.lines) c.self.view_is) ∙ no_lines lines.items (vec_len lines) _ lines.ok.0 c.is_empty.ensures c.if-is_empty.true in
+    let is_wired = c.ends_share_queues.ensures r.queues r.chart c.kept.ensures.chart in
+    let told = all_visual r c.args.x c.args.y is_wired c.kept.ensures.order none c.requires.x_known c.requires.y_known in
+    (λ h. told.0 (sym c.precedes.ensures ∙ h), λ h. c.precedes.ensures ∙ told.1 h)
 
-pub returns-else-is_plain : goal.returns-else-is_plain
-returns-else-is_plain c =
-    let r = c.args.self.now in
-    let accepted = c.kept.ensures.chart in
-    let lines : HaveOneLine (wiring_of r) = λ x y ix iy. c.inputs_share_lines.ensures r.queues r.chart x y accepted ix iy in
-    let told = ready_told (wiring_of r) (ready_in r) (c.ends_share_queues.ensures r.queues r.chart accepted) lines c.args.x c.args.y in (
-      λ h. told.1 (inr (c.goes_over.ensures.0 h)),
-      λ h. elim (told.0 h) [ inl plain ↦ clash (c.is_plain.ensures.1 plain) c.if-is_plain.false | inr over ↦ c.goes_over.ensures.1 over ],
-    )
+-- the rows that are held of a chart are those of what is seen of it
+seen_rows : (inside seen : ReadyChart) (rows : List ℕ) (n : ℕ) (empty : Bool) → inside ≡ seen → HasRows inside rows
+    → n ≡ length inside.lines → empty ≡ eqb n 0 → empty ≡ false → AreRowsOf (wiring_of seen) (ready_in seen) rows
+seen_rows inside seen rows n empty same has size told is =
+    subst (λ (r : ReadyChart). AreRowsOf (wiring_of r) (ready_in r) rows) same (rows_by inside rows n empty has size told is)
+
+pub has-requires-clause-row : goal.has-requires-clause-row
+has-requires-clause-row c =
+    let n : ℕ = length c.args.self.now.chart.events in
+    let lines = c.self.inside.lines in
+    let rows = c.self.inside.rows.items in
+    let are = seen_rows _ c.args.self.now rows (vec_len lines) _ c.self.view_is c.self.invariant.1 lines.ok.0 c.is_empty.ensures c.if-is_empty.false in
+    rw (c.events.ensures, c.deref.ensures.value) (row_fits n rows n c.args.x are.square c.requires.x_known)
+
+pub returns : goal.returns
+returns c =
+    let lines = c.self.inside.lines in
+    let rows = c.self.inside.rows.items in
+    let are = seen_rows _ c.args.self.now rows (vec_len lines) _ c.self.view_is c.self.invariant.1 lines.ok.0 c.is_empty.ensures c.if-is_empty.false in
+    let told = are.exact c.args.x c.args.y c.requires.x_known c.requires.y_known in
+    let same = rw (c.events.ensures, c.deref.ensures.value) at c.has.ensures in
+    (λ h. told.0 (sym same ∙ h), λ h. same ∙ told.1 h)

@@ -1,5 +1,4 @@
-use Rattle.std.proofs.Common.{◌≡◌, ◌<◌, inl, inr, below_more, arith}
-use Rattle.msc_chart.specs.Charts.{line}
+use Rattle.std.proofs.Common.{inl, inr, below_more, arith}
 use Rattle.msc_order.proofs.Drawing.{before_later}
 use Rattle.msc_ready.proofs.Shared.{before_parts, clash}
 use Rattle.msc_ready.proofs.ready.Ready.least_first.Goals as goal
