@@ -1,5 +1,5 @@
 -- Of the command that words name `clap` is told alone: it takes the words as where it is told of all.
-use Rattle.std.proofs.Common.{◌≡◌, refl, sym, ap, subst, true, false, Bool, List, [], ◌∷◌, Option, Some, None, cond, find}
+use Rattle.std.proofs.Common.{◌≡◌, refl, sym, subst, true, false, Bool, List, [], ◌∷◌, Option, Some, None, cond, find}
 use Rattle.std.proofs.lemmas.Option.{none-some}
 use Rattle.std.proofs.lemmas.Slice.Eq.{bytes_eq-Decides}
 use Rattle.std.specs.Option.{option_map_or}
@@ -32,18 +32,24 @@ is_name name verb found =
 abbrev one_command : Parsers → Verb → App
 one_command p verb = with_commands p bare_command (verb ∷ [])
 
--- it knows this command as the whole program does
-known_alike : (p : Parsers) (verb : Verb) → KnowAlike (built (one_command p verb)) (built (whole_command p)) (verb_name verb)
-known_alike p Read = record { top = refl; one = refl; two = refl; other = refl; found = refl }
-known_alike p Check = record { top = refl; one = refl; two = refl; other = refl; found = refl }
-known_alike p Explain = record { top = refl; one = refl; two = refl; other = refl; found = refl }
-known_alike p Run = record { top = refl; one = refl; two = refl; other = refl; found = refl }
-known_alike p Listing = record { top = refl; one = refl; two = refl; other = refl; found = refl }
-known_alike p Draw = record { top = refl; one = refl; two = refl; other = refl; found = refl }
-known_alike p Reverse = record { top = refl; one = refl; two = refl; other = refl; found = refl }
-known_alike p Report = record { top = refl; one = refl; two = refl; other = refl; found = refl }
-known_alike p Ready = record { top = refl; one = refl; two = refl; other = refl; found = refl }
-known_alike p Import = record { top = refl; one = refl; two = refl; other = refl; found = refl }
+-- What is needed of a command: where `clap` is told of it alone, that is known as the same command as
+-- where it is told of all, `clap` says all of it, and it is simple.
+record IsToldAlone (p : Parsers) (verb : Verb) : Type 0 where
+  alike : KnowAlike (built (one_command p verb)) (built (whole_command p)) (verb_name verb)
+  known : is_simple_and_free (one_command p verb) ≡ true
+  simple : is_simple (one_command p verb) ≡ true
+
+told_alone : (p : Parsers) (verb : Verb) → IsToldAlone p verb
+told_alone p Read = record { alike = record { top = refl; one = refl; two = refl; other = refl; found = refl }; known = refl; simple = refl }
+told_alone p Check = record { alike = record { top = refl; one = refl; two = refl; other = refl; found = refl }; known = refl; simple = refl }
+told_alone p Explain = record { alike = record { top = refl; one = refl; two = refl; other = refl; found = refl }; known = refl; simple = refl }
+told_alone p Run = record { alike = record { top = refl; one = refl; two = refl; other = refl; found = refl }; known = refl; simple = refl }
+told_alone p Listing = record { alike = record { top = refl; one = refl; two = refl; other = refl; found = refl }; known = refl; simple = refl }
+told_alone p Draw = record { alike = record { top = refl; one = refl; two = refl; other = refl; found = refl }; known = refl; simple = refl }
+told_alone p Reverse = record { alike = record { top = refl; one = refl; two = refl; other = refl; found = refl }; known = refl; simple = refl }
+told_alone p Report = record { alike = record { top = refl; one = refl; two = refl; other = refl; found = refl }; known = refl; simple = refl }
+told_alone p Ready = record { alike = record { top = refl; one = refl; two = refl; other = refl; found = refl }; known = refl; simple = refl }
+told_alone p Import = record { alike = record { top = refl; one = refl; two = refl; other = refl; found = refl }; known = refl; simple = refl }
 
 -- two programs take words alike
 abbrev pub TakeAlike : App → App → List Text → Type 0
@@ -53,8 +59,8 @@ TakeAlike x y words = (fault_of x words ≡ fault_of y words) × (subcommand_of 
 one_alike : (p : Parsers) (verb : Verb) (program : Text) (rest : List Text)
     → TakeAlike (one_command p verb) (whole_command p) (program ∷ verb_name verb ∷ rest)
 one_alike p verb program rest = (
-  same_fault _ _ (verb_name verb) rest (known_alike p verb),
-  same_found _ _ (verb_name verb) rest (known_alike p verb),
+  same_fault _ _ (verb_name verb) rest (told_alone p verb).alike,
+  same_found _ _ (verb_name verb) rest (told_alone p verb).alike,
 )
 
 -- what is told for words takes them as the whole program
@@ -74,16 +80,7 @@ asked_kind : (p : Parsers) (found : Option Verb)
     → (is_simple_and_free (with_commands p bare_command (option_map_or (λ verb. verb ∷ []) found verbs)) ≡ true)
     × (is_simple (with_commands p bare_command (option_map_or (λ verb. verb ∷ []) found verbs)) ≡ true)
 asked_kind p None = (refl, refl)
-asked_kind p (Some Read) = (refl, refl)
-asked_kind p (Some Check) = (refl, refl)
-asked_kind p (Some Explain) = (refl, refl)
-asked_kind p (Some Run) = (refl, refl)
-asked_kind p (Some Listing) = (refl, refl)
-asked_kind p (Some Draw) = (refl, refl)
-asked_kind p (Some Reverse) = (refl, refl)
-asked_kind p (Some Report) = (refl, refl)
-asked_kind p (Some Ready) = (refl, refl)
-asked_kind p (Some Import) = (refl, refl)
+asked_kind p (Some verb) = ((told_alone p verb).known, (told_alone p verb).simple)
 
 module _ (p : Parsers) (words : List Text) (grammar : App) (is : grammar ≡ with_commands p bare_command (verbs_for words)) where
   -- `clap` says all of it

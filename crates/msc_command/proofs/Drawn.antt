@@ -87,3 +87,4 @@ undrawn contents drawn draft s (refusals.Fault (NotStarted i)) now fails = (fail
 undrawn contents drawn draft s (refusals.Pair f) now fails = (fails, refl)
 undrawn contents drawn draft s (refusals.Mark f) now fails = (fails, refl)
 undrawn contents drawn draft s (refusals.Instance name) now fails = (fails, refl)
+undrawn contents drawn draft s (refusals.Import e) now fails = (fails, refl)

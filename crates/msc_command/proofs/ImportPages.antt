@@ -55,6 +55,7 @@ module _ (x : ImportWords) (text file : List ℕ) where
   not_on_page (refusals.Fault (NotStarted i)) said = absurd said
   not_on_page (refusals.Pair f) said = absurd said
   not_on_page (refusals.Mark f) said = absurd said
+  not_on_page (refusals.Instance name) said = absurd said
 
   -- the page of what was imported
   pub on_page : (is : Imported) (r : Result Page Refusal) → (imported (wanted_of x) text ≡ Ok is) × IsReadAgain is.draft → IsPageOf x.list file is r → IsImportedOn x file text r
@@ -67,6 +68,7 @@ module _ (x : ImportWords) (text file : List ℕ) where
   on_page is (Err (refusals.Import e)) of_text said = absurd said
   on_page is (Err (refusals.Pair f)) of_text said = absurd said
   on_page is (Err (refusals.Mark f)) of_text said = absurd said
+  on_page is (Err (refusals.Instance name)) of_text said = absurd said
 
   -- why there is no page is why the task is refused, or memory ran out
   pub unprinted : {W : Type 0} (contents : W → Option (List ℕ)) (r : Refusal) (now : W) → IsImportedOn x file text (Err r)
@@ -78,6 +80,7 @@ module _ (x : ImportWords) (text file : List ℕ) where
   unprinted contents (refusals.Fault (NotStarted i)) now fails = (fails, refl)
   unprinted contents (refusals.Pair f) now fails = (fails, refl)
   unprinted contents (refusals.Mark f) now fails = (fails, refl)
+  unprinted contents (refusals.Instance name) now fails = (fails, refl)
   unprinted contents (refusals.Import e) now fails = (fails, refl)
 
 -- a draft that is no chart is not listed
