@@ -9,7 +9,7 @@ use Rattle.clap.specs.declared.error.kind.ErrorKind.{ErrorKind}
 use Rattle.msc_command.specs.Grammar.{bare_command, begun_by, verbs_for, whole_command, with_commands, AreAnswered, AreParsers, Parsers}
 use Rattle.msc_command.specs.Words.{verb_name, verb_of_word, verbs}
 use Rattle.msc_command.specs.declared.words.Verb.{Verb}
-use Rattle.msc_command.specs.declared.words.Verb.TheVariants.{Read, Check, Explain, Run, List as Listing, Draw, Reverse, Report, Ready, Import}
+use Rattle.msc_command.specs.declared.words.Verb.TheVariants.{Read}
 use Rattle.msc_command.proofs.Begun.{same_fault, same_found, KnowAlike}
 
 -- what is found passes: the first, or what is found behind it
@@ -39,17 +39,10 @@ record IsToldAlone (p : Parsers) (verb : Verb) : Type 0 where
   known : is_simple_and_free (one_command p verb) ≡ true
   simple : is_simple (one_command p verb) ≡ true
 
+-- it is so of each command, by one proof: the second clause is checked for each of the others
 told_alone : (p : Parsers) (verb : Verb) → IsToldAlone p verb
 told_alone p Read = record { alike = record { top = refl; one = refl; two = refl; other = refl; found = refl }; known = refl; simple = refl }
-told_alone p Check = record { alike = record { top = refl; one = refl; two = refl; other = refl; found = refl }; known = refl; simple = refl }
-told_alone p Explain = record { alike = record { top = refl; one = refl; two = refl; other = refl; found = refl }; known = refl; simple = refl }
-told_alone p Run = record { alike = record { top = refl; one = refl; two = refl; other = refl; found = refl }; known = refl; simple = refl }
-told_alone p Listing = record { alike = record { top = refl; one = refl; two = refl; other = refl; found = refl }; known = refl; simple = refl }
-told_alone p Draw = record { alike = record { top = refl; one = refl; two = refl; other = refl; found = refl }; known = refl; simple = refl }
-told_alone p Reverse = record { alike = record { top = refl; one = refl; two = refl; other = refl; found = refl }; known = refl; simple = refl }
-told_alone p Report = record { alike = record { top = refl; one = refl; two = refl; other = refl; found = refl }; known = refl; simple = refl }
-told_alone p Ready = record { alike = record { top = refl; one = refl; two = refl; other = refl; found = refl }; known = refl; simple = refl }
-told_alone p Import = record { alike = record { top = refl; one = refl; two = refl; other = refl; found = refl }; known = refl; simple = refl }
+told_alone p verb = record { alike = record { top = refl; one = refl; two = refl; other = refl; found = refl }; known = refl; simple = refl }
 
 -- two programs take words alike
 abbrev pub TakeAlike : App → App → List Text → Type 0
