@@ -54,3 +54,6 @@ returns-in_ok-source-in-Draw g c =
     c.draft.ensures c.draw.ensures in
     rw c.in-Draw.is (was_drawn g.O.Write.contents c.args.file.now c.args.text.now drawn c.in_ok-read-in-Draw.read.draft source (told.0 ∙ read.0) (told.1 ∙ read.1) read.2
     c.in_ok-source-in-Draw.ensures.faultless c.in_ok-source-in-Draw.ensures.drawn c.draw.result _ _ says)
+
+pub returns-in-Import : goal.returns-in-Import
+returns-in-Import g c = rw c.in-Import.is c.import.ensures
