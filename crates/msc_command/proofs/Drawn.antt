@@ -1,5 +1,5 @@
 -- What was drawn of a chart was drawn of its text.
-use Rattle.std.proofs.Common.{◌≡◌, ℕ, List, Option, Result, Ok, Err, inl, refl, subst}
+use Rattle.std.proofs.Common.{◌≡◌, ℕ, List, Option, Result, Err, inl, refl, subst}
 use Rattle.msc_chart.specs.Drawings.{Drawing, chart_of}
 use Rattle.msc_chart.specs.Faults.{IsFaultless}
 use Rattle.msc_parser.specs.Grammar.{Tree}

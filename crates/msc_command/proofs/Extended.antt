@@ -1,5 +1,5 @@
 -- What stands behind a page after two things were put there.
-use Rattle.std.proofs.Common.{◌≡◌, ℕ, ◌++◌, List, [], Option, ap, sym, ◌∙◌, append_assoc}
+use Rattle.std.proofs.Common.{ℕ, ◌++◌, List, [], Option, ap, sym, ◌∙◌, append_assoc}
 use Rattle.std.proofs.lemmas.List.{append-nil}
 use Rattle.msc_notes.specs.Texts.{error_text}
 use Rattle.msc_command.specs.Ending.{refusal_line}
