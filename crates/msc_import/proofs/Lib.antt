@@ -7,6 +7,7 @@ pub mod NamingLemmas
 pub mod CourseLemmas
 pub mod WalkLemmas
 pub mod CountLemmas
+pub mod ChoiceLemmas
 pub mod PlanLemmas
 pub mod DraftLemmas
 pub mod NamedLemmas
