@@ -8,6 +8,10 @@ pub mod CourseLemmas
 pub mod WalkLemmas
 pub mod CountLemmas
 pub mod ChoiceLemmas
+pub mod CapLemmas
+pub mod TallyLemmas
+pub mod ManyLemmas
+pub mod QuietLemmas
 pub mod PlanLemmas
 pub mod DraftLemmas
 pub mod NamedLemmas

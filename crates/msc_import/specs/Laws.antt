@@ -1,17 +1,19 @@
 -- What holds of every import.
-use Rattle.std.specs.Prelude.{◌≡◌, ℕ, Bool, true, false, not, List, [], map, Option, Some, Ok}
+use Rattle.std.specs.Prelude.{◌≡◌, ℕ, Bool, true, false, not, List, [], ◌∷◌, length, map, Option, Some, Ok}
 use Rattle.std.specs.List.{flat_map, list_all, slice_get}
 use Rattle.msc_parser.specs.Drafts.{statements_in}
 use Rattle.msc_import.specs.declared.course.Step.{Step}
 use Rattle.msc_import.specs.declared.course.Step.TheVariants as steps
 use Rattle.msc_import.specs.declared.plan.Manner.{Manner}
 use Rattle.msc_import.specs.declared.plan.Own.{Own}
+use Rattle.msc_import.specs.declared.row.Kind.TheVariants as kinds
 use Rattle.msc_import.specs.declared.statement.Cross.{Cross}
 use Rattle.msc_import.specs.declared.statement.Diagram.{Diagram}
 use Rattle.msc_import.specs.declared.statement.Placed.{Placed}
 use Rattle.msc_import.specs.declared.statement.Statement.{Statement}
 use Rattle.msc_import.specs.declared.statement.Statement.TheVariants.{Declares, Says, Begins, Closes}
-use Rattle.msc_import.specs.Counting.{scenarios}
+use Rattle.msc_import.specs.Choosing.{all_choices}
+use Rattle.msc_import.specs.Counting.{capped, scenarios}
 use Rattle.msc_import.specs.Drafting.{drawn_event, section_of}
 use Rattle.msc_import.specs.Plans.{Event, Plan, plans_of, sides_on}
 use Rattle.msc_import.specs.Mermaid.{mermaid}
@@ -20,22 +22,29 @@ use Rattle.msc_import.specs.Mermaid.{mermaid}
 abbrev pub HasDiagram : Option Cross → List ℕ → Diagram → Type 0
 HasDiagram cross text d = mermaid cross text ≡ Ok d
 
--- a block begins
-abbrev pub is_begin : Statement → Bool
-is_begin (Begins kind) = true
-is_begin (Declares ident shown) = false
-is_begin (Says arrow) = false
-is_begin (Closes closer) = false
+-- a block begins that may take a choice
+abbrev pub may_choose : Statement → Bool
+may_choose (Begins kinds.Par) = false
+may_choose (Begins kinds.Plain) = false
+may_choose (Begins kind) = true
+may_choose (Declares ident shown) = false
+may_choose (Says arrow) = false
+may_choose (Closes closer) = false
 
 -- a text has one diagram
 abbrev pub OneDiagram : Type 0
 OneDiagram =
     (cross : Option Cross) (text : List ℕ) (d e : Diagram) → HasDiagram cross text d → HasDiagram cross text e → d ≡ e
 
--- without a block there is one scenario
+-- as many lists of choices as scenarios are counted
+abbrev pub AsManyAsCounted : Type 0
+AsManyAsCounted =
+    (rounds : List ℕ) (d : Diagram) → capped (length (all_choices rounds d)) ≡ scenarios rounds d
+
+-- without a block that may take a choice there is one scenario, with no choice
 abbrev pub NoBlocksOneScenario : Type 0
 NoBlocksOneScenario =
-    (rounds : List ℕ) (d : Diagram) → list_all (λ p. not (is_begin p.statement)) d.statements ≡ true → scenarios rounds d ≡ 1
+    (rounds : List ℕ) (d : Diagram) → list_all (λ p. not (may_choose p.statement)) d.statements ≡ true → (all_choices rounds d ≡ [] ∷ []) × (scenarios rounds d ≡ 1)
 
 -- the ends that the arrow of a step has on a line, the upper one first
 abbrev pub ends_on : Own → ℕ → Step → List Event

@@ -1,14 +1,20 @@
 //! Laws of imports, over the definitions alone. The functions do nothing when they run: a caller
 //! calls one to rest its own proof on the law.
 
-ghost use Rattle.msc_import.specs.Laws.{LinesKeepTheArrowsOrder, NoBlocksOneScenario, OneDiagram};
+ghost use Rattle.msc_import.specs.Laws.{AsManyAsCounted, LinesKeepTheArrowsOrder};
+ghost use Rattle.msc_import.specs.Laws.{NoBlocksOneScenario, OneDiagram};
 
 /// A text has one diagram.
 pub fn one_diagram()
     ensures { OneDiagram }
 {}
 
-/// Without a block there is one scenario.
+/// The number of the lists of choices is what is counted.
+pub fn as_many_as_counted()
+    ensures { AsManyAsCounted }
+{}
+
+/// Without a block that may take a choice there is one scenario, with no choice.
 pub fn no_blocks_one_scenario()
     ensures { NoBlocksOneScenario }
 {}
