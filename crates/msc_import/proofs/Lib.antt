@@ -12,6 +12,11 @@ pub mod CapLemmas
 pub mod TallyLemmas
 pub mod ManyLemmas
 pub mod QuietLemmas
+pub mod FollowLemmas
+pub mod FollowListLemmas
+pub mod FollowBranchLemmas
+pub mod FollowFormLemmas
+pub mod FollowWalkLemmas
 pub mod PlanLemmas
 pub mod DraftLemmas
 pub mod NamedLemmas

@@ -1,9 +1,12 @@
 -- What holds of every import.
-use Rattle.std.specs.Prelude.{◌≡◌, ℕ, Bool, true, false, not, List, [], ◌∷◌, length, map, Option, Some, Ok}
-use Rattle.std.specs.List.{flat_map, list_all, slice_get}
+use Rattle.std.specs.Prelude.{◌≡◌, ◌⊎◌, ℕ, ◌+◌, Bool, true, false, not, nat_le, List, [], ◌∷◌, length, map, Option, Some, Ok}
+use Rattle.std.specs.List.{AllByRecursion, flat_map, list_all, slice_get}
 use Rattle.msc_parser.specs.Drafts.{statements_in}
+use Rattle.msc_import.specs.declared.TheConstants.{DEPTH_LIMIT, ROUND_LIMIT}
+use Rattle.msc_import.specs.declared.course.Ending.TheVariants as ends
 use Rattle.msc_import.specs.declared.course.Step.{Step}
 use Rattle.msc_import.specs.declared.course.Step.TheVariants as steps
+use Rattle.msc_import.specs.declared.fault.ImportFault.TheVariants.{TooManyArrows}
 use Rattle.msc_import.specs.declared.plan.Manner.{Manner}
 use Rattle.msc_import.specs.declared.plan.Own.{Own}
 use Rattle.msc_import.specs.declared.row.Kind.TheVariants as kinds
@@ -14,7 +17,8 @@ use Rattle.msc_import.specs.declared.statement.Statement.{Statement}
 use Rattle.msc_import.specs.declared.statement.Statement.TheVariants.{Declares, Says, Begins, Closes}
 use Rattle.msc_import.specs.Choosing.{all_choices}
 use Rattle.msc_import.specs.Counting.{capped, scenarios}
-use Rattle.msc_import.specs.Drafting.{drawn_event, section_of}
+use Rattle.msc_import.specs.Courses.{Walk, walk}
+use Rattle.msc_import.specs.Drafting.{at_rest, drawn_event, section_of, unended}
 use Rattle.msc_import.specs.Plans.{Event, Plan, plans_of, sides_on}
 use Rattle.msc_import.specs.Mermaid.{mermaid}
 
@@ -45,6 +49,27 @@ AsManyAsCounted =
 abbrev pub NoBlocksOneScenario : Type 0
 NoBlocksOneScenario =
     (rounds : List ℕ) (d : Diagram) → list_all (λ p. not (may_choose p.statement)) d.statements ≡ true → (all_choices rounds d ≡ [] ∷ []) × (scenarios rounds d ≡ 1)
+
+-- the walk stopped since it has too many arrows
+abbrev pub IsTooLong : Walk → Type 0
+IsTooLong w = (line : ℕ) × (w.ending ≡ ends.Stopped (TooManyArrows line))
+
+-- the walk took these choices, and no fault keeps it from a draft beside its lines
+abbrev pub Takes : List ℕ → Walk → Type 0
+Takes given w = (w.taken ≡ given) × (unended w w.ending ≡ Ok w)
+
+-- the walk through a diagram with these choices
+abbrev pub walked : Diagram → List ℕ → Walk
+walked d given = walk (DEPTH_LIMIT + 1) d.statements [] (at_rest d.lines given)
+
+-- these are the choices of a whole scenario: a walk takes just them, unless it has too many arrows
+abbrev pub IsWhole : Diagram → List ℕ → Type 0
+IsWhole d given = IsTooLong (walked d given) ⊎ Takes given (walked d given)
+
+-- each of the lists of choices is that of a whole scenario, where no loop goes more rounds than it may
+abbrev pub EachIsWhole : Type 0
+EachIsWhole =
+    (rounds : List ℕ) (d : Diagram) → list_all (λ r. nat_le r ROUND_LIMIT) rounds ≡ true → AllByRecursion (IsWhole d) (all_choices rounds d)
 
 -- the ends that the arrow of a step has on a line, the upper one first
 abbrev pub ends_on : Own → ℕ → Step → List Event

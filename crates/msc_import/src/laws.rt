@@ -1,7 +1,7 @@
 //! Laws of imports, over the definitions alone. The functions do nothing when they run: a caller
 //! calls one to rest its own proof on the law.
 
-ghost use Rattle.msc_import.specs.Laws.{AsManyAsCounted, LinesKeepTheArrowsOrder};
+ghost use Rattle.msc_import.specs.Laws.{AsManyAsCounted, EachIsWhole, LinesKeepTheArrowsOrder};
 ghost use Rattle.msc_import.specs.Laws.{NoBlocksOneScenario, OneDiagram};
 
 /// A text has one diagram.
@@ -12,6 +12,11 @@ pub fn one_diagram()
 /// The number of the lists of choices is what is counted.
 pub fn as_many_as_counted()
     ensures { AsManyAsCounted }
+{}
+
+/// Each of the lists of choices is that of a whole scenario: a walk takes just these.
+pub fn each_is_whole()
+    ensures { EachIsWhole }
 {}
 
 /// Without a block that may take a choice there is one scenario, with no choice.
