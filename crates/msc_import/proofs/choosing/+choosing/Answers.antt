@@ -1,4 +1,4 @@
-use Rattle.std.proofs.Common.{◌≡◌, ◌+◌, ◌-◌, ◌++◌, suc, false, length, get_or, take, drop, map, sym, ap, ◌∙◌, arith}
+use Rattle.std.proofs.Common.{◌≡◌, ◌+◌, ◌-◌, ◌++◌, suc, false, get_or, drop, map, sym, ap, ◌∙◌, arith}
 use Rattle.std.proofs.lemmas.List.{take_rest}
 use Rattle.msc_import.specs.declared.row.Closer.TheVariants as closers
 use Rattle.msc_import.specs.declared.statement.Statement.TheVariants.{Closes}
