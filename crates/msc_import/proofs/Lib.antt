@@ -17,6 +17,7 @@ pub mod FollowListLemmas
 pub mod FollowBranchLemmas
 pub mod FollowFormLemmas
 pub mod FollowWalkLemmas
+pub mod AscendLemmas
 pub mod PlanLemmas
 pub mod DraftLemmas
 pub mod NamedLemmas

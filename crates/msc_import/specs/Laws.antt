@@ -1,5 +1,5 @@
 -- What holds of every import.
-use Rattle.std.specs.Prelude.{◌≡◌, ◌⊎◌, ℕ, ◌+◌, Bool, true, false, not, nat_le, List, [], ◌∷◌, length, map, Option, Some, Ok}
+use Rattle.std.specs.Prelude.{◌≡◌, ◌⊎◌, ◌<◌, ℕ, ◌+◌, Bool, true, false, not, nat_le, List, [], ◌∷◌, length, map, Option, Some, Ok}
 use Rattle.std.specs.List.{AllByRecursion, flat_map, list_all, slice_get}
 use Rattle.msc_parser.specs.Drafts.{statements_in}
 use Rattle.msc_import.specs.declared.TheConstants.{DEPTH_LIMIT, ROUND_LIMIT}
@@ -70,6 +70,23 @@ IsWhole d given = IsTooLong (walked d given) ⊎ Takes given (walked d given)
 abbrev pub EachIsWhole : Type 0
 EachIsWhole =
     (rounds : List ℕ) (d : Diagram) → list_all (λ r. nat_le r ROUND_LIMIT) rounds ≡ true → AllByRecursion (IsWhole d) (all_choices rounds d)
+
+-- each comes before all that follow it
+abbrev pub InOrder : {X : Type 0} → (X → X → Type 0) → List X → Type 0
+InOrder R [] = Unit {0}
+InOrder R (x ∷ xs) = AllByRecursion (R x) xs × InOrder R xs
+
+-- one list of choices comes before another: at the first place where they differ it has the smaller choice,
+-- and there is such a place
+abbrev pub ComesBefore : List ℕ → List ℕ → Type 0
+ComesBefore (x ∷ xs) (y ∷ ys) = (x < y) ⊎ ((x ≡ y) × ComesBefore xs ys)
+ComesBefore [] ys = ⊥
+ComesBefore (x ∷ xs) [] = ⊥
+
+-- the lists of choices are in their order, so each stands once, where the numbers of rounds are in theirs
+abbrev pub EachOnceInOrder : Type 0
+EachOnceInOrder =
+    (rounds : List ℕ) (d : Diagram) → InOrder (λ m n. m < n) rounds → InOrder ComesBefore (all_choices rounds d)
 
 -- the ends that the arrow of a step has on a line, the upper one first
 abbrev pub ends_on : Own → ℕ → Step → List Event

@@ -1,8 +1,8 @@
 //! Laws of imports, over the definitions alone. The functions do nothing when they run: a caller
 //! calls one to rest its own proof on the law.
 
-ghost use Rattle.msc_import.specs.Laws.{AsManyAsCounted, EachIsWhole, LinesKeepTheArrowsOrder};
-ghost use Rattle.msc_import.specs.Laws.{NoBlocksOneScenario, OneDiagram};
+ghost use Rattle.msc_import.specs.Laws.{AsManyAsCounted, EachIsWhole, EachOnceInOrder};
+ghost use Rattle.msc_import.specs.Laws.{LinesKeepTheArrowsOrder, NoBlocksOneScenario, OneDiagram};
 
 /// A text has one diagram.
 pub fn one_diagram()
@@ -17,6 +17,11 @@ pub fn as_many_as_counted()
 /// Each of the lists of choices is that of a whole scenario: a walk takes just these.
 pub fn each_is_whole()
     ensures { EachIsWhole }
+{}
+
+/// The lists of choices are in their order, and each stands once.
+pub fn each_once_in_order()
+    ensures { EachOnceInOrder }
 {}
 
 /// Without a block that may take a choice there is one scenario, with no choice.
