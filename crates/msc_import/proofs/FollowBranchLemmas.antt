@@ -13,16 +13,16 @@ use Rattle.msc_import.proofs.FollowListLemmas.{AllFollow, all_append, follow_beh
 
 -- the branch at a place, where these are left from there on
 module _ (all : List (List Placed)) (k : ℕ) (b : List Placed) (rest : List (List Placed)) (left : drop k all ≡ b ∷ rest) where
-  inside : k < length all
+  pub inside : k < length all
   inside = omega (arith, length-drop k all, ap length left)
 
   parts : get_or all k [] ∷ drop (k + 1) all ≡ b ∷ rest
   parts = sym (drop_more all k [] inside) ∙ left
 
-  here : branch_at all k ≡ b
+  pub here : branch_at all k ≡ b
   here = ap (λ x. unwrap_or x []) (slice_get-get_or all k [] inside) ∙ ap (λ x. get_or x 0 []) parts
 
-  behind_it : drop (k + 1) all ≡ rest
+  pub behind_it : drop (k + 1) all ≡ rest
   behind_it = ap (drop 1) parts
 
 module _ (inner : Chooser) (walker : Walker) (same : (b : List Placed) (rs : List ℕ) → AllFollow (walker b rs) (inner b)) (rs : List ℕ) where

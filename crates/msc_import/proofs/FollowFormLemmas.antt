@@ -28,47 +28,47 @@ small_next n i h = grind (arith, nat_tests)
 least : (n : ℕ) → nat_le 0 n ≡ true
 least n = grind (arith, nat_tests)
 
-is_some : (i : ℕ) → 1 ≤ i → (i == 0) ≡ false
+pub is_some : (i : ℕ) → 1 ≤ i → (i == 0) ≡ false
 is_some i h = grind (arith, nat_tests)
 
 -- what follows a choice, where a walk goes on
 module _ (walker : Walker) (bs : List (List Placed)) (rs : List ℕ) (w : Walk) where
   module _ (going : w.ending ≡ ends.Goes) where
-    one_of_is : (i : ℕ) → follow walker forms.OneOf bs rs (i + 0) w ≡ unbroken (then w (walker (branch_at bs i) rs))
+    pub one_of_is : (i : ℕ) → follow walker forms.OneOf bs rs (i + 0) w ≡ unbroken (then w (walker (branch_at bs i) rs))
     unfolding follow
     one_of_is i =
         let plain : i + 0 ≡ i = omega arith in
         ap (λ j. unbroken (walker (branch_at bs j) rs w)) plain ∙ ap unbroken (sym (then_going w (walker (branch_at bs i) rs) going))
 
-    maybe_is : (i : ℕ) → follow walker forms.Maybe bs rs (i + 1) w ≡ unbroken (then w (walker (branch_at bs i) rs))
+    pub maybe_is : (i : ℕ) → follow walker forms.Maybe bs rs (i + 1) w ≡ unbroken (then w (walker (branch_at bs i) rs))
     unfolding follow
     maybe_is i =
         let place : (i + 1) - 1 ≡ i = omega arith in
         ap (λ t. cond t w (unbroken (walker (branch_at bs ((i + 1) - 1)) rs w))) (is_some (i + 1) (omega arith)) ∙ ap (λ j. unbroken (walker (branch_at bs j) rs w)) place ∙ ap unbroken (sym (then_going w (walker (branch_at bs i) rs) going))
 
-    maybe_not : follow walker forms.Maybe bs rs 0 w ≡ unbroken w
+    pub maybe_not : follow walker forms.Maybe bs rs 0 w ≡ unbroken w
     unfolding follow
     maybe_not = sym (unbroken_going w going)
 
-    break_not : follow walker forms.Break bs rs 0 w ≡ unbroken w
+    pub break_not : follow walker forms.Break bs rs 0 w ≡ unbroken w
     unfolding follow
     break_not = sym (unbroken_going w going)
 
-    rounds_are : (r : ℕ) → follow walker forms.Rounds bs rs r w ≡ unbroken (then w (rounds_from walker (branch_at bs 0) rs 0 r))
+    pub rounds_are : (r : ℕ) → follow walker forms.Rounds bs rs r w ≡ unbroken (then w (rounds_from walker (branch_at bs 0) rs 0 r))
     unfolding follow
     rounds_are r = ap unbroken (sym (then_going w (rounds_from walker (branch_at bs 0) rs 0 r) going))
 
-  break_is : follow walker forms.Break bs rs 1 w ≡ broken (walker (branch_at bs 0) rs w)
+  pub break_is : follow walker forms.Break bs rs 1 w ≡ broken (walker (branch_at bs 0) rs w)
   unfolding follow
   break_is = refl
 
-  first_is : (i : ℕ) → 1 ≤ i → follow walker forms.First bs rs (i + 0) w ≡ unbroken (then (walker (branch_at bs 0) rs w) (walker (branch_at bs i) rs))
+  pub first_is : (i : ℕ) → 1 ≤ i → follow walker forms.First bs rs (i + 0) w ≡ unbroken (then (walker (branch_at bs 0) rs w) (walker (branch_at bs i) rs))
   unfolding follow
   first_is i h =
       let plain : i + 0 ≡ i = omega arith in let v = walker (branch_at bs 0) rs w in
       ap (λ j. unbroken (then v (λ u. cond (j == 0) u (walker (branch_at bs j) rs u)))) plain ∙ ap (λ t. unbroken (then v (λ u. cond t u (walker (branch_at bs i) rs u)))) (is_some i h)
 
-  first_not : follow walker forms.First bs rs 0 w ≡ unbroken (walker (branch_at bs 0) rs w)
+  pub first_not : follow walker forms.First bs rs 0 w ≡ unbroken (walker (branch_at bs 0) rs w)
   unfolding follow
   first_not = ap unbroken (then_same (walker (branch_at bs 0) rs w))
 

@@ -86,7 +86,7 @@ module _ (w : Walk) (cs ds : List ℕ) where
       let parts = ap (λ x. w.taken ++ x) (append_assoc cs ds i.rest) ∙ sym (append_assoc w.taken cs (ds ++ i.rest)) in
       record { going = t.ending; rest = i.rest; given = t.given ∙ i.given ∙ parts ∙ ap (λ x. x ++ (ds ++ i.rest)) (sym t.taken) }
 
-  both : (v u : Walk) (e : Ending) → Took w v cs ends.Goes → Took v u ds e → Took w u (cs ++ ds) e
+  pub both : (v u : Walk) (e : Ending) → Took w v cs ends.Goes → Took v u ds e → Took w u (cs ++ ds) e
   both v u e t s = record {
     given = s.given ∙ t.given;
     taken = s.taken ∙ ap (λ x. x ++ ds) t.taken ∙ append_assoc w.taken cs ds;
@@ -145,11 +145,11 @@ module _ (f g : Walk → Walk) (passes : (v : Walk) → v.ending ≡ ends.Goes �
   follows_passed way h = record { ends = λ w i. pass_on w (f w) way (h.ends w i) }
 
 -- a break ends nothing further out
-healed_of : (b : Bool) → healed (ending_of b) ≡ ends.Goes
+pub healed_of : (b : Bool) → healed (ending_of b) ≡ ends.Goes
 healed_of true = refl
 healed_of false = refl
 
-cut_of : (b : Bool) → cut_off (ending_of b) ≡ ends.Broke
+pub cut_of : (b : Bool) → cut_off (ending_of b) ≡ ends.Broke
 cut_of true = refl
 cut_of false = refl
 

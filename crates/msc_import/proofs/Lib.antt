@@ -18,6 +18,9 @@ pub mod FollowBranchLemmas
 pub mod FollowFormLemmas
 pub mod FollowWalkLemmas
 pub mod AscendLemmas
+pub mod CoverLemmas
+pub mod CoverFormLemmas
+pub mod CoverWalkLemmas
 pub mod PlanLemmas
 pub mod DraftLemmas
 pub mod NamedLemmas

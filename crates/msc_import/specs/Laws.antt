@@ -1,6 +1,6 @@
 -- What holds of every import.
-use Rattle.std.specs.Prelude.{◌≡◌, ◌⊎◌, ◌<◌, ℕ, ◌+◌, Bool, true, false, not, nat_le, List, [], ◌∷◌, length, map, Option, Some, Ok}
-use Rattle.std.specs.List.{AllByRecursion, flat_map, list_all, slice_get}
+use Rattle.std.specs.Prelude.{◌≡◌, ◌⊎◌, ◌<◌, ◌≤◌, ℕ, ◌+◌, Bool, true, false, not, nat_le, List, [], ◌∷◌, length, map, Option, Some, Ok}
+use Rattle.std.specs.List.{AllByRecursion, Contains, flat_map, list_all, slice_get}
 use Rattle.msc_parser.specs.Drafts.{statements_in}
 use Rattle.msc_import.specs.declared.TheConstants.{DEPTH_LIMIT, ROUND_LIMIT}
 use Rattle.msc_import.specs.declared.course.Ending.TheVariants as ends
@@ -87,6 +87,12 @@ ComesBefore (x ∷ xs) [] = ⊥
 abbrev pub EachOnceInOrder : Type 0
 EachOnceInOrder =
     (rounds : List ℕ) (d : Diagram) → InOrder (λ m n. m < n) rounds → InOrder ComesBefore (all_choices rounds d)
+
+-- none is missing: what a walk takes that no fault stops is one of the lists of choices, where rounds has
+-- each number of rounds that a loop may go
+abbrev pub NoneIsMissing : Type 0
+NoneIsMissing =
+    (rounds : List ℕ) (d : Diagram) (given : List ℕ) → ((r : ℕ) → r ≤ ROUND_LIMIT → Contains rounds r) → Takes given (walked d given) → Contains (all_choices rounds d) given
 
 -- the ends that the arrow of a step has on a line, the upper one first
 abbrev pub ends_on : Own → ℕ → Step → List Event

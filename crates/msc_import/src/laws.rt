@@ -2,7 +2,8 @@
 //! calls one to rest its own proof on the law.
 
 ghost use Rattle.msc_import.specs.Laws.{AsManyAsCounted, EachIsWhole, EachOnceInOrder};
-ghost use Rattle.msc_import.specs.Laws.{LinesKeepTheArrowsOrder, NoBlocksOneScenario, OneDiagram};
+ghost use Rattle.msc_import.specs.Laws.{LinesKeepTheArrowsOrder, NoBlocksOneScenario, NoneIsMissing};
+ghost use Rattle.msc_import.specs.Laws.{OneDiagram};
 
 /// A text has one diagram.
 pub fn one_diagram()
@@ -22,6 +23,12 @@ pub fn each_is_whole()
 /// The lists of choices are in their order, and each stands once.
 pub fn each_once_in_order()
     ensures { EachOnceInOrder }
+{}
+
+/// What a walk takes that no fault stops is one of the lists of choices, where these have each
+/// number of rounds that a loop may go.
+pub fn none_is_missing()
+    ensures { NoneIsMissing }
 {}
 
 /// Without a block that may take a choice there is one scenario, with no choice.
