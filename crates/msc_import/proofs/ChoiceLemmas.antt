@@ -4,7 +4,7 @@ use Rattle.std.specs.List.{list_all}
 use Rattle.std.proofs.lemmas.Bool.{and_parts}
 use Rattle.std.proofs.lemmas.Bool.Decides.{nat_tests}
 use Rattle.std.proofs.lemmas.List.{append-nil, drop_more, drop_all}
-use Rattle.msc_import.specs.declared.choosing.Way.{Way}
+use Rattle.msc_import.specs.declared.way.Way.{Way}
 use Rattle.msc_import.specs.declared.statement.Placed.{Placed}
 use Rattle.msc_import.specs.Courses.{owned_by}
 use Rattle.msc_import.specs.Choosing.{Chooser, behind, by_branches, by_rounds, by_sides, choose, choose_on, chosen, healed, one, repeated, straight}

@@ -1,7 +1,7 @@
 -- What a walk takes is one of some ways, or it stops.
 use Rattle.std.proofs.Common.{◌≡◌, ◌⊎◌, inl, inr, ℕ, ◌+◌, Bool, true, false, cond, nat_le, List, [], ◌∷◌, ◌++◌, length, map, refl, sym, ap, ◌∙◌, subst, append_assoc}
 use Rattle.std.proofs.lemmas.List.{append-nil}
-use Rattle.msc_import.specs.declared.choosing.Way.{Way}
+use Rattle.msc_import.specs.declared.way.Way.{Way}
 use Rattle.msc_import.specs.declared.course.Ending.TheVariants as ends
 use Rattle.msc_import.specs.declared.fault.ImportFault.{ImportFault}
 use Rattle.msc_import.specs.declared.fault.ImportFault.TheVariants.{Choice}

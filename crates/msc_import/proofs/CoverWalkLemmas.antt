@@ -3,7 +3,7 @@ use Rattle.std.proofs.Common.{◌≡◌, ◌⊎◌, inl, inr, ◌<◌, ◌≤◌
 use Rattle.std.specs.List.{Contains, onto_first, slice_index_or}
 use Rattle.std.proofs.lemmas.Bool.{false≢true}
 use Rattle.msc_import.specs.declared.TheConstants.{ARROW_LIMIT, DEPTH_LIMIT, ROUND_LIMIT}
-use Rattle.msc_import.specs.declared.choosing.Way.{Way}
+use Rattle.msc_import.specs.declared.way.Way.{Way}
 use Rattle.msc_import.specs.declared.course.Ending.{Ending}
 use Rattle.msc_import.specs.declared.course.Ending.TheVariants as ends
 use Rattle.msc_import.specs.declared.course.Step.TheVariants as steps

@@ -1,7 +1,7 @@
 -- Walks that are given the choices of one of some ways take them.
 use Rattle.std.proofs.Common.{◌≡◌, ◌⊎◌, inr, ℕ, zero, suc, ◌+◌, Bool, true, false, cond, nat_le, List, [], ◌∷◌, ◌++◌, map, refl, sym, ap, ◌∙◌, subst}
 use Rattle.std.specs.List.{AllByRecursion}
-use Rattle.msc_import.specs.declared.choosing.Way.{Way}
+use Rattle.msc_import.specs.declared.way.Way.{Way}
 use Rattle.msc_import.specs.declared.course.Ending.TheVariants as ends
 use Rattle.msc_import.specs.declared.course.Step.{Step}
 use Rattle.msc_import.specs.declared.course.Step.TheVariants as steps

@@ -4,7 +4,7 @@ use Rattle.std.specs.List.{AllByRecursion, list_all}
 use Rattle.std.proofs.lemmas.Bool.Decides.{nat_tests}
 use Rattle.std.proofs.lemmas.List.{append-nil}
 use Rattle.msc_import.specs.declared.TheConstants.{ARROW_LIMIT, DEPTH_LIMIT, ROUND_LIMIT}
-use Rattle.msc_import.specs.declared.choosing.Way.{Way}
+use Rattle.msc_import.specs.declared.way.Way.{Way}
 use Rattle.msc_import.specs.declared.course.Ending.TheVariants as ends
 use Rattle.msc_import.specs.declared.course.Step.TheVariants as steps
 use Rattle.msc_import.specs.declared.fault.ImportFault.TheVariants.{TooManyArrows, TooManyChoices}

@@ -1,7 +1,7 @@
 -- How many ways there are: those to the end, and those that a break ends.
 use Rattle.std.proofs.Common.{◌≡◌, ℕ, ◌+◌, ◌*◌, Bool, true, false, cond, List, [], ◌∷◌, ◌++◌, length, map, refl, sym, ap, ◌∙◌, arith}
 use Rattle.std.proofs.Math.Nat.{add-mul}
-use Rattle.msc_import.specs.declared.choosing.Way.{Way}
+use Rattle.msc_import.specs.declared.way.Way.{Way}
 use Rattle.msc_import.specs.declared.counting.Ways.{Ways}
 use Rattle.msc_import.specs.Counting as counting
 use Rattle.msc_import.specs.Counting.{all, capped, plus, times, unbroken}

@@ -4,7 +4,7 @@
 use Rattle.std.specs.Prelude.{ℕ, zero, suc, ◌+◌, Bool, true, false, cond, List, [], ◌∷◌, ◌++◌, length, map, take, drop}
 use Rattle.std.specs.List.{flat_map}
 use Rattle.msc_import.specs.declared.TheConstants.{DEPTH_LIMIT}
-use Rattle.msc_import.specs.declared.choosing.Way.{Way}
+use Rattle.msc_import.specs.declared.way.Way.{Way}
 use Rattle.msc_import.specs.declared.course.Form.{Form}
 use Rattle.msc_import.specs.declared.course.Form.TheVariants as forms
 use Rattle.msc_import.specs.declared.row.Kind.{Kind}

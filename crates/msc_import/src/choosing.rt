@@ -2,127 +2,18 @@
 
 ghost use Rattle.std.specs.Prelude.{◌≡◌, ◌≤◌, ◌++◌, ◌==◌, true, false, map, IfOk, OnOk};
 ghost use Rattle.std.specs.List.{list_all};
-ghost use Rattle.msc_import.specs.Choosing.{all_choices, behind, block, by_branches, by_options};
-ghost use Rattle.msc_import.specs.Choosing.{by_rounds, by_sides, choose, chosen, formed, goes_on};
-ghost use Rattle.msc_import.specs.Choosing.{healed, joined, one, repeated, straight};
-ghost use Rattle.msc_import.specs.Choosing.{under, with_end};
+ghost use Rattle.msc_import.specs.Choosing.{all_choices, block, by_branches, by_options, by_rounds};
+ghost use Rattle.msc_import.specs.Choosing.{by_sides, choose, chosen, formed, one, repeated};
+ghost use Rattle.msc_import.specs.Choosing.{straight};
 
 use crate::DEPTH_LIMIT;
 use crate::course::{Form, branches_of, extent, is_there};
 use crate::row::Kind;
 use crate::statement::{Diagram, Placed, Statement};
 use crate::walking::{branch_at, owned_by};
+use crate::way::{Way, behind, choices_of, healed, put_chosen, straight};
 use listed::Listed;
 use std::alloc::{AllocError, Global};
-
-/// A way through statements: its choices, and whether a break ended it.
-#[derive(Drop)]
-pub(crate) struct Way {
-    choices: Listed<usize>,
-    broken: bool,
-}
-
-impl Way {
-    /// The same choices, ended by a break or not.
-    fn with_end(&self, alloc: Global, broken: bool) -> Result<Way, AllocError>
-        ensures { IfOk result (λ w. w ≡ with_end broken self.now) }
-    {
-        let choices = Vec::from_slice(alloc, self.choices.as_slice())?;
-        Ok(Way {
-            choices: Listed::from_vec(choices),
-            broken,
-        })
-    }
-
-    /// It, and then the other.
-    fn joined(&self, alloc: Global, next: &Way) -> Result<Way, AllocError>
-        ensures { IfOk result (λ w. w ≡ joined self.now next.now) }
-    {
-        let mut choices = Vec::from_slice(alloc, self.choices.as_slice())?;
-        choices.extend_from_slice(next.choices.as_slice())?;
-        Ok(Way {
-            choices: Listed::from_vec(choices),
-            broken: next.broken,
-        })
-    }
-
-    /// It behind a choice, ended by a break or not.
-    fn under(&self, alloc: Global, choice: usize, broken: bool) -> Result<Way, AllocError>
-        ensures { IfOk result (λ w. w ≡ under choice broken self.now) }
-    {
-        let mut choices = Vec::new(alloc);
-        choices.push(choice)?;
-        choices.extend_from_slice(self.choices.as_slice())?;
-        Ok(Way {
-            choices: Listed::from_vec(choices),
-            broken,
-        })
-    }
-
-    /// Puts the ways that it goes on to.
-    fn put_on(&self, alloc: Global, next: &[Way], ways: &mut Vec<Way>) -> Result<(), AllocError>
-        ensures { OnOk result (ways.new.items ≡ ways.old.items ++ goes_on next.now self.now) }
-    {
-        if self.broken {
-            ways.push(self.with_end(alloc, true)?)?;
-            return Ok(());
-        }
-        for way in next {
-            ways.push(self.joined(alloc, way)?)?;
-        }
-        Ok(())
-    }
-}
-
-/// One way to the end, with no choice.
-fn straight(alloc: Global) -> Result<Vec<Way>, AllocError>
-    ensures { IfOk result (λ v. v.items ≡ straight) }
-{
-    let mut ways = Vec::new(alloc);
-    ways.push(Way {
-        choices: Listed::from_vec(Vec::new(alloc)),
-        broken: false,
-    })?;
-    Ok(ways)
-}
-
-/// Each of the first ways goes on with each of the second.
-fn behind(alloc: Global, first: &[Way], second: &[Way]) -> Result<Vec<Way>, AllocError>
-    ensures { IfOk result (λ v. v.items ≡ behind first.now second.now) }
-{
-    let mut ways = Vec::new(alloc);
-    for way in first {
-        way.put_on(alloc, second, &mut ways)?;
-    }
-    Ok(ways)
-}
-
-/// Puts each of these ways behind a choice, ended by a break or not.
-fn put_chosen(
-    alloc: Global,
-    choice: usize,
-    broken: bool,
-    found: &[Way],
-    ways: &mut Vec<Way>,
-) -> Result<(), AllocError>
-    ensures { OnOk result (ways.new.items ≡ ways.old.items ++ chosen choice broken found.now) }
-{
-    for way in found {
-        ways.push(way.under(alloc, choice, broken)?)?;
-    }
-    Ok(())
-}
-
-/// The same ways, none of them ended by a break.
-fn healed(alloc: Global, found: &[Way]) -> Result<Vec<Way>, AllocError>
-    ensures { IfOk result (λ v. v.items ≡ healed found.now) }
-{
-    let mut ways = Vec::new(alloc);
-    for way in found {
-        ways.push(way.with_end(alloc, false)?)?;
-    }
-    Ok(ways)
-}
 
 /// The ways through so many rounds of a loop.
 fn repeated(alloc: Global, body: &[Way], count: usize) -> Result<Vec<Way>, AllocError>
@@ -374,18 +265,6 @@ fn choose(
         owned = owned_by(statement, rest);
     }
     Ok(ways)
-}
-
-/// The choices of these ways.
-fn choices_of(alloc: Global, ways: &[Way]) -> Result<Vec<Listed<usize>>, AllocError>
-    ensures { IfOk result (λ v. v.items ≡ map (λ w. w.choices) ways.now) }
-{
-    let mut lists = Vec::new(alloc);
-    for way in ways {
-        let choices = Vec::from_slice(alloc, way.choices.as_slice())?;
-        lists.push(Listed::from_vec(choices))?;
-    }
-    Ok(lists)
 }
 
 /// The choices of each of a diagram's scenarios, where each loop goes these numbers of rounds. The

@@ -33,6 +33,7 @@ mod statement;
 #[cfg(test)]
 mod tests;
 mod walking;
+mod way;
 
 pub use choosing::all_choices;
 pub use counting::scenarios;

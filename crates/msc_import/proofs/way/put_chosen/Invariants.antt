@@ -1,6 +1,6 @@
 use Rattle.std.proofs.Common.{◌≡◌, ◌++◌, map, take}
 use Rattle.msc_import.specs.Choosing.{under}
-use Rattle.msc_import.proofs.choosing.put_chosen.Given as goal
+use Rattle.msc_import.proofs.way.put_chosen.Given as goal
 
 abbrev pub invariant-loop-way : goal.invariant-loop-way
 invariant-loop-way l =
