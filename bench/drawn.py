@@ -100,3 +100,13 @@ def cycle(messages):
     lines = zigzag_lines(messages)
     lines["a"][-2:] = reversed(lines["a"][-2:])
     return chart(lines)
+
+
+# those whose answers grow in ways of their own, by name
+GROWING = {
+    "in order": in_order,
+    "in reverse": in_reverse,
+    "32 lines at random": at_random,
+    "31 senders to one": to_one,
+    "two coregions": coregions,
+}

@@ -5,6 +5,7 @@ import pathlib
 import re
 import shutil
 import subprocess
+import sys
 import time
 
 HERE = pathlib.Path(__file__).resolve().parent
@@ -22,6 +23,14 @@ def answer(words, file):
     with open(file, "rb") as text:
         done = subprocess.run(words, stdin=text, capture_output=True)
     return done.returncode, done.stdout, done.stderr
+
+
+def printed(words, file):
+    """The output of a run that answers; one that is refused or fails ends the benchmark."""
+    status, output, said = answer(words, file)
+    if status > 1:
+        sys.exit(f"{' '.join(words)}: status {status}, {said.decode(errors='replace')}")
+    return output
 
 
 def times(words, file):
