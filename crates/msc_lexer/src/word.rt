@@ -81,6 +81,8 @@ impl Word {
     }
 
     /// The word that these bytes spell, in capital or small letters.
+    // A token of a chart costs a call here otherwise, since imports ask for words too.
+    #[inline(always)]
     pub fn of(bytes: &[u8]) -> Option<Word>
         ensures { result ≡ word_of bytes.now }
     {
