@@ -2,5 +2,4 @@
 pub mod Pages
 pub mod Renderings
 pub mod Findings
--- what the code keeps
 pub mod Telling

@@ -123,12 +123,13 @@ fn shown_line(line: &[u8], shown: bool) -> Option<&[u8]>
     if shown { Some(line) } else { None }
 }
 
-/// Who tells the races of a chart that are listed.
+/// Who tells races of a chart by a renderer, as is asked: with what they lack, and by the runs that
+/// show them.
 #[derive(Drop)]
-struct Teller<'t, 'a, R: Renderer> {
-    listing: &'t Listing<'a>,
-    question: Question,
-    renderer: &'t R,
+pub struct Teller<'t, 'a, R: Renderer> {
+    pub listing: &'t Listing<'a>,
+    pub question: Question,
+    pub renderer: &'t R,
 }
 
 impl<'t, 'a, R: Renderer> Teller<'t, 'a, R> {
@@ -382,7 +383,7 @@ impl<'t, 'a, R: Renderer> Teller<'t, 'a, R> {
 
     /// Puts these races of an event behind a page, those of the first that are told, behind so
     /// many. Which run shows them is asked once, and not for each.
-    fn put_event<W: Write>(
+    pub fn put_event<W: Write>(
         &self,
         alloc: Global,
         writer: &mut W,

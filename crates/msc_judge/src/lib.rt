@@ -10,7 +10,7 @@ mod page;
 mod question;
 mod renderer;
 
-pub use judging::judge;
+pub use judging::{Teller, judge};
 pub use marking::Marking;
 pub use page::{PAGE_SIZE, Page, WriteFault};
 pub use question::Question;

@@ -4,7 +4,7 @@ ghost use Rattle.std.specs.Prelude.{◌≡◌, ◌≤◌, IfOk, OnOk, length};
 ghost use Rattle.std.specs.Io.KnownBytes.{Appends};
 ghost use Rattle.msc_parser.specs.Grammar.{Tree};
 ghost use Rattle.msc_parser.specs.Parsing.{HasDraft};
-ghost use Rattle.msc_place.specs.Sites.{site_line, site_of, site_text, sites_line, AreSites};
+ghost use Rattle.msc_place.specs.Sites.{site_line, site_of, site_text, sites_in, sites_line, AreSites};
 
 use crate::index::Lines;
 use crate::places::Places;
@@ -45,6 +45,13 @@ impl<'f> Sites<'f> {
         let lines = Lines::of(alloc, text)?;
         let positions = places.positions(alloc, &lines)?;
         Ok(Sites { file, positions })
+    }
+
+    /// Where events stand in the text of a file of this name, by the positions at which they begin.
+    pub fn at(file: &'f [u8], positions: Vec<Position>) -> Sites<'f>
+        ensures { result.now ≡ sites_in file.now positions.items }
+    {
+        Sites { file, positions }
     }
 
     /// Where the statement of event `e` begins; of a number that is none of an event, the beginning
