@@ -3,7 +3,7 @@ use Rattle.std.specs.Prelude.{ℕ, Bool, true, false, List}
 use Rattle.msc_report.specs.declared.fault.Fault.{Fault}
 use Rattle.msc_report.specs.declared.fault.Fault.TheVariants.{Parse, Chart, NotStarted, Memory, Device}
 use Rattle.msc_report.specs.Texts.{fault_line, instance_fault_line, mark_fault_line, pair_fault_line}
-use Rattle.msc_report.specs.Imports.{import_refusal_line}
+use Rattle.msc_diagram.specs.Faults.{import_refusal_line}
 use Rattle.msc_import.specs.Importing.{seen}
 use Rattle.msc_import.specs.declared.fault.ImportFault.{ImportFault}
 use Rattle.msc_import.specs.declared.fault.ImportFault.TheVariants as imports

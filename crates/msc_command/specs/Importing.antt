@@ -11,7 +11,8 @@ use Rattle.msc_judge.specs.declared.page.Page.{Page}
 use Rattle.msc_parser.specs.Canonical.{canonical}
 use Rattle.msc_parser.specs.Grammar.{Tree}
 use Rattle.msc_report.specs.declared.fault.Fault.TheVariants.{Chart, Memory}
-use Rattle.msc_report.specs.Imports.{placed_list}
+use Rattle.msc_place.specs.Sites.{sites_in}
+use Rattle.msc_report.specs.Lists.{listed_text}
 use Rattle.msc_source.specs.declared.fault.SourceFault.{SourceFault}
 use Rattle.msc_source.specs.declared.fault.SourceFault.TheVariants as sources
 use Rattle.msc_command.specs.declared.ending.Refusal.{Refusal}
@@ -109,7 +110,7 @@ wanted_of x = wanted_with x (option_map (λ c. choices_in c.now) x.choose)
 abbrev pub PrintsImported : Bool → List ℕ → Imported → List ℕ → Type 0
 PrintsImported false file is printed = printed ≡ canonical is.draft
 PrintsImported true file is printed =
-    IsFaultless is.draft × (printed ≡ placed_list (chart_of is.draft) file is.places)
+    IsFaultless is.draft × (printed ≡ listed_text (chart_of is.draft) (Some (sites_in file is.places)))
 
 -- the chart of a draft, or its first fault, or memory ran out
 abbrev pub IsChartOrFault : Tree → Result Drawing SourceFault → Type 0

@@ -9,13 +9,13 @@ ghost use Rattle.msc_report.specs.Refusals.{of_reading};
 ghost use Rattle.msc_report.specs.Texts.{fault_line};
 
 use crate::notes::write_cause;
+use msc_diagram::write_import_fault;
 use msc_ending::RunFault;
 use msc_import::{ImportFault, Refused};
 use msc_judge::WriteFault;
 use msc_mark::MarkFault;
 use msc_report::{
-    Fault, NamedFault, write_fault, write_import_fault, write_instance_fault, write_mark_fault,
-    write_pair_fault,
+    Fault, NamedFault, write_fault, write_instance_fault, write_mark_fault, write_pair_fault,
 };
 use msc_source::{ReadFault, SourceFault};
 use std::alloc::AllocError;

@@ -11,26 +11,26 @@ use crate::tasks::ImportWords;
 use msc_chart::Chart;
 use msc_import::{Imported, Importing, import};
 use msc_judge::Page;
-use msc_report::write_list_at;
+use msc_parser::Draft;
+use msc_place::Sites;
 use msc_source::SourceFault;
+use msc_text::list_chart;
 use std::alloc::Global;
 
-/// The chart of what was imported, or why it is none.
-fn chart_of(alloc: Global, imported: &Imported) -> Result<Chart, SourceFault>
-    ensures { IsChartOrFault imported.now.draft result }
+/// The chart of a draft, or why it is none.
+fn chart_of(alloc: Global, draft: &Draft) -> Result<Chart, SourceFault>
+    ensures { IsChartOrFault draft.now result }
 {
-    Ok(Chart::build(alloc, &imported.draft)?)
+    Ok(Chart::build(alloc, draft)?)
 }
 
 /// The events of what was imported of the text of a file of this name, on a page.
-fn list_page(alloc: Global, file: &str, imported: &Imported) -> Result<Page, Refusal<'static>>
-    ensures { IsPageOf true file.now imported.now result }
+fn list_page(alloc: Global, file: &str, imported: Imported) -> Result<Page, Refusal<'static>>
+    ensures { IsPageOf true file.now imported result }
 {
-    let chart = chart_of(alloc, imported)?;
-    let mut page = Page::new(alloc);
-    let places = imported.places.as_slice();
-    let written = write_list_at(&mut page, &chart, file.as_bytes(), places);
-    let page = page.if_written(written)?;
+    let chart = chart_of(alloc, &imported.draft)?;
+    let sites = Sites::at(file.as_bytes(), imported.places.into_vec());
+    let page = list_chart(alloc, &chart, Some(&sites))?;
     Ok(page)
 }
 
@@ -39,9 +39,9 @@ fn page_of(
     alloc: Global,
     list: bool,
     file: &str,
-    imported: &Imported,
+    imported: Imported,
 ) -> Result<Page, Refusal<'static>>
-    ensures { IsPageOf list file.now imported.now result }
+    ensures { IsPageOf list file.now imported result }
 {
     if list {
         return list_page(alloc, file, imported);
@@ -98,5 +98,5 @@ pub(crate) fn import_page(
     ensures { IsImportedOn words.entry file.now text.now result }
 {
     let imported = import_by(alloc, words, text)?;
-    page_of(alloc, words.list, file, &imported)
+    page_of(alloc, words.list, file, imported)
 }

@@ -6,7 +6,6 @@ pub mod Traces
 pub mod EventTexts
 pub mod Styles
 pub mod Lists
-pub mod Imports
 pub mod Stale
 pub mod Lines
 pub mod Counts

@@ -1,20 +1,13 @@
-//! The lines of faults of imports, and the list of what was imported.
+//! The lines of faults of imports.
 
-ghost use Rattle.std.specs.Prelude.{◌<◌, [], OnOk, Some, length};
+ghost use Rattle.std.specs.Prelude.{[], OnOk};
 ghost use Rattle.std.specs.Io.KnownBytes.{Appends};
 ghost use Rattle.msc_import.specs.Importing.{seen};
-ghost use Rattle.msc_place.specs.Sites.{sites_in};
-ghost use Rattle.msc_report.specs.Imports.{import_fault_line, import_line, import_refusal_line};
-ghost use Rattle.msc_report.specs.Imports.{placed_list, several_line};
-ghost use Rattle.msc_report.specs.Lists.{listed_below, listed_event};
+ghost use Rattle.msc_diagram.specs.Faults.{import_fault_line, import_line, import_refusal_line};
+ghost use Rattle.msc_diagram.specs.Faults.{several_line};
 ghost use Rattle.msc_report.specs.Texts.{text_line};
 
-use crate::trace::write_event_line;
-use crate::verdict::write_name_line;
-use msc_chart::{Chart, Event};
 use msc_import::{Closer, Expectation, Head, ImportFault, Refused, SCENARIO_LIMIT};
-use msc_place::Position;
-use msc_place::writing::write_place;
 use std::io;
 use std::io::Write;
 
@@ -139,59 +132,4 @@ pub fn write_import_fault<W: Write>(writer: &mut W, refused: &Refused) -> io::Re
         (import_refusal_line (seen refused.now))) }
 {
     write_named(writer, refused.fault, refused.name.as_slice())
-}
-
-/// The position of an event where none is known: the beginning of a text.
-const BEGINNING: Position = Position { line: 1, column: 1 };
-
-/// Writes the line of an event, and that of its place in a file.
-fn write_listed_at<W: Write>(
-    writer: &mut W,
-    chart: &Chart,
-    file: &[u8],
-    places: &[Position],
-    e: Event,
-) -> io::Result<()>
-    requires { e < length chart.now.events }
-    ensures { OnOk result (Appends (W.contents writer.old) (W.contents writer.new)
-        (listed_event chart.now (Some (sites_in file.now places.now)) e)) }
-{
-    write_event_line(writer, chart, e)?;
-    writer.write_all(b"at ")?;
-    let place = places.get(e as usize).copied().unwrap_or(BEGINNING);
-    write_place(writer, file, place)?;
-    writer.write_all(b"\n")
-}
-
-/// Writes the lines of all events of a chart, in their order, with their places in a file.
-fn write_all_at<W: Write>(
-    writer: &mut W,
-    chart: &Chart,
-    file: &[u8],
-    places: &[Position],
-) -> io::Result<()>
-    ensures { OnOk result (Appends (W.contents writer.old) (W.contents writer.new)
-        (listed_below chart.now (Some (sites_in file.now places.now))
-        (length chart.now.events))) }
-{
-    for e in 0..chart.events() {
-        write_listed_at(writer, chart, file, places, e)?;
-    }
-    Ok(())
-}
-
-/// Writes the events of a chart as `write_list` does, with these places of them in a file.
-pub fn write_list_at<W: Write>(
-    writer: &mut W,
-    chart: &Chart,
-    file: &[u8],
-    places: &[Position],
-) -> io::Result<()>
-    ensures { OnOk result (Appends (W.contents writer.old) (W.contents writer.new)
-        (placed_list chart.now file.now places.now)) }
-{
-    write_name_line(writer, chart)?;
-    let events = chart.events();
-    writeln!(writer, "events {events}")?;
-    write_all_at(writer, chart, file, places)
 }

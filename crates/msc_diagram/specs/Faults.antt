@@ -1,17 +1,12 @@
--- The lines that faults of imports are printed as, and the list of what was imported. This project's own
--- formats.
-use Rattle.std.specs.Prelude.{ℕ, cond, nat_le, List, ◌++◌, Some, codes}
+-- The lines that faults of imports are printed as. This project's own format.
+use Rattle.std.specs.Prelude.{ℕ, cond, nat_le, List, ◌++◌, codes}
 use Rattle.std.specs.Fmt.{decimal}
-use Rattle.msc_chart.specs.Drawings.{Drawing}
 use Rattle.msc_import.specs.Expectations.{closer_word, expectation}
 use Rattle.msc_import.specs.Keys.{head_text}
 use Rattle.msc_import.specs.declared.TheConstants.{SCENARIO_LIMIT}
 use Rattle.msc_import.specs.declared.fault.ImportFault.{ImportFault}
 use Rattle.msc_import.specs.declared.fault.ImportFault.TheVariants as imports
 use Rattle.msc_import.specs.Importing.{Refusal}
-use Rattle.msc_place.specs.Sites.{sites_in}
-use Rattle.msc_place.specs.declared.position.Position.{Position}
-use Rattle.msc_report.specs.Lists.{listed_text}
 use Rattle.msc_report.specs.Texts.{text_line}
 
 -- the line of a fault by its number, on a line of the text
@@ -46,7 +41,3 @@ import_fault_line imports.Memory name = text_line (codes "memory fault")
 -- the line of why nothing is imported
 abbrev pub import_refusal_line : Refusal → List ℕ
 import_refusal_line refused = import_fault_line refused.fault refused.name
-
--- the events of a chart, with these places of a file
-abbrev pub placed_list : Drawing → List ℕ → List Position → List ℕ
-placed_list d file places = listed_text d (Some (sites_in file places))

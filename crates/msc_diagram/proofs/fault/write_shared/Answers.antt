@@ -1,6 +1,6 @@
 use Rattle.std.proofs.lemmas.Result.{IfOk-weaker}
 use Rattle.msc_judge.proofs.KnownBytes.{Appends-append}
-use Rattle.msc_report.proofs.import.write_shared.Goals as goal
+use Rattle.msc_diagram.proofs.fault.write_shared.Goals as goal
 
 pub returns : goal.returns
 returns g c =
