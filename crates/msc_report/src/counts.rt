@@ -18,8 +18,9 @@ pub struct Counts<'f> {
     pub file: &'f [u8],
 }
 
-/// Writes the line of a file.
-fn write_tally<W: Write>(writer: &mut W, file: &[u8], heading: Heading) -> io::Result<()>
+/// Writes the line of a file: whether there are no races, or how many, and how many of those that
+/// count are closest.
+pub fn write_tally<W: Write>(writer: &mut W, file: &[u8], heading: Heading) -> io::Result<()>
     ensures { OnOk result (Appends (W.contents writer.old) (W.contents writer.new)
         (tally_line file.now heading)) }
 {

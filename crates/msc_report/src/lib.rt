@@ -25,7 +25,7 @@ mod trace;
 mod verdict;
 mod writing;
 
-pub use counts::Counts;
+pub use counts::{Counts, write_tally};
 pub use editor::Editor;
 pub use event_texts::EventTexts;
 pub use fault::Fault;
