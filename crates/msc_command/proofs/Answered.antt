@@ -33,7 +33,7 @@ use Rattle.msc_command.specs.declared.tasks.Ask.TheVariants as asks
 use Rattle.msc_command.specs.declared.tasks.Checking.{Checking}
 use Rattle.msc_command.specs.declared.tasks.Task.{Task}
 use Rattle.msc_command.specs.declared.tasks.Task.TheVariants as tasks
-use Rattle.msc_command.specs.Answering.{Answers, AnswersOf, Delivers, Does, EndsAs, IsPut, Performs, Prints, PrintsOf, Refuses, RefusesOf, TellsQuietly}
+use Rattle.msc_command.specs.Answering.{Answers, AnswersOf, AnswersWith, Delivers, Does, EndsAs, IsPut, Performs, Prints, PrintsOf, Refuses, RefusesOf, TellsQuietly}
 use Rattle.msc_command.specs.Ending.{ended_by, of_marks}
 use Rattle.msc_command.specs.Formats.{IsFormat}
 use Rattle.msc_command.specs.Marked.{AreMarked, ReadsMarks}
@@ -64,22 +64,33 @@ quietly_marked queues allowed accept s (marking.Reason at) faulty = faulty
 quietly_marked queues allowed accept s marking.Memory said = tt
 
 module _ {W : Type 0} (contents : W → Option (List ℕ)) where
-  -- what was answered of one thing was answered of another, where what is right of it is right there
+  -- what was answered of one thing was answered of another, where what is right of it is right there, and what
+  -- begins it begins that
+  pub answers_with_so : (prints so : Status → List ℕ → Type 0) (begins begun : List ℕ → Type 0) (refuses not_so : Refusal → Type 0)
+      → ((status : Status) (printed : List ℕ) → prints status printed → so status printed)
+      → ((printed : List ℕ) → begins printed → begun printed) → ((r : Refusal) → refuses r → not_so r)
+      → (answer : Result Status Refusal) (old new : W) → AnswersWith contents prints begins refuses answer old new
+      → AnswersWith contents so begun not_so answer old new
+  answers_with_so prints so begins begun refuses not_so right starts wrong (Ok status) old new (printed, says, wrote) =
+      (printed, right status printed says, wrote)
+  answers_with_so prints so begins begun refuses not_so right starts wrong (Err (refusals.Fault Memory)) old new (inl same) = inl same
+  answers_with_so prints so begins begun refuses not_so right starts wrong (Err (refusals.Fault Memory)) old new (inr (printed, says, part)) =
+      inr (printed, starts printed says, part)
+  answers_with_so prints so begins begun refuses not_so right starts wrong (Err (refusals.Fault Device)) old new said = tt
+  answers_with_so prints so begins begun refuses not_so right starts wrong (Err (refusals.Fault (Parse f))) old new (fails, same) = (wrong _ fails, same)
+  answers_with_so prints so begins begun refuses not_so right starts wrong (Err (refusals.Fault (Chart f))) old new (fails, same) = (wrong _ fails, same)
+  answers_with_so prints so begins begun refuses not_so right starts wrong (Err (refusals.Fault (NotStarted i))) old new (fails, same) = (wrong _ fails, same)
+  answers_with_so prints so begins begun refuses not_so right starts wrong (Err (refusals.Pair f)) old new (fails, same) = (wrong _ fails, same)
+  answers_with_so prints so begins begun refuses not_so right starts wrong (Err (refusals.Mark f)) old new (fails, same) = (wrong _ fails, same)
+  answers_with_so prints so begins begun refuses not_so right starts wrong (Err (refusals.Instance name)) old new (fails, same) = (wrong _ fails, same)
+  answers_with_so prints so begins begun refuses not_so right starts wrong (Err (refusals.Import e)) old new (fails, same) = (wrong _ fails, same)
+
+  -- the same, where what is right begins itself
   pub answers_so : (prints so : Status → List ℕ → Type 0) (refuses not_so : Refusal → Type 0)
       → ((status : Status) (printed : List ℕ) → prints status printed → so status printed) → ((r : Refusal) → refuses r → not_so r)
       → (answer : Result Status Refusal) (old new : W) → Answers contents prints refuses answer old new → Answers contents so not_so answer old new
-  answers_so prints so refuses not_so right wrong (Ok status) old new (printed, says, wrote) = (printed, right status printed says, wrote)
-  answers_so prints so refuses not_so right wrong (Err (refusals.Fault Memory)) old new (inl same) = inl same
-  answers_so prints so refuses not_so right wrong (Err (refusals.Fault Memory)) old new (inr (status, printed, says, begun)) =
-      inr (status, printed, right status printed says, begun)
-  answers_so prints so refuses not_so right wrong (Err (refusals.Fault Device)) old new said = tt
-  answers_so prints so refuses not_so right wrong (Err (refusals.Fault (Parse f))) old new (fails, same) = (wrong _ fails, same)
-  answers_so prints so refuses not_so right wrong (Err (refusals.Fault (Chart f))) old new (fails, same) = (wrong _ fails, same)
-  answers_so prints so refuses not_so right wrong (Err (refusals.Fault (NotStarted i))) old new (fails, same) = (wrong _ fails, same)
-  answers_so prints so refuses not_so right wrong (Err (refusals.Pair f)) old new (fails, same) = (wrong _ fails, same)
-  answers_so prints so refuses not_so right wrong (Err (refusals.Mark f)) old new (fails, same) = (wrong _ fails, same)
-  answers_so prints so refuses not_so right wrong (Err (refusals.Instance name)) old new (fails, same) = (wrong _ fails, same)
-  answers_so prints so refuses not_so right wrong (Err (refusals.Import e)) old new (fails, same) = (wrong _ fails, same)
+  answers_so prints so refuses not_so right wrong answer old new said =
+      answers_with_so prints so _ _ refuses not_so right (λ printed begun. (begun.0, right begun.0 printed begun.1)) wrong answer old new said
 
   -- what is right to print was put
   pub put_so : (prints : Status → List ℕ → Type 0) (refuses : Refusal → Type 0) (bytes : List ℕ) (status : Status) → prints status bytes
@@ -99,7 +110,7 @@ module _ {W : Type 0} (contents : W → Option (List ℕ)) where
         → AnswersOf contents (asks.Check c) file s (Err (refusals.Fault (of_writing f))) old new
     not_judged writing.Memory old new (inl same) = inl same
     not_judged writing.Memory old new (inr (passed, printed, says, begun)) =
-        inr (ended_by passed, printed, (format, its, marks, are, passed, refl, says), begun)
+        inr (printed, (ended_by passed, format, its, marks, are, passed, refl, says), begun)
     not_judged writing.Device old new said = tt
 
   module _ (x : Readying) (file : List ℕ) (s : SourceText) (only : Option (List Bool)) (are : AreReady s.chart (names_of x) only)
@@ -114,7 +125,7 @@ module _ {W : Type 0} (contents : W → Option (List ℕ)) where
         → AnswersOf contents (asks.Ready x) file s (Err (refusals.Fault (of_writing f))) old new
     not_readied writing.Memory old new (inl same) = inl same
     not_readied writing.Memory old new (inr (passed, printed, says, begun)) =
-        inr (ended_by passed, printed, (only, are, style, its, passed, refl, says), begun)
+        inr (printed, (ended_by passed, only, are, style, its, passed, refl, says), begun)
     not_readied writing.Device old new said = tt
 
   -- marks that can't be read are answered so

@@ -1,7 +1,8 @@
 -- Numbers of words, one digit more.
-use Rattle.std.proofs.Common.{◌≡◌, ◌<◌, ◌≤◌, ℕ, ◌+◌, List, [], ◌∷◌, length, get_or, drop, Option, None, Some, option_and_then, refl, ap, ◌∙◌, arith}
+use Rattle.std.proofs.Common.{◌≡◌, ◌<◌, ◌≤◌, ℕ, ◌+◌, List, [], ◌∷◌, length, get_or, drop, Option, None, Some, option_and_then, cond, refl, ap, ◌∙◌, ◌++◌, arith}
+use Rattle.std.proofs.Math.Numerals.{add-one}
 use Rattle.std.proofs.lemmas.List.{drop_more, drop_all}
-use Rattle.msc_command.specs.Importing.{number_behind, number_of, with_digit}
+use Rattle.msc_command.specs.Importing.{gives_round, number_behind, number_of, rounds_below, with_digit}
 
 behind_cons : (n b : ℕ) (bs : List ℕ) → number_behind n (b ∷ bs) ≡ option_and_then (λ m. number_behind m bs) (with_digit n b)
 unfolding number_behind
@@ -31,3 +32,12 @@ pub number_empty : (bs : List ℕ) → length bs ≡ 0 → number_of bs ≡ None
 unfolding number_of
 number_empty [] none = refl
 number_empty (b ∷ bs) none = absurd (omega (arith, none))
+
+-- no number of rounds is below 0, and one more may be below the next
+pub no_rounds : (word : List ℕ) → rounds_below word 0 ≡ []
+unfolding rounds_below
+no_rounds word = refl
+
+pub next_rounds : (word : List ℕ) (n : ℕ) → rounds_below word (n + 1) ≡ rounds_below word n ++ cond (gives_round word n) (n ∷ []) []
+unfolding rounds_below
+next_rounds word n = rw (add-one n) refl

@@ -5,7 +5,7 @@ use Rattle.msc_import.specs.declared.fault.ImportFault.TheVariants as imports
 use Rattle.msc_import.specs.declared.importing.Imported.{Imported}
 use Rattle.msc_import.specs.declared.importing.Refused.{Refused as NotImported}
 use Rattle.msc_import.specs.Drafting.{IsReadAgain}
-use Rattle.msc_import.specs.Importing.{Refusal as Said, RefusesSo, Wanted, imported, seen}
+use Rattle.msc_import.specs.Importing.{Refusal as Said, RefusesSo, imported, seen}
 use Rattle.msc_judge.specs.declared.page.Page.{Page}
 use Rattle.msc_report.specs.declared.fault.Fault.TheVariants.{Parse, Chart, NotStarted, Memory, Device}
 use Rattle.msc_report.specs.Refusals.{of_source}
@@ -13,35 +13,37 @@ use Rattle.msc_source.specs.declared.fault.SourceFault.{SourceFault}
 use Rattle.msc_source.specs.declared.fault.SourceFault.TheVariants as sources
 use Rattle.msc_command.specs.Answering.{Answers}
 use Rattle.msc_command.specs.Ending.{of_import, of_import_fault}
-use Rattle.msc_command.specs.Importing.{IsChartOrFault, IsImport, IsImportAs, IsImportedOn, IsPageOf, PrintsImportPage, RefusesImport, wanted_of}
+use Rattle.msc_command.specs.Importing.{IsChartOrFault, IsImport, IsImportedOn, IsNotImported, IsPageOf, PrintsImportPage, RefusesImport, wanted_of}
 use Rattle.msc_command.specs.declared.ending.Refusal.{Refusal}
 use Rattle.msc_command.specs.declared.ending.Refusal.TheVariants as refusals
 use Rattle.msc_command.specs.declared.tasks.ImportWords.{ImportWords}
 
 -- a fault that is not want of memory is the one of the definition
-is_said : (e : NotImported) (said : Result Imported Said) (f : ImportFault) → e.fault ≡ f → (f ≡ imports.Memory → ⊥) → RefusesSo e said → said ≡ Err (seen e)
+is_said : {A : Type 0} (e : NotImported) (said : Result A Said) (f : ImportFault) → e.fault ≡ f → (f ≡ imports.Memory → ⊥) → RefusesSo e said → said ≡ Err (seen e)
 is_said e said f is other (inl spent) = absurd (other (sym is ∙ spent))
 is_said e said f is other (inr same) = same
 
-module _ (x : Wanted) (text : List ℕ) where
-  by_fault : (e : NotImported) (f : ImportFault) → e.fault ≡ f → RefusesSo e (imported x text) → IsImportAs x text (Err (of_import_fault e f))
+module _ {A : Type 0} (said : Result A Said) where
+  by_fault : (e : NotImported) (f : ImportFault) → e.fault ≡ f → RefusesSo e said → IsNotImported said (of_import_fault e f)
   by_fault e imports.Memory is h = tt
-  by_fault e imports.TooLong is h = is_said e _ imports.TooLong is (λ m. cc) h
-  by_fault e (imports.Expected a b) is h = is_said e _ (imports.Expected a b) is (λ m. cc) h
-  by_fault e (imports.Unsupported a b) is h = is_said e _ (imports.Unsupported a b) is (λ m. cc) h
-  by_fault e (imports.Cross a) is h = is_said e _ (imports.Cross a) is (λ m. cc) h
-  by_fault e (imports.Unended a) is h = is_said e _ (imports.Unended a) is (λ m. cc) h
-  by_fault e (imports.Outside a b) is h = is_said e _ (imports.Outside a b) is (λ m. cc) h
-  by_fault e (imports.TooDeep a) is h = is_said e _ (imports.TooDeep a) is (λ m. cc) h
-  by_fault e (imports.TooManyLines a) is h = is_said e _ (imports.TooManyLines a) is (λ m. cc) h
-  by_fault e (imports.Several a) is h = is_said e _ (imports.Several a) is (λ m. cc) h
-  by_fault e (imports.Choice a b d) is h = is_said e _ (imports.Choice a b d) is (λ m. cc) h
-  by_fault e (imports.TooManyChoices a b) is h = is_said e _ (imports.TooManyChoices a b) is (λ m. cc) h
-  by_fault e (imports.TooManyArrows a) is h = is_said e _ (imports.TooManyArrows a) is (λ m. cc) h
-  by_fault e (imports.Shared a b) is h = is_said e _ (imports.Shared a b) is (λ m. cc) h
+  by_fault e imports.TooLong is h = is_said e said imports.TooLong is (λ m. cc) h
+  by_fault e (imports.Expected a b) is h = is_said e said (imports.Expected a b) is (λ m. cc) h
+  by_fault e (imports.Unsupported a b) is h = is_said e said (imports.Unsupported a b) is (λ m. cc) h
+  by_fault e (imports.Cross a) is h = is_said e said (imports.Cross a) is (λ m. cc) h
+  by_fault e (imports.Unended a) is h = is_said e said (imports.Unended a) is (λ m. cc) h
+  by_fault e (imports.Outside a b) is h = is_said e said (imports.Outside a b) is (λ m. cc) h
+  by_fault e (imports.TooDeep a) is h = is_said e said (imports.TooDeep a) is (λ m. cc) h
+  by_fault e (imports.TooManyLines a) is h = is_said e said (imports.TooManyLines a) is (λ m. cc) h
+  by_fault e (imports.TooManyScenarios a) is h = is_said e said (imports.TooManyScenarios a) is (λ m. cc) h
+  by_fault e (imports.Several a) is h = is_said e said (imports.Several a) is (λ m. cc) h
+  by_fault e (imports.Choice a b d) is h = is_said e said (imports.Choice a b d) is (λ m. cc) h
+  by_fault e (imports.TooManyChoices a b) is h = is_said e said (imports.TooManyChoices a b) is (λ m. cc) h
+  by_fault e (imports.TooManyArrows a) is h = is_said e said (imports.TooManyArrows a) is (λ m. cc) h
+  by_fault e (imports.Shared a b) is h = is_said e said (imports.Shared a b) is (λ m. cc) h
+  by_fault e (imports.NoDiagram a) is h = is_said e said (imports.NoDiagram a) is (λ m. cc) h
 
   -- so nothing is imported of the text
-  pub not_imported : (e : NotImported) → RefusesSo e (imported x text) → IsImportAs x text (Err (of_import e))
+  pub not_imported : (e : NotImported) → RefusesSo e said → IsNotImported said (of_import e)
   not_imported e h = by_fault e e.fault refl h
 
 module _ (x : ImportWords) (text file : List ℕ) where

@@ -32,6 +32,7 @@ use Rattle.msc_command.specs.Marked.{AreMarked, HasFaultyMark}
 use Rattle.msc_command.specs.Naming.{AreTwoNamed, IsNamedFault}
 use Rattle.msc_command.specs.Readied.{names_of, AreReady, IsFirstUnknown}
 use Rattle.msc_command.specs.Refused.{TellsRefusal, TellsUnread}
+use Rattle.msc_command.specs.Scenarios.{BeginsScenarios, PrintsScenarios, RefusesScenarios}
 use Rattle.msc_command.specs.Sited.{AreSited, IsStyle}
 use Rattle.msc_command.specs.declared.ending.Refusal.{Refusal}
 use Rattle.msc_command.specs.declared.ending.Refusal.TheVariants as refusals
@@ -40,7 +41,7 @@ use Rattle.msc_command.specs.declared.ending.Status.TheVariants.{Done}
 use Rattle.msc_command.specs.declared.tasks.Ask.{Ask}
 use Rattle.msc_command.specs.declared.tasks.Ask.TheVariants.{Check, Quiet, Explain, Run, List as Listing, Ready}
 use Rattle.msc_command.specs.declared.tasks.Task.{Task}
-use Rattle.msc_command.specs.declared.tasks.Task.TheVariants.{Read, Chart, Draw, Import}
+use Rattle.msc_command.specs.declared.tasks.Task.TheVariants.{Read, Chart, Draw, Import, Scenarios}
 
 -- What is printed of the chart of a text, of the file of this name, for what is asked of it, and how the
 -- run ends. A chart is run with a gate that is known to be open.
@@ -102,11 +103,13 @@ Prints (Chart ask) file text status printed =
 Prints (Draw drawn) file text status printed =
     (d : Drawing) × (is : IsChartOf text d) × PrintsPage drawn is.draft (source_text MscPr text d) status printed
 Prints (Import x) file text status printed = PrintsImportPage x file text status printed
+Prints (Scenarios x) file text status printed = PrintsScenarios x file text status printed
 
 -- why a text is refused for a task, with its first fault: it has no draft, or its draft is no chart,
 -- or of its chart that is not to be had which is asked; nothing is imported of it
 abbrev pub Refuses : Task → List ℕ → Refusal → Type 0
 Refuses (Import x) text refusal = RefusesImport x text refusal
+Refuses (Scenarios x) text refusal = RefusesScenarios x text refusal
 Refuses task text (refusals.Fault (Parse f)) = HasParseFault text f
 Refuses (Chart ask) text (refusals.Fault (faults.Chart f)) = (draft : Tree) × HasDraft text draft × IsFirstFault draft f
 Refuses (Chart ask) text refusal = (d : Drawing) × IsChartOf text d × RefusesOf ask (source_text MscPr text d) refusal
@@ -114,18 +117,23 @@ Refuses (Draw drawn) text (refusals.Fault (faults.Chart f)) = (draft : Tree) × 
 Refuses (Draw drawn) text refusal = (d : Drawing) × IsChartOf text d × RefusesDrawn drawn (source_text MscPr text d) refusal
 Refuses Read text refusal = ⊥
 
--- A task was done, where it is known what is right to print, with how the run ends then, and when it
--- is refused: such a text went behind the known bytes of a writer; or memory ran out, and the writer
--- has had no call or has a beginning of such a text; or the writer failed; or it is refused, and the
--- writer has had no call.
+-- A task was done, where it is known what is right to print, with how the run ends then, what begins
+-- it, and when it is refused: such a text went behind the known bytes of a writer; or memory ran out,
+-- and the writer has had no call or has a beginning of a text that begins it; or the writer failed; or
+-- it is refused, and the writer has had no call.
+abbrev pub AnswersWith : {W : Type 0} → (W → Option (List ℕ)) → (Status → List ℕ → Type 0) → (List ℕ → Type 0) → (Refusal → Type 0)
+    → Result Status Refusal → W → W → Type 0
+AnswersWith contents prints begins refuses (Ok status) old new =
+    (printed : List ℕ) × prints status printed × Appends (contents old) (contents new) printed
+AnswersWith {W} contents prints begins refuses (Err (refusals.Fault Memory)) old new =
+    (new ≡ old) ⊎ ((printed : List ℕ) × begins printed × WritesBeginning (contents old) (contents new) printed)
+AnswersWith contents prints begins refuses (Err (refusals.Fault Device)) old new = Unit {0}
+AnswersWith contents prints begins refuses (Err refusal) old new = refuses refusal × (new ≡ old)
+
+-- the same, where what is right to print begins it
 abbrev pub Answers : {W : Type 0} → (W → Option (List ℕ)) → (Status → List ℕ → Type 0) → (Refusal → Type 0)
     → Result Status Refusal → W → W → Type 0
-Answers contents prints refuses (Ok status) old new =
-    (printed : List ℕ) × prints status printed × Appends (contents old) (contents new) printed
-Answers {W} contents prints refuses (Err (refusals.Fault Memory)) old new =
-    (new ≡ old) ⊎ ((status : Status) × (printed : List ℕ) × prints status printed × WritesBeginning (contents old) (contents new) printed)
-Answers contents prints refuses (Err (refusals.Fault Device)) old new = Unit {0}
-Answers contents prints refuses (Err refusal) old new = refuses refusal × (new ≡ old)
+Answers contents prints refuses = AnswersWith contents prints (λ printed. (status : Status) × prints status printed) refuses
 
 -- what is asked of a chart was answered
 abbrev pub AnswersOf : {W : Type 0} → (W → Option (List ℕ)) → Ask → List ℕ → SourceText → Result Status Refusal → W → W → Type 0
@@ -138,9 +146,15 @@ TellsQuietly queues allowed accept s (Err (refusals.Fault Memory)) = Unit {0}
 TellsQuietly queues allowed accept s (Err (refusals.Mark fault)) = HasFaultyMark accept s.text fault
 TellsQuietly queues allowed accept s (Err refusal) = ⊥
 
+-- what begins what is printed of the text of a file for a task: of scenarios what is printed of the first
+-- of them, else that itself
+abbrev pub Begins : Task → List ℕ → List ℕ → List ℕ → Type 0
+Begins (Scenarios x) file text printed = BeginsScenarios x file text printed
+Begins task file text printed = (status : Status) × Prints task file text status printed
+
 -- a task was done for the text of a file
 abbrev pub Does : {W : Type 0} → (W → Option (List ℕ)) → Task → List ℕ → List ℕ → Result Status Refusal → W → W → Type 0
-Does contents task file text = Answers contents (Prints task file text) (Refuses task text)
+Does contents task file text = AnswersWith contents (Prints task file text) (Begins task file text) (Refuses task text)
 
 -- A task was done for the text of a file, and where it was refused that was told: where memory ran out
 -- or the writer failed, it is left as that.

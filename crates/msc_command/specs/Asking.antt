@@ -1,5 +1,5 @@
 -- What the words behind a command ask for, by what `clap` found of them.
-use Rattle.std.specs.Prelude.{◌≡◌, ◌<◌, ◌⊎◌, ◌^◌, ◌&&◌, ◌||◌, not, ℕ, Bool, true, false, List, [], ◌++◌, Option, Some, None, codes, map, option_and_then, unwrap_or, cond, option_map}
+use Rattle.std.specs.Prelude.{◌≡◌, ◌<◌, ◌⊎◌, ◌^◌, ◌&&◌, ◌||◌, not, ℕ, Bool, true, false, List, [], ◌++◌, Option, Some, None, codes, map, option_and_then, unwrap_or, cond, option_map, is_some, nat_le}
 use Rattle.std.specs.List.{list_any}
 use Rattle.std.specs.Option.{option_map_or}
 use Rattle.std.specs.Str.{bytes_eq}
@@ -29,18 +29,21 @@ use Rattle.msc_command.specs.declared.tasks.Checking.{Checking}
 use Rattle.msc_command.specs.declared.tasks.Drawn.TheVariants as drawn
 use Rattle.msc_command.specs.declared.tasks.Reversing.{Reversing}
 use Rattle.msc_command.specs.declared.tasks.Explaining.{Explaining}
+use Rattle.msc_command.specs.declared.tasks.DiagramWords.{DiagramWords}
 use Rattle.msc_command.specs.declared.tasks.ImportWords.{ImportWords}
 use Rattle.msc_command.specs.declared.tasks.Look.{Look}
 use Rattle.msc_command.specs.declared.tasks.Readying.{Readying}
+use Rattle.msc_command.specs.declared.tasks.ScenarioWords.{ScenarioWords}
 use Rattle.msc_command.specs.declared.tasks.Ask.TheVariants.{Check, Quiet, Explain, Run, List as Listing, Ready}
 use Rattle.msc_command.specs.declared.tasks.Form.{Form}
 use Rattle.msc_command.specs.declared.tasks.Form.TheVariants as forms
 use Rattle.msc_command.specs.declared.tasks.Task.{Task}
-use Rattle.msc_command.specs.declared.tasks.Task.TheVariants.{Read, Chart, Draw, Import}
+use Rattle.msc_command.specs.declared.tasks.Task.TheVariants.{Read, Chart, Draw, Import, Scenarios}
 use Rattle.msc_command.specs.declared.words.Verb.{Verb}
 use Rattle.msc_command.specs.declared.words.Verb.TheVariants as verbs
+use Rattle.msc_command.specs.declared.words.Word.{Word}
 use Rattle.msc_command.specs.declared.words.Word.TheVariants as words
-use Rattle.msc_command.specs.Importing.{gives_choices, title_of}
+use Rattle.msc_command.specs.Importing.{gives_choices, gives_rounds, title_of}
 use Rattle.msc_command.specs.Words.{form_of_word, word_name}
 
 -- the architecture that the words name
@@ -93,6 +96,17 @@ pub record IsOptionNumber (found : Found) (id : List ℕ) (without n : ℕ) : Ty
       → IsNumeral 10 (without_leading_plus text) → digits_value 10 (without_leading_plus text) < 2 ^ 32
       → n ≡ digits_value 10 (without_leading_plus text)
 
+-- the number of an option, where it stands
+pub record IsNumberGiven (found : Found) (id : List ℕ) (n : Option ℕ) : Type 0 where
+  pub absent : one_text found id ≡ None → n ≡ None
+  pub given : (text : List ℕ) → one_text found id ≡ Some text
+      → IsNumeral 10 (without_leading_plus text) → digits_value 10 (without_leading_plus text) < 2 ^ 32
+      → n ≡ Some (digits_value 10 (without_leading_plus text))
+
+-- an option with a value stands
+abbrev pub stands : Found → Word → Bool
+stands found word = is_some (first_value found (word_name word))
+
 -- the values of an option, of all its uses
 abbrev pub words_of : Found → List ℕ → List (List ℕ)
 words_of found id = option_map_or raw_values (matched_of found id) []
@@ -113,13 +127,13 @@ unlimited = 4294967295
 abbrev pub default_patience : ℕ
 default_patience = 1000000000
 
--- what the words ask of a chart's races
-pub record IsQuestion (found : Found) (q : Question) : Type 0 where
+-- what the words ask of races, of which so many are shown by runs where no word says it
+pub record IsQuestion (found : Found) (shown : ℕ) (q : Question) : Type 0 where
   pub closest : IsFlag found (word_name words.Closest) q.closest
   pub why : IsFlag found (word_name words.Why) q.why
   pub allowed : AreAllowed found q.allowed
   pub most : IsOptionNumber found (word_name words.Most) unlimited q.most
-  pub show : IsOptionNumber found (word_name words.Show) unlimited q.show
+  pub show : IsOptionNumber found (word_name words.Show) shown q.show
   pub short : IsFlag found (word_name words.Short) q.short
 
 -- the form that a word names: text, where none does
@@ -137,13 +151,36 @@ pub record IsLook (found : Found) (look : Look) : Type 0 where
   pub words_wanted : IsFlag found (word_name words.Words) look.words
 
 -- what the words of `check` ask of the races under an architecture
-pub record IsChecking (found : Found) (c : Checking) : Type 0 where
+pub record IsChecking (found : Found) (shown : ℕ) (c : Checking) : Type 0 where
   pub architecture_is : architecture found ≡ Some c.queues
-  pub question : IsQuestion found c.question
+  pub question : IsQuestion found shown c.question
   pub accept : IsFlag found (word_name words.Accept) c.accept
   pub form_is : c.form ≡ form found
   pub look : IsLook found c.look
-  pub loud : IsFlag found (word_name words.Quiet) false
+
+-- the words of `check` are of a diagram
+abbrev pub is_of_scenarios : Found → Bool
+is_of_scenarios found = stands found words.ScenariosFrom
+
+-- words of diagrams stand behind `check`, without the word for one
+abbrev pub lacks_from : Found → Bool
+lacks_from found =
+    not (is_of_scenarios found)
+    && ((stands found words.Rounds || stands found words.Limit)
+    || ((stands found words.Fence || stands found words.Name)
+    || (stands found words.Own || (stands found words.Cross || stands found words.Par))))
+
+-- a word for numbers of rounds gives none
+abbrev pub lacks_rounds : Option (List ℕ) → Bool
+lacks_rounds None = false
+lacks_rounds (Some word) = not (gives_rounds word)
+
+-- how many scenarios a diagram may have where no option says, and how many an option may say
+abbrev pub default_limit : ℕ
+default_limit = 64
+
+abbrev pub is_limit : ℕ → Bool
+is_limit n = nat_le 1 n && nat_le n 4096
 
 -- what the words of `explain` ask of two events under an architecture
 pub record IsExplaining (found : Found) (x : Explaining) : Type 0 where
@@ -210,24 +247,42 @@ abbrev pub lacks_choices : Option (List ℕ) → Bool
 lacks_choices None = false
 lacks_choices (Some word) = not (gives_choices word)
 
--- what the words of `import` ask for
-pub record IsImporting (found : Found) (x : ImportWords) : Type 0 where
+-- what the words say of a diagram
+pub record IsDiagram (found : Found) (x : DiagramWords) : Type 0 where
   pub language : x.language ≡ language_named (first_value found (word_name words.From))
+  pub fence : IsNumberGiven found (word_name words.Fence) x.fence
   pub cross : x.cross ≡ cross_named (first_value found (word_name words.Cross))
   pub own : x.manner.own ≡ own_named (first_value found (word_name words.Own))
   pub par : x.manner.par ≡ par_named (first_value found (word_name words.Par))
+  pub name : x.name.now ≡ chart_named found
+
+-- what the words of `import` ask for
+pub record IsImporting (found : Found) (x : ImportWords) : Type 0 where
+  pub diagram : IsDiagram found x.diagram
   pub choose : option_map (λ c. c.now) x.choose ≡ first_value found (word_name words.Choose)
   pub gives : lacks_choices (first_value found (word_name words.Choose)) ≡ false
-  pub name : x.name.now ≡ chart_named found
   pub list : IsFlag found (word_name words.Listed) x.list
+
+-- what the words of `check` ask of the scenarios of a diagram
+pub record IsSurvey (found : Found) (x : ScenarioWords) : Type 0 where
+  pub diagram : IsDiagram found x.diagram
+  pub rounds : option_map (λ r. r.now) x.rounds ≡ first_value found (word_name words.Rounds)
+  pub gives : lacks_rounds (first_value found (word_name words.Rounds)) ≡ false
+  pub limit : IsOptionNumber found (word_name words.Limit) default_limit x.limit
+  pub within : is_limit x.limit ≡ true
+  pub checking : IsChecking found 0 x.checking
+  pub unmarked : x.checking.accept ≡ false
+  pub quiet : IsFlag found (word_name words.Quiet) x.quiet
 
 -- What the words behind a command ask for. What is to be quiet is told by the status alone.
 abbrev pub AsksFor : Verb → Found → Task → Type 0
 AsksFor verbs.Read found Read = Unit {0}
-AsksFor verbs.Check found (Chart (Check c)) = IsChecking found c
+AsksFor verbs.Check found (Chart (Check c)) =
+    (is_of_scenarios found ≡ false) × IsFlag found (word_name words.Quiet) false × IsChecking found unlimited c
 AsksFor verbs.Check found (Chart (Quiet queues allowed accept)) =
-    AreAllowed found allowed × IsFlag found (word_name words.Accept) accept
+    (is_of_scenarios found ≡ false) × AreAllowed found allowed × IsFlag found (word_name words.Accept) accept
     × IsFlag found (word_name words.Quiet) true × (architecture found ≡ Some queues)
+AsksFor verbs.Check found (Scenarios x) = (is_of_scenarios found ≡ true) × IsSurvey found x
 AsksFor verbs.Explain found (Chart (Explain x)) = IsExplaining found x
 AsksFor verbs.Run found (Chart (Run queues patience)) =
     IsOptionNumber found (word_name words.Patience) default_patience patience
@@ -246,9 +301,25 @@ LacksPair found =
     (architecture found ≡ None)
     ⊎ (LacksEvent found (word_name words.FirstEvent) ⊎ LacksEvent found (word_name words.SecondEvent))
 
+-- the words of `check` can't be asked of a diagram: marks are asked, or the word for rounds gives no
+-- numbers, or as many scenarios can't be asked for
+abbrev pub LacksScenarios : Found → Type 0
+LacksScenarios found =
+    IsFlag found (word_name words.Accept) true
+    ⊎ ((lacks_rounds (first_value found (word_name words.Rounds)) ≡ true)
+    ⊎ ((n : ℕ) × IsOptionNumber found (word_name words.Limit) default_limit n × (is_limit n ≡ false)))
+
+-- what the words of `check` lack: the architecture, the word for a diagram where others are of one, or
+-- what can be asked of a diagram
+abbrev pub LacksCheck : Found → Type 0
+LacksCheck found =
+    (architecture found ≡ None)
+    ⊎ ((lacks_from found ≡ true) ⊎ ((is_of_scenarios found ≡ true) × LacksScenarios found))
+
 -- the words behind a command lack the architecture, or one of two events, where it takes them; or the
--- word for choices gives none
+-- word for choices gives none; or `check` can't be asked so
 abbrev pub LacksWords : Verb → Found → Type 0
+LacksWords verbs.Check found = LacksCheck found
 LacksWords verbs.Read found = ⊥
 LacksWords verbs.List found = ⊥
 LacksWords verbs.Draw found = ⊥

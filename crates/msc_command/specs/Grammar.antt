@@ -130,6 +130,7 @@ rule_by p name takes.Form = choice_rule name p.forms
 rule_by p name takes.Names = names_rule name
 rule_by p name takes.Language = choice_rule name p.languages
 rule_by p name takes.Choices = text_rule name
+rule_by p name takes.Rounds = text_rule name
 rule_by p name takes.Name = text_rule name
 rule_by p name takes.Own = choice_rule name p.owns
 rule_by p name takes.Cross = choice_rule name p.crosses

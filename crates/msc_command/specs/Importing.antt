@@ -1,12 +1,14 @@
 -- What is imported of a text, and what is printed of it.
-use Rattle.std.specs.Prelude.{◌≡◌, ◌+◌, ◌-◌, ◌*◌, ◌&&◌, ◌||◌, ◌==◌, nat_le, not, ℕ, Bool, true, false, cond, List, [], ◌∷◌, length, take, drop, map, Option, None, Some, Result, Ok, Err, codes, option_map, option_and_then, is_some, unwrap_or}
-use Rattle.std.specs.List.{list_all, slice_split, suffix_len}
+use Rattle.std.specs.Prelude.{◌≡◌, ◌+◌, ◌-◌, ◌*◌, ◌&&◌, ◌||◌, ◌==◌, nat_le, not, ℕ, zero, suc, ◌++◌, Bool, true, false, cond, List, [], ◌∷◌, length, take, drop, map, Option, None, Some, Result, Ok, Err, codes, option_map, option_and_then, is_some, unwrap_or}
+use Rattle.std.specs.List.{list_all, list_any, slice_split, suffix_len}
+use Rattle.std.specs.Option.{option_map_or}
 use Rattle.std.specs.Str.{bytes_eq}
 use Rattle.msc_chart.specs.Drawings.{Drawing, chart_of}
 use Rattle.msc_chart.specs.Faults.{IsFaultless, IsFirstFault}
+use Rattle.msc_import.specs.declared.TheConstants.{ROUND_LIMIT}
 use Rattle.msc_import.specs.declared.importing.Imported.{Imported}
 use Rattle.msc_import.specs.Drafting.{IsReadAgain}
-use Rattle.msc_import.specs.Importing.{Wanted, imported, seen}
+use Rattle.msc_import.specs.Importing.{Refusal as Said, Wanted, imported, seen}
 use Rattle.msc_judge.specs.declared.page.Page.{Page}
 use Rattle.msc_parser.specs.Canonical.{canonical}
 use Rattle.msc_parser.specs.Grammar.{Tree}
@@ -19,6 +21,7 @@ use Rattle.msc_command.specs.declared.ending.Refusal.{Refusal}
 use Rattle.msc_command.specs.declared.ending.Refusal.TheVariants as refusals
 use Rattle.msc_command.specs.declared.ending.Status.{Status}
 use Rattle.msc_command.specs.declared.ending.Status.TheVariants.{Done}
+use Rattle.msc_command.specs.declared.tasks.DiagramWords.{DiagramWords}
 use Rattle.msc_command.specs.declared.tasks.ImportWords.{ImportWords}
 
 -- a decimal digit
@@ -64,6 +67,29 @@ choice_in part = unwrap_or (number_of part) 0
 abbrev pub choices_in : List ℕ → List ℕ
 choices_in word = cond (bytes_eq word (codes "main")) [] (map choice_in (slice_split is_comma word))
 
+-- a number of rounds that a loop may go
+abbrev pub are_rounds : Option ℕ → Bool
+are_rounds None = false
+are_rounds (Some n) = nat_le n ROUND_LIMIT
+
+-- a word gives numbers of rounds: its parts between commas are such
+abbrev pub gives_rounds : List ℕ → Bool
+gives_rounds word = list_all (λ part. are_rounds (number_of part)) (slice_split is_comma word)
+
+-- this number is one that it gives
+abbrev pub gives_round : List ℕ → ℕ → Bool
+gives_round word n = list_any (λ part. option_map_or (λ m. m == n) (number_of part) false) (slice_split is_comma word)
+
+-- the numbers of rounds below n that it gives: each once, ascending
+unfoldable pub rounds_below : List ℕ → ℕ → List ℕ
+rounds_below word zero = []
+rounds_below word (suc n) = rounds_below word n ++ cond (gives_round word n) (n ∷ []) []
+
+-- the numbers of rounds that a word gives: 0 and 2, where none stands
+abbrev pub rounds_of : Option (List ℕ) → List ℕ
+rounds_of None = 0 ∷ 2 ∷ []
+rounds_of (Some word) = rounds_below word (ROUND_LIMIT + 1)
+
 -- `/`, and `.`
 abbrev pub is_slash : ℕ → Bool
 is_slash b = b == 47
@@ -92,9 +118,10 @@ abbrev pub title_of : List ℕ → List ℕ
 title_of file = before_ending (behind_folder file)
 
 -- what is wanted of a text, with these choices
-abbrev pub wanted_with : ImportWords → Option (List ℕ) → Wanted
+abbrev pub wanted_with : DiagramWords → Option (List ℕ) → Wanted
 wanted_with x choices = record {
   language = x.language;
+  fence = x.fence;
   cross = x.cross;
   manner = x.manner;
   choices = choices;
@@ -103,7 +130,7 @@ wanted_with x choices = record {
 
 -- what is wanted of a text
 abbrev pub wanted_of : ImportWords → Wanted
-wanted_of x = wanted_with x (option_map (λ c. choices_in c.now) x.choose)
+wanted_of x = wanted_with x.diagram (option_map (λ c. choices_in c.now) x.choose)
 
 -- What is printed of what was imported: its canonical text, or of its chart the list of its events, with
 -- the places of their arrows in the file.
@@ -126,12 +153,16 @@ IsPageOf list file is (Err (refusals.Fault Memory)) = Unit {0}
 IsPageOf list file is (Err (refusals.Fault (Chart f))) = (list ≡ true) × IsFirstFault is.draft f
 IsPageOf list file is (Err refusal) = ⊥
 
+-- why nothing is imported: as this says, or memory ran out
+abbrev pub IsNotImported : {A : Type 0} → Result A Said → Refusal → Type 0
+IsNotImported said (refusals.Import e) = said ≡ Err (seen e)
+IsNotImported said (refusals.Fault Memory) = Unit {0}
+IsNotImported said refusal = ⊥
+
 -- what is imported of a text by what is wanted of it, and its text is read again; or why nothing is
 abbrev pub IsImportAs : Wanted → List ℕ → Result Imported Refusal → Type 0
 IsImportAs x text (Ok is) = (imported x text ≡ Ok is) × IsReadAgain is.draft
-IsImportAs x text (Err (refusals.Import e)) = imported x text ≡ Err (seen e)
-IsImportAs x text (Err (refusals.Fault Memory)) = Unit {0}
-IsImportAs x text (Err refusal) = ⊥
+IsImportAs x text (Err refusal) = IsNotImported (imported x text) refusal
 
 abbrev pub IsImport : ImportWords → List ℕ → Result Imported Refusal → Type 0
 IsImport x text answer = IsImportAs (wanted_of x) text answer

@@ -11,6 +11,7 @@ pub mod Marked
 pub mod Drawing
 pub mod Ending
 pub mod Refused
+pub mod Scenarios
 pub mod Answering
 pub mod Program
 -- what the code keeps

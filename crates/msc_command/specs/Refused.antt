@@ -50,6 +50,7 @@ TellsIn contents form file text refusal old new = new ≡ old
 -- the form of a task's answer
 abbrev pub form_of : Task → Form
 form_of (tasks.Chart (Check c)) = c.form
+form_of (tasks.Scenarios x) = x.checking.form
 form_of task = forms.Text
 
 -- what the output gets of a refusal of a task

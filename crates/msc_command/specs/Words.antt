@@ -8,7 +8,7 @@ use Rattle.msc_command.specs.declared.words.Takes.TheVariants as takes
 use Rattle.msc_command.specs.declared.words.Verb.{Verb}
 use Rattle.msc_command.specs.declared.words.Verb.TheVariants.{Read, Check, Explain, Run, List as Listing, Draw, Reverse, Report, Ready, Import}
 use Rattle.msc_command.specs.declared.words.Word.{Word}
-use Rattle.msc_command.specs.declared.words.Word.TheVariants.{File, Queues, QueuesIfAny, Closest, Why, Most, Show, ShowSticks, Only, Allow, Format, Quiet, Words, Short, Accept, Patience, Places, Plain, Svg, FirstEvent, SecondEvent, From, Choose, Listed, Name, Own, Cross, Par}
+use Rattle.msc_command.specs.declared.words.Word.TheVariants.{File, Queues, QueuesIfAny, Closest, Why, Most, Show, ShowSticks, Only, Allow, Format, Quiet, Words, Short, Accept, Patience, Places, Plain, Svg, FirstEvent, SecondEvent, From, Choose, Listed, Name, Own, Cross, Par, ScenariosFrom, Rounds, Limit, Fence}
 
 -- the name of a word behind a command
 abbrev pub word_name : Word → List ℕ
@@ -38,6 +38,10 @@ word_name Name = codes "name"
 word_name Own = codes "self"
 word_name Cross = codes "cross"
 word_name Par = codes "par"
+word_name ScenariosFrom = codes "from"
+word_name Rounds = codes "rounds"
+word_name Limit = codes "limit"
+word_name Fence = codes "fence"
 word_name FirstEvent = codes "E"
 word_name SecondEvent = codes "F"
 
@@ -69,6 +73,10 @@ takes_of Name = takes.Name
 takes_of Own = takes.Own
 takes_of Cross = takes.Cross
 takes_of Par = takes.Par
+takes_of ScenariosFrom = takes.Language
+takes_of Rounds = takes.Rounds
+takes_of Limit = takes.Number
+takes_of Fence = takes.Number
 takes_of FirstEvent = takes.Event
 takes_of SecondEvent = takes.Event
 
@@ -97,7 +105,8 @@ verb_of_word name = find (λ verb. bytes_eq name (verb_name verb)) verbs
 abbrev pub words_of : Verb → List Word
 words_of Read = Places ∷ Plain ∷ File ∷ []
 words_of Check =
-    Queues ∷ Closest ∷ Why ∷ Most ∷ Show ∷ Allow ∷ Accept ∷ Format ∷ Quiet ∷ Words ∷ Short ∷ Places ∷ Plain ∷ File ∷ []
+    Queues ∷ Closest ∷ Why ∷ Most ∷ Show ∷ Allow ∷ Accept ∷ Format ∷ Quiet ∷ Words ∷ Short
+    ∷ ScenariosFrom ∷ Rounds ∷ Limit ∷ Fence ∷ Name ∷ Own ∷ Cross ∷ Par ∷ Places ∷ Plain ∷ File ∷ []
 words_of Explain = Queues ∷ Words ∷ Short ∷ Places ∷ Plain ∷ File ∷ FirstEvent ∷ SecondEvent ∷ []
 words_of Run = Queues ∷ Patience ∷ Places ∷ Plain ∷ File ∷ []
 words_of Listing = Places ∷ Plain ∷ File ∷ []
@@ -106,7 +115,7 @@ words_of Reverse = Queues ∷ Svg ∷ Places ∷ Plain ∷ File ∷ FirstEvent �
 words_of Report = Queues ∷ Places ∷ Plain ∷ File ∷ []
 words_of Ready = Queues ∷ Only ∷ ShowSticks ∷ Words ∷ Places ∷ Plain ∷ File ∷ []
 words_of Import =
-    From ∷ Choose ∷ Listed ∷ Name ∷ Own ∷ Cross ∷ Par ∷ Places ∷ Plain ∷ File ∷ []
+    From ∷ Fence ∷ Choose ∷ Listed ∷ Name ∷ Own ∷ Cross ∷ Par ∷ Places ∷ Plain ∷ File ∷ []
 
 -- the word for the form of an answer
 abbrev pub form_word : Form → List ℕ

@@ -24,6 +24,7 @@ use crate::notes::{write_cause, write_notes};
 use crate::readied::{first_unknown, lent, lines_named};
 use crate::recorded::TellsFailure;
 use crate::refused::refusal_lines;
+use crate::scenarios::check_scenarios;
 use crate::sited::{sites_of, style_of};
 use crate::tasks::{
     Ask, Checking, Drawn, Explaining, Form, ImportWords, Readying, Request, Task, form_of,
@@ -303,6 +304,7 @@ fn answer<'w, R: Threads + Wait + Sync, O: Write>(
             draw(alloc, drawn, read.draft(), &source, output)
         }
         Task::Import(words) => import(alloc, words, file, text, output),
+        Task::Scenarios(words) => check_scenarios(alloc, words, file, text, output),
     }
 }
 

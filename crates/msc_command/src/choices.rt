@@ -1,12 +1,15 @@
-//! The choices that a word of a command line gives, and the title of a file.
+//! The choices and the numbers of rounds that words of a command line give, and the title of a file.
 
-ghost use Rattle.std.specs.Prelude.{◌≡◌, ◌≤◌, IfOk, IfSome, length, map};
+ghost use Rattle.std.specs.Prelude.{◌≡◌, ◌≤◌, ◌+◌, ◌==◌, IfOk, IfSome, false, length, map, option_map};
+ghost use Rattle.std.specs.Option.{option_map_or};
+ghost use Rattle.msc_command.specs.Importing.{are_rounds, gives_round, gives_rounds, rounds_below, rounds_of};
 ghost use Rattle.std.specs.List.{slice_split};
 ghost use Rattle.msc_command.specs.Importing.{are_numbers, before_ending, behind_dot, behind_folder};
 ghost use Rattle.msc_command.specs.Importing.{behind_slash, choice_in, choices_in, gives_choices};
 ghost use Rattle.msc_command.specs.Importing.{greatest_choice, is_comma, is_dot, is_slash};
 ghost use Rattle.msc_command.specs.Importing.{number_of, title_of, with_digit};
 
+use msc_import::ROUND_LIMIT;
 use std::alloc::{AllocError, Global};
 
 /// The greatest number of a choice.
@@ -86,6 +89,71 @@ pub(crate) fn choices_in(alloc: Global, word: &str) -> Result<Vec<usize>, AllocE
     let parts = parts_of(alloc, word.as_bytes())?;
     let choices = choices_of(alloc, parts.as_slice())?;
     Ok(choices)
+}
+
+/// Whether a part of a word is a number of rounds that a loop may go.
+fn are_rounds(part: &[u8]) -> bool
+    ensures { result ≡ are_rounds (number_of part.now) }
+{
+    match number_of(part) {
+        Some(rounds) => rounds <= ROUND_LIMIT,
+        None => false,
+    }
+}
+
+/// Whether a word gives numbers of rounds: they have commas between.
+pub(crate) fn gives_rounds(bytes: &[u8]) -> bool
+    ensures { result ≡ gives_rounds bytes.now }
+{
+    bytes
+        .split(|byte| *byte == b',')
+        .all(|part| are_rounds(part))
+}
+
+/// Whether a part of a word is this number.
+fn is_number(part: &[u8], number: usize) -> bool
+    ensures { result ≡ option_map_or (λ m. m == number) (number_of part.now) false }
+{
+    match number_of(part) {
+        Some(other) => other == number,
+        None => false,
+    }
+}
+
+/// Whether this number is one that a word gives.
+fn gives_round(bytes: &[u8], number: usize) -> bool
+    ensures { result ≡ gives_round bytes.now number }
+{
+    bytes
+        .split(|byte| *byte == b',')
+        .any(|part| is_number(part, number))
+}
+
+/// The numbers of rounds that a word gives, each once, ascending.
+#[tactic(auto, using(crate::proofs::ChoiceNumbers::no_rounds, crate::proofs::ChoiceNumbers::next_rounds))]
+fn rounds_in(alloc: Global, bytes: &[u8]) -> Result<Vec<usize>, AllocError>
+    ensures { IfOk result (λ v. v.items ≡ rounds_below bytes.now (ROUND_LIMIT + 1)) }
+{
+    let mut rounds = Vec::new(alloc);
+    for number in 0..ROUND_LIMIT + 1 {
+        if gives_round(bytes, number) {
+            rounds.push(number)?;
+        }
+    }
+    Ok(rounds)
+}
+
+/// The numbers of rounds that a word gives: 0 and 2, where none stands.
+pub(crate) fn rounds_of(alloc: Global, word: Option<&str>) -> Result<Vec<usize>, AllocError>
+    ensures { IfOk result (λ v. v.items ≡ rounds_of (option_map (λ w. w.now) word.entry)) }
+{
+    if let Some(word) = word {
+        return rounds_in(alloc, word.as_bytes());
+    }
+    let mut rounds = Vec::new(alloc);
+    rounds.push(0)?;
+    rounds.push(2)?;
+    Ok(rounds)
 }
 
 /// Whether the byte ends a folder.

@@ -346,6 +346,7 @@ fn argument<'a>(alloc: Global, word: Word, lent: Choices<'a>) -> Arg<'a>
         Takes::Names => names(alloc, name, help),
         Takes::Language => one_of(alloc, name, help, lent.languages),
         Takes::Choices => text(alloc, name, help, "C"),
+        Takes::Rounds => text(alloc, name, help, "R,R.."),
         Takes::Name => text(alloc, name, help, "NAME"),
         Takes::Own => one_of(alloc, name, help, lent.owns),
         Takes::Cross => one_of(alloc, name, help, lent.crosses),

@@ -7,7 +7,7 @@ ghost use Rattle.msc_command.specs.Importing.{IsImportAs, wanted_with};
 
 use crate::choices::choices_in;
 use crate::ending::Refusal;
-use crate::tasks::ImportWords;
+use crate::tasks::{DiagramWords, ImportWords};
 use msc_chart::Chart;
 use msc_import::{Imported, Importing, import};
 use msc_judge::Page;
@@ -17,8 +17,18 @@ use msc_source::SourceFault;
 use msc_text::list_chart;
 use std::alloc::Global;
 
+/// The number of a diagram in Markdown, where it is given.
+pub(crate) fn fence_of(number: Option<u32>) -> Option<usize>
+    ensures { result ≡ number }
+{
+    match number {
+        Some(number) => Some(number as usize),
+        None => None,
+    }
+}
+
 /// The chart of a draft, or why it is none.
-fn chart_of(alloc: Global, draft: &Draft) -> Result<Chart, SourceFault>
+pub(crate) fn chart_of(alloc: Global, draft: &Draft) -> Result<Chart, SourceFault>
     ensures { IsChartOrFault draft.now result }
 {
     Ok(Chart::build(alloc, draft)?)
@@ -53,7 +63,7 @@ fn page_of(
 /// What is imported of a text, with these choices.
 fn import_with(
     alloc: Global,
-    words: ImportWords<'_>,
+    words: DiagramWords<'_>,
     choices: Option<&[usize]>,
     text: &[u8],
 ) -> Result<Imported, Refusal<'static>>
@@ -62,6 +72,7 @@ fn import_with(
 {
     let importing = Importing {
         language: words.language,
+        fence: fence_of(words.fence),
         cross: words.cross,
         manner: words.manner,
         choices,
@@ -80,10 +91,10 @@ fn import_by(
     ensures { IsImport words.entry text.now result }
 {
     match words.choose {
-        None => import_with(alloc, words, None, text),
+        None => import_with(alloc, words.diagram, None, text),
         Some(word) => {
             let choices = choices_in(alloc, word)?;
-            import_with(alloc, words, Some(choices.as_slice()), text)
+            import_with(alloc, words.diagram, Some(choices.as_slice()), text)
         }
     }
 }

@@ -1,7 +1,10 @@
 //! What is said of words that `clap` takes and the program does not: words that exclude each other,
 //! and words that name no event. It is said as `clap` says such things.
 
-use crate::tasks::{is_twofold, lacks_choices, name_in};
+use crate::tasks::{
+    GREATEST_LIMIT, is_given, is_twofold, lacks_choices, lacks_from, lacks_rounds, limit_of,
+    name_in,
+};
 use crate::words::{Verb, Word};
 use clap::ArgMatches;
 use std::io;
@@ -58,6 +61,53 @@ fn write_no_choices<E: Write>(faults: &mut E, words: &ArgMatches) -> io::Result<
     )
 }
 
+/// Writes that words are of a diagram, and none says that the text has one.
+fn write_no_diagram<E: Write>(faults: &mut E) -> io::Result<()> {
+    writeln!(
+        faults,
+        "error: the following required arguments were not provided:\n  --from <mermaid|any>{HELP}"
+    )
+}
+
+/// Writes that the marks of a diagram are not asked.
+fn write_marked<E: Write>(faults: &mut E) -> io::Result<()> {
+    writeln!(
+        faults,
+        "error: the argument '--from <mermaid|any>' cannot be used with '--accept'{HELP}"
+    )
+}
+
+/// Writes that a word gives no numbers of rounds.
+fn write_no_rounds<E: Write>(faults: &mut E, words: &ArgMatches) -> io::Result<()> {
+    let word = words.get_str(Word::Rounds.name()).unwrap_or("");
+    writeln!(
+        faults,
+        "error: invalid value '{word}' for '--rounds <R,R..>': expected numbers up to 1024 with commas{HELP}"
+    )
+}
+
+/// Writes that no such number of scenarios may be asked for.
+fn write_no_limit<E: Write>(faults: &mut E, limit: u32) -> io::Result<()> {
+    writeln!(
+        faults,
+        "error: invalid value '{limit}' for '--limit <N>': {limit} is not in 1..={GREATEST_LIMIT}{HELP}"
+    )
+}
+
+/// Writes why the words behind `msc check` ask for nothing.
+fn write_no_check<E: Write>(faults: &mut E, words: &ArgMatches) -> io::Result<()> {
+    if lacks_from(words) {
+        return write_no_diagram(faults);
+    }
+    if is_given(words, Word::Accept) {
+        return write_marked(faults);
+    }
+    if lacks_rounds(words) {
+        return write_no_rounds(faults, words);
+    }
+    write_no_limit(faults, limit_of(words))
+}
+
 /// Writes why the words behind a command ask for nothing.
 pub(crate) fn tell_misuse<E: Write>(faults: &mut E, verb: Verb, words: &ArgMatches) {
     if is_twofold(words) {
@@ -68,6 +118,9 @@ pub(crate) fn tell_misuse<E: Write>(faults: &mut E, verb: Verb, words: &ArgMatch
         && lacks_choices(words)
     {
         let _ = write_no_choices(faults, words);
+    }
+    if let Verb::Check = verb {
+        let _ = write_no_check(faults, words);
     }
     if let Verb::Explain = verb {
         let _ = tell_no_name(faults, words, Word::FirstEvent)

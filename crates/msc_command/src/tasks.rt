@@ -1,18 +1,20 @@
 //! What a command line asks for, by the words that `clap` took.
 
-ghost use Rattle.std.specs.Prelude.{◌≡◌, MatchOption, Some, map};
+ghost use Rattle.std.specs.Prelude.{◌≡◌, MatchOption, Some, false, map, true};
 ghost use Rattle.clap.specs.Matches.{first_value, found_of};
 ghost use Rattle.msc_command.specs.Asking.{architecture, file_of, form, names_kind, AreAllowed};
 ghost use Rattle.msc_command.specs.Asking.{AsksFor, IsDrawnForm, IsEventWord, IsFlag, IsLook, IsNoCommand, LacksWords};
 ghost use Rattle.msc_command.specs.Asking.{chart_named, cross_named, lacks_choices, language_named};
-ghost use Rattle.msc_command.specs.Asking.{own_named, par_named};
+ghost use Rattle.msc_command.specs.Asking.{own_named, par_named, IsChecking, IsDiagram};
+ghost use Rattle.msc_command.specs.Asking.{default_limit, is_limit, is_of_scenarios, lacks_from};
+ghost use Rattle.msc_command.specs.Asking.{lacks_rounds, stands, IsNumberGiven};
 ghost use Rattle.msc_command.specs.Asking.{tells_notes, IsTwofold, WantsNotes};
 ghost use Rattle.msc_command.specs.Asking.{IsNameText, IsNoName, IsNoNumber, IsNumberText};
 ghost use Rattle.msc_command.specs.Asking.{words_of, IsOptionNumber, IsQuestion, LacksEvent};
 ghost use Rattle.msc_command.specs.Refused.{form_of};
 ghost use Rattle.msc_command.specs.Words.{form_of_word, form_word, word_name};
 
-use crate::choices::{gives_choices, title_of};
+use crate::choices::{gives_choices, gives_rounds, title_of};
 use crate::words::{Verb, Word};
 use clap::ArgMatches;
 use msc_chart::Queues;
@@ -140,18 +142,40 @@ pub(crate) enum Drawn {
     Report(Queues),
 }
 
+/// A diagram of a text, and what its arrows mean, as words tell it.
+#[derive(Clone, Copy)]
+pub(crate) struct DiagramWords<'w> {
+    pub language: Language,
+    /// The number of the diagram, from 1, where the text is Markdown.
+    pub fence: Option<u32>,
+    pub cross: Option<Cross>,
+    pub manner: Manner,
+    /// What its name is made of.
+    pub name: &'w [u8],
+}
+
 /// What is imported of a text, and how it is answered, as words tell it.
 #[derive(Clone, Copy)]
 pub(crate) struct ImportWords<'w> {
-    pub language: Language,
-    pub cross: Option<Cross>,
-    pub manner: Manner,
+    pub diagram: DiagramWords<'w>,
     /// The word for the choices of the scenario.
     pub choose: Option<&'w str>,
-    /// What the name of the chart is made of.
-    pub name: &'w [u8],
     /// Whether the events are listed, with the places of their arrows.
     pub list: bool,
+}
+
+/// What is asked of the races of all scenarios of a diagram, as words tell it.
+#[derive(Clone, Copy)]
+pub(crate) struct ScenarioWords<'w> {
+    pub diagram: DiagramWords<'w>,
+    /// The word for the numbers of rounds of loops.
+    pub rounds: Option<&'w str>,
+    /// How many scenarios there may be.
+    pub limit: u32,
+    /// What is asked, and how it is answered; marks are not.
+    pub checking: Checking,
+    /// Whether the status alone tells.
+    pub quiet: bool,
 }
 
 /// What is asked of a text.
@@ -165,6 +189,8 @@ pub(crate) enum Task<'w> {
     Draw(Drawn),
     /// The chart of a scenario of its diagram.
     Import(ImportWords<'w>),
+    /// What the races of all scenarios of its diagram are.
+    Scenarios(ScenarioWords<'w>),
 }
 
 /// The form of a task's answer.
@@ -173,6 +199,7 @@ pub(crate) fn form_of(task: Task<'_>) -> Form
 {
     match task {
         Task::Chart(Ask::Check(checking)) => checking.form,
+        Task::Scenarios(words) => words.checking.form,
         Task::Read | Task::Chart(_) | Task::Draw(_) | Task::Import(_) => Form::Text,
     }
 }
@@ -185,6 +212,12 @@ pub(crate) struct Request<'w> {
     /// Whether it is told what is said of a refusal behind its line.
     pub notes: bool,
 }
+
+/// How many scenarios of a diagram there may be, where the words do not say.
+const DEFAULT_LIMIT: u32 = 64;
+
+/// The greatest number of scenarios that words may ask for.
+pub(crate) const GREATEST_LIMIT: u32 = 4096;
 
 /// How many rounds in a row an instance looks for messages in vain, where the words do not say.
 const DEFAULT_PATIENCE: u32 = 1_000_000_000;
@@ -230,8 +263,22 @@ fn number_of(words: &ArgMatches, word: Word, without: u32) -> u32
     words.get_one(word.name()).unwrap_or(without)
 }
 
+/// The number of an option, where it stands.
+fn number_given(words: &ArgMatches, word: Word) -> Option<u32>
+    ensures { IsNumberGiven (found_of words.now) (word_name word) result }
+{
+    words.get_one(word.name())
+}
+
+/// Whether an option with a value stands.
+fn stands(words: &ArgMatches, word: Word) -> bool
+    ensures { result ≡ stands (found_of words.now) word }
+{
+    words.get_str(word.name()).is_some()
+}
+
 /// Whether a flag stands.
-fn is_given(words: &ArgMatches, word: Word) -> bool
+pub(crate) fn is_given(words: &ArgMatches, word: Word) -> bool
     ensures { IsFlag (found_of words.now) (word_name word) result }
 {
     words.get_flag(word.name())
@@ -257,16 +304,16 @@ fn allowed_of(words: &ArgMatches) -> KindSet
     }
 }
 
-/// What is asked of the races.
-fn question_of(words: &ArgMatches) -> Question
-    ensures { IsQuestion (found_of words.now) result }
+/// What is asked of the races; where no word says it, so many are shown by runs.
+fn question_of(words: &ArgMatches, shown: u32) -> Question
+    ensures { IsQuestion (found_of words.now) shown result }
 {
     Question {
         closest: is_given(words, Word::Closest),
         why: is_given(words, Word::Why),
         allowed: allowed_of(words),
         most: number_of(words, Word::Most, u32::MAX),
-        show: number_of(words, Word::Show, u32::MAX),
+        show: number_of(words, Word::Show, shown),
         short: is_given(words, Word::Short),
     }
 }
@@ -332,8 +379,24 @@ fn queues_of(words: &ArgMatches) -> Option<Queues>
     Queues::of(words.get_str(Word::Queues.name())?)
 }
 
-/// What the words of `msc check` ask for. What is to be quiet is told by the status alone.
-fn check_of(queues: Queues, words: &ArgMatches) -> Task<'static>
+/// What the words of `msc check` ask of races under an architecture; where no word says it, so many
+/// are shown by runs.
+fn checking_of(queues: Queues, words: &ArgMatches, shown: u32) -> Checking
+    ensures { architecture (found_of words.now) ≡ Some queues
+        → IsChecking (found_of words.now) shown result }
+{
+    Checking {
+        queues,
+        question: question_of(words, shown),
+        accept: is_given(words, Word::Accept),
+        form: form_asked(words),
+        look: look_of(words),
+    }
+}
+
+/// What the words of `msc check` ask of a chart. What is to be quiet is told by the status alone.
+fn chart_check_of(queues: Queues, words: &ArgMatches) -> Task<'static>
+    requires { is_of_scenarios (found_of words.now) ≡ false }
     ensures { architecture (found_of words.now) ≡ Some queues
         → AsksFor Verb.Check (found_of words.now) result }
 {
@@ -341,13 +404,84 @@ fn check_of(queues: Queues, words: &ArgMatches) -> Task<'static>
     if is_given(words, Word::Quiet) {
         return Task::Chart(Ask::Quiet(queues, allowed_of(words), accept));
     }
-    Task::Chart(Ask::Check(Checking {
-        queues,
-        question: question_of(words),
-        accept,
-        form: form_asked(words),
-        look: look_of(words),
+    Task::Chart(Ask::Check(checking_of(queues, words, u32::MAX)))
+}
+
+/// Whether the words of `msc check` are of a diagram.
+fn is_of_scenarios(words: &ArgMatches) -> bool
+    ensures { result ≡ is_of_scenarios (found_of words.now) }
+{
+    stands(words, Word::ScenariosFrom)
+}
+
+/// Whether words stand behind `msc check` that are of diagrams, without the word for one.
+pub(crate) fn lacks_from(words: &ArgMatches) -> bool
+    ensures { result ≡ lacks_from (found_of words.now) }
+{
+    let limits = stands(words, Word::Rounds) || stands(words, Word::Limit);
+    let which = stands(words, Word::Fence) || stands(words, Word::Name);
+    let arrows = stands(words, Word::Own) || stands(words, Word::Cross) || stands(words, Word::Par);
+    !is_of_scenarios(words) && (limits || which || arrows)
+}
+
+/// Whether the word for numbers of rounds stands and gives none.
+pub(crate) fn lacks_rounds(words: &ArgMatches) -> bool
+    ensures { result ≡ lacks_rounds (first_value (found_of words.now) (word_name Word.Rounds)) }
+{
+    match words.get_str(Word::Rounds.name()) {
+        Some(word) => !gives_rounds(word.as_bytes()),
+        None => false,
+    }
+}
+
+/// Whether a diagram may have so many scenarios.
+fn is_limit(limit: u32) -> bool
+    ensures { result ≡ is_limit limit }
+{
+    1 <= limit && limit <= GREATEST_LIMIT
+}
+
+/// How many scenarios there may be.
+pub(crate) fn limit_of(words: &ArgMatches) -> u32
+    ensures { IsOptionNumber (found_of words.now) (word_name Word.Limit) default_limit result }
+{
+    number_of(words, Word::Limit, DEFAULT_LIMIT)
+}
+
+/// What the words of `msc check` ask of a diagram, if they can be asked of one.
+fn scenarios_of<'w>(queues: Queues, words: &'w ArgMatches) -> Option<Task<'w>>
+    requires { is_of_scenarios (found_of words.now) ≡ true }
+    ensures { architecture (found_of words.entry.now) ≡ Some queues
+        → MatchOption result (LacksWords Verb.Check (found_of words.entry.now))
+        (AsksFor Verb.Check (found_of words.entry.now)) }
+{
+    let limit = limit_of(words);
+    let checking = checking_of(queues, words, 0);
+    if checking.accept || lacks_rounds(words) || !is_limit(limit) {
+        return None;
+    }
+    Some(Task::Scenarios(ScenarioWords {
+        diagram: diagram_of(words),
+        rounds: words.get_str(Word::Rounds.name()),
+        limit,
+        checking,
+        quiet: is_given(words, Word::Quiet),
     }))
+}
+
+/// What the words of `msc check` ask for, if none stands that cannot.
+fn check_of<'w>(queues: Queues, words: &'w ArgMatches) -> Option<Task<'w>>
+    ensures { architecture (found_of words.entry.now) ≡ Some queues
+        → MatchOption result (LacksWords Verb.Check (found_of words.entry.now))
+        (AsksFor Verb.Check (found_of words.entry.now)) }
+{
+    if lacks_from(words) {
+        return None;
+    }
+    if is_of_scenarios(words) {
+        return scenarios_of(queues, words);
+    }
+    Some(chart_check_of(queues, words))
 }
 
 /// What the words of `msc run` ask for.
@@ -495,6 +629,22 @@ pub(crate) fn lacks_choices(words: &ArgMatches) -> bool
     }
 }
 
+/// The diagram that the words name, and what they say of its arrows.
+fn diagram_of<'w>(words: &'w ArgMatches) -> DiagramWords<'w>
+    ensures { IsDiagram (found_of words.entry.now) result }
+{
+    DiagramWords {
+        language: language_of(words),
+        fence: number_given(words, Word::Fence),
+        cross: cross_of(words),
+        manner: Manner {
+            own: own_of(words),
+            par: par_of(words),
+        },
+        name: chart_name_of(words),
+    }
+}
+
 /// What the words of `msc import` ask for, if the word for choices gives them.
 fn import_of<'w>(words: &'w ArgMatches) -> Option<Task<'w>>
     ensures { MatchOption result (LacksWords Verb.Import (found_of words.entry.now))
@@ -504,14 +654,8 @@ fn import_of<'w>(words: &'w ArgMatches) -> Option<Task<'w>>
         return None;
     }
     Some(Task::Import(ImportWords {
-        language: language_of(words),
-        cross: cross_of(words),
-        manner: Manner {
-            own: own_of(words),
-            par: par_of(words),
-        },
+        diagram: diagram_of(words),
         choose: words.get_str(Word::Choose.name()),
-        name: chart_name_of(words),
         list: is_given(words, Word::Listed),
     }))
 }
@@ -523,7 +667,7 @@ fn complete_task<'w>(verb: Verb, words: &'w ArgMatches) -> Option<Task<'w>>
 {
     match verb {
         Verb::Read => Some(Task::Read),
-        Verb::Check => Some(check_of(queues_of(words)?, words)),
+        Verb::Check => check_of(queues_of(words)?, words),
         Verb::Explain => explain_of(queues_of(words)?, words),
         Verb::Run => Some(run_of(queues_of(words)?, words)),
         Verb::List => Some(list_of(words)),

@@ -48,6 +48,10 @@ pub(crate) enum Word {
     Own,
     Cross,
     Par,
+    ScenariosFrom,
+    Rounds,
+    Limit,
+    Fence,
     FirstEvent,
     SecondEvent,
 }
@@ -79,6 +83,8 @@ pub(crate) enum Takes {
     Language,
     /// An option with the choices of a scenario.
     Choices,
+    /// An option with the numbers of rounds of loops.
+    Rounds,
     /// An option with a name.
     Name,
     /// An option with what an arrow to oneself is.
@@ -112,13 +118,16 @@ impl Word {
             Word::Places => "places",
             Word::Plain => "plain",
             Word::Svg => "svg",
-            Word::From => "from",
+            Word::From | Word::ScenariosFrom => "from",
             Word::Choose => "choose",
             Word::Listed => "list",
             Word::Name => "name",
             Word::Own => "self",
             Word::Cross => "cross",
             Word::Par => "par",
+            Word::Rounds => "rounds",
+            Word::Limit => "limit",
+            Word::Fence => "fence",
             Word::FirstEvent => "E",
             Word::SecondEvent => "F",
         }
@@ -136,13 +145,15 @@ impl Word {
             Word::Listed => Takes::Nothing,
             Word::Quiet => Takes::NothingOrQ,
             Word::Most | Word::Show | Word::ShowSticks | Word::Patience => Takes::Number,
+            Word::Limit | Word::Fence => Takes::Number,
             Word::Only => Takes::Names,
             Word::Queues => Takes::Architecture,
             Word::QueuesIfAny => Takes::ArchitectureIfAny,
             Word::Allow => Takes::Kinds,
             Word::Format => Takes::Form,
-            Word::From => Takes::Language,
+            Word::From | Word::ScenariosFrom => Takes::Language,
             Word::Choose => Takes::Choices,
+            Word::Rounds => Takes::Rounds,
             Word::Name => Takes::Name,
             Word::Own => Takes::Own,
             Word::Cross => Takes::Cross,
@@ -165,7 +176,9 @@ impl Word {
                 "Print the kind of each race, and the pair of events that would have to be enforced"
             }
             Word::Most => "List the first N races alone",
-            Word::Show => "Print a run for each of the first N races; without it, for all",
+            Word::Show => {
+                "Print a run for each of the first N races; without it, for all, with --from for none"
+            }
             Word::ShowSticks => {
                 "Print a run for each of the first N sticks that are first; without it, for all"
             }
@@ -200,6 +213,14 @@ impl Word {
             Word::Own => "What an arrow to oneself is; without it, an action",
             Word::Cross => "What an arrow with a cross is",
             Word::Par => "Draw parallel branches that are no coregion one below the other",
+            Word::ScenariosFrom => {
+                "Check all scenarios of a sequence diagram; its language is told by the text with any"
+            }
+            Word::Rounds => {
+                "The numbers of rounds that scenarios give a loop, 0 to 1024; without it, 0,2"
+            }
+            Word::Limit => "Check at most N scenarios, 1 to 4096; without it, 64",
+            Word::Fence => "Take the N-th diagram of a Markdown file",
             Word::FirstEvent => "The first event: its number, or :LINE, the first one on that line",
             Word::SecondEvent => "The second event",
         }
@@ -269,6 +290,14 @@ impl Verb {
                 Word::Quiet,
                 Word::Words,
                 Word::Short,
+                Word::ScenariosFrom,
+                Word::Rounds,
+                Word::Limit,
+                Word::Fence,
+                Word::Name,
+                Word::Own,
+                Word::Cross,
+                Word::Par,
                 Word::Places,
                 Word::Plain,
                 Word::File,
@@ -319,6 +348,7 @@ impl Verb {
             ],
             Verb::Import => &[
                 Word::From,
+                Word::Fence,
                 Word::Choose,
                 Word::Listed,
                 Word::Name,
@@ -398,6 +428,9 @@ A mark is a comment of an event that says which of its races are meant, and why:
   comment 'race ok in pair, single with ID; ID: REASON'
 Without `in` it is for all architectures, without `with` for all other events.
 
+With --from the text is a sequence diagram of Mermaid, and all of its scenarios are checked: each way
+through its alternatives, with loops that go 0 and 2 rounds. A race is told once, at its arrows.
+
 Exit status:
   0  the chart has no races that count, and with --accept no mark that accepts none
   1  the chart has races that count, or with --accept a mark that accepts none
@@ -406,7 +439,8 @@ Exit status:
 
 Example:
   msc check --queues pair --show 1 relay.msc
-  msc check --queues mailbox --closest --why --allow early relay.msc";
+  msc check --queues mailbox --closest --why --allow early relay.msc
+  msc check --queues pair --from mermaid checkout.mmd";
 
 /// What stands below the help of `msc explain`.
 const EXPLAIN_NOTES: &str = "\

@@ -29,6 +29,8 @@ import_fault_line (imports.Outside line word) name = codes "import fault 5 at " 
 import_fault_line (imports.TooDeep line) name = import_line 6 line (codes "more than 10 blocks inside each other")
 import_fault_line (imports.TooManyLines line) name = import_line 7 line (codes "more than 32 instances")
 import_fault_line (imports.Cross line) name = import_line 9 line (codes "say --cross lost or --cross arrives")
+import_fault_line (imports.TooManyScenarios limit) name =
+    codes "import fault 11: more than " ++ (decimal limit ++ text_line (codes " scenarios"))
 import_fault_line (imports.Several count) name = several_line count
 import_fault_line (imports.Choice line choice most) name =
     codes "import fault 13 at " ++ (decimal line ++ (codes ": choice " ++ (decimal choice ++ (codes " is more than " ++ text_line (decimal most)))))
@@ -36,6 +38,7 @@ import_fault_line (imports.TooManyChoices given met) name =
     codes "import fault 14: " ++ (decimal given ++ (codes " choices for " ++ (decimal met ++ text_line (codes " blocks"))))
 import_fault_line (imports.TooManyArrows line) name = import_line 15 line (codes "more than 1024 arrows")
 import_fault_line (imports.Shared line at) name = codes "import fault 16 at " ++ (decimal line ++ (codes ": parallel branches share " ++ text_line name))
+import_fault_line (imports.NoDiagram number) name = codes "import fault 17: no diagram " ++ text_line (decimal number)
 import_fault_line imports.Memory name = text_line (codes "memory fault")
 
 -- the line of why nothing is imported

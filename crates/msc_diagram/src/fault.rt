@@ -113,6 +113,9 @@ fn write_named<W: Write>(writer: &mut W, fault: ImportFault, name: &[u8]) -> io:
         ImportFault::Cross(line) => {
             write_on_line(writer, 9, line, "say --cross lost or --cross arrives")
         }
+        ImportFault::TooManyScenarios(limit) => {
+            writeln!(writer, "import fault 11: more than {limit} scenarios")
+        }
         ImportFault::Several(count) => write_several(writer, count),
         ImportFault::Choice(line, choice, most) => write_choice(writer, line, choice, most),
         ImportFault::TooManyChoices(given, met) => {
@@ -122,6 +125,9 @@ fn write_named<W: Write>(writer: &mut W, fault: ImportFault, name: &[u8]) -> io:
             write_on_line(writer, 15, line, "more than 1024 arrows")
         }
         ImportFault::Shared(line, at) => write_shared(writer, line, at, name),
+        ImportFault::NoDiagram(number) => {
+            writeln!(writer, "import fault 17: no diagram {number}")
+        }
         ImportFault::Memory => writer.write_all(b"memory fault\n"),
     }
 }

@@ -25,7 +25,8 @@ const WORDS: &[(&str, &str)] = &[
     ),
     (
         "check",
-        "--show <N>\n          Print a run for each of the first N races; without it, for all\n",
+        "--show <N>\n          Print a run for each of the first N races; without it, for all, with --from \
+         for none\n",
     ),
     (
         "check",
@@ -69,6 +70,20 @@ const WORDS: &[(&str, &str)] = &[
     (
         "check",
         "--plain\n          Print nothing behind the line of a fault, also on a terminal\n",
+    ),
+    (
+        "check",
+        "--from <mermaid|any>\n          Check all scenarios of a sequence diagram; its language is \
+         told by the text with any ",
+    ),
+    (
+        "check",
+        "--rounds <R,R..>\n          The numbers of rounds that scenarios give a loop, 0 to 1024; \
+         without it, 0,2\n",
+    ),
+    (
+        "check",
+        "--limit <N>\n          Check at most N scenarios, 1 to 4096; without it, 64\n",
     ),
     (
         "explain",

@@ -33,6 +33,8 @@ mod queues;
 #[cfg(test)]
 mod runs;
 #[cfg(test)]
+mod scenarios;
+#[cfg(test)]
 mod shown;
 #[cfg(test)]
 mod sizes;

@@ -238,6 +238,28 @@ const WRONG: &[&[&str]] = &[
     &["run", "--queues", "pair", "--patience", "4294967296", "-"],
     &["run", "--queues", "pair", "--show", "1", "-"],
     &["check", "--queues", "pair", "--patience", "1", "-"],
+    &[
+        "check", "--queues", "pair", "--from", "any", "--accept", "-",
+    ],
+    &[
+        "check", "--queues", "pair", "--from", "any", "--limit", "0", "-",
+    ],
+    &[
+        "check", "--queues", "pair", "--from", "any", "--limit", "4097", "-",
+    ],
+    &[
+        "check", "--queues", "pair", "--from", "any", "--rounds", "1025", "-",
+    ],
+    &[
+        "check", "--queues", "pair", "--from", "any", "--rounds", "0,,2", "-",
+    ],
+    &["check", "--queues", "pair", "--rounds", "2", "-"],
+    &["check", "--queues", "pair", "--limit", "2", "-"],
+    &["check", "--queues", "pair", "--fence", "2", "-"],
+    &["check", "--queues", "pair", "--name", "a", "-"],
+    &["check", "--queues", "pair", "--self", "action", "-"],
+    &["check", "--queues", "pair", "--cross", "lost", "-"],
+    &["check", "--queues", "pair", "--par", "drawn", "-"],
 ];
 
 #[test]

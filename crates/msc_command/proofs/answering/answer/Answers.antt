@@ -57,3 +57,6 @@ returns-in_ok-source-in-Draw g c =
 
 pub returns-in-Import : goal.returns-in-Import
 returns-in-Import g c = rw c.in-Import.is c.import.ensures
+
+pub returns-in-Scenarios : goal.returns-in-Scenarios
+returns-in-Scenarios g c = rw c.in-Scenarios.is c.check_scenarios.ensures
