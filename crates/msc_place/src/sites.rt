@@ -49,7 +49,7 @@ impl<'f> Sites<'f> {
 
     /// Where events stand in the text of a file of this name, by the positions at which they begin.
     pub fn at(file: &'f [u8], positions: Vec<Position>) -> Sites<'f>
-        ensures { result.now ≡ sites_in file.now positions.items }
+        ensures { result ≡ sites_in file.now positions.items }
     {
         Sites { file, positions }
     }
