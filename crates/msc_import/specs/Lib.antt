@@ -12,6 +12,7 @@ pub mod Mermaid
 pub mod Naming
 pub mod Courses
 pub mod Counting
+pub mod Choosing
 pub mod Plans
 pub mod Drafting
 pub mod Places

@@ -6,6 +6,7 @@
 //! from 1, choices and instances from 0.
 #![tactic(auto)]
 
+mod choosing;
 mod counting;
 mod course;
 mod drafting;
@@ -32,7 +33,9 @@ mod statement;
 #[cfg(test)]
 mod tests;
 mod walking;
+mod way;
 
+pub use choosing::all_choices;
 pub use counting::scenarios;
 pub use course::{Ending, Message, Step};
 pub use drawing::draw;

@@ -3,9 +3,10 @@
 
 use crate::gallery::{self, Scenario};
 use crate::{
-    Closer, Cross, Expectation, Head, ImportFault, Manner, Own, Par, diagram_of, draw, places,
-    scenarios,
+    Closer, Cross, Expectation, Head, ImportFault, Manner, Own, Par, all_choices, diagram_of, draw,
+    places, scenarios,
 };
+use listed::Listed;
 use msc_place::Position;
 use std::alloc::AllocGlobal;
 
@@ -1027,6 +1028,147 @@ fn the_number_of_scenarios(rt: HostRuntime) {
             Err(_) => Ok(0),
         };
         assert!(rt; number == Ok(wanted), "{text:?}");
+    }
+}
+
+/// A text, the numbers of rounds, and the choices of its scenarios.
+type Chosen = (&'static [u8], &'static [usize], &'static [&'static [usize]]);
+
+/// Blocks of each kind, and blocks inside others and behind them.
+const CHOICES: &[Chosen] = &[
+    (b"sequenceDiagram\nA->>B: a", &[0, 2], &[&[]]),
+    (
+        b"sequenceDiagram\nalt x\nA->>B: a\nelse y\nA->>B: a\nelse z\nA->>B: a\nend",
+        &[0, 2],
+        &[&[0], &[1], &[2]],
+    ),
+    (
+        b"sequenceDiagram\nalt x\nA->>B: a\nopt y\nA->>B: a\nend\nend",
+        &[0, 2],
+        &[&[0], &[1, 0], &[1, 1]],
+    ),
+    (
+        b"sequenceDiagram\nopt y\nA->>B: a\nend\nopt y\nA->>B: a\nend",
+        &[0, 2],
+        &[&[0, 0], &[0, 1], &[1, 0], &[1, 1]],
+    ),
+    (
+        b"sequenceDiagram\nopt x\nNote over A: n\nend\nopt y\nA->>B: a\nend",
+        &[0, 2],
+        &[&[0], &[1]],
+    ),
+    (
+        b"sequenceDiagram\nrect x\nopt y\nA->>B: a\nend\nend",
+        &[0, 2],
+        &[&[0], &[1]],
+    ),
+    (
+        b"sequenceDiagram\nloop x\nopt y\nA->>B: a\nend\nend",
+        &[0, 2],
+        &[&[0], &[2, 0, 0], &[2, 0, 1], &[2, 1, 0], &[2, 1, 1]],
+    ),
+    (
+        b"sequenceDiagram\nloop x\nopt y\nA->>B: a\nend\nend",
+        &[0],
+        &[&[0]],
+    ),
+    (
+        b"sequenceDiagram\nloop x\nA->>B: a\nend",
+        &[1, 3],
+        &[&[1], &[3]],
+    ),
+    (
+        b"sequenceDiagram\nloop x\nbreak y\nA->>B: a\nend\nA->>B: a\nend\nopt y\nA->>B: a\nend",
+        &[0, 2],
+        &[
+            &[0, 0],
+            &[0, 1],
+            &[2, 0, 0, 0],
+            &[2, 0, 0, 1],
+            &[2, 0, 1, 0],
+            &[2, 0, 1, 1],
+            &[2, 1, 0],
+            &[2, 1, 1],
+        ],
+    ),
+    (
+        b"sequenceDiagram\nbreak x\nA->>B: a\nend\nopt y\nA->>B: a\nend",
+        &[0, 2],
+        &[&[0, 0], &[0, 1], &[1]],
+    ),
+    (
+        b"sequenceDiagram\nbreak x\nA->>B: a\nopt y\nA->>B: a\nend\nend",
+        &[0, 2],
+        &[&[0], &[1, 0], &[1, 1]],
+    ),
+    (
+        b"sequenceDiagram\ncritical x\nopt y\nA->>B: a\nend\noption z\nA->>B: a\noption w\nA->>B: a\nend",
+        &[0, 2],
+        &[&[0, 0], &[0, 1], &[1, 0], &[1, 1], &[2, 0], &[2, 1]],
+    ),
+    (
+        b"sequenceDiagram\ncritical x\nopt y\nA->>B: a\nend\nend",
+        &[0, 2],
+        &[&[0], &[1]],
+    ),
+    (
+        b"sequenceDiagram\ncritical x\nbreak y\nA->>B: a\nend\noption z\nopt y\nA->>B: a\nend\nend",
+        &[0, 2],
+        &[&[0, 0], &[0, 1], &[1, 0, 0], &[1, 0, 1], &[1, 1]],
+    ),
+    (
+        b"sequenceDiagram\npar x\nopt y\nA->>B: a\nend\nand z\nbreak w\nC->>D: c\nend\nopt y\nC->>D: d\nend\nend",
+        &[0, 2],
+        &[
+            &[0, 0, 0],
+            &[0, 0, 1],
+            &[0, 1],
+            &[1, 0, 0],
+            &[1, 0, 1],
+            &[1, 1],
+        ],
+    ),
+    (
+        b"sequenceDiagram\npar x\nbreak w\nA->>B: a\nend\nand z\nC->>D: d\nend\nopt y\nA->>B: a\nend",
+        &[0, 2],
+        &[&[0, 0], &[0, 1], &[1, 0], &[1, 1]],
+    ),
+];
+
+/// Whether the lists are these.
+fn are_lists(lists: &[Listed<usize>], wanted: &[&[usize]]) -> bool {
+    if lists.len() != wanted.len() {
+        return false;
+    }
+    for i in 0..lists.len() {
+        if lists[i].as_slice() != wanted[i] {
+            return false;
+        }
+    }
+    true
+}
+
+/// Whether a text's scenarios have these choices, and are so many.
+fn are_choices(
+    rt: &impl AllocGlobal,
+    text: &[u8],
+    rounds: &[usize],
+    wanted: &[&[usize]],
+) -> Result<bool, ImportFault> {
+    let diagram = diagram_of(rt.alloc(), None, text)?;
+    let lists = all_choices(rt.alloc(), &diagram, rounds)?;
+    let number = scenarios(rt.alloc(), &diagram, rounds)?;
+    Ok(number == wanted.len() && are_lists(lists.as_slice(), wanted))
+}
+
+#[test]
+fn the_choices_of_scenarios(rt: HostRuntime) {
+    for &(text, rounds, wanted) in CHOICES {
+        let found = match are_choices(&rt, text, rounds, wanted) {
+            Ok(same) => same,
+            Err(_) => false,
+        };
+        assert!(rt; found, "{text:?}");
     }
 }
 
