@@ -27,4 +27,6 @@ pub mod NamedLemmas
 pub mod LawLemmas
 pub mod OrderLemmas
 pub mod TogetherLemmas
+pub mod FenceLemmas
 pub mod ImportLemmas
+pub mod WholeLemmas

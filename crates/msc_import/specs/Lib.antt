@@ -16,5 +16,7 @@ pub mod Choosing
 pub mod Plans
 pub mod Drafting
 pub mod Places
+pub mod Fences
 pub mod Importing
+pub mod Whole
 pub mod Laws

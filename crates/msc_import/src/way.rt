@@ -1,11 +1,25 @@
 //! Ways through a diagram's statements, by their choices.
 
-ghost use Rattle.std.specs.Prelude.{◌≡◌, ◌++◌, false, map, IfOk, OnOk};
+ghost use Rattle.std.specs.Prelude.{◌≡◌, ◌≤◌, ◌+◌, ◌++◌, false, map, IfOk, OnOk};
+ghost use Rattle.msc_import.specs.declared.TheConstants.{CHOICE_LIMIT};
 ghost use Rattle.msc_import.specs.Choosing.{behind, chosen, goes_on, healed, joined, straight, under};
 ghost use Rattle.msc_import.specs.Choosing.{with_end};
 
+use crate::CHOICE_LIMIT;
 use listed::Listed;
 use std::alloc::{AllocError, Global};
+
+/// Nothing, where a list of choices has room for so many more. A diagram with few scenarios may
+/// have loops in loops of many rounds, each round with choices: so a list with more than
+/// [`CHOICE_LIMIT`] of them is refused as memory is, before it takes any.
+fn has_room(choices: usize, more: usize) -> Result<(), AllocError>
+    ensures { OnOk result (choices + more ≤ CHOICE_LIMIT) }
+{
+    if choices > CHOICE_LIMIT || more > CHOICE_LIMIT - choices {
+        return Err(AllocError);
+    }
+    Ok(())
+}
 
 /// A way through statements: its choices, and whether a break ended it.
 #[derive(Drop)]
@@ -30,6 +44,7 @@ impl Way {
     fn joined(&self, alloc: Global, next: &Way) -> Result<Way, AllocError>
         ensures { IfOk result (λ w. w ≡ joined self.now next.now) }
     {
+        has_room(self.choices.as_slice().len(), next.choices.as_slice().len())?;
         let mut choices = Vec::from_slice(alloc, self.choices.as_slice())?;
         choices.extend_from_slice(next.choices.as_slice())?;
         Ok(Way {
@@ -42,6 +57,7 @@ impl Way {
     fn under(&self, alloc: Global, choice: usize, broken: bool) -> Result<Way, AllocError>
         ensures { IfOk result (λ w. w ≡ under choice broken self.now) }
     {
+        has_room(1, self.choices.as_slice().len())?;
         let mut choices = Vec::new(alloc);
         choices.push(choice)?;
         choices.extend_from_slice(self.choices.as_slice())?;
