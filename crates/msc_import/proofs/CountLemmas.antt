@@ -16,11 +16,11 @@ unfolding repeated
 repeated_none body m w e = ap (λ x. repeated body x w) e
 
 -- one number of rounds more
-rounds_cons : (body : Ways) (r : ℕ) (rs : List ℕ) (n : ℕ) → by_rounds body (r ∷ rs) n ≡ by_rounds body rs (plus n (all (repeated body r (unbroken 1))))
+pub rounds_cons : (body : Ways) (r : ℕ) (rs : List ℕ) (n : ℕ) → by_rounds body (r ∷ rs) n ≡ by_rounds body rs (plus n (all (repeated body r (unbroken 1))))
 unfolding by_rounds
 rounds_cons body r rs n = refl
 
-rounds_none : (body : Ways) (n : ℕ) → by_rounds body [] n ≡ n
+pub rounds_none : (body : Ways) (n : ℕ) → by_rounds body [] n ≡ n
 unfolding by_rounds
 rounds_none body n = refl
 
@@ -32,19 +32,19 @@ module _ (body : Ways) (rs : List ℕ) (i n : ℕ) where
   rounds_end over = ap (λ x. by_rounds body x n) (drop_all i rs over) ∙ rounds_none body n
 
 -- one branch more
-branches_cons : (inner : Counter) (first : Ways) (b : List Placed) (bs : List (List Placed)) (n : ℕ) → by_branches inner first (b ∷ bs) n ≡ by_branches inner first bs (plus n (all (behind first (inner b))))
+pub branches_cons : (inner : Counter) (first : Ways) (b : List Placed) (bs : List (List Placed)) (n : ℕ) → by_branches inner first (b ∷ bs) n ≡ by_branches inner first bs (plus n (all (behind first (inner b))))
 unfolding by_branches
 branches_cons inner first b bs n = refl
 
-branches_none : (inner : Counter) (first : Ways) (n : ℕ) → by_branches inner first [] n ≡ n
+pub branches_none : (inner : Counter) (first : Ways) (n : ℕ) → by_branches inner first [] n ≡ n
 unfolding by_branches
 branches_none inner first n = refl
 
-sides_cons : (inner : Counter) (b : List Placed) (bs : List (List Placed)) (n : ℕ) → by_sides inner (b ∷ bs) n ≡ by_sides inner bs (times n (all (inner b)))
+pub sides_cons : (inner : Counter) (b : List Placed) (bs : List (List Placed)) (n : ℕ) → by_sides inner (b ∷ bs) n ≡ by_sides inner bs (times n (all (inner b)))
 unfolding by_sides
 sides_cons inner b bs n = refl
 
-sides_none : (inner : Counter) (n : ℕ) → by_sides inner [] n ≡ n
+pub sides_none : (inner : Counter) (n : ℕ) → by_sides inner [] n ≡ n
 unfolding by_sides
 sides_none inner n = refl
 
@@ -63,7 +63,7 @@ module _ {X : Type 0} (f : X → List Placed) (bs : List X) (i : ℕ) (inner : C
   sides_end over = ap (λ x. by_sides inner (map f x) n) (drop_all i bs over) ∙ sides_none inner n
 
 -- one statement more
-on_skip : (inner : Counter) (rounds : List ℕ) (n : ℕ) (p : Placed) (ps : List Placed) (w : Ways) → count_on inner rounds (suc n) (p ∷ ps) w ≡ count_on inner rounds n ps w
+pub on_skip : (inner : Counter) (rounds : List ℕ) (n : ℕ) (p : Placed) (ps : List Placed) (w : Ways) → count_on inner rounds (suc n) (p ∷ ps) w ≡ count_on inner rounds n ps w
 unfolding count_on
 on_skip inner rounds n p ps w = refl
 

@@ -13,7 +13,7 @@ use Rattle.msc_import.specs.declared.importing.Refused.{Refused}
 use Rattle.msc_import.specs.declared.statement.Diagram.{Diagram}
 use Rattle.msc_import.specs.declared.fault.ImportFault.{ImportFault}
 use Rattle.msc_import.specs.Gives.{Fails}
-use Rattle.msc_import.specs.Importing.{RefusesSo, Wanted, begins_diagram, imported_of, short_bytes, told_by_content}
+use Rattle.msc_import.specs.Importing.{RefusesSo, answered, begins_diagram, short_bytes, told_by_content}
 use Rattle.msc_import.specs.Lines.{lines_of, trimmed}
 use Rattle.msc_import.specs.Mermaid.{is_head, mermaid}
 
@@ -53,7 +53,7 @@ filled name n front rest size is =
     first ∙ is ∙ same
 
 -- a fault of a text is told without a name
-pub untold : (x : Wanted) (e : Refused) (fault : ImportFault) (said : Result Diagram ImportFault) → e.fault ≡ fault → short_bytes e.name ≡ [] → Fails fault said → RefusesSo e (imported_of x said)
-unfolding imported_of
-untold x e fault said is none (inl spent) = inl (is ∙ spent)
-untold x e fault said is none (inr same) = inr (rw (same, is, none) refl)
+pub untold : {A : Type 0} (f : Diagram → Result A ImportFault) (e : Refused) (fault : ImportFault) (said : Result Diagram ImportFault) → e.fault ≡ fault → short_bytes e.name ≡ [] → Fails fault said → RefusesSo e (answered f said)
+unfolding answered
+untold f e fault said is none (inl spent) = inl (is ∙ spent)
+untold f e fault said is none (inr same) = inr (rw (same, is, none) refl)

@@ -9,12 +9,12 @@ use Rattle.msc_import.specs.declared.statement.Placed.{Placed}
 use Rattle.msc_import.specs.Courses.{Walk, Walker, goes, go_on, then, put, unbroken, rounds_from, side_by_side, one, owned_by, walk, walk_on}
 
 -- what goes on does so, and what has ended has
-goes_yes : (e : Ending) (now next : Walk) → goes e ≡ true → go_on e now next ≡ next
+pub goes_yes : (e : Ending) (now next : Walk) → goes e ≡ true → go_on e now next ≡ next
 goes_yes ends.Goes now next h = refl
 goes_yes ends.Broke now next h = absurd (false≢true h)
 goes_yes (ends.Stopped f) now next h = absurd (false≢true h)
 
-goes_not : (e : Ending) (now next : Walk) → goes e ≡ false → go_on e now next ≡ now
+pub goes_not : (e : Ending) (now next : Walk) → goes e ≡ false → go_on e now next ≡ now
 goes_not ends.Goes now next h = absurd (false≢true (sym h))
 goes_not ends.Broke now next h = refl
 goes_not (ends.Stopped f) now next h = refl
@@ -27,7 +27,7 @@ then_not w f h = goes_not w.ending w (f w) h
 
 -- one round more
 module _ (inner : Walker) (body : List Placed) (rounds : List ℕ) (k m n : ℕ) (w : Walk) (left : m ≡ suc n) where
-  round_step : rounds_from inner body rounds k m w ≡ then (inner body (rounds ++ (k + 1) ∷ []) w) (rounds_from inner body rounds (k + 1) n)
+  pub round_step : rounds_from inner body rounds k m w ≡ then (inner body (rounds ++ (k + 1) ∷ []) w) (rounds_from inner body rounds (k + 1) n)
   unfolding rounds_from
   round_step = ap (λ x. rounds_from inner body rounds k x w) left
 
@@ -42,11 +42,11 @@ unfolding rounds_from
 round_none inner body rounds k m w e = ap (λ x. rounds_from inner body rounds k x w) e
 
 -- one parallel branch more
-side_cons : (inner : Walker) (b : List Placed) (bs : List (List Placed)) (rounds : List ℕ) (w : Walk) → side_by_side inner (b ∷ bs) rounds w ≡ then (then (unbroken (inner b rounds w)) (put steps.Next)) (side_by_side inner bs rounds)
+pub side_cons : (inner : Walker) (b : List Placed) (bs : List (List Placed)) (rounds : List ℕ) (w : Walk) → side_by_side inner (b ∷ bs) rounds w ≡ then (then (unbroken (inner b rounds w)) (put steps.Next)) (side_by_side inner bs rounds)
 unfolding side_by_side
 side_cons inner b bs rounds w = refl
 
-side_none : (inner : Walker) (rounds : List ℕ) (w : Walk) → side_by_side inner [] rounds w ≡ w
+pub side_none : (inner : Walker) (rounds : List ℕ) (w : Walk) → side_by_side inner [] rounds w ≡ w
 unfolding side_by_side
 side_none inner rounds w = refl
 
@@ -71,15 +71,15 @@ module _ {X : Type 0} (f : X → List Placed) (bs : List X) (i : ℕ) (inner : W
   side_end over = ap (λ x. side_by_side inner (map f x) rounds w) (drop_all i bs over) ∙ side_none inner rounds w
 
 -- one statement more
-on_skip : (inner : Walker) (n : ℕ) (p : Placed) (ps : List Placed) (rounds : List ℕ) (w : Walk) → walk_on inner (suc n) (p ∷ ps) rounds w ≡ walk_on inner n ps rounds w
+pub on_skip : (inner : Walker) (n : ℕ) (p : Placed) (ps : List Placed) (rounds : List ℕ) (w : Walk) → walk_on inner (suc n) (p ∷ ps) rounds w ≡ walk_on inner n ps rounds w
 unfolding walk_on
 on_skip inner n p ps rounds w = refl
 
-on_one : (inner : Walker) (p : Placed) (ps : List Placed) (rounds : List ℕ) (w : Walk) → walk_on inner zero (p ∷ ps) rounds w ≡ then (one inner p p.statement ps rounds w) (walk_on inner (owned_by p.statement ps) ps rounds)
+pub on_one : (inner : Walker) (p : Placed) (ps : List Placed) (rounds : List ℕ) (w : Walk) → walk_on inner zero (p ∷ ps) rounds w ≡ then (one inner p p.statement ps rounds w) (walk_on inner (owned_by p.statement ps) ps rounds)
 unfolding walk_on
 on_one inner p ps rounds w = refl
 
-on_none : (inner : Walker) (n : ℕ) (rounds : List ℕ) (w : Walk) → walk_on inner n [] rounds w ≡ w
+pub on_none : (inner : Walker) (n : ℕ) (rounds : List ℕ) (w : Walk) → walk_on inner n [] rounds w ≡ w
 unfolding walk_on
 on_none inner n rounds w = refl
 

@@ -1,5 +1,5 @@
 -- The draft of a course: its lines, each with its events.
-use Rattle.std.specs.Prelude.{ℕ, ◌+◌, ◌-◌, Bool, false, cond, not, ◌||◌, ◌&&◌, ◌==◌, nat_le, nat_lt, List, [], ◌∷◌, ◌++◌, length, take, drop, slice_get, map, codes, Option, None, Some, is_none, unwrap_or, Result, Ok, Err}
+use Rattle.std.specs.Prelude.{ℕ, ◌+◌, ◌-◌, Bool, cond, not, ◌&&◌, nat_le, List, [], ◌∷◌, ◌++◌, length, take, drop, slice_get, map, codes, Option, None, Some, is_none, unwrap_or, Result, Err}
 use Rattle.std.specs.Option.{option_or}
 use Rattle.std.specs.Str.{bytes_eq}
 use Rattle.std.specs.List.{list_all}
@@ -126,9 +126,13 @@ sections_on lines names ps line [] done = done
 sections_on lines names ps line (p ∷ plans) done =
     sections_on lines names ps (line + 1) plans (done ++ section_of names line (line_name lines line) ps p ∷ [])
 
+-- the name of a chart
+abbrev pub chart_name : List ℕ → List ℕ
+chart_name name = fitted (made name (codes "diagram"))
+
 -- the draft of these lines
 abbrev pub tree_of : List ℕ → List Section → Tree
-tree_of name sections = record { name = fitted (made name (codes "diagram")); header = []; sections = sections }
+tree_of name sections = record { name = chart_name name; header = []; sections = sections }
 
 -- the draft, where it has no more events than a text has bytes
 abbrev pub few_events : List ℕ → List Section → Result Tree ImportFault

@@ -16,6 +16,7 @@ use Rattle.msc_import.specs.declared.statement.Cross.{Cross}
 use Rattle.msc_import.specs.declared.statement.Diagram.{Diagram}
 use Rattle.msc_import.specs.Counting.{scenarios}
 use Rattle.msc_import.specs.Drafting.{drawn, line_name}
+use Rattle.msc_import.specs.Fences.{fenced}
 use Rattle.msc_import.specs.Gives.{◌>>=◌}
 use Rattle.msc_import.specs.Lines.{lines_of, trimmed}
 use Rattle.msc_import.specs.Mermaid.{is_head, mermaid}
@@ -32,9 +33,14 @@ told_by_content cross text =
     cond (nat_lt TEXT_LIMIT (length text)) (Err TooLong) (cond (begins_diagram text) (mermaid cross text) (Err (Expected (length (lines_of text)) expectations.AnyDiagram)))
 
 -- the diagram of a text in its language
-unfoldable pub diagram_in : Language → Option Cross → List ℕ → Result Diagram ImportFault
-diagram_in languages.Mermaid cross text = mermaid cross text
-diagram_in languages.Any cross text = told_by_content cross text
+unfoldable pub diagram_by : Language → Option Cross → List ℕ → Result Diagram ImportFault
+diagram_by languages.Mermaid cross text = mermaid cross text
+diagram_by languages.Any cross text = told_by_content cross text
+
+-- the same, where the text may be one of Markdown, of which the diagram of a number is wanted
+unfoldable pub diagram_in : Language → Option Cross → Option ℕ → List ℕ → Result Diagram ImportFault
+diagram_in language cross None text = diagram_by language cross text
+diagram_in language cross (Some number) text = fenced number text >>= diagram_by language cross
 
 -- the numbers of rounds that loops go, where scenarios are counted
 abbrev pub usual_rounds : List ℕ
@@ -46,10 +52,11 @@ unfoldable pub chosen : Option (List ℕ) → Diagram → Result (List ℕ) Impo
 chosen (Some given) d = Ok given
 chosen None d = cond (scenarios usual_rounds d == 1) (Ok []) (Err (Several (scenarios usual_rounds d)))
 
--- what is wanted of a text: in which language it is, what arrows with a cross are, how the scenario is
--- drawn, its choices, if they are given, and what the name of its chart is made of
+-- what is wanted of a text: in which language it is, of Markdown which diagram, what arrows with a cross
+-- are, how the scenario is drawn, its choices, if they are given, and what the name of its chart is made of
 pub record Wanted : Type 0 where
   pub language : Language
+  pub fence : Option ℕ
   pub cross : Option Cross
   pub manner : Manner
   pub choices : Option (List ℕ)
@@ -59,19 +66,23 @@ pub record Wanted : Type 0 where
 abbrev pub wanted : Importing → Wanted
 wanted x = record {
   language = x.language;
+  fence = x.fence;
   cross = x.cross;
   manner = x.manner;
   choices = option_map (λ c. c.now) x.choices;
   name = x.name.now;
 }
 
--- the draft of that scenario, and the places of its events
-unfoldable pub scenario_of : Wanted → Diagram → Result Imported ImportFault
-scenario_of x d = do
-  given ← chosen x.choices d
-  draft ← drawn x.manner x.name d given
-  at ← places x.manner d given
+-- the draft of a diagram's scenario with these choices, and the places of its events
+unfoldable pub drawn_at : Manner → List ℕ → Diagram → List ℕ → Result Imported ImportFault
+drawn_at manner name d given = do
+  draft ← drawn manner name d given
+  at ← places manner d given
   Ok (record { draft = draft; places = at })
+
+-- those of the scenario that is asked for
+unfoldable pub scenario_of : Wanted → Diagram → Result Imported ImportFault
+scenario_of x d = chosen x.choices d >>= drawn_at x.manner x.name d
 
 -- the bytes of a name that is held in place
 abbrev pub short_bytes : ShortName → List ℕ
@@ -100,20 +111,20 @@ abbrev pub told_of : {A : Type 0} → List (List ℕ) → Result A ImportFault �
 told_of lines (Ok x) = Ok x
 told_of lines (Err fault) = Err (with_name lines fault)
 
--- what is imported of a diagram, if it is one
-unfoldable pub imported_of : Wanted → Result Diagram ImportFault → Result Imported Refusal
-imported_of x (Ok d) = told_of d.lines (scenario_of x d)
-imported_of x (Err fault) = Err (record { fault = fault; name = [] })
+-- what is answered of a text by its diagram, if it has one
+unfoldable pub answered : {A : Type 0} → (Diagram → Result A ImportFault) → Result Diagram ImportFault → Result A Refusal
+answered f (Ok d) = told_of d.lines (f d)
+answered f (Err fault) = Err (record { fault = fault; name = [] })
 
 -- what is imported of a text
 abbrev pub imported : Wanted → List ℕ → Result Imported Refusal
-imported x text = imported_of x (diagram_in x.language x.cross text)
+imported x text = answered (scenario_of x) (diagram_in x.language x.cross x.fence text)
 
 -- what the code refuses is what the definition says, unless memory ran out
-abbrev pub RefusesSo : Refused → Result Imported Refusal → Type 0
+abbrev pub RefusesSo : {A : Type 0} → Refused → Result A Refusal → Type 0
 RefusesSo e said = (e.fault ≡ Memory) ⊎ (said ≡ Err (seen e))
 
 -- what the code answers is what the definition says, unless memory ran out
-abbrev pub Imports : Result Imported Refused → Result Imported Refusal → Type 0
+abbrev pub Imports : {A : Type 0} → Result A Refused → Result A Refusal → Type 0
 Imports (Ok x) said = said ≡ Ok x
 Imports (Err e) said = RefusesSo e said

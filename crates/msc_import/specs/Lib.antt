@@ -12,8 +12,11 @@ pub mod Mermaid
 pub mod Naming
 pub mod Courses
 pub mod Counting
+pub mod Choosing
 pub mod Plans
 pub mod Drafting
 pub mod Places
+pub mod Fences
 pub mod Importing
+pub mod Whole
 pub mod Laws

@@ -3,8 +3,8 @@
 ghost use Rattle.std.specs.Prelude.{◌≡◌, ◌+◌, ◌<◌, [], length, IfOk, IfSome, IfNone, OnOk, nat_le};
 ghost use Rattle.std.specs.List.{AllByRecursion, flat_map};
 ghost use Rattle.msc_parser.specs.Drafts.{IsSectionNamed, statements_in, statements_of};
-ghost use Rattle.msc_import.specs.Drafting.{drawn, drawn_as, drawn_walk, few_events, line_name};
-ghost use Rattle.msc_import.specs.Drafting.{section_of, sections_on, short_enough, IsReadAgain};
+ghost use Rattle.msc_import.specs.Drafting.{chart_name, drawn, drawn_as, drawn_walk, few_events};
+ghost use Rattle.msc_import.specs.Drafting.{line_name, section_of, sections_on, short_enough, IsReadAgain};
 ghost use Rattle.msc_import.specs.Gives.{Gives};
 ghost use Rattle.msc_import.specs.Reading.{Leaves};
 
@@ -110,6 +110,14 @@ fn sections_of(
     Ok(sections)
 }
 
+/// The name of a chart, which is made of `name`.
+pub(crate) fn chart_name(alloc: Global, name: &[u8]) -> Result<Name, AllocError>
+    ensures { IfOk result (λ n. n ≡ chart_name name.now) }
+{
+    let plain = made(alloc, name, "diagram".as_bytes())?;
+    fitted(alloc, plain.as_slice())
+}
+
 /// The draft of these lines, where they have no more events than a text has bytes.
 fn few_events(alloc: Global, name: &[u8], sections: Vec<Section>) -> Result<Draft, ImportFault>
     requires { AllByRecursion IsSectionNamed sections.items }
@@ -118,8 +126,7 @@ fn few_events(alloc: Global, name: &[u8], sections: Vec<Section>) -> Result<Draf
     if !is_few(sections.as_slice()) {
         return Err(ImportFault::TooManyArrows(0));
     }
-    let plain = made(alloc, name, "diagram".as_bytes())?;
-    let name = fitted(alloc, plain.as_slice())?;
+    let name = chart_name(alloc, name)?;
     let header = Listed::from_vec(Vec::new(alloc));
     Ok(Draft::new(name, header, Listed::from_vec(sections)))
 }
@@ -149,7 +156,7 @@ fn drawn_as(alloc: Global, name: &[u8], sections: Vec<Section>) -> Result<Draft,
 
 /// The draft of a walk through these statements.
 #[tactic(auto, unfolding(crate::specs::Drafting::drawn_walk))]
-fn drawn_walk(
+pub(crate) fn drawn_walk(
     alloc: Global,
     manner: Manner,
     name: &[u8],

@@ -90,6 +90,9 @@ pub enum ImportFault {
     /// A line beside as many as there may be.
     #[error("more than 32 instances")]
     TooManyLines(usize),
+    /// The diagram has more scenarios than so many, which is the limit that was given.
+    #[error("more than {0} scenarios")]
+    TooManyScenarios(usize),
     /// The diagram has so many scenarios, and it isn't said which of them is meant; as many as one
     /// more than are counted, where it has more.
     #[error("{0} scenarios, say --choose or --into")]
@@ -107,6 +110,9 @@ pub enum ImportFault {
     /// told by its number, from 0.
     #[error("parallel branches share line {1}")]
     Shared(usize, usize),
+    /// The Markdown has no diagram of this number, from 1.
+    #[error("no diagram {0}")]
+    NoDiagram(usize),
     /// A growth of memory was refused.
     #[error("memory fault")]
     Memory,

@@ -4,7 +4,7 @@ ghost use Rattle.std.specs.Prelude.{◌≡◌, ◌⊎◌, [], IfOk, option_map};
 ghost use Rattle.std.specs.List.{list_any};
 ghost use Rattle.msc_import.specs.Drafting.{IsReadAgain};
 ghost use Rattle.msc_import.specs.Gives.{Gives};
-ghost use Rattle.msc_import.specs.Importing.{Imports, chosen, diagram_in};
+ghost use Rattle.msc_import.specs.Importing.{Imports, chosen, diagram_by, diagram_in, drawn_at};
 ghost use Rattle.msc_import.specs.Importing.{imported, scenario_of, seen, short_bytes};
 ghost use Rattle.msc_import.specs.Importing.{told_by_content, wanted, with_name};
 ghost use Rattle.msc_import.specs.Lines.{trimmed};
@@ -14,15 +14,17 @@ ghost use Rattle.msc_import.specs.declared.fault.ImportFault.TheVariants.{Memory
 use crate::SCENARIO_ROUNDS;
 use crate::counting::scenarios;
 use crate::drafting::line_name;
-use crate::drawing::draw;
+use crate::drawing::drawn_walk;
 use crate::fault::{Expectation, ImportFault};
+use crate::fence::fenced;
 use crate::line_name::names_of;
 use crate::lines::{lines_of, trimmed};
 use crate::mermaid::{diagram_of, is_head};
-use crate::placing::places;
+use crate::placing::walk_places;
 use crate::plan::Manner;
 use crate::short_name::ShortName;
 use crate::statement::{Cross, Diagram};
+use crate::walking::Walker;
 use listed::Listed;
 use msc_lexer::TEXT_LIMIT;
 use msc_parser::Draft;
@@ -42,6 +44,8 @@ pub enum Language {
 #[derive(Clone, Copy)]
 pub struct Importing<'a> {
     pub language: Language,
+    /// The number of the diagram that is wanted, from 1, where the text is Markdown.
+    pub fence: Option<usize>,
     /// What arrows with a cross are; where it isn't said, one that may be either is a fault.
     pub cross: Option<Cross>,
     pub manner: Manner,
@@ -90,18 +94,38 @@ fn told_by_content(alloc: Global, cross: Option<Cross>, text: &[u8]) -> Result<D
 }
 
 /// The diagram of a text in its language.
-#[tactic(auto, unfolding(crate::specs::Importing::diagram_in))]
-fn diagram_in(
+#[tactic(auto, unfolding(crate::specs::Importing::diagram_by))]
+fn diagram_by(
     alloc: Global,
     language: Language,
     cross: Option<Cross>,
     text: &[u8],
 ) -> Result<Diagram, ImportFault>
-    ensures { Gives (λ x. x) result (diagram_in language cross text.now) }
+    ensures { Gives (λ x. x) result (diagram_by language cross text.now) }
 {
     match language {
         Language::Mermaid => diagram_of(alloc, cross, text),
         Language::Any => told_by_content(alloc, cross, text),
+    }
+}
+
+/// The diagram of a text, or that of this number where the text is Markdown.
+#[tactic(auto, unfolding(crate::specs::Importing::diagram_in))]
+pub(crate) fn diagram_in(
+    alloc: Global,
+    language: Language,
+    cross: Option<Cross>,
+    fence: Option<usize>,
+    text: &[u8],
+) -> Result<Diagram, ImportFault>
+    ensures { Gives (λ x. x) result (diagram_in language cross fence text.now) }
+{
+    match fence {
+        None => diagram_by(alloc, language, cross, text),
+        Some(number) => {
+            let part = fenced(alloc, text, number)?;
+            diagram_by(alloc, language, cross, part.as_slice())
+        }
     }
 }
 
@@ -124,7 +148,29 @@ fn chosen<'a>(
     Ok(&[])
 }
 
-/// The draft of that scenario, and the places of its events.
+/// The draft of a diagram's scenario with these choices, and the places of its events, by one walk
+/// through the diagram.
+#[tactic(auto, unfolding(crate::specs::Importing::drawn_at, crate::specs::Drafting::drawn, crate::specs::Places::places,))]
+pub(crate) fn drawn_at(
+    alloc: Global,
+    manner: Manner,
+    name: &[u8],
+    diagram: &Diagram,
+    given: &[usize],
+) -> Result<Imported, ImportFault>
+    ensures given { Gives (λ x. x) result (drawn_at manner name.now diagram.now given.now) }
+    ensures again { IfOk result (λ x. IsReadAgain x.draft) }
+{
+    let walker = Walker::through(alloc, diagram, given)?;
+    let draft = drawn_walk(alloc, manner, name, diagram.statements.as_slice(), &walker)?;
+    let found = walk_places(alloc, manner, &walker)?;
+    Ok(Imported {
+        draft,
+        places: Listed::from_vec(found),
+    })
+}
+
+/// Those of the scenario that is asked for.
 #[tactic(auto, unfolding(crate::specs::Importing::scenario_of))]
 fn scenario_of(
     alloc: Global,
@@ -135,16 +181,11 @@ fn scenario_of(
     ensures again { IfOk result (λ x. IsReadAgain x.draft) }
 {
     let given = chosen(alloc, importing.choices, diagram)?;
-    let draft = draw(alloc, diagram, given, importing.manner, importing.name)?;
-    let found = places(alloc, diagram, given, importing.manner)?;
-    Ok(Imported {
-        draft,
-        places: Listed::from_vec(found),
-    })
+    drawn_at(alloc, importing.manner, importing.name, diagram, given)
 }
 
 /// A fault of a diagram, with the name of the line that it speaks of.
-fn with_name(alloc: Global, diagram: &Diagram, fault: ImportFault) -> Refused
+pub(crate) fn with_name(alloc: Global, diagram: &Diagram, fault: ImportFault) -> Refused
     ensures { (result.fault ≡ Memory) ⊎ (seen result ≡ with_name diagram.now.lines fault) }
 {
     let ImportFault::Shared(_, line) = fault else {
@@ -160,7 +201,7 @@ fn with_name(alloc: Global, diagram: &Diagram, fault: ImportFault) -> Refused
 }
 
 /// A fault that speaks of no line of a diagram.
-fn unnamed(fault: ImportFault) -> Refused
+pub(crate) fn unnamed(fault: ImportFault) -> Refused
     ensures fault { result.fault ≡ fault }
     ensures name { short_bytes result.name ≡ [] }
 {
@@ -173,14 +214,20 @@ fn unnamed(fault: ImportFault) -> Refused
 /// What is imported of a text: the draft of the scenario that is asked for, with the places of its
 /// events. An error is the first fault of the text; where no choices are given, that the diagram has
 /// several scenarios; the first fault of the scenario; or a growth of memory that was refused.
-#[tactic(auto, unfolding(crate::specs::Importing::imported_of))]
+#[tactic(auto, unfolding(crate::specs::Importing::answered))]
 pub fn import(alloc: Global, importing: Importing<'_>, text: &[u8]) -> Result<Imported, Refused>
     ensures given { Imports result (imported (wanted importing.entry) text.now) }
 
     // The text of the draft is read again, as this draft.
     ensures again { IfOk result (λ x. IsReadAgain x.draft) }
 {
-    let diagram = match diagram_in(alloc, importing.language, importing.cross, text) {
+    let Importing {
+        language,
+        cross,
+        fence,
+        ..
+    } = importing;
+    let diagram = match diagram_in(alloc, language, cross, fence, text) {
         Ok(diagram) => diagram,
         Err(fault) => return Err(unnamed(fault)),
     };

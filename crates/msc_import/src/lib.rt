@@ -6,11 +6,13 @@
 //! from 1, choices and instances from 0.
 #![tactic(auto)]
 
+mod choosing;
 mod counting;
 mod course;
 mod drafting;
 mod drawing;
 mod fault;
+mod fence;
 #[cfg(test)]
 mod gallery;
 mod importing;
@@ -32,11 +34,15 @@ mod statement;
 #[cfg(test)]
 mod tests;
 mod walking;
+mod way;
+mod whole;
 
+pub use choosing::all_choices;
 pub use counting::scenarios;
 pub use course::{Ending, Message, Step};
 pub use drawing::draw;
 pub use fault::{Expectation, ImportFault};
+pub use fence::fenced;
 pub use importing::{Imported, Importing, Language, Refused, import};
 pub use key::Head;
 pub use line_name::names_of;
@@ -46,6 +52,7 @@ pub use plan::{Manner, Own, Par};
 pub use row::{Closer, Kind};
 pub use short_name::ShortName;
 pub use statement::{Arrow, Cross, Diagram, Placed, Statement};
+pub use whole::{ImportingAll, Scenario, Scenarios, import_all};
 
 /// The greatest number of blocks inside each other.
 pub const DEPTH_LIMIT: usize = 10;
@@ -65,3 +72,6 @@ const SCENARIO_ROUNDS: [usize; 2] = [0, 2];
 
 /// The greatest number of scenarios that are counted.
 pub const SCENARIO_LIMIT: usize = 4096;
+
+/// The greatest number of choices of a scenario, where all scenarios are made.
+const CHOICE_LIMIT: usize = 65_536;

@@ -41,7 +41,11 @@ fn places_in(alloc: Global, plans: &[Plan]) -> Result<Vec<Position>, AllocError>
 
 /// The places of a walk's events.
 #[tactic(auto, unfolding(crate::specs::Places::walk_places))]
-fn walk_places(alloc: Global, manner: Manner, walker: &Walker) -> Result<Vec<Position>, ImportFault>
+pub(crate) fn walk_places(
+    alloc: Global,
+    manner: Manner,
+    walker: &Walker,
+) -> Result<Vec<Position>, ImportFault>
     ensures { Gives (λ v. v.items) result (walk_places manner walker.now) }
 {
     let plans = plans_of(alloc, manner, walker.lines().len(), walker.steps())?;

@@ -563,7 +563,7 @@ pub(crate) fn says_nothing(bytes: &[u8]) -> bool
 }
 
 /// The word at the front.
-fn first_word(bytes: &[u8]) -> &[u8]
+pub(crate) fn first_word(bytes: &[u8]) -> &[u8]
     ensures { result.now ≡ first_word bytes.now }
 {
     &bytes[..word_length(bytes)]

@@ -3,9 +3,11 @@
 
 use crate::gallery::{self, Scenario};
 use crate::{
-    Closer, Cross, Expectation, Head, ImportFault, Manner, Own, Par, diagram_of, draw, places,
-    scenarios,
+    Closer, Cross, Expectation, Head, ImportFault, Imported, Importing, ImportingAll, Language,
+    Manner, Own, Par, Refused, Scenarios, all_choices, diagram_of, draw, fenced, import,
+    import_all, places, scenarios,
 };
+use listed::Listed;
 use msc_place::Position;
 use std::alloc::AllocGlobal;
 
@@ -1030,6 +1032,147 @@ fn the_number_of_scenarios(rt: HostRuntime) {
     }
 }
 
+/// A text, the numbers of rounds, and the choices of its scenarios.
+type Chosen = (&'static [u8], &'static [usize], &'static [&'static [usize]]);
+
+/// Blocks of each kind, and blocks inside others and behind them.
+const CHOICES: &[Chosen] = &[
+    (b"sequenceDiagram\nA->>B: a", &[0, 2], &[&[]]),
+    (
+        b"sequenceDiagram\nalt x\nA->>B: a\nelse y\nA->>B: a\nelse z\nA->>B: a\nend",
+        &[0, 2],
+        &[&[0], &[1], &[2]],
+    ),
+    (
+        b"sequenceDiagram\nalt x\nA->>B: a\nopt y\nA->>B: a\nend\nend",
+        &[0, 2],
+        &[&[0], &[1, 0], &[1, 1]],
+    ),
+    (
+        b"sequenceDiagram\nopt y\nA->>B: a\nend\nopt y\nA->>B: a\nend",
+        &[0, 2],
+        &[&[0, 0], &[0, 1], &[1, 0], &[1, 1]],
+    ),
+    (
+        b"sequenceDiagram\nopt x\nNote over A: n\nend\nopt y\nA->>B: a\nend",
+        &[0, 2],
+        &[&[0], &[1]],
+    ),
+    (
+        b"sequenceDiagram\nrect x\nopt y\nA->>B: a\nend\nend",
+        &[0, 2],
+        &[&[0], &[1]],
+    ),
+    (
+        b"sequenceDiagram\nloop x\nopt y\nA->>B: a\nend\nend",
+        &[0, 2],
+        &[&[0], &[2, 0, 0], &[2, 0, 1], &[2, 1, 0], &[2, 1, 1]],
+    ),
+    (
+        b"sequenceDiagram\nloop x\nopt y\nA->>B: a\nend\nend",
+        &[0],
+        &[&[0]],
+    ),
+    (
+        b"sequenceDiagram\nloop x\nA->>B: a\nend",
+        &[1, 3],
+        &[&[1], &[3]],
+    ),
+    (
+        b"sequenceDiagram\nloop x\nbreak y\nA->>B: a\nend\nA->>B: a\nend\nopt y\nA->>B: a\nend",
+        &[0, 2],
+        &[
+            &[0, 0],
+            &[0, 1],
+            &[2, 0, 0, 0],
+            &[2, 0, 0, 1],
+            &[2, 0, 1, 0],
+            &[2, 0, 1, 1],
+            &[2, 1, 0],
+            &[2, 1, 1],
+        ],
+    ),
+    (
+        b"sequenceDiagram\nbreak x\nA->>B: a\nend\nopt y\nA->>B: a\nend",
+        &[0, 2],
+        &[&[0, 0], &[0, 1], &[1]],
+    ),
+    (
+        b"sequenceDiagram\nbreak x\nA->>B: a\nopt y\nA->>B: a\nend\nend",
+        &[0, 2],
+        &[&[0], &[1, 0], &[1, 1]],
+    ),
+    (
+        b"sequenceDiagram\ncritical x\nopt y\nA->>B: a\nend\noption z\nA->>B: a\noption w\nA->>B: a\nend",
+        &[0, 2],
+        &[&[0, 0], &[0, 1], &[1, 0], &[1, 1], &[2, 0], &[2, 1]],
+    ),
+    (
+        b"sequenceDiagram\ncritical x\nopt y\nA->>B: a\nend\nend",
+        &[0, 2],
+        &[&[0], &[1]],
+    ),
+    (
+        b"sequenceDiagram\ncritical x\nbreak y\nA->>B: a\nend\noption z\nopt y\nA->>B: a\nend\nend",
+        &[0, 2],
+        &[&[0, 0], &[0, 1], &[1, 0, 0], &[1, 0, 1], &[1, 1]],
+    ),
+    (
+        b"sequenceDiagram\npar x\nopt y\nA->>B: a\nend\nand z\nbreak w\nC->>D: c\nend\nopt y\nC->>D: d\nend\nend",
+        &[0, 2],
+        &[
+            &[0, 0, 0],
+            &[0, 0, 1],
+            &[0, 1],
+            &[1, 0, 0],
+            &[1, 0, 1],
+            &[1, 1],
+        ],
+    ),
+    (
+        b"sequenceDiagram\npar x\nbreak w\nA->>B: a\nend\nand z\nC->>D: d\nend\nopt y\nA->>B: a\nend",
+        &[0, 2],
+        &[&[0, 0], &[0, 1], &[1, 0], &[1, 1]],
+    ),
+];
+
+/// Whether the lists are these.
+fn are_lists(lists: &[Listed<usize>], wanted: &[&[usize]]) -> bool {
+    if lists.len() != wanted.len() {
+        return false;
+    }
+    for i in 0..lists.len() {
+        if lists[i].as_slice() != wanted[i] {
+            return false;
+        }
+    }
+    true
+}
+
+/// Whether a text's scenarios have these choices, and are so many.
+fn are_choices(
+    rt: &impl AllocGlobal,
+    text: &[u8],
+    rounds: &[usize],
+    wanted: &[&[usize]],
+) -> Result<bool, ImportFault> {
+    let diagram = diagram_of(rt.alloc(), None, text)?;
+    let lists = all_choices(rt.alloc(), &diagram, rounds)?;
+    let number = scenarios(rt.alloc(), &diagram, rounds)?;
+    Ok(number == wanted.len() && are_lists(lists.as_slice(), wanted))
+}
+
+#[test]
+fn the_choices_of_scenarios(rt: HostRuntime) {
+    for &(text, rounds, wanted) in CHOICES {
+        let found = match are_choices(&rt, text, rounds, wanted) {
+            Ok(same) => same,
+            Err(_) => false,
+        };
+        assert!(rt; found, "{text:?}");
+    }
+}
+
 /// A text with columns that aren't bytes, and blanks before its statements.
 const PLACED: &[u8] =
     b"sequenceDiagram\nparticipant B\n  \xc3\xa9->>B: a; B->>\xc3\xa9: b\n\topt x\n\tB->>B: c\nend\n\xc3\xa9 \xc3\xa9->>C: d";
@@ -1061,4 +1204,298 @@ fn the_places_of_events(rt: HostRuntime) {
         Err(_) => false,
     };
     assert!(rt; found);
+}
+
+/// All scenarios of a text, where loops go these numbers of rounds. Their charts' name is `t`.
+fn all_of(
+    rt: &impl AllocGlobal,
+    text: &[u8],
+    rounds: &[usize],
+    limit: usize,
+    fence: Option<usize>,
+) -> Result<Scenarios, Refused> {
+    let importing = ImportingAll {
+        language: Language::Any,
+        fence,
+        cross: None,
+        manner: MANNER,
+        rounds,
+        limit,
+        name: b"t",
+    };
+    import_all(rt.alloc(), importing, text)
+}
+
+/// What stands behind the first line, which has the name of a chart.
+fn behind_name(text: &[u8]) -> &[u8] {
+    match text.iter().position(|byte| *byte == b'\n') {
+        Some(end) => &text[end..],
+        None => &[],
+    }
+}
+
+/// Whether one of the scenarios has this chart, but for its name, and as many places as events.
+fn is_among(rt: &impl AllocGlobal, found: &Scenarios, choices: &[usize], wanted: &[u8]) -> bool {
+    for scenario in found.list.as_slice() {
+        if scenario.choices.as_slice() == choices {
+            return match scenario.draft.write(rt.alloc()) {
+                Ok(text) => {
+                    text.as_slice().starts_with(b"msc t;\n")
+                        && behind_name(text.as_slice()) == behind_name(wanted)
+                }
+                Err(_) => false,
+            };
+        }
+    }
+    false
+}
+
+/// Whether a text has so many scenarios, and among them those with these charts.
+fn are_all(rt: &impl AllocGlobal, text: &[u8], number: usize, wanted: &[Scenario]) -> bool {
+    let found = match all_of(rt, text, &[0, 2], 64, None) {
+        Ok(found) => found,
+        Err(_) => return false,
+    };
+    if found.list.as_slice().len() != number || found.name.as_slice() != b"t".as_slice() {
+        return false;
+    }
+    for &(choices, _, chart) in wanted {
+        if !is_among(rt, &found, choices, chart) {
+            return false;
+        }
+    }
+    true
+}
+
+#[test]
+fn all_scenarios_of_the_gallery(rt: HostRuntime) {
+    assert!(rt; are_all(&rt, gallery::CI_PIPELINE, 3, gallery::CI_PIPELINE_CHARTS));
+    assert!(rt;
+        are_all(
+            &rt,
+            gallery::DNS_RECURSION,
+            2,
+            gallery::DNS_RECURSION_CHARTS
+        )
+    );
+    assert!(rt; are_all(&rt, gallery::HTTP_CACHE, 8, gallery::HTTP_CACHE_CHARTS));
+    assert!(rt; are_all(&rt, gallery::OAUTH_CODE, 2, gallery::OAUTH_CODE_CHARTS));
+    assert!(rt; are_all(&rt, gallery::ORDER_SAGA, 2, gallery::ORDER_SAGA_CHARTS));
+    assert!(rt;
+        are_all(
+            &rt,
+            gallery::PAYMENT_WEBHOOK,
+            2,
+            gallery::PAYMENT_WEBHOOK_CHARTS
+        )
+    );
+    assert!(rt; are_all(&rt, gallery::TLS13, 4, gallery::TLS13_CHARTS));
+    assert!(rt;
+        are_all(
+            &rt,
+            gallery::WEBSOCKET_CHAT,
+            2,
+            gallery::WEBSOCKET_CHAT_CHARTS
+        )
+    );
+}
+
+#[test]
+fn all_choices_of_import_all(rt: HostRuntime) {
+    for &(text, rounds, wanted) in CHOICES {
+        let same = match all_of(&rt, text, rounds, wanted.len(), None) {
+            Ok(found) => {
+                let list = found.list.as_slice();
+                let mut same = list.len() == wanted.len();
+                for i in 0..list.len() {
+                    same = same && i < wanted.len() && list[i].choices.as_slice() == wanted[i];
+                }
+                same
+            }
+            Err(_) => false,
+        };
+        assert!(rt; same, "{text:?}");
+    }
+}
+
+/// A text, the numbers of rounds, the limit, the first fault, and the line that it names.
+type Stopped = (
+    &'static [u8],
+    &'static [usize],
+    usize,
+    ImportFault,
+    &'static [u8],
+);
+
+/// Too many scenarios, and faults of later ones.
+const STOPPED: &[Stopped] = &[
+    (
+        gallery::HTTP_CACHE,
+        &[0, 2],
+        7,
+        ImportFault::TooManyScenarios(7),
+        b"",
+    ),
+    (
+        b"sequenceDiagram\nopt x\nA->>B: a\nend\nopt x\nA->>B: a\nend\nopt x\nA->>B: a\nend\nopt x\nA->>B: a\nend\nopt x\nA->>B: a\nend\nopt x\nA->>B: a\nend\nopt x\nA->>B: a\nend\nopt x\nA->>B: a\nend\nopt x\nA->>B: a\nend\nopt x\nA->>B: a\nend\nopt x\nA->>B: a\nend\nopt x\nA->>B: a\nend\nopt x\nA->>B: a\nend",
+        &[0],
+        4096,
+        ImportFault::TooManyScenarios(4096),
+        b"",
+    ),
+    // a fault of the text comes before
+    (
+        b"sequenceDiagram\nopt x\nA->>B: a\nend\nopt y\nA->>B: b",
+        &[0],
+        1,
+        ImportFault::Unended(5),
+        b"",
+    ),
+    // and that there are too many before one of a scenario
+    (
+        b"sequenceDiagram\nloop x\nA->>B: a\nend\nA->>B: b",
+        &[0, 1024],
+        1,
+        ImportFault::TooManyScenarios(1),
+        b"",
+    ),
+    (
+        b"sequenceDiagram\nloop x\nA->>B: a\nend\nA->>B: b",
+        &[0, 1024],
+        2,
+        ImportFault::TooManyArrows(5),
+        b"",
+    ),
+    (
+        b"sequenceDiagram\nalt x\nC->>A: a\nelse y\npar x\nA->>B: b\nA->>C: c\nand y\nA->>B: d\nend\nend",
+        &[0],
+        64,
+        ImportFault::Shared(5, 1),
+        b"A",
+    ),
+];
+
+#[test]
+fn the_first_fault_of_all_scenarios(rt: HostRuntime) {
+    for &(text, rounds, limit, wanted, name) in STOPPED {
+        let same = match all_of(&rt, text, rounds, limit, None) {
+            Ok(_) => false,
+            Err(refused) => refused.fault == wanted && refused.name.as_slice() == name,
+        };
+        assert!(rt; same, "{text:?}");
+    }
+}
+
+/// Loops of which each round of one goes all rounds of the next.
+const DEEP: &[u8] = b"sequenceDiagram\nloop x\nloop y\nloop z\nA->>B: a\nend\nend\nend\nA->>B: b";
+
+#[test]
+fn lists_of_choices_are_bounded(rt: HostRuntime) {
+    for (rounds, wanted) in [(200, true), (300, false), (1024, false)] {
+        let found = match diagram_of(rt.alloc(), None, DEEP) {
+            Ok(diagram) => all_choices(rt.alloc(), &diagram, &[rounds]).is_ok(),
+            Err(_) => !wanted,
+        };
+        assert!(rt; found == wanted, "{rounds}");
+    }
+}
+
+/// A text of Markdown, the number of a diagram, and its text or the fault.
+type Fenced = (&'static [u8], usize, Result<&'static [u8], ImportFault>);
+
+/// A diagram, one of several and blocks that are none.
+const FENCED: &[Fenced] = &[
+    (
+        b"# T\n```mermaid\nsequenceDiagram\nA->>B: a\n```\ntext\n",
+        1,
+        Ok(b"\n\nsequenceDiagram\nA->>B: a\n\n\n"),
+    ),
+    (
+        b"```mermaid\na\n```\n```js\n```mermaid\n```\n  ``` puml x\n  b\n\t``` \nc\n",
+        1,
+        Ok(b"\na\n\n\n\n\n\n\n\n\n"),
+    ),
+    (
+        b"```mermaid\na\n```\n```js\n```mermaid\n```\n  ``` puml x\n  b\n\t``` \nc\n",
+        2,
+        Ok(b"\n\n\n\n\n\n\n  b\n\n\n"),
+    ),
+    (
+        b"```mermaid\na\n```\n```js\n```mermaid\n```\n  ``` puml x\n  b\n\t``` \nc\n",
+        3,
+        Err(ImportFault::NoDiagram(3)),
+    ),
+    (b"```mermaid\na\n```", 0, Err(ImportFault::NoDiagram(0))),
+    (b"", 1, Err(ImportFault::NoDiagram(1))),
+    // a block that isn't ended, and line ends
+    (b"x\r\n```mermaid\ra\r\nb", 1, Ok(b"\n\na\nb")),
+    // a line between a CR and a LF
+    (
+        b"```\r\na\rb\n```\nx\r```mscgen\rm",
+        1,
+        Ok(b"\n\n\n\n\n\nm"),
+    ),
+    // words and their letter case
+    (
+        b"```Mermaid\n```\n```mermaids\n```\n````mermaid\n```\n``` \tplantuml{x}\nd",
+        1,
+        Ok(b"\n\n\n\n\n\n\nd"),
+    ),
+    (b"\xef\xbb\xbf```mermaid\nd", 1, Ok(b"\nd")),
+    // a longer row of backquotes ends no block
+    (b"```mermaid\n````\n```\n", 1, Ok(b"\n````\n\n")),
+];
+
+#[test]
+fn the_texts_of_diagrams_in_markdown(rt: HostRuntime) {
+    for &(text, number, wanted) in FENCED {
+        let same = match (fenced(rt.alloc(), text, number), wanted) {
+            (Ok(found), Ok(bytes)) => found.as_slice() == bytes,
+            (Err(fault), Err(other)) => fault == other,
+            _ => false,
+        };
+        assert!(rt; same, "{text:?} {number}");
+    }
+}
+
+/// Two diagrams, the second with a block.
+const MARKDOWN: &[u8] =
+    b"# Pay\n\n```mermaid\nsequenceDiagram\nA->>B: a\n```\n\n```mermaid\nsequenceDiagram\nB->>A: b\n```\n\n```mermaid\nsequenceDiagram\nopt x\nA->>B: a\n```\n";
+
+/// The main scenario of a diagram of [`MARKDOWN`].
+fn main_of(rt: &impl AllocGlobal, number: usize) -> Result<Imported, Refused> {
+    let importing = Importing {
+        language: Language::Mermaid,
+        fence: Some(number),
+        cross: None,
+        manner: MANNER,
+        choices: None,
+        name: b"t",
+    };
+    import(rt.alloc(), importing, MARKDOWN)
+}
+
+#[test]
+fn a_diagram_of_markdown_has_its_places(rt: HostRuntime) {
+    let at = Position {
+        line: 10,
+        column: 1,
+    };
+    let found = match main_of(&rt, 2) {
+        Ok(found) => found.places.as_slice() == [at, at].as_slice(),
+        Err(_) => false,
+    };
+    assert!(rt; found);
+    for (number, wanted) in [
+        (0, ImportFault::NoDiagram(0)),
+        (3, ImportFault::Unended(15)),
+        (4, ImportFault::NoDiagram(4)),
+    ] {
+        let fault = main_of(&rt, number).err().map(|refused| refused.fault);
+        assert!(rt; fault == Some(wanted), "{number}");
+        let fault = all_of(&rt, MARKDOWN, &[0], 1, Some(number))
+            .err()
+            .map(|refused| refused.fault);
+        assert!(rt; fault == Some(wanted), "{number}");
+    }
 }

@@ -8,4 +8,4 @@ use Rattle.msc_import.proofs.drawing.few_events.Goals as goal
 pub new-requires-2 : goal.new-requires-2
 new-requires-2 c =
     let few = sym (ap (λ ss. nat_le (length (statements_of ss)) TEXT_LIMIT) c.as_slice.ensures.value) ∙ sym c.is_few.ensures ∙ c.if-not-is_few.false in
-    draft_named _ c.as_slice-2.result.now _ _ c.args.sections.items c.in_ok-name.ensures (c.from_vec-header.ensures ∙ c.new.ensures.items) c.from_vec.ensures c.requires (leb-true _ _ few)
+    draft_named _ _ _ _ c.args.sections.items c.in_ok-name.ensures (c.from_vec-header.ensures ∙ c.new.ensures.items) c.from_vec.ensures c.requires (leb-true _ _ few)

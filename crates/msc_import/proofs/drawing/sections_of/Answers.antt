@@ -1,5 +1,5 @@
 use Rattle.std.proofs.Common.{◌+◌, ◌++◌, ◌∷◌, [], drop, sym, ap, ◌∙◌}
-use Rattle.msc_import.specs.Drafting.{line_name, section_of, sections_on}
+use Rattle.msc_import.specs.Drafting.{section_of, sections_on}
 use Rattle.msc_import.proofs.NamedLemmas.{sections_more, sections_end}
 use Rattle.msc_import.proofs.drawing.sections_of.Goals as goal
 
