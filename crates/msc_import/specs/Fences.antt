@@ -12,6 +12,7 @@ use Rattle.msc_import.specs.declared.fence.Block.TheVariants as blocks
 use Rattle.msc_import.specs.declared.fence.Fence.{Fence}
 use Rattle.msc_import.specs.Gives.{unless}
 use Rattle.msc_import.specs.Lines.{behind_blanks, lines_of, trimmed}
+use Rattle.msc_import.specs.Mermaid.{is_front}
 use Rattle.msc_import.specs.Rows.{first_word}
 
 -- a block begins with this line, which has no blanks at its ends
@@ -33,7 +34,7 @@ is_diagram line = is_language (first_word (behind_blanks (drop 3 line)))
 
 -- a diagram begins, where so many have to begin until the wanted one has
 abbrev pub begun : ℕ → Fence
-begun left = record { block = cond (left == 1) blocks.Wanted blocks.Other; left = left - 1 }
+begun left = record { block = cond (left == 1) blocks.First blocks.Other; left = left - 1 }
 
 -- behind a line outside of all blocks
 unfoldable pub behind_outside : List ℕ → ℕ → Fence
@@ -45,20 +46,30 @@ abbrev pub behind_inside : List ℕ → Fence → Fence
 behind_inside line f =
     cond (ends_block line) (record { block = blocks.Nothing; left = f.left }) f
 
--- behind a line that this block is around
+-- behind a line inside of the wanted diagram, where this block is around what follows it
+abbrev pub behind_wanted : List ℕ → Fence → Block → Fence
+behind_wanted line f block = behind_inside (trimmed line) (record { block = block; left = f.left })
+
+-- behind a line that this block is around: what stands in front of the wanted diagram is between two lines
+-- of its own, the first of which is the diagram's
 abbrev pub behind_in : List ℕ → Fence → Block → Fence
-behind_in line f blocks.Nothing = behind_outside line f.left
-behind_in line f blocks.Other = behind_inside line f
-behind_in line f blocks.Wanted = behind_inside line f
+behind_in line f blocks.Nothing = behind_outside (trimmed line) f.left
+behind_in line f blocks.Other = behind_inside (trimmed line) f
+behind_in line f blocks.First = behind_wanted line f (cond (is_front line) blocks.Front blocks.Wanted)
+behind_in line f blocks.Front = behind_wanted line f (cond (is_front line) blocks.Wanted blocks.Front)
+behind_in line f blocks.Wanted = behind_inside (trimmed line) f
 
 -- behind a line
 abbrev pub behind_line : List ℕ → Fence → Fence
-behind_line line f = behind_in (trimmed line) f f.block
+behind_line line f = behind_in line f f.block
 
--- what stays of a line that this block is around: nothing but of those inside of the wanted diagram
+-- what stays of a line that this block is around: nothing but of those inside of the wanted diagram, behind
+-- what stands in front of it
 abbrev pub kept : List ℕ → Block → List ℕ
 kept line blocks.Nothing = []
 kept line blocks.Other = []
+kept line blocks.First = cond (ends_block (trimmed line) || is_front line) [] line
+kept line blocks.Front = []
 kept line blocks.Wanted = cond (ends_block (trimmed line)) [] line
 
 -- what stays of each of these lines

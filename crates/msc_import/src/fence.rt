@@ -3,12 +3,14 @@
 ghost use Rattle.std.specs.Prelude.{◌≡◌, ◌≤◌, ◌++◌, ◌∷◌, IfOk, IsTrue, OnOk, cond, length, map};
 ghost use Rattle.std.specs.List.{join_with_byte};
 ghost use Rattle.msc_import.specs.Fences.{before, begins_block, begun, behind_inside, behind_line};
+ghost use Rattle.msc_import.specs.Fences.{behind_wanted};
 ghost use Rattle.msc_import.specs.Fences.{behind_outside, emptied, ends_block, fenced};
 ghost use Rattle.msc_import.specs.Fences.{has_diagram, is_diagram, is_language, kept, left_behind};
 ghost use Rattle.msc_import.specs.Gives.{Gives};
 
 use crate::fault::ImportFault;
 use crate::lines::{behind_blanks, lines_of, trimmed};
+use crate::mermaid::is_front;
 use crate::row::first_word;
 use msc_lexer::TEXT_LIMIT;
 use std::alloc::{AllocError, Global};
@@ -20,6 +22,10 @@ pub(crate) enum Block {
     Nothing,
     /// One that isn't wanted.
     Other,
+    /// The diagram that is wanted, with no line of it gone through.
+    First,
+    /// What stands in front of it.
+    Front,
     /// The diagram that is wanted.
     Wanted,
 }
@@ -82,7 +88,7 @@ impl Fence {
     {
         Fence {
             block: if left == 1 {
-                Block::Wanted
+                Block::First
             } else {
                 Block::Other
             },
@@ -123,12 +129,27 @@ impl Fence {
         self
     }
 
+    /// Behind a line inside of the diagram that is wanted, where this block is around what follows
+    /// it.
+    fn behind_wanted(self, line: &[u8], block: Block) -> Fence
+        ensures { result ≡ behind_wanted line.now self block }
+    {
+        let within = Fence {
+            block,
+            left: self.left,
+        };
+        within.behind_inside(trimmed(line))
+    }
+
     /// Behind a line.
     fn behind(self, line: &[u8]) -> Fence
         ensures { result ≡ behind_line line.now self }
     {
         match self.block {
             Block::Nothing => Fence::behind_outside(trimmed(line), self.left),
+            Block::First if is_front(line) => self.behind_wanted(line, Block::Front),
+            Block::Front if !is_front(line) => self.behind_wanted(line, Block::Front),
+            Block::First | Block::Front => self.behind_wanted(line, Block::Wanted),
             Block::Other | Block::Wanted => self.behind_inside(trimmed(line)),
         }
     }
@@ -139,6 +160,7 @@ impl Fence {
     {
         match self.block {
             Block::Wanted if !ends_block(trimmed(line)) => line,
+            Block::First if !ends_block(trimmed(line)) && !is_front(line) => line,
             _ => &[],
         }
     }
@@ -196,7 +218,8 @@ fn joined(alloc: Global, lines: &[&[u8]]) -> Result<Vec<u8>, AllocError>
 }
 
 /// The text of the diagram of this number, from 1, in a text of Markdown. It has as many lines as
-/// the Markdown, and those that stand outside of the diagram are empty: so a place in it is that
+/// the Markdown, and those that stand outside of the diagram are empty, as are those between two
+/// lines `---` in front of it, which would be no front of a text whose first line it isn't: so a place in it is that
 /// place of the Markdown. Each line end is one LF, since an empty line between a CR and a LF would
 /// be none. An error is that the Markdown is too long or has fewer diagrams, or want of memory.
 #[tactic(auto, unfolding(crate::specs::Fences::fenced))]

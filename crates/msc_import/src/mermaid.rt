@@ -56,7 +56,7 @@ pub(crate) struct Progress {
 }
 
 /// Whether the line stands before or behind what stands in front of a diagram.
-fn is_front(bytes: &[u8]) -> bool
+pub(crate) fn is_front(bytes: &[u8]) -> bool
     ensures { result ≡ is_front bytes.now }
 {
     before_blanks(bytes) == "---".as_bytes()

@@ -1442,6 +1442,14 @@ const FENCED: &[Fenced] = &[
         Ok(b"\n\n\n\n\n\n\nd"),
     ),
     (b"\xef\xbb\xbf```mermaid\nd", 1, Ok(b"\nd")),
+    // what stands in front of a diagram, which may end its block
+    (
+        b"```mermaid\n--- \ntitle: a\n---\nd\n---\n```\n",
+        1,
+        Ok(b"\n\n\n\nd\n---\n\n"),
+    ),
+    (b"```mermaid\n---\na\n```\n---\n", 1, Ok(b"\n\n\n\n\n")),
+    (b"```mermaid\n\n---\n", 1, Ok(b"\n\n---\n")),
     // a longer row of backquotes ends no block
     (b"```mermaid\n````\n```\n", 1, Ok(b"\n````\n\n")),
 ];
