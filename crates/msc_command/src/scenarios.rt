@@ -1,5 +1,6 @@
 //! What is asked of the races of all scenarios of a diagram.
 
+ghost use Rattle.std.specs.Prelude.{◌≡◌, [], ◌∷◌, ◌++◌, OnOk};
 ghost use Rattle.msc_command.specs.Answering.{AnswersWith};
 ghost use Rattle.msc_command.specs.Scenarios.{AreCharted, BeginsScenarios, IsCharted, IsFormOf};
 ghost use Rattle.msc_command.specs.Scenarios.{IsImportOfAll, PrintsScenarios, RefusesScenarios};
@@ -12,7 +13,7 @@ use crate::tasks::{Checking, Form, ScenarioWords};
 use msc_diagram::{Form as DiagramForm, Scenario, judge_scenarios, scenarios_pass};
 use msc_import::{ImportingAll, Scenario as Drawn, Scenarios, import_all};
 use msc_place::Sites;
-use std::alloc::Global;
+use std::alloc::{AllocError, Global};
 use std::io::Write;
 
 /// All scenarios of the diagram of a text.
@@ -51,6 +52,14 @@ fn charted<'f>(alloc: Global, file: &'f str, drawn: Drawn) -> Result<Scenario<'f
     })
 }
 
+/// Puts a scenario behind others. An error is a growth of memory that was refused.
+fn put_charted<'f>(charts: &mut Vec<Scenario<'f>>, one: Scenario<'f>) -> Result<(), AllocError>
+    ensures { OnOk result (charts.new.items ≡ charts.old.items ++ one.entry ∷ []) }
+{
+    charts.push(one)?;
+    Ok(())
+}
+
 /// Each of these scenarios with its chart, or why the first of which that is no chart is none.
 fn each_charted<'f>(
     alloc: Global,
@@ -61,7 +70,7 @@ fn each_charted<'f>(
 {
     let mut charts = Vec::new(alloc);
     for drawn in all {
-        charts.push(charted(alloc, file, drawn)?)?;
+        put_charted(&mut charts, charted(alloc, file, drawn)?)?;
     }
     Ok(charts)
 }

@@ -86,7 +86,7 @@ race 3 4 on B: in b, 2_1 from C; in a, 1_2 from A\nat -:4:1 -:3:1\nlisted 2\npas
             "check", "--queues", "pair", "--from", "mermaid", "--format", "lines", "-",
         ],
         b"-:2:3: warning: race 1 2 on B: in a, 1 from A; in b, 2 from C [queues]\n\
--:4:5: note: drawn below it: in b, 2 from C\n",
+-:4:5: note: the event drawn below it\n",
         b"",
         1,
     ),
