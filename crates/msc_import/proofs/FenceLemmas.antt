@@ -13,7 +13,7 @@ left_none : (f : Fence) → left_behind f [] ≡ f.left
 unfolding left_behind
 left_none f = refl
 
-emptied_cons : (f : Fence) (l : List ℕ) (ls : List (List ℕ)) → emptied f (l ∷ ls) ≡ kept l f.block ∷ emptied (behind_line l f) ls
+pub emptied_cons : (f : Fence) (l : List ℕ) (ls : List (List ℕ)) → emptied f (l ∷ ls) ≡ kept l f.block ∷ emptied (behind_line l f) ls
 unfolding emptied
 emptied_cons f l ls = refl
 

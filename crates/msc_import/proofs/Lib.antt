@@ -28,5 +28,6 @@ pub mod LawLemmas
 pub mod OrderLemmas
 pub mod TogetherLemmas
 pub mod FenceLemmas
+pub mod StayLemmas
 pub mod ImportLemmas
 pub mod WholeLemmas

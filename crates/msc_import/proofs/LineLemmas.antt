@@ -17,7 +17,7 @@ pub record AreCut (text : List ℕ) (lines : List (List ℕ)) (start : ℕ) (cr 
   pub told : lines ++ led_by (part text start i) (lines_behind cr (drop i text)) ≡ lines_behind false text
 
 -- what stands in front of what stands in front
-led_twice : (front next : List ℕ) (ls : List (List ℕ)) → led_by front (led_by next ls) ≡ led_by (front ++ next) ls
+pub led_twice : (front next : List ℕ) (ls : List (List ℕ)) → led_by front (led_by next ls) ≡ led_by (front ++ next) ls
 led_twice front next [] = refl
 led_twice front next (l ∷ ls) = ap (λ x. x ∷ ls) (sym (append_assoc front next l))
 
@@ -42,7 +42,7 @@ behind_crlf : (bs : List ℕ) → lines_behind true (10 ∷ bs) ≡ lines_behind
 unfolding lines_behind
 behind_crlf bs = refl
 
-behind_lf : (bs : List ℕ) → lines_behind false (10 ∷ bs) ≡ [] ∷ lines_behind false bs
+pub behind_lf : (bs : List ℕ) → lines_behind false (10 ∷ bs) ≡ [] ∷ lines_behind false bs
 unfolding lines_behind
 behind_lf bs = refl
 
@@ -50,7 +50,7 @@ behind_cr : (cr : Bool) (bs : List ℕ) → lines_behind cr (13 ∷ bs) ≡ [] �
 unfolding lines_behind
 behind_cr cr bs = refl
 
-behind_other : (cr : Bool) (b : ℕ) (bs : List ℕ) → nat_eq b 10 ≡ false → nat_eq b 13 ≡ false → lines_behind cr (b ∷ bs) ≡ led_by (b ∷ []) (lines_behind false bs)
+pub behind_other : (cr : Bool) (b : ℕ) (bs : List ℕ) → nat_eq b 10 ≡ false → nat_eq b 13 ≡ false → lines_behind cr (b ∷ bs) ≡ led_by (b ∷ []) (lines_behind false bs)
 unfolding lines_behind
 behind_other cr b bs lf return = rw (return, lf) refl
 

@@ -20,6 +20,8 @@ use Rattle.msc_import.specs.Counting.{capped, scenarios}
 use Rattle.msc_import.specs.Courses.{Walk, walk}
 use Rattle.msc_import.specs.Drafting.{at_rest, drawn_event, section_of, unended}
 use Rattle.msc_import.specs.Plans.{Event, Plan, plans_of, sides_on}
+use Rattle.msc_import.specs.Fences.{before, emptied, fenced}
+use Rattle.msc_import.specs.Lines.{lines_of}
 use Rattle.msc_import.specs.Mermaid.{mermaid}
 
 -- the diagram of a text, where crosses are this
@@ -105,3 +107,8 @@ ends_on own line steps.Closes = []
 abbrev pub LinesKeepTheArrowsOrder : Type 0
 LinesKeepTheArrowsOrder =
     (manner : Manner) (names : List (List ℕ)) (line : ℕ) (ident : List ℕ) (ps : List Placed) (ss : List Step) (lines : ℕ) (plans : List Plan) (p : Plan) → plans_of manner ss lines ≡ Ok plans → slice_get plans line ≡ Some p → flat_map statements_in (section_of names line ident ps p).items ≡ map (drawn_event names) (flat_map (ends_on manner.own line) ss)
+
+-- the text of a diagram in Markdown has all lines of the Markdown, those outside of the diagram empty
+abbrev pub LinesStay : Type 0
+LinesStay =
+    (n : ℕ) (text found : List ℕ) → fenced n text ≡ Ok found → lines_of found ≡ emptied (before n) (lines_of text)

@@ -2,8 +2,8 @@
 //! calls one to rest its own proof on the law.
 
 ghost use Rattle.msc_import.specs.Laws.{AsManyAsCounted, EachIsWhole, EachOnceInOrder};
-ghost use Rattle.msc_import.specs.Laws.{LinesKeepTheArrowsOrder, NoBlocksOneScenario, NoneIsMissing};
-ghost use Rattle.msc_import.specs.Laws.{OneDiagram};
+ghost use Rattle.msc_import.specs.Laws.{LinesKeepTheArrowsOrder, LinesStay, NoBlocksOneScenario};
+ghost use Rattle.msc_import.specs.Laws.{NoneIsMissing, OneDiagram};
 
 /// A text has one diagram.
 pub fn one_diagram()
@@ -39,4 +39,10 @@ pub fn no_blocks_one_scenario()
 /// Each line of a draft has the ends of the course's arrows in their order.
 pub fn lines_keep_the_arrows_order()
     ensures { LinesKeepTheArrowsOrder }
+{}
+
+/// The text of a diagram in Markdown has all lines of the Markdown, those outside of the diagram
+/// empty.
+pub fn lines_stay()
+    ensures { LinesStay }
 {}
