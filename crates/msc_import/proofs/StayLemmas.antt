@@ -1,5 +1,5 @@
 -- The lines of a text that is put together of lines are these lines.
-use Rattle.std.proofs.Common.{◌≡◌, ℕ, Bool, true, false, nat_eq, nat_lt, cond, List, [], ◌∷◌, ◌++◌, length, Ok, Err, refl, sym, ap, ◌∙◌, subst}
+use Rattle.std.proofs.Common.{◌≡◌, ℕ, Bool, true, false, nat_eq, nat_lt, cond, List, [], ◌∷◌, ◌++◌, length, Ok, Err, refl, sym, ap, ◌∙◌, ◌||◌, subst}
 use Rattle.std.specs.List.{AllByRecursion, join_with_byte}
 use Rattle.std.proofs.lemmas.List.{append-nil}
 use Rattle.msc_lexer.specs.declared.TheConstants.{TEXT_LIMIT}
@@ -8,6 +8,7 @@ use Rattle.msc_import.specs.declared.fault.ImportFault.TheVariants.{NoDiagram, T
 use Rattle.msc_import.specs.declared.fence.Block.{Block}
 use Rattle.msc_import.specs.declared.fence.Block.TheVariants as blocks
 use Rattle.msc_import.specs.declared.fence.Fence.{Fence}
+use Rattle.msc_import.specs.Mermaid.{is_front}
 use Rattle.msc_import.specs.Fences.{before, behind_line, emptied, ends_block, fenced, has_diagram, kept}
 use Rattle.msc_import.specs.Lines.{behind_mark, led_by, lines_behind, lines_of, trimmed}
 use Rattle.msc_import.proofs.FenceLemmas.{emptied_cons}
@@ -80,6 +81,9 @@ cut_again l (m ∷ ls) h =
 line_kept : (l : List ℕ) (b : Block) → IsLine l → IsLine (kept l b)
 line_kept l blocks.Nothing h = tt
 line_kept l blocks.Other h = tt
+line_kept l blocks.Front h = tt
+line_kept l blocks.First h =
+    elim (ends_block (trimmed l) || is_front l) as (λ t. IsLine (cond t [] l)) [ true ↦ tt | false ↦ h ]
 line_kept l blocks.Wanted h =
     elim (ends_block (trimmed l)) as (λ t. IsLine (cond t [] l)) [ true ↦ tt | false ↦ h ]
 
