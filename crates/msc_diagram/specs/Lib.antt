@@ -1,2 +1,5 @@
 -- what is promised
 pub mod Faults
+pub mod Places
+pub mod Scenarios
+pub mod Judging
