@@ -3,3 +3,4 @@ pub mod Faults
 pub mod Places
 pub mod Scenarios
 pub mod Judging
+pub mod Telling

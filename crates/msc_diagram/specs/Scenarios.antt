@@ -75,6 +75,10 @@ abbrev pub told_text : (ℕ → ℕ × ℕ → List ℕ) → List ℕ → ℕ �
 told_text text head most n [] = []
 told_text text head most n (p ∷ pairs) = head ++ told_from text most n (p ∷ pairs)
 
+-- the same of some of them, behind others of the scenario where they are not its first
+abbrev pub told_then : (ℕ → ℕ × ℕ → List ℕ) → List ℕ → ℕ → ℕ → Bool → List (ℕ × ℕ) → List ℕ
+told_then text head most n is_first pairs = cond is_first (told_text text head most n pairs) (told_from text most n pairs)
+
 -- how scenarios are told: by which texts, and whether with heads
 pub record Telling : Type 0 where
   pub texts : Scenario → Texts

@@ -2,6 +2,7 @@
 //! diagram's scenarios, each once.
 #![tactic(auto)]
 
+mod cases;
 mod fault;
 mod heads;
 mod judging;
