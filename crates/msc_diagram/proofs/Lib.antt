@@ -1,2 +1,6 @@
 pub mod Fresh
 pub mod Told
+pub mod Paging
+pub mod Below
+pub mod Knowing
+pub mod Growing

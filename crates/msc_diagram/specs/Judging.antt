@@ -104,6 +104,11 @@ TellsScenarios contents says begins (Err Device) old new = Unit {0}
 abbrev pub none_counts_in : Queues → KindSet → Case → Bool
 none_counts_in queues allowed c = let e = judged_in queues c in nat_eq (length (counting e (of_kinds allowed) (lack_in e))) 0
 
+-- whether no race of a scenario counts, by what is known of it
+abbrev pub PassesCase : Scenario → Queues → KindSet → Bool → Type 0
+PassesCase s queues allowed none =
+    (c : Case) × (c.scenario ≡ s) × IsCase queues false c × (none ≡ none_counts_in queues allowed c)
+
 -- Whether no race of any scenario counts, where these kinds are left out: none of all; or some race of one of
 -- them does.
 abbrev pub PassesScenarios : List Scenario → Queues → KindSet → Bool → Type 0

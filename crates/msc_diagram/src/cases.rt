@@ -1,6 +1,6 @@
 //! All scenarios, one below the other.
 
-ghost use Rattle.std.specs.Prelude.{◌≡◌, ℕ, List, OnOk, length};
+ghost use Rattle.std.specs.Prelude.{◌≡◌, ℕ, List, None, OnOk, Some, cond, length};
 ghost use Rattle.msc_race.specs.Views.{wiring_of};
 ghost use Rattle.msc_reason.specs.Counting.{listed};
 ghost use Rattle.msc_reason.specs.Marked.{lack_in};
@@ -10,7 +10,7 @@ ghost use Rattle.msc_judge.specs.Telling.{race_text};
 ghost use Rattle.msc_diagram.specs.Judging.{editors_of, lines_of};
 ghost use Rattle.msc_diagram.specs.Places.{above_with, fresh};
 ghost use Rattle.msc_diagram.specs.Scenarios.{head_text, told_text};
-ghost use Rattle.msc_diagram.specs.Telling.{TellsCase, TellsCases};
+ghost use Rattle.msc_diagram.specs.Telling.{telling_by, TellsCase, TellsCases};
 
 use crate::scenario::Scenario;
 use crate::seen::Seen;
@@ -114,6 +114,55 @@ fn put_editor<W: Write>(
     put_scenario(alloc, writer, page, seen, &teller, scenario, head)
 }
 
+/// Puts a scenario with so many races behind a page by its number, in the shape that is asked for.
+fn put_shape<W: Write>(
+    alloc: Global,
+    writer: &mut W,
+    page: &mut Page,
+    seen: &mut Seen,
+    listing: &Listing<'_>,
+    asked: Asked,
+    scenario: &Scenario<'_>,
+    number: usize,
+    races: u32,
+) -> Result<(), WriteFault>
+    requires chart { listing.now.judged.chart ≡ scenario.now.chart }
+    ensures seen { OnOk result (seen.new ≡ above_with scenario.now seen.old
+        (listed listing.now.judged listing.now.allowed listing.now.closest
+        (lack_in listing.now.judged))) }
+    ensures put { (runs : ℕ × ℕ → List ℕ)
+        → AreShown asked.question.short (wiring_of listing.now.judged) runs
+        → Puts result (W.contents writer.old) (W.contents writer.new)
+        page.old.bytes.items page.new.bytes.items (told_text
+        (race_text ((telling_by asked.shape).texts scenario.now) listing.now.judged
+        asked.question runs)
+        (head_text (cond (telling_by asked.shape).heads (Some number) None)
+        scenario.now.choices races)
+        asked.question.most (length seen.old) (fresh scenario.now seen.old
+        (listed listing.now.judged listing.now.allowed listing.now.closest
+        (lack_in listing.now.judged)))) }
+{
+    let question = asked.question;
+    match asked.shape {
+        Shape::Lines(words) => {
+            let head = Head {
+                number: Some(number),
+                races,
+            };
+            put_lines(
+                alloc, writer, page, seen, listing, question, scenario, words, head,
+            )
+        }
+        Shape::Editor => {
+            let head = Head {
+                number: None,
+                races,
+            };
+            put_editor(alloc, writer, page, seen, listing, question, scenario, head)
+        }
+    }
+}
+
 /// Puts a scenario behind a page by its number, and answers how many races it has.
 fn put_case<W: Write>(
     alloc: Global,
@@ -130,30 +179,14 @@ fn put_case<W: Write>(
 {
     the_chosen_run_reverses();
     short_runs_show();
-    let question = asked.question;
     let enforced = Enforced::of(alloc, &scenario.chart, asked.queues)?;
     enforced.enforced();
     let races = enforced.count_races();
-    let left = LeftOut::of_kinds(question.allowed);
-    let listing = &Listing::of(alloc, enforced, left, question.closest)?;
-    match asked.shape {
-        Shape::Lines(words) => {
-            let head = Head {
-                number: Some(number),
-                races,
-            };
-            put_lines(
-                alloc, writer, page, seen, listing, question, scenario, words, head,
-            )?;
-        }
-        Shape::Editor => {
-            let head = Head {
-                number: None,
-                races,
-            };
-            put_editor(alloc, writer, page, seen, listing, question, scenario, head)?;
-        }
-    }
+    let left = LeftOut::of_kinds(asked.question.allowed);
+    let listing = &Listing::of(alloc, enforced, left, asked.question.closest)?;
+    put_shape(
+        alloc, writer, page, seen, listing, asked, scenario, number, races,
+    )?;
     Ok(races)
 }
 

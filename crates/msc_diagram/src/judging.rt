@@ -1,14 +1,12 @@
 //! What is asked of the races of a diagram's scenarios, in bytes.
 
-ghost use Rattle.std.specs.Prelude.{◌≡◌, IfOk};
-ghost use Rattle.msc_diagram.specs.Judging.{BeginsScenarios, JudgesScenarios, PassesScenarios};
+ghost use Rattle.msc_diagram.specs.Judging.{BeginsScenarios, JudgesScenarios};
 ghost use Rattle.msc_diagram.specs.Judging.{TellsScenarios};
 
 use crate::scenario::Scenario;
 use msc_chart::Queues;
 use msc_judge::{Question, WriteFault};
-use msc_reason::KindSet;
-use std::alloc::{AllocError, Global};
+use std::alloc::Global;
 use std::io::Write;
 
 /// How what is asked of the races of scenarios is written.
@@ -44,17 +42,4 @@ pub fn judge_scenarios<W: Write>(
         result writer.old writer.new }
 {
     Err(WriteFault::Memory)
-}
-
-/// Whether no race of any scenario counts, where these kinds are left out. It stops at the first that
-/// does, and makes no text. An error is a growth of memory that was refused.
-pub fn scenarios_pass(
-    alloc: Global,
-    scenarios: &[Scenario<'_>],
-    queues: Queues,
-    allowed: KindSet,
-) -> Result<bool, AllocError>
-    ensures { IfOk result (PassesScenarios scenarios.now queues allowed) }
-{
-    Err(AllocError)
 }

@@ -6,11 +6,13 @@ mod cases;
 mod fault;
 mod heads;
 mod judging;
+mod passing;
 mod place;
 mod scenario;
 mod seen;
 mod telling;
 
 pub use fault::write_import_fault;
-pub use judging::{Form, judge_scenarios, scenarios_pass};
+pub use judging::{Form, judge_scenarios};
+pub use passing::scenarios_pass;
 pub use scenario::Scenario;
