@@ -4,3 +4,5 @@ pub mod Paging
 pub mod Below
 pub mod Knowing
 pub mod Growing
+pub mod Clearing
+pub mod Answering

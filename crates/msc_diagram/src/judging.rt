@@ -1,12 +1,17 @@
 //! What is asked of the races of a diagram's scenarios, in bytes.
 
+ghost use Rattle.std.specs.Prelude.{◌≡◌, ◌++◌, OnOk};
+ghost use Rattle.msc_diagram.specs.Scenarios.{diagram_end, diagram_head};
 ghost use Rattle.msc_diagram.specs.Judging.{BeginsScenarios, JudgesScenarios};
 ghost use Rattle.msc_diagram.specs.Judging.{TellsScenarios};
 
+use crate::cases::{Asked, Shape, put_cases};
+use crate::heads::{write_diagram_end, write_diagram_head};
 use crate::scenario::Scenario;
+use crate::seen::Seen;
 use msc_chart::Queues;
-use msc_judge::{Question, WriteFault};
-use std::alloc::Global;
+use msc_judge::{Page, Question, WriteFault};
+use std::alloc::{AllocError, Global};
 use std::io::Write;
 
 /// How what is asked of the races of scenarios is written.
@@ -20,6 +25,97 @@ pub enum Form<'f> {
     Count(&'f [u8]),
     /// For each race that is listed the lines that editors read.
     Editor,
+}
+
+/// Puts what stands above all scenarios, of so many, behind a page.
+fn put_top(page: &mut Page, name: &[u8], queues: Queues, count: usize) -> Result<(), AllocError>
+    ensures { OnOk result (page.new.bytes.items
+        ≡ page.old.bytes.items ++ diagram_head name.now queues count) }
+{
+    match write_diagram_head(page, name, queues, count) {
+        Ok(()) => Ok(()),
+        Err(_) => Err(AllocError),
+    }
+}
+
+/// Puts what stands below them behind a page.
+fn put_bottom(
+    page: &mut Page,
+    count: usize,
+    listed: u32,
+    passed: usize,
+) -> Result<(), AllocError>
+    ensures { OnOk result (page.new.bytes.items
+        ≡ page.old.bytes.items ++ diagram_end count listed passed) }
+{
+    match write_diagram_end(page, count, listed, passed) {
+        Ok(()) => Ok(()),
+        Err(_) => Err(AllocError),
+    }
+}
+
+/// Writes the races of all scenarios in lines; answers whether none is listed.
+fn write_lines<W: Write>(
+    alloc: Global,
+    name: &[u8],
+    scenarios: &[Scenario<'_>],
+    queues: Queues,
+    question: Question,
+    words: bool,
+    writer: &mut W,
+) -> Result<bool, WriteFault>
+    ensures { TellsScenarios W.contents
+        (JudgesScenarios name.now scenarios.now queues question (Form.Lines words))
+        (BeginsScenarios name.now scenarios.now queues question (Form.Lines words))
+        result writer.old writer.new }
+{
+    let asked = Asked {
+        queues,
+        question,
+        shape: Shape::Lines(words),
+    };
+    let count = scenarios.len();
+    let mut page = Page::new(alloc);
+    let mut seen = Seen::new(alloc);
+    put_top(&mut page, name, queues, count)?;
+    let passed = put_cases(alloc, writer, &mut page, &mut seen, asked, scenarios)?;
+    let listed = seen.len();
+    put_bottom(&mut page, count, listed, passed)?;
+    writer.write_all(page.bytes.as_slice())?;
+    Ok(listed == 0)
+}
+
+/// Writes the races of all scenarios in lines for editors; answers whether none is listed.
+fn write_editor<W: Write>(
+    alloc: Global,
+    name: &[u8],
+    scenarios: &[Scenario<'_>],
+    queues: Queues,
+    question: Question,
+    writer: &mut W,
+) -> Result<bool, WriteFault>
+    ensures { TellsScenarios W.contents
+        (JudgesScenarios name.now scenarios.now queues question Form.Editor)
+        (BeginsScenarios name.now scenarios.now queues question Form.Editor)
+        result writer.old writer.new }
+{
+    let asked = Asked {
+        queues,
+        question: Question {
+            closest: question.closest,
+            why: true,
+            allowed: question.allowed,
+            most: question.most,
+            show: 0,
+            short: false,
+        },
+        shape: Shape::Editor,
+    };
+    let mut page = Page::new(alloc);
+    let mut seen = Seen::new(alloc);
+    put_cases(alloc, writer, &mut page, &mut seen, asked, scenarios)?;
+    writer.write_all(page.bytes.as_slice())?;
+    Ok(seen.len() == 0)
 }
 
 /// Writes what is asked of the races of all scenarios of a diagram in a form, each race once: where
