@@ -1,11 +1,12 @@
 -- What goes out of scenarios in pages.
-use Rattle.std.specs.Prelude.{◌≡◌, ◌⊎◌, ℕ, Bool, List, ◌++◌, Option, Result, Ok, Err, length, take}
+use Rattle.std.specs.Prelude.{◌≡◌, ◌⊎◌, ℕ, false, List, ◌++◌, Option, Result, Ok, Err, length, take}
 use Rattle.msc_chart.specs.declared.queue.Queues.{Queues}
 use Rattle.msc_judge.specs.Pages.{Pages, WritesBeginning}
 use Rattle.msc_judge.specs.declared.page.WriteFault.{WriteFault}
 use Rattle.msc_judge.specs.declared.page.WriteFault.TheVariants.{Memory, Device}
 use Rattle.msc_judge.specs.declared.question.Question.{Question}
-use Rattle.msc_diagram.specs.Judging.{editors_in, lines_in}
+use Rattle.msc_reason.specs.declared.kinds.KindSet.{KindSet}
+use Rattle.msc_diagram.specs.Judging.{counted, editors_in, lines_in}
 use Rattle.msc_diagram.specs.Places.{above_with}
 use Rattle.msc_diagram.specs.Scenarios.{all_of, asked_of, case_text, cases_text, passed_of, places_from, AreCases, Case, IsCase, Telling}
 use Rattle.msc_diagram.specs.declared.cases.Asked.{Asked}
@@ -62,3 +63,15 @@ abbrev pub TellsCases : Asked → List Scenario → List (Place × Place) → Li
 TellsCases a scenarios above below before after old new (Ok passed) = PutsCases a scenarios above below before after old new passed
 TellsCases a scenarios above below before after old new (Err Memory) = StopsCases a scenarios above before after old
 TellsCases a scenarios above below before after old new (Err Device) = Unit {0}
+
+-- all races of a scenario were seen, and of those that count without these kinds the closest
+abbrev pub SeesCase : Scenario → Queues → KindSet → List (Place × Place) → List (Place × Place) → List (Place × Place) → List (Place × Place) → Type 0
+SeesCase s queues allowed all all' closest closest' =
+    (c : Case) × (c.scenario ≡ s) × IsCase queues false c × (all' ≡ above_with s all (all_of queues c))
+    × (closest' ≡ above_with s closest (asked_of queues (counted allowed) c))
+
+-- the same of all scenarios
+abbrev pub SeesCases : List Scenario → Queues → KindSet → List (Place × Place) → List (Place × Place) → List (Place × Place) → List (Place × Place) → Type 0
+SeesCases scenarios queues allowed all all' closest closest' =
+    (cases : List Case) × AreCases queues false scenarios cases × (all' ≡ places_from (all_of queues) all cases)
+    × (closest' ≡ places_from (asked_of queues (counted allowed)) closest cases)

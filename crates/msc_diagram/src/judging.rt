@@ -1,16 +1,19 @@
 //! What is asked of the races of a diagram's scenarios, in bytes.
 
-ghost use Rattle.std.specs.Prelude.{◌≡◌, ◌++◌, OnOk};
+ghost use Rattle.std.specs.Prelude.{◌≡◌, ℕ, List, ◌++◌, OnOk};
+ghost use Rattle.msc_report.specs.Counts.{tally_line};
 ghost use Rattle.msc_diagram.specs.Scenarios.{diagram_end, diagram_head};
-ghost use Rattle.msc_diagram.specs.Judging.{BeginsScenarios, JudgesScenarios};
+ghost use Rattle.msc_diagram.specs.Judging.{tallied, BeginsScenarios, JudgesScenarios};
 ghost use Rattle.msc_diagram.specs.Judging.{TellsScenarios};
 
 use crate::cases::{Asked, Shape, put_cases};
+use crate::counting::see_cases;
 use crate::heads::{write_diagram_end, write_diagram_head};
 use crate::scenario::Scenario;
 use crate::seen::Seen;
 use msc_chart::Queues;
-use msc_judge::{Page, Question, WriteFault};
+use msc_judge::{Heading, Page, Question, WriteFault};
+use msc_report::write_tally;
 use std::alloc::{AllocError, Global};
 use std::io::Write;
 
@@ -118,6 +121,63 @@ fn write_editor<W: Write>(
     Ok(seen.len() == 0)
 }
 
+/// Puts the line of so many races, and so many of the closest of those that count, on a page.
+fn put_tally(
+    page: &mut Page,
+    file: &[u8],
+    queues: Queues,
+    races: u32,
+    closest: u32,
+) -> Result<(), AllocError>
+    ensures { OnOk result (page.new.bytes.items
+        ≡ page.old.bytes.items ++ tally_line file.now (tallied queues races closest)) }
+{
+    let heading = Heading {
+        queues,
+        races,
+        left_out: None,
+        accepted: None,
+        counting: closest,
+        closest: Some(closest),
+    };
+    match write_tally(page, file, heading) {
+        Ok(()) => Ok(()),
+        Err(_) => Err(AllocError),
+    }
+}
+
+/// Writes the line of how many races of all scenarios are listed; answers whether none that counts
+/// is.
+fn write_count<W: Write>(
+    alloc: Global,
+    scenarios: &[Scenario<'_>],
+    queues: Queues,
+    question: Question,
+    file: &[u8],
+    writer: &mut W,
+) -> Result<bool, WriteFault>
+    ensures { (name : List ℕ) → TellsScenarios W.contents
+        (JudgesScenarios name scenarios.now queues question (Form.Count file.entry))
+        (BeginsScenarios name scenarios.now queues question (Form.Count file.entry))
+        result writer.old writer.new }
+{
+    let mut all = Seen::new(alloc);
+    let mut closest = Seen::new(alloc);
+    see_cases(
+        alloc,
+        &mut all,
+        &mut closest,
+        scenarios,
+        queues,
+        question.allowed,
+    )?;
+    let mut page = Page::new(alloc);
+    let counting = closest.len();
+    put_tally(&mut page, file, queues, all.len(), counting)?;
+    writer.write_all(page.bytes.as_slice())?;
+    Ok(counting == 0)
+}
+
 /// Writes what is asked of the races of all scenarios of a diagram in a form, each race once: where
 /// one above it has the places of its events, it is not listed. Answers whether none is listed.
 ///
@@ -137,5 +197,11 @@ pub fn judge_scenarios<W: Write>(
         (BeginsScenarios name.now scenarios.now queues question form.entry)
         result writer.old writer.new }
 {
-    Err(WriteFault::Memory)
+    match form {
+        Form::Lines(words) => {
+            write_lines(alloc, name, scenarios, queues, question, words, writer)
+        }
+        Form::Count(file) => write_count(alloc, scenarios, queues, question, file, writer),
+        Form::Editor => write_editor(alloc, name, scenarios, queues, question, writer),
+    }
 }

@@ -3,6 +3,7 @@
 #![tactic(auto)]
 
 mod cases;
+mod counting;
 mod fault;
 mod heads;
 mod judging;
