@@ -1,5 +1,5 @@
 -- What was put of all scenarios is what is printed of them.
-use Rattle.std.proofs.Common.{◌≡◌, ℕ, Bool, nat_eq, List, [], ◌++◌, Option, Result, Ok, Err, length, take, refl, sym, ap, ◌∙◌, inl, inr, subst, append_assoc, arith}
+use Rattle.std.proofs.Common.{◌≡◌, ℕ, Bool, nat_eq, List, [], ◌++◌, Option, Result, Ok, Err, length, take, refl, sym, ap, ◌∙◌, inr, subst, append_assoc, arith}
 use Rattle.std.specs.Io.KnownBytes.{Appends}
 use Rattle.std.proofs.lemmas.List.{take_all}
 use Rattle.msc_chart.specs.declared.queue.Queues.{Queues}
@@ -55,8 +55,7 @@ module _ {W : Type 0} (contents : W → Option (List ℕ)) (name : List ℕ) (sc
       → bottom ≡ bottom_text form queues (asked form q) p.cases → answer ≡ nat_eq (length below) 0
       → Appends (contents mid) (contents new) final → TellsAll (Ok answer) old new
   all_end old mid new below last final bottom passed answer p ended is none out =
-      let text = cases_text (telling_by a.shape) a.queues a.question 1 [] p.cases in
-      (
+      let text = cases_text (telling_by a.shape) a.queues a.question 1 [] p.cases in (
         page ++ (text ++ bottom),
         record {
           cases = p.cases;

@@ -1,5 +1,5 @@
 -- Whether no race of a scenario counts, of what was found of its chart.
-use Rattle.std.proofs.Common.{◌≡◌, ℕ, Bool, false, true, nat_eq, List, length, refl, ap₂, subst, Result, Ok, Err}
+use Rattle.std.proofs.Common.{◌≡◌, Bool, false, true, nat_eq, List, length, refl, ap₂, subst, Result, Ok, Err}
 use Rattle.std.specs.Prelude.{IfOk, OnOk}
 use Rattle.msc_chart.specs.declared.queue.Queues.{Queues}
 use Rattle.msc_chart.specs.Drawings.{Drawing, IsAccepted}
@@ -38,10 +38,9 @@ case_seen queues allowed s e all all' closest closest' chart its is accepted exi
     let same : e ≡ enforced_chart s.chart queues e.order = ap₂ (λ (d : Drawing) (a : Queues). enforced_chart d a e.order) chart its in
     let now = enforced_chart s.chart queues e.order in
     let found = subst (λ (x : EnforcedChart). IsEnforced x × IsAccepted x.chart × (all' ≡ above_with s all (races_of x)) × (closest' ≡ above_with s closest (listed x (of_kinds allowed) true (lack_in x))))
-        same (is, accepted, seen, few) in
+    same (is, accepted, seen, few) in
     let known = all_tables now found.0 found.1 exists shorts in
-    let tables = tables_of now known.0 known.1 in
-    (
+    let tables = tables_of now known.0 known.1 in (
       record { scenario = s; order = e.order; runs = run_of false tables },
       refl,
       record { enforced = found.0; lacks = known.2.lacks; shown = are_shown false now tables known.2 },
@@ -58,8 +57,7 @@ case_passes queues allowed s e none chart its is accepted exists shorts told =
     let now = enforced_chart s.chart queues e.order in
     let found = subst (λ (x : EnforcedChart). IsEnforced x × IsAccepted x.chart × (none ≡ nat_eq (length (counting x (of_kinds allowed) (lack_in x))) 0)) same (is, accepted, told) in
     let all = all_tables now found.0 found.1 exists shorts in
-    let tables = tables_of now all.0 all.1 in
-    (
+    let tables = tables_of now all.0 all.1 in (
       record { scenario = s; order = e.order; runs = run_of false tables },
       refl,
       record { enforced = found.0; lacks = all.2.lacks; shown = are_shown false now tables all.2 },

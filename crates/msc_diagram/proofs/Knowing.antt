@@ -1,5 +1,5 @@
 -- What is known of a scenario, of what was found of its chart.
-use Rattle.std.proofs.Common.{◌≡◌, ℕ, cond, List, ◌++◌, Option, Some, None, Result, Ok, Err, length, refl, sym, ap₂, inl, inr, subst}
+use Rattle.std.proofs.Common.{◌≡◌, ℕ, cond, List, Option, Some, None, Err, length, refl, sym, ap₂, inr, subst}
 use Rattle.msc_chart.specs.declared.queue.Queues.{Queues}
 use Rattle.msc_chart.specs.Drawings.{Drawing, IsAccepted}
 use Rattle.msc_order.specs.Tables.{Table}

@@ -1,5 +1,5 @@
 -- What is written of the races of a scenario, of some behind others.
-use Rattle.std.proofs.Common.{◌≡◌, suc, ℕ, ◌+◌, ◌<◌, Bool, true, false, cond, nat_eq, List, [], ◌∷◌, ◌++◌, length, refl, sym, ap, ◌∙◌, append_assoc, eq-eqb, arith}
+use Rattle.std.proofs.Common.{◌≡◌, ℕ, ◌+◌, ◌<◌, Bool, true, false, nat_eq, List, [], ◌∷◌, ◌++◌, length, refl, sym, ap, ◌∙◌, append_assoc, eq-eqb, arith}
 use Rattle.std.proofs.lemmas.Bool.{ne_eqb}
 use Rattle.msc_judge.proofs.Telling.{told_behind}
 use Rattle.msc_judge.specs.Telling.{told_from}

@@ -1,10 +1,10 @@
 -- What is asked of the races of a diagram's scenarios, in a form.
-use Rattle.std.specs.Prelude.{◌≡◌, ◌⊎◌, ℕ, ◌≤◌, Bool, true, false, List, [], ◌++◌, Option, None, Some, Result, Ok, Err, length, nat_eq, take}
+use Rattle.std.specs.Prelude.{◌≡◌, ◌⊎◌, ℕ, Bool, true, false, List, [], ◌++◌, Option, None, Some, Result, Ok, Err, length, nat_eq, take}
 use Rattle.std.specs.Io.KnownBytes.{Appends}
 use Rattle.std.specs.List.{All}
 use Rattle.msc_chart.specs.declared.queue.Queues.{Queues}
 use Rattle.msc_chart.specs.Lists.{Occurs}
-use Rattle.msc_reason.specs.Counting.{counting, AreLacks}
+use Rattle.msc_reason.specs.Counting.{counting}
 use Rattle.msc_reason.specs.LeftOut.{of_kinds}
 use Rattle.msc_reason.specs.Marked.{lack_in}
 use Rattle.msc_reason.specs.declared.kinds.KindSet.{KindSet}

@@ -1,5 +1,5 @@
 -- Places of events in a diagram, and which races of a scenario are new by the places of their events.
-use Rattle.std.specs.Prelude.{◌≡◌, ℕ, ◌<◌, ◌≤◌, ◌^◌, Bool, false, ◌&&◌, cond, List, [], ◌∷◌, ◌++◌, get_or, length, map, nat_eq}
+use Rattle.std.specs.Prelude.{◌≡◌, ℕ, ◌<◌, Bool, false, ◌&&◌, cond, List, [], ◌∷◌, ◌++◌, get_or, length, map, nat_eq}
 use Rattle.std.specs.List.{list_any}
 use mathlib.Core.Bool.{beq}
 use Rattle.msc_chart.specs.Charts.{line, is_local, is_output}

@@ -4,7 +4,6 @@ use Rattle.msc_chart.specs.declared.queue.Queues.{Queues}
 use Rattle.msc_judge.specs.Pages.{Pages, WritesBeginning}
 use Rattle.msc_judge.specs.declared.page.WriteFault.{WriteFault}
 use Rattle.msc_judge.specs.declared.page.WriteFault.TheVariants.{Memory, Device}
-use Rattle.msc_judge.specs.declared.question.Question.{Question}
 use Rattle.msc_reason.specs.declared.kinds.KindSet.{KindSet}
 use Rattle.msc_diagram.specs.Judging.{counted, editors_in, lines_in}
 use Rattle.msc_diagram.specs.Places.{above_with}

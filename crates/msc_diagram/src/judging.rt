@@ -42,12 +42,7 @@ fn put_top(page: &mut Page, name: &[u8], queues: Queues, count: usize) -> Result
 }
 
 /// Puts what stands below them behind a page.
-fn put_bottom(
-    page: &mut Page,
-    count: usize,
-    listed: u32,
-    passed: usize,
-) -> Result<(), AllocError>
+fn put_bottom(page: &mut Page, count: usize, listed: u32, passed: usize) -> Result<(), AllocError>
     ensures { OnOk result (page.new.bytes.items
         ≡ page.old.bytes.items ++ diagram_end count listed passed) }
 {

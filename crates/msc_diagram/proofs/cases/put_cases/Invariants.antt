@@ -1,5 +1,4 @@
-use Rattle.std.proofs.Common.{◌≡◌, ℕ, ◌≤◌, List, take}
-use Rattle.msc_judge.specs.Pages.{Pages}
+use Rattle.std.proofs.Common.{◌≤◌, take}
 use Rattle.msc_diagram.specs.Telling.{PutsCases}
 use Rattle.msc_diagram.proofs.cases.put_cases.Given as goal
 

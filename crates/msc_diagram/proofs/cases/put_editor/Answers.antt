@@ -1,4 +1,4 @@
-use Rattle.std.proofs.Common.{ℕ, List, [], length, subst}
+use Rattle.std.proofs.Common.{[], length, subst}
 use Rattle.msc_chart.specs.Drawings.{Drawing}
 use Rattle.msc_reason.specs.Counting.{listed}
 use Rattle.msc_reason.specs.Marked.{lack_in}

@@ -1,4 +1,4 @@
-use Rattle.std.proofs.Common.{◌≡◌, ℕ, List, [], length, subst}
+use Rattle.std.proofs.Common.{◌≡◌, [], length, subst}
 use Rattle.msc_chart.specs.Drawings.{Drawing}
 use Rattle.msc_reason.specs.Counting.{listed}
 use Rattle.msc_reason.specs.Marked.{lack_in}
@@ -22,7 +22,7 @@ returns-clause-put g c runs shown =
     let sc = c.args.scenario.now in
     let above = c.args.seen.now in
     let put : Style → Drawing → Type 0 = λ st d.
-        Puts c.put_scenario.result (g.W.Write.contents c.args.writer.now) (g.W.Write.contents c.put_scenario.new.writer) c.args.page.now.bytes.items c.put_scenario.new.page.bytes.items
-        (told_text (race_text (record { heading = λ h. []; run = run_text st.words d; finding = finding_text (sites_in st) d; end = λ stale. [] }) s.judged q runs)
-        (head_text c.args.head.number sc.choices c.args.head.races) q.most (length above) (fresh sc above (listed s.judged s.allowed s.closest (lack_in s.judged)))) in
+    Puts c.put_scenario.result (g.W.Write.contents c.args.writer.now) (g.W.Write.contents c.put_scenario.new.writer) c.args.page.now.bytes.items c.put_scenario.new.page.bytes.items
+    (told_text (race_text (record { heading = λ h. []; run = run_text st.words d; finding = finding_text (sites_in st) d; end = λ stale. [] }) s.judged q runs)
+    (head_text c.args.head.number sc.choices c.args.head.races) q.most (length above) (fresh sc above (listed s.judged s.allowed s.closest (lack_in s.judged)))) in
     turned put c.in_ok-renderer.ensures.style c.requires.chart (c.put_scenario.ensures.put runs shown)

@@ -1,4 +1,4 @@
-use Rattle.std.proofs.Common.{◌≡◌, ◌<◌, ◌+◌, length, sym, ap, ap₂, ◌∙◌, subst, arith}
+use Rattle.std.proofs.Common.{length, sym, ap, ap₂, ◌∙◌, subst, arith}
 use Rattle.std.proofs.lemmas.List.{append-nil}
 use Rattle.msc_race.proofs.Listing.Raced.{no_races_below, races_below, races_below_all, races_below_more}
 use Rattle.msc_race.specs.Views.{races_from, AreRacesOf}

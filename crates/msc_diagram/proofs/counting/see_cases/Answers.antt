@@ -1,4 +1,4 @@
-use Rattle.std.proofs.Common.{◌≡◌, ◌<◌, false, List, [], ◌∷◌, ◌++◌, length, sym, ap₂, ◌∙◌, arith}
+use Rattle.std.proofs.Common.{◌<◌, false, List, [], ◌∷◌, ◌++◌, length, sym, ap₂, ◌∙◌, arith}
 use Rattle.msc_diagram.proofs.Growing.{known_more, places_more}
 use Rattle.msc_diagram.specs.Judging.{counted}
 use Rattle.msc_diagram.specs.Places.{above_with}
@@ -14,8 +14,7 @@ loop-scenario-preserved c =
     let i = c.loop-scenario.scenario-index in
     let so_far = c.loop-scenario.invariant in
     let one = c.in_ok-see_case.ensures in
-    let within : i < length c.args.scenarios.now = omega arith in
-    (
+    let within : i < length c.args.scenarios.now = omega arith in (
       so_far.0 ++ one.0 ∷ [],
       known_more queues false c.args.scenarios.now i so_far.0 one.0 c.scenario-item.result so_far.1 one.2 within (one.1 ∙ c.scenario-item.is),
       one.3 ∙ ap₂ (λ (x : Scenario) (l : List (Place × Place)). above_with x l (all_of queues one.0)) (sym one.1) so_far.2

@@ -1,4 +1,4 @@
-use Rattle.std.proofs.Common.{◌≡◌, ℕ, false, true, List, [], ◌++◌, Err, nat_eq, refl, sym, ap, subst}
+use Rattle.std.proofs.Common.{ℕ, List, [], ◌++◌, Err, nat_eq, refl, sym, ap, subst}
 use Rattle.std.specs.Io.KnownBytes.{Appends}
 use Rattle.std.proofs.lemmas.List.{append-nil}
 use Rattle.std.proofs.lemmas.Result.{err_from_is_err_and}
@@ -34,7 +34,7 @@ returns g c =
     let last : List ℕ = c.put_cases.new.page.bytes.items in
     let passed = c.in_ok-put_cases.field-0 in
     let p = subst (λ (above : List (Place × Place)). PutsCases a c.args.scenarios.now above c.put_cases.new.seen (g.W.Write.contents c.args.writer.now) (g.W.Write.contents c.put_cases.new.writer) page last passed)
-        c.new-seen.ensures c.in_ok-put_cases.ensures in
+    c.new-seen.ensures c.in_ok-put_cases.ensures in
     all_end g.W.Write.contents c.args.name.now c.args.scenarios.now c.args.queues c.args.question forms.Editor a page
     (λ l cases are. are) (λ cases. ap (λ (t : List ℕ). t ++ cases_text editors_in c.args.queues q 1 [] cases) (sym c.new-page.ensures)) (λ cases. refl)
     c.args.writer.now c.put_cases.new.writer c.write_all.new.self c.put_cases.new.seen last last [] passed _

@@ -1,9 +1,9 @@
-use Rattle.std.proofs.Common.{◌≡◌, ℕ, List, [], ◌++◌, Err, length, nat_eq, refl, sym, ap, ap₂, ◌∙◌, subst}
+use Rattle.std.proofs.Common.{ℕ, List, [], ◌++◌, Err, length, nat_eq, refl, sym, ap, ap₂, ◌∙◌, subst}
 use Rattle.std.specs.Io.KnownBytes.{Appends}
 use Rattle.std.proofs.lemmas.List.{length-map}
 use Rattle.std.proofs.lemmas.Result.{err_from_is_err_and}
 use Rattle.msc_diagram.proofs.Answering.{all_end, all_stop, all_stop_below}
-use Rattle.msc_diagram.specs.Judging.{lines_in, listed_of}
+use Rattle.msc_diagram.specs.Judging.{lines_in}
 use Rattle.msc_diagram.specs.Scenarios.{cases_text, diagram_end, diagram_head, Case}
 use Rattle.msc_diagram.specs.Telling.{PutsCases, TellsCases}
 use Rattle.msc_diagram.specs.declared.cases.Asked.{Asked}
@@ -48,7 +48,7 @@ returns g c =
     let passed = c.in_ok-passed.passed in
     let head = c.in_ok-put_top.ensures ∙ ap (λ (t : List ℕ). t ++ diagram_head c.args.name.now c.args.queues (length c.args.scenarios.now)) c.new-page.ensures in
     let p = subst (λ (above : List (Place × Place)). PutsCases a c.args.scenarios.now above c.put_cases.new.seen (g.W.Write.contents c.args.writer.now) (g.W.Write.contents c.put_cases.new.writer) page last passed)
-        c.new-seen.ensures c.in_ok-passed.ensures in
+    c.new-seen.ensures c.in_ok-passed.ensures in
     let count = ap length (sym p.are.each) ∙ length-map p.cases (λ (x : Case). x.scenario) in
     let listed = c.len-listed.ensures.value ∙ ap length p.seen in
     all_end g.W.Write.contents c.args.name.now c.args.scenarios.now c.args.queues c.args.question (forms.Lines c.args.words) a page

@@ -1,4 +1,4 @@
-use Rattle.std.proofs.Common.{◌≡◌, Bool, nat_eq, length, ap, ◌∙◌}
+use Rattle.std.proofs.Common.{nat_eq, length, ap, ◌∙◌}
 use Rattle.msc_reason.specs.Counting.{counting}
 use Rattle.msc_reason.specs.Marked.{lack_in}
 use Rattle.msc_reason.specs.declared.left_out.LeftOut.{LeftOut}

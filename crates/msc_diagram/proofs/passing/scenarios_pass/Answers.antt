@@ -11,8 +11,7 @@ loop-scenario-preserved c =
     let so_far = c.loop-scenario.invariant in
     let one = c.in_ok-scenario_passes.ensures in
     let within : i < length c.args.scenarios.now = omega arith in
-    let none : Case → Type 0 = λ x. none_counts_in c.args.queues c.args.allowed x ≡ true in
-    (
+    let none : Case → Type 0 = λ x. none_counts_in c.args.queues c.args.allowed x ≡ true in (
       so_far.0 ++ one.0 ∷ [],
       known_more c.args.queues false c.args.scenarios.now i so_far.0 one.0 c.scenario-item.result so_far.1 one.2 within (one.1 ∙ c.scenario-item.is),
       All-append none so_far.0 (one.0 ∷ []) so_far.2 (All-one none one.0 (sym one.3 ∙ c.if-not-branch.false)),

@@ -1,14 +1,14 @@
-use Rattle.std.proofs.Common.{◌≡◌, ◌≤◌, ℕ, ◌+◌, ◌-◌, Bool, nat_eq, List, ◌++◌, length, Err, refl, sym, ap, ap₂, ◌∙◌, subst, arith}
+use Rattle.std.proofs.Common.{◌≡◌, ℕ, ◌+◌, ◌-◌, nat_eq, List, ◌++◌, length, Err, refl, sym, ap, ap₂, ◌∙◌, subst, arith}
 use Rattle.std.specs.List.{filter}
 use Rattle.std.proofs.lemmas.List.{append-nil}
 use Rattle.std.proofs.lemmas.Result.{err_from_is_err_and}
 use Rattle.msc_chart.specs.Drawings.{Drawing}
 use Rattle.msc_chart.specs.Lists.{Occurs}
-use Rattle.msc_race.specs.Views.{races_from, races_of, AreFrom, AreRacesOf}
-use Rattle.msc_race.specs.Wired.{EnforcedChart, IsEnforced}
+use Rattle.msc_race.specs.Views.{races_from, races_of, AreRacesOf}
+use Rattle.msc_race.specs.Wired.{IsEnforced}
 use Rattle.msc_reason.proofs.Sums.{kept_all, kept_below, kept_more, kept_none}
 use Rattle.msc_reason.specs.Counting.{is_listed}
-use Rattle.msc_reason.specs.Marked.{lack_in, listed_from}
+use Rattle.msc_reason.specs.Marked.{lack_in}
 use Rattle.msc_judge.proofs.Asked.{are_from, are_races}
 use Rattle.msc_judge.proofs.Putting.{fails_within, pages_in, pages_then, stops_within}
 use Rattle.msc_judge.specs.Findings.{texts}
@@ -18,7 +18,6 @@ use Rattle.msc_diagram.proofs.Below.{races_known, rest_after, told_step}
 use Rattle.msc_diagram.proofs.Fresh.{above_behind, fresh_part, seen_size}
 use Rattle.msc_diagram.specs.Places.{above_with, fresh, AreAllPlaces}
 use Rattle.msc_diagram.specs.Scenarios.{head_text, told_text, told_then}
-use Rattle.msc_diagram.specs.declared.place.Place.{Place}
 use Rattle.msc_diagram.proofs.telling.put_scenario.Goals as goal
 
 pub loop-e-init : goal.loop-e-init
