@@ -1,6 +1,19 @@
-//! What is printed of diagrams of other languages: the lines of faults of imports.
+//! What is printed of diagrams of other languages: the lines of faults of imports, and the races of a
+//! diagram's scenarios, each once.
 #![tactic(auto)]
 
+mod cases;
+mod counting;
 mod fault;
+mod heads;
+mod judging;
+mod passing;
+mod place;
+mod scenario;
+mod seen;
+mod telling;
 
 pub use fault::write_import_fault;
+pub use judging::{Form, judge_scenarios};
+pub use passing::scenarios_pass;
+pub use scenario::Scenario;

@@ -1,0 +1,65 @@
+-- Whether no race of a scenario counts, of what was found of its chart.
+use Rattle.std.proofs.Common.{◌≡◌, Bool, false, true, nat_eq, List, length, refl, ap₂, subst, Result, Ok, Err}
+use Rattle.std.specs.Prelude.{IfOk, OnOk}
+use Rattle.msc_chart.specs.declared.queue.Queues.{Queues}
+use Rattle.msc_chart.specs.Drawings.{Drawing, IsAccepted}
+use Rattle.msc_race.specs.Laws.{AChosenRunExists}
+use Rattle.msc_race.specs.ShortLaws.{AShortRunExists}
+use Rattle.msc_race.specs.Wired.{enforced_chart, EnforcedChart, IsEnforced}
+use Rattle.msc_race.specs.Views.{races_of}
+use Rattle.msc_reason.specs.Counting.{counting, listed}
+use Rattle.msc_reason.specs.LeftOut.{of_kinds}
+use Rattle.msc_reason.specs.Marked.{lack_in}
+use Rattle.msc_reason.specs.declared.kinds.KindSet.{KindSet}
+use Rattle.msc_judge.proofs.Asked.{all_tables, are_shown, tables_of}
+use Rattle.msc_judge.specs.Findings.{run_of}
+use Rattle.msc_diagram.specs.Judging.{PassesCase}
+use Rattle.msc_diagram.specs.Places.{above_with}
+use Rattle.msc_diagram.specs.Telling.{SeesCase}
+use Rattle.msc_diagram.specs.declared.place.Place.{Place}
+use Rattle.msc_diagram.specs.declared.scenario.Scenario.{Scenario}
+
+-- what holds of an answer holds of one that is right where that is
+pub answer_holds : {A E : Type 0} (P Q : A → Type 0) (r : Result A E) → ((a : A) → P a → Q a) → IfOk r P → IfOk r Q
+answer_holds P Q (Ok a) then p = then a p
+answer_holds P Q (Err e) then p = tt
+
+-- and so where a fact stands in its place
+pub success_holds : {A E P Q : Type 0} (r : Result A E) → (P → Q) → OnOk r P → OnOk r Q
+success_holds (Ok a) then p = then p
+success_holds (Err e) then p = tt
+
+-- by the enforced order it is known what of a scenario was seen
+pub case_seen : (queues : Queues) (allowed : KindSet) (s : Scenario) (e : EnforcedChart) (all all' closest closest' : List (Place × Place))
+    → e.chart ≡ s.chart → e.queues ≡ queues → IsEnforced e → IsAccepted e.chart → AChosenRunExists → AShortRunExists
+    → all' ≡ above_with s all (races_of e) → closest' ≡ above_with s closest (listed e (of_kinds allowed) true (lack_in e))
+    → SeesCase s queues allowed all all' closest closest'
+case_seen queues allowed s e all all' closest closest' chart its is accepted exists shorts seen few =
+    let same : e ≡ enforced_chart s.chart queues e.order = ap₂ (λ (d : Drawing) (a : Queues). enforced_chart d a e.order) chart its in
+    let now = enforced_chart s.chart queues e.order in
+    let found = subst (λ (x : EnforcedChart). IsEnforced x × IsAccepted x.chart × (all' ≡ above_with s all (races_of x)) × (closest' ≡ above_with s closest (listed x (of_kinds allowed) true (lack_in x))))
+    same (is, accepted, seen, few) in
+    let known = all_tables now found.0 found.1 exists shorts in
+    let tables = tables_of now known.0 known.1 in (
+      record { scenario = s; order = e.order; runs = run_of false tables },
+      refl,
+      record { enforced = found.0; lacks = known.2.lacks; shown = are_shown false now tables known.2 },
+      found.2,
+      found.3,
+    )
+
+-- by the enforced order it is known whether none counts
+pub case_passes : (queues : Queues) (allowed : KindSet) (s : Scenario) (e : EnforcedChart) (none : Bool)
+    → e.chart ≡ s.chart → e.queues ≡ queues → IsEnforced e → IsAccepted e.chart → AChosenRunExists → AShortRunExists
+    → none ≡ nat_eq (length (counting e (of_kinds allowed) (lack_in e))) 0 → PassesCase s queues allowed none
+case_passes queues allowed s e none chart its is accepted exists shorts told =
+    let same : e ≡ enforced_chart s.chart queues e.order = ap₂ (λ (d : Drawing) (a : Queues). enforced_chart d a e.order) chart its in
+    let now = enforced_chart s.chart queues e.order in
+    let found = subst (λ (x : EnforcedChart). IsEnforced x × IsAccepted x.chart × (none ≡ nat_eq (length (counting x (of_kinds allowed) (lack_in x))) 0)) same (is, accepted, told) in
+    let all = all_tables now found.0 found.1 exists shorts in
+    let tables = tables_of now all.0 all.1 in (
+      record { scenario = s; order = e.order; runs = run_of false tables },
+      refl,
+      record { enforced = found.0; lacks = all.2.lacks; shown = are_shown false now tables all.2 },
+      found.2,
+    )

@@ -1,0 +1,127 @@
+-- Scenarios and one more of them.
+use Rattle.std.proofs.Common.{◌≡◌, zero, suc, ℕ, ◌+◌, ◌<◌, Bool, cond, nat_eq, List, [], ◌∷◌, ◌++◌, get_or, length, take, refl, sym, ap, ap₂, ◌∙◌, append_assoc, subst, inl, inr, Option, Err, arith}
+use Rattle.std.specs.List.{All}
+use Rattle.std.proofs.lemmas.List.{append-nil, length-map, length-take, map-append, take_more}
+use Rattle.std.proofs.lemmas.List.Elements.{All-append}
+use Rattle.std.proofs.lemmas.List.Sums.{sum_by-append}
+use Rattle.msc_chart.specs.declared.queue.Queues.{Queues}
+use Rattle.msc_judge.proofs.KnownBytes.{Appends-append}
+use Rattle.msc_judge.proofs.Putting.{pages_then}
+use Rattle.msc_judge.specs.Pages.{Pages, WritesBeginning}
+use Rattle.msc_judge.specs.declared.page.WriteFault.{WriteFault}
+use Rattle.msc_judge.specs.declared.page.WriteFault.TheVariants.{Memory, Device}
+use Rattle.msc_judge.specs.declared.question.Question.{Question}
+use Rattle.msc_diagram.specs.Places.{above_with}
+use Rattle.msc_diagram.specs.Scenarios.{all_of, asked_of, case_text, cases_text, passed_of, places_from, AreCases, Case, IsCase, Telling}
+use Rattle.msc_diagram.specs.Telling.{telling_by, PutsCase, PutsCases, TellsCase, TellsCases}
+use Rattle.msc_diagram.specs.declared.cases.Asked.{Asked}
+use Rattle.msc_diagram.specs.declared.place.Place.{Place}
+use Rattle.msc_diagram.specs.declared.scenario.Scenario.{Scenario}
+
+-- the places of the races of one scenario more
+pub places_more : (pairs : Case → List (ℕ × ℕ)) (above : List (Place × Place)) (cases : List Case) (c : Case)
+    → places_from pairs above (cases ++ c ∷ []) ≡ above_with c.scenario (places_from pairs above cases) (pairs c)
+places_more pairs above [] c = refl
+places_more pairs above (d ∷ cases) c = places_more pairs (above_with d.scenario above (pairs d)) cases c
+
+-- what is written of one scenario more
+pub cases_more : (t : Telling) (queues : Queues) (q : Question) (i j : ℕ) (above : List (Place × Place)) (cases : List Case) (c : Case) → j ≡ i + length cases
+    → cases_text t queues q i above (cases ++ c ∷ [])
+    ≡ cases_text t queues q i above cases ++ case_text t queues q j (places_from (asked_of queues q) above cases) c
+cases_more t queues q i j above [] c is =
+    let same : j ≡ i = omega (arith, is) in
+    append-nil (case_text t queues q i above c) ∙ ap (λ (n : ℕ). case_text t queues q n above c) (sym same)
+cases_more t queues q i j above (d ∷ cases) c is =
+    ap (λ (text : List ℕ). case_text t queues q i above d ++ text) (cases_more t queues q (i + 1) j (above_with d.scenario above (asked_of queues q d)) cases c (omega (arith, is)))
+    ∙ sym (append_assoc (case_text t queues q i above d) (cases_text t queues q (i + 1) (above_with d.scenario above (asked_of queues q d)) cases)
+    (case_text t queues q j (places_from (asked_of queues q) (above_with d.scenario above (asked_of queues q d)) cases) c))
+
+-- one scenario more has no race, or has some
+pub passed_more : (queues : Queues) (cases : List Case) (c : Case)
+    → passed_of queues (cases ++ c ∷ []) ≡ passed_of queues cases + cond (nat_eq (length (all_of queues c)) 0) 1 0
+passed_more queues cases c =
+    let both = sum_by-append (λ (x : Case). cond (nat_eq (length (all_of queues x)) 0) 1 0) cases (c ∷ []) in
+    omega (arith, both)
+
+-- what holds of one holds of each of it alone
+pub All-one : {X : Type 0} (P : X → Type 0) (x : X) → P x → All P (x ∷ [])
+All-one P x is zero d within = is
+All-one P x is (suc k) d within = absurd (omega (arith, within))
+
+-- what is known of one more
+pub known_more : (queues : Queues) (short : Bool) (scenarios : List Scenario) (k : ℕ) (cases : List Case) (c : Case) (d : Scenario)
+    → AreCases queues short (take k scenarios) cases → IsCase queues short c → k < length scenarios → c.scenario ≡ get_or scenarios k d
+    → AreCases queues short (take (k + 1) scenarios) (cases ++ c ∷ [])
+known_more queues short scenarios k cases c d are is within same = record {
+  each = map-append (λ x. x.scenario) cases (c ∷ []) ∙ ap₂ (λ (l : List Scenario) (x : Scenario). l ++ x ∷ []) are.each same ∙ sym (take_more scenarios k d within);
+  all = All-append (IsCase queues short) cases (c ∷ []) are.all (All-one (IsCase queues short) c is);
+}
+
+module _ (a : Asked) (scenarios : List Scenario) (k : ℕ) (d : Scenario) (within : k < length scenarios) (above now : List (Place × Place)) (before mid after : Option (List ℕ)) (old one : List ℕ) where
+  -- so many are known as were put
+  so_many : (cases : List Case) → AreCases a.queues a.question.short (take k scenarios) cases → length cases ≡ k
+  so_many cases are =
+      let size = sym (length-map cases (λ c. c.scenario)) ∙ ap length are.each in
+      let few = length-take k scenarios in
+      omega (arith, size, few, within)
+
+  -- one scenario more is put behind them
+  pub cases_grow : (later : List (Place × Place)) (new : List ℕ) (passed races more : ℕ)
+      → PutsCases a (take k scenarios) above now before mid old one passed
+      → PutsCase a (k + 1) (get_or scenarios k d) now later mid after one new races
+      → more ≡ passed + cond (nat_eq races 0) 1 0
+      → PutsCases a (take (k + 1) scenarios) above later before after old new more
+  cases_grow later new passed races more p c is =
+      let q = a.question in
+      let t = telling_by a.shape in
+      let many = so_many p.cases p.are in
+      let number : k + 1 ≡ 1 + length p.cases = omega (arith, many) in
+      record {
+        cases = p.cases ++ c.known ∷ [];
+        are = known_more a.queues q.short scenarios k p.cases c.known d p.are c.is within c.scenario;
+        counted = is ∙ ap₂ (λ (x r : ℕ). x + cond (nat_eq r 0) 1 0) p.counted c.counted ∙ sym (passed_more a.queues p.cases c.known);
+        seen = c.seen ∙ ap (λ (l : List (Place × Place)). above_with c.known.scenario l (asked_of a.queues q c.known)) p.seen
+            ∙ sym (places_more (asked_of a.queues q) above p.cases c.known);
+        put = subst (Pages before after old new) (sym (cases_more t a.queues q 1 (k + 1) above p.cases c.known number))
+            (pages_then before mid after old one new (cases_text t a.queues q 1 above p.cases) (case_text t a.queues q (k + 1) (places_from (asked_of a.queues q) above p.cases) c.known)
+            p.put (subst (λ (l : List (Place × Place)). Pages mid after one new (case_text t a.queues q (k + 1) l c.known)) p.seen c.put));
+      }
+
+  -- a beginning of the page, and of what stands behind it, is one of all
+  begins_behind : (text more : List ℕ) → Pages before mid old one text → WritesBeginning mid after (one ++ more) → WritesBeginning before after (old ++ (text ++ more))
+  begins_behind text more (f, is, out) (g, left, split, went) = (
+    f ++ g,
+    left,
+    sym (append_assoc old text more) ∙ ap (λ (t : List ℕ). t ++ more) is ∙ append_assoc f one more ∙ ap (λ (t : List ℕ). f ++ t) split ∙ sym (append_assoc f g left),
+    Appends-append before mid after f g out went,
+  )
+
+  -- or a fault comes
+  pub cases_stop : (later below : List (Place × Place)) (new last : List ℕ) (passed : ℕ) (f : WriteFault)
+      → PutsCases a (take k scenarios) above now before mid old one passed
+      → TellsCase a (k + 1) (get_or scenarios k d) now later mid after one new (Err f)
+      → TellsCases a scenarios above below before after old last (Err f)
+  cases_stop later below new last passed Memory p (inl begun) =
+      let t = telling_by a.shape in
+      let text = cases_text t a.queues a.question 1 above p.cases in
+      record {
+        first = k;
+        cases = p.cases;
+        are = p.are;
+        begun = subst (λ (x : List ℕ). WritesBeginning before after (old ++ x)) (append-nil text)
+            (begins_behind text [] p.put (subst (WritesBeginning mid after) (sym (append-nil one)) begun));
+      }
+  cases_stop later below new last passed Memory p (inr (c, same, is, begun)) =
+      let q = a.question in
+      let t = telling_by a.shape in
+      let many = so_many p.cases p.are in
+      let number : k + 1 ≡ 1 + length p.cases = omega (arith, many) in
+      record {
+        first = k + 1;
+        cases = p.cases ++ c ∷ [];
+        are = known_more a.queues q.short scenarios k p.cases c d p.are is within same;
+        begun = subst (λ (x : List ℕ). WritesBeginning before after (old ++ x)) (sym (cases_more t a.queues q 1 (k + 1) above p.cases c number))
+            (begins_behind (cases_text t a.queues q 1 above p.cases) (case_text t a.queues q (k + 1) (places_from (asked_of a.queues q) above p.cases) c) p.put
+            (subst (λ (l : List (Place × Place)). WritesBeginning mid after (one ++ case_text t a.queues q (k + 1) l c)) p.seen begun));
+      }
+  cases_stop later below new last passed Device p told = tt

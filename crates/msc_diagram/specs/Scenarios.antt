@@ -1,0 +1,114 @@
+-- What is written of the races of a diagram's scenarios. This project's own format.
+use Rattle.std.specs.Prelude.{◌≡◌, ℕ, ◌+◌, Bool, cond, List, [], ◌∷◌, ◌++◌, Option, None, Some, codes, count_by, length, map, nat_eq}
+use Rattle.std.specs.Fmt.{decimal}
+use Rattle.std.specs.List.{flat_map, All}
+use Rattle.msc_chart.specs.declared.queue.Queues.{Queues}
+use Rattle.msc_order.specs.Tables.{Table}
+use Rattle.msc_race.specs.Views.{races_of, wiring_of}
+use Rattle.msc_race.specs.Wired.{enforced_chart, EnforcedChart, IsEnforced}
+use Rattle.msc_reason.specs.Counting.{listed, AreLacks}
+use Rattle.msc_reason.specs.LeftOut.{of_kinds}
+use Rattle.msc_reason.specs.Marked.{lack_in}
+use Rattle.msc_judge.specs.Findings.{AreShown, Texts}
+use Rattle.msc_judge.specs.Telling.{race_text, told_from}
+use Rattle.msc_judge.specs.declared.question.Question.{Question}
+use Rattle.msc_report.specs.Texts.{text_line}
+use Rattle.msc_report.specs.Verdicts.{queues_line}
+use Rattle.msc_diagram.specs.Places.{above_with, fresh}
+use Rattle.msc_diagram.specs.declared.place.Place.{Place}
+use Rattle.msc_diagram.specs.declared.scenario.Scenario.{Scenario}
+
+-- what is known of a scenario: an order of its chart's events, and of each two events the run that shows
+-- them
+pub record Case : Type 0 where
+  pub scenario : Scenario
+  pub order : Table
+  pub runs : ℕ × ℕ → List ℕ
+
+-- its chart under an architecture
+abbrev pub judged_in : Queues → Case → EnforcedChart
+judged_in queues c = enforced_chart c.scenario.chart queues c.order
+
+-- it is what they are: the enforced order, what each race lacks by it, and the runs
+pub record IsCase (queues : Queues) (short : Bool) (c : Case) : Type 0 where
+  pub enforced : IsEnforced (judged_in queues c)
+  pub lacks : AreLacks (judged_in queues c) (lack_in (judged_in queues c))
+  pub shown : AreShown short (wiring_of (judged_in queues c)) c.runs
+
+-- what is known of these scenarios, each by each
+pub record AreCases (queues : Queues) (short : Bool) (scenarios : List Scenario) (cases : List Case) : Type 0 where
+  pub each : map (λ c. c.scenario) cases ≡ scenarios
+  pub all : All (IsCase queues short) cases
+
+-- the races of a scenario that are asked for
+abbrev pub asked_of : Queues → Question → Case → List (ℕ × ℕ)
+asked_of queues q c = let e = judged_in queues c in listed e (of_kinds q.allowed) q.closest (lack_in e)
+
+-- all races of a scenario
+abbrev pub all_of : Queues → Case → List (ℕ × ℕ)
+all_of queues c = races_of (judged_in queues c)
+
+-- the places of the races of scenarios that are listed, of those that these are: of each two places once
+abbrev pub places_from : (Case → List (ℕ × ℕ)) → List (Place × Place) → List Case → List (Place × Place)
+places_from pairs above [] = above
+places_from pairs above (c ∷ cases) = places_from pairs (above_with c.scenario above (pairs c)) cases
+
+-- the choices of a scenario, where it has some
+abbrev pub choices_text : List ℕ → List ℕ
+choices_text [] = []
+choices_text (x ∷ choices) = codes " choose " ++ (decimal x ++ flat_map (λ y. codes "," ++ decimal y) choices)
+
+-- what stands above the first race of a scenario that is listed: its number, its choices, and the number of
+-- all its races
+abbrev pub scenario_head : ℕ → List ℕ → ℕ → List ℕ
+scenario_head i choices races =
+    (codes "scenario " ++ (decimal i ++ text_line (choices_text choices))) ++ (codes "races " ++ text_line (decimal races))
+
+-- the same of a scenario by its number, where heads are told
+abbrev pub head_text : Option ℕ → List ℕ → ℕ → List ℕ
+head_text None choices races = []
+head_text (Some i) choices races = scenario_head i choices races
+
+-- what is written of these races of a scenario: nothing where there are none, else the head and the first that
+-- are told, behind so many
+abbrev pub told_text : (ℕ → ℕ × ℕ → List ℕ) → List ℕ → ℕ → ℕ → List (ℕ × ℕ) → List ℕ
+told_text text head most n [] = []
+told_text text head most n (p ∷ pairs) = head ++ told_from text most n (p ∷ pairs)
+
+-- the same of some of them, behind others of the scenario where they are not its first
+abbrev pub told_then : (ℕ → ℕ × ℕ → List ℕ) → List ℕ → ℕ → ℕ → Bool → List (ℕ × ℕ) → List ℕ
+told_then text head most n is_first pairs = cond is_first (told_text text head most n pairs) (told_from text most n pairs)
+
+-- how scenarios are told: by which texts, and whether with heads
+pub record Telling : Type 0 where
+  pub texts : Scenario → Texts
+  pub heads : Bool
+
+-- what is written of a scenario by its number, below races of these places
+abbrev pub case_text : Telling → Queues → Question → ℕ → List (Place × Place) → Case → List ℕ
+case_text t queues q i above c =
+    told_text (race_text (t.texts c.scenario) (judged_in queues c) q c.runs)
+    (head_text (cond t.heads (Some i) None) c.scenario.choices (length (all_of queues c)))
+    q.most (length above) (fresh c.scenario above (asked_of queues q c))
+
+-- what is written of these scenarios, numbered from here on
+abbrev pub cases_text : Telling → Queues → Question → ℕ → List (Place × Place) → List Case → List ℕ
+cases_text t queues q i above [] = []
+cases_text t queues q i above (c ∷ cases) =
+    case_text t queues q i above c
+    ++ cases_text t queues q (i + 1) (above_with c.scenario above (asked_of queues q c)) cases
+
+-- how many scenarios have no race
+abbrev pub passed_of : Queues → List Case → ℕ
+passed_of queues cases = count_by (λ c. nat_eq (length (all_of queues c)) 0) cases
+
+-- what stands above all scenarios
+abbrev pub diagram_head : List ℕ → Queues → ℕ → List ℕ
+diagram_head name queues count =
+    (codes "diagram " ++ text_line name) ++ (queues_line queues ++ (codes "scenarios " ++ text_line (decimal count)))
+
+-- what stands below them, of so many scenarios: whether all pass, or how many races are listed and how many pass
+abbrev pub diagram_end : ℕ → ℕ → ℕ → List ℕ
+diagram_end count listed passed =
+    cond (nat_eq passed count) (text_line (codes "pass"))
+    ((codes "listed " ++ text_line (decimal listed)) ++ (codes "passed " ++ text_line (decimal passed)))

@@ -1,0 +1,49 @@
+//! Places of events in a diagram: events of two scenarios that have one place are drawn by one arrow.
+
+ghost use Rattle.std.specs.Prelude.{◌≡◌, ℕ, ◌<◌, IfOk, get_or, length};
+ghost use Rattle.msc_diagram.specs.Places.{place_of, AreAllPlaces};
+
+use crate::scenario::Scenario;
+use std::alloc::{AllocError, Global};
+
+/// The place of an event: its instance, from 0, whether it is an output or an action, and where its
+/// arrow begins.
+#[derive(Clone, Copy, PartialEq, Eq, Hash)]
+pub(crate) struct Place {
+    pub instance: u32,
+    pub sends: bool,
+    pub acts: bool,
+    pub line: usize,
+    pub column: usize,
+}
+
+impl Place {
+    /// The place of event `e` of a scenario. It takes no memory.
+    fn of(scenario: &Scenario<'_>, e: u32) -> Place
+        requires { e < length scenario.now.chart.events }
+        ensures { result ≡ place_of scenario.now e }
+    {
+        let chart = &scenario.chart;
+        let position = scenario.sites.position(e);
+        Place {
+            instance: chart.instance_of(e),
+            sends: chart.is_output(e),
+            acts: chart.is_local(e),
+            line: position.line,
+            column: position.column,
+        }
+    }
+}
+
+/// The places of all events of a scenario, in their order. An error is a growth of memory that was
+/// refused.
+pub(crate) fn places_of(alloc: Global, scenario: &Scenario<'_>) -> Result<Vec<Place>, AllocError>
+    ensures { IfOk result (λ places. AreAllPlaces scenario.now places.items) }
+{
+    let events = scenario.chart.events();
+    let mut places = Vec::with_capacity(alloc, events as usize)?;
+    for e in 0..events {
+        places.push(Place::of(scenario, e))?;
+    }
+    Ok(places)
+}
