@@ -15,9 +15,9 @@
 # written to standard error, and then the status. `msc check` and `msc run` refuse each of them.
 # Beside charts/import/NAME.mmd stands NAME.scenarios.txt, with a line for each of its scenarios: a
 # chart and its choices. What `msc import` prints of these is that chart, which `msc read` prints as
-# it is, and with --list NAME_I.list.txt, if that is there. NAME.pair.txt and NAME.mailbox.txt are what
-# `msc check --from any` prints of all scenarios, and NAME.N.QUEUES.txt what it prints of the diagram
-# N of NAME.md; of this NAME.N.msc is what `msc import` prints, if that is there.
+# it is, and with --list NAME_I.list.txt, if that is there. NAME.pair.txt and NAME.mailbox.txt are
+# what `msc check --from any` prints of all scenarios. NAME.N.QUEUES.txt is what it prints of the
+# N-th diagram of NAME.md, and NAME.N.msc what `msc import` does, if that is there.
 # Beside charts/import/refused/NAME.mmd stands NAME.txt: what `msc import --choose main` writes to
 # standard error of it, and the status.
 # `msc read` meets no fault of charts: where such a fault stands, it prints NAME.read.txt, or the

@@ -3,10 +3,10 @@
 
     diagram_checks.py [--texts N] [--seed S] PROGRAM
 
-Of each text, PROGRAM check --from with random options has to print what scenarios.py prints, on both
-streams, with its status. The texts are those of imports.py, most of them smaller ones without a
-mistake, and of some Markdown stands around. Some stand in a file. Prints how many texts had which
-first fault, and how many races were listed. The exit status is 1 at the first difference, whose text
+Of each text, PROGRAM check --from with random options has to print what scenarios.py prints, on
+both streams, with its status. The texts are those of imports.py, most of them smaller ones without
+a mistake; some stand in a file, and some among others in Markdown. Prints how many texts had which
+first fault, and how many races were told. The exit status is 1 at the first difference, whose text
 is printed. Before these come diagrams at each limit and one past it. Without PROGRAM nothing is
 compared.
 """
@@ -27,8 +27,9 @@ from scenarios import KINDS, QUEUES, answer, options_of
 FLAGS = ("--closest", "--why", "--words", "--short", "--places")
 FILES = ["t.mmd", "a b.x.mmd", ".mmd", "in", "t\x01\x7f.md"]
 # lines that begin or end a block of Markdown, or nearly do
-BEGINNINGS = [*["```mermaid"] * 12, "  ``` mermaid title", "```mermaid;", "```mermaidx", "```Mermaid",
-              "````mermaid", "```plantuml", "```puml", "```mscgen", "```sh", "```", "~~~mermaid"]
+BEGINNINGS = [*["```mermaid"] * 12, "  ``` mermaid title", "```mermaid;", "```mermaidx",
+              "```Mermaid", "````mermaid", "```plantuml", "```puml", "```mscgen", "```sh", "```",
+              "~~~mermaid"]
 ENDS = [*["```"] * 6, "\t``` ", "````", "``` x", "~~~"]
 
 
@@ -88,7 +89,8 @@ def at_the_limits():
     for n in (10, 11):
         yield head + "opt\n" * n + arrow + "end\n" * n, pair
     for n in (4096, 4097):
-        yield head + "alt\n" + "else\n".join(["A->>A: a\n"] * n) + "end\n", [*pair, "--limit", "4096"]
+        branches = "else\n".join(["A->>A: a\n"] * n)
+        yield head + "alt\n" + branches + "end\n", [*pair, "--limit", "4096"]
     for n in (1048576, 1048577):
         yield head + arrow + "%" * (n - len(head) - len(arrow)), [*pair, "--fence", "1"]
     yield head + arrow * 1025, [*pair, "--limit", "1"]

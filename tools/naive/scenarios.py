@@ -1,11 +1,11 @@
 #!/usr/bin/env python3
-"""Prints what `msc check --from` prints of a Mermaid diagram: its scenarios, and their races, each by
-the places of its two arrows once; or on standard error the line of the first fault.
+"""Prints what `msc check --from` prints of a Mermaid diagram: its scenarios, and their races, each
+by its two arrows once; or on standard error the line of the first fault.
 
-    scenarios.py --queues pair|mailbox|single [--closest] [--why] [--most N] [--show N] [--allow KIND]
-                 [--format text|count|lines] [--quiet] [--words] [--short] [--from mermaid|any]
-                 [--name NAME] [--rounds R,R..] [--limit N] [--self action|message]
-                 [--cross lost|arrives] [--par drawn] [--fence N] FILE
+    scenarios.py --queues pair|mailbox|single [--closest] [--why] [--most N] [--show N]
+                 [--allow KIND] [--format text|count|lines] [--quiet] [--words] [--short]
+                 [--from mermaid|any] [--name NAME] [--rounds R,R..] [--limit N]
+                 [--self action|message] [--cross lost|arrives] [--par drawn] [--fence N] FILE
 
 The scenarios are those of diagrams.py, their races and what is told of them those of verdict.py and
 studies.py. It shares nothing with the crates. The exit status is 0, 1 where a race is listed, or 2
