@@ -21,16 +21,11 @@ import tempfile
 
 sys.dont_write_bytecode = True
 import imports
-from imports import NAMES, items
+from imports import NAMES, in_markdown, items
 from scenarios import KINDS, QUEUES, answer, options_of
 
 FLAGS = ("--closest", "--why", "--words", "--short", "--places")
 FILES = ["t.mmd", "a b.x.mmd", ".mmd", "in", "t\x01\x7f.md"]
-# lines that begin or end a block of Markdown, or nearly do
-BEGINNINGS = [*["```mermaid"] * 12, "  ``` mermaid title", "```mermaid;", "```mermaidx",
-              "```Mermaid", "````mermaid", "```plantuml", "```puml", "```mscgen", "```sh", "```",
-              "~~~mermaid"]
-ENDS = [*["```"] * 6, "\t``` ", "````", "``` x", "~~~"]
 
 
 def diagram(pick):
@@ -44,18 +39,6 @@ def text_of(pick):
     if pick.random() < 0.1:
         return imports.text_of(pick)
     return diagram(pick).encode()
-
-
-def in_markdown(pick, text):
-    """The text as a block of Markdown among others, and the words for a diagram of them."""
-    blocks = [text, *(diagram(pick).encode() for _ in range(pick.choice([0, 1, 2])))]
-    pick.shuffle(blocks)
-    whole = pick.choice([b"# a", b"---", b"", b"sequenceDiagram"])
-    for block in blocks:
-        ends = pick.choice(BEGINNINGS), pick.choice(ENDS), pick.choice(["", "a", "```"])
-        begin, end, behind = (it.encode() for it in ends)
-        whole += b"\n" + b"\n".join([begin, block, end, behind])
-    return whole, ["--fence", str(pick.choice([1, 1, 1, 1, 2, 2, 3, 9]))]
 
 
 def words_of(pick):
