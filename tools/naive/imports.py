@@ -7,9 +7,9 @@ Of each text, PROGRAM import with random options has to print what mermaid.py pr
 streams, with its status; what it prints as a chart is read again as the same text, by PROGRAM read,
 and is one that PROGRAM check judges.
 A third of the texts are diagrams, a third of them have a mistake in their lines, and of a third
-some bytes are changed; some stand among others in Markdown. Prints how many texts had which first fault. The exit status is 1 at the
-first difference, whose text is printed. Before these come diagrams at each limit and one past it.
-Without PROGRAM nothing is compared.
+some bytes are changed; some stand among others in Markdown. Prints how many texts had which first
+fault. The exit status is 1 at the first difference, whose text is printed. Before these come
+diagrams at each limit and one past it. Without PROGRAM nothing is compared.
 """
 import argparse
 import collections
@@ -37,7 +37,7 @@ OTHERS = ["", "%% a comment", "Note over A: a", "note left of A: b", "activate A
           "autonumber x", "participant A as A <b>c</b>", "participant Z@{ a } as b",
           "A->>+B: a;B-->>-A: b", "---"]
 # lines that begin or end a block of Markdown, or nearly do
-BEGINNINGS = [*["```mermaid"] * 12, "  ``` mermaid title", "```mermaid;", "```mermaidx",
+BEGINNINGS = [*["```mermaid"] * 30, "  ``` mermaid title", "```mermaid;", "```mermaidx",
               "```Mermaid", "````mermaid", "```plantuml", "```puml", "```mscgen", "```sh", "```",
               "~~~mermaid"]
 ENDS = [*["```"] * 6, "\t``` ", "````", "``` x", "~~~"]
