@@ -7,8 +7,8 @@ Of each text, PROGRAM check --from with random options has to print what scenari
 both streams, with its status. The texts are those of imports.py, most of them smaller ones without
 a mistake; some stand in a file, and some among others in Markdown. Prints how many texts had which
 first fault, and how many races were told. The exit status is 1 at the first difference, whose text
-is printed. Before these come diagrams at each limit and one past it. Without PROGRAM nothing is
-compared.
+is printed. Before these come wrong words, and diagrams at each limit and one past it. Without
+PROGRAM nothing is compared.
 """
 import argparse
 import collections
@@ -26,6 +26,27 @@ from scenarios import KINDS, QUEUES, answer, options_of
 
 FLAGS = ("--closest", "--why", "--words", "--short", "--places")
 FILES = ["t.mmd", "a b.x.mmd", ".mmd", "in", "t\x01\x7f.md"]
+
+
+# options that are of diagrams alone, with a value each
+OF_DIAGRAMS = ("--rounds=1", "--limit=2", "--fence=1", "--name=t", "--self=action", "--cross=lost",
+               "--par=drawn")
+
+
+def wrong_words():
+    """Words that are refused, and what is said of them."""
+    excluded = "the argument '--from <mermaid|any>' cannot be used with '--accept'"
+    yield ["--from=any", "--accept"], excluded
+    lacking = "the following required arguments were not provided:\n  --from <mermaid|any>"
+    yield from (([option], lacking) for option in OF_DIAGRAMS)
+    yield [*OF_DIAGRAMS, "--accept"], lacking
+    for rounds in ("x", "", "1025", "0,2,", "1,,2", "-1", "+1", "1 2", "4294967296", "\u0661"):
+        told = "expected numbers up to 1024 with commas"
+        said = f"invalid value '{rounds}' for '--rounds <R,R..>': {told}"
+        yield ["--from=any", f"--rounds={rounds}"], said
+    for limit in (0, 4097, 4294967295):
+        said = f"invalid value '{limit}' for '--limit <N>': {limit} is not in 1..=4096"
+        yield ["--from=mermaid", f"--limit={limit}"], said
 
 
 def diagram(pick):
@@ -107,6 +128,17 @@ def wanted_of(text, words, file):
     return answer(text, options_of([word for word in words if word != "--places"] + [file]))
 
 
+def misused(program):
+    """The first of the wrong words of which the program says something else, if there is one."""
+    for words, said in wrong_words():
+        whole = [program, "check", "--queues", "pair", *words, "-"]
+        done = subprocess.run(whole, input=b"", capture_output=True)
+        wanted = f"error: {said}\n\nFor more information, try '--help'.\n".encode()
+        if (done.stdout, done.stderr, done.returncode) != (b"", wanted, 2):
+            return f"{words}\nwanted {wanted}\ngot    {done.stdout}{done.stderr}"
+    return None
+
+
 def main():
     style = argparse.RawDescriptionHelpFormatter
     words = argparse.ArgumentParser(description=__doc__, formatter_class=style)
@@ -115,6 +147,10 @@ def main():
     words.add_argument("program", nargs="?")
     options = words.parse_args()
     program = options.program and str(pathlib.Path(options.program).resolve())
+    wrong = program and misused(program)
+    if wrong:
+        print(wrong)
+        return 1
     kinds, texts, races = collections.Counter(), 0, 0
     with tempfile.TemporaryDirectory() as folder:
         for text, given, file in tried(random.Random(options.seed), options.texts):
