@@ -70,7 +70,7 @@ def words_of(pick):
     for option, share, values in (
         ("--most", 0.3, [0, 1, 2, 5]), ("--show", 0.5, [0, 1, 3, 2 ** 32 - 1]),
         ("--format", 0.3, ["text", "count", "lines"]), ("--limit", 0.2, [1, 2, 7, 64, 4096]),
-        ("--rounds", 0.4, ["0", "1", "1,2", "2,0,2", "3,1", "0,1,2,3"]),
+        ("--rounds", 0.4, ["0", "1", "1,2", "2,0,2", "03,1", "0,1,2,3"]),
         ("--name", 0.3, ["t", "a b", "", "in"]), ("--par", 0.5, ["drawn"]),
         ("--self", 0.4, ["action", "message"]), ("--cross", 0.8, ["lost", "arrives"]),
         ("--allow", 0.2, KINDS), ("--allow", 0.2, KINDS),
