@@ -103,15 +103,19 @@ def at_the_limits():
     yield head + "C->>B: b\nA->>B: a\n", [*pair, "--rounds", "1024"]
 
 
+def one(pick):
+    """A random text, and random options."""
+    text, words = text_of(pick), words_of(pick)
+    if pick.random() < 0.25:
+        text, more = in_markdown(pick, text)
+        words += more
+    return text, words
+
+
 def tried(pick, texts):
     """The texts with the words on them, and the file that a text stands in, or `-`."""
     yield from ((text.encode(), words, "-") for text, words in at_the_limits())
-    for _ in range(texts):
-        text, words = text_of(pick), words_of(pick)
-        if pick.random() < 0.25:
-            text, more = in_markdown(pick, text)
-            words += more
-        yield text, words, pick.choice(["-", "-", *FILES])
+    yield from ((*one(pick), pick.choice(["-", "-", *FILES])) for _ in range(texts))
 
 
 def got_of(program, folder, text, words, file):
