@@ -65,6 +65,18 @@ def lines_of(text, fence=None):
     return list(enumerate(lines, 1))
 
 
+def is_front(held):
+    """The line stands before or behind what stands in front of a diagram."""
+    return held.rstrip(b" \t") == b"---"
+
+
+def behind_front(lines, begun, end):
+    """Where a diagram of a Markdown text goes on behind what stands in front of it."""
+    if begun == end or not is_front(lines[begun]):
+        return begun
+    return next((at + 1 for at in range(begun + 1, end) if is_front(lines[at])), end)
+
+
 def fenced(lines, fence):
     """The places of the lines of this diagram of a Markdown text, from 1."""
     at, met = 0, 0
@@ -79,17 +91,17 @@ def fenced(lines, fence):
         if any(is_word(language, word) for word in FENCED):
             met += 1
             if met == fence:
-                return range(begun, at)
+                return range(behind_front(lines, begun, at), at)
         at += 1
     raise refuse(17, f"no diagram {fence}")
 
 
 def without_front(lines):
     """The lines behind what stands between two lines `---` at the front."""
-    if lines[0][1].rstrip(b" \t") != b"---":
+    if not is_front(lines[0][1]):
         return lines
     for i, (_, held) in enumerate(lines[1:], 1):
-        if held.rstrip(b" \t") == b"---":
+        if is_front(held):
             return lines[i + 1:]
     raise expected(lines[-1][0], "---")
 

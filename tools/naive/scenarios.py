@@ -1,6 +1,7 @@
 #!/usr/bin/env python3
 """Prints what `msc check --from` prints of a Mermaid diagram: its scenarios, and their races, each
-by its two arrows once; or on standard error the line of the first fault.
+by its two arrows once; or on standard error the line of the first fault, and with `--format lines`
+on standard output too.
 
     scenarios.py --queues pair|mailbox|single [--closest] [--why] [--most N] [--show N]
                  [--allow KIND] [--format text|count|lines] [--quiet] [--words] [--short]
@@ -124,7 +125,9 @@ def answer(text, options):
     try:
         courses = list(scenarios(diagram_of(text, options), options))
     except Refused as fault:
-        return b"", f"{fault}\n".encode(), 2
+        is_told = options.format == "lines" and not options.quiet
+        line = f"{shown(options.file)}:1:1: error: {fault}\n" if is_told else ""
+        return line.encode(), f"{fault}\n".encode(), 2
     every = [Scenario(course, options.queues, shown(options.file)) for course in courses]
     found = listed(every, options.allow, options.closest)
     lines = lines_of(every, found, name_of(options), options)
