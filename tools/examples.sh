@@ -15,7 +15,9 @@
 # written to standard error, and then the status. `msc check` and `msc run` refuse each of them.
 # Beside charts/import/NAME.mmd stands NAME.scenarios.txt, with a line for each of its scenarios: a
 # chart and its choices. What `msc import` prints of these is that chart, which `msc read` prints as
-# it is, and with --list NAME_I.list.txt, if that is there.
+# it is, and with --list NAME_I.list.txt, if that is there. NAME.pair.txt and NAME.mailbox.txt are
+# what `msc check --from any` prints of all scenarios. NAME.N.QUEUES.txt is what it prints of the
+# N-th diagram of NAME.md, and NAME.N.msc what `msc import` does, if that is there.
 # Beside charts/import/refused/NAME.mmd stands NAME.txt: what `msc import --choose main` writes to
 # standard error of it, and the status.
 # `msc read` meets no fault of charts: where such a fault stands, it prints NAME.read.txt, or the
@@ -111,10 +113,32 @@ compare_import() {
   fi
 }
 
+# Compares what is printed of all scenarios of a diagram with the file $1, by the last part of its
+# name; $2 .. are the diagram and more words.
+compare_scenarios() {
+  local queues=${1%.txt} status=0
+  if grep -qs '^race ' "$1"; then status=1; fi
+  compare "$1" /dev/null "$status" check --from any --queues "${queues##*.}" "${@:2}"
+}
+
 for diagram in charts/import/*.mmd; do
   while read -r chart _ choices; do
     compare_import "$diagram" "$chart" "$choices"
   done <"${diagram%.mmd}.scenarios.txt"
+  for queues in pair mailbox; do
+    compare_scenarios "${diagram%.mmd}.$queues.txt" "$diagram"
+  done
+done
+
+for page in charts/import/*.md; do
+  for answer in "${page%.md}".*.{pair,mailbox}.txt; do
+    number=${answer%.*.txt}
+    compare_scenarios "$answer" --fence "${number##*.}" "$page"
+  done
+  for chart in "${page%.md}".*.msc; do
+    number=${chart%.msc}
+    compare "$chart" /dev/null 0 import --fence "${number##*.}" "$page"
+  done
 done
 
 for diagram in charts/import/refused/*.mmd; do

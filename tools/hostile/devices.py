@@ -18,6 +18,7 @@ import tempfile
 
 from program import MOST, QUEUES, TOP, Answer, Count, add_commands, arguments, check_words, run
 from answer import check_answer, read_answer
+from diagram_checks import wanted_of as checked_of
 from imports import wanted_of
 from refuse import Shim
 
@@ -84,6 +85,10 @@ class Imports(Commands):
         if "import" in self.wanted:
             words = ["import", "--name", "t", "--choose", "main"]
             wanted = wanted_of(self.text, words[1:], False)
+            yield [program or self.program, *words, file], Answer(*wanted)
+        if "check" in self.wanted:
+            words = ["check", "--from", "any", "--queues", "pair", "--name", "t", "--show", "2"]
+            wanted = checked_of(self.text, words[1:], str(file))
             yield [program or self.program, *words, file], Answer(*wanted)
 
 

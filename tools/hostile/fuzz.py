@@ -13,8 +13,9 @@ and `msc report` under one architecture: both streams and the status are to be t
 that is run the trace has to be a whole run of it, and a report has to be read as XML. With `--places`
 nothing else may be printed but places, and behind the line of a fault what is said of it, all of it
 of bytes that move no cursor. As lines for editors, with marks, all that is printed is such lines, of
-such bytes, and a refusal is the first of them. Prints what differs, how many texts got which answer,
-and last `N passed, M failed`.
+such bytes, and a refusal is the first of them. Each fourth number has a diagram of Mermaid too, of
+which `msc check --from` has to print what tools/naive/scenarios.py does. Prints what differs, how
+many texts got which answer, and last `N passed, M failed`.
 """
 import collections
 import multiprocessing
@@ -27,6 +28,7 @@ import xml.etree.ElementTree
 
 from program import QUEUES, Count, add_commands, arguments, check_words, run
 from answer import ALL, check_answer, draw_answer, read_answer, ready_answer
+import diagram_checks
 from compare import chart
 from reading import PLACES, SUPPORTED, UNSUPPORTED, Draft, Event, tokens
 from whole_runs import Drawn
@@ -39,8 +41,8 @@ TEXTS = [b"''", b"'go'", b"'it''s'", b"''''", b"'; /* */'", b"'\n\xff\x00'", b"'
          b"'race ok: known'", b"'race ok with m0; 1: \xff'", b"'race ok'"]
 SPACES = [b" ", b" ", b" ", b"\n", b"\t", b"\r\n",
           b"/**/", b"/* ' ; */", b"/***/ ", b" /* endmsc; /* */"]
-# how many texts a process tries at a time
-BATCH = 50
+# how many texts a process tries at a time, and each which of them has a diagram beside it
+BATCH, DIAGRAMS = 50, 4
 
 
 def spelled(pick, kind):
@@ -241,6 +243,14 @@ def wrong_page(wanted, got):
     return None
 
 
+def tried_diagram(program, seed, number):
+    """What differs for the diagram of this number, if anything does."""
+    text, words = diagram_checks.one(random.Random(f"{seed} {number} diagram"))
+    wanted, words = diagram_checks.wanted_of(text, words, "-"), ["check", *words, "-"]
+    got = run([program, *words], text)
+    return [] if got == wanted else [(words, text, got, wanted)]
+
+
 def tried(program, seed, number, commands):
     """What differs for a text, as the words of a run, what it answered and what it should; and its
     kind of answer."""
@@ -262,6 +272,8 @@ def tried(program, seed, number, commands):
         wrong = wrong_lines(checked, got)
         if wrong:
             told.append((words, text, got, wrong))
+        if number % DIAGRAMS == 0:
+            told += tried_diagram(program, seed, number)
     for command, answered in (("draw", draw_answer), ("ready", ready_answer)):
         if command in commands:
             words, wanted = [command, "--queues", queues, "-"], answered(text, queues)
@@ -307,7 +319,8 @@ def main():
     with multiprocessing.Pool(options.jobs) as pool:
         for told, number, kind in (one for part in pool.imap(batch, tasks) for one in part):
             kinds[kind] += 1
-            count.passed += len(options.commands) + 2 * ("check" in options.commands) - len(told)
+            checks = 2 + (number % DIAGRAMS == 0) if "check" in options.commands else 0
+            count.passed += len(options.commands) + checks - len(told)
             for words, text, got, wanted in told:
                 count.compare(got, wanted, f"text {number} of seed {options.seed}:", *words, text)
     print(", ".join(f"{kind}: {times}" for kind, times in sorted(kinds.items())))

@@ -6,8 +6,8 @@
 Texts at the limit are read or checked, and texts one past it are refused with the limit's line;
 texts that are as large as a text may be, each made of one thing, are read (with --quick those of
 few tokens alone, since the naive reader takes its time for the others). Wanted answers are those of
-tools/naive/reading.py or stand here; the limits of diagrams are met by tools/naive/imports.py. The
-largest charts and diagrams are answered the same with a stack of 128
+tools/naive/reading.py or stand here; the limits of diagrams are met by tools/naive/imports.py and
+diagram_checks.py too. The largest charts and diagrams are answered the same with a stack of 128
 KiB, for each thread too. Prints what differs, and last `N passed, M failed`.
 """
 import random
@@ -17,7 +17,8 @@ import sys
 from load import INSTANCES, MESSAGES, drawn
 from program import QUEUES, Answer, Count, add_commands, arguments, check_words, run
 from answer import read_answer
-from imports import at_the_limits
+import diagram_checks
+import imports
 
 LIMIT = 1048576
 # bytes of a small stack
@@ -140,6 +141,45 @@ def are_listed(count, answer, head, races):
     count.add(is_told and answer.output.count(b"\nrace ") == races, head, answer.output[:100])
 
 
+def nested(depth, body):
+    """A diagram of so many loops inside each other."""
+    return "sequenceDiagram\n" + "loop\n" * depth + body + "end\n" * depth
+
+
+def diagrams():
+    """Diagrams at the limits, options, and how many scenarios pass, or the line of the fault."""
+    head, arrow = "sequenceDiagram\n", "A->>B: a\n"
+    for limit in (64, 4096):
+        words = [] if limit == 64 else ["--limit", str(limit)]
+        branches = "alt\n" + "else\n".join([arrow] * limit)
+        yield head + branches + "end\n", words, limit
+        too_many = f"import fault 11: more than {limit} scenarios"
+        yield head + branches + "else\nend\n", words, too_many
+    yield head + arrow * 1024, [], 1
+    yield head + arrow * 1025, [], "import fault 15 at 1026: more than 1024 arrows"
+    yield nested(1, arrow), ["--rounds", "1024"], 1
+    yield nested(2, arrow), ["--rounds", "1024"], "import fault 15 at 4: more than 1024 arrows"
+    yield nested(9, "break\nend\n"), ["--rounds", "1024"], "import fault 11: more than 64 scenarios"
+    yield nested(10, arrow), ["--rounds", "0"], 1
+
+
+def checks_of_diagrams(count, program):
+    """Compares what is printed of all scenarios of these diagrams."""
+    for text, more, wanted in diagrams():
+        words = ["check", "--from", "mermaid", "--queues", "pair", *more, "-"]
+        if isinstance(wanted, str):
+            answer = fault(wanted)
+        else:
+            told = f"diagram diagram\nqueues pair\nscenarios {wanted}\npass\n"
+            answer = Answer(told.encode(), b"", 0)
+        count.compare(run([program, *words], text.encode()), answer, *words, text[:60])
+    # the choices of a scenario may take more room than there is before its 1,025th arrow is reached
+    words = ["check", "--from", "mermaid", "--queues", "pair", "--rounds", "1024", "-"]
+    got = run([program, *words], nested(10, "A->>B: a\n").encode())
+    ends = fault("import fault 15 at 12: more than 1024 arrows"), Answer(b"", b"memory fault\n", 4)
+    count.add(got in ends, *words, got)
+
+
 def small_stack():
     resource.setrlimit(resource.RLIMIT_STACK, (STACK, STACK))
 
@@ -161,8 +201,14 @@ def stacks(count, program, commands):
             small = run(words, text, **SMALL)
             is_same = small[1:] == (b"", 0) if words[1] == "run" else small == full
             count.add(is_same, *words[1:], f"with a stack of {STACK} bytes", small[1:])
-    for text, words in at_the_limits() if "import" in commands else ():
-        words = [program, "import", *words, "-"]
+    largest = [(["import", *words], text) for text, words in imports.at_the_limits()]
+    largest += ((["check", *words], text) for text, words in diagram_checks.at_the_limits())
+    largest += ((["check", "--from", "any", "--queues", "pair", *words], text)
+                for text, words, _ in diagrams())
+    for words, text in largest:
+        if words[0] not in commands:
+            continue
+        words = [program, *words, "-"]
         full, small = (run(words, text.encode(), **how) for how in ({}, SMALL))
         count.add(small == full, *words[1:4], f"with a stack of {STACK} bytes", small[1:])
 
@@ -199,6 +245,8 @@ def main():
         is_told = answer.output.startswith(f"chart t\nqueues {queues}\n{told}\n".encode())
         is_told = is_told and answer.output.count(b"\nstick ") == sticks
         count.add(is_told and answer.status == int(bool(sticks)), told, answer.output[:100])
+    if "check" in options.commands:
+        checks_of_diagrams(count, program)
     stacks(count, program, options.commands)
     return count.end()
 

@@ -5,9 +5,9 @@ do so.
     memory.py [--most N] [--every K] [--commands C,..] [--limit] PROGRAM [CHART ..]
 
 Every chart of charts/ and of charts/refused/ is read, and checked, run, drawn, reported and asked
-for sticks under each architecture, and every diagram of charts/import/ is imported, where these are
-not given; of the runs with more than N allocations (400 where it is not said) each K-th allocation
-alone is refused. What a refused run has to answer says tools/refuse/refuse.py. With --limit no call
+for sticks under each architecture, and every diagram of charts/import/ is imported and checked,
+where these are not given; of the runs with more than N allocations (400 where it is not said) each
+K-th allocation alone is refused. What a refused run has to answer says tools/refuse/refuse.py. With --limit no call
 is refused, but each command has less and less address space for a chart at the limits, down to too
 little for the program to begin. Prints for each run how many allocations it makes or how many limits
 there are, what does not end well, and last `N passed, M failed`.
@@ -44,6 +44,11 @@ def imports(wanted):
     if "import" in wanted:
         main_one = ["import", "--choose", "main"]
         yield from ([*main_one, *more, "-"] for more in ([], ["--list"], ["--self", "message"]))
+    if "check" in wanted:
+        check = ["check", "--from", "any", "--queues"]
+        yield [*check, "pair", "-"]
+        yield [*check, "mailbox", "--closest", "--why", "--show", "1", "--rounds", "1", "-"]
+        yield [*check, "single", "--format", "lines", "--allow", "early", "--limit", "2", "-"]
 
 
 def commands_on(chart, wanted):
@@ -66,13 +71,15 @@ def is_unborn(ended):
 def limit_each(program, wanted):
     """Runs each command with less and less address space."""
     count = Count()
-    largest = max((text for text, _ in at_the_limits()), key=lambda text: text.count("->>")).encode()
+    taken = (text for text, _ in at_the_limits() if text.count("->>") <= MESSAGES)
+    largest = max(taken, key=lambda text: text.count("->>")).encode()
     on_diagrams = ((words, False) for words in imports(wanted))
     for words, has_threads in [*commands(wanted), *on_diagrams]:
         text = star(INSTANCES) if has_threads else drawn(random.Random(1), INSTANCES, MESSAGES)
-        if words[0] == "import":
+        is_diagram = words[0] == "import" or "--from" in words
+        if is_diagram:
             text = largest
-        if words[0] in ("check", "ready"):
+        if words[0] in ("check", "ready") and not is_diagram:
             words[-1:] = ["--show", "0", "-"]
         full = run([program, *words], text)
         full = full.status, full.output, full.error

@@ -7,14 +7,16 @@ of every byte; compares what the program answers with what tools/naive/answer.py
 The charts are charts/kinds_and_comments.msc and charts/texts_of_actions.msc where none is given,
 and charts/import/websocket_chat.mmd. Each text, or each K-th, is given to `msc read`, and where it
 has a draft also to `msc check` under each architecture and to `msc draw` and `msc ready` under one.
-Those of a diagram are given to `msc import`, and compared with tools/naive/mermaid.py. Prints what
-differs, for each chart how many texts had a draft, and last `N passed, M failed`.
+Those of a diagram are given to `msc import`, and where a scenario has a draft to `msc check --from`,
+and compared with tools/naive/mermaid.py and scenarios.py. Prints what differs, for each chart how
+many texts had a draft, and last `N passed, M failed`.
 """
 import pathlib
 import sys
 
 from program import QUEUES, TOP, Count, arguments, check_words, run
 from answer import check_answer, draw_answer, read_answer, ready_answer
+from diagram_checks import wanted_of as checked_of
 from imports import wanted_of
 
 CHARTS = [TOP / "charts/kinds_and_comments.msc", TOP / "charts/texts_of_actions.msc",
@@ -59,11 +61,16 @@ def compare_chart(count, program, text):
 
 
 def compare_diagram(count, program, text):
-    """Compares what is imported of a diagram; whether a scenario of it has a draft."""
-    words = ["--choose", "main"]
+    """Compares what is imported of a diagram and what all its scenarios are answered; whether a
+    scenario of it has a draft."""
+    words, of_all = ["--choose", "main"], ["--from", "any", "--queues", "pair"]
     wanted = wanted_of(text, words, False)
     count.compare(run([program, "import", *words, "-"], text), wanted, text)
-    return wanted[2] == 0
+    if wanted[2] != 0:
+        return False
+    checked = checked_of(text, of_all, "-")
+    count.compare(run([program, "check", *of_all, "-"], text), checked, text)
+    return True
 
 
 def main():

@@ -45,6 +45,16 @@ class Arrow(NamedTuple):
     number: int = 0
 
 
+class Event(NamedTuple):
+    """One end of an arrow: what is printed of it, and where in the diagram it stands."""
+    text: str
+    place: Place
+    # the arrow's number, without its rounds
+    number: int
+    # `out`, `in` or `action`
+    way: str
+
+
 class Begin(NamedTuple):
     kind: str
 
@@ -240,7 +250,7 @@ class Course:
         return found
 
     def drawn(self, it, rounds):
-        """The events of an arrow, each as its text and its place."""
+        """The events of an arrow, each on its line."""
         self.arrows += 1
         if self.arrows > ARROWS:
             raise refuse(15, f"more than {ARROWS} arrows", it.place.line)
@@ -248,15 +258,15 @@ class Course:
         label = made(it.label, b"m").decode()
         key = label + ", " + "_".join(str(n) for n in (it.number, *rounds))
         left, right = names.idents.index(it.left), names.idents.index(it.right)
-        out = f"out {key} to {names.names[right].decode()}"
-        taken = f"in {key} from {names.names[left].decode()}"
-        if it.lost:
-            return {left: [[(f"action 'lost {key} to {names.names[right].decode()}'", it.place)]]}
-        if left == right and self.options.own == "message":
-            return {left: [[(out, it.place)], [(taken, it.place)]]}
-        if left == right:
-            return {left: [[(f"action '{key}'", it.place)]]}
-        return {left: [[(out, it.place)]], right: [[(taken, it.place)]]}
+        sender, receiver = names.names[left].decode(), names.names[right].decode()
+        out = [Event(f"out {key} to {receiver}", it.place, it.number, "out")]
+        taken = [Event(f"in {key} from {sender}", it.place, it.number, "in")]
+        if left == right and self.options.own == "message" and not it.lost:
+            return {left: [out, taken]}
+        if left == right or it.lost:
+            said = f"lost {key} to {receiver}" if it.lost else key
+            return {left: [[Event(f"action '{said}'", it.place, it.number, "action")]]}
+        return {left: [out], right: [taken]}
 
     def text(self, name):
         """The canonical text of the chart."""
@@ -265,21 +275,25 @@ class Course:
             lines.append(f"instance {self.diagram.names.decl(at).decode()};")
             for segment in self.segments.get(at, []):
                 if len(segment) == 1:
-                    lines.append(f"  {segment[0][0]};")
+                    lines.append(f"  {segment[0].text};")
                 else:
-                    inner = [f"    {event};" for event, _ in segment]
+                    inner = [f"    {event.text};" for event in segment]
                     lines += ["  concurrent;", *inner, "  endconcurrent;"]
             lines.append("endinstance;")
         return "".join(line + "\n" for line in [*lines, "endmsc;"])
 
+    def events(self):
+        """The events by their numbers, each with the number of its line."""
+        for line in range(len(self.diagram.names.names)):
+            for segment in self.segments.get(line, []):
+                yield from ((line, event) for event in segment)
+
     def list(self, name, file):
         """The events with their numbers, and the places of their arrows."""
         lines, names = [], self.diagram.names.names
-        for at, instance in enumerate(names):
-            for segment in self.segments.get(at, []):
-                for event, (line, column) in segment:
-                    number = len(lines) // 2
-                    lines += [f"{number} {instance.decode()} {event}", f"at {file}:{line}:{column}"]
+        for number, (at, event) in enumerate(self.events()):
+            where = f"at {file}:{event.place.line}:{event.place.column}"
+            lines += [f"{number} {names[at].decode()} {event.text}", where]
         head = [f"chart {name}", f"events {len(lines) // 2}"]
         return "".join(line + "\n" for line in [*head, *lines])
 

@@ -7,9 +7,9 @@ Of each text, PROGRAM import with random options has to print what mermaid.py pr
 streams, with its status; what it prints as a chart is read again as the same text, by PROGRAM read,
 and is one that PROGRAM check judges.
 A third of the texts are diagrams, a third of them have a mistake in their lines, and of a third
-some bytes are changed. Prints how many texts had which first fault. The exit status is 1 at the
-first difference, whose text is printed. Before these come diagrams at each limit and one past it.
-Without PROGRAM nothing is compared.
+some bytes are changed; some stand among others in Markdown. Prints how many texts had which first
+fault. The exit status is 1 at the first difference, whose text is printed. Before these come
+diagrams at each limit and one past it. Without PROGRAM nothing is compared.
 """
 import argparse
 import collections
@@ -36,6 +36,11 @@ OTHERS = ["", "%% a comment", "Note over A: a", "note left of A: b", "activate A
           "option", "loop", "alt", "note A", "title -> A", "A->>B", "A: b", "over a",
           "autonumber x", "participant A as A <b>c</b>", "participant Z@{ a } as b",
           "A->>+B: a;B-->>-A: b", "---"]
+# lines that begin or end a block of Markdown, or nearly do
+BEGINNINGS = [*["```mermaid"] * 30, "  ``` mermaid title", "```mermaid;", "```mermaidx",
+              "```Mermaid", "````mermaid", "```plantuml", "```puml", "```mscgen", "```sh", "```",
+              "~~~mermaid"]
+ENDS = [*["```"] * 6, "\t``` ", "````", "``` x", "~~~"]
 
 
 def arrow(pick, names):
@@ -119,6 +124,28 @@ def text_of(pick):
     return changed(pick, text) if sort == 2 else text
 
 
+def in_markdown(pick, text):
+    """The text as a block of Markdown among others, and the words for a diagram of them."""
+    others = ("\n".join(diagram(pick)).encode() for _ in range(pick.choice([0, 1, 2])))
+    blocks = [text, *others]
+    pick.shuffle(blocks)
+    whole = pick.choice([b"# a", b"---", b"", b"sequenceDiagram"])
+    for block in blocks:
+        ends = pick.choice(BEGINNINGS), pick.choice(ENDS), pick.choice(["", "a", "```"])
+        begin, end, behind = (it.encode() for it in ends)
+        whole += b"\n" + b"\n".join([begin, block, end, behind])
+    return whole, ["--fence", str(pick.choice([1, 1, 1, 1, 2, 2, 3, 9]))]
+
+
+def tried(pick):
+    """A random text, random options, and whether its events are listed."""
+    text, words = text_of(pick), words_of(pick)
+    if pick.random() < 0.1:
+        text, more = in_markdown(pick, text)
+        words += more
+    return text, words, pick.random() < 0.2
+
+
 def words_of(pick):
     """Random options."""
     words = ["--name", pick.choice(["t", "a b", "", "in"])]
@@ -192,9 +219,9 @@ def main():
     options = words.parse_args()
     pick = random.Random(options.seed)
     kinds = collections.Counter()
-    tried = [(text.encode(), given, False) for text, given in at_the_limits()]
-    tried += ((text_of(pick), words_of(pick), pick.random() < 0.2) for _ in range(options.texts))
-    for text, given, listed in tried:
+    texts = [(text.encode(), given, False) for text, given in at_the_limits()]
+    texts += (tried(pick) for _ in range(options.texts))
+    for text, given, listed in texts:
         wanted = wanted_of(text, given, listed)
         differs = options.program and difference(options.program, text, given, listed, wanted)
         if differs:
@@ -204,7 +231,7 @@ def main():
         kinds[found[0].decode() if found else "none"] += 1
     for fault, count in sorted(kinds.items()):
         print(f"{fault}: {count}")
-    print(f"{len(tried)} texts")
+    print(f"{len(texts)} texts")
     return 0
 
 

@@ -3,7 +3,7 @@
 or on standard error the line of the first fault.
 
     mermaid.py [--from mermaid|any] [--name NAME] [--choose C] [--list FILE] [--into FOLDER] [--limit N] [--rounds R,R..]
-               [--self action|message] [--cross lost|arrives] [--par drawn] < TEXT
+               [--self action|message] [--cross lost|arrives] [--par drawn] [--fence N] < TEXT
 
 With --list the events stand in place of the chart, with the places of their arrows in FILE; with
 --into the charts of all scenarios are written. The text is cut into statements, those are put into
@@ -22,6 +22,8 @@ from diagrams import Refused, capped, counted, made, refuse, scenarios
 
 # bytes of a text
 MOST = 1048576
+# what a block of Markdown that is a diagram is called
+FENCED = (b"mermaid", b"plantuml", b"puml", b"mscgen")
 ARROW = re.compile(rb"<<-->>|<<->>|-->>|->>|-->|->|--x|-x|--\)|-\)", re.IGNORECASE)
 BLOCKS = (b"loop", b"alt", b"opt", b"par", b"par_over", b"critical", b"break", b"rect", b"box")
 # the first words of statements, but for those that an arrow may follow as its sender
@@ -49,21 +51,57 @@ def columns(held):
     return sum(not 128 <= byte < 192 for byte in held)
 
 
-def lines_of(text):
-    """The lines of a text, with their numbers."""
+def lines_of(text, fence=None):
+    """The lines of a text, with their numbers; those of a diagram among others, where it is to be
+    one, which leaves all the others empty."""
     if len(text) > MOST:
         raise refuse(1, f"text longer than {MOST} bytes")
     if text.startswith(b"\xef\xbb\xbf"):
         text = text[3:]
-    return list(enumerate(re.split(rb"\r\n|\n|\r", text), 1))
+    lines = re.split(rb"\r\n|\n|\r", text)
+    if fence is not None:
+        own = fenced(lines, fence)
+        lines = [held if at in own else b"" for at, held in enumerate(lines)]
+    return list(enumerate(lines, 1))
+
+
+def is_front(held):
+    """The line stands before or behind what stands in front of a diagram."""
+    return held.rstrip(b" \t") == b"---"
+
+
+def behind_front(lines, begun, end):
+    """Where a diagram of a Markdown text goes on behind what stands in front of it."""
+    if begun == end or not is_front(lines[begun]):
+        return begun
+    return next((at + 1 for at in range(begun + 1, end) if is_front(lines[at])), end)
+
+
+def fenced(lines, fence):
+    """The places of the lines of this diagram of a Markdown text, from 1."""
+    at, met = 0, 0
+    while at < len(lines):
+        head, at = trimmed(lines[at]), at + 1
+        if not head.startswith(b"```"):
+            continue
+        begun = at
+        while at < len(lines) and trimmed(lines[at]) != b"```":
+            at += 1
+        language = head[3:].lstrip(b" \t")
+        if any(is_word(language, word) for word in FENCED):
+            met += 1
+            if met == fence:
+                return range(behind_front(lines, begun, at), at)
+        at += 1
+    raise refuse(17, f"no diagram {fence}")
 
 
 def without_front(lines):
     """The lines behind what stands between two lines `---` at the front."""
-    if lines[0][1].rstrip(b" \t") != b"---":
+    if not is_front(lines[0][1]):
         return lines
     for i, (_, held) in enumerate(lines[1:], 1):
-        if held.rstrip(b" \t") == b"---":
+        if is_front(held):
             return lines[i + 1:]
     raise expected(lines[-1][0], "---")
 
@@ -87,9 +125,8 @@ def cut(number, held):
         at += len(part) + 1
 
 
-def pieces(text):
-    """The bytes of each statement, with its place."""
-    lines = lines_of(text)
+def pieces(lines):
+    """The bytes of each statement of these lines, with its place."""
     last, begun = lines[-1][0], False
     lines = without_front(lines)
     while lines:
@@ -167,10 +204,10 @@ def is_passed(word, rest):
     return word in (b"links", b"link", b"properties", b"details")
 
 
-def statements(text, cross):
-    """What the text says, statement by statement, with its place."""
+def statements(lines, cross):
+    """What the lines say, statement by statement, with its place."""
     dying = []
-    for place, held in pieces(text):
+    for place, held in pieces(lines):
         found = re.match(rb"[A-Za-z0-9_]+", held)
         word = found[0].lower() if found else b""
         rest = held[len(word):]
@@ -210,18 +247,23 @@ def statements(text, cross):
             dying = []
 
 
-def look_for_one(text):
-    """Refuses a text of which no line begins a diagram."""
-    lines = lines_of(text)
+def look_for_one(lines):
+    """Refuses lines of which none begins a diagram."""
     if not any(is_word(trimmed(held), b"sequenceDiagram") for _, held in lines):
         raise expected(lines[-1][0], "a diagram")
 
 
+def diagram_of(text, options):
+    """The diagram of a text."""
+    lines = lines_of(text, options.fence)
+    if options.language == "any":
+        look_for_one(lines)
+    return Diagram(statements(lines, options.cross))
+
+
 def answer(text, options):
     """What is printed."""
-    if options.language == "any":
-        look_for_one(text)
-    diagram = Diagram(statements(text, options.cross))
+    diagram = diagram_of(text, options)
     name = made(options.name.encode(), b"diagram").decode()
     if options.into is not None:
         every = list(scenarios(diagram, options))
@@ -247,23 +289,34 @@ def answer(text, options):
     return course.list(name, options.list) if options.list else course.text(name)
 
 
-def options_of(given=None):
-    """The options of these words, and those of the command line where there are none."""
+def rounds_of(held):
+    """The numbers of rounds that loops get, each once, ascending."""
+    return sorted({int(n) for n in held.split(",")})
+
+
+def words_on_diagrams(about):
+    """The words that say what a diagram is, of a command with this description."""
     style = argparse.RawDescriptionHelpFormatter
-    words = argparse.ArgumentParser(description=__doc__, formatter_class=style)
+    words = argparse.ArgumentParser(description=about, formatter_class=style)
     words.add_argument("--from", dest="language", choices=("mermaid", "any"), default="any")
-    words.add_argument("--name", default="diagram")
-    words.add_argument("--choose")
-    words.add_argument("--list", metavar="FILE")
-    words.add_argument("--into", metavar="FOLDER")
+    words.add_argument("--name")
     words.add_argument("--limit", type=int, default=64)
-    words.add_argument("--rounds", default="0,2")
+    words.add_argument("--rounds", type=rounds_of, default="0,2")
     words.add_argument("--self", dest="own", choices=("action", "message"), default="action")
     words.add_argument("--cross", choices=("lost", "arrives"))
     words.add_argument("--par", choices=("drawn",))
-    options = words.parse_args(given)
-    options.rounds = sorted({int(n) for n in options.rounds.split(",")})
-    return options
+    words.add_argument("--fence", type=int)
+    return words
+
+
+def options_of(given=None):
+    """The options of these words, and those of the command line where there are none."""
+    words = words_on_diagrams(__doc__)
+    words.set_defaults(name="diagram")
+    words.add_argument("--choose")
+    words.add_argument("--list", metavar="FILE")
+    words.add_argument("--into", metavar="FOLDER")
+    return words.parse_args(given)
 
 
 def main():
