@@ -110,7 +110,7 @@ module _ {W : Type 0} (contents : W → Option (List ℕ)) where
         → AnswersOf contents (asks.Check c) file s (Err (refusals.Fault (of_writing f))) old new
     not_judged writing.Memory old new (inl same) = inl same
     not_judged writing.Memory old new (inr (passed, printed, says, begun)) =
-        inr (printed, (ended_by passed, format, its, marks, are, passed, refl, says), begun)
+        inr (printed, (ended_by passed, (format, its, marks, are, passed, refl, says)), begun)
     not_judged writing.Device old new said = tt
 
   module _ (x : Readying) (file : List ℕ) (s : SourceText) (only : Option (List Bool)) (are : AreReady s.chart (names_of x) only)
@@ -125,7 +125,7 @@ module _ {W : Type 0} (contents : W → Option (List ℕ)) where
         → AnswersOf contents (asks.Ready x) file s (Err (refusals.Fault (of_writing f))) old new
     not_readied writing.Memory old new (inl same) = inl same
     not_readied writing.Memory old new (inr (passed, printed, says, begun)) =
-        inr (printed, (ended_by passed, only, are, style, its, passed, refl, says), begun)
+        inr (printed, (ended_by passed, (only, are, style, its, passed, refl, says)), begun)
     not_readied writing.Device old new said = tt
 
   -- marks that can't be read are answered so

@@ -1,10 +1,11 @@
 -- What stands behind a page after two things were put there.
 use Rattle.std.proofs.Common.{ℕ, ◌++◌, List, [], Option, ap, sym, ◌∙◌, append_assoc}
 use Rattle.std.proofs.lemmas.List.{append-nil}
-use Rattle.msc_notes.specs.Texts.{error_text}
+use Rattle.msc_notes.specs.Texts.{error_text, IsFaultPosition}
+use Rattle.msc_place.specs.declared.position.Position.{Position}
 use Rattle.msc_command.specs.Ending.{refusal_line}
 use Rattle.msc_command.specs.Extending.{BeginsSo, Extends}
-use Rattle.msc_command.specs.Refused.{IsPlaceOf, IsRefusalText}
+use Rattle.msc_command.specs.Refused.{IsRefusalPosition, IsRefusalText}
 use Rattle.msc_command.specs.declared.ending.Refusal.{Refusal}
 
 -- nothing was put there
@@ -21,13 +22,12 @@ pub told_extends : (file text : List ℕ) (place : Option ℕ) (line old new : L
 told_extends file text place line old new (more, (p, stands, is_new)) = (error_text file p ++ (line ++ more), is_new)
 
 -- a refusal and what was put behind it
-pub told_more : (file text : List ℕ) (refusal : Refusal) (place : Option ℕ) (its : IsPlaceOf text refusal place) (mid new : List ℕ)
+pub told_more : (file text : List ℕ) (refusal : Refusal) (place : Option ℕ)
+    → ((p : Position) → IsFaultPosition text place p → IsRefusalPosition text refusal p) → (mid new : List ℕ)
     → (more : List ℕ) × BeginsSo file text place (refusal_line refusal ++ more) [] mid → Extends mid new → IsRefusalText file text refusal new
 told_more file text refusal place its mid new (more, (p, stands, is_mid)) (rest, is_new) = record {
-  place = place;
-  its = its;
   position = p;
-  stands = stands;
+  stands = its p stands;
   more = more ++ rest;
   printed_is = is_new ∙ (ap (λ xs. xs ++ rest) is_mid
       ∙ (append_assoc (error_text file p) (refusal_line refusal ++ more) rest

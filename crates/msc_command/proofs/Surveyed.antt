@@ -1,16 +1,24 @@
 -- What is answered of all scenarios of a diagram.
-use Rattle.std.proofs.Common.{◌≡◌, ℕ, List, ◌∷◌, Option, Result, Ok, Err, inl, inr, refl}
+use Rattle.std.proofs.Common.{◌≡◌, ℕ, Bool, true, false, List, [], Option, Ok, Err, inl, inr, refl}
 use Rattle.msc_chart.specs.Lists.{Occurs}
 use Rattle.msc_import.specs.Whole.{imported_all}
 use Rattle.msc_import.specs.declared.whole.Scenario.{Scenario as Drawn}
 use Rattle.msc_import.specs.declared.whole.Scenarios.{Scenarios}
 use Rattle.msc_report.specs.declared.fault.Fault.TheVariants.{Parse, Chart, NotStarted, Memory, Device}
-use Rattle.msc_report.specs.Refusals.{of_source}
+use Rattle.msc_report.specs.Refusals.{of_source, of_writing}
 use Rattle.msc_source.specs.declared.fault.SourceFault.{SourceFault}
 use Rattle.msc_source.specs.declared.fault.SourceFault.TheVariants as sources
+use Rattle.msc_diagram.specs.Judging.{BeginsScenarios as BeginsOf, JudgesScenarios, PassesScenarios, TellsScenarios}
+use Rattle.msc_diagram.specs.declared.judging.Form.{Form as DiagramForm}
+use Rattle.msc_diagram.specs.declared.scenario.Scenario.{Scenario}
+use Rattle.msc_judge.specs.declared.page.WriteFault.{WriteFault}
+use Rattle.msc_judge.specs.declared.page.WriteFault.TheVariants as writing
+use Rattle.msc_command.proofs.Answered.{nothing_more}
 use Rattle.msc_command.specs.Answering.{AnswersWith}
+use Rattle.msc_command.specs.Ending.{ended_by}
+use Rattle.msc_command.specs.declared.tasks.Checking.{Checking}
 use Rattle.msc_command.specs.Importing.{IsChartOrFault}
-use Rattle.msc_command.specs.Scenarios.{AreCharted, BeginsScenarios, IsCharted, IsImportOfAll, PrintsScenarios, RefusesScenarios, wanted_of}
+use Rattle.msc_command.specs.Scenarios.{AreNotCharted, BeginsAll, BeginsScenarios, IsCharted, IsFormOf, IsImportOfAll, PrintsAll, PrintsScenarios, RefusesScenarios, wanted_of}
 use Rattle.msc_command.specs.declared.ending.Refusal.{Refusal}
 use Rattle.msc_command.specs.declared.ending.Refusal.TheVariants as refusals
 use Rattle.msc_command.specs.declared.tasks.ScenarioWords.{ScenarioWords}
@@ -24,7 +32,7 @@ no_scenario file s sources.Memory said = tt
 
 -- nor are all of them, where one is none
 pub not_all : (file : List ℕ) (all : List Drawn) (s : Drawn) → Occurs all s → (r : Refusal) → IsCharted file s (Err r)
-    → AreCharted file all (Err r)
+    → AreNotCharted all r
 not_all file all s among (refusals.Fault (Parse f)) said = absurd said
 not_all file all s among (refusals.Fault (Chart f)) said = (s, among, said)
 not_all file all s among (refusals.Fault (NotStarted i)) said = absurd said
@@ -50,7 +58,7 @@ module _ {W : Type 0} (contents : W → Option (List ℕ)) (x : ScenarioWords) (
   none_drawn (refusals.Import e) said = (said, refl)
 
   -- and where one is no chart
-  pub not_charted : (all : Scenarios) → imported_all (wanted_of x) text ≡ Ok all → (r : Refusal) → AreCharted file all.list (Err r)
+  pub not_charted : (all : Scenarios) → imported_all (wanted_of x) text ≡ Ok all → (r : Refusal) → AreNotCharted all.list r
       → AnswersWith contents (PrintsScenarios x file text) (BeginsScenarios x file text) (RefusesScenarios x text) (Err r) now now
   not_charted all is (refusals.Fault (Parse f)) said = absurd said
   not_charted all is (refusals.Fault (Chart f)) said = ((all, is, said), refl)
@@ -61,3 +69,17 @@ module _ {W : Type 0} (contents : W → Option (List ℕ)) (x : ScenarioWords) (
   not_charted all is (refusals.Mark f) said = absurd said
   not_charted all is (refusals.Instance name) said = absurd said
   not_charted all is (refusals.Import e) said = absurd said
+
+module _ {W : Type 0} (contents : W → Option (List ℕ)) (c : Checking) (file name : List ℕ) (ss : List Scenario) where
+  -- what is told by the status alone
+  pub passes_so : (quiet passed : Bool) (now : W) → quiet ≡ true → PassesScenarios ss c.queues c.question.allowed passed
+      → AnswersWith contents (PrintsAll quiet c file name ss) (BeginsAll quiet c file name ss) (λ refusal. ⊥) (Ok (ended_by passed)) now now
+  passes_so quiet passed now is says = rw is ([], (passed, refl, says, refl), nothing_more _)
+
+  -- what was not written to its end
+  pub not_told : (form : DiagramForm) → IsFormOf c file form → (quiet : Bool) → quiet ≡ false → (f : WriteFault) (old new : W)
+      → TellsScenarios contents (JudgesScenarios name ss c.queues c.question form) (BeginsOf name ss c.queues c.question form) (Err f) old new
+      → AnswersWith contents (PrintsAll quiet c file name ss) (BeginsAll quiet c file name ss) (λ refusal. ⊥) (Err (refusals.Fault (of_writing f))) old new
+  not_told form its quiet is writing.Memory old new (inl same) = inl same
+  not_told form its quiet is writing.Memory old new (inr (printed, says, begun)) = inr (printed, rw is (form, its, says), begun)
+  not_told form its quiet is writing.Device old new said = tt

@@ -1,6 +1,8 @@
 -- What a refusal is told as on the output, in the form of lines for editors.
-use Rattle.std.specs.Prelude.{◌≡◌, ◌⊎◌, ℕ, ◌++◌, Bool, true, false, List, Option, None, Some, Result, Ok, Err}
+use Rattle.std.specs.Prelude.{◌≡◌, ◌⊎◌, ℕ, ◌++◌, Bool, true, false, cond, List, Option, None, Some, Result, Ok, Err}
 use Rattle.std.specs.Io.KnownBytes.{Appends}
+use Rattle.msc_import.specs.declared.fault.ImportFault.{ImportFault}
+use Rattle.msc_import.specs.declared.fault.ImportFault.TheVariants as imports
 use Rattle.msc_mark.specs.declared.fault.MarkFault.{MarkFault}
 use Rattle.msc_mark.specs.declared.fault.MarkFault.TheVariants as marks
 use Rattle.msc_notes.specs.Faults.{parse_place, IsChartPlace}
@@ -31,13 +33,31 @@ IsPlaceOf text (refusals.Fault (Chart f)) place = (t : Tree) → HasDraft text t
 IsPlaceOf text (refusals.Mark f) place = place ≡ mark_place f
 IsPlaceOf text refusal place = place ≡ None
 
--- The lines of a refusal of the text of a file: the first is its fixed line behind the position of its
--- place; notes and further faults follow.
+-- the line of a diagram's text on which a fault of an import stands; the first, where it stands on none
+abbrev pub import_line : ImportFault → ℕ
+import_line (imports.Expected line what) = line
+import_line (imports.Unsupported line head) = line
+import_line (imports.Unended line) = line
+import_line (imports.Outside line word) = line
+import_line (imports.TooDeep line) = line
+import_line (imports.TooManyLines line) = line
+import_line (imports.Cross line) = line
+import_line (imports.Choice line choice most) = line
+import_line (imports.TooManyArrows line) = line
+import_line (imports.Shared line at) = line
+import_line fault = 1
+
+-- this is the position of a refusal of the text: where the line of a fault of an import begins; else that of
+-- its place, or the beginning of the text where it has none
+abbrev pub IsRefusalPosition : List ℕ → Refusal → Position → Type 0
+IsRefusalPosition text (refusals.Import e) p = p ≡ record { line = import_line e.fault; column = 1 }
+IsRefusalPosition text refusal p = (place : Option ℕ) × IsPlaceOf text refusal place × IsFaultPosition text place p
+
+-- The lines of a refusal of the text of a file: the first is its fixed line behind its position; notes and
+-- further faults follow.
 pub record IsRefusalText (file text : List ℕ) (refusal : Refusal) (printed : List ℕ) : Type 0 where
-  pub place : Option ℕ
-  pub its : IsPlaceOf text refusal place
   pub position : Position
-  pub stands : IsFaultPosition text place position
+  pub stands : IsRefusalPosition text refusal position
   pub more : List ℕ
   pub printed_is : printed ≡ error_text file position ++ (refusal_line refusal ++ more)
 
@@ -50,7 +70,7 @@ TellsIn contents form file text refusal old new = new ≡ old
 -- the form of a task's answer
 abbrev pub form_of : Task → Form
 form_of (tasks.Chart (Check c)) = c.form
-form_of (tasks.Scenarios x) = x.checking.form
+form_of (tasks.Scenarios x) = cond x.quiet forms.Text x.checking.form
 form_of task = forms.Text
 
 -- what the output gets of a refusal of a task

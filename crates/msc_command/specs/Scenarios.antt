@@ -61,11 +61,10 @@ abbrev pub IsNoChart : List Drawn → Refusal → Type 0
 IsNoChart all (refusals.Fault (Chart f)) = (s : Drawn) × Occurs all s × IsFirstFault s.draft f
 IsNoChart all refusal = ⊥
 
--- each of these scenarios with its chart, or why one is no chart
-abbrev pub AreCharted : List ℕ → List Drawn → Result (List Scenario) Refusal → Type 0
-AreCharted file all (Ok cs) = AreCharts all × (cs ≡ map (with_chart file) all)
-AreCharted file all (Err (refusals.Fault Memory)) = Unit {0}
-AreCharted file all (Err refusal) = IsNoChart all refusal
+-- why they have no charts: one of them is none, or memory ran out
+abbrev pub AreNotCharted : List Drawn → Refusal → Type 0
+AreNotCharted all (refusals.Fault Memory) = Unit {0}
+AreNotCharted all refusal = IsNoChart all refusal
 
 -- the form in which scenarios are told, of the file of this name
 abbrev pub IsFormIn : Form → Bool → List ℕ → DiagramForm → Type 0

@@ -1,7 +1,7 @@
 //! Imports, as pages: the canonical text of a scenario of a diagram, or the list of its events with
 //! the places of their arrows.
 
-ghost use Rattle.std.specs.Prelude.{option_map, true};
+ghost use Rattle.std.specs.Prelude.{◌≡◌, option_map, true};
 ghost use Rattle.msc_command.specs.Importing.{IsChartOrFault, IsImport, IsImportedOn, IsPageOf};
 ghost use Rattle.msc_command.specs.Importing.{IsImportAs, wanted_with};
 

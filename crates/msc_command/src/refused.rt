@@ -4,18 +4,21 @@
 ghost use Rattle.std.specs.Prelude.{◌≡◌, ℕ, List, [], Option, ◌++◌, IfOk, OnOk};
 ghost use Rattle.msc_command.specs.Ending.{refusal_line};
 ghost use Rattle.msc_command.specs.Extending.{BeginsSo, Extends};
-ghost use Rattle.msc_command.specs.Refused.{mark_place, IsRefusalText};
+ghost use Rattle.msc_command.specs.Refused.{import_line, mark_place, IsRefusalText};
+ghost use Rattle.msc_notes.specs.Texts.{error_text};
 ghost use Rattle.msc_parser.specs.Parsing.{HasDraft};
 
 use crate::ending::{Refusal, write_refusal};
 use msc_chart::ChartFault;
+use msc_import::{ImportFault, Refused};
 use msc_judge::Page;
 use msc_mark::MarkFault;
 use msc_notes::writing::{write_error, write_note_line};
 use msc_notes::{Note, Told, ToldFault, tell_chart, tell_further, tell_parse};
 use msc_parser::laws::one_parsing;
 use msc_parser::{Draft, ParseFault, parse};
-use msc_place::{Lines, Places};
+use msc_place::writing::write_place;
+use msc_place::{Lines, Places, Position};
 use msc_report::Fault;
 use std::alloc::{AllocError, Global};
 
@@ -182,6 +185,48 @@ pub(crate) fn mark_place(fault: MarkFault) -> Option<usize>
     }
 }
 
+/// The line of a diagram's text on which a fault of an import stands; the first, where it stands on
+/// none.
+fn import_line(fault: ImportFault) -> usize
+    ensures { result ≡ import_line fault }
+{
+    match fault {
+        ImportFault::Expected(line, _) | ImportFault::Unsupported(line, _) => line,
+        ImportFault::Unended(line) | ImportFault::Outside(line, _) => line,
+        ImportFault::TooDeep(line) | ImportFault::TooManyLines(line) => line,
+        ImportFault::Cross(line) | ImportFault::Choice(line, _, _) => line,
+        ImportFault::TooManyArrows(line) | ImportFault::Shared(line, _) => line,
+        _ => 1,
+    }
+}
+
+/// Puts what stands before the line of a fault for editors behind a page, at this position.
+fn put_position(page: &mut Page, file: &str, position: Position) -> Result<(), AllocError>
+    ensures { OnOk result (page.new.bytes.items
+        ≡ page.old.bytes.items ++ error_text file.now position) }
+{
+    if write_place(page, file.as_bytes(), position).is_err() {
+        return Err(AllocError);
+    }
+    page.bytes.extend_from_slice(b": error: ")?;
+    Ok(())
+}
+
+/// The line of why nothing is imported, at the line of the text that it speaks of.
+fn import_lines(alloc: Global, file: &str, refused: Refused) -> Result<Page, AllocError>
+    ensures { IfOk result (λ page. (text : List ℕ) → IsRefusalText file.now text
+        (Refusal.Import refused) page.bytes.items) }
+{
+    let position = Position {
+        line: import_line(refused.fault),
+        column: 1,
+    };
+    let mut page = Page::new(alloc);
+    put_position(&mut page, file, position)?;
+    let written = write_refusal(&mut page, Refusal::Import(refused));
+    page.if_written(written)
+}
+
 /// The lines of a refusal of the text of a file of this name. An error is a growth of memory that
 /// was refused.
 pub(crate) fn refusal_lines(
@@ -195,6 +240,7 @@ pub(crate) fn refusal_lines(
     match refusal {
         Refusal::Fault(Fault::Parse(fault)) => parse_lines(alloc, file, text, fault),
         Refusal::Fault(Fault::Chart(fault)) => chart_lines(alloc, file, text, fault),
+        Refusal::Import(refused) => import_lines(alloc, file, refused),
         Refusal::Mark(fault) => bare_lines(alloc, file, text, mark_place(fault), refusal),
         _ => bare_lines(alloc, file, text, None, refusal),
     }

@@ -1,8 +1,9 @@
 //! What is asked of the races of all scenarios of a diagram.
 
-ghost use Rattle.std.specs.Prelude.{◌≡◌, [], ◌∷◌, ◌++◌, OnOk};
+ghost use Rattle.std.specs.Prelude.{◌≡◌, [], ◌∷◌, ◌++◌, map, IfErr, IfOk, OnOk};
 ghost use Rattle.msc_command.specs.Answering.{AnswersWith};
-ghost use Rattle.msc_command.specs.Scenarios.{AreCharted, BeginsScenarios, IsCharted, IsFormOf};
+ghost use Rattle.msc_command.specs.Scenarios.{with_chart, AreCharts, AreNotCharted};
+ghost use Rattle.msc_command.specs.Scenarios.{BeginsScenarios, IsCharted, IsFormOf};
 ghost use Rattle.msc_command.specs.Scenarios.{IsImportOfAll, PrintsScenarios, RefusesScenarios};
 ghost use Rattle.msc_command.specs.Scenarios.{BeginsAll, PrintsAll};
 
@@ -66,7 +67,9 @@ fn each_charted<'f>(
     file: &'f str,
     all: Vec<Drawn>,
 ) -> Result<Vec<Scenario<'f>>, Refusal<'static>>
-    ensures { AreCharted file.entry.now all.items result }
+    ensures charts { IfOk result (λ charts. AreCharts all.items
+        × (charts.items ≡ map (with_chart file.entry.now) all.items)) }
+    ensures none { IfErr result (AreNotCharted all.items) }
 {
     let mut charts = Vec::new(alloc);
     for drawn in all {

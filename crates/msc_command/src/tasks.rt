@@ -199,8 +199,9 @@ pub(crate) fn form_of(task: Task<'_>) -> Form
 {
     match task {
         Task::Chart(Ask::Check(checking)) => checking.form,
-        Task::Scenarios(words) => words.checking.form,
-        Task::Read | Task::Chart(_) | Task::Draw(_) | Task::Import(_) => Form::Text,
+        Task::Scenarios(words) if !words.quiet => words.checking.form,
+        Task::Read | Task::Chart(_) | Task::Draw(_) => Form::Text,
+        Task::Import(_) | Task::Scenarios(_) => Form::Text,
     }
 }
 

@@ -6,5 +6,5 @@ abbrev pub invariant-loop-drawn : goal.invariant-loop-drawn
 invariant-loop-drawn l = record {
   whole : l.initial.drawn-iterator.rest.items ≡ l.yielded ++ l.drawn-iterator.rest.items;
   faultless : AreCharts l.yielded;
-  made : l.charts.items ≡ map (with_chart l.file.now) l.yielded;
+  made : l.charts.items ≡ map (with_chart l.file) l.yielded;
 }
