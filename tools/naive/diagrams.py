@@ -16,11 +16,16 @@ TAG = rb"(?i)</?(?:br|b|i|u|s|color|size|back|font)(?:[^A-Za-z0-9<>][^<>]*)?>"
 
 
 class Refused(Exception):
-    """What is said of a text that is refused: the line of its first fault."""
+    """What is said of a text that is refused, its first fault, and the line on which that stands."""
+
+    def __init__(self, said, line):
+        super().__init__(said)
+        self.line = line
 
 
 def refuse(number, said, line=None):
-    return Refused(f"import fault {number}{'' if line is None else f' at {line}'}: {said}")
+    place = "" if line is None else f" at {line}"
+    return Refused(f"import fault {number}{place}: {said}", line or 1)
 
 
 # Statements

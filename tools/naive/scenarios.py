@@ -126,7 +126,7 @@ def answer(text, options):
         courses = list(scenarios(diagram_of(text, options), options))
     except Refused as fault:
         is_told = options.format == "lines" and not options.quiet
-        line = f"{shown(options.file)}:1:1: error: {fault}\n" if is_told else ""
+        line = f"{shown(options.file)}:{fault.line}:1: error: {fault}\n" if is_told else ""
         return line.encode(), f"{fault}\n".encode(), 2
     every = [Scenario(course, options.queues, shown(options.file)) for course in courses]
     found = listed(every, options.allow, options.closest)
