@@ -144,14 +144,14 @@ check 'built' builds
 check 'what was built is not built again' test "$(launch '')" = built
 copy rt
 changed_byte "$room/copy/crates/msc/src/main.rt"
-check 'a build from nothing' builds_in_order 30
+check 'a build from nothing' builds_in_order 31
 changed_byte "$room/copy/crates/msc_order/src/lib.rt"
-check 'a build above a crate that changed' builds_in_order 12
+check 'a build above a crate that changed' builds_in_order 13
 changed_byte "$room/copy/crates/msc_order/src/lib.rt"
 touch "$room/bad"
 check 'a crate that is not proved' is_not_proved
 rm "$room/bad"
-check 'and then is' builds_in_order 12
+check 'and then is' builds_in_order 13
 check 'nothing is left of it' test ! -e "$room/copy/out/proving"
 copy
 echo >>"$room/copy/crates.txt"
