@@ -2,6 +2,9 @@
 use Rattle.std.proofs.Common.{◌≡◌, ℕ, Bool, true, false, List, Option, Result, Ok, Err, inl, inr, sym, subst}
 use Rattle.clap.specs.declared.parser.matches.Found.{Found}
 use Rattle.msc_report.specs.declared.fault.Fault.TheVariants.{Parse, Chart, NotStarted, Memory, Device}
+use Rattle.msc_diagram.specs.declared.scenario.Scenario.{Scenario}
+use Rattle.msc_command.specs.Scenarios.{PrintsAll}
+use Rattle.msc_command.specs.declared.tasks.Checking.{Checking}
 use Rattle.msc_command.specs.declared.ending.Refusal.{Refusal}
 use Rattle.msc_command.specs.declared.ending.Refusal.TheVariants as refusals
 use Rattle.msc_command.specs.declared.ending.Status.{Status}
@@ -26,6 +29,11 @@ never_finished : (finished : Bool) → Refused ≡ finished_by finished → ⊥
 never_finished true same = cc
 never_finished false same = cc
 
+-- and none of scenarios
+never_surveyed : (quiet : Bool) (c : Checking) (file name : List ℕ) (ss : List Scenario) (printed : List ℕ) → PrintsAll quiet c file name ss Refused printed → ⊥
+never_surveyed true c file name ss printed (passed, same, says, none) = never_ended passed same
+never_surveyed false c file name ss printed (form, its, passed, same, says) = never_ended passed same
+
 -- so nothing that is printed for a task is
 never_printed : (task : Task) (file text printed : List ℕ) → Prints task file text Refused printed → ⊥
 never_printed tasks.Read file text printed (draft, has, same, is) = cc
@@ -37,6 +45,7 @@ never_printed (tasks.Chart (asks.List placed)) file text printed (d, of_text, (s
 never_printed (tasks.Chart (asks.Ready x)) file text printed (d, of_text, (only, are, style, its, passed, same, says)) = never_ended passed same
 never_printed (tasks.Draw drawn) file text printed (d, is, (same, says)) = cc
 never_printed (tasks.Import x) file text printed (same, says) = cc
+never_printed (tasks.Scenarios x) file text printed (all, is, charts, says) = never_surveyed x.quiet x.checking file _ _ printed says
 
 module _ {W : Type 0} (contents : W → Option (List ℕ)) where
   -- of a refusal that was told, nothing or its lines went out

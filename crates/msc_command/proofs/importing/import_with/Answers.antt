@@ -8,7 +8,8 @@ use Rattle.msc_command.proofs.importing.import_with.Goals as goal
 pub returns-in_err-imported : goal.returns-in_err-imported
 returns-in_err-imported c =
     let p = err_from_is_err_and c.from_residual.result c.from_residual.ensures.1 in
-    rw (p.1, p.2) (not_imported (imported (wanted_with c.args.words (option_map (λ c. c.now) c.args.choices)) c.args.text.now) _ c.in_err-imported.ensures.given)
+    let given = rw c.fence_of.ensures at c.in_err-imported.ensures.given in
+    rw (p.1, p.2) (not_imported (imported (wanted_with c.args.words (option_map (λ c. c.now) c.args.choices)) c.args.text.now) _ given)
 
 pub returns : goal.returns
-returns c = (c.in_ok-imported.ensures.given, c.in_ok-imported.ensures.again)
+returns c = (rw c.fence_of.ensures at c.in_ok-imported.ensures.given, c.in_ok-imported.ensures.again)

@@ -1,8 +1,5 @@
-use Rattle.std.proofs.Common.{refl}
 use Rattle.std.proofs.lemmas.Result.{err_from_is_err_and}
-use Rattle.msc_command.proofs.Answered.{answers_with_so}
-use Rattle.msc_command.proofs.Surveyed.{none_drawn, not_charted}
-use Rattle.msc_command.specs.Scenarios.{BeginsAll, BeginsScenarios, PrintsAll, PrintsScenarios, RefusesScenarios, with_chart}
+use Rattle.msc_command.proofs.Surveyed.{none_drawn}
 use Rattle.msc_command.proofs.scenarios.check_scenarios.Goals as goal
 
 pub returns-in_err-all : goal.returns-in_err-all
