@@ -28,3 +28,7 @@ pub mod Rows
 pub mod EnforcedRows
 pub mod Lines
 pub mod QueueLemmas
+pub mod RoundNumbers
+pub mod RoundParts
+pub mod RoundEvents
+pub mod RoundOrder

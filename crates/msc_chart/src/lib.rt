@@ -23,11 +23,12 @@ mod linear;
 mod message;
 mod numbering;
 mod queue;
+mod rounds;
 mod wiring;
 
 pub use chart::Chart;
 pub use event::{Event, EventKind};
-pub use fault::ChartFault;
+pub use fault::{ChartFault, TwiceFault};
 pub use queue::Queues;
 pub use wiring::Wiring;
 
@@ -42,3 +43,9 @@ pub const ACTION_LIMIT: u32 = 1_024;
 
 /// The greatest number of events of a chart: two for each message, and one for each action.
 pub const EVENT_LIMIT: u32 = 2 * MESSAGE_LIMIT + ACTION_LIMIT;
+
+/// The greatest number of messages of a chart of which two rounds are a chart.
+pub const ROUND_MESSAGE_LIMIT: u32 = MESSAGE_LIMIT / 2;
+
+/// The greatest number of actions of a chart of which two rounds are a chart.
+pub const ROUND_ACTION_LIMIT: u32 = ACTION_LIMIT / 2;
