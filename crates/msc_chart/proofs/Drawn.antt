@@ -62,7 +62,7 @@ module _ (events : List ChartEvent) where
       by Local h k = true≢false (sym h)
 
   -- an event of the chart whose kind acts is a local event
-  local_from : (e : ℕ) → e < length events → acts (kind events e) ≡ true → is_local events e ≡ true
+  pub local_from : (e : ℕ) → e < length events → acts (kind events e) ≡ true → is_local events e ≡ true
   unfolding is_local
   local_from e p h = and_from _ _ (lt-ltb _ _ p) h
 

@@ -32,3 +32,7 @@ pub mod RoundNumbers
 pub mod RoundParts
 pub mod RoundEvents
 pub mod RoundOrder
+pub mod Tally
+pub mod EventCounts
+pub mod RoundMessages
+pub mod TwiceAccepted

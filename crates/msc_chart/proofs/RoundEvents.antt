@@ -1,15 +1,14 @@
 -- The events of several rounds: what each is, and that they are in the order of a text, on lines, and
 -- matched.
-use Rattle.std.proofs.Common.{◌≡◌, ℕ, suc, ◌+◌, ◌-◌, ◌*◌, ◌/◌, ◌%◌, ◌<◌, ◌≤◌, ◌⊎◌, Bool, true, false, List, length, inl, inr, refl, sym, ap, ◌∙◌, arith}
+use Rattle.std.proofs.Common.{◌≡◌, ℕ, suc, ◌+◌, ◌-◌, ◌*◌, ◌/◌, ◌%◌, ◌<◌, ◌≤◌, ◌⊎◌, List, length, inl, inr, sym, ap, ◌∙◌, arith}
 use Rattle.std.proofs.Math.Nat.{mul-le-mul_left, mul-le-mul_right, suc-mul, mul_comm, div-add-mod, le-div_iff_mul-le, mul-div-le}
 use Rattle.std.proofs.lemmas.Bool.{cases_lt}
 use Rattle.std.proofs.lemmas.List.FromFn.{length-map-range_with_len, get_or-map-range_with_len}
-use Rattle.msc_chart.specs.declared.event.EventKind.{EventKind}
 use Rattle.msc_chart.specs.declared.event.ChartEvent.{ChartEvent}
-use Rattle.msc_chart.specs.Charts.{at, no_event, line, segment, kind, partner, message, sends, takes, acts, controls, is_output, is_input, is_local, is_controlled, IsMatched, IsInTextOrder, AreOnLines}
+use Rattle.msc_chart.specs.Charts.{at, no_event, line, segment, kind, partner, message, action, sends, takes, acts, controls, is_output, is_input, is_local, is_controlled, IsMatched, IsInTextOrder, AreOnLines}
 use Rattle.msc_chart.specs.Rounds.{first_of, past_of, count_of, segments_of, number_of, offset_of, event_of, round_of, segment_in, subject_in, repeated_event, repeated_events}
 use Rattle.msc_chart.proofs.Drawn.{output_is, input_is, local_is, controlled_is, local_parts}
-use Rattle.msc_chart.proofs.RoundNumbers.{first_le, past_gt, past_le, on_line_of, first_same, past_same, count_same, event_in, round_in, event_on, half_in, first_from, some_count, some_rounds, number_in, event_number, round_number, number_event}
+use Rattle.msc_chart.proofs.RoundNumbers.{first_le, past_gt, past_le, on_line_of, first_same, past_same, count_same, event_in, round_in, event_on, half_in, some_count, some_rounds, number_in, event_number, round_number, number_event}
 
 module _ (n m : ℕ) (events : List ChartEvent) where
   -- n rounds have n times as many events
@@ -54,6 +53,11 @@ module _ (n m : ℕ) (events : List ChartEvent) where
     pub message_is : message (repeated_events n m events) k ≡ subject_in n m events k
     unfolding message repeated_event
     message_is = ap (λ (x : ChartEvent). x.subject) at_is
+
+    -- the same of an action
+    pub action_is : action (repeated_events n m events) k ≡ subject_in n m events k
+    unfolding action repeated_event
+    action_is = ap (λ (x : ChartEvent). x.subject) at_is
 
 module _ (n m : ℕ) (events : List ChartEvent) (ordered : IsInTextOrder events) (k : ℕ) (within : k < n * length events) where
   -- it is an output where its event is one
@@ -222,7 +226,6 @@ module _ (n m : ℕ) (events : List ChartEvent) (ordered : IsInTextOrder events)
         let rows : n * segments_of events e ≤ n * length events = mul-le-mul_left n (segments_few events ordered lines on e e-in) in
         omega (arith, low, rows, segment_is n m events k k-in, events_many n m events);
   }
-
 
 module _ (n m : ℕ) (events : List ChartEvent) (ordered : IsInTextOrder events) (matched : IsMatched events) (k : ℕ) (within : k < n * length events) where
   -- the partner of its event is an event of the chart

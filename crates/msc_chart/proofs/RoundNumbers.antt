@@ -1,5 +1,5 @@
 -- The numbers of the events of several rounds, and the way back from them.
-use Rattle.std.proofs.Common.{◌≡◌, ℕ, suc, ◌+◌, ◌-◌, ◌*◌, ◌/◌, ◌%◌, ◌<◌, ◌≤◌, List, length, refl, sym, ap, ◌∙◌, arith, inl, inr}
+use Rattle.std.proofs.Common.{◌≡◌, ℕ, suc, ◌+◌, ◌-◌, ◌*◌, ◌/◌, ◌%◌, ◌<◌, ◌≤◌, List, length, refl, ap, arith, inl, inr}
 use Rattle.std.proofs.Math.Nat.{mul-le-mul_left, mul-le-mul_right, mul-add, suc-mul, mul_comm, le-div_iff_mul-le, div-lt_iff_lt-mul, div-add-mod, mod-lt}
 use Rattle.std.proofs.lemmas.Bool.{cases_lt}
 use Rattle.std.proofs.lemmas.Nat.{div-mul-add, mod-mul-add}
@@ -229,8 +229,11 @@ module _ (events : List ChartEvent) (ordered : IsInTextOrder events) where
     whole : round_of n events k * count_of events (k / n) + offset_of n events k % count_of events (k / n) ≡ offset_of n events k
     unfolding round_of
     whole =
-        omega (arith, mul_comm (offset_of n events k / count_of events (k / n)) (count_of events (k / n)),
-        div-add-mod (offset_of n events k) (count_of events (k / n)))
+        omega (
+          arith,
+          mul_comm (offset_of n events k / count_of events (k / n)) (count_of events (k / n)),
+          div-add-mod (offset_of n events k) (count_of events (k / n)),
+        )
 
     -- the place among those of its line, written out
     offset_is : offset_of n events k ≡ k - n * first_of events (k / n)

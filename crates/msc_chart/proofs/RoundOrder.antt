@@ -1,12 +1,12 @@
 -- The visual order of several rounds: it never goes back to an earlier round, and within a round it is
 -- that of the chart. So the linear order of the chart, round by round, is one of all rounds.
-use Rattle.std.proofs.Common.{◌≡◌, ℕ, zero, suc, ◌+◌, ◌*◌, ◌<◌, ◌≤◌, ◌⊎◌, Bool, true, false, ◌||◌, eqb, List, [], ◌∷◌, ◌++◌, length, map, inl, inr, refl, sym, ap, subst, ◌∙◌, append_assoc, arith}
+use Rattle.std.proofs.Common.{◌≡◌, ℕ, ◌*◌, ◌<◌, ◌≤◌, true, eqb, List, [], ◌∷◌, ◌++◌, length, map, inl, inr, refl, sym, ap, subst, ◌∙◌, append_assoc, arith}
 use Rattle.std.proofs.Math.Bool.{or-false}
-use Rattle.std.proofs.lemmas.Bool.{cases_lt, or_cases, or_left, or_right, eqb-true}
+use Rattle.std.proofs.lemmas.Bool.{cases_lt, or_cases, eqb-true}
 use Rattle.std.proofs.lemmas.List.{append-nil, map-append}
 use Rattle.msc_chart.specs.declared.event.ChartEvent.{ChartEvent}
 use Rattle.msc_chart.specs.Lists.{occurs, Steps}
-use Rattle.msc_chart.specs.Charts.{line, segment, partner, is_output, before, Visual, Follows, IsMatched, IsInTextOrder, IsLinearOrder}
+use Rattle.msc_chart.specs.Charts.{line, partner, is_output, before, Visual, Follows, IsMatched, IsInTextOrder, IsLinearOrder}
 use Rattle.msc_chart.specs.Charts.Visual.{seen, passed, linked}
 use Rattle.msc_chart.specs.Rounds.{number_of, event_of, round_of, segment_in, repeated_events}
 use Rattle.msc_chart.proofs.ListLemmas.{by_test, clash, occurs-append, occurs-head, occurs-tail, occurs-left, occurs-right, Steps-append, step_at}

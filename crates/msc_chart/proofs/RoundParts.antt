@@ -1,6 +1,6 @@
 -- The parts of a chart of two rounds, as they are made one by one.
-use Rattle.std.proofs.Common.{◌≡◌, ℕ, zero, suc, ◌+◌, ◌*◌, ◌<◌, ◌≤◌, Bool, true, false, cond, List, [], ◌∷◌, ◌++◌, length, get_or, map, filter, refl, sym, ap, ◌∙◌, arith}
-use Rattle.std.specs.Prelude.{count_by, Option, Some, None}
+use Rattle.std.proofs.Common.{◌≡◌, ℕ, zero, suc, ◌+◌, ◌<◌, ◌≤◌, Bool, true, false, cond, List, [], ◌∷◌, ◌++◌, length, get_or, map, refl, sym, ap, ◌∙◌, arith}
+use Rattle.std.specs.Prelude.{Option, Some, None}
 use Rattle.std.proofs.lemmas.List.{append-nil, map-append}
 use Rattle.std.proofs.lemmas.List.Sums.{count_by-le-length}
 use Rattle.std.specs.List.{range_with_len}
@@ -52,7 +52,7 @@ same_span p q = λ i. record { first = p i; past = q i }
 -- events with equal parts are equal
 pub same_event : {l l' s s' p p' u u' : ℕ} {k k' : EventKind} → l ≡ l' → s ≡ s' → k ≡ k' → p ≡ p' → u ≡ u'
     → ◌≡◌ {A = ChartEvent} (record { line = l; segment = s; kind = k; partner = p; subject = u })
-      (record { line = l'; segment = s'; kind = k'; partner = p'; subject = u' })
+    (record { line = l'; segment = s'; kind = k'; partner = p'; subject = u' })
 same_event a b c d e = λ i. record { line = a i; segment = b i; kind = c i; partner = d i; subject = e i }
 
 -- so are messages
@@ -81,12 +81,20 @@ module _ (n : ℕ) (events : List ChartEvent) (k : ℕ) where
   unfolding locals_below events_below
   locals_more = filter_of_map_range_with_len_more (λ (e : ℕ). acts (kind events e)) (event_of n events) 0 k k (omega arith)
 
+-- none is counted below 0
+pub count_zero : (n : ℕ) (events : List ChartEvent) → count_below n events 0 ≡ 0
+unfolding count_below events_below
+count_zero n events = refl
+
 -- no more are counted than stand there
 pub count_few : (n : ℕ) (events : List ChartEvent) (k : ℕ) → count_below n events k ≤ k
 unfolding count_below events_below
 count_few n events k =
-    omega (arith, count_by-le-length (λ (e : ℕ). acts (kind events e)) (map (event_of n events) (range_with_len 0 k)),
-    length-map-range_with_len (event_of n events) 0 k)
+    omega (
+      arith,
+      count_by-le-length (λ (e : ℕ). acts (kind events e)) (map (event_of n events) (range_with_len 0 k)),
+      length-map-range_with_len (event_of n events) 0 k,
+    )
 
 -- the kind of an event of n rounds is that of its event
 pub repeated_kind : (n m : ℕ) (events : List ChartEvent) (k : ℕ) → (repeated_event n m events k).kind ≡ kind events (event_of n events k)

@@ -50,6 +50,7 @@ impl Chart {
         ensures short { OnOk result (IsShort self.now) }
         ensures fault { IfErr result (λ f. f ≢ TwiceFault.Memory → IsTwiceFault self.now f) }
     {
+        self.accepted();
         self.refuse_long()?;
         let spans = spans(alloc, self)?;
         let rounds = Rounds {

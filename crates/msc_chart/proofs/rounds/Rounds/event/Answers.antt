@@ -1,6 +1,6 @@
-use Rattle.std.proofs.Common.{◌≡◌, ℕ, Bool, ◌+◌, ◌*◌, length, cond, ap, sym, ◌∙◌, refl}
-use Rattle.msc_chart.specs.Charts.{line, segment, kind, partner, message, acts}
-use Rattle.msc_chart.specs.Rounds.{number_of, repeated_event, segment_in, segments_of, subject_in}
+use Rattle.std.proofs.Common.{ap, ◌∙◌, refl}
+use Rattle.msc_chart.specs.Charts.{line, kind}
+use Rattle.msc_chart.specs.Rounds.{repeated_event, segment_in, subject_in}
 use Rattle.msc_chart.proofs.Drawn.{local_is}
 use Rattle.msc_chart.proofs.RoundParts.{same_event}
 use Rattle.msc_chart.proofs.rounds.Rounds.event.Goals as goal

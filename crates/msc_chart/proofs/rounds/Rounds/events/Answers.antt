@@ -1,4 +1,4 @@
-use Rattle.std.proofs.Common.{◌≡◌, ℕ, ◌+◌, ◌*◌, Bool, true, false, length, refl, arith, ap, sym, ◌∙◌, map, cond}
+use Rattle.std.proofs.Common.{◌≡◌, ℕ, ◌*◌, Bool, true, false, length, refl, arith, ap, sym, ◌∙◌, map, cond}
 use Rattle.std.specs.List.{range_with_len}
 use Rattle.msc_chart.specs.declared.event.ChartEvent.{ChartEvent}
 use Rattle.msc_chart.specs.Charts.{acts, kind}
@@ -27,7 +27,7 @@ loop-k-preserved c =
     let next = count_more 2 events k in
     let counted = c.loop-k.invariant.counted in
     let step = λ (b : Bool) (is : c.is_local.result ≡ b).
-        ap (λ (t : Bool). cond {A = ℕ} t 1 0) (sym acting ∙ sym c.is_local.ensures ∙ is) in
+    ap (λ (t : Bool). cond {A = ℕ} t 1 0) (sym acting ∙ sym c.is_local.ensures ∙ is) in
     record {
       made = range_grown (repeated_event 2 m events) k _ _ _ c.in_ok-push.ensures.items c.loop-k.invariant.made c.event-event.ensures;
       counted = elim c.if-is_local.branch [

@@ -1,4 +1,4 @@
-use Rattle.std.proofs.Common.{arith, refl, sym, ◌∙◌}
+use Rattle.std.proofs.Common.{arith, refl, ◌∙◌}
 use Rattle.msc_chart.specs.Drawings.{output_of}
 use Rattle.msc_chart.specs.Rounds.{message_in}
 use Rattle.msc_chart.proofs.Readers.{output_in}

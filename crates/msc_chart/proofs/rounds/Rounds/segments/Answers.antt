@@ -1,4 +1,4 @@
-use Rattle.std.proofs.Common.{◌≡◌, ℕ, ◌+◌, ◌-◌, ap, ◌∙◌}
+use Rattle.std.proofs.Common.{ℕ, ◌+◌, ◌-◌, ap, ◌∙◌}
 use Rattle.msc_chart.specs.Charts.{segment}
 use Rattle.msc_chart.specs.Rounds.{segments_of}
 use Rattle.msc_chart.proofs.rounds.Rounds.segments.Goals as goal
