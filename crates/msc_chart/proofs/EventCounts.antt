@@ -125,7 +125,7 @@ module _ (d : Drawing) (accepted : IsAccepted d) where
       omega (arith, all, few)
 
 -- the parts of a number in rows of c
-parts_same : (r q a b c : ℕ) → a < c → b < c → r * c + a ≡ q * c + b → (r ≡ q) × (a ≡ b)
+pub parts_same : (r q a b c : ℕ) → a < c → b < c → r * c + a ≡ q * c + b → (r ≡ q) × (a ≡ b)
 parts_same r q a b c p s same = (
   sym (div-mul-add r c a p) ∙ ap (λ (x : ℕ). x / c) same ∙ div-mul-add q c b s,
   sym (mod-mul-add r c a p) ∙ ap (λ (x : ℕ). x % c) same ∙ mod-mul-add q c b s,

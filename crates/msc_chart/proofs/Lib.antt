@@ -36,3 +36,8 @@ pub mod Tally
 pub mod EventCounts
 pub mod RoundMessages
 pub mod TwiceAccepted
+pub mod Sheets
+pub mod RoundSheets
+pub mod RoundRaces
+pub mod RoundLawProofs
+pub mod RoundEventLaws

@@ -11,6 +11,7 @@ pub mod Wirings
 pub mod Runs
 pub mod Chosen
 pub mod Rounds
+pub mod RoundLaws
 pub mod Faults
 pub mod Laws
 pub mod Samples

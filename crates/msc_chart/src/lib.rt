@@ -23,6 +23,7 @@ mod linear;
 mod message;
 mod numbering;
 mod queue;
+pub mod round_laws;
 mod rounds;
 mod wiring;
 
