@@ -12,7 +12,7 @@ use Rattle.msc_chart.specs.Drawings.{Drawing, IsAccepted, output_of}
 use Rattle.msc_chart.specs.Rounds.{number_of, event_of, round_of, count_below}
 use Rattle.msc_chart.proofs.Drawn.{output_from, input_from, local_from, local_is, local_parts, output_not_local, input_not_local, input_parts, partner_of_input}
 use Rattle.msc_chart.proofs.Tally.{tally, tally_all, tally_few, count_later}
-use Rattle.msc_chart.proofs.RoundNumbers.{event_in, round_in, number_event}
+use Rattle.msc_chart.proofs.EventNumbers.{event_in, round_in, number_event}
 use Rattle.msc_chart.proofs.RoundParts.{count_more, count_zero}
 
 -- the value of an event among all: outputs by their messages, then inputs, then local events by their actions

@@ -28,7 +28,7 @@ pub mod Rows
 pub mod EnforcedRows
 pub mod Lines
 pub mod QueueLemmas
-pub mod RoundNumbers
+pub mod EventNumbers
 pub mod RoundParts
 pub mod RoundEvents
 pub mod RoundOrder
@@ -41,3 +41,4 @@ pub mod RoundSheets
 pub mod RoundRaces
 pub mod RoundLawProofs
 pub mod RoundEventLaws
+pub mod RoundRows

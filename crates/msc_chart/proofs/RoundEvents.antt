@@ -8,7 +8,7 @@ use Rattle.msc_chart.specs.declared.event.ChartEvent.{ChartEvent}
 use Rattle.msc_chart.specs.Charts.{at, no_event, line, segment, kind, partner, message, action, sends, takes, acts, controls, is_output, is_input, is_local, is_controlled, IsMatched, IsInTextOrder, AreOnLines}
 use Rattle.msc_chart.specs.Rounds.{first_of, past_of, count_of, segments_of, number_of, offset_of, event_of, round_of, segment_in, subject_in, repeated_event, repeated_events}
 use Rattle.msc_chart.proofs.Drawn.{output_is, input_is, local_is, controlled_is, local_parts}
-use Rattle.msc_chart.proofs.RoundNumbers.{first_le, past_gt, past_le, on_line_of, first_same, past_same, count_same, event_in, round_in, event_on, half_in, some_count, some_rounds, number_in, event_number, round_number, number_event}
+use Rattle.msc_chart.proofs.EventNumbers.{first_le, past_gt, past_le, on_line_of, first_same, past_same, count_same, event_in, round_in, event_on, half_in, some_count, some_rounds, number_in, event_number, round_number, number_event}
 
 module _ (n m : ℕ) (events : List ChartEvent) where
   -- n rounds have n times as many events

@@ -17,7 +17,7 @@ use Rattle.msc_chart.proofs.ListLemmas.{by_test}
 use Rattle.msc_chart.proofs.Drawn.{local_is, local_parts, output_parts, output_not_local, input_not_local, output_or_input, partner_of_output, partner_of_input}
 use Rattle.msc_chart.proofs.Readers.{output_in}
 use Rattle.msc_chart.proofs.Tally.{count_later}
-use Rattle.msc_chart.proofs.RoundNumbers.{event_in, round_in, number_in, event_number, round_number, number_event}
+use Rattle.msc_chart.proofs.EventNumbers.{event_in, round_in, number_in, event_number, round_number, number_event}
 use Rattle.msc_chart.proofs.RoundEvents.{events_in, message_is, action_is, output_same, local_same, partner_in, partner_event, partner_round, rounds_matched}
 
 module _ (n : ℕ) (d : Drawing) (accepted : IsAccepted d) where

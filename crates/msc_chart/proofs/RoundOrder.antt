@@ -11,7 +11,7 @@ use Rattle.msc_chart.specs.Charts.Visual.{seen, passed, linked}
 use Rattle.msc_chart.specs.Rounds.{number_of, event_of, round_of, segment_in, repeated_events}
 use Rattle.msc_chart.proofs.ListLemmas.{by_test, clash, occurs-append, occurs-head, occurs-tail, occurs-left, occurs-right, Steps-append, step_at}
 use Rattle.msc_chart.proofs.Drawn.{before_from, before_parts, output_parts}
-use Rattle.msc_chart.proofs.RoundNumbers.{event_in, round_in, number_in, event_number, round_number, number_event}
+use Rattle.msc_chart.proofs.EventNumbers.{event_in, round_in, number_in, event_number, round_number, number_event}
 use Rattle.msc_chart.proofs.RoundEvents.{events_in, in_events, line_is, segment_is, output_same, segment_earlier, segment_within, partner_in, partner_event, partner_round}
 
 -- x and y are events of n rounds, y is in no earlier round, and where they are in one round, so much

@@ -16,7 +16,7 @@ use Rattle.msc_chart.specs.Lists.{Steps}
 use Rattle.msc_chart.specs.Rounds.{first_of, past_of, event_of, events_below, locals_below, count_below, repeated_event}
 use Rattle.msc_chart.specs.Spans.{span_at, HasSpans, IsSpanOf}
 use Rattle.msc_chart.proofs.Drawn.{local_is}
-use Rattle.msc_chart.proofs.RoundNumbers.{first_le, past_gt, past_le}
+use Rattle.msc_chart.proofs.EventNumbers.{first_le, past_gt, past_le}
 
 -- there is a span for each line
 pub span_many : (r : Rounds) → HasSpans r → length r.spans.now ≡ length r.chart.now.instances

@@ -8,7 +8,7 @@ use Rattle.msc_chart.specs.Orders.{wired, Enforced}
 use Rattle.msc_chart.specs.Rounds.{number_of, event_of, round_of, repeated}
 use Rattle.msc_chart.specs.RoundLaws.{in_round, IsIn, IsNextRace}
 use Rattle.msc_chart.proofs.Drawn.{before_parts}
-use Rattle.msc_chart.proofs.RoundNumbers.{number_in, event_number, round_number}
+use Rattle.msc_chart.proofs.EventNumbers.{number_in, event_number, round_number}
 use Rattle.msc_chart.proofs.RoundEvents.{in_events}
 use Rattle.msc_chart.proofs.Sheets.{IsAbove, sheet_onward, moved, enforced_moved, next_race_back}
 use Rattle.msc_chart.proofs.RoundSheets.{chart_sheets, rounds_sheets}

@@ -3,9 +3,9 @@
 use Rattle.std.specs.Prelude.{◌≡◌, ℕ, ◌+◌, ◌*◌, ◌<◌, ◌≤◌, ◌⊎◌, ◌↔◌, false, length, IsTrue}
 use Rattle.msc_chart.specs.declared.queue.Queues.{Queues}
 use Rattle.msc_chart.specs.Charts.{line, kind, partner, message, before, is_local}
-use Rattle.msc_chart.specs.Drawings.{Drawing, IsAccepted}
+use Rattle.msc_chart.specs.Drawings.{Drawing, IsAccepted, label_of, message_at}
 use Rattle.msc_chart.specs.Orders.{WiredChart, wired, Enforced, IsRace}
-use Rattle.msc_chart.specs.Rounds.{number_of, event_of, round_of, repeated, twice}
+use Rattle.msc_chart.specs.Rounds.{number_of, event_of, round_of, message_in, repeated, twice}
 
 -- event e in round r of n rounds
 abbrev pub in_round : ℕ → Drawing → ℕ → ℕ → ℕ
@@ -50,6 +50,18 @@ abbrev pub MessagesAreOfOneRound : Type 0
 MessagesAreOfOneRound =
     (n : ℕ) (d : Drawing) (e r : ℕ) → IsAccepted d → IsIn n d e r → is_local d.events e ≡ false
     → message (repeated n d).events (in_round n d e r) ≡ r * length d.messages + message d.events e
+
+-- an action has its text in each round
+abbrev pub TextsStayAsTheyAre : Type 0
+TextsStayAsTheyAre =
+    (n : ℕ) (d : Drawing) (e r : ℕ) → IsAccepted d → IsIn n d e r → IsTrue (is_local d.events e)
+    → label_of (repeated n d) (in_round n d e r) ≡ label_of d e
+
+-- a message has its name and its message instance name in each round, and its output is its output there
+abbrev pub NamesStayAsTheyAre : Type 0
+NamesStayAsTheyAre =
+    (n : ℕ) (d : Drawing) (m r : ℕ) → IsAccepted d → m < length d.messages → r < n
+    → message_at (repeated n d) (r * length d.messages + m) ≡ message_in n d.events (message_at d m) r
 
 -- no event of a later round is enforced before one of an earlier
 abbrev pub NoWayBack : Type 0

@@ -23,7 +23,7 @@ mod linear;
 mod message;
 mod numbering;
 mod queue;
-pub mod round_laws;
+mod round_numbers;
 mod rounds;
 mod wiring;
 
@@ -31,6 +31,7 @@ pub use chart::Chart;
 pub use event::{Event, EventKind};
 pub use fault::{ChartFault, TwiceFault};
 pub use queue::Queues;
+pub use round_numbers::RoundNumbers;
 pub use wiring::Wiring;
 
 /// The greatest number of instances of a chart.

@@ -64,7 +64,7 @@ impl Rounds<'_> {
     }
 
     /// The number of event `e` in this round, 0 or 1.
-    fn number(&self, e: Event, round: u32) -> Event
+    pub fn number(&self, e: Event, round: u32) -> Event
         requires spans { HasSpans self.now }
         requires known { e < length self.now.chart.now.events }
         requires round { round < 2 }
@@ -77,7 +77,7 @@ impl Rounds<'_> {
     }
 
     /// The event of the chart that event `k` of two rounds is, and its round, 0 or 1.
-    fn place(&self, k: Event) -> (Event, u32)
+    pub fn place(&self, k: Event) -> (Event, u32)
         requires spans { HasSpans self.now }
         requires known { k < 2 * length self.now.chart.now.events }
         ensures event { result.0 ≡ event_of 2 self.now.chart.now.events k }

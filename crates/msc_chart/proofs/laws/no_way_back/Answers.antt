@@ -1,5 +1,5 @@
 use Rattle.msc_chart.proofs.RoundLawProofs.{no_way_back}
-use Rattle.msc_chart.proofs.round_laws.no_way_back.Goals as goal
+use Rattle.msc_chart.proofs.laws.no_way_back.Goals as goal
 
 pub returns : goal.returns
 returns c = no_way_back

@@ -1,5 +1,5 @@
 use Rattle.msc_chart.proofs.RoundLawProofs.{order_within_a_round, order_of_some_rounds}
-use Rattle.msc_chart.proofs.round_laws.order_within_a_round.Goals as goal
+use Rattle.msc_chart.proofs.laws.order_within_a_round.Goals as goal
 
 pub returns : goal.returns
 returns c = record { within = order_within_a_round; some = order_of_some_rounds }
