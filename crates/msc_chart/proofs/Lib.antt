@@ -31,6 +31,7 @@ pub mod QueueLemmas
 pub mod EventNumbers
 pub mod RoundParts
 pub mod RoundEvents
+pub mod RoundPartners
 pub mod RoundOrder
 pub mod Tally
 pub mod EventCounts

@@ -18,7 +18,8 @@ use Rattle.msc_chart.proofs.Drawn.{local_is, local_parts, output_parts, output_n
 use Rattle.msc_chart.proofs.Readers.{output_in}
 use Rattle.msc_chart.proofs.Tally.{count_later}
 use Rattle.msc_chart.proofs.EventNumbers.{event_in, round_in, number_in, event_number, round_number, number_event}
-use Rattle.msc_chart.proofs.RoundEvents.{events_in, message_is, action_is, output_same, local_same, partner_in, partner_event, partner_round, rounds_matched}
+use Rattle.msc_chart.proofs.RoundEvents.{events_in, message_is, action_is, output_same, local_same}
+use Rattle.msc_chart.proofs.RoundPartners.{partner_in, partner_event, partner_round, rounds_matched}
 
 module _ (n : ℕ) (d : Drawing) (accepted : IsAccepted d) where
   -- the events of n rounds

@@ -12,7 +12,8 @@ use Rattle.msc_chart.specs.Rounds.{number_of, event_of, round_of, segment_in, re
 use Rattle.msc_chart.proofs.ListLemmas.{by_test, clash, occurs-append, occurs-head, occurs-tail, occurs-left, occurs-right, Steps-append, step_at}
 use Rattle.msc_chart.proofs.Drawn.{before_from, before_parts, output_parts}
 use Rattle.msc_chart.proofs.EventNumbers.{event_in, round_in, number_in, event_number, round_number, number_event}
-use Rattle.msc_chart.proofs.RoundEvents.{events_in, in_events, line_is, segment_is, output_same, segment_earlier, segment_within, partner_in, partner_event, partner_round}
+use Rattle.msc_chart.proofs.RoundEvents.{events_in, in_events, line_is, segment_is, output_same, segment_earlier, segment_within}
+use Rattle.msc_chart.proofs.RoundPartners.{partner_in, partner_event, partner_round}
 
 -- x and y are events of n rounds, y is in no earlier round, and where they are in one round, so much
 -- holds of their events

@@ -1,7 +1,7 @@
 -- What the definitions say of two rounds of small charts, by computing.
 use Rattle.std.proofs.Common.{◌≡◌, [], ◌∷◌, refl}
 use Rattle.msc_chart.specs.declared.event.EventKind.TheVariants as kinds
-use Rattle.msc_chart.specs.Events.{events_of, acts_of, instances_of}
+use Rattle.msc_chart.specs.Events.{events_of, acts_of}
 use Rattle.msc_chart.specs.Charts.{line, segment, kind, partner, message, action, before}
 use Rattle.msc_chart.specs.Drawings.{chart_events, chart_of, label_of}
 use Rattle.msc_chart.specs.Lists.{pairs_of, pairs_to}

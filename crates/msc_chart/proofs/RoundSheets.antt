@@ -8,7 +8,8 @@ use Rattle.msc_chart.specs.Orders.{wired, queue, queue_number, sender_at, receiv
 use Rattle.msc_chart.specs.Rounds.{number_of, event_of, round_of, segment_in, repeated}
 use Rattle.msc_chart.proofs.Drawn.{before_from, before_parts, output_parts, output_not_local}
 use Rattle.msc_chart.proofs.EventNumbers.{event_in, round_in, number_in, event_number, round_number, number_event}
-use Rattle.msc_chart.proofs.RoundEvents.{events_in, in_events, line_is, segment_is, partner_is, output_same, controlled_same, segment_earlier, segment_within, partner_in, partner_event}
+use Rattle.msc_chart.proofs.RoundEvents.{events_in, in_events, line_is, segment_is, partner_is, output_same, controlled_same, segment_earlier, segment_within}
+use Rattle.msc_chart.proofs.RoundPartners.{partner_in, partner_event}
 use Rattle.msc_chart.proofs.RoundOrder.{drawn_onward}
 use Rattle.msc_chart.proofs.RoundMessages.{message_of_round}
 use Rattle.msc_chart.proofs.Sheets.{AreSheets, IsAbove, queue_in}

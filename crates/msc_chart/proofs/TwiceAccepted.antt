@@ -6,7 +6,8 @@ use Rattle.msc_chart.specs.Drawings.{Drawing, IsAccepted}
 use Rattle.msc_chart.specs.Rounds.{IsShort, twice}
 use Rattle.msc_chart.proofs.StuckLemmas.{linear_acyclic}
 use Rattle.msc_chart.proofs.EventCounts.{events_few, locals_few}
-use Rattle.msc_chart.proofs.RoundEvents.{events_many, rounds_in_text_order, rounds_on_lines, rounds_matched}
+use Rattle.msc_chart.proofs.RoundEvents.{events_many, rounds_in_text_order, rounds_on_lines}
+use Rattle.msc_chart.proofs.RoundPartners.{rounds_matched}
 use Rattle.msc_chart.proofs.RoundMessages.{messages_many, actions_many, rounds_messages, rounds_actions}
 
 -- what holds of every chart holds of its two rounds, which have a linear order
