@@ -23,7 +23,10 @@ ghost use Rattle.msc_chart.specs.Samples.{coregion, done, drawn_pairs, empty_cor
 ghost use Rattle.msc_chart.specs.Samples.{queue_numbers, relay, two_mailboxes, two_mailboxes_pairs};
 ghost use Rattle.msc_chart.specs.Samples.{two_senders};
 
-use crate::{ACTION_LIMIT, EVENT_LIMIT, INSTANCE_LIMIT, MESSAGE_LIMIT};
+use crate::{
+    ACTION_LIMIT, EVENT_LIMIT, INSTANCE_LIMIT, MESSAGE_LIMIT, ROUND_ACTION_LIMIT,
+    ROUND_MESSAGE_LIMIT,
+};
 
 /// Under each architecture a queue with a message has from 1 to 32 senders, one receiver, and at
 /// most 1,024 messages.
@@ -145,10 +148,13 @@ pub fn worked_rounds()
         ≡ (0, 1) ∷ (2, 4) ∷ (2, 5) ∷ (3, 4) ∷ (3, 5) ∷ (6, 7) ∷ [] }
 {}
 
-/// The limits of a chart: its instances, messages, actions, and so its events.
+/// The limits of a chart: its instances, messages, actions, and so its events; and those of a chart
+/// of which two rounds are a chart.
 pub fn limits_of_charts()
     ensures instances { INSTANCE_LIMIT ≡ 32 }
     ensures messages { MESSAGE_LIMIT ≡ 1024 }
     ensures actions { ACTION_LIMIT ≡ 1024 }
     ensures events { EVENT_LIMIT ≡ 3072 }
+    ensures round_messages { ROUND_MESSAGE_LIMIT ≡ 512 }
+    ensures round_actions { ROUND_ACTION_LIMIT ≡ 512 }
 {}
