@@ -39,7 +39,9 @@ pub mod RoundMessages
 pub mod TwiceAccepted
 pub mod Sheets
 pub mod RoundSheets
+pub mod VisualSheets
 pub mod RoundRaces
+pub mod VisualRounds
 pub mod RoundLawProofs
 pub mod RoundEventLaws
 pub mod RoundRows

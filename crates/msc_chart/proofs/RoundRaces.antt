@@ -54,12 +54,12 @@ module _ (queues : Queues) (d : Drawing) (accepted : IsAccepted d) where
   -- from rounds s up to s + w of n rounds to rounds t up to t + w of m rounds
   module _ (n m s t w : ℕ) (fits : t + w ≤ m) where
     -- where an event is moved to
-    moved_there : ℕ → ℕ
+    unfoldable pub moved_there : ℕ → ℕ
     moved_there = moved queues d accepted n (wired queues (repeated n d)) (event_of n d.events) (round_of n d.events) (number_of n d.events) (rounds_sheets queues n d accepted)
         m (wired queues (repeated m d)) (event_of m d.events) (round_of m d.events) (number_of m d.events) (rounds_sheets queues m d accepted) s t w fits
 
     -- event e in round s + r is moved to itself in round t + r
-    moved_is : (e r : ℕ) → IsIn n d e (s + r) → moved_there (in_round n d e (s + r)) ≡ in_round m d e (t + r)
+    pub moved_is : (e r : ℕ) → IsIn n d e (s + r) → moved_there (in_round n d e (s + r)) ≡ in_round m d e (t + r)
     unfolding moved_there moved
     moved_is e r is =
         let same : t + ((s + r) - s) ≡ t + r = omega arith in
@@ -101,7 +101,7 @@ module _ (queues : Queues) (d : Drawing) (accepted : IsAccepted d) where
         (subst (λ (y : ℕ). Enforced (wired queues d) (event_of n d.events (in_round n d e r)) y) (event_here d accepted n f r (f-in, round)) there)
 
     -- event e of the chart is moved to itself in the round
-    round_is : (e : ℕ) → in_round n d e (r + (0 - 0)) ≡ in_round n d e r
+    pub round_is : (e : ℕ) → in_round n d e (r + (0 - 0)) ≡ in_round n d e r
     round_is e = let same : r + (0 - 0) ≡ r = omega arith in ap (number_of n d.events e) same
 
     -- and what is enforced in the chart is enforced in the round

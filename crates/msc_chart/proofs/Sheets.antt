@@ -54,7 +54,7 @@ module _ (queues : Queues) (d : Drawing) (accepted : IsAccepted d) where
     sheet_other k within = accepted.matched.in_range (event_at k) (sheets.event_in k within)
 
     -- a partner is in the same round, and its event is the partner
-    sheet_partner : (k : ℕ) → k < length chart.events → (partner chart.events k < length chart.events) × (round_at (partner chart.events k) ≡ round_at k) × (event_at (partner chart.events k) ≡ partner d.events (event_at k))
+    pub sheet_partner : (k : ℕ) → k < length chart.events → (partner chart.events k < length chart.events) × (round_at (partner chart.events k) ≡ round_at k) × (event_at (partner chart.events k) ≡ partner d.events (event_at k))
     sheet_partner k within =
         let is = sheets.other k within in
         let p = sheet_other k within in
@@ -98,7 +98,7 @@ module _ (queues : Queues) (d : Drawing) (accepted : IsAccepted d) where
     moved k = number_to (event_at k) (t + (round_at k - s))
 
     -- k is an event in one of these rounds
-    record IsMoved (k : ℕ) : Type 0 where
+    pub record IsMoved (k : ℕ) : Type 0 where
       pub within : k < length chart.events
       pub from : s ≤ round_at k
       pub below : round_at k < s + w
@@ -112,13 +112,13 @@ module _ (queues : Queues) (d : Drawing) (accepted : IsAccepted d) where
         (copies.number_in (event_at k) (t + (round_at k - s)) e r, copies.event_is (event_at k) (t + (round_at k - s)) e r, copies.round_is (event_at k) (t + (round_at k - s)) e r)
 
     -- an output is moved to an output
-    moved_output : (k : ℕ) → IsMoved k → is_output chart.events k ≡ true → is_output other.events (moved k) ≡ true
+    pub moved_output : (k : ℕ) → IsMoved k → is_output chart.events k ≡ true → is_output other.events (moved k) ≡ true
     moved_output k is o =
         let there = moved_in k is in
         copies.output (moved k) there.0 ∙ ap (is_output d.events) there.1 ∙ sym (sheets.output k is.within) ∙ o
 
     -- what is drawn before another is so where both are moved
-    moved_drawn : (x y : ℕ) → IsMoved x → IsMoved y → before chart.events x y ≡ true → before other.events (moved x) (moved y) ≡ true
+    pub moved_drawn : (x y : ℕ) → IsMoved x → IsMoved y → before chart.events x y ≡ true → before other.events (moved x) (moved y) ≡ true
     moved_drawn x y p q h =
         let a = moved_in x p in
         let b = moved_in y q in
@@ -137,7 +137,7 @@ module _ (queues : Queues) (d : Drawing) (accepted : IsAccepted d) where
         )
 
     -- the partner of what an output is moved to is what its partner is moved to
-    moved_partner : (k : ℕ) → IsMoved k → partner other.events (moved k) ≡ moved (partner chart.events k)
+    pub moved_partner : (k : ℕ) → IsMoved k → partner other.events (moved k) ≡ moved (partner chart.events k)
     unfolding moved
     moved_partner k is =
         let there = moved_in k is in

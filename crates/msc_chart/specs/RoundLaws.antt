@@ -2,7 +2,7 @@
 -- gives; rounds are numbered from 0.
 use Rattle.std.specs.Prelude.{◌≡◌, ℕ, ◌+◌, ◌*◌, ◌<◌, ◌≤◌, ◌⊎◌, ◌↔◌, false, length, IsTrue}
 use Rattle.msc_chart.specs.declared.queue.Queues.{Queues}
-use Rattle.msc_chart.specs.Charts.{line, kind, partner, message, before, is_local}
+use Rattle.msc_chart.specs.Charts.{line, kind, partner, message, before, is_local, Visual}
 use Rattle.msc_chart.specs.Drawings.{Drawing, IsAccepted, label_of, message_at}
 use Rattle.msc_chart.specs.Orders.{WiredChart, wired, Enforced, IsRace}
 use Rattle.msc_chart.specs.Rounds.{number_of, event_of, round_of, message_in, repeated, twice}
@@ -82,6 +82,25 @@ OrderOfSomeRounds =
     (queues : Queues) (n m s : ℕ) (d : Drawing) (e r f q : ℕ) → IsAccepted d → s + m ≤ n → IsIn m d e r → IsIn m d f q
     → Enforced (wired queues (repeated n d)) (in_round n d e (s + r)) (in_round n d f (s + q))
     ↔ Enforced (wired queues (repeated m d)) (in_round m d e r) (in_round m d f q)
+
+-- in the visual order too nothing of a later round stands before one of an earlier
+abbrev pub NoVisualWayBack : Type 0
+NoVisualWayBack =
+    (n : ℕ) (d : Drawing) (e r f q : ℕ) → IsAccepted d → IsIn n d e r → IsIn n d f q
+    → Visual (repeated n d).events (in_round n d e r) (in_round n d f q) → r ≤ q
+
+-- it is that of the chart alone within a round
+abbrev pub VisualOrderWithinARound : Type 0
+VisualOrderWithinARound =
+    (n : ℕ) (d : Drawing) (e f r : ℕ) → IsAccepted d → IsIn n d e r → IsIn n d f r
+    → Visual (repeated n d).events (in_round n d e r) (in_round n d f r) ↔ Visual d.events e f
+
+-- and over some rounds that of as many rounds alone
+abbrev pub VisualOrderOfSomeRounds : Type 0
+VisualOrderOfSomeRounds =
+    (n m s : ℕ) (d : Drawing) (e r f q : ℕ) → IsAccepted d → s + m ≤ n → IsIn m d e r → IsIn m d f q
+    → Visual (repeated n d).events (in_round n d e (s + r)) (in_round n d f (s + q))
+    ↔ Visual (repeated m d).events (in_round m d e r) (in_round m d f q)
 
 -- no pair is a race
 abbrev pub Passes : WiredChart → Type 0

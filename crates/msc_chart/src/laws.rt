@@ -14,9 +14,10 @@ ghost use Rattle.msc_chart.specs.Laws.{QueuesAreBounded, SegmentsRise};
 ghost use Rattle.msc_chart.specs.RoundLaws.{ClosestRacesByTwo, EachEventIsInEachRound};
 ghost use Rattle.msc_chart.specs.RoundLaws.{EachEventIsInOneRound, EventsStayAsTheyAre};
 ghost use Rattle.msc_chart.specs.RoundLaws.{LinesAreDoneRoundByRound, MessagesAreOfOneRound};
-ghost use Rattle.msc_chart.specs.RoundLaws.{NamesStayAsTheyAre, NextOverTwoRounds, NoWayBack};
-ghost use Rattle.msc_chart.specs.RoundLaws.{OrderOfSomeRounds, OrderWithinARound, RoundsByTwo};
-ghost use Rattle.msc_chart.specs.RoundLaws.{TextsStayAsTheyAre};
+ghost use Rattle.msc_chart.specs.RoundLaws.{NamesStayAsTheyAre, NextOverTwoRounds, NoVisualWayBack};
+ghost use Rattle.msc_chart.specs.RoundLaws.{NoWayBack, OrderOfSomeRounds, OrderWithinARound};
+ghost use Rattle.msc_chart.specs.RoundLaws.{RoundsByTwo, TextsStayAsTheyAre};
+ghost use Rattle.msc_chart.specs.RoundLaws.{VisualOrderOfSomeRounds, VisualOrderWithinARound};
 ghost use Rattle.msc_chart.specs.Rounds.{twice};
 ghost use Rattle.msc_chart.specs.Samples.{AreEnforcedPairs, actions, actions_pairs, below_coregion};
 ghost use Rattle.msc_chart.specs.Samples.{coregion, done, drawn_pairs, empty_coregion, event, go};
@@ -92,15 +93,20 @@ pub fn lines_are_done_round_by_round()
     ensures names { NamesStayAsTheyAre }
 {}
 
-/// No event of a later round is enforced before one of an earlier.
+/// No event of a later round is enforced before one of an earlier, nor stands before it in the
+/// visual order.
 pub fn no_way_back()
-    ensures { NoWayBack }
+    ensures enforced { NoWayBack }
+    ensures visual { NoVisualWayBack }
 {}
 
-/// Order within a round is that of the chart alone, and order over some rounds that of as many.
+/// Order within a round is that of the chart alone, and order over some rounds that of as many: the
+/// enforced order, and the visual.
 pub fn order_within_a_round()
     ensures within { OrderWithinARound }
     ensures some { OrderOfSomeRounds }
+    ensures visual_within { VisualOrderWithinARound }
+    ensures visual_some { VisualOrderOfSomeRounds }
 {}
 
 /// Closest races are within a round, or between a round and the next, and two rounds tell them all:
