@@ -48,7 +48,8 @@ def imports(wanted):
         check = ["check", "--from", "any", "--queues"]
         yield [*check, "pair", "-"]
         yield [*check, "mailbox", "--closest", "--why", "--show", "1", "--rounds", "1", "-"]
-        yield [*check, "single", "--format", "lines", "--allow", "early", "--limit", "2", "-"]
+        # (the places of all races that are listed may take more than the limits are about)
+        yield [*check, "single", "--closest", "--format", "lines", "--limit", "2", "-"]
 
 
 def commands_on(chart, wanted):
