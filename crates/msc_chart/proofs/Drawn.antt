@@ -46,6 +46,11 @@ module _ (events : List ChartEvent) where
   unfolding is_input
   input_parts r h = let p = and_parts _ _ h in (ltb-true _ _ p.0, p.1)
 
+  -- an event of the chart is an input where its kind takes
+  pub input_is : (e : ℕ) → e < length events → takes (kind events e) ≡ is_input events e
+  unfolding is_input
+  input_is e h = rw (lt-ltb e (length events) h) refl
+
   -- no event is both
   pub not_both : (e : ℕ) → is_output events e ≡ true → is_input events e ≡ true → ⊥
   not_both e o i = by (kind events e) (output_parts e o).1 (input_parts e i).1
@@ -57,7 +62,7 @@ module _ (events : List ChartEvent) where
       by Local h k = true≢false (sym h)
 
   -- an event of the chart whose kind acts is a local event
-  local_from : (e : ℕ) → e < length events → acts (kind events e) ≡ true → is_local events e ≡ true
+  pub local_from : (e : ℕ) → e < length events → acts (kind events e) ≡ true → is_local events e ≡ true
   unfolding is_local
   local_from e p h = and_from _ _ (lt-ltb _ _ p) h
 

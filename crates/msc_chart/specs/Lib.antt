@@ -10,6 +10,8 @@ pub mod Orders
 pub mod Wirings
 pub mod Runs
 pub mod Chosen
+pub mod Rounds
+pub mod RoundLaws
 pub mod Faults
 pub mod Laws
 pub mod Samples
@@ -21,3 +23,4 @@ pub mod Numbering
 pub mod Tables
 pub mod Sortings
 pub mod Reach
+pub mod Spans

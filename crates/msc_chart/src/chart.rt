@@ -31,6 +31,8 @@ use msc_parser::{Draft, Label, Name};
 use std::alloc::Global;
 use std::marker::Model;
 
+mod twice;
+
 /// The chart of a draft.
 #[derive(Drop)]
 pub struct Chart {

@@ -181,7 +181,7 @@ pub(crate) fn names(alloc: Global, draft: &Draft) -> Result<(Name, Listed<Name>)
 }
 
 /// The message number of an output, which is a name of its own.
-fn owned_number(alloc: Global, number: Option<&[u8]>) -> Result<Option<Name>, AllocError>
+pub(crate) fn owned_number(alloc: Global, number: Option<&[u8]>) -> Result<Option<Name>, AllocError>
     ensures { IfOk result (λ r. r ≡ option_copied number.entry) }
 {
     match number {

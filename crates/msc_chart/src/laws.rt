@@ -11,12 +11,23 @@ ghost use Rattle.msc_chart.specs.Laws.{EndsShareQueues, EventsHaveQueues, Inputs
 ghost use Rattle.msc_chart.specs.Laws.{LinesAreRanges, LinesAreWithin, PairsHaveQueuesOfTheirOwn};
 ghost use Rattle.msc_chart.specs.Laws.{QueueBoundsAreSmall, QueueNumbersAreBounded};
 ghost use Rattle.msc_chart.specs.Laws.{QueuesAreBounded, SegmentsRise};
+ghost use Rattle.msc_chart.specs.RoundLaws.{ClosestRacesByTwo, EachEventIsInEachRound};
+ghost use Rattle.msc_chart.specs.RoundLaws.{EachEventIsInOneRound, EventsStayAsTheyAre};
+ghost use Rattle.msc_chart.specs.RoundLaws.{LinesAreDoneRoundByRound, MessagesAreOfOneRound};
+ghost use Rattle.msc_chart.specs.RoundLaws.{NamesStayAsTheyAre, NextOverTwoRounds, NoVisualWayBack};
+ghost use Rattle.msc_chart.specs.RoundLaws.{NoWayBack, OrderOfSomeRounds, OrderWithinARound};
+ghost use Rattle.msc_chart.specs.RoundLaws.{RoundsByTwo, TextsStayAsTheyAre};
+ghost use Rattle.msc_chart.specs.RoundLaws.{VisualOrderOfSomeRounds, VisualOrderWithinARound};
+ghost use Rattle.msc_chart.specs.Rounds.{twice};
 ghost use Rattle.msc_chart.specs.Samples.{AreEnforcedPairs, actions, actions_pairs, below_coregion};
 ghost use Rattle.msc_chart.specs.Samples.{coregion, done, drawn_pairs, empty_coregion, event, go};
 ghost use Rattle.msc_chart.specs.Samples.{queue_numbers, relay, two_mailboxes, two_mailboxes_pairs};
 ghost use Rattle.msc_chart.specs.Samples.{two_senders};
 
-use crate::{ACTION_LIMIT, EVENT_LIMIT, INSTANCE_LIMIT, MESSAGE_LIMIT};
+use crate::{
+    ACTION_LIMIT, EVENT_LIMIT, INSTANCE_LIMIT, MESSAGE_LIMIT, ROUND_ACTION_LIMIT,
+    ROUND_MESSAGE_LIMIT,
+};
 
 /// Under each architecture a queue with a message has from 1 to 32 senders, one receiver, and at
 /// most 1,024 messages.
@@ -65,6 +76,48 @@ pub fn items_are_drawn_in_order()
     ensures each { EachHasAnEvent }
 {}
 
+/// Each event of several rounds is one event of the chart in one round, and the other way.
+pub fn rounds_are_numbered()
+    ensures one { EachEventIsInOneRound }
+    ensures each { EachEventIsInEachRound }
+{}
+
+/// Lines are done round by round, and in a round each event is what it is in the chart: it is on
+/// its line, of its kind, and its partner is its partner there. The messages of different rounds
+/// are different.
+pub fn lines_are_done_round_by_round()
+    ensures drawn { LinesAreDoneRoundByRound }
+    ensures events { EventsStayAsTheyAre }
+    ensures messages { MessagesAreOfOneRound }
+    ensures texts { TextsStayAsTheyAre }
+    ensures names { NamesStayAsTheyAre }
+{}
+
+/// No event of a later round is enforced before one of an earlier, nor stands before it in the
+/// visual order.
+pub fn no_way_back()
+    ensures enforced { NoWayBack }
+    ensures visual { NoVisualWayBack }
+{}
+
+/// Order within a round is that of the chart alone, and order over some rounds that of as many: the
+/// enforced order, and the visual.
+pub fn order_within_a_round()
+    ensures within { OrderWithinARound }
+    ensures some { OrderOfSomeRounds }
+    ensures visual_within { VisualOrderWithinARound }
+    ensures visual_some { VisualOrderOfSomeRounds }
+{}
+
+/// Closest races are within a round, or between a round and the next, and two rounds tell them all:
+/// so several rounds pass, however many, exactly where two do. Between two rounds a closest race is
+/// from the last segment of a line to its first.
+pub fn rounds_by_two()
+    ensures passes { RoundsByTwo }
+    ensures closest { ClosestRacesByTwo }
+    ensures next { NextOverTwoRounds }
+{}
+
 /// What the definitions say of small charts: the drawn order, the segments around an empty
 /// coregion, the actions, the queue numbers, and two enforced orders pair by pair.
 pub fn worked_charts()
@@ -89,10 +142,25 @@ pub fn worked_charts()
     ensures controlled { AreEnforcedPairs (wired Mailbox (chart_of actions)) actions_pairs }
 {}
 
-/// The limits of a chart: its instances, messages, actions, and so its events.
+/// What the definitions say of two rounds of small charts: the events, the texts of the actions, and
+/// the drawn order.
+pub fn worked_rounds()
+    ensures events { (twice (chart_of actions)).events
+        ≡ event 0 0 Local 0 0 ∷ event 0 1 Output 4 0 ∷ event 0 2 Local 2 1 ∷ event 0 3 Output 6 1
+        ∷ event 1 0 Input 1 0 ∷ event 1 1 Local 5 2 ∷ event 1 2 Input 3 1 ∷ event 1 3 Local 7 3
+        ∷ [] }
+    ensures texts { (twice (chart_of actions)).actions ≡ go ∷ go ∷ done ∷ done ∷ [] }
+    ensures drawn { drawn_pairs (twice (chart_of coregion))
+        ≡ (0, 1) ∷ (2, 4) ∷ (2, 5) ∷ (3, 4) ∷ (3, 5) ∷ (6, 7) ∷ [] }
+{}
+
+/// The limits of a chart: its instances, messages, actions, and so its events; and those of a chart
+/// of which two rounds are a chart.
 pub fn limits_of_charts()
     ensures instances { INSTANCE_LIMIT ≡ 32 }
     ensures messages { MESSAGE_LIMIT ≡ 1024 }
     ensures actions { ACTION_LIMIT ≡ 1024 }
     ensures events { EVENT_LIMIT ≡ 3072 }
+    ensures round_messages { ROUND_MESSAGE_LIMIT ≡ 512 }
+    ensures round_actions { ROUND_ACTION_LIMIT ≡ 512 }
 {}

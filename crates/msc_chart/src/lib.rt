@@ -23,12 +23,15 @@ mod linear;
 mod message;
 mod numbering;
 mod queue;
+mod round_numbers;
+mod rounds;
 mod wiring;
 
 pub use chart::Chart;
 pub use event::{Event, EventKind};
-pub use fault::ChartFault;
+pub use fault::{ChartFault, TwiceFault};
 pub use queue::Queues;
+pub use round_numbers::RoundNumbers;
 pub use wiring::Wiring;
 
 /// The greatest number of instances of a chart.
@@ -42,3 +45,9 @@ pub const ACTION_LIMIT: u32 = 1_024;
 
 /// The greatest number of events of a chart: two for each message, and one for each action.
 pub const EVENT_LIMIT: u32 = 2 * MESSAGE_LIMIT + ACTION_LIMIT;
+
+/// The greatest number of messages of a chart of which two rounds are a chart.
+pub const ROUND_MESSAGE_LIMIT: u32 = MESSAGE_LIMIT / 2;
+
+/// The greatest number of actions of a chart of which two rounds are a chart.
+pub const ROUND_ACTION_LIMIT: u32 = ACTION_LIMIT / 2;

@@ -315,6 +315,7 @@ impl<'t, 'a, R: Renderer> Teller<'t, 'a, R> {
     /// Puts these races of an event behind a page, those of the first that are told, behind so
     /// many. Full pages go out. `line` is what was made of the event's chosen run, which serves all
     /// of them, where it shows one.
+    #[inline(always)]
     fn put_races<W: Write>(
         &self,
         writer: &mut W,
@@ -383,6 +384,8 @@ impl<'t, 'a, R: Renderer> Teller<'t, 'a, R> {
 
     /// Puts these races of an event behind a page, those of the first that are told, behind so
     /// many. Which run shows them is asked once, and not for each.
+    // Called for each event of a chart, from two places: a call would cost as much as a race.
+    #[inline(always)]
     pub fn put_event<W: Write>(
         &self,
         alloc: Global,

@@ -12,3 +12,4 @@ pub mod PairLemmas
 pub mod LacksIn
 pub mod CountingLaws
 pub mod Named
+pub mod RoundsClosest

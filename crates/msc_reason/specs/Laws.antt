@@ -1,10 +1,12 @@
 -- Laws of closest races and of what races lack, of accepted charts under each architecture.
-use Rattle.std.specs.Prelude.{◌≡◌, ℕ, ◌⊎◌, ◌↔◌, IsTrue}
+use Rattle.std.specs.Prelude.{◌≡◌, ℕ, ◌+◌, ◌⊎◌, ◌↔◌, IsTrue}
 use Rattle.msc_chart.specs.declared.queue.Queues.{Queues}
 use Rattle.msc_chart.specs.declared.queue.Queues.TheVariants.{Single}
 use Rattle.msc_chart.specs.Charts.{before, partner, is_input}
 use Rattle.msc_chart.specs.Drawings.{Drawing, IsAccepted}
 use Rattle.msc_chart.specs.Orders.{wired, Enforced, IsRace}
+use Rattle.msc_chart.specs.RoundLaws.{in_round, IsIn}
+use Rattle.msc_chart.specs.Rounds.{repeated, twice}
 use Rattle.msc_race.specs.Laws.{HasNoRace}
 use Rattle.msc_reason.specs.declared.lack.RaceKind.{RaceKind}
 use Rattle.msc_reason.specs.declared.lack.RaceKind.TheVariants.{Early, Overtaken}
@@ -24,6 +26,15 @@ abbrev pub RacesAreToldByTheClosest : Type 0
 RacesAreToldByTheClosest =
     (queues : Queues) (d : Drawing) → IsAccepted d
     → HasNoRace (wired queues d) ↔ HasNoClosestRace (wired queues d)
+
+-- The closest races of n rounds are those of the chart within a round, and between a round and the next
+-- those between the first and the second of two rounds. Rounds are numbered from 0.
+abbrev pub ClosestRacesOfRounds : Type 0
+ClosestRacesOfRounds =
+    (queues : Queues) (n : ℕ) (d : Drawing) (e r f q : ℕ) → IsAccepted d → IsIn n d e r → IsIn n d f q
+    → IsClosest (wired queues (repeated n d)) (in_round n d e r) (in_round n d f q)
+    ↔ (((q ≡ r) × IsClosest (wired queues d) e f)
+    ⊎ ((q ≡ r + 1) × IsClosest (wired queues (twice d)) (in_round 2 d e 0) (in_round 2 d f 1)))
 
 -- the second event of a race is an input
 abbrev pub RacesEndInInputs : Type 0

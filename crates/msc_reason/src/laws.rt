@@ -8,13 +8,13 @@ ghost use Rattle.msc_reason.specs.CountingLaws.{EveryRaceThatCountsSpansAClosest
 ghost use Rattle.msc_reason.specs.CountingLaws.{NoneIsClosestWhereNoneCounts, TheOrderTellsLacks};
 ghost use Rattle.msc_reason.specs.CountingLaws.{WithoutKindsTheClosestAreTheClosest};
 ghost use Rattle.msc_reason.specs.Laws.{ARaceLacksOnePair, AWhyExists, AWhyIsEnough};
-ghost use Rattle.msc_reason.specs.Laws.{EachRaceHasOneKind};
+ghost use Rattle.msc_reason.specs.Laws.{ClosestRacesOfRounds, EachRaceHasOneKind};
 ghost use Rattle.msc_reason.specs.Laws.{EveryRaceSpansAClosestRace, RacesAreToldByTheClosest};
 ghost use Rattle.msc_reason.specs.Laws.{RacesEndInInputs, SingleRacesAreOfTwoKinds};
 ghost use Rattle.msc_reason.specs.Laws.{WhatIsOvertakenIsAlwaysReversed};
 ghost use Rattle.msc_reason.specs.Named.{AReasonNamesEvents};
 
-use msc_chart::laws::ends_share_queues;
+use msc_chart::laws::{ends_share_queues, rounds_by_two};
 
 /// Within each race stands a closest race; so a chart has no race exactly where it has no closest
 /// race.
@@ -23,6 +23,14 @@ pub fn every_race_spans_a_closest_race()
     ensures none { RacesAreToldByTheClosest }
 {
     ends_share_queues();
+}
+
+/// The closest races of several rounds are those of the chart within a round, and between a round
+/// and the next those that two rounds have.
+pub fn closest_races_of_rounds()
+    ensures { ClosestRacesOfRounds }
+{
+    rounds_by_two();
 }
 
 /// The second event of a race is an input, and what is not enforced before its output is one event.
