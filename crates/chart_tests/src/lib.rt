@@ -37,6 +37,8 @@ mod reasons;
 #[cfg(test)]
 mod rings_of_tables;
 #[cfg(test)]
+mod round_sticks;
+#[cfg(test)]
 mod rounds;
 #[cfg(test)]
 mod runs;

@@ -5,4 +5,6 @@ pub mod Listing
 pub mod Ahead
 pub mod Begun
 pub mod Left
+pub mod Between
+pub mod Repeating
 pub mod Putting

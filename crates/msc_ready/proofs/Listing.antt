@@ -15,13 +15,18 @@ use Rattle.msc_ready.specs.Views.{sticks_from, AreSticks, AreSticksFrom, sticks_
 use Rattle.msc_ready.proofs.Holding.{awaited_parts, lined_parts, stick_lined}
 use Rattle.msc_ready.proofs.Shared.{clash, before_parts}
 
+-- a list of pairs has no length exactly where nothing stands in it
+pub no_pairs : (xs : List (ℕ × ℕ)) (n : ℕ) → n ≡ length xs → (n ≡ 0) ↔ ((e f : ℕ) → Occurs xs (e, f) → ⊥)
+no_pairs [] n count = (λ none e f there. cc, λ none. count)
+no_pairs (x ∷ xs) n count = (λ none e f there. omega (arith, none, count), λ none. absurd (none x.0 x.1 (0, refl)))
+
 module _ (r : ReadyChart) where
   -- the test for sticks
   abbrev pub test : ℕ → ℕ → Bool
   test = is_stick (wiring_of r) (ready_in r) r.order
 
   -- what passes is drawn in the order, and the first is an input
-  test_drawn : (e f : ℕ) → test e f ≡ true → (before r.chart.events e f ≡ true) × (is_input r.chart.events e ≡ true)
+  pub test_drawn : (e f : ℕ) → test e f ≡ true → (before r.chart.events e f ≡ true) × (is_input r.chart.events e ≡ true)
   test_drawn e f h =
       let parts = lined_parts (wiring_of r) (ready_in r) e f (stick_lined (wiring_of r) (ready_in r) r.order e f h) in
       ((awaited_parts (wiring_of r) (ready_in r) e f parts.0).0, parts.1)
@@ -94,17 +99,7 @@ module _ (r : ReadyChart) where
   -- so none is listed where there is none
   pub none_listed : ((e f : ℕ) → IsTrue (test e f) ↔ IsStick (wiring_of r) (ready_in r) e f) → (n : ℕ) → n ≡ length (sticks_of r)
       → (n ≡ 0) ↔ HasNoStick (wiring_of r) (ready_in r)
-  none_listed told n count = (
-    λ none e f s. nothing (sticks_of r) (sym count ∙ none) (e, f) ((are_sticks told e f).0 s),
-    λ none. count ∙ empty (sticks_of r) (λ e f there. none e f ((are_sticks told e f).1 there)),
-  )
-    where
-      -- nothing stands in a list without items
-      nothing : (xs : List (ℕ × ℕ)) → length xs ≡ 0 → (p : ℕ × ℕ) → Occurs xs p → ⊥
-      nothing [] size p there = cc
-      nothing (x ∷ xs) size p there = omega (arith, size)
-
-      -- a list in which nothing stands has none
-      empty : (xs : List (ℕ × ℕ)) → ((e f : ℕ) → Occurs xs (e, f) → ⊥) → length xs ≡ 0
-      empty [] none = refl
-      empty (x ∷ xs) none = absurd (none x.0 x.1 (0, refl))
+  none_listed told n count =
+      let are = are_sticks told in
+      let all = no_pairs (sticks_of r) n count in
+      (λ none e f s. all.0 none e f ((are e f).0 s), λ none. all.1 (λ e f there. none e f ((are e f).1 there)))

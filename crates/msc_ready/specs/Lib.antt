@@ -6,6 +6,8 @@ pub mod Running
 pub mod Laws
 pub mod Held
 pub mod Views
+pub mod Rounds
+pub mod RoundLaws
 -- what the code keeps
 pub mod Plain
 pub mod Rows

@@ -10,6 +10,10 @@ ghost use Rattle.msc_ready.specs.Laws.{MoreReadyEndNoSticking, OutputsAreInVisua
 ghost use Rattle.msc_ready.specs.Laws.{EachFirstStickHasARun, NoneReadyIsEnforced};
 ghost use Rattle.msc_ready.specs.Laws.{RacesLeftAreReversed, StickRunsAreUnique};
 ghost use Rattle.msc_ready.specs.Laws.{RacesLeftAreTold};
+ghost use Rattle.msc_ready.specs.RoundLaws.{ManyRoundsStickAsTwo, NoReadyWayBack};
+ghost use Rattle.msc_ready.specs.RoundLaws.{ReadyOrderOfSomeRounds, ReadyOrderWithinARound};
+ghost use Rattle.msc_ready.specs.RoundLaws.{RoundsFinishByOne, RoundsGoOnByTwo, RoundsRingByOne};
+ghost use Rattle.msc_ready.specs.RoundLaws.{RoundsStickByTwo, SticksOfTwoRounds, SticksWithinARound};
 
 use msc_chart::laws::{ends_share_queues, inputs_share_lines};
 
@@ -136,3 +140,34 @@ pub fn races_left_are_told()
 {
     ends_share_queues();
 }
+
+/// No event of a later round stands before one of an earlier in the ready order.
+pub fn no_ready_way_back()
+    ensures { NoReadyWayBack }
+{}
+
+/// Within a round the ready order is that of the chart alone, and over some rounds that of as many
+/// rounds alone.
+pub fn ready_order_within_a_round()
+    ensures within { ReadyOrderWithinARound }
+    ensures some { ReadyOrderOfSomeRounds }
+{}
+
+/// Within a round the sticks are those of the chart alone. Two rounds never stick exactly where one
+/// does not and no stick leads from the first to the second; and several rounds, however many,
+/// exactly where two do not. So each ready run of several rounds goes on to a whole one exactly
+/// where each of two does.
+pub fn rounds_stick_by_two()
+    ensures within { SticksWithinARound }
+    ensures two { SticksOfTwoRounds }
+    ensures all { RoundsStickByTwo }
+    ensures many { ManyRoundsStickAsTwo }
+    ensures runs { RoundsGoOnByTwo }
+{}
+
+/// Several rounds, however many, may finish exactly where one may: what has to come before what has
+/// a ring in them exactly where it has one in one round.
+pub fn rounds_finish_by_one()
+    ensures rings { RoundsRingByOne }
+    ensures finish { RoundsFinishByOne }
+{}

@@ -10,10 +10,12 @@ mod finishing;
 pub mod laws;
 mod leaving;
 mod ready;
+mod rounds;
 mod rows;
 mod running;
 mod sticking;
 mod sticks;
 
 pub use ready::Ready;
+pub use rounds::RoundSticks;
 pub use sticks::Sticks;

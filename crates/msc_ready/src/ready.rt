@@ -166,7 +166,6 @@ impl<'a> Ready<'a> {
     {
         self.kept();
         ends_share_queues();
-        inputs_share_lines();
         if self.lines.is_empty() {
             return self.precedes(x, y);
         }

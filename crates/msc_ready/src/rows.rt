@@ -59,7 +59,6 @@ impl Ready<'_> {
         ensures { IsTrue result ↔ AreMates (wiring_of self.now) (ready_of lines.now) r u }
     {
         self.kept();
-        ends_share_queues();
         if !self.is_input(r) {
             return false;
         }
