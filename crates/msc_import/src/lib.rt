@@ -13,8 +13,6 @@ mod drafting;
 mod drawing;
 mod fault;
 mod fence;
-#[cfg(test)]
-mod gallery;
 mod importing;
 mod key;
 pub mod laws;
@@ -31,8 +29,6 @@ mod saying;
 mod seeking;
 mod short_name;
 mod statement;
-#[cfg(test)]
-mod tests;
 mod walking;
 mod way;
 mod whole;

@@ -2,12 +2,12 @@
 //! row with its line, and line ends.
 
 use crate::gallery::{self, Scenario};
-use crate::{
+use listed::Listed;
+use msc_import::{
     Closer, Cross, Expectation, Head, ImportFault, Imported, Importing, ImportingAll, Language,
     Manner, Own, Par, Refused, Scenarios, all_choices, diagram_of, draw, fenced, import,
     import_all, places, scenarios,
 };
-use listed::Listed;
 use msc_place::Position;
 use std::alloc::AllocGlobal;
 

@@ -1,0 +1,7 @@
+//! Tests of imports: of diagrams, of their scenarios, and of what they lack.
+#![tactic(auto)]
+
+#[cfg(test)]
+mod gallery;
+#[cfg(test)]
+mod imports;

@@ -1,0 +1,266 @@
+-- What is read of a text keeps few lines, arrows between them, and a number of its own for each arrow.
+use Rattle.std.proofs.Common.{◌≡◌, ℕ, zero, suc, ◌+◌, ◌<◌, ◌≤◌, Bool, true, false, cond, nat_lt, length, take, drop, sym, arith, inl, inr, List, [], ◌∷◌, ◌++◌, Option, None, Some, Result, Ok, refl, ap, subst, ◌∙◌}
+use Rattle.std.specs.List.{prefix_len, slice_split}
+use Rattle.std.specs.Str.{bytes_eq}
+use Rattle.std.proofs.lemmas.Bool.{ltb-true}
+use Rattle.std.proofs.lemmas.List.{length_push}
+use Rattle.std.proofs.lemmas.List.Splits.{length-slice_split}
+use Rattle.std.proofs.lemmas.List.Sums.{count_by-le-length}
+use Rattle.std.proofs.lemmas.Slice.Eq.{bytes_eq-Decides}
+use Rattle.msc_chart.specs.Lists.{StandsAt, Occurs}
+use Rattle.msc_chart.proofs.DraftEvents.{joined}
+use Rattle.msc_chart.proofs.ListLemmas.{by_test}
+use Rattle.msc_chart.proofs.Places.{any-place}
+use Rattle.msc_import.specs.declared.TheConstants.{LINE_LIMIT}
+use Rattle.msc_import.specs.declared.fault.ImportFault.{ImportFault}
+use Rattle.msc_import.specs.declared.fault.ImportFault.TheVariants.{Outside, TooDeep, TooManyLines}
+use Rattle.msc_import.specs.declared.statement.Arrow.{Arrow}
+use Rattle.msc_import.specs.declared.statement.Cross.{Cross}
+use Rattle.msc_import.specs.declared.statement.Diagram.{Diagram}
+use Rattle.msc_import.specs.declared.statement.Placed.{Placed}
+use Rattle.msc_import.specs.declared.statement.Statement.{Statement}
+use Rattle.msc_import.specs.declared.statement.Statement.TheVariants.{Declares, Says, Begins, Closes}
+use Rattle.msc_import.specs.Gives.{◌>>=◌, unless}
+use Rattle.msc_import.specs.Outlines.{Outline, closed_by, finished, innermost, is_known, laid, meets, met, with_lines}
+use Rattle.msc_import.specs.Lines.{column_behind, is_blank, trimmed}
+use Rattle.msc_import.specs.Saying.{said_at}
+use Rattle.msc_import.specs.Reading.{Read, untold, is_arrow, is_semicolon, bare_from, bare_step, bare_then, listed, noted, read_line, read_one, read_pieces, told}
+use Rattle.msc_import_laws.specs.Outlined.{AreDistinct, Differ, IsOutlined}
+use Rattle.msc_import_laws.proofs.Drafts.{bound, unless_is}
+use Rattle.msc_import_laws.proofs.Stands.{first_joined, second_joined}
+
+-- lines behind others, with these among them
+record Laid (before : List (List ℕ)) (after : List (List ℕ)) : Type 0 where
+  few : length before ≤ LINE_LIMIT → length after ≤ LINE_LIMIT
+  keeps : (x : List ℕ) → Occurs before x → Occurs after x
+
+same_laid : (ls : List (List ℕ)) → Laid ls ls
+same_laid ls = record { few = λ h. h; keeps = λ x o. o }
+
+both_laid : (a b c : List (List ℕ)) → Laid a b → Laid b c → Laid a c
+both_laid a b c f g = record { few = λ h. g.few (f.few h); keeps = λ x o. g.keeps x (f.keeps x o) }
+
+-- a line that is met is there
+line_met : (line : ℕ) (ident : List ℕ) (ls after : List (List ℕ)) → met line ident ls ≡ Ok after → Laid ls after × Occurs after ident
+unfolding met
+line_met line ident ls after e =
+    by_test (is_known ls ident)
+    (λ known.
+    let same : ls ≡ after = let f : Ok ls ≡ Ok after = sym (ap (λ (b : Bool). cond b (Ok ls) (unless (nat_lt (length ls) LINE_LIMIT) (TooManyLines line) (ls ++ ident ∷ []))) known) ∙ e in cc in
+    let at = any-place (λ l. bytes_eq l ident) ls known in
+    let is : at.1 ≡ ident = (bytes_eq-Decides at.1 ident).0 at.3 in
+    (subst (Laid ls) same (same_laid ls), subst (λ l. Occurs l ident) same (at.0, subst (StandsAt ls at.0) is at.2)))
+    (λ new.
+    let f : unless (nat_lt (length ls) LINE_LIMIT) (TooManyLines line) (ls ++ ident ∷ []) ≡ Ok after = sym (ap (λ (b : Bool). cond b (Ok ls) (unless (nat_lt (length ls) LINE_LIMIT) (TooManyLines line) (ls ++ ident ∷ []))) new) ∙ e in
+    let r = unless_is (nat_lt (length ls) LINE_LIMIT) (TooManyLines line) (ls ++ ident ∷ []) after f in
+    let room = ltb-true (length ls) LINE_LIMIT r.0 in
+    let l = length_push ls ident in
+    (subst (Laid ls) r.1 (record { few = λ h. omega (arith, room, l); keeps = λ x o. first_joined ls (ident ∷ []) x o }), subst (λ l. Occurs l ident) r.1 (second_joined ls (ident ∷ []) ident (0, refl))))
+
+line_meets : (line : ℕ) (ident : List ℕ) (o after : Outline) → meets line ident o ≡ Ok after → Laid o.lines after.lines × Occurs after.lines ident
+unfolding meets
+line_meets line ident o after e =
+    let b = bound (met line ident o.lines) (λ ls. Ok (with_lines o ls)) after e in
+    let same : with_lines o b.0 ≡ after = let f : Ok (with_lines o b.0) ≡ Ok after = b.2 in cc in
+    let lines : b.0 ≡ after.lines = ap (λ (x : Outline). x.lines) same in
+    let r = line_met line ident o.lines b.0 b.1 in
+    (subst (Laid o.lines) lines r.0, subst (λ l. Occurs l ident) lines r.1)
+
+-- the ends of an arrow are lines
+abbrev HasEnds : List (List ℕ) → Statement → Type 0
+HasEnds ls s = (a : Arrow) → s ≡ Says a → Occurs ls a.from × Occurs ls a.to
+
+all_laid : (line : ℕ) (s : Statement) (o after : Outline) → laid line s o ≡ Ok after → Laid o.lines after.lines × HasEnds after.lines s
+unfolding laid
+all_laid line (Declares ident shown) o after e = ((line_meets line ident o after e).0, λ a is. cc)
+all_laid line (Says arrow) o after e =
+    let b = bound (meets line arrow.from o) (λ first. meets line arrow.to first) after e in
+    let first = line_meets line arrow.from o b.0 b.1 in
+    let second = line_meets line arrow.to b.0 after b.2 in (
+      both_laid o.lines b.0.lines after.lines first.0 second.0,
+      λ a is. let same : arrow ≡ a = cc in (subst (λ (x : Arrow). Occurs after.lines x.from) same (second.0.keeps arrow.from first.1), subst (λ (x : Arrow). Occurs after.lines x.to) same second.1),
+    )
+all_laid line (Begins kind) o after e =
+    let r = unless_is _ (TooDeep line) _ after e in
+    (subst (Laid o.lines) (ap (λ (x : Outline). x.lines) r.1) (same_laid o.lines), λ a is. cc)
+all_laid line (Closes closer) o after e =
+    let r = unless_is _ (Outside line closer) _ after e in
+    (subst (Laid o.lines) (ap (λ (x : Outline). x.lines) r.1) (same_laid o.lines), λ a is. cc)
+
+-- what was read, with so many arrows at most
+pub record IsRead (n : ℕ) (r : Read) : Type 0 where
+  few_lines : length r.outline.lines ≤ LINE_LIMIT
+  few : r.arrows ≤ n
+  distinct : AreDistinct r.said
+  known : (p : Placed) → Occurs r.said p → HasEnds r.outline.lines p.statement
+  numbered : (p : Placed) (a : Arrow) → Occurs r.said p → p.statement ≡ Says a → p.number ≤ r.arrows
+  low : (p : Placed) → Occurs r.said p → p.number ≤ r.arrows + 1
+
+-- one statement more
+one_distinct : (ps : List Placed) (q : Placed) → AreDistinct ps → ((p : Placed) → Occurs ps p → Differ p q) → AreDistinct (ps ++ q ∷ [])
+one_distinct [] q h d = (λ p o. none p o, tt)
+  where
+    none : (p : Placed) → Occurs [] p → Differ q p
+    none p (j, k) = cc
+one_distinct (p ∷ ps) q h d = (
+  λ x o. elim (joined ps (q ∷ []) x o) [ inl l ↦ h.0 x l | inr r ↦ subst (Differ p) (only x r) (d p (0, refl)) ],
+  one_distinct ps q h.1 (λ x o. d x (suc o.0, o.1)),
+)
+  where
+    only : (x : Placed) → Occurs (q ∷ []) x → q ≡ x
+    only x (zero, k) = cc
+    only x (suc j, k) = cc
+
+module _ (n : ℕ) (r : Read) (read : IsRead n r) (line column : ℕ) (s : Statement) (o : Outline) (e : laid line s r.outline ≡ Ok o) where
+  next : Placed
+  next = record { line = line; column = column; number = r.arrows + 1; statement = s }
+
+  only : (p : Placed) → Occurs (next ∷ []) p → next ≡ p
+  only p (zero, k) = cc
+  only p (suc j, k) = cc
+
+  more : (b : Bool) → is_arrow s ≡ b → (cond b (r.arrows + 1) r.arrows ≤ n + 1) × (r.arrows ≤ cond b (r.arrows + 1) r.arrows) × ((a : Arrow) → s ≡ Says a → r.arrows + 1 ≤ cond b (r.arrows + 1) r.arrows)
+  more true is = let f = read.few in (omega (arith, f), omega arith, λ a k. omega arith)
+  more false is = let f = read.few in (omega (arith, f), omega arith, λ a k. absurd (no_arrow a k))
+    where
+      no_arrow : (a : Arrow) → s ≡ Says a → ⊥
+      no_arrow a k = let t : is_arrow s ≡ true = ap is_arrow k in let f : true ≡ false = sym t ∙ is in cc
+
+  listed_read : IsRead (n + 1) (listed r line column s o)
+  unfolding next
+  listed_read =
+      let l = all_laid line s r.outline o e in
+      let m = more (is_arrow s) refl in
+      record {
+        few_lines = l.0.few read.few_lines;
+        few = m.0;
+        distinct = one_distinct r.said next read.distinct (λ p o a b x y same. let h = read.numbered p a o x in omega (arith, h, same));
+        known = λ p o. elim (joined r.said (next ∷ []) p o) [
+          | inl before ↦ λ a is. let k = read.known p before a is in (l.0.keeps a.from k.0, l.0.keeps a.to k.1)
+          | inr here ↦ λ a is. l.1 a (ap (λ (x : Placed). x.statement) (only p here) ∙ is)
+        ];
+        numbered = λ p a o is. elim (joined r.said (next ∷ []) p o) [
+          | inl before ↦ let k = read.numbered p a before is in let j = m.1 in omega (arith, k, j)
+          | inr here ↦ let j = m.2 a (ap (λ (x : Placed). x.statement) (only p here) ∙ is) in let k = ap (λ (x : Placed). x.number) (only p here) in omega (arith, j, k)
+        ];
+        low = λ p o. elim (joined r.said (next ∷ []) p o) [
+          | inl before ↦ let k = read.low p before in let j = m.1 in omega (arith, k, j)
+          | inr here ↦ let k = ap (λ (x : Placed). x.number) (only p here) in let j = m.1 in omega (arith, j, k)
+        ];
+      }
+
+-- the same parts of what was read
+pub read_same : (n k : ℕ) (r q : Read) → n ≤ k → q.arrows ≡ r.arrows → q.outline ≡ r.outline → q.said ≡ r.said → IsRead n r → IsRead k q
+read_same n k r q le a b c read = record {
+  few_lines = rw b read.few_lines;
+  few = let f = read.few in omega (arith, f, a, le);
+  distinct = rw c read.distinct;
+  known = λ p o. rw b (read.known p (rw (← c) o));
+  numbered = λ p x o is. rw a (read.numbered p x (rw (← c) o) is);
+  low = λ p o. rw a (read.low p (rw (← c) o));
+}
+
+-- a statement is noted, or nothing is
+module _ (n : ℕ) (r : Read) (read : IsRead n r) (line column : ℕ) (q : Read) where
+  nothing_noted : ◌≡◌ {A = Result Read ImportFault} (Ok r) (Ok q) → IsRead (n + 1) q
+  nothing_noted e = let same : r ≡ q = cc in subst (IsRead (n + 1)) same (read_same n (n + 1) r r (omega arith) refl refl refl read)
+
+  dies_noted : (names : List (List ℕ)) → ◌≡◌ {A = Result Read ImportFault} (Ok (record { dying = names; arrows = r.arrows; outline = r.outline; said = r.said })) (Ok q) → IsRead (n + 1) q
+  dies_noted names e =
+      let now : Read = record { dying = names; arrows = r.arrows; outline = r.outline; said = r.said } in
+      let same : now ≡ q = cc in
+      subst (IsRead (n + 1)) same (read_same n (n + 1) r now (omega arith) refl refl refl read)
+
+  statement_noted : (s : Statement) → (laid line s r.outline >>= (λ o. Ok (listed r line column s o))) ≡ Ok q → IsRead (n + 1) q
+  statement_noted s e =
+      let b = bound (laid line s r.outline) (λ o. Ok (listed r line column s o)) q e in
+      let same : listed r line column s b.0 ≡ q = let f : Ok (listed r line column s b.0) ≡ Ok q = b.2 in cc in
+      subst (IsRead (n + 1)) same (listed_read n r read line column s b.0 b.1)
+
+  all_noted : (s : _) → noted r line column s ≡ Ok q → IsRead (n + 1) q
+  unfolding noted
+  all_noted s e = grind (arith, nothing_noted, dies_noted, statement_noted)
+
+-- one piece, and those of a line
+piece_read : (n : ℕ) (cross : Option Cross) (line column : ℕ) (bytes : List ℕ) (r q : Read) → IsRead n r → read_one cross line column bytes r ≡ Ok q → IsRead (n + 1) q
+unfolding read_one
+piece_read n cross line column bytes r q read e =
+    let b = bound (said_at cross r.dying line bytes) (noted r line column) q e in
+    all_noted n r read line column q b.0 b.2
+
+pieces_read : (n : ℕ) (cross : Option Cross) (line : ℕ) (bytes : List ℕ) (at : ℕ) (ps : List (List ℕ)) (r q : Read) → IsRead n r → read_pieces cross line bytes at ps r ≡ Ok q → IsRead (n + length ps) q
+unfolding read_pieces
+pieces_read n cross line bytes at [] r q read e = let same : r ≡ q = cc in subst (IsRead (n + 0)) same (read_same n (n + 0) r r (omega arith) refl refl refl read)
+pieces_read n cross line bytes at (p ∷ ps) r q read e =
+    let column : ℕ = column_behind (take (at + prefix_len is_blank p) bytes) in
+    let b = bound (read_one cross line column (trimmed p) r) (λ next. read_pieces cross line bytes (at + (length p + 1)) ps next) q e in
+    let first = piece_read n cross line column (trimmed p) r b.0 read b.1 in
+    let rest = pieces_read (n + 1) cross line bytes (at + (length p + 1)) ps b.0 q first b.2 in
+    read_same ((n + 1) + length ps) (n + suc (length ps)) q q (omega arith) refl refl refl rest
+
+-- a line without entities is no longer
+bare_short : (within : Bool) (bs : List ℕ) → length (bare_from within bs) ≤ length bs
+unfolding bare_from
+bare_short within [] = omega arith
+bare_short within (b ∷ bs) = by (bare_step within b bs)
+    (λ w. bare_short w bs)
+  where
+    by : (o : Option (ℕ × Bool)) → ((w : Bool) → length (bare_from w bs) ≤ length bs) → length (bare_then o (λ w. bare_from w bs)) ≤ suc (length bs)
+    by None more = omega arith
+    by (Some p) more = let r = more p.1 in omega (arith, r)
+
+pub drop_short : {X : Type 0} (k : ℕ) (xs : List X) → length (drop k xs) ≤ length xs
+drop_short zero [] = omega arith
+drop_short zero (x ∷ xs) = omega arith
+drop_short (suc k) [] = omega arith
+drop_short (suc k) (x ∷ xs) = let r = drop_short k xs in omega (arith, r)
+
+pub line_read : (n : ℕ) (cross : Option Cross) (line : ℕ) (bytes : List ℕ) (at : ℕ) (r q : Read) → IsRead n r → read_line cross line bytes at r ≡ Ok q → IsRead (n + (length bytes + 1)) q
+unfolding read_line
+line_read n cross line bytes at r q read e =
+    let bare : List ℕ = bare_from false (drop at bytes) in
+    let pieces : List (List ℕ) = slice_split is_semicolon bare in
+    let found = pieces_read n cross line bytes at pieces r q read e in
+    let a = length-slice_split is_semicolon bare in
+    let b = count_by-le-length is_semicolon bare in
+    let c = bare_short false (drop at bytes) in
+    let d = drop_short at bytes in
+    read_same (n + length pieces) (n + (length bytes + 1)) q q (omega (arith, a, b, c, d)) refl refl refl found
+
+-- a diagram is what was read, where all blocks have ended
+closed_is : (lines after : List (List ℕ)) (x : Option _) → closed_by lines x ≡ Ok after → lines ≡ after
+closed_is lines after None e = cc
+closed_is lines after (Some b) e = cc
+
+pub told_is : (r : Read) (d : Diagram) → told r ≡ Ok d → (r.outline.lines ≡ d.lines) × (r.said ≡ d.statements)
+unfolding told finished
+told_is r d e =
+    let b = bound (finished r.outline) _ d e in
+    let lines = closed_is r.outline.lines b.0 (innermost r.outline.opened) b.1 in
+    let f : ◌≡◌ {A = Result Diagram ImportFault} (Ok (record { lines = b.0; statements = r.said })) (Ok d) = b.2 in
+    let same : record { lines = b.0; statements = r.said } ≡ d = cc in
+    (lines ∙ ap (λ (x : Diagram). x.lines) same, ap (λ (x : Diagram). x.statements) same)
+
+-- nothing is read yet
+pub none_read : IsRead 0 untold
+none_read = record {
+  few_lines = omega arith;
+  few = omega arith;
+  distinct = tt;
+  known = λ p o. absurd (no o);
+  numbered = λ p a o is. absurd (no o);
+  low = λ p o. absurd (no o);
+}
+  where
+    no : {p : Placed} → Occurs [] p → ⊥
+    no (j, h) = cc
+
+pub read_outlined : (n : ℕ) (r : Read) (d : Diagram) → n < 9999998 → IsRead n r → told r ≡ Ok d → IsOutlined d
+read_outlined n r d small read e =
+    let is = told_is r d e in
+    record {
+      few_lines = rw (← is.0) read.few_lines;
+      distinct = rw (← is.1) read.distinct;
+      low = λ p o. let l = read.low p (rw is.1 o) in let f = read.few in omega (arith, l, f, small);
+      known = λ p a o says. rw (← is.0) (read.known p (rw is.1 o) a says);
+    }
