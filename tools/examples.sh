@@ -9,9 +9,11 @@
 # status is 1 where there are races. NAME.run.QUEUES.txt is the output of `msc run`, where no
 # schedule of the threads gives another one, and NAME.impatient.QUEUES.txt that with a patience of
 # 0, with which nobody takes anything; the status is 3 where some instance did not finish.
-# NAME.drawn.txt, NAME.QUEUES.drawn.txt and NAME.QUEUES.svg are what `msc draw` prints,
-# NAME.QUEUES.report.html what `msc report` does, and NAME.reverse.E.F.QUEUES.txt and .svg what
-# `msc reverse` does of events E and F. Beside charts/refused/NAME.msc stands NAME.txt: what is
+# NAME.ready.QUEUES.txt is what `msc ready` prints, with --only where a name stands before QUEUES.
+# NAME.again.QUEUES.txt is what `msc check --again --why` prints, and NAME.again_ready.QUEUES.txt
+# what `msc ready --again` does. NAME.drawn.txt, NAME.QUEUES.drawn.txt and NAME.QUEUES.svg are what
+# `msc draw` prints, NAME.QUEUES.report.html what `msc report` does, and
+# NAME.reverse.E.F.QUEUES.txt and .svg what `msc reverse` does of events E and F. Beside charts/refused/NAME.msc stands NAME.txt: what is
 # written to standard error, and then the status. `msc check` and `msc run` refuse each of them.
 # Beside charts/import/NAME.mmd stands NAME.scenarios.txt, with a line for each of its scenarios: a
 # chart and its choices. What `msc import` prints of these is that chart, which `msc read` prints as
@@ -100,6 +102,21 @@ compare_ready() {
 
 for answer in charts/*.ready.*.txt; do
   compare_ready "$answer"
+done
+
+# Compares a stored output with --again, by the parts of its name; $2 .. are words of the command.
+compare_again() {
+  local words status=0
+  IFS=. read -r -a words <<<"${1#charts/}"
+  if grep -Eq '^(races|may stick|never finishes|again) [1-9]' "$1"; then status=1; fi
+  compare "$1" /dev/null "$status" "${@:2}" --again --queues "${words[-2]}" "charts/${words[0]}.msc"
+}
+
+for answer in charts/*.again.*.txt; do
+  compare_again "$answer" check --why
+done
+for answer in charts/*.again_ready.*.txt; do
+  compare_again "$answer" ready
 done
 
 # Compares what is imported of a diagram, with these choices, with a chart of the same folder.

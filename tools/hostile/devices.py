@@ -17,7 +17,7 @@ import sys
 import tempfile
 
 from program import MOST, QUEUES, TOP, Answer, Count, add_commands, arguments, check_words, run
-from answer import check_answer, read_answer
+from answer import again_answer, check_answer, read_answer
 from diagram_checks import wanted_of as checked_of
 from imports import wanted_of
 from refuse import Shim
@@ -72,6 +72,10 @@ class Commands:
             if command in self.wanted:
                 words = [program, command, *before, file, *behind]
                 yield words, Answer((TOP / "charts" / drawn).read_bytes(), b"", 0)
+        for command in ("check", "ready"):
+            if command in self.wanted:
+                words = [program, command, "--queues", "mailbox", "--again", file]
+                yield words, Answer(*again_answer(CHART, command, "mailbox"))
 
 
 class Imports(Commands):

@@ -13,9 +13,10 @@ and `msc report` under one architecture: both streams and the status are to be t
 that is run the trace has to be a whole run of it, and a report has to be read as XML. With `--places`
 nothing else may be printed but places, and behind the line of a fault what is said of it, all of it
 of bytes that move no cursor. As lines for editors, with marks, all that is printed is such lines, of
-such bytes, and a refusal is the first of them. Each fourth number has a diagram of Mermaid too, of
-which `msc check --from` has to print what tools/naive/scenarios.py does. Prints what differs, how
-many texts got which answer, and last `N passed, M failed`.
+such bytes, and a refusal is the first of them. Each third text is checked and asked for sticks with
+`--again` too. Each fourth number has a diagram of Mermaid too, of which `msc check --from` has to
+print what tools/naive/scenarios.py does. Prints what differs, how many texts got which answer, and
+last `N passed, M failed`.
 """
 import collections
 import multiprocessing
@@ -27,7 +28,7 @@ import time
 import xml.etree.ElementTree
 
 from program import QUEUES, Count, add_commands, arguments, check_words, run
-from answer import ALL, check_answer, draw_answer, read_answer, ready_answer
+from answer import ALL, again_answer, check_answer, draw_answer, read_answer, ready_answer
 import diagram_checks
 from compare import chart
 from reading import PLACES, SUPPORTED, UNSUPPORTED, Draft, Event, tokens
@@ -41,8 +42,9 @@ TEXTS = [b"''", b"'go'", b"'it''s'", b"''''", b"'; /* */'", b"'\n\xff\x00'", b"'
          b"'race ok: known'", b"'race ok with m0; 1: \xff'", b"'race ok'"]
 SPACES = [b" ", b" ", b" ", b"\n", b"\t", b"\r\n",
           b"/**/", b"/* ' ; */", b"/***/ ", b" /* endmsc; /* */"]
-# how many texts a process tries at a time, and each which of them has a diagram beside it
-BATCH, DIAGRAMS = 50, 4
+# how many texts a process tries at a time; each which of them has a diagram beside it; and each
+# which of them is asked about two rounds
+BATCH, DIAGRAMS, ROUNDS = 50, 4, 3
 
 
 def spelled(pick, kind):
@@ -280,6 +282,12 @@ def tried(program, seed, number, commands):
             got = run([program, *words], text)
             if got != wanted:
                 told.append((words, text, got, wanted))
+    for command in ("check", "ready") if number % ROUNDS == 0 else ():
+        if command in commands:
+            words = [command, "--queues", queues, "--again", "-"]
+            got, wanted = run([program, *words], text), again_answer(text, command, queues)
+            if got != wanted:
+                told.append((words, text, got, wanted))
     if "report" in commands:
         words = ["report", "--queues", queues, "-"]
         got = run([program, *words], text)
@@ -320,6 +328,7 @@ def main():
         for told, number, kind in (one for part in pool.imap(batch, tasks) for one in part):
             kinds[kind] += 1
             checks = 2 + (number % DIAGRAMS == 0) if "check" in options.commands else 0
+            checks += len({"check", "ready"} & set(options.commands)) * (number % ROUNDS == 0)
             count.passed += len(options.commands) + checks - len(told)
             for words, text, got, wanted in told:
                 count.compare(got, wanted, f"text {number} of seed {options.seed}:", *words, text)

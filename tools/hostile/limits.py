@@ -135,6 +135,81 @@ def numbers_of_sticks():
     yield of_events(1024, step=-1), "pair", f"never finishes {1024 * 1023 // 2}", 1024 * 1023 // 2
 
 
+def of_two_senders(messages):
+    """A chart in which c takes so many messages of a, and then as many of b."""
+    taken, text = "", "msc t;"
+    for sender in "ab":
+        sent = "".join(f"out {sender}{n} to c;" for n in range(messages))
+        taken += "".join(f"in {sender}{n} from {sender};" for n in range(messages))
+        text += f"instance {sender};{sent}endinstance;"
+    return f"{text}instance c;{taken}endinstance;endmsc;".encode()
+
+
+def rounds():
+    """Charts at the limits of two rounds, commands, how many pairs there are between the rounds,
+    and the first of them."""
+    # all messages of a round are sent before those of the next
+    for text in (of_events(512), of_events(512, step=-1)):
+        yield text, ["check", "--queues", "pair"], 0, None
+        yield text, ["ready", "--queues", "mailbox"], 0, None
+    yield of_events(0, 512), ["check", "--queues", "single"], 0, None
+    # the first input of b's next round can come before its last action
+    pair = "again 1535 512 on b: action ''; in m0 from a"
+    yield of_events(512, 512), ["check", "--queues", "pair"], 1, pair
+    # nothing orders what a sends in a round and b in the next, or b in a round and a in the next
+    two = of_two_senders(256)
+    pair = "again 1023 512 on c: in b255 from b; in a0 from a"
+    yield two, ["check", "--queues", "mailbox"], 1, pair
+    pair = "again 512 768 on c: in a0 from a; in b0 from b"
+    yield two, ["ready", "--queues", "mailbox"], 2 * 256 * 256, pair
+
+
+def faults_of_rounds():
+    """Charts whose two rounds are no chart, words, and what is told."""
+    messages = "again fault 1: more than 512 messages"
+    actions = "again fault 2: more than 512 actions"
+    for command in ("check", "ready"):
+        for text, line in ((of_events(513), messages), (of_events(513, 513), messages),
+                           (of_events(1024, 1024), messages), (of_events(512, 513), actions),
+                           (of_events(0, 513), actions), (of_events(0, 1024), actions)):
+            yield text, [command], line
+        yield of_events(513), [command, "--places"], messages
+        # what is told of a chart alone comes first
+        yield of_events(1025), [command], "chart fault 5: more than 1024 messages"
+        yield of_events(513, 0, 512), [command], "chart fault 7: output 512 has no input"
+    yield of_events(513), ["ready", "--only", "b"], messages
+    yield of_events(513), ["ready", "--only", "c"], "ready fault 1: no instance c"
+    faulty = of_events(513).replace(b"m0 to b", b"m0 to b comment 'race ok'")
+    at = faulty.index(b"'")
+    yield faulty, ["check"], messages
+    yield faulty, ["check", "--accept"], f"accept fault 2 at {at}: no reason"
+
+
+def checks_of_rounds(count, program, commands):
+    """Compares what is printed with --again at the limits."""
+    for text, words, pairs, first in rounds():
+        if words[0] not in commands:
+            continue
+        words = [*words, "--again"]
+        answer = run([program, *words, "--show", "0", "-"], text)
+        lines = [line for line in answer.output.decode().splitlines() if line.startswith("again ")]
+        is_told = lines[:1] == [f"again {pairs}"] and len(lines) == pairs + 1
+        is_told = is_told and (pairs == 0 or lines[1] == first and answer.status == 1)
+        count.add(is_told, *words, lines[:2], len(lines), answer.status, answer.output[:100])
+        if words[0] == "check":
+            quiet = run([program, *words, "-q", "-"], text)
+            count.compare(quiet, Answer(b"", b"", answer.status), *words, "-q")
+    for text, words, line in faults_of_rounds():
+        if words[0] in commands:
+            words = [*words, "--queues", "pair", "--again", "-"]
+            count.compare(run([program, *words], text), fault(line), *words, text[:100])
+    words = ["check", "--queues", "pair", "--again", "--format", "lines", "-"]
+    line = b"again fault 1: more than 512 messages\n"
+    if "check" in commands:
+        wanted = Answer(b"-:1:1: error: " + line, line, 2)
+        count.compare(run([program, *words], of_events(513)), wanted, *words)
+
+
 def are_listed(count, answer, head, races):
     """Counts whether an answer has this head and so many races."""
     is_told = answer.output.startswith(head.encode()) and answer.status == 1
@@ -201,6 +276,11 @@ def stacks(count, program, commands):
             small = run(words, text, **SMALL)
             is_same = small[1:] == (b"", 0) if words[1] == "run" else small == full
             count.add(is_same, *words[1:], f"with a stack of {STACK} bytes", small[1:])
+    for text in (of_events(512, 512), drawn(random.Random(1), INSTANCES, MESSAGES // 2)):
+        for command in ("check", "ready") if "ready" in commands else ("check",):
+            words = [program, command, "--queues", "mailbox", "--again", "--show", "3", "-"]
+            full, small = run(words, text), run(words, text, **SMALL)
+            count.add(small == full, *words[1:], f"with a stack of {STACK} bytes", small[1:])
     largest = [(["import", *words], text) for text, words in imports.at_the_limits()]
     largest += ((["check", *words], text) for text, words in diagram_checks.at_the_limits())
     largest += ((["check", "--from", "any", "--queues", "pair", *words], text)
@@ -245,6 +325,7 @@ def main():
         is_told = answer.output.startswith(f"chart t\nqueues {queues}\n{told}\n".encode())
         is_told = is_told and answer.output.count(b"\nstick ") == sticks
         count.add(is_told and answer.status == int(bool(sticks)), told, answer.output[:100])
+    checks_of_rounds(count, program, options.commands)
     if "check" in options.commands:
         checks_of_diagrams(count, program)
     stacks(count, program, options.commands)

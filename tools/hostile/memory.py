@@ -5,12 +5,13 @@ do so.
     memory.py [--most N] [--every K] [--commands C,..] [--limit] PROGRAM [CHART ..]
 
 Every chart of charts/ and of charts/refused/ is read, and checked, run, drawn, reported and asked
-for sticks under each architecture, and every diagram of charts/import/ is imported and checked,
-where these are not given; of the runs with more than N allocations (400 where it is not said) each
-K-th allocation alone is refused. What a refused run has to answer says tools/refuse/refuse.py. With --limit no call
-is refused, but each command has less and less address space for a chart at the limits, down to too
-little for the program to begin. Prints for each run how many allocations it makes or how many limits
-there are, what does not end well, and last `N passed, M failed`.
+for sticks under each architecture, and of two rounds under `mailbox`, and every diagram of
+charts/import/ is imported and checked, where these are not given; of the runs with more than N
+allocations (400 where it is not said) each K-th allocation alone is refused. What a refused run has
+to answer says tools/refuse/refuse.py. With --limit no call is refused, but each command has less
+and less address space for a chart at the limits, down to too little for the program to begin.
+Prints for each run how many allocations it makes or how many limits there are, what does not end
+well, and last `N passed, M failed`.
 """
 import pathlib
 import random
@@ -37,6 +38,8 @@ def commands(wanted):
         # a chart need not have a race for `reverse`, which tools/refuse tries
         if command not in ("read", "reverse", "import"):
             yield from (([command, "--queues", queues, "-"], command == "run") for queues in QUEUES)
+        if command in ("check", "ready"):
+            yield [command, "--queues", "mailbox", "--again", "-"], False
 
 
 def imports(wanted):
@@ -76,7 +79,8 @@ def limit_each(program, wanted):
     largest = max(taken, key=lambda text: text.count("->>")).encode()
     on_diagrams = ((words, False) for words in imports(wanted))
     for words, has_threads in [*commands(wanted), *on_diagrams]:
-        text = star(INSTANCES) if has_threads else drawn(random.Random(1), INSTANCES, MESSAGES)
+        messages = MESSAGES // 2 if "--again" in words else MESSAGES
+        text = star(INSTANCES) if has_threads else drawn(random.Random(1), INSTANCES, messages)
         is_diagram = words[0] == "import" or "--from" in words
         if is_diagram:
             text = largest

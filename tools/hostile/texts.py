@@ -6,7 +6,8 @@ of every byte; compares what the program answers with what tools/naive/answer.py
 
 The charts are charts/kinds_and_comments.msc and charts/texts_of_actions.msc where none is given,
 and charts/import/websocket_chat.mmd. Each text, or each K-th, is given to `msc read`, and where it
-has a draft also to `msc check` under each architecture and to `msc draw` and `msc ready` under one.
+has a draft also to `msc check` under each architecture, to `msc draw` and `msc ready` under one, and
+to `check` and `ready` with `--again`.
 Those of a diagram are given to `msc import`, and where a scenario has a draft to `msc check --from`,
 and compared with tools/naive/mermaid.py and scenarios.py. Prints what differs, for each chart how
 many texts had a draft, and last `N passed, M failed`.
@@ -15,7 +16,7 @@ import pathlib
 import sys
 
 from program import QUEUES, TOP, Count, arguments, check_words, run
-from answer import check_answer, draw_answer, read_answer, ready_answer
+from answer import again_answer, check_answer, draw_answer, read_answer, ready_answer
 from diagram_checks import wanted_of as checked_of
 from imports import wanted_of
 
@@ -57,6 +58,9 @@ def compare_chart(count, program, text):
     for command, answered in (("draw", draw_answer), ("ready", ready_answer)):
         answer = run([program, command, "--queues", "mailbox", "-"], text)
         count.compare(answer, answered(text, "mailbox"), command, text)
+    for command in ("check", "ready"):
+        answer = run([program, command, "--queues", "mailbox", "--again", "-"], text)
+        count.compare(answer, again_answer(text, command, "mailbox"), command, "--again", text)
     return True
 
 

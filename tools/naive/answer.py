@@ -1,7 +1,9 @@
 """What `msc read -`, `msc check --queues QUEUES --show SHOW -`, `msc draw --queues QUEUES -` and `msc
-ready --queues QUEUES -` answer to a text: what goes to standard output and to standard error, and the
-exit status. All of it by reading.py, verdict.py, picture.py and ready.py.
+ready --queues QUEUES -` answer to a text, and `check` and `ready` with `--again`: what goes to
+standard output and to standard error, and the exit status. All of it by reading.py, verdict.py,
+picture.py, ready.py and again.py.
 """
+import again
 from picture import chart_picture
 from reading import Draft, Refused
 from ready import answer as ready_lines
@@ -54,3 +56,13 @@ def ready_answer(text, queues):
     if fault:
         return refusal(fault)
     return lines_answer(*ready_lines(text.decode("latin-1"), queues))
+
+
+def again_answer(text, command, queues):
+    """Of `msc check --again` or `msc ready --again`."""
+    fault, told = fault_of(text), text.decode("latin-1")
+    fault = fault or again.fault_of_rounds(told, queues)
+    if fault:
+        return refusal(fault)
+    answered = again.check_answer if command == "check" else again.ready_answer
+    return lines_answer(*answered(told, queues))

@@ -35,11 +35,12 @@ OF_DIAGRAMS = ("--rounds=1", "--limit=2", "--fence=1", "--name=t", "--self=actio
 
 def wrong_words():
     """Words that are refused, and what is said of them."""
-    excluded = "the argument '--from <mermaid|any>' cannot be used with '--accept'"
-    yield ["--from=any", "--accept"], excluded
+    excluded = "the argument '--from <mermaid|any>' cannot be used with '--{}'"
+    for option in ("accept", "again"):
+        yield ["--from=any", f"--{option}"], excluded.format(option)
     lacking = "the following required arguments were not provided:\n  --from <mermaid|any>"
     yield from (([option], lacking) for option in OF_DIAGRAMS)
-    yield [*OF_DIAGRAMS, "--accept"], lacking
+    yield from (([*OF_DIAGRAMS, option], lacking) for option in ("--accept", "--again"))
     for rounds in ("x", "", "1025", "0,2,", "1,,2", "-1", "+1", "1 2", "4294967296", "\u0661"):
         told = "expected numbers up to 1024 with commas"
         said = f"invalid value '{rounds}' for '--rounds <R,R..>': {told}"

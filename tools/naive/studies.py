@@ -120,18 +120,25 @@ def shown_run(drawn, e, f, short):
     return short_run(drawn, e, f)[0] if short else drawn.chosen_run(e)
 
 
-def study(drawn, places, options, marks):
-    """What is printed, line by line, and the exit status; `options` are as the command's words."""
+def chosen(drawn, options, marks):
+    """The races, those of them that are of no kind that is left out, those of these that count, the
+    closest of these, and the stale marks."""
     races = drawn.races()
     named = [race for race in races if kind(drawn, *race) not in options["allow"]]
     left, stale = named, []
     if options["accept"]:
         taken, stale = verdict_on(drawn, races, marks)
         left = [race for race in named if race not in taken]
+    closest = [race for race in left if is_closest(drawn, *race, left)]
+    return races, named, left, closest, stale
+
+
+def study(drawn, places, options, marks):
+    """What is printed, line by line, and the exit status; `options` are as the command's words."""
+    races, named, left, closest, stale = chosen(drawn, options, marks)
     status = int(bool(left or stale))
     if options["quiet"]:
         return [], status
-    closest = [race for race in left if is_closest(drawn, *race, left)]
     if options["format"] == "count":
         verdict = f"races {len(races)} closest {len(closest)}" if races else "pass"
         return [f"{verdict} -"], status

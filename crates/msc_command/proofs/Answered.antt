@@ -1,8 +1,10 @@
 -- What was answered of a chart is answered of its text, and a flush keeps it.
-use Rattle.std.proofs.Common.{◌≡◌, ◌≢◌, ◌<◌, ℕ, Bool, true, false, List, [], length, Option, Some, None, Result, Ok, Err, inl, inr, refl, sym, subst, ◌∙◌}
+use Rattle.std.proofs.Common.{◌≡◌, ◌≢◌, ◌<◌, ℕ, Bool, true, false, List, [], is_some, length, Bor, Option, Some, None, option_map, Result, Ok, Err, inl, inr, refl, sym, subst, ◌∙◌}
 use Rattle.std.proofs.lemmas.List.{append-nil}
 use Rattle.std.specs.Io.KnownBytes.{Appends, Keeps}
 use Rattle.msc_chart.specs.declared.queue.Queues.{Queues}
+use Rattle.msc_chart.specs.declared.fault.TwiceFault.{TwiceFault}
+use Rattle.msc_chart.specs.declared.fault.TwiceFault.TheVariants as twice
 use Rattle.msc_chart.specs.Drawings.{Drawing}
 use Rattle.msc_ending.specs.declared.fault.RunFault.{RunFault}
 use Rattle.msc_ending.specs.declared.fault.RunFault.TheVariants as runs
@@ -12,7 +14,6 @@ use Rattle.msc_judge.specs.declared.page.WriteFault.TheVariants as writing
 use Rattle.msc_mark.specs.declared.fault.MarkFault.{MarkFault}
 use Rattle.msc_mark.specs.declared.fault.MarkFault.TheVariants as marking
 use Rattle.msc_mark.specs.declared.mark.Mark.{Mark}
-use Rattle.msc_reason.specs.declared.kinds.KindSet.{KindSet}
 use Rattle.msc_report.specs.declared.fault.Fault.TheVariants.{Parse, Chart, NotStarted, Memory, Device}
 use Rattle.msc_report.specs.Refusals.{of_reading, of_run, of_source, of_writing}
 use Rattle.msc_source.specs.Reading as reading
@@ -23,7 +24,7 @@ use Rattle.msc_source.specs.declared.fault.SourceFault.{SourceFault}
 use Rattle.msc_source.specs.declared.fault.SourceFault.TheVariants as sources
 use Rattle.msc_source.specs.declared.language.Language.{Language}
 use Rattle.msc_source.specs.declared.language.Language.TheVariants.{MscPr}
-use Rattle.msc_text.specs.Judging.{JudgesChart}
+use Rattle.msc_text.specs.Judging.{AreTwoRounds, JudgesChart}
 use Rattle.msc_text.specs.declared.judging.Format.{Format}
 use Rattle.msc_command.specs.declared.ending.Refusal.{Refusal}
 use Rattle.msc_command.specs.declared.ending.Refusal.TheVariants as refusals
@@ -34,10 +35,12 @@ use Rattle.msc_command.specs.declared.tasks.Checking.{Checking}
 use Rattle.msc_command.specs.declared.tasks.Task.{Task}
 use Rattle.msc_command.specs.declared.tasks.Task.TheVariants as tasks
 use Rattle.msc_command.specs.Answering.{Answers, AnswersOf, AnswersWith, Delivers, Does, EndsAs, IsPut, Performs, Prints, PrintsOf, Refuses, RefusesOf, TellsQuietly}
-use Rattle.msc_command.specs.Ending.{ended_by, of_marks}
+use Rattle.msc_command.specs.Ending.{ended_by, of_marks, of_rounds}
 use Rattle.msc_command.specs.Formats.{IsFormat}
 use Rattle.msc_command.specs.Marked.{AreMarked, ReadsMarks}
 use Rattle.msc_command.specs.Readied.{names_of, AreReady}
+use Rattle.msc_command.specs.Rounds.{AreRounds, GivesRounds}
+use Rattle.msc_command.specs.declared.tasks.Quieting.{Quieting}
 use Rattle.msc_command.specs.Sited.{IsStyle}
 use Rattle.msc_command.specs.declared.tasks.Readying.{Readying}
 use Rattle.msc_report.specs.declared.style.Style.{Style}
@@ -57,11 +60,26 @@ kept (Some xs) (Some ys) None bytes wrote keeps = absurd keeps
 kept (Some xs) (Some ys) (Some zs) bytes wrote keeps = keeps ∙ wrote
 
 -- how marks that can't be read end what is told by the status alone
-pub quietly_marked : (queues : Queues) (allowed : KindSet) (accept : Bool) (s : SourceText) (f : MarkFault) → ReadsMarks accept s.text (Err f)
-    → TellsQuietly queues allowed accept s (Err (of_marks f))
-quietly_marked queues allowed accept s (marking.Part at) faulty = faulty
-quietly_marked queues allowed accept s (marking.Reason at) faulty = faulty
-quietly_marked queues allowed accept s marking.Memory said = tt
+pub quietly_marked : (x : Quieting) (s : SourceText) (f : MarkFault) → ReadsMarks x.accept s.text (Err f) → TellsQuietly x s (Err (of_marks f))
+quietly_marked x s (marking.Part at) faulty = faulty
+quietly_marked x s (marking.Reason at) faulty = faulty
+quietly_marked x s marking.Memory said = tt
+
+-- and how rounds that are no chart do
+pub quietly_long : (x : Quieting) (s : SourceText) (f : TwiceFault) → GivesRounds x.again s.chart (Err f) → TellsQuietly x s (Err (of_rounds f))
+quietly_long x s twice.TooManyMessages long = long
+quietly_long x s twice.TooManyActions long = long
+quietly_long x s twice.Memory said = tt
+
+-- whether rounds are given is whether they are asked for
+pub rounds_given : (again : Bool) (d : Drawing) (two : Option (Bor Drawing)) → AreRounds again d (option_map (λ t. t.now) two) → is_some two ≡ again
+rounds_given again d None same = sym same
+rounds_given again d (Some t) (same, is) = sym same
+
+-- and they are those of the chart
+pub rounds_are : (again : Bool) (d : Drawing) (two : Option (Bor Drawing)) → AreRounds again d (option_map (λ t. t.now) two) → AreTwoRounds d two
+rounds_are again d None same = tt
+rounds_are again d (Some t) (same, is) = is
 
 module _ {W : Type 0} (contents : W → Option (List ℕ)) where
   -- what was answered of one thing was answered of another, where what is right of it is right there, and what
@@ -83,6 +101,7 @@ module _ {W : Type 0} (contents : W → Option (List ℕ)) where
   answers_with_so prints so begins begun refuses not_so right starts wrong (Err (refusals.Pair f)) old new (fails, same) = (wrong _ fails, same)
   answers_with_so prints so begins begun refuses not_so right starts wrong (Err (refusals.Mark f)) old new (fails, same) = (wrong _ fails, same)
   answers_with_so prints so begins begun refuses not_so right starts wrong (Err (refusals.Instance name)) old new (fails, same) = (wrong _ fails, same)
+  answers_with_so prints so begins begun refuses not_so right starts wrong (Err (refusals.Rounds f)) old new (fails, same) = (wrong _ fails, same)
   answers_with_so prints so begins begun refuses not_so right starts wrong (Err (refusals.Import e)) old new (fails, same) = (wrong _ fails, same)
 
   -- the same, where what is right begins itself
@@ -100,33 +119,49 @@ module _ {W : Type 0} (contents : W → Option (List ℕ)) where
 
   module _ (c : Checking) (file : List ℕ) (format : Format) (s : SourceText) (its : IsFormat c file s.text format)
       (marks : Option (List Mark)) (are : AreMarked c.accept s.text marks) where
-    -- what was judged of a chart was answered of it
-    pub judged : (passed : Bool) (old new : W) → pages.Tells contents (JudgesChart s.chart c.queues c.question marks format) (Ok passed) old new
+    -- what is judged of a chart, with rounds of it where they are asked for
+    judges : (again : Bool) → again ≡ c.again → (passed : Bool) (printed : List ℕ) → JudgesChart s.chart c.queues c.question marks again format passed printed
+        → PrintsOf (asks.Check c) file s (ended_by passed) printed
+    judges again asked passed printed says =
+        (format, its, marks, are, passed, refl, subst (λ (a : Bool). JudgesChart s.chart c.queues c.question marks a format passed printed) asked says)
+
+    -- where it was told it was answered
+    pub judged : (again : Bool) → again ≡ c.again → (passed : Bool) (old new : W)
+        → pages.Tells contents (JudgesChart s.chart c.queues c.question marks again format) (Ok passed) old new
         → AnswersOf contents (asks.Check c) file s (Ok (ended_by passed)) old new
-    judged passed old new (printed, says, wrote) = (printed, (format, its, marks, are, passed, refl, says), wrote)
+    judged again asked passed old new (printed, says, wrote) = (printed, judges again asked passed printed says, wrote)
 
     -- and so it was where it was not written to its end
-    pub not_judged : (f : WriteFault) (old new : W) → pages.Tells contents (JudgesChart s.chart c.queues c.question marks format) (Err f) old new
+    pub not_judged : (again : Bool) → again ≡ c.again → (f : WriteFault) (old new : W)
+        → pages.Tells contents (JudgesChart s.chart c.queues c.question marks again format) (Err f) old new
         → AnswersOf contents (asks.Check c) file s (Err (refusals.Fault (of_writing f))) old new
-    not_judged writing.Memory old new (inl same) = inl same
-    not_judged writing.Memory old new (inr (passed, printed, says, begun)) =
-        inr (printed, (ended_by passed, (format, its, marks, are, passed, refl, says)), begun)
-    not_judged writing.Device old new said = tt
+    not_judged again asked writing.Memory old new (inl same) = inl same
+    not_judged again asked writing.Memory old new (inr (passed, printed, says, begun)) =
+        inr (printed, (ended_by passed, judges again asked passed printed says), begun)
+    not_judged again asked writing.Device old new said = tt
 
   module _ (x : Readying) (file : List ℕ) (s : SourceText) (only : Option (List Bool)) (are : AreReady s.chart (names_of x) only)
       (style : Style) (its : IsStyle x.look file s.text style) where
-    -- what was told of ready instances was answered of them
-    pub readied : (passed : Bool) (old new : W) → pages.Tells contents (PrintsReady s.chart x.queues only x.show style) (Ok passed) old new
+    -- what is told of ready instances, with rounds of the chart where they are asked for
+    readies : (again : Bool) → again ≡ x.again → (passed : Bool) (printed : List ℕ) → PrintsReady s.chart x.queues only again x.show style passed printed
+        → PrintsOf (asks.Ready x) file s (ended_by passed) printed
+    readies again asked passed printed says =
+        (only, are, style, its, passed, refl, subst (λ (a : Bool). PrintsReady s.chart x.queues only a x.show style passed printed) asked says)
+
+    -- where it was told it was answered
+    pub readied : (again : Bool) → again ≡ x.again → (passed : Bool) (old new : W)
+        → pages.Tells contents (PrintsReady s.chart x.queues only again x.show style) (Ok passed) old new
         → AnswersOf contents (asks.Ready x) file s (Ok (ended_by passed)) old new
-    readied passed old new (printed, says, wrote) = (printed, (only, are, style, its, passed, refl, says), wrote)
+    readied again asked passed old new (printed, says, wrote) = (printed, readies again asked passed printed says, wrote)
 
     -- and so it was where it was not written to its end
-    pub not_readied : (f : WriteFault) (old new : W) → pages.Tells contents (PrintsReady s.chart x.queues only x.show style) (Err f) old new
+    pub not_readied : (again : Bool) → again ≡ x.again → (f : WriteFault) (old new : W)
+        → pages.Tells contents (PrintsReady s.chart x.queues only again x.show style) (Err f) old new
         → AnswersOf contents (asks.Ready x) file s (Err (refusals.Fault (of_writing f))) old new
-    not_readied writing.Memory old new (inl same) = inl same
-    not_readied writing.Memory old new (inr (passed, printed, says, begun)) =
-        inr (printed, (ended_by passed, (only, are, style, its, passed, refl, says)), begun)
-    not_readied writing.Device old new said = tt
+    not_readied again asked writing.Memory old new (inl same) = inl same
+    not_readied again asked writing.Memory old new (inr (passed, printed, says, begun)) =
+        inr (printed, (ended_by passed, readies again asked passed printed says), begun)
+    not_readied again asked writing.Device old new said = tt
 
   -- marks that can't be read are answered so
   pub not_marked : (c : Checking) (file : List ℕ) (s : SourceText) (f : MarkFault) (now : W) → ReadsMarks c.accept s.text (Err f)
@@ -135,19 +170,34 @@ module _ {W : Type 0} (contents : W → Option (List ℕ)) where
   not_marked c file s (marking.Reason at) now faulty = (faulty, refl)
   not_marked c file s marking.Memory now said = inl refl
 
+  -- so are rounds that are no chart, of races
+  pub too_long : (c : Checking) (file : List ℕ) (s : SourceText) (f : TwiceFault) (now : W) → GivesRounds c.again s.chart (Err f)
+      → AnswersOf contents (asks.Check c) file s (Err (of_rounds f)) now now
+  too_long c file s twice.TooManyMessages now long = (long, refl)
+  too_long c file s twice.TooManyActions now long = (long, refl)
+  too_long c file s twice.Memory now said = inl refl
+
+  -- and of ready instances
+  pub too_long_ready : (x : Readying) (file : List ℕ) (s : SourceText) (f : TwiceFault) (now : W) → GivesRounds x.again s.chart (Err f)
+      → AnswersOf contents (asks.Ready x) file s (Err (of_rounds f)) now now
+  too_long_ready x file s twice.TooManyMessages now long = (long, refl)
+  too_long_ready x file s twice.TooManyActions now long = (long, refl)
+  too_long_ready x file s twice.Memory now said = inl refl
+
   -- and so is what is told by the status alone
-  pub told_quietly : (queues : Queues) (allowed : KindSet) (accept : Bool) (file : List ℕ) (s : SourceText) (answer : Result Status Refusal) (now : W)
-      → TellsQuietly queues allowed accept s answer → AnswersOf contents (asks.Quiet queues allowed accept) file s answer now now
-  told_quietly queues allowed accept file s (Ok status) now says = ([], says, nothing_more _)
-  told_quietly queues allowed accept file s (Err (refusals.Fault (Parse f))) now says = absurd says
-  told_quietly queues allowed accept file s (Err (refusals.Fault (Chart f))) now says = absurd says
-  told_quietly queues allowed accept file s (Err (refusals.Fault (NotStarted i))) now says = absurd says
-  told_quietly queues allowed accept file s (Err (refusals.Fault Memory)) now says = inl refl
-  told_quietly queues allowed accept file s (Err (refusals.Fault Device)) now says = tt
-  told_quietly queues allowed accept file s (Err (refusals.Pair f)) now says = absurd says
-  told_quietly queues allowed accept file s (Err (refusals.Mark f)) now says = (says, refl)
-  told_quietly queues allowed accept file s (Err (refusals.Instance name)) now says = absurd says
-  told_quietly queues allowed accept file s (Err (refusals.Import e)) now says = absurd says
+  pub told_quietly : (x : Quieting) (file : List ℕ) (s : SourceText) (answer : Result Status Refusal) (now : W)
+      → TellsQuietly x s answer → AnswersOf contents (asks.Quiet x) file s answer now now
+  told_quietly x file s (Ok status) now says = ([], says, nothing_more _)
+  told_quietly x file s (Err (refusals.Fault (Parse f))) now says = absurd says
+  told_quietly x file s (Err (refusals.Fault (Chart f))) now says = absurd says
+  told_quietly x file s (Err (refusals.Fault (NotStarted i))) now says = absurd says
+  told_quietly x file s (Err (refusals.Fault Memory)) now says = inl refl
+  told_quietly x file s (Err (refusals.Fault Device)) now says = tt
+  told_quietly x file s (Err (refusals.Pair f)) now says = absurd says
+  told_quietly x file s (Err (refusals.Mark f)) now says = (says, refl)
+  told_quietly x file s (Err (refusals.Instance name)) now says = absurd says
+  told_quietly x file s (Err (refusals.Rounds f)) now says = (says, refl)
+  told_quietly x file s (Err (refusals.Import e)) now says = absurd says
 
   -- a chart that was not run is answered so
   pub not_run : (queues : Queues) (patience : ℕ) (file : List ℕ) (s : SourceText) (f : RunFault) (now : W)
@@ -187,6 +237,7 @@ module _ {W : Type 0} (contents : W → Option (List ℕ)) where
     refuses_so d of_text ask (refusals.Pair f) fails = (d, of_text, fails)
     refuses_so d of_text ask (refusals.Mark f) fails = (d, of_text, fails)
     refuses_so d of_text ask (refusals.Instance name) fails = (d, of_text, fails)
+    refuses_so d of_text ask (refusals.Rounds f) fails = (d, of_text, fails)
     refuses_so d of_text ask (refusals.Import e) fails = absurd fails
 
     -- what was answered of a chart was answered of its text
@@ -226,6 +277,7 @@ module _ {W : Type 0} (contents : W → Option (List ℕ)) where
     spent_so (refusals.Pair f) old new spent does = absurd cc
     spent_so (refusals.Mark f) old new spent does = absurd cc
     spent_so (refusals.Instance name) old new spent does = absurd cc
+    spent_so (refusals.Rounds f) old new spent does = absurd cc
     spent_so (refusals.Import e) old new spent does = absurd cc
 
     -- where something is, the writer has had no call before it is told
@@ -238,6 +290,7 @@ module _ {W : Type 0} (contents : W → Option (List ℕ)) where
     untouched (refusals.Pair f) old new refused does = does.1
     untouched (refusals.Mark f) old new refused does = does.1
     untouched (refusals.Instance name) old new refused does = does.1
+    untouched (refusals.Rounds f) old new refused does = does.1
     untouched (refusals.Import e) old new refused does = does.1
 
     -- and then it is told
@@ -251,6 +304,7 @@ module _ {W : Type 0} (contents : W → Option (List ℕ)) where
     told_so (refusals.Pair f) old mid new refused does tells = (does.0, tells)
     told_so (refusals.Mark f) old mid new refused does tells = (does.0, tells)
     told_so (refusals.Instance name) old mid new refused does tells = (does.0, tells)
+    told_so (refusals.Rounds f) old mid new refused does tells = (does.0, tells)
     told_so (refusals.Import e) old mid new refused does tells = (does.0, tells)
 
     -- so a task that is refused is left as it has to be

@@ -6,6 +6,7 @@ use Rattle.msc_import.specs.declared.importing.Imported.{Imported}
 use Rattle.msc_import.specs.declared.importing.Refused.{Refused as NotImported}
 use Rattle.msc_import.specs.Drafting.{IsReadAgain}
 use Rattle.msc_import.specs.Importing.{Refusal as Said, RefusesSo, imported, seen}
+use Rattle.msc_import_laws.specs.Imports.{ImportsAreCharts, NoFaultIsFirst}
 use Rattle.msc_judge.specs.declared.page.Page.{Page}
 use Rattle.msc_report.specs.declared.fault.Fault.TheVariants.{Parse, Chart, NotStarted, Memory, Device}
 use Rattle.msc_report.specs.Refusals.{of_source}
@@ -58,19 +59,21 @@ module _ (x : ImportWords) (text file : List ℕ) where
   not_on_page (refusals.Pair f) said = absurd said
   not_on_page (refusals.Mark f) said = absurd said
   not_on_page (refusals.Instance name) said = absurd said
+  not_on_page (refusals.Rounds f) said = absurd said
 
   -- the page of what was imported
-  pub on_page : (is : Imported) (r : Result Page Refusal) → (imported (wanted_of x) text ≡ Ok is) × IsReadAgain is.draft → IsPageOf x.list file is r → IsImportedOn x file text r
-  on_page is (Ok page) of_text prints = (is, of_text.0, of_text.1, prints)
-  on_page is (Err (refusals.Fault Memory)) of_text said = tt
-  on_page is (Err (refusals.Fault (Chart f))) of_text said = (said.0, (is, of_text.0, said.1))
-  on_page is (Err (refusals.Fault Device)) of_text said = absurd said
-  on_page is (Err (refusals.Fault (Parse f))) of_text said = absurd said
-  on_page is (Err (refusals.Fault (NotStarted i))) of_text said = absurd said
-  on_page is (Err (refusals.Import e)) of_text said = absurd said
-  on_page is (Err (refusals.Pair f)) of_text said = absurd said
-  on_page is (Err (refusals.Mark f)) of_text said = absurd said
-  on_page is (Err (refusals.Instance name)) of_text said = absurd said
+  pub on_page : ImportsAreCharts → NoFaultIsFirst → (is : Imported) (r : Result Page Refusal) → (imported (wanted_of x) text ≡ Ok is) × IsReadAgain is.draft → IsPageOf x.list file is r → IsImportedOn x file text r
+  on_page charts none is (Ok page) of_text prints = (is, of_text.0, of_text.1, prints)
+  on_page charts none is (Err (refusals.Fault Memory)) of_text said = tt
+  on_page charts none is (Err (refusals.Fault (Chart f))) of_text said = absurd (none is.draft f (charts (wanted_of x) text is of_text.0) said.1)
+  on_page charts none is (Err (refusals.Fault Device)) of_text said = absurd said
+  on_page charts none is (Err (refusals.Fault (Parse f))) of_text said = absurd said
+  on_page charts none is (Err (refusals.Fault (NotStarted i))) of_text said = absurd said
+  on_page charts none is (Err (refusals.Import e)) of_text said = absurd said
+  on_page charts none is (Err (refusals.Pair f)) of_text said = absurd said
+  on_page charts none is (Err (refusals.Mark f)) of_text said = absurd said
+  on_page charts none is (Err (refusals.Instance name)) of_text said = absurd said
+  on_page charts none is (Err (refusals.Rounds f)) of_text said = absurd said
 
   -- why there is no page is why the task is refused, or memory ran out
   pub unprinted : {W : Type 0} (contents : W → Option (List ℕ)) (r : Refusal) (now : W) → IsImportedOn x file text (Err r)
@@ -83,6 +86,7 @@ module _ (x : ImportWords) (text file : List ℕ) where
   unprinted contents (refusals.Pair f) now fails = (fails, refl)
   unprinted contents (refusals.Mark f) now fails = (fails, refl)
   unprinted contents (refusals.Instance name) now fails = (fails, refl)
+  unprinted contents (refusals.Rounds f) now fails = (fails, refl)
   unprinted contents (refusals.Import e) now fails = (fails, refl)
 
 -- a draft that is no chart is not listed

@@ -4,6 +4,7 @@ use Rattle.msc_chart.specs.Lists.{Occurs}
 use Rattle.msc_import.specs.Whole.{imported_all}
 use Rattle.msc_import.specs.declared.whole.Scenario.{Scenario as Drawn}
 use Rattle.msc_import.specs.declared.whole.Scenarios.{Scenarios}
+use Rattle.msc_import_laws.specs.Imports.{NoFaultIsFirst, ScenariosAreCharts}
 use Rattle.msc_report.specs.declared.fault.Fault.TheVariants.{Parse, Chart, NotStarted, Memory, Device}
 use Rattle.msc_report.specs.Refusals.{of_source, of_writing}
 use Rattle.msc_source.specs.declared.fault.SourceFault.{SourceFault}
@@ -41,6 +42,7 @@ not_all file all s among (refusals.Fault Device) said = absurd said
 not_all file all s among (refusals.Pair f) said = absurd said
 not_all file all s among (refusals.Mark f) said = absurd said
 not_all file all s among (refusals.Instance name) said = absurd said
+not_all file all s among (refusals.Rounds f) said = absurd said
 not_all file all s among (refusals.Import e) said = absurd said
 
 module _ {W : Type 0} (contents : W → Option (List ℕ)) (x : ScenarioWords) (file text : List ℕ) (now : W) where
@@ -55,20 +57,22 @@ module _ {W : Type 0} (contents : W → Option (List ℕ)) (x : ScenarioWords) (
   none_drawn (refusals.Pair f) said = absurd said
   none_drawn (refusals.Mark f) said = absurd said
   none_drawn (refusals.Instance name) said = absurd said
+  none_drawn (refusals.Rounds f) said = absurd said
   none_drawn (refusals.Import e) said = (said, refl)
 
   -- and where one is no chart
-  pub not_charted : (all : Scenarios) → imported_all (wanted_of x) text ≡ Ok all → (r : Refusal) → AreNotCharted all.list r
+  pub not_charted : ScenariosAreCharts → NoFaultIsFirst → (all : Scenarios) → imported_all (wanted_of x) text ≡ Ok all → (r : Refusal) → AreNotCharted all.list r
       → AnswersWith contents (PrintsScenarios x file text) (BeginsScenarios x file text) (RefusesScenarios x text) (Err r) now now
-  not_charted all is (refusals.Fault (Parse f)) said = absurd said
-  not_charted all is (refusals.Fault (Chart f)) said = ((all, is, said), refl)
-  not_charted all is (refusals.Fault (NotStarted i)) said = absurd said
-  not_charted all is (refusals.Fault Memory) said = inl refl
-  not_charted all is (refusals.Fault Device) said = absurd said
-  not_charted all is (refusals.Pair f) said = absurd said
-  not_charted all is (refusals.Mark f) said = absurd said
-  not_charted all is (refusals.Instance name) said = absurd said
-  not_charted all is (refusals.Import e) said = absurd said
+  not_charted charts none all is (refusals.Fault (Parse f)) said = absurd said
+  not_charted charts none all is (refusals.Fault (Chart f)) (s, among, said) = absurd (none s.draft f (charts (wanted_of x) text all s is among) said)
+  not_charted charts none all is (refusals.Fault (NotStarted i)) said = absurd said
+  not_charted charts none all is (refusals.Fault Memory) said = inl refl
+  not_charted charts none all is (refusals.Fault Device) said = absurd said
+  not_charted charts none all is (refusals.Pair f) said = absurd said
+  not_charted charts none all is (refusals.Mark f) said = absurd said
+  not_charted charts none all is (refusals.Instance name) said = absurd said
+  not_charted charts none all is (refusals.Rounds f) said = absurd said
+  not_charted charts none all is (refusals.Import e) said = absurd said
 
 module _ {W : Type 0} (contents : W → Option (List ℕ)) (c : Checking) (file name : List ℕ) (ss : List Scenario) where
   -- what is told by the status alone

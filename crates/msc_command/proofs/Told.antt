@@ -38,7 +38,7 @@ never_surveyed false c file name ss printed (form, its, passed, same, says) = ne
 never_printed : (task : Task) (file text printed : List ℕ) → Prints task file text Refused printed → ⊥
 never_printed tasks.Read file text printed (draft, has, same, is) = cc
 never_printed (tasks.Chart (asks.Check c)) file text printed (d, of_text, (format, its, marks, are, passed, same, says)) = never_ended passed same
-never_printed (tasks.Chart (asks.Quiet queues allowed accept)) file text printed (d, of_text, (marks, are, passed, same, says, none)) = never_ended passed same
+never_printed (tasks.Chart (asks.Quiet x)) file text printed (d, of_text, (marks, are, passed, same, says, none)) = never_ended passed same
 never_printed (tasks.Chart (asks.Explain x)) file text printed (d, of_text, (e, f, two, style, its, enforced, same, says)) = never_ended enforced same
 never_printed (tasks.Chart (asks.Run queues patience)) file text printed (d, of_text, (finished, same, says)) = never_finished finished same
 never_printed (tasks.Chart (asks.List placed)) file text printed (d, of_text, (sites, are, same, is)) = cc
@@ -78,6 +78,8 @@ module _ {W : Type 0} (contents : W → Option (List ℕ)) where
   tells task file reads (Err (refusals.Mark f)) old new (inr (never, same)) = absurd never
   tells task file reads (Err (refusals.Instance name)) old new (inl (text, read, (refused, told))) = refused_told (form_of task) file text (refusals.Instance name) old new told
   tells task file reads (Err (refusals.Instance name)) old new (inr (never, same)) = absurd never
+  tells task file reads (Err (refusals.Rounds f)) old new (inl (text, read, (refused, told))) = refused_told (form_of task) file text (refusals.Rounds f) old new told
+  tells task file reads (Err (refusals.Rounds f)) old new (inr (never, same)) = absurd never
   tells task file reads (Err (refusals.Import e)) old new (inl (text, read, (refused, told))) = refused_told (form_of task) file text (refusals.Import e) old new told
   tells task file reads (Err (refusals.Import e)) old new (inr (never, same)) = absurd never
 

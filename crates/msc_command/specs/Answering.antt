@@ -3,14 +3,13 @@ use Rattle.std.specs.Prelude.{◌≡◌, ◌<◌, ◌⊎◌, ℕ, Bool, true, Li
 use Rattle.std.specs.Io.KnownBytes.{Appends}
 use Rattle.msc_chart.specs.Drawings.{Drawing}
 use Rattle.msc_chart.specs.Faults.{IsFirstFault}
+use Rattle.msc_chart.specs.declared.fault.TwiceFault.{TwiceFault}
 use Rattle.msc_parser.specs.Canonical.{canonical}
 use Rattle.msc_parser.specs.Grammar.{Tree}
 use Rattle.msc_parser.specs.Parsing.{HasDraft, HasParseFault}
-use Rattle.msc_chart.specs.declared.queue.Queues.{Queues}
 use Rattle.msc_judge.specs.Pages.{WritesBeginning}
 use Rattle.msc_mark.specs.declared.fault.MarkFault.{MarkFault}
 use Rattle.msc_mark.specs.declared.mark.Mark.{Mark}
-use Rattle.msc_reason.specs.declared.kinds.KindSet.{KindSet}
 use Rattle.msc_report.specs.declared.fault.Fault.TheVariants.{Parse, NotStarted, Memory, Device}
 use Rattle.msc_report.specs.declared.fault.Fault.TheVariants as faults
 use Rattle.msc_place.specs.Sites.{SitesIn}
@@ -32,6 +31,7 @@ use Rattle.msc_command.specs.Marked.{AreMarked, HasFaultyMark}
 use Rattle.msc_command.specs.Naming.{AreTwoNamed, IsNamedFault}
 use Rattle.msc_command.specs.Readied.{names_of, AreReady, IsFirstUnknown}
 use Rattle.msc_command.specs.Refused.{TellsRefusal, TellsUnread}
+use Rattle.msc_command.specs.Rounds.{LacksRounds}
 use Rattle.msc_command.specs.Scenarios.{BeginsScenarios, PrintsScenarios, RefusesScenarios}
 use Rattle.msc_command.specs.Sited.{AreSited, IsStyle}
 use Rattle.msc_command.specs.declared.ending.Refusal.{Refusal}
@@ -40,6 +40,7 @@ use Rattle.msc_command.specs.declared.ending.Status.{Status}
 use Rattle.msc_command.specs.declared.ending.Status.TheVariants.{Done}
 use Rattle.msc_command.specs.declared.tasks.Ask.{Ask}
 use Rattle.msc_command.specs.declared.tasks.Ask.TheVariants.{Check, Quiet, Explain, Run, List as Listing, Ready}
+use Rattle.msc_command.specs.declared.tasks.Quieting.{Quieting}
 use Rattle.msc_command.specs.declared.tasks.Task.{Task}
 use Rattle.msc_command.specs.declared.tasks.Task.TheVariants.{Read, Chart, Draw, Import, Scenarios}
 
@@ -49,10 +50,10 @@ abbrev pub PrintsOf : Ask → List ℕ → SourceText → Status → List ℕ �
 PrintsOf (Check c) file s status printed =
     (format : Format) × IsFormat c file s.text format
     × (marks : Option (List Mark)) × AreMarked c.accept s.text marks
-    × (passed : Bool) × (status ≡ ended_by passed) × JudgesChart s.chart c.queues c.question marks format passed printed
-PrintsOf (Quiet queues allowed accept) file s status printed =
-    (marks : Option (List Mark)) × AreMarked accept s.text marks
-    × (passed : Bool) × (status ≡ ended_by passed) × Passes s.chart queues allowed marks passed × (printed ≡ [])
+    × (passed : Bool) × (status ≡ ended_by passed) × JudgesChart s.chart c.queues c.question marks c.again format passed printed
+PrintsOf (Quiet x) file s status printed =
+    (marks : Option (List Mark)) × AreMarked x.accept s.text marks
+    × (passed : Bool) × (status ≡ ended_by passed) × Passes s.chart x.queues x.allowed marks x.again passed × (printed ≡ [])
 PrintsOf (Explain x) file s status printed =
     (e f : ℕ) × AreTwoNamed s x.first x.second e f × (style : Style) × IsStyle x.look file s.text style
     × (enforced : Bool) × (status ≡ ended_by enforced) × PrintsReason s.chart x.queues e f x.short style enforced printed
@@ -62,7 +63,7 @@ PrintsOf (Listing placed) file s status printed =
     (sites : Option SitesIn) × AreSited placed file s.text sites × (status ≡ Done) × (printed ≡ listed_text s.chart sites)
 PrintsOf (Ready x) file s status printed =
     (only : Option (List Bool)) × AreReady s.chart (names_of x) only × (style : Style) × IsStyle x.look file s.text style
-    × (passed : Bool) × (status ≡ ended_by passed) × PrintsReady s.chart x.queues only x.show style passed printed
+    × (passed : Bool) × (status ≡ ended_by passed) × PrintsReady s.chart x.queues only x.again x.show style passed printed
 
 -- the names of a pair that is asked for are those of no two events of the chart
 abbrev pub RefusesPair : Ask → SourceText → NamedFault → Type 0
@@ -72,13 +73,20 @@ RefusesPair ask s fault = ⊥
 -- the marks of the text are asked, and this is the first faulty one
 abbrev pub RefusesMark : Ask → SourceText → MarkFault → Type 0
 RefusesMark (Check c) s fault = HasFaultyMark c.accept s.text fault
-RefusesMark (Quiet queues allowed accept) s fault = HasFaultyMark accept s.text fault
+RefusesMark (Quiet x) s fault = HasFaultyMark x.accept s.text fault
 RefusesMark ask s fault = ⊥
 
 -- a name that is asked for is that of no instance, and is the first such
 abbrev pub RefusesInstance : Ask → Drawing → List ℕ → Type 0
 RefusesInstance (Ready x) d name = IsFirstUnknown d (names_of x) name
 RefusesInstance ask d name = ⊥
+
+-- rounds of the chart are asked for, and this is why two are no chart
+abbrev pub RefusesRounds : Ask → Drawing → TwiceFault → Type 0
+RefusesRounds (Check c) d fault = LacksRounds c.again d fault
+RefusesRounds (Quiet x) d fault = LacksRounds x.again d fault
+RefusesRounds (Ready x) d fault = LacksRounds x.again d fault
+RefusesRounds ask d fault = ⊥
 
 -- an instance of a chart that is to be run could not be started
 abbrev pub FailsToStart : Ask → Drawing → ℕ → Type 0
@@ -90,6 +98,7 @@ abbrev pub RefusesOf : Ask → SourceText → Refusal → Type 0
 RefusesOf ask s (refusals.Pair fault) = RefusesPair ask s fault
 RefusesOf ask s (refusals.Mark fault) = RefusesMark ask s fault
 RefusesOf ask s (refusals.Instance name) = RefusesInstance ask s.chart name.now
+RefusesOf ask s (refusals.Rounds fault) = RefusesRounds ask s.chart fault
 RefusesOf ask s (refusals.Fault (NotStarted i)) = FailsToStart ask s.chart i
 RefusesOf ask s refusal = ⊥
 
@@ -140,11 +149,12 @@ abbrev pub AnswersOf : {W : Type 0} → (W → Option (List ℕ)) → Ask → Li
 AnswersOf contents ask file s = Answers contents (PrintsOf ask file s) (RefusesOf ask s)
 
 -- how a run ends that tells whether no race counts, without a text
-abbrev pub TellsQuietly : Queues → KindSet → Bool → SourceText → Result Status Refusal → Type 0
-TellsQuietly queues allowed accept s (Ok status) = PrintsOf (Quiet queues allowed accept) [] s status []
-TellsQuietly queues allowed accept s (Err (refusals.Fault Memory)) = Unit {0}
-TellsQuietly queues allowed accept s (Err (refusals.Mark fault)) = HasFaultyMark accept s.text fault
-TellsQuietly queues allowed accept s (Err refusal) = ⊥
+abbrev pub TellsQuietly : Quieting → SourceText → Result Status Refusal → Type 0
+TellsQuietly x s (Ok status) = PrintsOf (Quiet x) [] s status []
+TellsQuietly x s (Err (refusals.Fault Memory)) = Unit {0}
+TellsQuietly x s (Err (refusals.Mark fault)) = HasFaultyMark x.accept s.text fault
+TellsQuietly x s (Err (refusals.Rounds fault)) = LacksRounds x.again s.chart fault
+TellsQuietly x s (Err refusal) = ⊥
 
 -- what begins what is printed of the text of a file for a task: of scenarios what is printed of the first
 -- of them, else that itself

@@ -32,6 +32,7 @@ use Rattle.msc_command.specs.declared.tasks.Explaining.{Explaining}
 use Rattle.msc_command.specs.declared.tasks.DiagramWords.{DiagramWords}
 use Rattle.msc_command.specs.declared.tasks.ImportWords.{ImportWords}
 use Rattle.msc_command.specs.declared.tasks.Look.{Look}
+use Rattle.msc_command.specs.declared.tasks.Quieting.{Quieting}
 use Rattle.msc_command.specs.declared.tasks.Readying.{Readying}
 use Rattle.msc_command.specs.declared.tasks.ScenarioWords.{ScenarioWords}
 use Rattle.msc_command.specs.declared.tasks.Ask.TheVariants.{Check, Quiet, Explain, Run, List as Listing, Ready}
@@ -155,8 +156,16 @@ pub record IsChecking (found : Found) (shown : ℕ) (c : Checking) : Type 0 wher
   pub architecture_is : architecture found ≡ Some c.queues
   pub question : IsQuestion found shown c.question
   pub accept : IsFlag found (word_name words.Accept) c.accept
+  pub again : IsFlag found (word_name words.Again) c.again
   pub form_is : c.form ≡ form found
   pub look : IsLook found c.look
+
+-- what the words of `check` ask the status to tell alone
+pub record IsQuieting (found : Found) (x : Quieting) : Type 0 where
+  pub architecture_is : architecture found ≡ Some x.queues
+  pub allowed : AreAllowed found x.allowed
+  pub accept : IsFlag found (word_name words.Accept) x.accept
+  pub again : IsFlag found (word_name words.Again) x.again
 
 -- the words of `check` are of a diagram
 abbrev pub is_of_scenarios : Found → Bool
@@ -195,6 +204,7 @@ pub record IsReadying (found : Found) (x : Readying) : Type 0 where
   pub architecture_is : architecture found ≡ Some x.queues
   pub only : map (λ word. word.now) x.only.now ≡ words_of found (word_name words.Only)
   pub show : IsOptionNumber found (word_name words.ShowSticks) unlimited x.show
+  pub again : IsFlag found (word_name words.Again) x.again
   pub look : IsLook found x.look
 
 -- the file that a word names: the input, where none does
@@ -272,6 +282,7 @@ pub record IsSurvey (found : Found) (x : ScenarioWords) : Type 0 where
   pub within : is_limit x.limit ≡ true
   pub checking : IsChecking found 0 x.checking
   pub unmarked : x.checking.accept ≡ false
+  pub once : x.checking.again ≡ false
   pub quiet : IsFlag found (word_name words.Quiet) x.quiet
 
 -- What the words behind a command ask for. What is to be quiet is told by the status alone.
@@ -279,9 +290,8 @@ abbrev pub AsksFor : Verb → Found → Task → Type 0
 AsksFor verbs.Read found Read = Unit {0}
 AsksFor verbs.Check found (Chart (Check c)) =
     (is_of_scenarios found ≡ false) × IsFlag found (word_name words.Quiet) false × IsChecking found unlimited c
-AsksFor verbs.Check found (Chart (Quiet queues allowed accept)) =
-    (is_of_scenarios found ≡ false) × AreAllowed found allowed × IsFlag found (word_name words.Accept) accept
-    × IsFlag found (word_name words.Quiet) true × (architecture found ≡ Some queues)
+AsksFor verbs.Check found (Chart (Quiet x)) =
+    (is_of_scenarios found ≡ false) × IsFlag found (word_name words.Quiet) true × IsQuieting found x
 AsksFor verbs.Check found (Scenarios x) = (is_of_scenarios found ≡ true) × IsSurvey found x
 AsksFor verbs.Explain found (Chart (Explain x)) = IsExplaining found x
 AsksFor verbs.Run found (Chart (Run queues patience)) =
@@ -301,11 +311,11 @@ LacksPair found =
     (architecture found ≡ None)
     ⊎ (LacksEvent found (word_name words.FirstEvent) ⊎ LacksEvent found (word_name words.SecondEvent))
 
--- the words of `check` can't be asked of a diagram: marks are asked, or the word for rounds gives no
--- numbers, or as many scenarios can't be asked for
+-- the words of `check` can't be asked of a diagram: marks are asked, or rounds of the chart, or the word
+-- for rounds of loops gives no numbers, or as many scenarios can't be asked for
 abbrev pub LacksScenarios : Found → Type 0
 LacksScenarios found =
-    IsFlag found (word_name words.Accept) true
+    (IsFlag found (word_name words.Accept) true ⊎ IsFlag found (word_name words.Again) true)
     ⊎ ((lacks_rounds (first_value found (word_name words.Rounds)) ≡ true)
     ⊎ ((n : ℕ) × IsOptionNumber found (word_name words.Limit) default_limit n × (is_limit n ≡ false)))
 

@@ -146,7 +146,7 @@ IsChartOrFault draft (Err (sources.Chart f)) = IsFirstFault draft f
 IsChartOrFault draft (Err sources.Memory) = Unit {0}
 IsChartOrFault draft (Err fault) = ⊥
 
--- the page with that, or why there is none: memory ran out, or what is listed is no chart
+-- the page with that, or why there is none: memory ran out, or the draft is no chart
 abbrev pub IsPageOf : Bool → List ℕ → Imported → Result Page Refusal → Type 0
 IsPageOf list file is (Ok page) = PrintsImported list file is page.bytes.items
 IsPageOf list file is (Err (refusals.Fault Memory)) = Unit {0}
@@ -172,11 +172,9 @@ abbrev pub PrintsImport : ImportWords → List ℕ → List ℕ → List ℕ →
 PrintsImport x file text printed =
     (is : Imported) × (imported (wanted_of x) text ≡ Ok is) × IsReadAgain is.draft × PrintsImported x.list file is printed
 
--- why nothing is printed: nothing is imported, or what is listed is no chart
+-- why nothing is printed: nothing is imported. What is imported is a chart
 abbrev pub RefusesImport : ImportWords → List ℕ → Refusal → Type 0
 RefusesImport x text (refusals.Import e) = imported (wanted_of x) text ≡ Err (seen e)
-RefusesImport x text (refusals.Fault (Chart f)) =
-    (x.list ≡ true) × ((is : Imported) × (imported (wanted_of x) text ≡ Ok is) × IsFirstFault is.draft f)
 RefusesImport x text refusal = ⊥
 
 -- the page with what is imported, or why there is none

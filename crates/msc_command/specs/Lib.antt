@@ -8,6 +8,7 @@ pub mod Naming
 pub mod Readied
 pub mod Formats
 pub mod Marked
+pub mod Rounds
 pub mod Drawing
 pub mod Ending
 pub mod Refused

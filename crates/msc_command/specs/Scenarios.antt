@@ -56,15 +56,11 @@ IsCharted file s (Err refusal) = ⊥
 abbrev pub AreCharts : List Drawn → Type 0
 AreCharts all = All (λ s. IsFaultless s.draft) all
 
--- one of them is none, with this first fault
-abbrev pub IsNoChart : List Drawn → Refusal → Type 0
-IsNoChart all (refusals.Fault (Chart f)) = (s : Drawn) × Occurs all s × IsFirstFault s.draft f
-IsNoChart all refusal = ⊥
-
--- why they have no charts: one of them is none, or memory ran out
+-- why they have no charts: one of them is none, with this first fault, or memory ran out
 abbrev pub AreNotCharted : List Drawn → Refusal → Type 0
+AreNotCharted all (refusals.Fault (Chart f)) = (s : Drawn) × Occurs all s × IsFirstFault s.draft f
 AreNotCharted all (refusals.Fault Memory) = Unit {0}
-AreNotCharted all refusal = IsNoChart all refusal
+AreNotCharted all refusal = ⊥
 
 -- the form in which scenarios are told, of the file of this name
 abbrev pub IsFormIn : Form → Bool → List ℕ → DiagramForm → Type 0
@@ -106,7 +102,7 @@ abbrev pub BeginsScenarios : ScenarioWords → List ℕ → List ℕ → List �
 BeginsScenarios x file text printed =
     OfScenarios x file text (λ name scenarios. BeginsAll x.quiet x.checking file name scenarios printed)
 
--- why nothing is printed: there are no scenarios, or one of them is no chart
+-- why nothing is printed: there are no scenarios. Each of them is a chart
 abbrev pub RefusesScenarios : ScenarioWords → List ℕ → Refusal → Type 0
 RefusesScenarios x text (refusals.Import e) = imported_all (wanted_of x) text ≡ Err (seen e)
-RefusesScenarios x text refusal = (all : Scenarios) × (imported_all (wanted_of x) text ≡ Ok all) × IsNoChart all.list refusal
+RefusesScenarios x text refusal = ⊥

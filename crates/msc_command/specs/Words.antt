@@ -8,7 +8,7 @@ use Rattle.msc_command.specs.declared.words.Takes.TheVariants as takes
 use Rattle.msc_command.specs.declared.words.Verb.{Verb}
 use Rattle.msc_command.specs.declared.words.Verb.TheVariants.{Read, Check, Explain, Run, List as Listing, Draw, Reverse, Report, Ready, Import}
 use Rattle.msc_command.specs.declared.words.Word.{Word}
-use Rattle.msc_command.specs.declared.words.Word.TheVariants.{File, Queues, QueuesIfAny, Closest, Why, Most, Show, ShowSticks, Only, Allow, Format, Quiet, Words, Short, Accept, Patience, Places, Plain, Svg, FirstEvent, SecondEvent, From, Choose, Listed, Name, Own, Cross, Par, ScenariosFrom, Rounds, Limit, Fence}
+use Rattle.msc_command.specs.declared.words.Word.TheVariants.{File, Queues, QueuesIfAny, Closest, Why, Most, Show, ShowSticks, Only, Allow, Format, Quiet, Words, Short, Accept, Again, Patience, Places, Plain, Svg, FirstEvent, SecondEvent, From, Choose, Listed, Name, Own, Cross, Par, ScenariosFrom, Rounds, Limit, Fence}
 
 -- the name of a word behind a command
 abbrev pub word_name : Word → List ℕ
@@ -27,6 +27,7 @@ word_name Quiet = codes "quiet"
 word_name Words = codes "words"
 word_name Short = codes "short"
 word_name Accept = codes "accept"
+word_name Again = codes "again"
 word_name Patience = codes "patience"
 word_name Places = codes "places"
 word_name Plain = codes "plain"
@@ -62,6 +63,7 @@ takes_of Quiet = takes.NothingOrQ
 takes_of Words = takes.Nothing
 takes_of Short = takes.Nothing
 takes_of Accept = takes.Nothing
+takes_of Again = takes.Nothing
 takes_of Patience = takes.Number
 takes_of Places = takes.Nothing
 takes_of Plain = takes.Nothing
@@ -105,7 +107,7 @@ verb_of_word name = find (λ verb. bytes_eq name (verb_name verb)) verbs
 abbrev pub words_of : Verb → List Word
 words_of Read = Places ∷ Plain ∷ File ∷ []
 words_of Check =
-    Queues ∷ Closest ∷ Why ∷ Most ∷ Show ∷ Allow ∷ Accept ∷ Format ∷ Quiet ∷ Words ∷ Short
+    Queues ∷ Closest ∷ Why ∷ Most ∷ Show ∷ Allow ∷ Accept ∷ Again ∷ Format ∷ Quiet ∷ Words ∷ Short
     ∷ ScenariosFrom ∷ Rounds ∷ Limit ∷ Fence ∷ Name ∷ Own ∷ Cross ∷ Par ∷ Places ∷ Plain ∷ File ∷ []
 words_of Explain = Queues ∷ Words ∷ Short ∷ Places ∷ Plain ∷ File ∷ FirstEvent ∷ SecondEvent ∷ []
 words_of Run = Queues ∷ Patience ∷ Places ∷ Plain ∷ File ∷ []
@@ -113,7 +115,7 @@ words_of Listing = Places ∷ Plain ∷ File ∷ []
 words_of Draw = QueuesIfAny ∷ Svg ∷ Places ∷ Plain ∷ File ∷ []
 words_of Reverse = Queues ∷ Svg ∷ Places ∷ Plain ∷ File ∷ FirstEvent ∷ SecondEvent ∷ []
 words_of Report = Queues ∷ Places ∷ Plain ∷ File ∷ []
-words_of Ready = Queues ∷ Only ∷ ShowSticks ∷ Words ∷ Places ∷ Plain ∷ File ∷ []
+words_of Ready = Queues ∷ Only ∷ ShowSticks ∷ Again ∷ Words ∷ Places ∷ Plain ∷ File ∷ []
 words_of Import =
     From ∷ Fence ∷ Choose ∷ Listed ∷ Name ∷ Own ∷ Cross ∷ Par ∷ Places ∷ Plain ∷ File ∷ []
 

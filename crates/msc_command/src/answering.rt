@@ -11,6 +11,7 @@ ghost use Rattle.msc_command.specs.Ending.{ends_as};
 ghost use Rattle.msc_command.specs.Formats.{IsFormat};
 ghost use Rattle.msc_command.specs.Importing.{PrintsImportPage, RefusesImport};
 ghost use Rattle.msc_command.specs.Marked.{AreMarked};
+ghost use Rattle.msc_command.specs.Rounds.{AreRounds};
 ghost use Rattle.msc_command.specs.Refused.{IsToldIn, TellsThat, TellsUnread, TellsUnreadIn};
 ghost use Rattle.msc_report.specs.Refusals.{of_reading};
 ghost use Rattle.msc_source.specs.Inputs.{IsReadFrom};
@@ -24,19 +25,19 @@ use crate::notes::{write_cause, write_notes};
 use crate::readied::{first_unknown, lent, lines_named};
 use crate::recorded::TellsFailure;
 use crate::refused::refusal_lines;
+use crate::rounds::rounds_of;
 use crate::scenarios::check_scenarios;
 use crate::sited::{sites_of, style_of};
 use crate::tasks::{
-    Ask, Checking, Drawn, Explaining, Form, ImportWords, Readying, Request, Task, form_of,
+    Ask, Checking, Drawn, Explaining, Form, ImportWords, Quieting, Readying, Request, Task, form_of,
 };
-use msc_chart::Queues;
+use msc_chart::Chart;
 use msc_instance::AlwaysOpen;
 use msc_judge::Page;
 use msc_mark::Marks;
 use msc_parser::Draft;
 use msc_place::Sites;
 use msc_place::writing::write_file;
-use msc_reason::KindSet;
 use msc_report::Fault;
 use msc_source::{Language, ReadFault, Reading, Source, read_all};
 use msc_text::{
@@ -70,16 +71,18 @@ fn flush<O: Write>(output: &mut O) -> Result<(), Refusal<'static>>
     }
 }
 
-/// Writes what is asked of the races of a text's chart in a format, with these marks.
+/// Writes what is asked of the races of a text's chart in a format, with these marks and rounds.
 fn check_in<O: Write>(
     alloc: Global,
     checking: Checking,
     marks: Option<&Marks>,
+    two: Option<&Chart>,
     format: Format<'_>,
     source: &Source,
     output: &mut O,
 ) -> Result<Status, Refusal<'static>>
-    requires { AreMarked checking.accept source.now.text (option_map (λ m. m.now) marks) }
+    requires marks { AreMarked checking.accept source.now.text (option_map (λ m. m.now) marks) }
+    requires two { AreRounds checking.again source.now.chart (option_map (λ c. c.now) two) }
     ensures { (file : List ℕ) → IsFormat checking file source.now.text format.entry
         → AnswersOf O.contents (Ask.Check checking) file source.now result output.old output.new }
 {
@@ -90,6 +93,7 @@ fn check_in<O: Write>(
         queues,
         question,
         marks,
+        two,
         format,
         output,
     )?;
@@ -108,44 +112,38 @@ fn check<O: Write>(
         output.old output.new }
 {
     let marks = marks_of(alloc, checking.accept, source.text())?;
-    let marks = marks.as_ref();
+    let two = rounds_of(alloc, checking.again, source.chart())?;
+    let (marks, two) = (marks.as_ref(), two.as_ref());
     match checking.form {
         Form::Text => {
             let look = checking.look;
             let sites = sites_of(alloc, look.places, file, source.text())?;
             let style = style_of(look, sites.as_ref());
-            check_in(alloc, checking, marks, Format::Lines(style), source, output)
+            let format = Format::Lines(style);
+            check_in(alloc, checking, marks, two, format, source, output)
         }
         Form::Count => {
             let format = Format::Count(file.as_bytes());
-            check_in(alloc, checking, marks, format, source, output)
+            check_in(alloc, checking, marks, two, format, source, output)
         }
         Form::Lines => {
             let sites = Sites::of(alloc, file.as_bytes(), source.text())?;
-            check_in(
-                alloc,
-                checking,
-                marks,
-                Format::Editor(&sites),
-                source,
-                output,
-            )
+            let format = Format::Editor(&sites);
+            check_in(alloc, checking, marks, two, format, source, output)
         }
     }
 }
 
-/// Whether no race of a text's chart counts, and no mark accepts none.
-fn quiet(
-    alloc: Global,
-    queues: Queues,
-    allowed: KindSet,
-    accept: bool,
-    source: &Source,
-) -> Result<Status, Refusal<'static>>
-    ensures { TellsQuietly queues allowed accept source.now result }
+/// Whether no race of a text's chart counts, nor one between its rounds where these are asked for,
+/// and no mark accepts none.
+fn quiet(alloc: Global, quieting: Quieting, source: &Source) -> Result<Status, Refusal<'static>>
+    ensures { TellsQuietly quieting source.now result }
 {
-    let marks = marks_of(alloc, accept, source.text())?;
-    let passes = passes_chart(alloc, source.chart(), queues, allowed, marks.as_ref())?;
+    let chart = source.chart();
+    let marks = marks_of(alloc, quieting.accept, source.text())?;
+    let two = rounds_of(alloc, quieting.again, chart)?;
+    let (queues, allowed) = (quieting.queues, quieting.allowed);
+    let passes = passes_chart(alloc, chart, queues, allowed, marks.as_ref(), two.as_ref())?;
     Ok(ended_by(passes))
 }
 
@@ -207,10 +205,12 @@ fn ready<'w, O: Write>(
     }
     let lines = lines_named(alloc, chart, readying.only)?;
     let only = lent(&lines);
+    let two = rounds_of(alloc, readying.again, chart)?;
+    let two = two.as_ref();
     let sites = sites_of(alloc, readying.look.places, file, source.text())?;
     let style = style_of(readying.look, sites.as_ref());
     let (queues, show) = (readying.queues, readying.show);
-    let finishes = write_ready(alloc, chart, queues, only, show, style, output)?;
+    let finishes = write_ready(alloc, chart, two, queues, only, show, style, output)?;
     Ok(ended_by(finishes))
 }
 
@@ -228,7 +228,7 @@ fn answer_chart<'w, R: Threads + Wait + Sync, O: Write>(
     let chart = source.chart();
     match ask {
         Ask::Check(checking) => check(alloc, checking, file, source, output),
-        Ask::Quiet(queues, allowed, accept) => quiet(alloc, queues, allowed, accept, source),
+        Ask::Quiet(quieting) => quiet(alloc, quieting, source),
         Ask::Explain(explaining) => explain(alloc, explaining, file, source, output),
         Ask::Run(queues, patience) => {
             let (page, finished) = print_execution(

@@ -9,6 +9,7 @@ ghost use Rattle.msc_report.specs.Refusals.{of_reading};
 ghost use Rattle.msc_report.specs.Texts.{fault_line};
 
 use crate::notes::write_cause;
+use msc_chart::TwiceFault;
 use msc_diagram::write_import_fault;
 use msc_ending::RunFault;
 use msc_import::{ImportFault, Refused};
@@ -16,6 +17,7 @@ use msc_judge::WriteFault;
 use msc_mark::MarkFault;
 use msc_report::{
     Fault, NamedFault, write_fault, write_instance_fault, write_mark_fault, write_pair_fault,
+    write_twice_fault,
 };
 use msc_source::{ReadFault, SourceFault};
 use std::alloc::AllocError;
@@ -84,6 +86,8 @@ pub(crate) enum Refusal<'w> {
     Mark(MarkFault),
     /// This name is that of no instance: the first such.
     Instance(&'w str),
+    /// Two rounds of the chart are none.
+    Rounds(TwiceFault),
     /// Nothing is imported of the text.
     Import(Refused),
 }
@@ -130,6 +134,19 @@ impl<'w> From<MarkFault> for Refusal<'w> {
         match fault {
             MarkFault::Memory => Refusal::Fault(Fault::Memory),
             MarkFault::Part(_) | MarkFault::Reason(_) => Refusal::Mark(fault),
+        }
+    }
+}
+
+impl<'w> From<TwiceFault> for Refusal<'w> {
+    ghost use Rattle.msc_command.specs.Ending.{of_rounds};
+
+    ghost from_gives = { λ fault refusal. refusal ≡ of_rounds fault };
+
+    fn from(fault: TwiceFault) -> Refusal<'w> {
+        match fault {
+            TwiceFault::Memory => Refusal::Fault(Fault::Memory),
+            TwiceFault::TooManyMessages | TwiceFault::TooManyActions => Refusal::Rounds(fault),
         }
     }
 }
@@ -186,7 +203,7 @@ pub(crate) fn is_spent(refusal: Refusal<'_>) -> bool
     match refusal {
         Refusal::Fault(Fault::Memory) | Refusal::Fault(Fault::Device) => true,
         Refusal::Fault(_) | Refusal::Pair(_) | Refusal::Mark(_) => false,
-        Refusal::Instance(_) | Refusal::Import(_) => false,
+        Refusal::Instance(_) | Refusal::Rounds(_) | Refusal::Import(_) => false,
     }
 }
 
@@ -197,7 +214,7 @@ fn ends_as(refusal: Refusal<'_>) -> Status
     match refusal {
         Refusal::Fault(fault) => status_of(fault),
         Refusal::Pair(_) | Refusal::Mark(_) | Refusal::Instance(_) => Status::Refused,
-        Refusal::Import(_) => Status::Refused,
+        Refusal::Rounds(_) | Refusal::Import(_) => Status::Refused,
     }
 }
 
@@ -221,6 +238,7 @@ pub(crate) fn write_refusal<W: Write>(writer: &mut W, refusal: Refusal<'_>) -> i
         Refusal::Pair(fault) => write_pair_fault(writer, fault),
         Refusal::Mark(fault) => write_mark_fault(writer, fault),
         Refusal::Instance(name) => write_instance_fault(writer, name.as_bytes()),
+        Refusal::Rounds(fault) => write_twice_fault(writer, fault),
         Refusal::Import(refused) => write_import_fault(writer, &refused),
     }
 }

@@ -10,6 +10,7 @@ use crate::ending::Refusal;
 use crate::tasks::{DiagramWords, ImportWords};
 use msc_chart::Chart;
 use msc_import::{Imported, Importing, import};
+use msc_import_laws::laws::imports_are_charts;
 use msc_judge::Page;
 use msc_parser::Draft;
 use msc_place::Sites;
@@ -108,6 +109,7 @@ pub(crate) fn import_page(
 ) -> Result<Page, Refusal<'static>>
     ensures { IsImportedOn words.entry file.now text.now result }
 {
+    imports_are_charts();
     let imported = import_by(alloc, words, text)?;
     page_of(alloc, words.list, file, imported)
 }

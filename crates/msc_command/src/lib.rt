@@ -18,6 +18,7 @@ mod program;
 mod readied;
 mod recorded;
 mod refused;
+mod rounds;
 mod scenarios;
 mod sited;
 mod tasks;

@@ -69,11 +69,12 @@ fn write_no_diagram<E: Write>(faults: &mut E) -> io::Result<()> {
     )
 }
 
-/// Writes that the marks of a diagram are not asked.
-fn write_marked<E: Write>(faults: &mut E) -> io::Result<()> {
+/// Writes that a word cannot be asked of a diagram.
+fn write_not_of_diagrams<E: Write>(faults: &mut E, word: Word) -> io::Result<()> {
+    let name = word.name();
     writeln!(
         faults,
-        "error: the argument '--from <mermaid|any>' cannot be used with '--accept'{HELP}"
+        "error: the argument '--from <mermaid|any>' cannot be used with '--{name}'{HELP}"
     )
 }
 
@@ -99,8 +100,10 @@ fn write_no_check<E: Write>(faults: &mut E, words: &ArgMatches) -> io::Result<()
     if lacks_from(words) {
         return write_no_diagram(faults);
     }
-    if is_given(words, Word::Accept) {
-        return write_marked(faults);
+    for word in [Word::Accept, Word::Again] {
+        if is_given(words, word) {
+            return write_not_of_diagrams(faults, word);
+        }
     }
     if lacks_rounds(words) {
         return write_no_rounds(faults, words);

@@ -181,20 +181,22 @@ pub fn refuse_words<E: Write>(faults: &mut E, error: &io::Error) -> u8
 /// KIND`, where KIND is `early`, `queues`, `unordered` or `overtaken`, leaves out the races of a
 /// kind, `--format count` writes their number, `--format lines` lines for editors, and `--quiet`
 /// nothing. `msc ready --queues QUEUES [--only NAME].. [--show N] FILE` writes whether instances
-/// that wait for one message can stick. `msc list FILE` writes the events with their numbers. Of
-/// `check`, `explain` and `ready`, `--words` tells runs in words; E and F are `:LINE` too, the first
-/// event of that line. `--places` tells where events stand. FILE `-` is `input`, any other FILE is
-/// opened through `rt`.
+/// that wait for one message can stick. Of `check` and `ready`, `--again` adds what is between a
+/// round of the chart and the next, where it is repeated. `msc list FILE` writes the events with
+/// their numbers. Of `check`, `explain` and `ready`, `--words` tells runs in words; E and F are
+/// `:LINE` too, the first event of that line. `--places` tells where events stand. FILE `-` is
+/// `input`, any other FILE is opened through `rt`.
 ///
-/// What goes wrong is found in the order: the words, opening FILE, reading it, its text, the pair of
-/// events or the names, running it. A fault's line, and what is said of wrong words, go to `faults`;
-/// behind the line, where `--places` asks for it or `faults` is a terminal and `--plain` does not
-/// stand, what is said of the fault; where that writing fails the status stays. The status is 0 where
-/// the answer or the help asked for was written, 1 where there are races that are not left out, or E
-/// is not enforced before F, or a system of ready instances can stick or has races left, 2 where the
-/// text, the pair or a name was refused or the words are no command, 3 where some instance of the
-/// execution has not finished, and 4 where memory ran out, a thread could not be started, a file
-/// could not be opened or read, or the output could not be written.
+/// What goes wrong is found in the order: the words, opening FILE, reading it, its text, the pair
+/// of events or the names, its rounds, running it. A fault's line, and what is said of wrong words,
+/// go to `faults`; behind the line, where `--places` asks for it or `faults` is a terminal and
+/// `--plain` does not stand, what is said of the fault; where that writing fails the status stays.
+/// The status is 0 where the answer or the help asked for was written, 1 where there are races that
+/// are not left out, or E is not enforced before F, or a system of ready instances can stick or has
+/// races left, 2 where the text, its rounds, the pair or a name was refused or the words are no
+/// command, 3 where some instance of the execution has not finished, and 4 where memory ran out, a
+/// thread could not be started, a file could not be opened or read, or the output could not be
+/// written.
 pub fn command<R: Files + Threads + Wait + Sync, I: Read, O: TellsFailure, E: Write + IsTerminal>(
     rt: &R,
     alloc: Global,

@@ -13,6 +13,7 @@ use crate::importing::{chart_of, fence_of};
 use crate::tasks::{Checking, Form, ScenarioWords};
 use msc_diagram::{Form as DiagramForm, Scenario, judge_scenarios, scenarios_pass};
 use msc_import::{ImportingAll, Scenario as Drawn, Scenarios, import_all};
+use msc_import_laws::laws::imports_are_charts;
 use msc_place::Sites;
 use std::alloc::{AllocError, Global};
 use std::io::Write;
@@ -130,6 +131,7 @@ pub(crate) fn check_scenarios<O: Write>(
         (BeginsScenarios words.entry file.now text.now)
         (RefusesScenarios words.entry text.now) result output.old output.new }
 {
+    imports_are_charts();
     let all = import_of_all(alloc, words, text)?;
     let charts = each_charted(alloc, file, all.list.into_vec())?;
     tell(

@@ -5,7 +5,7 @@ ghost use Rattle.clap.specs.Matches.{first_value, found_of};
 ghost use Rattle.msc_command.specs.Asking.{architecture, file_of, form, names_kind, AreAllowed};
 ghost use Rattle.msc_command.specs.Asking.{AsksFor, IsDrawnForm, IsEventWord, IsFlag, IsLook, IsNoCommand, LacksWords};
 ghost use Rattle.msc_command.specs.Asking.{chart_named, cross_named, lacks_choices, language_named};
-ghost use Rattle.msc_command.specs.Asking.{own_named, par_named, IsChecking, IsDiagram};
+ghost use Rattle.msc_command.specs.Asking.{own_named, par_named, IsChecking, IsDiagram, IsQuieting};
 ghost use Rattle.msc_command.specs.Asking.{default_limit, is_limit, is_of_scenarios, lacks_from};
 ghost use Rattle.msc_command.specs.Asking.{lacks_rounds, stands, IsNumberGiven};
 ghost use Rattle.msc_command.specs.Asking.{tells_notes, IsTwofold, WantsNotes};
@@ -78,8 +78,22 @@ pub(crate) struct Checking {
     pub question: Question,
     /// Whether races that marks accept do not count.
     pub accept: bool,
+    /// Whether those between a round of the chart and the next are asked for.
+    pub again: bool,
     pub form: Form,
     pub look: Look,
+}
+
+/// What the status alone tells of the races under an architecture.
+#[derive(Clone, Copy)]
+pub(crate) struct Quieting {
+    pub queues: Queues,
+    /// The kinds whose races do not count.
+    pub allowed: KindSet,
+    /// Whether races that marks accept do not count.
+    pub accept: bool,
+    /// Whether those between a round of the chart and the next count too.
+    pub again: bool,
 }
 
 /// What is asked of two events under an architecture, and how it is answered.
@@ -101,6 +115,8 @@ pub(crate) struct Readying<'w> {
     pub only: &'w [&'w str],
     /// For how many first sticks a run is shown.
     pub show: u32,
+    /// Whether those between a round of the chart and the next are asked for.
+    pub again: bool,
     pub look: Look,
 }
 
@@ -109,9 +125,8 @@ pub(crate) struct Readying<'w> {
 pub(crate) enum Ask<'w> {
     /// What its races are.
     Check(Checking),
-    /// Whether no race counts under an architecture, of none of these kinds, and where that is
-    /// asked without those that marks accept, without a text.
-    Quiet(Queues, KindSet, bool),
+    /// Whether no race counts, without a text.
+    Quiet(Quieting),
     /// Why the first of two events comes before the second, or how it need not.
     Explain(Explaining),
     /// An execution under an architecture, and how many rounds in a row an instance looks in vain.
@@ -390,8 +405,22 @@ fn checking_of(queues: Queues, words: &ArgMatches, shown: u32) -> Checking
         queues,
         question: question_of(words, shown),
         accept: is_given(words, Word::Accept),
+        again: is_given(words, Word::Again),
         form: form_asked(words),
         look: look_of(words),
+    }
+}
+
+/// What the words of `msc check` ask the status to tell alone.
+fn quieting_of(queues: Queues, words: &ArgMatches) -> Quieting
+    ensures { architecture (found_of words.now) ≡ Some queues
+        → IsQuieting (found_of words.now) result }
+{
+    Quieting {
+        queues,
+        allowed: allowed_of(words),
+        accept: is_given(words, Word::Accept),
+        again: is_given(words, Word::Again),
     }
 }
 
@@ -401,9 +430,8 @@ fn chart_check_of(queues: Queues, words: &ArgMatches) -> Task<'static>
     ensures { architecture (found_of words.now) ≡ Some queues
         → AsksFor Verb.Check (found_of words.now) result }
 {
-    let accept = is_given(words, Word::Accept);
     if is_given(words, Word::Quiet) {
-        return Task::Chart(Ask::Quiet(queues, allowed_of(words), accept));
+        return Task::Chart(Ask::Quiet(quieting_of(queues, words)));
     }
     Task::Chart(Ask::Check(checking_of(queues, words, u32::MAX)))
 }
@@ -458,7 +486,7 @@ fn scenarios_of<'w>(queues: Queues, words: &'w ArgMatches) -> Option<Task<'w>>
 {
     let limit = limit_of(words);
     let checking = checking_of(queues, words, 0);
-    if checking.accept || lacks_rounds(words) || !is_limit(limit) {
+    if checking.accept || checking.again || lacks_rounds(words) || !is_limit(limit) {
         return None;
     }
     Some(Task::Scenarios(ScenarioWords {
@@ -565,6 +593,7 @@ fn ready_of<'w>(queues: Queues, words: &'w ArgMatches) -> Task<'w>
         queues,
         only: names_of(words),
         show: number_of(words, Word::ShowSticks, u32::MAX),
+        again: is_given(words, Word::Again),
         look: look_of(words),
     }))
 }

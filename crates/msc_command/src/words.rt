@@ -37,6 +37,7 @@ pub(crate) enum Word {
     Words,
     Short,
     Accept,
+    Again,
     Patience,
     Places,
     Plain,
@@ -114,6 +115,7 @@ impl Word {
             Word::Words => "words",
             Word::Short => "short",
             Word::Accept => "accept",
+            Word::Again => "again",
             Word::Patience => "patience",
             Word::Places => "places",
             Word::Plain => "plain",
@@ -142,7 +144,7 @@ impl Word {
             Word::FirstEvent | Word::SecondEvent => Takes::Event,
             Word::Closest | Word::Why | Word::Words | Word::Short => Takes::Nothing,
             Word::Accept | Word::Places | Word::Plain | Word::Svg => Takes::Nothing,
-            Word::Listed => Takes::Nothing,
+            Word::Again | Word::Listed => Takes::Nothing,
             Word::Quiet => Takes::NothingOrQ,
             Word::Most | Word::Show | Word::ShowSticks | Word::Patience => Takes::Number,
             Word::Limit | Word::Fence => Takes::Number,
@@ -196,6 +198,9 @@ impl Word {
             Word::Short => "Show a short run, which ends with the second event",
             Word::Accept => {
                 "Leave out the races that marks of the text accept, and print the marks that accept none"
+            }
+            Word::Again => {
+                "Print what is between a round of the chart and the next, where it is repeated"
             }
             Word::Patience => {
                 "End an instance that looked in vain N times in a row; without it, 1000000000"
@@ -286,6 +291,7 @@ impl Verb {
                 Word::Show,
                 Word::Allow,
                 Word::Accept,
+                Word::Again,
                 Word::Format,
                 Word::Quiet,
                 Word::Words,
@@ -341,6 +347,7 @@ impl Verb {
                 Word::Queues,
                 Word::Only,
                 Word::ShowSticks,
+                Word::Again,
                 Word::Words,
                 Word::Places,
                 Word::Plain,
@@ -428,12 +435,17 @@ A mark is a comment of an event that says which of its races are meant, and why:
   comment 'race ok in pair, single with ID; ID: REASON'
 Without `in` it is for all architectures, without `with` for all other events.
 
+With --again the chart is a round of a protocol that repeats: each instance begins the next one when
+its own line is done, and no one waits for the others. What races between a round and the next is told
+behind all else, by the number of its event in the one and of its event in the next.
+
 With --from the text is a sequence diagram of Mermaid, and all of its scenarios are checked: each way
 through its alternatives, with loops that go 0 and 2 rounds. A race is told once, at its arrows.
 
 Exit status:
-  0  the chart has no races that count, and with --accept no mark that accepts none
-  1  the chart has races that count, or with --accept a mark that accepts none
+  0  the chart has no races that count, with --accept no mark that accepts none, and with --again
+     none between rounds
+  1  the chart has races that count, or such a mark, or such races between rounds
   2  the text was refused, or the words are no command
   4  memory ran out, or a file or the output failed
 
@@ -519,11 +531,12 @@ leaves the others in their queues. Without --only all instances are ready.
   may stick N     some run sticks, and some run is whole; N is the number of sticks
   never finishes  no run is whole
 
-A stick is a pair of inputs of one queue, of which the second may come to stand first.
+A stick is a pair of inputs of one queue, of which the second may come to stand first. With --again
+those of an input of a round and one of the next are told too, where the chart is repeated.
 
 Exit status:
-  0  the system finishes, and with --only no race is left
-  1  it may stick, or never finishes, or with --only races are left
+  0  the system finishes, with --only no race is left, and with --again it finishes repeated
+  1  it may stick, or never finishes, or with --only races are left, or it may stick repeated
   2  the text or a name was refused, or the words are no command
   4  memory ran out, or a file or the output failed
 

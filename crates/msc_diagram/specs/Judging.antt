@@ -10,6 +10,7 @@ use Rattle.msc_reason.specs.Marked.{lack_in}
 use Rattle.msc_reason.specs.declared.kinds.KindSet.{KindSet}
 use Rattle.msc_judge.specs.Findings.{Texts}
 use Rattle.msc_judge.specs.Pages.{WritesBeginning}
+use Rattle.msc_judge.specs.Questions.{counted, for_editors}
 use Rattle.msc_judge.specs.declared.page.WriteFault.{WriteFault}
 use Rattle.msc_judge.specs.declared.page.WriteFault.TheVariants.{Memory, Device}
 use Rattle.msc_judge.specs.declared.question.Question.{Question}
@@ -44,17 +45,12 @@ lines_in words = record { texts = lines_of words; heads = true }
 abbrev pub editors_in : Telling
 editors_in = record { texts = editors_of; heads = false }
 
--- what is asked for a count, where these kinds are left out
-abbrev pub counted : KindSet → Question
-counted allowed = record { closest = true; why = false; allowed = allowed; most = 0; show = 0; short = false }
-
 -- what is asked, for a form: a count is of the closest races, and of no race by itself; lines for editors tell
 -- the kind of each race, and show no run
 abbrev pub asked : Form → Question → Question
 asked (Lines words) q = q
 asked (Count file) q = counted q.allowed
-asked Editor q =
-    record { closest = q.closest; why = true; allowed = q.allowed; most = q.most; show = 0; short = false }
+asked Editor q = for_editors q
 
 -- how many races of these scenarios are listed
 abbrev pub listed_of : Queues → Question → List Case → ℕ

@@ -2,10 +2,11 @@
 use Rattle.std.specs.Prelude.{◌≡◌, ◌⊎◌, ℕ, false, List, ◌++◌, Option, Result, Ok, Err, length, take}
 use Rattle.msc_chart.specs.declared.queue.Queues.{Queues}
 use Rattle.msc_judge.specs.Pages.{Pages, WritesBeginning}
+use Rattle.msc_judge.specs.Questions.{counted}
 use Rattle.msc_judge.specs.declared.page.WriteFault.{WriteFault}
 use Rattle.msc_judge.specs.declared.page.WriteFault.TheVariants.{Memory, Device}
 use Rattle.msc_reason.specs.declared.kinds.KindSet.{KindSet}
-use Rattle.msc_diagram.specs.Judging.{counted, editors_in, lines_in}
+use Rattle.msc_diagram.specs.Judging.{editors_in, lines_in}
 use Rattle.msc_diagram.specs.Places.{above_with}
 use Rattle.msc_diagram.specs.Scenarios.{all_of, asked_of, case_text, cases_text, passed_of, places_from, AreCases, Case, IsCase, Telling}
 use Rattle.msc_diagram.specs.declared.cases.Asked.{Asked}

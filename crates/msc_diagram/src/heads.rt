@@ -5,11 +5,11 @@ ghost use Rattle.std.specs.Fmt.{decimal};
 ghost use Rattle.std.specs.Io.KnownBytes.{Appends};
 ghost use Rattle.std.specs.List.{flat_map};
 ghost use Rattle.msc_report.specs.Texts.{text_line};
-ghost use Rattle.msc_report.specs.Verdicts.{queues_line};
 ghost use Rattle.msc_diagram.specs.Scenarios.{choices_text, diagram_end, diagram_head};
 ghost use Rattle.msc_diagram.specs.Scenarios.{scenario_head};
 
 use msc_chart::Queues;
+use msc_report::write_queues_line;
 use std::io;
 use std::io::Write;
 
@@ -53,15 +53,6 @@ pub(crate) fn write_scenario_head<W: Write>(
     writeln!(writer, "races {races}")
 }
 
-/// Writes the line of an architecture.
-fn write_queues<W: Write>(writer: &mut W, queues: Queues) -> io::Result<()>
-    ensures { OnOk result (Appends (W.contents writer.old) (W.contents writer.new)
-        (queues_line queues)) }
-{
-    let word = queues.word();
-    writeln!(writer, "queues {word}")
-}
-
 /// Writes the line of a diagram's name.
 fn write_name<W: Write>(writer: &mut W, name: &[u8]) -> io::Result<()>
     ensures { OnOk result (Appends (W.contents writer.old) (W.contents writer.new)
@@ -83,7 +74,7 @@ pub(crate) fn write_diagram_head<W: Write>(
         (diagram_head name.now queues count)) }
 {
     write_name(writer, name)?;
-    write_queues(writer, queues)?;
+    write_queues_line(writer, queues)?;
     writeln!(writer, "scenarios {count}")
 }
 

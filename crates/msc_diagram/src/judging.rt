@@ -99,14 +99,7 @@ fn write_editor<W: Write>(
 {
     let asked = Asked {
         queues,
-        question: Question {
-            closest: question.closest,
-            why: true,
-            allowed: question.allowed,
-            most: question.most,
-            show: 0,
-            short: false,
-        },
+        question: question.for_editors(),
         shape: Shape::Editor,
     };
     let mut page = Page::new(alloc);

@@ -4,3 +4,6 @@ pub mod Telling
 pub mod Asked
 pub mod Whole
 pub mod Fewer
+pub mod NextSegments
+pub mod BetweenLemmas
+pub mod Numbering

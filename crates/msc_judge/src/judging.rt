@@ -18,7 +18,7 @@ ghost use Rattle.msc_judge.specs.Findings.{finding_of, heading_of, left_of, numb
 ghost use Rattle.msc_judge.specs.Findings.{texts, Answers, AreShown};
 ghost use Rattle.msc_judge.specs.Pages.{Puts};
 ghost use Rattle.msc_judge.specs.Renderings.{NamesEvents};
-ghost use Rattle.msc_judge.specs.Telling.{race_text, told_from};
+ghost use Rattle.msc_judge.specs.Telling.{listed_text, race_text, told_from};
 
 use crate::marking::Marking;
 use crate::page::{Page, WriteFault};
@@ -83,7 +83,7 @@ fn counting_of(alloc: Global, listing: &Listing, races: u32, others: u32) -> Res
 }
 
 /// Whether no race counts, and no mark accepts none.
-fn passes(heading: Heading, stale: &[Event]) -> bool
+pub(crate) fn passes(heading: Heading, stale: &[Event]) -> bool
     ensures { result ≡ (nat_eq heading.counting 0 && nat_eq (length stale.now) 0) }
 {
     heading.counting == 0 && stale.is_empty()
@@ -456,43 +456,66 @@ impl<'t, 'a, R: Renderer> Teller<'t, 'a, R> {
         }
         Ok(())
     }
+
+    /// Puts what is said of all races of a chart with so many, those that are listed, and what
+    /// marks say behind a page. Answers what is said of all.
+    pub(crate) fn put_answer<W: Write>(
+        &self,
+        alloc: Global,
+        writer: &mut W,
+        page: &mut Page,
+        races: u32,
+        marking: Marking<'_>,
+    ) -> Result<Heading, WriteFault>
+        requires races { races ≡ length (races_of self.now.listing.now.judged) }
+        requires asks { self.now.listing.now ≡ selected self.now.listing.now.judged
+            (left_of self.now.question marking) self.now.question.closest }
+        requires fits { R.fits self.now.renderer.now self.now.listing.now.judged.chart }
+        requires stale { AreEventsOf self.now.listing.now.judged.chart marking.stale.now }
+        ensures heading { IfOk result (λ heading. heading
+            ≡ heading_of self.now.listing.now.judged self.now.question.closest
+            (left_of self.now.question marking.entry) (lack_in self.now.listing.now.judged)) }
+        ensures put { (runs : ℕ × ℕ → List ℕ)
+            → AreShown self.now.question.short (wiring_of self.now.listing.now.judged) runs
+            → Puts result (W.contents writer.old) (W.contents writer.new)
+            page.old.bytes.items page.new.bytes.items (listed_text
+            (texts R.heading_text R.run_text R.finding_text R.end_text
+            self.now.renderer.now self.now.listing.now.judged.chart)
+            self.now.listing.now.judged self.now.question marking.entry runs) }
+    {
+        let heading = heading_of(alloc, self.listing, races)?;
+        let chart = self.listing.enforced().chart();
+        self.renderer.put_heading(page, chart, heading)?;
+        self.put_all(alloc, writer, page, races)?;
+        self.renderer.put_end(page, chart, marking.stale)?;
+        Ok(heading)
+    }
 }
 
-/// Writes by a renderer what is asked of the races that are listed, of a chart with so many races,
-/// and what marks say; answers whether no race counts and no mark accepts none.
+/// Writes what a teller tells of the races that are listed, of a chart with so many races, and of
+/// what marks say; answers whether no race counts and no mark accepts none.
 fn write_listed<R: Renderer, W: Write>(
     alloc: Global,
-    listing: &Listing,
+    teller: &Teller<'_, '_, R>,
     races: u32,
-    question: Question,
     marking: Marking<'_>,
-    renderer: &R,
     writer: &mut W,
 ) -> Result<bool, WriteFault>
-    requires races { races ≡ length (races_of listing.now.judged) }
-    requires asks { listing.now
-        ≡ selected listing.now.judged (left_of question marking) question.closest }
-    requires fits { R.fits renderer.now listing.now.judged.chart }
-    requires stale { AreEventsOf listing.now.judged.chart marking.stale.now }
-    ensures { Answers listing.now.judged question marking.entry
+    requires races { races ≡ length (races_of teller.now.listing.now.judged) }
+    requires asks { teller.now.listing.now ≡ selected teller.now.listing.now.judged
+        (left_of teller.now.question marking) teller.now.question.closest }
+    requires fits { R.fits teller.now.renderer.now teller.now.listing.now.judged.chart }
+    requires stale { AreEventsOf teller.now.listing.now.judged.chart marking.stale.now }
+    ensures { Answers teller.now.listing.now.judged teller.now.question marking.entry
         (texts R.heading_text R.run_text R.finding_text R.end_text
-        renderer.now listing.now.judged.chart)
+        teller.now.renderer.now teller.now.listing.now.judged.chart)
         result (W.contents writer.old) (W.contents writer.new) }
 {
     the_chosen_run_reverses();
     short_runs_show();
-    listing.enforced().enforced();
-    let heading = heading_of(alloc, listing, races)?;
-    let chart = listing.enforced().chart();
+    teller.listing.enforced().enforced();
     let mut page = Page::new(alloc);
-    renderer.put_heading(&mut page, chart, heading)?;
-    let teller = Teller {
-        listing,
-        question,
-        renderer,
-    };
-    teller.put_all(alloc, writer, &mut page, races)?;
-    renderer.put_end(&mut page, chart, marking.stale)?;
+    let heading = teller.put_answer(alloc, writer, &mut page, races, marking)?;
     writer.write_all(page.bytes.as_slice())?;
     Ok(passes(heading, marking.stale))
 }
@@ -528,5 +551,10 @@ pub fn judge<R: Renderer, W: Write>(
         accepted: marking.accepted,
     };
     let listing = Listing::of(alloc, enforced, left, question.closest)?;
-    write_listed(alloc, &listing, races, question, marking, renderer, writer)
+    let teller = Teller {
+        listing: &listing,
+        question,
+        renderer,
+    };
+    write_listed(alloc, &teller, races, marking, writer)
 }

@@ -9,9 +9,13 @@ mod marking;
 mod page;
 mod question;
 mod renderer;
+mod rounds;
+mod silent;
 
 pub use judging::{Teller, judge};
 pub use marking::Marking;
 pub use page::{PAGE_SIZE, Page, WriteFault};
 pub use question::Question;
 pub use renderer::{Finding, Heading, Renderer};
+pub use rounds::{Rounds, judge_rounds};
+pub use silent::Silent;

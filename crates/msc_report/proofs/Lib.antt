@@ -1,3 +1,4 @@
 pub mod KindLemmas
 pub mod EndLines
 pub mod MadeTexts
+pub mod RoundLemmas

@@ -12,6 +12,7 @@ pub mod Counts
 pub mod Editors
 pub mod Reasons
 pub mod Sticks
+pub mod Rounds
 pub mod Fitting
 -- what the code keeps
 pub mod Spans

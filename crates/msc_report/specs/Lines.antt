@@ -39,11 +39,14 @@ always_text always = cond always (codes " always") []
 abbrev pub kind_line : Lack → List ℕ
 kind_line lack = codes "kind " ++ (kind_word lack.kind ++ text_line (always_text lack.always))
 
+-- what two events do on their lines, to the end of a line
+abbrev pub both_at : Drawing → ℕ → ℕ → List ℕ
+both_at d e f = event_at d e ++ (codes "; " ++ text_line (event_at d f))
+
 -- a line that names two events: a word, their numbers, and what both of them do
 abbrev pub pair_line : List ℕ → Drawing → ℕ → ℕ → List ℕ
 pair_line word d e f =
-    word ++ (codes " " ++ (decimal e ++ (codes " " ++ (decimal f
-    ++ (codes ": " ++ (event_at d e ++ (codes "; " ++ text_line (event_at d f))))))))
+    word ++ (codes " " ++ (decimal e ++ (codes " " ++ (decimal f ++ (codes ": " ++ both_at d e f)))))
 
 -- such a line behind blanks, and the places of both events behind the same, where places are told
 abbrev pub pair_text : Option SitesIn → List ℕ → List ℕ → Drawing → ℕ → ℕ → List ℕ

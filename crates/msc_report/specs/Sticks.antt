@@ -6,9 +6,9 @@ use Rattle.msc_chart.specs.Charts.{line, message, partner}
 use Rattle.msc_chart.specs.Drawings.{Drawing, message_at}
 use Rattle.msc_place.specs.Sites.{SitesIn}
 use Rattle.msc_report.specs.Texts.{text_line}
-use Rattle.msc_report.specs.Verdicts.{instance_text, message_text, name_line, queues_line, race_events, race_text}
+use Rattle.msc_report.specs.Verdicts.{instance_text, message_text, name_line, pair_place, queues_line, race_events, race_text}
 use Rattle.msc_report.specs.Lines.{pair_text}
-use Rattle.msc_report.specs.Styles.{at_text, run_text, sites_in}
+use Rattle.msc_report.specs.Styles.{at_text, sites_in}
 use Rattle.msc_report.specs.declared.style.Style.{Style}
 
 -- the name of instance i, where the list says that it is ready
@@ -41,11 +41,10 @@ abbrev pub coming_text : Drawing → ℕ → List ℕ
 coming_text d e =
     message_text (message_at d (message d.events e)) ++ (codes " from " ++ instance_text d (line d.events (partner d.events e)))
 
--- which inputs are a stick, and on which line
-abbrev pub stick_place : Drawing → ℕ → ℕ → List ℕ
-stick_place d e f =
-    codes "stick " ++ (decimal e ++ (codes " " ++ (decimal f
-    ++ (codes " on " ++ instance_text d (line d.events e)))))
+-- a word, two events of one line, which line that is, what both of them do, and where they stand
+abbrev pub told_pair : Option SitesIn → List ℕ → Drawing → ℕ → ℕ → List ℕ
+told_pair sites word d e f =
+    pair_place word d e f ++ (codes ": " ++ (race_events d e f ++ at_text sites [] e f))
 
 -- the outputs of two inputs, of which the first would have to stand before the other
 abbrev pub needs_text : Option SitesIn → Drawing → ℕ → ℕ → List ℕ
@@ -53,8 +52,7 @@ needs_text sites d e f = pair_text sites [] (codes "needs") d (partner d.events 
 
 -- a stick, and its two outputs
 abbrev pub stick_lines : Option SitesIn → Drawing → ℕ → ℕ → List ℕ
-stick_lines sites d e f =
-    stick_place d e f ++ (codes ": " ++ (race_events d e f ++ (at_text sites [] e f ++ needs_text sites d e f)))
+stick_lines sites d e f = told_pair sites (codes "stick") d e f ++ needs_text sites d e f
 
 -- the name of the instance of an event
 abbrev pub owner_text : Drawing → ℕ → List ℕ
@@ -77,16 +75,6 @@ bare_stick style d e f = stick_lines (sites_in style) d e f ++ waits_text style.
 -- that a stick is not first: which one is ahead of it
 abbrev pub behind_line : ℕ × ℕ → List ℕ
 behind_line p = codes "behind " ++ (decimal p.0 ++ (codes " " ++ text_line (decimal p.1)))
-
--- what shows a stick: which one is ahead of it, or, where none is, a run, where one is shown
-abbrev pub showing_text : Bool → Drawing → Option (ℕ × ℕ) → Option (List ℕ) → List ℕ
-showing_text words d (Some p) run = behind_line p
-showing_text words d None (Some run) = run_text words d run
-showing_text words d None None = []
-
--- a stick with what shows it
-abbrev pub stick_text : Style → Drawing → ℕ × ℕ → Option (ℕ × ℕ) → Option (List ℕ) → List ℕ
-stick_text style d p ahead run = bare_stick style d p.0 p.1 ++ showing_text style.words d ahead run
 
 -- how many races are left
 abbrev pub left_line : ℕ → List ℕ

@@ -79,11 +79,15 @@ event_text d e =
 abbrev pub event_at : Drawing → ℕ → List ℕ
 event_at d e = instance_text d (charts.line d.events e) ++ (codes " " ++ event_text d e)
 
+-- a word, two events of one line, and which line that is
+abbrev pub pair_place : List ℕ → Drawing → ℕ → ℕ → List ℕ
+pair_place word d e f =
+    word ++ (codes " " ++ (decimal e ++ (codes " " ++ (decimal f
+    ++ (codes " on " ++ instance_text d (charts.line d.events e))))))
+
 -- which events race, and on which line
 abbrev pub race_place : Drawing → ℕ → ℕ → List ℕ
-race_place d e f =
-    codes "race " ++ (decimal e ++ (codes " " ++ (decimal f
-    ++ (codes " on " ++ instance_text d (charts.line d.events e)))))
+race_place d e f = pair_place (codes "race") d e f
 
 -- what both of them do
 abbrev pub race_events : Drawing → ℕ → ℕ → List ℕ

@@ -3,11 +3,11 @@
 
 ghost use Rattle.std.specs.Prelude.{◌≡◌, ◌<◌, [], ◌++◌, OnOk, length};
 ghost use Rattle.std.specs.Io.KnownBytes.{Appends};
-ghost use Rattle.msc_report.specs.Editors.{below_line, editor_text, kind_text, level_word};
-ghost use Rattle.msc_report.specs.Editors.{race_line, told_text};
+ghost use Rattle.msc_report.specs.Editors.{editor_text, grave_line, kind_text, level_word};
+ghost use Rattle.msc_report.specs.Editors.{note_line, told_text};
 ghost use Rattle.msc_report.specs.Stale.{stale_warnings};
 
-use crate::race::{write_event, write_race_place};
+use crate::race::{write_event, write_pair_place};
 use crate::stale::write_stale_warnings;
 use msc_chart::{Chart, Event};
 use msc_judge::{Finding, Heading, Page, Renderer};
@@ -47,14 +47,20 @@ fn write_kind<W: Write>(writer: &mut W, lack: Option<Lack>) -> io::Result<()>
     }
 }
 
-/// Writes which events race, on which line, and what both of them do.
-fn write_told<W: Write>(writer: &mut W, chart: &Chart, e: Event, f: Event) -> io::Result<()>
+/// Writes a word, two events of one line, which line that is, and what both of them do.
+fn write_told<W: Write>(
+    writer: &mut W,
+    chart: &Chart,
+    word: &str,
+    e: Event,
+    f: Event,
+) -> io::Result<()>
     requires e_known { e < length chart.now.events }
     requires f_known { f < length chart.now.events }
     ensures { OnOk result (Appends (W.contents writer.old) (W.contents writer.new)
-        (told_text chart.now e f)) }
+        (told_text word.now chart.now e f)) }
 {
-    write_race_place(writer, chart, e, f)?;
+    write_pair_place(writer, chart, word, e, f)?;
     writer.write_all(b": ")?;
     write_event(writer, chart, e)?;
     writer.write_all(b"; ")?;
@@ -62,35 +68,43 @@ fn write_told<W: Write>(writer: &mut W, chart: &Chart, e: Event, f: Event) -> io
 }
 
 impl<'s> Editor<'s> {
-    /// Writes the line of a race.
-    fn write_race<W: Write>(
+    /// Writes the line of two events that race, at the first of them, behind a word.
+    pub(crate) fn write_grave<W: Write>(
         &self,
         writer: &mut W,
         chart: &Chart,
-        finding: Finding,
+        word: &str,
+        e: Event,
+        f: Event,
+        lack: Option<Lack>,
     ) -> io::Result<()>
-        requires e_known { finding.first < length chart.now.events }
-        requires f_known { finding.second < length chart.now.events }
+        requires e_known { e < length chart.now.events }
+        requires f_known { f < length chart.now.events }
         ensures { OnOk result (Appends (W.contents writer.old) (W.contents writer.new)
-            (race_line self.now.sites.now chart.now finding)) }
+            (grave_line self.now.sites.now word.now chart.now e f lack)) }
     {
-        self.sites.write_site(writer, finding.first)?;
-        let level = level_word(finding.lack);
+        self.sites.write_site(writer, e)?;
+        let level = level_word(lack);
         writer.write_all(b": ")?;
         writer.write_all(level.as_bytes())?;
         writer.write_all(b": ")?;
-        write_told(writer, chart, finding.first, finding.second)?;
-        write_kind(writer, finding.lack)?;
+        write_told(writer, chart, word, e, f)?;
+        write_kind(writer, lack)?;
         writer.write_all(b"\n")
     }
 
-    /// Writes the note at the second event of a race.
-    fn write_below<W: Write>(&self, writer: &mut W, f: Event) -> io::Result<()>
+    /// Writes a note at an event.
+    pub(crate) fn write_note<W: Write>(
+        &self,
+        writer: &mut W,
+        f: Event,
+        note: &str,
+    ) -> io::Result<()>
         ensures { OnOk result (Appends (W.contents writer.old) (W.contents writer.new)
-            (below_line self.now.sites.now f)) }
+            (note_line self.now.sites.now f note.now)) }
     {
         self.sites.write_site(writer, f)?;
-        writer.write_all(b": note: the event drawn below it\n")
+        writeln!(writer, ": note: {note}")
     }
 
     /// Writes both lines of a race.
@@ -105,8 +119,9 @@ impl<'s> Editor<'s> {
         ensures { OnOk result (Appends (W.contents writer.old) (W.contents writer.new)
             (editor_text self.now.sites.now chart.now finding)) }
     {
-        self.write_race(writer, chart, finding)?;
-        self.write_below(writer, finding.second)
+        let (e, f) = (finding.first, finding.second);
+        self.write_grave(writer, chart, "race", e, f, finding.lack)?;
+        self.write_note(writer, f, "the event drawn below it")
     }
 }
 

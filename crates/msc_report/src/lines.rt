@@ -8,7 +8,8 @@ ghost use Rattle.std.specs.List.{All};
 ghost use Rattle.msc_chart.specs.Drawings.{Drawing};
 ghost use Rattle.msc_place.specs.Sites.{sites_line};
 ghost use Rattle.msc_report.specs.Fitting.{FitsLines};
-ghost use Rattle.msc_report.specs.Lines.{accepted_line, closest_line, finding_text, heading_text};
+ghost use Rattle.msc_report.specs.Lines.{accepted_line, both_at, closest_line, finding_text};
+ghost use Rattle.msc_report.specs.Lines.{heading_text};
 ghost use Rattle.msc_report.specs.Lines.{kind_line};
 ghost use Rattle.msc_report.specs.Lines.{lack_text, left_out_line, pair_line, pair_text, why_text};
 ghost use Rattle.msc_report.specs.Stale.{stale_lines};
@@ -31,7 +32,7 @@ use std::io;
 use std::io::Write;
 
 /// Writes the line of a race's kind.
-fn write_kind<W: Write>(writer: &mut W, lack: &Lack) -> io::Result<()>
+pub(crate) fn write_kind<W: Write>(writer: &mut W, lack: &Lack) -> io::Result<()>
     ensures { OnOk result (Appends (W.contents writer.old) (W.contents writer.new)
         (kind_line lack.now)) }
 {
@@ -40,6 +41,24 @@ fn write_kind<W: Write>(writer: &mut W, lack: &Lack) -> io::Result<()>
     if lack.always {
         writer.write_all(b" always")?;
     }
+    writer.write_all(b"\n")
+}
+
+/// Writes what two events do on their lines, to the end of a line.
+pub(crate) fn write_both_at<W: Write>(
+    writer: &mut W,
+    chart: &Chart,
+    e: Event,
+    f: Event,
+) -> io::Result<()>
+    requires e_known { e < length chart.now.events }
+    requires f_known { f < length chart.now.events }
+    ensures { OnOk result (Appends (W.contents writer.old) (W.contents writer.new)
+        (both_at chart.now e f)) }
+{
+    write_event_at(writer, chart, e)?;
+    writer.write_all(b"; ")?;
+    write_event_at(writer, chart, f)?;
     writer.write_all(b"\n")
 }
 
@@ -57,10 +76,7 @@ fn write_pair<W: Write>(
         (pair_line word.now chart.now e f)) }
 {
     write!(writer, "{word} {e} {f}: ")?;
-    write_event_at(writer, chart, e)?;
-    writer.write_all(b"; ")?;
-    write_event_at(writer, chart, f)?;
-    writer.write_all(b"\n")
+    write_both_at(writer, chart, e, f)
 }
 
 /// Writes such a line, and the line of their places behind the same blanks, where places are told.

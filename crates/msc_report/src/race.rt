@@ -7,7 +7,7 @@ ghost use Rattle.std.specs.Option.{option_copied};
 ghost use Rattle.msc_chart.specs.Charts.{is_local, line, message, partner};
 ghost use Rattle.msc_chart.specs.Drawings.{message_at};
 ghost use Rattle.msc_report.specs.Verdicts.{action_text, event_at, event_text, instance_text};
-ghost use Rattle.msc_report.specs.Verdicts.{message_text, number_text, race_events, race_place};
+ghost use Rattle.msc_report.specs.Verdicts.{message_text, number_text, pair_place, race_events};
 ghost use Rattle.msc_report.specs.Verdicts.{race_text, run_line, shown_byte, spaced};
 
 use itoa::Buffer;
@@ -176,19 +176,20 @@ pub fn write_run<W: Write>(writer: &mut W, run: &[Event]) -> io::Result<()>
     writer.write_all(b"\n")
 }
 
-/// Writes which events race, and on which line.
-pub(crate) fn write_race_place<W: Write>(
+/// Writes a word, two events of one line, and which line that is.
+pub(crate) fn write_pair_place<W: Write>(
     writer: &mut W,
     chart: &Chart,
+    word: &str,
     e: Event,
     f: Event,
 ) -> io::Result<()>
     requires { e < length chart.now.events }
     ensures { OnOk result (Appends (W.contents writer.old) (W.contents writer.new)
-        (race_place chart.now e f)) }
+        (pair_place word.now chart.now e f)) }
 {
     chart.accepted();
-    write!(writer, "race {e} {f} on ")?;
+    write!(writer, "{word} {e} {f} on ")?;
     write_instance(writer, chart, chart.instance_of(e))
 }
 
@@ -235,7 +236,7 @@ pub fn write_race<W: Write>(
     ensures { OnOk result (Appends (W.contents writer.old) (W.contents writer.new)
         (race_text chart.now e f (option_map (λ r. r.now) run.entry))) }
 {
-    write_race_place(writer, chart, e, f)?;
+    write_pair_place(writer, chart, "race", e, f)?;
     writer.write_all(b": ")?;
     write_events(writer, chart, e, f)?;
     write_shown(writer, run)

@@ -6,11 +6,11 @@ ghost use Rattle.std.specs.Option.{option_copied};
 ghost use Rattle.msc_chart.specs.Charts.{is_input};
 ghost use Rattle.msc_report.specs.Sticks.{bare_stick, behind_line, coming_text, finishing_line};
 ghost use Rattle.msc_report.specs.Sticks.{left_line, left_race, needs_text, owner_text, ready_head};
-ghost use Rattle.msc_report.specs.Sticks.{ready_line, ready_name, ready_names, stick_lines, stick_place};
+ghost use Rattle.msc_report.specs.Sticks.{ready_line, ready_name, ready_names, stick_lines, told_pair};
 ghost use Rattle.msc_report.specs.Sticks.{waits_line};
 
 use crate::lines::write_placed_pair;
-use crate::race::{write_events, write_instance, write_race, write_signal};
+use crate::race::{write_events, write_instance, write_pair_place, write_race, write_signal};
 use crate::style::{Style, write_at};
 use crate::verdict::{write_name_line, write_queues_line};
 use msc_chart::{Chart, Event, Queues};
@@ -106,15 +106,25 @@ pub fn write_ready_head<W: Write>(
     write_finishing(writer, count, may)
 }
 
-/// Writes which inputs are a stick, and on which line.
-fn write_stick_place<W: Write>(writer: &mut W, chart: &Chart, e: Event, f: Event) -> io::Result<()>
-    requires { e < length chart.now.events }
+/// Writes a word, two events of one line, which line that is, what both of them do, and where they
+/// stand, where places are told.
+pub(crate) fn write_told_pair<W: Write>(
+    writer: &mut W,
+    chart: &Chart,
+    sites: Option<&Sites<'_>>,
+    word: &str,
+    e: Event,
+    f: Event,
+) -> io::Result<()>
+    requires e_known { e < length chart.now.events }
+    requires f_known { f < length chart.now.events }
     ensures { OnOk result (Appends (W.contents writer.old) (W.contents writer.new)
-        (stick_place chart.now e f)) }
+        (told_pair (option_map (λ s. s.now) sites.entry) word.now chart.now e f)) }
 {
-    chart.accepted();
-    write!(writer, "stick {e} {f} on ")?;
-    write_instance(writer, chart, chart.instance_of(e))
+    write_pair_place(writer, chart, word, e, f)?;
+    writer.write_all(b": ")?;
+    write_events(writer, chart, e, f)?;
+    write_at(writer, sites, "", e, f)
 }
 
 /// Writes the outputs of two inputs, of which the first would have to stand before the other.
@@ -148,10 +158,7 @@ fn write_stick_lines<W: Write>(
     ensures { OnOk result (Appends (W.contents writer.old) (W.contents writer.new)
         (stick_lines (option_map (λ s. s.now) sites.entry) chart.now e f)) }
 {
-    write_stick_place(writer, chart, e, f)?;
-    writer.write_all(b": ")?;
-    write_events(writer, chart, e, f)?;
-    write_at(writer, sites, "", e, f)?;
+    write_told_pair(writer, chart, sites, "stick", e, f)?;
     write_needs(writer, chart, sites, e, f)
 }
 
@@ -175,7 +182,12 @@ fn write_owner<W: Write>(writer: &mut W, chart: &Chart, e: Event) -> io::Result<
 }
 
 /// Writes what the instance of two inputs waits for, and what stands before that in its queue.
-fn write_waits<W: Write>(writer: &mut W, chart: &Chart, e: Event, f: Event) -> io::Result<()>
+pub(crate) fn write_waits<W: Write>(
+    writer: &mut W,
+    chart: &Chart,
+    e: Event,
+    f: Event,
+) -> io::Result<()>
     requires e_input { IsTrue (is_input chart.now.events e) }
     requires f_input { IsTrue (is_input chart.now.events f) }
     ensures { OnOk result (Appends (W.contents writer.old) (W.contents writer.new)

@@ -1,25 +1,29 @@
 -- What is asked of the races of a chart, in a format.
-use Rattle.std.specs.Prelude.{◌≡◌, ℕ, Bool, true, false, ◌&&◌, List, [], Option, None, Some, length, nat_eq}
+use Rattle.std.specs.Prelude.{◌≡◌, ℕ, Bool, true, false, ◌&&◌, List, [], ◌++◌, Option, None, Some, MatchOption, length, nat_eq}
 use Rattle.std.specs.Borrow.{Bor}
 use Rattle.msc_chart.specs.declared.queue.Queues.{Queues}
 use Rattle.msc_chart.specs.Drawings.{Drawing, IsAccepted}
 use Rattle.msc_chart.specs.Lists.{Occurs}
+use Rattle.msc_chart.specs.Rounds.{twice}
 use Rattle.msc_mark.specs.Accepting.{acceptance, accepts_race, stale_events}
 use Rattle.msc_mark.specs.declared.mark.Mark.{Mark}
 use Rattle.msc_order.specs.Tables.{Table}
 use Rattle.msc_race.specs.Views.{races_of}
 use Rattle.msc_race.specs.Wired.{enforced_chart, EnforcedChart, IsEnforced}
-use Rattle.msc_reason.specs.Counting.{counting, AreLacks}
+use Rattle.msc_reason.specs.Counting.{counting, listed, AreLacks}
 use Rattle.msc_reason.specs.declared.kinds.KindSet.{KindSet}
 use Rattle.msc_reason.specs.PairTables.{has_pair, PairTable}
 use Rattle.msc_reason.specs.declared.lack.Lack.{Lack}
 use Rattle.msc_reason.specs.declared.left_out.LeftOut.{LeftOut}
-use Rattle.msc_judge.specs.Findings.{answer_text, passes, AreTables, Tables, Texts}
+use Rattle.msc_judge.specs.Findings.{answer_text, left_of, passes, AreTables, Tables, Texts}
+use Rattle.msc_judge.specs.Questions.{counted, for_editors}
+use Rattle.msc_judge.specs.Rounds.{rounds_text, AreRoundRaces}
 use Rattle.msc_judge.specs.declared.marking.Marking.{Marking}
 use Rattle.msc_judge.specs.declared.question.Question.{Question}
 use Rattle.msc_report.specs.Counts.{tally_line}
 use Rattle.msc_report.specs.Lines.{finding_text, heading_text}
 use Rattle.msc_report.specs.Editors.{editor_text}
+use Rattle.msc_report.specs.Rounds.{again_count, round_finding, round_run_text, round_warning}
 use Rattle.msc_report.specs.Stale.{stale_lines, stale_warnings}
 use Rattle.msc_report.specs.Styles.{run_text, sites_in}
 use Rattle.msc_text.specs.declared.judging.Format.{Format}
@@ -38,14 +42,25 @@ texts_in (Count file) d =
 texts_in (Editor sites) d =
     record { heading = λ h. []; run = λ run. []; finding = λ f line. editor_text sites.now d f; end = stale_warnings sites.now d }
 
+-- the texts of each format, of two rounds of a chart
+abbrev pub round_texts_in : Format → Drawing → Texts
+round_texts_in (Lines style) d = record {
+  heading = λ h. again_count h.counting;
+  run = round_run_text style.words d;
+  finding = round_finding (sites_in style) d;
+  end = λ stale. [];
+}
+round_texts_in (Count file) d =
+    record { heading = λ h. []; run = λ run. []; finding = λ f line. []; end = λ stale. [] }
+round_texts_in (Editor sites) d =
+    record { heading = λ h. []; run = λ run. []; finding = λ f line. round_warning sites.now d f; end = λ stale. [] }
+
 -- what is asked, for a format: a count is of the closest races too, and of no race by itself; lines
 -- for editors tell the kind of each race, and show no run
 abbrev pub asked : Format → Question → Question
 asked (Lines style) q = q
-asked (Count file) q =
-    record { closest = true; why = false; allowed = q.allowed; most = 0; show = 0; short = false }
-asked (Editor sites) q =
-    record { closest = q.closest; why = true; allowed = q.allowed; most = q.most; show = 0; short = false }
+asked (Count file) q = counted q.allowed
+asked (Editor sites) q = for_editors q
 
 -- what marks say of the races of a chart: which of them are accepted, and which marks accept none
 abbrev pub IsMarking : EnforcedChart → Option (List Mark) → Marking → Type 0
@@ -56,7 +71,7 @@ IsMarking e (Some marks) m = (pairs : Bor PairTable) × (m.accepted ≡ Some pai
 
 -- What is printed of a chart, and whether no race counts and no mark accepts none: by the enforced order,
 -- what its races lack, the runs that show them, and what marks say, where they are asked.
-pub record JudgesChart (d : Drawing) (queues : Queues) (q : Question) (marks : Option (List Mark)) (format : Format) (passed : Bool) (printed : List ℕ) : Type 0 where
+pub record JudgesOnce (d : Drawing) (queues : Queues) (q : Question) (marks : Option (List Mark)) (format : Format) (passed : Bool) (printed : List ℕ) : Type 0 where
   pub accepted : IsAccepted d
   pub order : Table
   pub by_order : IsEnforced (enforced_chart d queues order)
@@ -67,12 +82,47 @@ pub record JudgesChart (d : Drawing) (queues : Queues) (q : Question) (marks : O
   pub answered : passed ≡ passes (enforced_chart d queues order) (asked format q) marking tables.lacks
   pub text : printed ≡ answer_text (texts_in format d) (enforced_chart d queues order) (asked format q) marking tables
 
+-- What is printed of two rounds of a chart behind so many races that are listed, and whether no race is
+-- between the rounds: by the enforced order of the two, what their races lack, and the runs that show them.
+-- The question is what is asked in the format.
+pub record JudgesRounds (d : Drawing) (queues : Queues) (q : Question) (format : Format) (number : ℕ) (none : Bool) (printed : List ℕ) : Type 0 where
+  pub order : Table
+  pub by_order : IsEnforced (enforced_chart (twice d) queues order)
+  pub tables : Tables
+  pub are : AreTables (enforced_chart (twice d) queues order) tables
+  pub pairs : List (ℕ × ℕ)
+  pub told : AreRoundRaces d (enforced_chart (twice d) queues order) q.allowed tables.lacks pairs
+  pub answered : none ≡ nat_eq (length pairs) 0
+  pub text : printed ≡ rounds_text (round_texts_in format d) (enforced_chart (twice d) queues order) q tables number pairs
+
+-- What is printed of a chart and behind it of two rounds of the chart, and whether no race counts, no mark
+-- accepts none, and no race is between the rounds. Findings are numbered on.
+pub record JudgesTwice (d : Drawing) (queues : Queues) (q : Question) (marks : Option (List Mark)) (format : Format) (passed : Bool) (printed : List ℕ) : Type 0 where
+  pub first : Bool
+  pub above : List ℕ
+  pub once : JudgesOnce d queues q marks format first above
+  pub none : Bool
+  pub below : List ℕ
+  pub rounds : JudgesRounds d queues (asked format q) format (length (listed (enforced_chart d queues once.order)
+      (left_of (asked format q) once.marking) (asked format q).closest once.tables.lacks)) none below
+  pub answered : passed ≡ (first && none)
+  pub text : printed ≡ above ++ below
+
+-- what is printed of a chart, of two rounds too where these are asked for, and what is answered
+abbrev pub JudgesChart : Drawing → Queues → Question → Option (List Mark) → Bool → Format → Bool → List ℕ → Type 0
+JudgesChart d queues q marks false format = JudgesOnce d queues q marks format
+JudgesChart d queues q marks true format = JudgesTwice d queues q marks format
+
+-- the chart of two rounds, where it is given, is that of this chart
+abbrev pub AreTwoRounds : Drawing → Option (Bor Drawing) → Type 0
+AreTwoRounds d two = MatchOption two (Unit {0}) (λ t. t.now ≡ twice d)
+
 -- what does not count: races of these kinds, and those that marks accept
 abbrev pub left_out : KindSet → Marking → LeftOut
 left_out kinds m = record { kinds = kinds; accepted = m.accepted }
 
 -- whether no race of a chart counts, and no mark accepts none
-pub record Passes (d : Drawing) (queues : Queues) (allowed : KindSet) (marks : Option (List Mark)) (passed : Bool) : Type 0 where
+pub record PassesOnce (d : Drawing) (queues : Queues) (allowed : KindSet) (marks : Option (List Mark)) (passed : Bool) : Type 0 where
   pub order : Table
   pub by_order : IsEnforced (enforced_chart d queues order)
   pub marking : Marking
@@ -81,3 +131,24 @@ pub record Passes (d : Drawing) (queues : Queues) (allowed : KindSet) (marks : O
   pub are : AreLacks (enforced_chart d queues order) lacks
   pub answered : passed
       ≡ (nat_eq (length (counting (enforced_chart d queues order) (left_out allowed marking) lacks)) 0 && nat_eq (length marking.stale.now) 0)
+
+-- whether no race is between two rounds of a chart
+pub record PassesRounds (d : Drawing) (queues : Queues) (allowed : KindSet) (passed : Bool) : Type 0 where
+  pub order : Table
+  pub by_order : IsEnforced (enforced_chart (twice d) queues order)
+  pub lacks : ℕ → ℕ → Lack
+  pub are : AreLacks (enforced_chart (twice d) queues order) lacks
+  pub pairs : List (ℕ × ℕ)
+  pub told : AreRoundRaces d (enforced_chart (twice d) queues order) allowed lacks pairs
+  pub answered : passed ≡ nat_eq (length pairs) 0
+
+-- behind a chart that passes it is asked of two rounds
+abbrev pub PassesBehind : Drawing → Queues → KindSet → Bool → Bool → Type 0
+PassesBehind d queues allowed false passed = passed ≡ false
+PassesBehind d queues allowed true passed = PassesRounds d queues allowed passed
+
+-- whether a chart passes, and two rounds too where these are asked for
+abbrev pub Passes : Drawing → Queues → KindSet → Option (List Mark) → Bool → Bool → Type 0
+Passes d queues allowed marks false passed = PassesOnce d queues allowed marks passed
+Passes d queues allowed marks true passed =
+    (first : Bool) × PassesOnce d queues allowed marks first × PassesBehind d queues allowed first passed

@@ -73,6 +73,7 @@ pub fn check_text<W: Write>(
         queues,
         question,
         None,
+        None,
         plain_lines(),
         writer,
     )?)

@@ -7,6 +7,7 @@ mod explaining;
 mod judging;
 mod listing;
 mod readying;
+mod telling;
 mod text;
 
 pub use checking::check_text;

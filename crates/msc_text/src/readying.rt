@@ -1,34 +1,26 @@
 //! Whether a system of ready instances can stick, in bytes.
 
-ghost use Rattle.std.specs.Prelude.{◌≡◌, ◌<◌, ℕ, Bool, List, ◌++◌, IfOk, Some};
-ghost use Rattle.std.specs.Prelude.{length, nat_eq, IfSome, None, OnOk};
-ghost use Rattle.std.specs.List.{flat_map};
+ghost use Rattle.std.specs.Prelude.{◌≡◌, ℕ, Bool, List, ◌++◌, IfOk, MatchOption, None, Option};
+ghost use Rattle.std.specs.Prelude.{Some, is_some, length, nat_eq, option_map, OnOk};
 ghost use Rattle.std.specs.Option.{option_copied};
-ghost use Rattle.msc_chart.specs.Lists.{pairs_of};
-ghost use Rattle.msc_judge.specs.Pages.{Puts, Tells, Writes};
+ghost use Rattle.msc_chart.specs.declared.queue.Queues.{Queues};
+ghost use Rattle.msc_chart.specs.Drawings.{Drawing};
+ghost use Rattle.msc_chart.specs.Rounds.{twice};
+ghost use Rattle.msc_judge.specs.Pages.{Puts, Tells};
 ghost use Rattle.msc_ready.specs.Held.{ready_in, wiring_of};
+ghost use Rattle.msc_ready.specs.Rounds.{between_of};
 ghost use Rattle.msc_ready.specs.Running.{AreStickRuns};
-ghost use Rattle.msc_ready.specs.Sticks.{AreLeft, IsFirstStick, IsStick};
-ghost use Rattle.msc_reason.specs.Named.{AreEventsOf};
-ghost use Rattle.msc_ready.specs.Views.{sticks_of, HasAhead};
-ghost use Rattle.msc_report.specs.Sticks.{behind_line, left_line, left_race, ready_head};
-ghost use Rattle.msc_report.specs.Sticks.{bare_stick, showing_text};
-ghost use Rattle.msc_report.specs.Styles.{run_text};
-ghost use Rattle.msc_text.specs.Readying.{ahead_in, body_text, finishes, lines_of, ready_text};
-ghost use Rattle.msc_text.specs.Readying.{shown_after, shown_run, told_left, told_stick};
-ghost use Rattle.msc_text.specs.Readying.{told_sticks, IsKnown, Knowledge, PrintsReady};
-ghost use Rattle.msc_text.specs.Readied.{left_behind, AreEvents, AreKnown, AreRuns, AreSticksIn};
+ghost use Rattle.msc_ready.specs.Views.{HasAhead};
+ghost use Rattle.msc_report.specs.Rounds.{again_count};
+ghost use Rattle.msc_text.specs.Readying.{again_text, lines_of, PrintsReady};
+ghost use Rattle.msc_text.specs.Readied.{AreRoundsOf, AreTold, IsReadyOf, PutsAgain, SaysAgain};
 
-use msc_chart::{Chart, Event, Queues};
+use crate::telling::Teller;
+use msc_chart::{Chart, Event, Queues, RoundNumbers};
 use msc_judge::{Page, WriteFault};
-use msc_ready::laws::{
-    each_first_stick_has_one_run, races_left_are_told, ready_runs_keep_ready_lines,
-};
-use msc_ready::{Ready, Sticks};
-use msc_report::{
-    Style, write_behind, write_left_count, write_left_race, write_ready_head, write_run_in,
-    write_stick,
-};
+use msc_ready::laws::{each_first_stick_has_one_run, races_left_are_told};
+use msc_ready::{Ready, RoundSticks, Sticks};
+use msc_report::{RoundNames, Style, write_again_count};
 use std::alloc::{AllocError, Global};
 use std::io::Write;
 
@@ -53,460 +45,224 @@ fn ready_of<'a>(
     }
 }
 
-/// Puts what stands before sticks behind a page.
-fn put_head(
-    page: &mut Page,
-    ready: &Ready,
-    only: Option<&[bool]>,
-    count: u32,
-    may: bool,
-) -> Result<(), AllocError>
-    requires { (l : List Bool) → option_copied only ≡ Some l
-        → length l ≡ length ready.now.chart.instances }
-    ensures { OnOk result (page.new.bytes.items ≡ page.old.bytes.items
-        ++ ready_head ready.now.chart ready.now.queues (option_copied only.entry) count may) }
+/// Puts how many sticks are between two rounds behind a page.
+fn put_again_count(page: &mut Page, count: u32) -> Result<(), AllocError>
+    ensures { OnOk result (page.new.bytes.items ≡ page.old.bytes.items ++ again_count count) }
 {
-    match write_ready_head(page, ready.chart(), ready.queues(), only, count, may) {
+    match write_again_count(page, count) {
         Ok(()) => Ok(()),
         Err(_) => Err(AllocError),
     }
 }
 
-/// Puts that a stick is not first behind a page.
-fn put_behind(page: &mut Page, ahead: (Event, Event)) -> Result<(), AllocError>
-    ensures { OnOk result (page.new.bytes.items
-        ≡ page.old.bytes.items ++ behind_line ahead) }
-{
-    match write_behind(page, ahead.0, ahead.1) {
-        Ok(()) => Ok(()),
-        Err(_) => Err(AllocError),
-    }
-}
-
-/// Puts how many races are left behind a page.
-fn put_left_count(page: &mut Page, count: u32) -> Result<(), AllocError>
-    ensures { OnOk result (page.new.bytes.items ≡ page.old.bytes.items ++ left_line count) }
-{
-    match write_left_count(page, count) {
-        Ok(()) => Ok(()),
-        Err(_) => Err(AllocError),
-    }
-}
-
-/// The run of the first sticks with this second event: it depends on that event alone, so it is made
-/// once.
+/// The sticks of a chart, and of each event, as the second of sticks, the stick that is ahead.
 #[derive(Drop)]
-struct KnownRun {
-    second: Event,
-    run: Vec<Event>,
+struct Known<'a> {
+    sticks: Sticks<'a>,
+    ahead: Vec<Option<(Event, Event)>>,
 }
 
-/// The run for a second event, where it is known.
-fn run_in(known: &[KnownRun], second: Event) -> Option<&[Event]>
-    ensures { (runs : ℕ → List ℕ) → AreRuns runs known.now
-        → IfSome result (λ run. run.now ≡ runs second) }
-{
-    for one in known {
-        if one.second == second {
-            return Some(one.run.as_slice());
-        }
-    }
-    None
-}
-
-/// Who tells the sticks of a chart: of each event, as the second of sticks, it has the stick that is
-/// ahead.
-#[derive(Drop)]
-struct Teller<'t, 'a> {
-    sticks: &'t Sticks<'a>,
-    ahead: &'t [Option<(Event, Event)>],
-    style: Style<'t>,
-}
-
-impl<'t, 'a> Teller<'t, 'a> {
-    /// Puts a stick behind a page, without what shows it.
-    fn put_bare(&self, page: &mut Page, stick: (Event, Event)) -> Result<(), AllocError>
-        requires { IsStick (wiring_of self.now.sticks.now) (ready_in self.now.sticks.now)
-            stick.0 stick.1 }
-        ensures { OnOk result (page.new.bytes.items ≡ page.old.bytes.items
-            ++ bare_stick self.now.style self.now.sticks.now.chart stick.0 stick.1) }
-    {
-        let chart = self.sticks.ready().chart();
-        match write_stick(page, chart, stick.0, stick.1, self.style) {
-            Ok(()) => Ok(()),
-            Err(_) => Err(AllocError),
-        }
-    }
-
-    /// Puts a run behind a page.
-    fn put_line(&self, page: &mut Page, run: &[Event]) -> Result<(), AllocError>
-        requires { AreEventsOf self.now.sticks.now.chart run.now }
-        ensures { OnOk result (page.new.bytes.items ≡ page.old.bytes.items
-            ++ run_text self.now.style.words self.now.sticks.now.chart run.now) }
-    {
-        let chart = self.sticks.ready().chart();
-        match write_run_in(page, chart, self.style.words, run) {
-            Ok(()) => Ok(()),
-            Err(_) => Err(AllocError),
-        }
-    }
-
-    /// Puts the run of a first stick behind a page. It is made where it is not known, and known
-    /// then.
-    fn put_run(
-        &self,
+impl<'a> Known<'a> {
+    /// Those of a chart under an architecture whose instances are ready, or those of a list.
+    fn of(
         alloc: Global,
-        page: &mut Page,
-        known: &mut Vec<KnownRun>,
-        stick: (Event, Event),
-    ) -> Result<(), AllocError>
-        requires stick { IsFirstStick (wiring_of self.now.sticks.now)
-            (ready_in self.now.sticks.now) stick.0 stick.1 }
-        requires known { AreKnown self.now.sticks.now known.old.items }
-        ensures known { OnOk result (AreKnown self.now.sticks.now known.new.items) }
-        ensures page { OnOk result ((runs : ℕ → List ℕ)
-            → AreStickRuns (wiring_of self.now.sticks.now) (ready_in self.now.sticks.now) runs
-            → page.new.bytes.items ≡ page.old.bytes.items
-            ++ run_text self.now.style.words self.now.sticks.now.chart (runs stick.1)) }
+        chart: &'a Chart,
+        queues: Queues,
+        only: Option<&[bool]>,
+    ) -> Result<Known<'a>, AllocError>
+        ensures of { IfOk result
+            (λ known. IsReadyOf chart.now queues (option_copied only.entry) known.sticks) }
+        ensures ahead { IfOk result (λ known. HasAhead known.sticks known.ahead.items) }
+    {
+        let ready = ready_of(alloc, chart, queues, only)?;
+        let sticks = Sticks::of(alloc, ready)?;
+        let ahead = sticks.all_ahead(alloc)?;
+        Ok(Known { sticks, ahead })
+    }
+
+    /// Who tells them, of a chart of one round.
+    fn teller<'t>(&'t self, style: Style<'t>) -> Teller<'t, 'a>
+        ensures sticks { result.sticks.now ≡ self.now.sticks }
+        ensures ahead { result.ahead.now ≡ self.now.ahead.items }
+        ensures names { result.names ≡ None }
+        ensures style { result.style ≡ style.entry }
+    {
+        Teller {
+            sticks: &self.sticks,
+            ahead: self.ahead.as_slice(),
+            names: None,
+            style,
+        }
+    }
+
+    /// What is said of the sticks between two rounds. It does nothing; a caller calls it to rest its
+    /// own proof on that.
+    fn told(&self, names: RoundNames<'_>)
+        requires { self.now.sticks.chart ≡ twice names.chart.now }
+        ensures { AreTold names.entry.chart.now self.now.sticks }
     {
         each_first_stick_has_one_run();
-        ready_runs_keep_ready_lines();
-        let ready = self.sticks.ready();
-        ready.kept();
-        if let Some(run) = run_in(known.as_slice(), stick.1) {
-            return self.put_line(page, run);
-        }
-        let run = ready.stick_run(alloc, stick.0, stick.1)?;
-        self.put_line(page, run.as_slice())?;
-        known.push(KnownRun {
-            second: stick.1,
-            run,
-        })?;
-        Ok(())
-    }
-
-    /// Puts the run of a first stick behind a page, where so many more are shown, and answers how
-    /// many more are then.
-    fn put_first(
-        &self,
-        alloc: Global,
-        page: &mut Page,
-        known: &mut Vec<KnownRun>,
-        stick: (Event, Event),
-        more: u32,
-    ) -> Result<u32, AllocError>
-        requires stick { IsFirstStick (wiring_of self.now.sticks.now)
-            (ready_in self.now.sticks.now) stick.0 stick.1 }
-        requires known { AreKnown self.now.sticks.now known.old.items }
-        ensures known { OnOk result (AreKnown self.now.sticks.now known.new.items) }
-        ensures more { IfOk result (λ after. after ≡ shown_after more None) }
-        ensures page { OnOk result ((runs : ℕ → List ℕ)
-            → AreStickRuns (wiring_of self.now.sticks.now) (ready_in self.now.sticks.now) runs
-            → page.new.bytes.items ≡ page.old.bytes.items
-            ++ showing_text self.now.style.words self.now.sticks.now.chart None
-            (shown_run more (runs stick.1))) }
-    {
-        if more == 0 {
-            return Ok(0);
-        }
-        self.put_run(alloc, page, known, stick)?;
-        Ok(more - 1)
-    }
-
-    /// Puts what shows a stick behind a page, where so many more runs are shown, and answers how
-    /// many more are then.
-    fn put_showing(
-        &self,
-        alloc: Global,
-        page: &mut Page,
-        known: &mut Vec<KnownRun>,
-        stick: (Event, Event),
-        more: u32,
-    ) -> Result<u32, AllocError>
-        requires stick { IsStick (wiring_of self.now.sticks.now) (ready_in self.now.sticks.now)
-            stick.0 stick.1 }
-        requires ahead { HasAhead self.now.sticks.now self.now.ahead.now }
-        requires known { AreKnown self.now.sticks.now known.old.items }
-        ensures known { OnOk result (AreKnown self.now.sticks.now known.new.items) }
-        ensures more { IfOk result
-            (λ after. after ≡ shown_after more (ahead_in self.now.ahead.now stick.1)) }
-        ensures page { OnOk result ((runs : ℕ → List ℕ)
-            → AreStickRuns (wiring_of self.now.sticks.now) (ready_in self.now.sticks.now) runs
-            → page.new.bytes.items ≡ page.old.bytes.items
-            ++ showing_text self.now.style.words self.now.sticks.now.chart
-            (ahead_in self.now.ahead.now stick.1) (shown_run more (runs stick.1))) }
-    {
-        match self.ahead[stick.1 as usize] {
-            Some(ahead) => {
-                put_behind(page, ahead)?;
-                Ok(more)
-            }
-            None => self.put_first(alloc, page, known, stick, more),
-        }
-    }
-
-    /// Puts a stick behind a page with what shows it, where so many more runs are shown, and answers
-    /// how many more are then.
-    fn put_stick(
-        &self,
-        alloc: Global,
-        page: &mut Page,
-        known: &mut Vec<KnownRun>,
-        stick: (Event, Event),
-        more: u32,
-    ) -> Result<u32, AllocError>
-        requires stick { IsStick (wiring_of self.now.sticks.now) (ready_in self.now.sticks.now)
-            stick.0 stick.1 }
-        requires ahead { HasAhead self.now.sticks.now self.now.ahead.now }
-        requires known { AreKnown self.now.sticks.now known.old.items }
-        ensures known { OnOk result (AreKnown self.now.sticks.now known.new.items) }
-        ensures more { IfOk result
-            (λ after. after ≡ shown_after more (ahead_in self.now.ahead.now stick.1)) }
-        ensures page { OnOk result ((runs : ℕ → List ℕ)
-            → AreStickRuns (wiring_of self.now.sticks.now) (ready_in self.now.sticks.now) runs
-            → page.new.bytes.items ≡ page.old.bytes.items
-            ++ told_stick self.now.style self.now.sticks.now.chart self.now.ahead.now runs more
-            stick) }
-    {
-        self.put_bare(page, stick)?;
-        self.put_showing(alloc, page, known, stick, more)
-    }
-
-    /// Puts these sticks behind a page, where so many more runs are shown, and answers how many more
-    /// are then. Full pages go out.
-    fn put_event<W: Write>(
-        &self,
-        alloc: Global,
-        writer: &mut W,
-        page: &mut Page,
-        known: &mut Vec<KnownRun>,
-        sticks: &[(Event, Event)],
-        more: u32,
-    ) -> Result<u32, WriteFault>
-        requires sticks { AreSticksIn self.now.sticks.now sticks.now }
-        requires ahead { HasAhead self.now.sticks.now self.now.ahead.now }
-        requires known { AreKnown self.now.sticks.now known.old.items }
-        ensures known { OnOk result (AreKnown self.now.sticks.now known.new.items) }
-        ensures more { IfOk result
-            (λ after. after ≡ left_behind self.now.ahead.now more sticks.now) }
-        ensures put { (runs : ℕ → List ℕ)
-            → AreStickRuns (wiring_of self.now.sticks.now) (ready_in self.now.sticks.now) runs
-            → Puts result (W.contents writer.old) (W.contents writer.new)
-            page.old.bytes.items page.new.bytes.items (told_sticks self.now.style
-            self.now.sticks.now.chart self.now.ahead.now runs more sticks.now) }
-    {
-        let mut now = more;
-        for stick in sticks {
-            page.turn(writer)?;
-            now = self.put_stick(alloc, page, known, *stick, now)?;
-        }
-        Ok(now)
-    }
-
-    /// Puts all sticks behind a page, with runs for so many first ones. One list serves the sticks
-    /// of each event, and one run all that have it.
-    fn put_sticks<W: Write>(
-        &self,
-        alloc: Global,
-        writer: &mut W,
-        page: &mut Page,
-        show: u32,
-    ) -> Result<(), WriteFault>
-        requires { HasAhead self.now.sticks.now self.now.ahead.now }
-        ensures { (runs : ℕ → List ℕ)
-            → AreStickRuns (wiring_of self.now.sticks.now) (ready_in self.now.sticks.now) runs
-            → Puts result (W.contents writer.old) (W.contents writer.new)
-            page.old.bytes.items page.new.bytes.items (told_sticks self.now.style
-            self.now.sticks.now.chart self.now.ahead.now runs show
-            (sticks_of self.now.sticks.now)) }
-    {
-        each_first_stick_has_one_run();
+        names.chart.accepted();
         self.sticks.ready().kept();
-        let mut list = Vec::new(alloc);
-        let mut known = Vec::new(alloc);
-        let mut more = show;
-        for e in 0..self.sticks.ready().events() {
-            self.sticks.next(&mut list, e)?;
-            more = self.put_event(alloc, writer, page, &mut known, list.as_slice(), more)?;
-        }
-        Ok(())
+        let between = RoundSticks {
+            sticks: &self.sticks,
+            numbers: names.numbers,
+        };
+        between.told();
     }
 
-    /// Puts a race that is left behind a page.
-    fn put_race(&self, page: &mut Page, race: (Event, Event)) -> Result<(), AllocError>
-        requires e_known { race.0 < length self.now.sticks.now.chart.events }
-        requires f_known { race.1 < length self.now.sticks.now.chart.events }
-        ensures { OnOk result (page.new.bytes.items ≡ page.old.bytes.items
-            ++ left_race self.now.style self.now.sticks.now.chart race) }
-    {
-        let chart = self.sticks.ready().chart();
-        match write_left_race(page, chart, race.0, race.1, self.style) {
-            Ok(()) => Ok(()),
-            Err(_) => Err(AllocError),
-        }
-    }
-
-    /// Puts these races that are left behind a page. Full pages go out.
-    fn put_races<W: Write>(
-        &self,
-        writer: &mut W,
-        page: &mut Page,
-        races: &[(Event, Event)],
-    ) -> Result<(), WriteFault>
-        requires { AreEvents (length self.now.sticks.now.chart.events) races.now }
-        ensures { Puts result (W.contents writer.old) (W.contents writer.new)
-            page.old.bytes.items page.new.bytes.items
-            (flat_map (left_race self.now.style self.now.sticks.now.chart) races.now) }
-    {
-        for race in races {
-            page.turn(writer)?;
-            self.put_race(page, *race)?;
-        }
-        Ok(())
-    }
-
-    /// Puts all races that are left behind a page. One list serves the races of each event.
-    fn put_left<W: Write>(
+    /// Puts how many sticks are between two rounds behind a page, and then all of them, with runs
+    /// for so many first ones; answers whether there is none.
+    fn put_between<W: Write>(
         &self,
         alloc: Global,
         writer: &mut W,
         page: &mut Page,
-    ) -> Result<(), WriteFault>
-        ensures { (left : ℕ → ℕ → Bool)
-            → AreLeft (wiring_of self.now.sticks.now) (ready_in self.now.sticks.now) left
-            → Puts result (W.contents writer.old) (W.contents writer.new)
-            page.old.bytes.items page.new.bytes.items
-            (flat_map (left_race self.now.style self.now.sticks.now.chart)
-            (pairs_of left (length self.now.sticks.now.chart.events))) }
-    {
-        races_left_are_told();
-        let ready = self.sticks.ready();
-        ready.kept();
-        let mut list = Vec::new(alloc);
-        for e in 0..ready.events() {
-            list.clear();
-            ready.push_left(&mut list, e)?;
-            self.put_races(writer, page, list.as_slice())?;
-        }
-        Ok(())
-    }
-
-    /// Puts how many races are left behind a page, and then all of them; answers whether none is.
-    fn put_counted<W: Write>(
-        &self,
-        alloc: Global,
-        writer: &mut W,
-        page: &mut Page,
+        names: RoundNames<'_>,
+        style: Style<'_>,
+        more: u32,
     ) -> Result<bool, WriteFault>
-        ensures none { IfOk result (λ none. (left : ℕ → ℕ → Bool)
-            → AreLeft (wiring_of self.now.sticks.now) (ready_in self.now.sticks.now) left
-            → none ≡ nat_eq (length (pairs_of left (length self.now.sticks.now.chart.events))) 0) }
-        ensures put { (left : ℕ → ℕ → Bool)
-            → AreLeft (wiring_of self.now.sticks.now) (ready_in self.now.sticks.now) left
+        requires twice { self.now.sticks.chart ≡ twice names.chart.now }
+        requires ahead { HasAhead self.now.sticks self.now.ahead.items }
+        ensures none { IfOk result (λ none. none
+            ≡ nat_eq (length (between_of self.now.sticks names.entry.chart.now)) 0) }
+        ensures put { (runs : ℕ → List ℕ)
+            → AreStickRuns (wiring_of self.now.sticks) (ready_in self.now.sticks) runs
             → Puts result (W.contents writer.old) (W.contents writer.new)
-            page.old.bytes.items page.new.bytes.items (told_left self.now.style
-            self.now.sticks.now.chart
-            (pairs_of left (length self.now.sticks.now.chart.events))) }
+            page.old.bytes.items page.new.bytes.items (again_text style.entry
+            names.entry.chart.now self.now.sticks self.now.ahead.items runs more) }
     {
-        let count = self.sticks.ready().count_left();
-        put_left_count(page, count)?;
-        self.put_left(alloc, writer, page)?;
+        names.chart.accepted();
+        let between = RoundSticks {
+            sticks: &self.sticks,
+            numbers: names.numbers,
+        };
+        let count = between.count();
+        put_again_count(page, count)?;
+        let teller = Teller {
+            sticks: &self.sticks,
+            ahead: self.ahead.as_slice(),
+            names: Some(names),
+            style,
+        };
+        teller.put_sticks(alloc, writer, page, more)?;
         Ok(count == 0)
     }
+}
 
-    /// Puts what stands behind the head behind a page, of so many sticks; answers whether the system
-    /// finishes, and no race is left where these are told.
-    fn put_body<W: Write>(
-        &self,
-        alloc: Global,
-        writer: &mut W,
-        page: &mut Page,
-        only: Option<&[bool]>,
-        show: u32,
-    ) -> Result<bool, WriteFault>
-        requires { HasAhead self.now.sticks.now self.now.ahead.now }
-        ensures passed { IfOk result (λ passed. (k : Knowledge)
-            → IsKnown self.now.sticks.now k
-            → passed ≡ finishes self.now.sticks.now (option_copied only.entry) k) }
-        ensures put { (k : Knowledge) → IsKnown self.now.sticks.now k
-            → k.ahead ≡ self.now.ahead.now
-            → Puts result (W.contents writer.old) (W.contents writer.new)
-            page.old.bytes.items page.new.bytes.items
-            (body_text self.now.style self.now.sticks.now (option_copied only.entry) show k) }
-    {
-        let count = self.sticks.count();
-        if count == 0 && only.is_some() {
-            return self.put_counted(alloc, writer, page);
-        }
-        self.put_sticks(alloc, writer, page, show)?;
-        Ok(count == 0)
+/// The sticks of two rounds, where they are given.
+fn known_of<'a>(
+    alloc: Global,
+    two: Option<&'a Chart>,
+    queues: Queues,
+    only: Option<&[bool]>,
+) -> Result<Option<Known<'a>>, AllocError>
+    ensures some { IfOk result (λ known. is_some known ≡ is_some two.entry) }
+    ensures rounds { (d : Drawing)
+        → MatchOption two.entry (Unit {0}) (λ rounds. rounds.now ≡ twice d)
+        → IfOk result (λ known. AreRoundsOf d queues (option_copied only.entry)
+        (option_map (λ k. k.sticks) known)) }
+    ensures ahead { IfOk result (λ known. MatchOption known (Unit {0})
+        (λ k. HasAhead k.sticks k.ahead.items)) }
+{
+    match two {
+        Some(two) => Ok(Some(Known::of(alloc, two, queues, only)?)),
+        None => Ok(None),
     }
+}
 
-    /// Writes all that is said of a chart of which it is known whether some ready run is whole.
-    fn write_told<W: Write>(
-        &self,
-        alloc: Global,
-        writer: &mut W,
-        only: Option<&[bool]>,
-        show: u32,
-        may: bool,
-    ) -> Result<bool, WriteFault>
-        requires lines { (l : List Bool) → option_copied only ≡ Some l
-            → length l ≡ length self.now.sticks.now.chart.instances }
-        requires ahead { HasAhead self.now.sticks.now self.now.ahead.now }
-        ensures passed { IfOk result (λ passed. (k : Knowledge)
-            → IsKnown self.now.sticks.now k
-            → passed ≡ finishes self.now.sticks.now (option_copied only.entry) k) }
-        ensures written { (k : Knowledge) → IsKnown self.now.sticks.now k
-            → k.ahead ≡ self.now.ahead.now → k.may ≡ may
-            → Writes result (W.contents writer.old) (W.contents writer.new)
-            (ready_text self.now.style self.now.sticks.now (option_copied only.entry) show k) }
-    {
-        each_first_stick_has_one_run();
-        races_left_are_told();
-        let ready = self.sticks.ready();
-        let mut page = Page::new(alloc);
-        put_head(&mut page, ready, only, self.sticks.count(), may)?;
-        let passed = self.put_body(alloc, writer, &mut page, only, show)?;
-        writer.write_all(page.bytes.as_slice())?;
-        Ok(passed)
+/// What is said of two rounds, where they are given. It does nothing; a caller calls it to rest its
+/// own proof on that.
+fn told_again(two: &Option<Known<'_>>, names: RoundNames<'_>)
+    requires twice { MatchOption two.now (Unit {0})
+        (λ known. known.sticks.chart ≡ twice names.chart.now) }
+    requires ahead { MatchOption two.now (Unit {0})
+        (λ known. HasAhead known.sticks known.ahead.items) }
+    ensures { (queues : Queues) (only : Option (List Bool))
+        → AreRoundsOf names.entry.chart.now queues only
+        (option_map (λ k. k.sticks) two.now)
+        → SaysAgain (is_some two.now) names.entry.chart.now queues only }
+{
+    match two {
+        Some(known) => known.told(names),
+        None => {}
+    }
+}
+
+/// Puts what is said of two rounds behind a page, where they are given; answers whether there is no
+/// stick between them.
+fn put_again<W: Write>(
+    alloc: Global,
+    writer: &mut W,
+    page: &mut Page,
+    two: &Option<Known<'_>>,
+    names: RoundNames<'_>,
+    style: Style<'_>,
+    more: u32,
+) -> Result<bool, WriteFault>
+    requires twice { MatchOption two.now (Unit {0})
+        (λ known. known.sticks.chart ≡ twice names.chart.now) }
+    requires ahead { MatchOption two.now (Unit {0})
+        (λ known. HasAhead known.sticks known.ahead.items) }
+    ensures { (queues : Queues) (only : Option (List Bool))
+        → AreRoundsOf names.entry.chart.now queues only
+        (option_map (λ k. k.sticks) two.now)
+        → PutsAgain (is_some two.now) names.entry.chart.now queues only more style.entry result
+        (W.contents writer.old) (W.contents writer.new) page.old.bytes.items
+        page.new.bytes.items }
+{
+    match two {
+        Some(known) => {
+            known.told(names);
+            known.put_between(alloc, writer, page, names, style, more)
+        }
+        None => Ok(true),
     }
 }
 
 /// Writes whether a system of ready instances can stick under an architecture: its sticks, in order,
 /// the first `show` of those that are first with a run after which the system has stuck, and of any
 /// other which one is ahead of it. With a list, which says of each instance whether it is ready, it
-/// is of these, and where there is no stick the races that are left are written. Answers whether
-/// there is no stick, and no race that is left is written.
+/// is of these, and where there is no stick the races that are left are written. With the chart of
+/// two rounds the sticks between these are written behind it, in the same way, with as many runs as
+/// are not shown yet. Answers whether there is no stick, and no race that is left is written.
 ///
 /// `Memory` is answered where a growth of memory was refused: a beginning of the answer may have
 /// been written then. `Device` is answered where the writer fails.
 pub fn write_ready<W: Write>(
     alloc: Global,
     chart: &Chart,
+    two: Option<&Chart>,
     queues: Queues,
     only: Option<&[bool]>,
     show: u32,
     style: Style<'_>,
     writer: &mut W,
 ) -> Result<bool, WriteFault>
-    requires { (l : List Bool) → option_copied only ≡ Some l
+    requires lines { (l : List Bool) → option_copied only ≡ Some l
         → length l ≡ length chart.now.instances }
-    ensures { Tells W.contents (PrintsReady chart.now queues (option_copied only.entry) show
-        style.entry) result writer.old writer.new }
+    requires two { MatchOption two (Unit {0}) (λ rounds. rounds.now ≡ twice chart.now) }
+    ensures { Tells W.contents (PrintsReady chart.now queues (option_copied only.entry)
+        (is_some two.entry) show style.entry) result writer.old writer.new }
 {
     each_first_stick_has_one_run();
     races_left_are_told();
-    let ready = ready_of(alloc, chart, queues, only)?;
+    let numbers = RoundNumbers::of(alloc, chart)?;
+    let names = RoundNames {
+        chart,
+        numbers: &numbers,
+    };
+    let one = Known::of(alloc, chart, queues, only)?;
+    let two = known_of(alloc, two, queues, only)?;
+    told_again(&two, names);
+    one.sticks.told();
+    let ready = one.sticks.ready();
     ready.kept();
     let may = ready.may_finish(alloc)?;
-    let sticks = Sticks::of(alloc, ready)?;
-    sticks.told();
-    let ahead = sticks.all_ahead(alloc)?;
-    let teller = Teller {
-        sticks: &sticks,
-        ahead: ahead.as_slice(),
-        style,
-    };
-    teller.write_told(alloc, writer, only, show, may)
+    let teller = one.teller(style);
+    let mut page = Page::new(alloc);
+    let (passed, more) = teller.put_told(alloc, writer, &mut page, only, show, may)?;
+    let none = put_again(alloc, writer, &mut page, &two, names, style, more)?;
+    writer.write_all(page.bytes.as_slice())?;
+    Ok(passed && none)
 }

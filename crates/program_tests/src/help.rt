@@ -65,6 +65,11 @@ const WORDS: &[(&str, &str)] = &[
     ),
     (
         "check",
+        "--again\n          Print what is between a round of the chart and the next, where it is \
+         repeated\n",
+    ),
+    (
+        "check",
         "--places\n          Print where events stand, and what is said of a fault\n",
     ),
     (
@@ -91,6 +96,11 @@ const WORDS: &[(&str, &str)] = &[
     ),
     ("explain", "<F>     The second event\n"),
     ("list", "<FILE>  The chart's text; - is standard input\n"),
+    (
+        "ready",
+        "--again                         Print what is between a round of the chart and the next, \
+         where it is repeated\n",
+    ),
     (
         "run",
         "--patience <N>                  End an instance that looked in vain N times in a row; \

@@ -31,6 +31,8 @@ mod program;
 #[cfg(test)]
 mod queues;
 #[cfg(test)]
+mod repeated;
+#[cfg(test)]
 mod runs;
 #[cfg(test)]
 mod scenarios;

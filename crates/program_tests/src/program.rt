@@ -241,6 +241,9 @@ const WRONG: &[&[&str]] = &[
     &[
         "check", "--queues", "pair", "--from", "any", "--accept", "-",
     ],
+    &["check", "--queues", "pair", "--from", "any", "--again", "-"],
+    &["explain", "--queues", "pair", "--again", "-", "0", "1"],
+    &["read", "--again", "-"],
     &[
         "check", "--queues", "pair", "--from", "any", "--limit", "0", "-",
     ],

@@ -6,7 +6,7 @@ use Rattle.msc_command.proofs.answering.answer_chart.Goals as goal
 pub returns-in-Quiet : goal.returns-in-Quiet
 returns-in-Quiet g c =
     let q = c.in-Quiet in
-    rw q.is (told_quietly g.O.Write.contents q.queues q.allowed q.accept c.args.file.now c.args.source.now c.quiet.result c.args.output.now c.quiet.ensures)
+    rw q.is (told_quietly g.O.Write.contents q.quieting c.args.file.now c.args.source.now c.quiet.result c.args.output.now c.quiet.ensures)
 
 pub returns-in_ok-page-in-Run : goal.returns-in_ok-page-in-Run
 returns-in_ok-page-in-Run g c =

@@ -1,6 +1,6 @@
 use Rattle.std.proofs.Common.{◌<◌, false, List, [], ◌∷◌, ◌++◌, length, sym, ap₂, ◌∙◌, arith}
 use Rattle.msc_diagram.proofs.Growing.{known_more, places_more}
-use Rattle.msc_diagram.specs.Judging.{counted}
+use Rattle.msc_judge.specs.Questions.{counted}
 use Rattle.msc_diagram.specs.Places.{above_with}
 use Rattle.msc_diagram.specs.Scenarios.{all_of, asked_of}
 use Rattle.msc_diagram.specs.declared.place.Place.{Place}

@@ -4,6 +4,5 @@ use Rattle.msc_report.proofs.sticks.write_stick_lines.Goals as goal
 
 pub returns : goal.returns
 returns g c =
-    IfOk-weaker c.write_needs.result _ _ (λ u wrote. Appends-append _ _ _ _ _ c.in_ok-write_stick_place.ensures
-    (Appends-append _ _ _ _ _ c.in_ok-write_all.ensures.bytes (Appends-append _ _ _ _ _ c.in_ok-write_events.ensures
-    (Appends-append _ _ _ _ _ c.in_ok-write_at.ensures wrote)))) c.write_needs.ensures
+    IfOk-weaker c.write_needs.result _ _
+    (λ u wrote. Appends-append _ _ _ _ _ c.in_ok-write_told_pair.ensures wrote) c.write_needs.ensures

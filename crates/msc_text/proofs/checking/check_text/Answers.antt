@@ -1,4 +1,4 @@
-use Rattle.std.proofs.Common.{None, Ok, Err, sym, subst}
+use Rattle.std.proofs.Common.{false, None, Ok, Err, sym, subst}
 use Rattle.std.proofs.lemmas.Result.{err_from_is_err_and}
 use Rattle.msc_judge.specs.declared.question.Question.{Question}
 use Rattle.msc_judge.specs.Pages.{Tells}
@@ -44,8 +44,8 @@ returns-in_err-judge_chart-clause-begun g c =
     let laws = c.the_chosen_run_reverses.ensures in
     rw (exit.1, exit.2) (begins_verdict c.args.text.now c.args.queues c.args.show c.chart.result.now of_text c.enforced_orders_tell_verdicts.ensures laws.whole laws.races
     g.W.Write.contents c.in_err-judge_chart.field-0.0 c.args.writer.now _
-    (subst (λ (q : Question). Tells g.W.Write.contents (JudgesChart c.chart.result.now c.args.queues q None (Lines plain_style)) (Err c.in_err-judge_chart.field-0.0) c.args.writer.now c.judge_chart.new.writer)
-    c.all_races-question.ensures (subst (λ (f : Format). Tells g.W.Write.contents (JudgesChart c.chart.result.now c.args.queues c.all_races-question.result None f) (Err c.in_err-judge_chart.field-0.0) c.args.writer.now c.judge_chart.new.writer)
+    (subst (λ (q : Question). Tells g.W.Write.contents (JudgesChart c.chart.result.now c.args.queues q None false (Lines plain_style)) (Err c.in_err-judge_chart.field-0.0) c.args.writer.now c.judge_chart.new.writer)
+    c.all_races-question.ensures (subst (λ (f : Format). Tells g.W.Write.contents (JudgesChart c.chart.result.now c.args.queues c.all_races-question.result None false f) (Err c.in_err-judge_chart.field-0.0) c.args.writer.now c.judge_chart.new.writer)
     c.plain_lines.ensures c.in_err-judge_chart.ensures)))
 
 pub returns-clause-written : goal.returns-clause-written
@@ -54,6 +54,6 @@ returns-clause-written g c =
     let laws = c.the_chosen_run_reverses.ensures in
     writes_verdict c.args.text.now c.args.queues c.args.show c.chart.result.now of_text c.enforced_orders_tell_verdicts.ensures laws.whole laws.races
     g.W.Write.contents c.in_ok-judge_chart.field-0 c.args.writer.now _
-    (subst (λ (q : Question). Tells g.W.Write.contents (JudgesChart c.chart.result.now c.args.queues q None (Lines plain_style)) (Ok c.in_ok-judge_chart.field-0) c.args.writer.now c.judge_chart.new.writer)
-    c.all_races-question.ensures (subst (λ (f : Format). Tells g.W.Write.contents (JudgesChart c.chart.result.now c.args.queues c.all_races-question.result None f) (Ok c.in_ok-judge_chart.field-0) c.args.writer.now c.judge_chart.new.writer)
+    (subst (λ (q : Question). Tells g.W.Write.contents (JudgesChart c.chart.result.now c.args.queues q None false (Lines plain_style)) (Ok c.in_ok-judge_chart.field-0) c.args.writer.now c.judge_chart.new.writer)
+    c.all_races-question.ensures (subst (λ (f : Format). Tells g.W.Write.contents (JudgesChart c.chart.result.now c.args.queues c.all_races-question.result None false f) (Ok c.in_ok-judge_chart.field-0) c.args.writer.now c.judge_chart.new.writer)
     c.plain_lines.ensures c.in_ok-judge_chart.ensures))

@@ -1,0 +1,6 @@
+use Rattle.std.proofs.Common.{◌≡◌, length}
+use Rattle.msc_judge.proofs.BetweenLemmas.{told_below}
+use Rattle.msc_judge.proofs.rounds.Rounds.count.Given as goal
+
+abbrev pub invariant-loop-x : goal.invariant-loop-x
+invariant-loop-x l = l.count ≡ length (told_below l.self.numbers.now l.self.listing.now.judged l.self.listing.now.allowed l.x)

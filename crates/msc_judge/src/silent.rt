@@ -1,0 +1,61 @@
+//! The renderer that writes nothing.
+
+ghost use Rattle.std.specs.Prelude.{[]};
+
+use crate::page::Page;
+use crate::renderer::{Finding, Heading, Renderer};
+use msc_chart::{Chart, Event};
+use std::alloc::{AllocError, Global};
+
+/// Writes nothing, where an answer alone is asked for.
+#[derive(Clone, Copy)]
+pub struct Silent;
+
+impl Renderer for Silent {
+    ghost fits = { λ s d. Unit {0} };
+
+    ghost heading_text = { λ s d h. [] };
+
+    ghost run_text = { λ s d run. [] };
+
+    ghost finding_text = { λ s d f line. [] };
+
+    ghost end_text = { λ s d stale. [] };
+
+    fn put_heading(
+        &self,
+        _page: &mut Page,
+        _chart: &Chart,
+        _heading: Heading,
+    ) -> Result<(), AllocError> {
+        Ok(())
+    }
+
+    fn run_line(
+        &self,
+        alloc: Global,
+        _chart: &Chart,
+        _run: &[Event],
+    ) -> Result<Vec<u8>, AllocError> {
+        Ok(Vec::new(alloc))
+    }
+
+    fn put_finding(
+        &self,
+        _page: &mut Page,
+        _chart: &Chart,
+        _finding: Finding,
+        _line: Option<&[u8]>,
+    ) -> Result<(), AllocError> {
+        Ok(())
+    }
+
+    fn put_end(
+        &self,
+        _page: &mut Page,
+        _chart: &Chart,
+        _stale: &[Event],
+    ) -> Result<(), AllocError> {
+        Ok(())
+    }
+}
