@@ -2,9 +2,10 @@
 # Runs the program on each chart of charts/, and compares what it writes to both streams, and its
 # status, with what stands beside the chart. A chart with nothing beside it fails.
 #
-#     tools/examples.sh [PROGRAM]
+#     tools/examples.sh [PROGRAM [CHART]]
 #
-# PROGRAM is ./msc where it is left out. Beside charts/NAME.msc stand NAME.read.txt, the output of
+# PROGRAM is ./msc where it is left out. With CHART, only runs that name charts/CHART.* or a chart of
+# this name in a folder of charts/ are compared. Beside charts/NAME.msc stand NAME.read.txt, the output of
 # `msc read`, and NAME.pair.txt, NAME.mailbox.txt and NAME.single.txt, those of `msc check`, whose
 # status is 1 where there are races. NAME.run.QUEUES.txt is the output of `msc run`, where no
 # schedule of the threads gives another one, and NAME.impatient.QUEUES.txt that with a patience of
@@ -27,6 +28,7 @@
 set -u
 cd "$(dirname "$(readlink -f "${BASH_SOURCE[0]}")")/.." || exit 1
 program=${1-./msc}
+named=${2-}
 passed=0 failed=0
 room=$(mktemp -d)
 trap 'rm -rf "$room"' EXIT
@@ -35,6 +37,7 @@ trap 'rm -rf "$room"' EXIT
 # file $2, its status with $3.
 compare() {
   local status
+  if [ -n "$named" ] && ! [[ " ${*:4} " =~ /"$named"[.[:space:]] ]]; then return; fi
   "$program" "${@:4}" </dev/null >"$room/output" 2>"$room/error"
   status=$?
   if diff -u "$1" "$room/output" && diff -u "$2" "$room/error" && [ "$status" = "$3" ]; then

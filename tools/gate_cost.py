@@ -111,7 +111,11 @@ class Cost:
 
 
 def edits_of(crate):
-    return [it.stem for it in sorted(CRATES.glob(f"{crate}/must-fail/*.edit"))]
+    """The names of a crate's edits; with `--all` those of tools/more_edits are tried too."""
+    found = [*CRATES.glob(f"{crate}/must-fail/*.edit")]
+    if "--all" in sys.argv:
+        found += CRATES.parent.glob(f"tools/more_edits/{crate}/*.edit")
+    return sorted(it.stem for it in found)
 
 
 def row(name, spent, edits):

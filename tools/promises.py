@@ -19,7 +19,7 @@ from contracts import CRATES, PAGES, TOP
 LISTED = re.compile(r"((?:`[^`]+`, )*`[^`]+`) \((?:`(\w+)`, )?`((?:specs|proofs)/[\w/]+)`\)")
 LAWS = re.compile(r"`(?:(\w+)::)?laws::(\w+)`((?:: (?:`\w+`(?:, )?)+)?)")
 # the crates of tests
-TESTS = ("program_tests", "chart_tests", "import_tests", "picture_tests")
+TESTS = ("program_tests", "chart_tests", "import_tests")
 WORDS = r"(?m)^\s*(?:(?:pub|abbrev|unfoldable|opaque|data|record)\s+)*{}(?=[\s:(])"
 
 

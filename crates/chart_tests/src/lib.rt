@@ -23,8 +23,6 @@ mod host;
 #[cfg(test)]
 mod marks;
 #[cfg(test)]
-mod notes;
-#[cfg(test)]
 mod orders;
 #[cfg(test)]
 mod positions;

@@ -2,10 +2,53 @@
 
 use crate::charts::chart_of;
 use crate::host::Host;
-use crate::notes::ISDN_CALL;
 use example_charts::{OVERTAKING, TWO_SENDERS};
 use msc_chart::{Chart, Event, Queues};
 use msc_race::Enforced;
+
+/// An ISDN basic call, as `charts/isdn_call.msc` has it below its note of two lines.
+const ISDN_CALL: &[u8] = b"
+
+msc basic_call;
+inst caller, network, callee;
+instance caller : terminal;
+  out SETUP to network;
+  in CALL_PROCEEDING from network;
+  in ALERTING from network;
+  in CONNECT from network;
+  out CONNECT_ACK to network;
+  out DISCONNECT to network;
+  in RELEASE from network;
+  out RELEASE_COMPLETE to network;
+endinstance;
+instance network : exchange;
+  in SETUP from caller;
+  out CALL_PROCEEDING to caller;
+  out SETUP to callee;
+  in ALERTING from callee;
+  out ALERTING to caller;
+  in CONNECT from callee;
+  out CONNECT_ACK to callee;
+  out CONNECT to caller;
+  in CONNECT_ACK from caller;
+  in DISCONNECT from caller;
+  out RELEASE to caller;
+  out DISCONNECT to callee;
+  in RELEASE_COMPLETE from caller;
+  in RELEASE from callee;
+  out RELEASE_COMPLETE to callee;
+endinstance;
+instance callee : terminal;
+  in SETUP from network;
+  out ALERTING to network;
+  out CONNECT to network;
+  in CONNECT_ACK from network;
+  in DISCONNECT from network;
+  out RELEASE to network;
+  in RELEASE_COMPLETE from network;
+endinstance;
+endmsc;
+";
 
 /// Under `Mailbox` the past of the second input of k is no run: q would have to take m2 first, and
 /// z m3, so that the outputs of a and b would go round in a ring.

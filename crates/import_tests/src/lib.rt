@@ -2,6 +2,4 @@
 #![tactic(auto)]
 
 #[cfg(test)]
-mod gallery;
-#[cfg(test)]
 mod imports;
