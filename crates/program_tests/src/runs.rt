@@ -1,103 +1,12 @@
-//! Executions of texts: what is printed of them, and what gates force.
+//! Executions that gates force.
 
-use crate::host::{Machine, Parallel};
-use crate::program::{answers, run};
-use example_charts::{EMPTY, LOCAL_EVENTS, NUMBERED, ONE_MESSAGE, RELAY, TWO_SENDERS};
+use crate::host::Parallel;
+use example_charts::TWO_SENDERS;
 use msc_chart::{Event, Queues};
 use msc_instance::Gate;
 use msc_tool::run_text;
 use std::sync::atomic::{AtomicU64, Ordering};
 use std::thread;
-
-/// The words of a run of the program, its text, what it prints to standard output and to standard
-/// error, and its exit status.
-type Run = (
-    &'static [&'static str],
-    &'static [u8],
-    &'static [u8],
-    &'static [u8],
-    u8,
-);
-
-/// Executions that are the same whatever the schedule, and texts that are refused.
-const RUN: &[Run] = &[
-    (
-        &["run", "--queues", "single", "-"],
-        EMPTY,
-        b"chart t\nqueues single\ntrace 0\n",
-        b"",
-        0,
-    ),
-    (
-        &["run", "--queues", "pair", "--patience", "0", "-"],
-        ONE_MESSAGE,
-        b"chart t\nqueues pair\ninstance a finished\ninstance b impatient\n\
-trace 1\n0 a out m to b\n",
-        b"",
-        3,
-    ),
-    (
-        &["run", "--queues", "mailbox", "-"],
-        RELAY,
-        b"chart t\nqueues mailbox\n\
-instance a finished\ninstance b finished\ninstance c finished\n\
-trace 6\n0 a out m1 to b\n1 a out x to c\n2 b in m1 from a\n\
-4 c in x from a\n5 c out m2 to b\n3 b in m2 from c\n",
-        b"",
-        0,
-    ),
-    (
-        &["run", "--queues", "pair", "--patience", "4294967295", "-"],
-        LOCAL_EVENTS,
-        b"chart t\nqueues pair\ninstance a finished\ninstance b finished\n\
-trace 4\n0 a action 'go'\n1 a out m to b\n2 b in m from a\n3 b action 'done'\n",
-        b"",
-        0,
-    ),
-    (
-        &["run", "--queues", "pair", "-"],
-        b"",
-        b"",
-        b"grammar fault 3 at 0: expected msc\n",
-        2,
-    ),
-    (
-        &["run", "--queues", "pair", "-"],
-        b"msc t; instance a; in m from a; endinstance; endmsc;",
-        b"",
-        b"chart fault 8: input 0 has no output\n",
-        2,
-    ),
-];
-
-#[test]
-fn executions_that_rest_on_no_schedule(rt: HostRuntime) {
-    for &(words, text, output, faults, status) in RUN {
-        let is = answers(&rt, words, text, (output, faults, status));
-        assert!(rt; is, "{words:?}");
-    }
-}
-
-/// What is printed of `numbered` under `single`, where b takes either message first.
-const NUMBERED_RUNS: [&[u8]; 2] = [
-    b"chart t\nqueues single\ninstance a finished\ninstance b finished\n\
-trace 4\n0 a out m, 1 to b\n1 a out m, 2 to b\n2 b in m, 1 from a\n3 b in m, 2 from a\n",
-    b"chart t\nqueues single\ninstance a finished\ninstance b finished\n\
-trace 4\n0 a out m, 1 to b\n1 a out m, 2 to b\n3 b in m, 2 from a\n2 b in m, 1 from a\n",
-];
-
-/// Whether a run of `numbered` under `single` finishes, and prints one of its two executions.
-fn runs_numbered(rt: &impl Machine) -> bool {
-    let ran = run(rt, &["run", "--queues", "single", "-"], NUMBERED);
-    let printed = ran.output.as_slice();
-    let is_run = NUMBERED_RUNS.iter().any(|text| printed == *text);
-    (is_run, ran.status) == (true, 0)
-}
-
-#[test]
-fn two_messages_that_come_in_any_order(rt: HostRuntime) {
-    assert!(rt; runs_numbered(&rt));
-}
 
 /// How often a gate looks whether it was asked for another event.
 const TURNS: u64 = 1_000_000_000;
