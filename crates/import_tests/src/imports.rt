@@ -204,6 +204,65 @@ endmsc;
     (
         b"sequenceDiagram
 A-xB: a
+A->>B: b",
+        None,
+        Own::Action,
+        &[],
+        b"msc t;
+instance A;
+  action 'lost a, 1 to B';
+  out b, 2 to B;
+endinstance;
+instance B;
+  in b, 2 from A;
+endinstance;
+endmsc;
+",
+    ),
+    (
+        b"sequenceDiagram
+loop x
+A-xB: a
+end
+A-xA: b",
+        None,
+        Own::Action,
+        &[2, 1, 0],
+        b"msc t;
+instance A;
+  out a, 1_1 to B;
+  action 'lost a, 1_2 to B';
+  action 'b, 2';
+endinstance;
+instance B;
+  in a, 1_1 from A;
+endinstance;
+endmsc;
+",
+    ),
+    (
+        b"sequenceDiagram
+A-xA: a
+destroy B
+A-xB: b",
+        None,
+        Own::Message,
+        &[],
+        b"msc t;
+instance A;
+  out a, 1 to A;
+  in a, 1 from A;
+  out b, 2 to B;
+endinstance;
+instance B;
+  in b, 2 from A;
+endinstance;
+endmsc;
+",
+    ),
+    (
+        b"sequenceDiagram
+A-xB: a
 A->>C: c",
         Some(Cross::Arrives),
         Own::Action,
@@ -858,7 +917,6 @@ const FAULTS: &[(&[u8], ImportFault)] = &[
         b"sequenceDiagram\nA->>-",
         ImportFault::Expected(2, Expectation::Label),
     ),
-    (b"sequenceDiagram\n\nA-xB: a", ImportFault::Cross(3)),
     (
         b"sequenceDiagram\nelse",
         ImportFault::Outside(2, Closer::Else),
@@ -939,6 +997,16 @@ const REFUSED: &[(&[u8], &[usize], ImportFault)] = &[
         ImportFault::Choice(2, 1, 1024),
     ),
     (
+        b"sequenceDiagram\nA->>B: a\nA-xB: b",
+        &[2],
+        ImportFault::Choice(3, 1, 1),
+    ),
+    (
+        b"sequenceDiagram\nA->>B: a\nA-xA: b",
+        &[0],
+        ImportFault::TooManyChoices(1, 0),
+    ),
+    (
         b"sequenceDiagram\nloop x\nA->>B: a\nend\nA->>B: b",
         &[1024],
         ImportFault::TooManyArrows(5),
@@ -998,6 +1066,11 @@ const COUNTS: &[Counted] = &[
     (gallery::WEBSOCKET_CHAT, &[0, 2], 2),
     (b"sequenceDiagram\nA->>B: a", &[0, 2], 1),
     (
+        b"sequenceDiagram\nA-xB: a\nloop x\nA--xB: b\nend\nA-xA: c\ndestroy B\nA-xB: d",
+        &[0, 2],
+        10,
+    ),
+    (
         b"sequenceDiagram\nloop x\nA->>B: a\nbreak y\nB->>A: b\nend\nalt z\nA->>B: c\nelse z\nB->>A: d\nend\nend\ncritical x\nbreak y\nA->>B: a\nend\noption z\nA->>C: c\noption y\nB->>A: d\nend\npar x\nopt y\nA->>B: e\nend\nand z\nopt y\nA->>B: e\nend\nend\n",
         &[0, 2],
         192,
@@ -1036,6 +1109,11 @@ type Chosen = (&'static [u8], &'static [usize], &'static [&'static [usize]]);
 /// Blocks of each kind, and blocks inside others and behind them.
 const CHOICES: &[Chosen] = &[
     (b"sequenceDiagram\nA->>B: a", &[0, 2], &[&[]]),
+    (
+        b"sequenceDiagram\nA-xB: a\nopt x\nA--xB: b\nend\nA-xA: c",
+        &[0, 2],
+        &[&[0, 0], &[0, 1, 0], &[0, 1, 1], &[1, 0], &[1, 1, 0], &[1, 1, 1]],
+    ),
     (
         b"sequenceDiagram\nalt x\nA->>B: a\nelse y\nA->>B: a\nelse z\nA->>B: a\nend",
         &[0, 2],

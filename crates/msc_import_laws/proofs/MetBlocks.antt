@@ -20,7 +20,7 @@ use Rattle.msc_import_laws.proofs.MetRounds.{IsInRounds, in_round, rounds_grow}
 use Rattle.msc_import_laws.proofs.MetBranches.{one_grows, options_grow, sides_grow}
 
 -- what follows the choice of a block, where one is taken that it has
-choice_grows : (R : Message → Type 0) (line most main : ℕ) (w : Walk) (f : ℕ → Walk → Walk) → ((c : ℕ) (v : Walk) → c ≤ most → v.lines ≡ w.lines → Grows R v (f c v)) → Grows R w (then (choose line most main w) (f (choice_of main w)))
+pub choice_grows : (R : Message → Type 0) (line most main : ℕ) (w : Walk) (f : ℕ → Walk → Walk) → ((c : ℕ) (v : Walk) → c ≤ most → v.lines ≡ w.lines → Grows R v (f c v)) → Grows R w (then (choose line most main w) (f (choice_of main w)))
 unfolding choose
 choice_grows R line most main w f h =
     let c : ℕ = choice_of main w in

@@ -54,11 +54,12 @@ module _ (lines : List (List ℕ)) where
     in_round k n m le h = record {
       placed = h.met.placed;
       arrow = h.met.arrow;
+      lost = h.met.lost;
       more = (h.round + 1) ∷ h.met.more;
       stands = h.met.stands;
       says = h.met.says;
       low = h.met.low;
       few = let a = h.met.few in omega (arith, a);
       short = (let a = h.to in omega (arith, a, le), h.met.short);
-      is = h.met.is ∙ ap (message_of lines h.met.placed h.met.arrow) (append_assoc rounds ((h.round + 1) ∷ []) h.met.more);
+      is = h.met.is ∙ ap (message_of lines h.met.placed h.met.arrow h.met.lost) (append_assoc rounds ((h.round + 1) ∷ []) h.met.more);
     }

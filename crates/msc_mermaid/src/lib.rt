@@ -28,7 +28,7 @@ pub use key::{Head, are_spelled};
 pub use lines::{lines_of, trimmed};
 pub use mermaid::{diagram_of, is_head};
 pub use row::{Closer, Kind, is_word_byte};
-pub use statement::{Arrow, Cross, Diagram, Placed, Statement};
+pub use statement::{Arrow, Cross, Diagram, Fate, Placed, Statement};
 
 /// The greatest number of blocks inside each other.
 pub const DEPTH_LIMIT: usize = 10;

@@ -6,7 +6,7 @@ ghost use Rattle.msc_lexer.specs.Bytes.{begins};
 ghost use Rattle.msc_mermaid.specs.Gives.{Gives};
 ghost use Rattle.msc_mermaid.specs.Saying.{arrow_by, arrow_of, at_colon, behind_sign, behind_wrap};
 ghost use Rattle.msc_mermaid.specs.Saying.{declared, dies, holds, is_barred, is_dash, is_name, is_sign};
-ghost use Rattle.msc_mermaid.specs.Saying.{line_of, lost_at, name_at, no_second, plain_ident};
+ghost use Rattle.msc_mermaid.specs.Saying.{line_of, fate_of, name_at, no_second, plain_ident};
 ghost use Rattle.msc_mermaid.specs.Saying.{said_as, said_at, shown_behind};
 
 use crate::fault::{Expectation, ImportFault};
@@ -14,7 +14,7 @@ use crate::key::{Head, Mark};
 use crate::lines::{behind_blanks, trimmed};
 use crate::row::{Meaning, meaning_of};
 use crate::seeking::Sought;
-use crate::statement::{Arrow, Cross, Statement};
+use crate::statement::{Arrow, Cross, Fate, Statement};
 use listed::Listed;
 use std::alloc::{AllocError, Global};
 
@@ -213,25 +213,19 @@ fn dies(dying: &[Listed<u8>], from: &[u8], to: &[u8]) -> bool
         .any(|line| line.as_slice() == from || line.as_slice() == to)
 }
 
-/// Whether the message of an arrow is lost.
-#[tactic(auto, unfolding(crate::specs::Saying::lost_at))]
-fn lost_at(
-    cross: Option<Cross>,
-    dying: &[Listed<u8>],
-    line: usize,
-    head: Head,
-    from: &[u8],
-    to: &[u8],
-) -> Result<bool, ImportFault>
-    ensures { Gives (λ x. x) result (lost_at cross dying.now line head from.now to.now) }
+/// What becomes of the message of an arrow.
+#[tactic(auto, unfolding(crate::specs::Saying::fate_of))]
+fn fate_of(cross: Option<Cross>, dying: &[Listed<u8>], head: Head, from: &[u8], to: &[u8]) -> Fate
+    ensures { result ≡ fate_of cross dying.now head from.now to.now }
 {
     if !head.is_crossed() || dies(dying, from, to) {
-        return Ok(false);
+        return Fate::Arrives;
     }
     match cross {
-        None => Err(ImportFault::Cross(line)),
-        Some(Cross::Lost) => Ok(true),
-        Some(Cross::Arrives) => Ok(false),
+        Some(Cross::Lost) => Fate::Lost,
+        Some(Cross::Arrives) => Fate::Arrives,
+        None if from == to => Fate::Arrives,
+        None => Fate::Either,
     }
 }
 
@@ -255,12 +249,13 @@ fn arrow_by(
     let behind = no_second(line, behind_blanks(rest))?;
     let parts = at_colon(line, behind_sign(behind))?;
     let to = name_at(line, parts.0)?;
-    let lost = lost_at(mode.cross, mode.dying, line, head, from, to)?;
+    let fate = fate_of(mode.cross, mode.dying, head, from, to);
     Ok(Arrow {
         from: owned(alloc, from)?,
         to: owned(alloc, to)?,
         label: owned(alloc, behind_wrap(parts.1))?,
-        lost,
+        fate,
+        both: false,
     })
 }
 

@@ -9,8 +9,8 @@ use Rattle.msc_mermaid.specs.declared.row.Kind.{Kind}
 use Rattle.msc_mermaid.specs.declared.statement.Placed.{Placed}
 use Rattle.msc_mermaid.specs.declared.statement.Statement.{Statement}
 use Rattle.msc_mermaid.specs.declared.statement.Statement.TheVariants.{Declares, Says, Begins, Closes}
-use Rattle.msc_scenarios.specs.Choosing.{Chooser, behind, block, by_branches, by_options, by_rounds, by_sides, choose, choose_on, chosen, formed, goes_on, healed, joined, one, repeated, straight, under, with_end}
-use Rattle.msc_scenarios.specs.Courses.{branch_at, branches_in, extent, form_of, is_there, owned_by}
+use Rattle.msc_scenarios.specs.Choosing.{Chooser, behind, block, by_branches, by_fate, by_options, by_rounds, by_sides, choose, choose_on, chosen, formed, goes_on, healed, joined, one, repeated, straight, under, with_end}
+use Rattle.msc_scenarios.specs.Courses.{branch_at, branches_in, extent, form_of, is_choice, is_there, owned_by}
 use Rattle.msc_scenarios.specs.Laws.{ComesBefore, InOrder}
 use Rattle.msc_scenarios.proofs.ChoiceLemmas as choices
 use Rattle.msc_scenarios.proofs.FollowListLemmas.{all_append, all_map, all_same}
@@ -127,6 +127,11 @@ module _ (body : List Way) (h : Ordered body) where
       let found = repeated body r straight in
       subst Ordered (sym (choices.rounds_cons body r rs)) (order_then r false found (by_rounds body rs) (order_repeated r straight order_straight) (order_rounds rs k.1) (from_rounds r rs k.0))
 
+-- an arrow that is lost or arrives
+order_fate : Ordered by_fate
+order_fate =
+    order_then 0 false straight (chosen 1 false straight) order_straight (order_chosen 1 false straight order_straight) (from_chosen 1 false straight 1 (omega arith))
+
 -- branches, each of whose ways are in order
 module _ (inner : Chooser) (same : (b : List Placed) → Ordered (inner b)) where
   module _ (first : List Way) where
@@ -176,7 +181,11 @@ module _ (inner : Chooser) (same : (b : List Placed) → Ordered (inner b)) wher
     order_one : (s : Statement) (ps : List Placed) (ws : List Way) → Ordered ws → Ordered (one inner rounds s ps ws)
     order_one (Begins kind) ps ws h = order_block kind (take (extent 0 ps) ps) ws h
     order_one (Declares ident shown) ps ws h = h
-    order_one (Says arrow) ps ws h = h
+    order_one (Says arrow) ps ws h =
+        elim (is_choice arrow) as (λ t. Ordered (cond t (behind ws by_fate) ws)) [
+          | true ↦ order_behind by_fate order_fate ws h
+          | false ↦ h
+        ]
     order_one (Closes closer) ps ws h = h
 
     order_on : (n : ℕ) (ps : List Placed) (ws : List Way) → Ordered ws → Ordered (choose_on inner rounds n ps ws)

@@ -1,5 +1,5 @@
 -- What a walk through statements takes is one of the ways through them, or it stops.
-use Rattle.std.proofs.Common.{◌≡◌, ◌⊎◌, inl, inr, ◌<◌, ◌≤◌, ℕ, zero, suc, ◌+◌, Bool, true, false, cond, nat_lt, Result, Ok, Err, List, [], ◌∷◌, ◌++◌, length, map, take, refl, sym, ap, ◌∙◌, subst, arith}
+use Rattle.std.proofs.Common.{◌≡◌, ◌⊎◌, inl, inr, ◌<◌, ◌≤◌, ℕ, zero, suc, ◌+◌, Bool, true, false, cond, nat_le, nat_lt, ◌==◌, Result, Ok, Err, List, [], ◌∷◌, ◌++◌, length, map, take, refl, sym, ap, ◌∙◌, subst, arith}
 use Rattle.std.specs.List.{Contains, onto_first, slice_index_or}
 use Rattle.std.proofs.lemmas.Bool.{false≢true}
 use Rattle.msc_mermaid.specs.declared.TheConstants.{DEPTH_LIMIT}
@@ -17,14 +17,14 @@ use Rattle.msc_mermaid.specs.declared.statement.Placed.{Placed}
 use Rattle.msc_mermaid.specs.declared.statement.Statement.{Statement}
 use Rattle.msc_mermaid.specs.declared.statement.Statement.TheVariants.{Declares, Says, Begins, Closes}
 use Rattle.msc_scenarios.specs.Choosing as choosing
-use Rattle.msc_scenarios.specs.Choosing.{Chooser, all_choices, behind, straight}
+use Rattle.msc_scenarios.specs.Choosing.{Chooser, all_choices, behind, by_fate, chosen, straight}
 use Rattle.msc_scenarios.specs.Courses as courses
-use Rattle.msc_scenarios.specs.Courses.{Walk, Walker, branches_in, deeper, ended, extent, form_of, is_there, joins_at, meet, message_of, owned_by, then, walk, walk_on, at_rest, unended}
+use Rattle.msc_scenarios.specs.Courses.{Walk, Walker, branches_in, choice_of, choose, deeper, ended, extent, form_of, is_choice, is_loss, is_there, joins_at, meet, message_of, owned_by, said, then, unbroken, walk, walk_on, at_rest, unended}
 use Rattle.msc_scenarios.specs.Laws.{Takes, walked}
 use Rattle.msc_scenarios.proofs.ChoiceLemmas as choices
 use Rattle.msc_scenarios.proofs.CoverFormLemmas.{cover_formed}
-use Rattle.msc_scenarios.proofs.CoverLemmas.{Covers, Ended, Has, IsStopped, Went, cover_behind, cover_passed, cover_straight, cover_when, has_map}
-use Rattle.msc_scenarios.proofs.FollowLemmas.{Kept, then_going, then_same, then_then}
+use Rattle.msc_scenarios.proofs.CoverLemmas.{Covers, CoversUnder, Ended, Has, IsStopped, Went, cover_behind, cover_more, cover_passed, cover_straight, cover_taking, cover_under, cover_when, has_left, has_map, has_right}
+use Rattle.msc_scenarios.proofs.FollowLemmas.{Kept, then_going, then_same, then_then, unbroken_going}
 use Rattle.msc_scenarios.proofs.FollowListLemmas.{then_as}
 use Rattle.msc_scenarios.proofs.WalkLemmas as walks
 
@@ -43,14 +43,14 @@ some_branch d (p ∷ ps) =
       | false ↦ onto_some p rest
     ]
 
-meet_passes : (p : Placed) (a : Arrow) (rs : List ℕ) (v : Walk) → v.ending ≡ ends.Goes → IsStopped (meet p a rs v) ⊎ Kept v (meet p a rs v)
+meet_passes : (p : Placed) (a : Arrow) (lost : Bool) (rs : List ℕ) (v : Walk) → v.ending ≡ ends.Goes → IsStopped (meet p a lost rs v) ⊎ Kept v (meet p a lost rs v)
 unfolding meet
-meet_passes p a rs v e =
+meet_passes p a lost rs v e =
     let met : Walk = record {
       lines = v.lines;
       given = v.given;
       taken = v.taken;
-      steps = v.steps ++ steps.Meets (message_of v.lines p a rs) ∷ [];
+      steps = v.steps ++ steps.Meets (message_of v.lines p a lost rs) ∷ [];
       arrows = v.arrows + 1;
       ending = v.ending;
     } in
@@ -59,6 +59,48 @@ meet_passes p a rs v e =
       | true ↦ inr (record { given = refl; taken = refl; ending = e })
       | false ↦ inl (TooManyArrows p.line, refl)
     ]
+
+-- no break is among what an arrow does
+meet_unbroken : (p : Placed) (a : Arrow) (lost : Bool) (rs : List ℕ) (v : Walk) → v.ending ≡ ends.Goes → meet p a lost rs v ≡ unbroken (meet p a lost rs v)
+unfolding meet
+meet_unbroken p a lost rs v e =
+    let met : Walk = record {
+      lines = v.lines;
+      given = v.given;
+      taken = v.taken;
+      steps = v.steps ++ steps.Meets (message_of v.lines p a lost rs) ∷ [];
+      arrows = v.arrows + 1;
+      ending = v.ending;
+    } in
+    let stopped = ended (ends.Stopped (TooManyArrows p.line)) v in
+    elim (nat_lt v.arrows ARROW_LIMIT) as (λ t. cond t met stopped ≡ unbroken (cond t met stopped)) [
+      | true ↦ sym (unbroken_going met e)
+      | false ↦ refl
+    ]
+
+-- an arrow with a choice takes it
+module _ (p : Placed) (a : Arrow) (rs : List ℕ) where
+  abbrev by_choice : ℕ → Walk → Walk
+  by_choice c = meet p a (c == 0) rs
+
+  cover_met : (c : ℕ) → CoversUnder c (by_choice c) (chosen c false straight)
+  cover_met c =
+      let on = cover_when (λ w. then w (by_choice c)) (by_choice c) straight (λ w e. sym (then_going w (by_choice c) e)) (cover_passed (λ w. w) (by_choice c) straight (meet_passes p a (c == 0) rs) cover_straight) in
+      cover_under c (by_choice c) (by_choice c) straight (meet_unbroken p a (c == 0) rs) on
+
+  each_fate : (c : ℕ) → nat_le c 1 ≡ true → CoversUnder c (by_choice c) by_fate
+  each_fate zero small = cover_more 0 (by_choice 0) (chosen 0 false straight) by_fate (λ P k. has_left P (chosen 0 false straight) (chosen 1 false straight) k) (cover_met 0)
+  each_fate (suc zero) small = cover_more 1 (by_choice 1) (chosen 1 false straight) by_fate (λ P k. has_right P (chosen 0 false straight) (chosen 1 false straight) k) (cover_met 1)
+  each_fate (suc (suc c)) small = absurd (false≢true small)
+
+  cover_said : (f : Walk → Walk) (ws : List Way) → Covers f ws → Covers (λ w. then (f w) (said p a rs)) (cond (is_choice a) (behind ws by_fate) ws)
+  unfolding said
+  cover_said f ws h =
+      let lost = is_loss a.fate in let taken = λ (v : Walk). then (choose p.line 1 0 v) (by_choice (choice_of 0 v)) in
+      elim (is_choice a) as (λ t. Covers (λ w. then (f w) (λ v. cond t (taken v) (meet p a lost rs v))) (cond t (behind ws by_fate) ws)) [
+        | true ↦ cover_behind f taken ws by_fate h (cover_taking p.line 1 0 by_choice by_fate each_fate)
+        | false ↦ cover_passed f (meet p a lost rs) ws (meet_passes p a lost rs) h
+      ]
 
 module _ (inner : Chooser) (walker : Walker) (same : (b : List Placed) (rs : List ℕ) → Covers (walker b rs) (inner b)) (rs rounds : List ℕ) (full : (r : ℕ) → r ≤ ROUND_LIMIT → Has (λ s. s ≡ r) rounds) where
   module _ (f : Walk → Walk) (ws : List Way) (h : Covers f ws) where
@@ -77,7 +119,7 @@ module _ (inner : Chooser) (walker : Walker) (same : (b : List Placed) (rs : Lis
 
     cover_one : (p : Placed) (s : Statement) (ps : List Placed) → Covers (λ w. then (f w) (courses.one walker p s ps rs)) (choosing.one inner rounds s ps ws)
     cover_one p (Begins kind) ps = cover_block p.line kind (take (extent 0 ps) ps)
-    cover_one p (Says arrow) ps = cover_passed f (meet p arrow rs) ws (meet_passes p arrow rs) h
+    cover_one p (Says arrow) ps = cover_said p arrow rs f ws h
     cover_one p (Declares ident shown) ps = cover_nothing
     cover_one p (Closes closer) ps = cover_nothing
 

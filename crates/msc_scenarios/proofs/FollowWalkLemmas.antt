@@ -1,5 +1,5 @@
 -- A walk that is given the choices of a way through statements takes them.
-use Rattle.std.proofs.Common.{◌≡◌, ◌⊎◌, inl, inr, ℕ, zero, suc, ◌+◌, Bool, true, false, cond, nat_le, nat_lt, Ok, Err, List, [], ◌∷◌, ◌++◌, length, take, refl, sym, ap, ◌∙◌, subst, arith}
+use Rattle.std.proofs.Common.{◌≡◌, ◌⊎◌, inl, inr, ℕ, zero, suc, ◌+◌, Bool, true, false, cond, nat_le, nat_lt, Ok, Err, List, [], ◌∷◌, ◌++◌, length, take, refl, sym, ap, ◌∙◌, subst, ◌==◌, arith}
 use Rattle.std.specs.List.{AllByRecursion, list_all}
 use Rattle.std.proofs.lemmas.Bool.Decides.{nat_tests}
 use Rattle.std.proofs.lemmas.List.{append-nil}
@@ -16,25 +16,25 @@ use Rattle.msc_mermaid.specs.declared.statement.Placed.{Placed}
 use Rattle.msc_mermaid.specs.declared.statement.Statement.{Statement}
 use Rattle.msc_mermaid.specs.declared.statement.Statement.TheVariants.{Declares, Says, Begins, Closes}
 use Rattle.msc_scenarios.specs.Choosing as choosing
-use Rattle.msc_scenarios.specs.Choosing.{Chooser, all_choices, behind, straight}
+use Rattle.msc_scenarios.specs.Choosing.{Chooser, all_choices, behind, by_fate, straight}
 use Rattle.msc_scenarios.specs.Courses as courses
-use Rattle.msc_scenarios.specs.Courses.{Walk, Walker, branches_in, ended, extent, form_of, is_there, meet, message_of, owned_by, then, walk, walk_on, at_rest, unended}
+use Rattle.msc_scenarios.specs.Courses.{Walk, Walker, branches_in, choice_of, choose, ended, extent, form_of, is_choice, is_loss, is_there, meet, message_of, owned_by, said, then, walk, walk_on, at_rest, unended}
 use Rattle.msc_scenarios.specs.Laws.{IsTooLong, IsWhole, Takes, walked}
 use Rattle.msc_scenarios.proofs.ChoiceLemmas as choices
-use Rattle.msc_scenarios.proofs.FollowLemmas.{Ends, Follows, IsGiven, Kept, ending_of, follows_passed, then_going, then_same, then_then}
+use Rattle.msc_scenarios.proofs.FollowLemmas.{Ends, Follows, IsGiven, Kept, ending_of, follows_none, follows_passed, follows_under, follows_when, then_going, then_same, then_then}
 use Rattle.msc_scenarios.proofs.FollowFormLemmas.{follow_formed}
 use Rattle.msc_scenarios.proofs.FollowListLemmas.{AllFollow, all_map, all_same, follow_behind, follow_straight, retold, then_as}
 use Rattle.msc_scenarios.proofs.WalkLemmas as walks
 
--- an arrow takes no choice, and may be one too many
-meet_keeps : (p : Placed) (a : Arrow) (rs : List ℕ) (v : Walk) → v.ending ≡ ends.Goes → IsTooLong (meet p a rs v) ⊎ Kept v (meet p a rs v)
+-- an arrow that is lost or arrives takes no choice, and may be one too many
+meet_keeps : (p : Placed) (a : Arrow) (lost : Bool) (rs : List ℕ) (v : Walk) → v.ending ≡ ends.Goes → IsTooLong (meet p a lost rs v) ⊎ Kept v (meet p a lost rs v)
 unfolding meet
-meet_keeps p a rs v e =
+meet_keeps p a lost rs v e =
     let met : Walk = record {
       lines = v.lines;
       given = v.given;
       taken = v.taken;
-      steps = v.steps ++ steps.Meets (message_of v.lines p a rs) ∷ [];
+      steps = v.steps ++ steps.Meets (message_of v.lines p a lost rs) ∷ [];
       arrows = v.arrows + 1;
       ending = v.ending;
     } in
@@ -43,6 +43,31 @@ meet_keeps p a rs v e =
       | true ↦ inr (record { given = refl; taken = refl; ending = e })
       | false ↦ inl (p.line, refl)
     ]
+
+-- an arrow with a choice takes it
+module _ (p : Placed) (a : Arrow) (rs : List ℕ) where
+  abbrev by_choice : ℕ → Walk → Walk
+  by_choice c = meet p a (c == 0) rs
+
+  abbrev alone : Way
+  alone = record { choices = []; broken = false }
+
+  follow_met : (c : ℕ) → Follows (by_choice c) alone
+  follow_met c =
+      follows_when (λ w. then w (by_choice c)) (by_choice c) alone (λ w e. sym (then_going w (by_choice c) e)) (follows_passed (λ w. w) (by_choice c) (meet_keeps p a (c == 0) rs) alone follows_none)
+
+  follow_fate : AllFollow (λ w. then (choose p.line 1 0 w) (by_choice (choice_of 0 w))) by_fate
+  follow_fate =
+      (follows_under p.line 1 0 by_choice 0 refl alone (follow_met 0), follows_under p.line 1 0 by_choice 1 refl alone (follow_met 1), tt)
+
+  follow_said : (f : Walk → Walk) (ws : List Way) → AllFollow f ws → AllFollow (λ w. then (f w) (said p a rs)) (cond (is_choice a) (behind ws by_fate) ws)
+  unfolding said
+  follow_said f ws h =
+      let lost = is_loss a.fate in
+      elim (is_choice a) as (λ t. AllFollow (λ w. then (f w) (λ v. cond t (then (choose p.line 1 0 v) (by_choice (choice_of 0 v))) (meet p a lost rs v))) (cond t (behind ws by_fate) ws)) [
+        | true ↦ follow_behind f (λ v. then (choose p.line 1 0 v) (by_choice (choice_of 0 v))) by_fate follow_fate ws h
+        | false ↦ all_same (Follows f) (Follows (λ w. then (f w) (meet p a lost rs))) (follows_passed f (meet p a lost rs) (meet_keeps p a lost rs)) ws h
+      ]
 
 module _ (inner : Chooser) (walker : Walker) (same : (b : List Placed) (rs : List ℕ) → AllFollow (walker b rs) (inner b)) (rs rounds : List ℕ) (few : list_all (λ r. nat_le r ROUND_LIMIT) rounds ≡ true) where
   -- nothing is done
@@ -62,7 +87,7 @@ module _ (inner : Chooser) (walker : Walker) (same : (b : List Placed) (rs : Lis
 
     follow_one : (p : Placed) (s : Statement) (ps : List Placed) → AllFollow (λ w. then (f w) (courses.one walker p s ps rs)) (choosing.one inner rounds s ps ws)
     follow_one p (Begins kind) ps = follow_block p.line kind (take (extent 0 ps) ps)
-    follow_one p (Says arrow) ps = all_same (Follows f) (Follows (λ w. then (f w) (meet p arrow rs))) (follows_passed f (meet p arrow rs) (meet_keeps p arrow rs)) ws h
+    follow_one p (Says arrow) ps = follow_said p arrow rs f ws h
     follow_one p (Declares ident shown) ps = follow_nothing
     follow_one p (Closes closer) ps = follow_nothing
 

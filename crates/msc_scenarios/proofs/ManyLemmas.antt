@@ -9,11 +9,11 @@ use Rattle.msc_mermaid.specs.declared.row.Kind.{Kind}
 use Rattle.msc_mermaid.specs.declared.statement.Placed.{Placed}
 use Rattle.msc_mermaid.specs.declared.statement.Statement.{Statement}
 use Rattle.msc_mermaid.specs.declared.statement.Statement.TheVariants.{Declares, Says, Begins, Closes}
-use Rattle.msc_scenarios.specs.Courses.{branch_at, branches_in, extent, form_of, is_there, owned_by}
+use Rattle.msc_scenarios.specs.Courses.{branch_at, branches_in, extent, form_of, is_choice, is_there, owned_by}
 use Rattle.msc_scenarios.specs.Counting as counting
 use Rattle.msc_scenarios.specs.Counting.{Counter, all, capped, plus, times, unbroken}
 use Rattle.msc_scenarios.specs.Choosing as choosing
-use Rattle.msc_scenarios.specs.Choosing.{Chooser, behind, chosen, healed, straight}
+use Rattle.msc_scenarios.specs.Choosing.{Chooser, behind, by_fate, chosen, healed, straight}
 use Rattle.msc_scenarios.proofs.CapLemmas.{plus_capped, times_capped}
 use Rattle.msc_scenarios.proofs.CountLemmas as counts
 use Rattle.msc_scenarios.proofs.ChoiceLemmas as choices
@@ -152,7 +152,11 @@ module _ (inner : Chooser) (counter : Counter) (same : (b : List Placed) → tal
     tally_one : (s : Statement) (ps : List Placed) (ws : List Way) → tally (choosing.one inner rounds s ps ws) ≡ counting.behind (tally ws) (counting.one counter rounds s ps)
     tally_one (Begins kind) ps ws = tally_block kind (take (extent 0 ps) ps) ws
     tally_one (Declares ident shown) ps ws = on_straight ws
-    tally_one (Says arrow) ps ws = on_straight ws
+    tally_one (Says arrow) ps ws =
+        elim (is_choice arrow) as (λ t. tally (cond t (behind ws by_fate) ws) ≡ counting.behind (tally ws) (cond t (unbroken 2) (unbroken 1))) [
+          | true ↦ tally_behind ws by_fate
+          | false ↦ on_straight ws
+        ]
     tally_one (Closes closer) ps ws = on_straight ws
 
     tally_on : (n : ℕ) (ps : List Placed) (ws : List Way) → tally (choosing.choose_on inner rounds n ps ws) ≡ counting.count_on counter rounds n ps (tally ws)

@@ -5,11 +5,12 @@ use Rattle.std.specs.List.{list_all, onto_first}
 use Rattle.std.proofs.lemmas.Bool.{and_parts, false≢true}
 use Rattle.msc_mermaid.specs.declared.row.Kind.{Kind}
 use Rattle.msc_mermaid.specs.declared.row.Kind.TheVariants as kinds
+use Rattle.msc_mermaid.specs.declared.statement.Arrow.{Arrow}
 use Rattle.msc_mermaid.specs.declared.statement.Placed.{Placed}
 use Rattle.msc_mermaid.specs.declared.statement.Statement.{Statement}
 use Rattle.msc_mermaid.specs.declared.statement.Statement.TheVariants.{Declares, Says, Begins, Closes}
-use Rattle.msc_scenarios.specs.Choosing.{Chooser, behind, block, by_sides, choose, choose_on, formed, healed, one, straight}
-use Rattle.msc_scenarios.specs.Courses.{branch_at, branches_in, deeper, extent, is_there, joins_at, owned_by}
+use Rattle.msc_scenarios.specs.Choosing.{Chooser, behind, block, by_fate, by_sides, choose, choose_on, formed, healed, one, straight}
+use Rattle.msc_scenarios.specs.Courses.{branch_at, branches_in, deeper, extent, is_choice, is_there, joins_at, owned_by}
 use Rattle.msc_scenarios.specs.Laws.{may_choose}
 use Rattle.msc_scenarios.proofs.ChoiceLemmas.{sides_cons, sides_none, on_skip, on_one, on_none, choose_zero, choose_some}
 
@@ -44,6 +45,14 @@ quiet_branches d (p ∷ ps) h =
 quiet_first : (bs : List (List Placed)) → list_all are_quiet bs ≡ true → are_quiet (branch_at bs 0) ≡ true
 quiet_first [] h = refl
 quiet_first (b ∷ bs) h = (and_parts _ _ h).0
+
+-- an arrow without a choice adds none
+quiet_said : (a : Arrow) → not (is_choice a) ≡ true → cond (is_choice a) (behind straight by_fate) straight ≡ straight
+quiet_said a q =
+    elim (is_choice a) as (λ t. not t ≡ true → cond t (behind straight by_fate) straight ≡ straight) [
+      | true ↦ λ e. absurd (false≢true e)
+      | false ↦ λ e. refl
+    ] q
 
 -- one way leads through branches, if one does through each
 module _ (inner : Chooser) (one_way : (b : List Placed) → are_quiet b ≡ true → inner b ≡ straight) where
@@ -84,7 +93,7 @@ module _ (inner : Chooser) (one_way : (b : List Placed) → are_quiet b ≡ true
     quiet_one : (s : Statement) (ps : List Placed) → not (may_choose s) ≡ true → are_quiet ps ≡ true → one inner rounds s ps straight ≡ straight
     quiet_one (Begins kind) ps q h = quiet_block kind (take (extent 0 ps) ps) q (quiet_take (extent 0 ps) ps h)
     quiet_one (Declares ident shown) ps q h = refl
-    quiet_one (Says arrow) ps q h = refl
+    quiet_one (Says arrow) ps q h = quiet_said arrow q
     quiet_one (Closes closer) ps q h = refl
 
     quiet_on : (n : ℕ) (ps : List Placed) → are_quiet ps ≡ true → choose_on inner rounds n ps straight ≡ straight

@@ -12,7 +12,7 @@ use Rattle.msc_mermaid.specs.declared.statement.Diagram.{Diagram}
 use Rattle.msc_mermaid.specs.declared.statement.Placed.{Placed}
 use Rattle.msc_mermaid.specs.declared.statement.Statement.{Statement}
 use Rattle.msc_mermaid.specs.declared.statement.Statement.TheVariants.{Declares, Says, Begins, Closes}
-use Rattle.msc_scenarios.specs.Courses.{branches_in, branch_at, extent, form_of, is_there, owned_by}
+use Rattle.msc_scenarios.specs.Courses.{branches_in, branch_at, extent, form_of, is_choice, is_there, owned_by}
 
 -- one way to the end, with no choice
 abbrev pub straight : List Way
@@ -85,6 +85,10 @@ formed inner rounds forms.First bs = by_options inner (inner (branch_at bs 0)) (
 formed inner rounds forms.Par bs = by_sides inner bs straight
 formed inner rounds forms.Plain bs = inner (branch_at bs 0)
 
+-- the ways by an arrow that is lost or arrives
+abbrev pub by_fate : List Way
+by_fate = chosen 0 false straight ++ chosen 1 false straight
+
 -- these ways, and then those through a block of this kind, with these statements inside
 unfoldable pub block : Chooser → List ℕ → Kind → List Placed → List Way → List Way
 block inner rounds kind inside ws =
@@ -93,7 +97,7 @@ block inner rounds kind inside ws =
 -- these ways, and then those through one statement, with those behind it
 abbrev pub one : Chooser → List ℕ → Statement → List Placed → List Way → List Way
 one inner rounds (Begins kind) ps ws = block inner rounds kind (take (extent 0 ps) ps) ws
-one inner rounds (Says arrow) ps ws = ws
+one inner rounds (Says arrow) ps ws = cond (is_choice arrow) (behind ws by_fate) ws
 one inner rounds (Declares ident shown) ps ws = ws
 one inner rounds (Closes closer) ps ws = ws
 

@@ -10,7 +10,7 @@ use Rattle.msc_mermaid.specs.declared.statement.Diagram.{Diagram}
 use Rattle.msc_mermaid.specs.declared.statement.Placed.{Placed}
 use Rattle.msc_mermaid.specs.declared.statement.Statement.{Statement}
 use Rattle.msc_mermaid.specs.declared.statement.Statement.TheVariants.{Declares, Says, Begins, Closes}
-use Rattle.msc_scenarios.specs.Courses.{branches_in, branch_at, extent, form_of, is_there, owned_by}
+use Rattle.msc_scenarios.specs.Courses.{branches_in, branch_at, extent, form_of, is_choice, is_there, owned_by}
 
 -- numbers stay where they pass the limit
 abbrev pub capped : ℕ → ℕ
@@ -89,7 +89,7 @@ block inner rounds kind inside =
 -- those through one statement, with those behind it
 abbrev pub one : Counter → List ℕ → Statement → List Placed → Ways
 one inner rounds (Begins kind) ps = block inner rounds kind (take (extent 0 ps) ps)
-one inner rounds (Says arrow) ps = unbroken 1
+one inner rounds (Says arrow) ps = cond (is_choice arrow) (unbroken 2) (unbroken 1)
 one inner rounds (Declares ident shown) ps = unbroken 1
 one inner rounds (Closes closer) ps = unbroken 1
 

@@ -17,6 +17,8 @@ use Rattle.msc_mermaid.specs.declared.row.Closer.TheVariants as closers
 use Rattle.msc_mermaid.specs.declared.row.Kind.{Kind}
 use Rattle.msc_mermaid.specs.declared.row.Kind.TheVariants as kinds
 use Rattle.msc_mermaid.specs.declared.statement.Arrow.{Arrow}
+use Rattle.msc_mermaid.specs.declared.statement.Fate.{Fate}
+use Rattle.msc_mermaid.specs.declared.statement.Fate.TheVariants as fates
 use Rattle.msc_mermaid.specs.declared.statement.Placed.{Placed}
 use Rattle.msc_mermaid.specs.declared.statement.Statement.{Statement}
 use Rattle.msc_mermaid.specs.declared.statement.Statement.TheVariants.{Declares, Says, Begins, Closes}
@@ -166,26 +168,41 @@ broken w = ended (cut_off w.ending) w
 abbrev pub line_at : List (List ℕ) → List ℕ → ℕ
 line_at lines ident = prefix_len (λ l. not (bytes_eq l ident)) lines
 
--- the message of an arrow in these rounds
-abbrev pub message_of : List (List ℕ) → Placed → Arrow → List ℕ → Message
-message_of lines p a rounds = record {
+-- nothing says whether an arrow is lost or arrives
+abbrev pub is_open : Fate → Bool
+is_open fates.Either = true
+is_open fates.Lost = false
+is_open fates.Arrives = false
+
+abbrev pub is_loss : Fate → Bool
+is_loss fates.Lost = true
+is_loss fates.Arrives = false
+is_loss fates.Either = false
+
+-- an arrow is met by a choice: it may be lost or arrive, and is not to oneself
+abbrev pub is_choice : Arrow → Bool
+is_choice a = is_open a.fate && not (bytes_eq a.from a.to)
+
+-- the message of an arrow in these rounds, where it is lost or arrives
+abbrev pub message_of : List (List ℕ) → Placed → Arrow → Bool → List ℕ → Message
+message_of lines p a lost rounds = record {
   from = line_at lines a.from;
   to = line_at lines a.to;
   name = made a.label (codes "m");
   number = number_name p.number rounds;
-  lost = a.lost;
+  lost = lost;
   line = p.line;
   column = p.column;
 }
 
--- an arrow is met
-unfoldable pub meet : Placed → Arrow → List ℕ → Walk → Walk
-meet p a rounds w =
+-- an arrow is met, where it is lost or arrives
+unfoldable pub meet : Placed → Arrow → Bool → List ℕ → Walk → Walk
+meet p a lost rounds w =
     cond (nat_lt w.arrows ARROW_LIMIT) (record {
       lines = w.lines;
       given = w.given;
       taken = w.taken;
-      steps = w.steps ++ steps.Meets (message_of w.lines p a rounds) ∷ [];
+      steps = w.steps ++ steps.Meets (message_of w.lines p a lost rounds) ∷ [];
       arrows = w.arrows + 1;
       ending = w.ending;
     }) (ended (ends.Stopped (TooManyArrows p.line)) w)
@@ -209,6 +226,12 @@ with_choice c w = record {
 unfoldable pub choose : ℕ → ℕ → ℕ → Walk → Walk
 choose line most main w =
     cond (nat_le (choice_of main w) most) (with_choice (choice_of main w) w) (ended (ends.Stopped (Choice line (length w.taken + 1) most)) (with_choice (choice_of main w) w))
+
+-- An arrow is said. One with a choice is met as the branches of an alt are: lost by choice 0, which is the
+-- main one, and arriving by choice 1.
+unfoldable pub said : Placed → Arrow → List ℕ → Walk → Walk
+said p a rounds w =
+    cond (is_choice a) (then (choose p.line 1 0 w) (meet p a (choice_of 0 w == 0) rounds)) (meet p a (is_loss a.fate) rounds w)
 
 -- how the statements of a branch are walked
 abbrev pub Walker : Type 0
@@ -264,7 +287,7 @@ owned_by s ps = 0
 
 -- one statement, with those behind it
 abbrev pub one : Walker → Placed → Statement → List Placed → List ℕ → Walk → Walk
-one inner p (Says arrow) ps rounds w = meet p arrow rounds w
+one inner p (Says arrow) ps rounds w = said p arrow rounds w
 one inner p (Begins kind) ps rounds w = block inner p.line kind (take (extent 0 ps) ps) rounds w
 one inner p (Declares ident shown) ps rounds w = w
 one inner p (Closes closer) ps rounds w = w

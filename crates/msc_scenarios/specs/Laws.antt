@@ -12,15 +12,15 @@ use Rattle.msc_mermaid.specs.declared.statement.Statement.{Statement}
 use Rattle.msc_mermaid.specs.declared.statement.Statement.TheVariants.{Declares, Says, Begins, Closes}
 use Rattle.msc_scenarios.specs.Choosing.{all_choices}
 use Rattle.msc_scenarios.specs.Counting.{capped, scenarios}
-use Rattle.msc_scenarios.specs.Courses.{Walk, walk, at_rest, unended}
+use Rattle.msc_scenarios.specs.Courses.{Walk, walk, at_rest, is_choice, unended}
 
--- a block begins that may take a choice
+-- a block begins that may take a choice, or an arrow takes one
 abbrev pub may_choose : Statement → Bool
 may_choose (Begins kinds.Par) = false
 may_choose (Begins kinds.Plain) = false
 may_choose (Begins kind) = true
 may_choose (Declares ident shown) = false
-may_choose (Says arrow) = false
+may_choose (Says arrow) = is_choice arrow
 may_choose (Closes closer) = false
 
 -- as many lists of choices as scenarios are counted
@@ -28,7 +28,7 @@ abbrev pub AsManyAsCounted : Type 0
 AsManyAsCounted =
     (rounds : List ℕ) (d : Diagram) → capped (length (all_choices rounds d)) ≡ scenarios rounds d
 
--- without a block that may take a choice there is one scenario, with no choice
+-- without a block or an arrow that may take a choice there is one scenario, with no choice
 abbrev pub NoBlocksOneScenario : Type 0
 NoBlocksOneScenario =
     (rounds : List ℕ) (d : Diagram) → list_all (λ p. not (may_choose p.statement)) d.statements ≡ true → (all_choices rounds d ≡ [] ∷ []) × (scenarios rounds d ≡ 1)

@@ -4,9 +4,9 @@ ghost use Rattle.std.specs.Prelude.{◌≡◌, ◌≤◌, ◌++◌, ◌==◌, tr
 ghost use Rattle.std.specs.List.{list_all};
 ghost use Rattle.msc_scenarios.specs.Choosing.{all_choices, block, by_branches, by_options, by_rounds};
 ghost use Rattle.msc_scenarios.specs.Choosing.{by_sides, choose, chosen, formed, one, repeated};
-ghost use Rattle.msc_scenarios.specs.Choosing.{straight};
+ghost use Rattle.msc_scenarios.specs.Choosing.{by_fate, straight};
 
-use crate::course::{Form, branches_of, extent, is_there};
+use crate::course::{Form, branches_of, extent, is_choice, is_there};
 use crate::walking::{branch_at, owned_by};
 use crate::way::{Way, behind, choices_of, healed, put_chosen, straight};
 use listed::Listed;
@@ -33,6 +33,17 @@ fn by_rounds(alloc: Global, body: &[Way], rounds: &[usize]) -> Result<Vec<Way>, 
         let found = repeated(alloc, body, count)?;
         put_chosen(alloc, count, false, found.as_slice(), &mut ways)?;
     }
+    Ok(ways)
+}
+
+/// The ways by an arrow that is lost or arrives.
+fn by_fate(alloc: Global) -> Result<Vec<Way>, AllocError>
+    ensures { IfOk result (λ v. v.items ≡ by_fate) }
+{
+    let alone = straight(alloc)?;
+    let mut ways = Vec::new(alloc);
+    put_chosen(alloc, 0, false, alone.as_slice(), &mut ways)?;
+    put_chosen(alloc, 1, false, alone.as_slice(), &mut ways)?;
     Ok(ways)
 }
 
@@ -232,6 +243,9 @@ fn one(
         Statement::Begins(kind) => {
             let inside = &rest[..extent(rest)];
             block(alloc, depth, rounds, *kind, inside, ways)
+        }
+        Statement::Says(arrow) if is_choice(arrow) => {
+            behind(alloc, ways.as_slice(), by_fate(alloc)?.as_slice())
         }
         _ => Ok(ways),
     }

@@ -7,7 +7,7 @@ ghost use Rattle.msc_scenarios.specs.Counting.{count, formed, one, plus, repeate
 ghost use Rattle.msc_scenarios.specs.Counting.{unbroken};
 
 use crate::SCENARIO_LIMIT;
-use crate::course::{Form, branches_of, extent, is_there};
+use crate::course::{Form, branches_of, extent, is_choice, is_there};
 use crate::walking::{branch_at, owned_by};
 use msc_mermaid::{DEPTH_LIMIT, Diagram, Kind, Placed, Statement};
 use std::alloc::{AllocError, Global};
@@ -214,6 +214,7 @@ fn one(
 {
     match statement {
         Statement::Begins(kind) => block(alloc, depth, rounds, *kind, &rest[..extent(rest)]),
+        Statement::Says(arrow) if is_choice(arrow) => Ok(Ways::unbroken(2)),
         _ => Ok(Ways::unbroken(1)),
     }
 }

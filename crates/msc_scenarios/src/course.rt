@@ -4,10 +4,10 @@ ghost use Rattle.std.specs.Prelude.{◌≡◌, ◌≤◌, ◌<◌, ◌+◌, ◌^
 ghost use Rattle.std.specs.List.{list_any};
 ghost use Rattle.msc_scenarios.specs.Courses.{branches_in, deeper, ends_at, extent, form_of, is_break};
 ghost use Rattle.msc_scenarios.specs.Courses.{is_drawn, is_end, is_joint, is_there, joins_at, main_of};
-ghost use Rattle.msc_scenarios.specs.Courses.{most_of};
+ghost use Rattle.msc_scenarios.specs.Courses.{is_choice, is_loss, is_open, most_of};
 
 use crate::ROUND_LIMIT;
-use msc_mermaid::{Closer, ImportFault, Kind, Placed, Statement};
+use msc_mermaid::{Arrow, Closer, Fate, ImportFault, Kind, Placed, Statement};
 use msc_parser::Name;
 use std::alloc::{AllocError, Global};
 
@@ -119,6 +119,27 @@ fn deeper(statement: &Statement, depth: usize) -> usize
         Statement::Closes(Closer::End) => depth.saturating_sub(1),
         _ => depth,
     }
+}
+
+/// Whether nothing says if an arrow of this fate is lost or arrives.
+fn is_open(fate: Fate) -> bool
+    ensures { result ≡ is_open fate }
+{
+    matches!(fate, Fate::Either)
+}
+
+/// Whether an arrow of this fate is lost.
+pub(crate) fn is_loss(fate: Fate) -> bool
+    ensures { result ≡ is_loss fate }
+{
+    matches!(fate, Fate::Lost)
+}
+
+/// Whether an arrow is met by a choice: it may be lost or arrive, and is not to oneself.
+pub(crate) fn is_choice(arrow: &Arrow) -> bool
+    ensures { result ≡ is_choice arrow.now }
+{
+    is_open(arrow.fate) && arrow.from.as_slice() != arrow.to.as_slice()
 }
 
 /// How many statements stand before the end of a block.

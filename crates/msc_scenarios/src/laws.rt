@@ -25,7 +25,7 @@ pub fn none_is_missing()
     ensures { NoneIsMissing }
 {}
 
-/// Without a block that may take a choice there is one scenario, with no choice.
+/// Without a block or an arrow that may take a choice there is one scenario, with no choice.
 pub fn no_blocks_one_scenario()
     ensures { NoBlocksOneScenario }
 {}

@@ -5,10 +5,12 @@ ghost use Rattle.msc_scenarios.specs.Courses.{at_rest, unended};
 ghost use Rattle.msc_mermaid.specs.Reading.{Leaves};
 ghost use Rattle.msc_scenarios.specs.Courses.{block, branch_at, broken, choice_of, choose, follow};
 ghost use Rattle.msc_scenarios.specs.Courses.{formed, goes, line_at, meet, message_of, one, owned_by};
-ghost use Rattle.msc_scenarios.specs.Courses.{put, rounds_from, side_by_side, unbroken, walk};
+ghost use Rattle.msc_scenarios.specs.Courses.{put, rounds_from, said, side_by_side, unbroken, walk};
 
 use crate::ARROW_LIMIT;
-use crate::course::{Ending, Form, Message, Step, branches_of, extent, is_there};
+use crate::course::{
+    Ending, Form, Message, Step, branches_of, extent, is_choice, is_loss, is_there,
+};
 use crate::line_name::number_name;
 use crate::naming::made;
 use listed::Listed;
@@ -54,15 +56,16 @@ fn line_at(lines: &[Listed<u8>], ident: &[u8]) -> usize
         .count()
 }
 
-/// The message of an arrow in these rounds.
+/// The message of an arrow in these rounds, where it is lost or arrives.
 fn message_of(
     alloc: Global,
     lines: &[Listed<u8>],
     placed: &Placed,
     arrow: &Arrow,
+    lost: bool,
     rounds: &[usize],
 ) -> Result<Message, AllocError>
-    ensures { IfOk result (λ m. m ≡ message_of lines.now placed.now arrow.now rounds.now) }
+    ensures { IfOk result (λ m. m ≡ message_of lines.now placed.now arrow.now lost rounds.now) }
 {
     let name = made(alloc, arrow.label.as_slice(), "m".as_bytes())?;
     let number = number_name(alloc, placed.number, rounds)?;
@@ -71,7 +74,7 @@ fn message_of(
         to: line_at(lines, arrow.to.as_slice()),
         name: Name::from_slice(alloc, name.as_slice())?,
         number: Name::from_slice(alloc, number.as_slice())?,
-        lost: arrow.lost,
+        lost,
         line: placed.line,
         column: placed.column,
     })
@@ -111,22 +114,23 @@ impl Walker<'_> {
         }
     }
 
-    /// Meets an arrow.
+    /// Meets an arrow, where it is lost or arrives.
     #[tactic(auto, unfolding(crate::specs::Courses::meet))]
     fn meet(
         &mut self,
         alloc: Global,
         placed: &Placed,
         arrow: &Arrow,
+        lost: bool,
         rounds: &[usize],
     ) -> Result<(), AllocError>
-        ensures { OnOk result (self.new ≡ meet placed.now arrow.now rounds.now self.old) }
+        ensures { OnOk result (self.new ≡ meet placed.now arrow.now lost rounds.now self.old) }
     {
         if self.arrows >= ARROW_LIMIT {
             self.ending = Ending::Stopped(ImportFault::TooManyArrows(placed.line));
             return Ok(());
         }
-        let message = message_of(alloc, self.lines, placed, arrow, rounds)?;
+        let message = message_of(alloc, self.lines, placed, arrow, lost, rounds)?;
         self.steps.push(Step::Meets(message))?;
         self.arrows += 1;
         Ok(())
@@ -145,6 +149,27 @@ impl Walker<'_> {
             self.ending = Ending::Stopped(ImportFault::Choice(line, number + 1, most));
         }
         Ok(choice)
+    }
+
+    /// Meets an arrow; one that may be lost or arrive by its choice.
+    #[tactic(auto, unfolding(crate::specs::Courses::said))]
+    fn say(
+        &mut self,
+        alloc: Global,
+        placed: &Placed,
+        arrow: &Arrow,
+        rounds: &[usize],
+    ) -> Result<(), AllocError>
+        ensures { OnOk result (self.new ≡ said placed.now arrow.now rounds.now self.old) }
+    {
+        if !is_choice(arrow) {
+            return self.meet(alloc, placed, arrow, is_loss(arrow.fate), rounds);
+        }
+        let choice = self.choose(placed.line, 1, 0)?;
+        if !self.goes() {
+            return Ok(());
+        }
+        self.meet(alloc, placed, arrow, choice == 0, rounds)
     }
 }
 
@@ -330,7 +355,7 @@ impl Walker<'_> {
             ≡ one (walk depth) placed.now placed.now.statement rest.now rounds.now self.old) }
     {
         match &placed.statement {
-            Statement::Says(arrow) => self.meet(alloc, placed, arrow, rounds),
+            Statement::Says(arrow) => self.say(alloc, placed, arrow, rounds),
             Statement::Begins(kind) => {
                 let inside = &rest[..extent(rest)];
                 self.block(alloc, depth, placed.line, *kind, inside, rounds)
