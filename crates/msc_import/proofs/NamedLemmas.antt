@@ -74,6 +74,18 @@ side_named names m sides.In = record {
   parameters = tt;
   address = fitted_named (line_name names m.from);
 }
+side_named names m sides.OutBack = record {
+  name = fitted_named m.name;
+  number = fitted_named m.number;
+  parameters = tt;
+  address = fitted_named (line_name names m.from);
+}
+side_named names m sides.InBack = record {
+  name = fitted_named m.name;
+  number = fitted_named m.number;
+  parameters = tt;
+  address = fitted_named (line_name names m.to);
+}
 side_named names m sides.Own = tt
 side_named names m sides.Lost = tt
 

@@ -67,6 +67,8 @@ signal way m address = record {
 abbrev pub drawn_side : List (List ℕ) → Message → Side → Drawn
 drawn_side names m sides.Out = Signalled (signal ways.Output m (line_name names m.to))
 drawn_side names m sides.In = Signalled (signal ways.Input m (line_name names m.from))
+drawn_side names m sides.OutBack = Signalled (signal ways.Output m (line_name names m.from))
+drawn_side names m sides.InBack = Signalled (signal ways.Input m (line_name names m.to))
 drawn_side names m sides.Own = Acts (ident_text m)
 drawn_side names m sides.Lost =
     Acts (codes "lost " ++ ident_text m ++ codes " to " ++ line_name names m.to)

@@ -98,19 +98,13 @@ fn drawn_event(alloc: Global, names: &[Name], planned: Planned) -> Result<Drawn,
     ensures { IfOk result (λ s. s ≡ drawn_event names.now (seen planned.entry)) }
 {
     let message = planned.message;
+    let from = line_name(names, message.from);
+    let to = line_name(names, message.to);
     match planned.side {
-        Side::Out => Ok(Drawn::Message(signal(
-            alloc,
-            Way::Output,
-            message,
-            line_name(names, message.to),
-        )?)),
-        Side::In => Ok(Drawn::Message(signal(
-            alloc,
-            Way::Input,
-            message,
-            line_name(names, message.from),
-        )?)),
+        Side::Out => Ok(Drawn::Message(signal(alloc, Way::Output, message, to)?)),
+        Side::In => Ok(Drawn::Message(signal(alloc, Way::Input, message, from)?)),
+        Side::OutBack => Ok(Drawn::Message(signal(alloc, Way::Output, message, from)?)),
+        Side::InBack => Ok(Drawn::Message(signal(alloc, Way::Input, message, to)?)),
         Side::Own => Ok(Drawn::Action(Listed::from_vec(ident_text(alloc, message)?))),
         Side::Lost => Ok(Drawn::Action(Listed::from_vec(lost_text(alloc, names, message)?))),
     }

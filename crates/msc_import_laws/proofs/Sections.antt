@@ -135,7 +135,7 @@ module _ (names : List (List ℕ)) (own : Own) (line : ℕ) where
 
 -- the heights of the events are those of the ends
 module _ (own : Own) where
-  step_high : (line k : ℕ) (s : Step) → map (λ e. 2 * k + drop e) (ends_on own line s) ≡ map (λ (x : End). x.height) (ends_at own line k s)
+  step_high : (line k : ℕ) (s : Step) → map (λ e. 4 * k + drop e) (ends_on own line s) ≡ map (λ (x : End). x.height) (ends_at own line k s)
   unfolding Same
   step_high line k (steps.Meets m) = (same_ends line k m [] own).1 ∙ sym (map-map (λ (x : End). x.height) (end_at line k m) (sides_on own line m))
   step_high line k (steps.Opens text) = refl

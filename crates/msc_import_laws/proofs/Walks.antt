@@ -1,7 +1,7 @@
 -- A walk meets each arrow once in each of its rounds: the numbers of the arrows that it meets differ.
-use Rattle.std.proofs.Common.{◌≡◌, ℕ, zero, suc, ◌+◌, ◌<◌, Bool, nat_lt, ◌==◌, take, drop, sym, arith, List, [], ◌∷◌, refl, ap, subst, ◌∙◌}
+use Rattle.std.proofs.Common.{◌≡◌, ℕ, zero, suc, ◌+◌, ◌<◌, Bool, nat_le, ◌==◌, take, drop, sym, arith, List, [], ◌∷◌, refl, ap, subst, ◌∙◌}
 use Rattle.std.specs.List.{AllByRecursion}
-use Rattle.std.proofs.lemmas.Bool.{ltb-true}
+use Rattle.std.proofs.lemmas.Bool.{leb-true}
 use Rattle.std.proofs.lemmas.List.{append-nil}
 use Rattle.msc_chart.specs.Lists.{StandsAt, Occurs}
 use Rattle.msc_chart.proofs.ListLemmas.{by_test}
@@ -12,7 +12,7 @@ use Rattle.msc_mermaid.specs.declared.statement.Arrow.{Arrow}
 use Rattle.msc_mermaid.specs.declared.statement.Placed.{Placed}
 use Rattle.msc_mermaid.specs.declared.statement.Statement.{Statement}
 use Rattle.msc_mermaid.specs.declared.statement.Statement.TheVariants.{Declares, Says, Begins, Closes}
-use Rattle.msc_scenarios.specs.Courses.{Walk, Walker, block, extent, is_choice, is_loss, meet, message_of, one, owned_by, said, then, walk, walk_on}
+use Rattle.msc_scenarios.specs.Courses.{Walk, Walker, block, extent, heads, is_choice, is_loss, meet, message_of, one, owned_by, said, then, walk, walk_on}
 use Rattle.msc_import_laws.specs.Outlined.{AreDistinct, Differ}
 use Rattle.msc_import_laws.proofs.Distinct.{distinct_drop, distinct_take, in_drop, in_take, parts_differ}
 use Rattle.msc_import_laws.proofs.Growth.{Grows, grows_none, grows_same, grows_then, grows_wider}
@@ -26,13 +26,13 @@ module _ (lines : List (List ℕ)) (d : ℕ) (inner : Walker) (good : Meets line
   meet_grows : (p : Placed) (a : Arrow) (lost : Bool) (rounds : List ℕ) (w : Walk) → p.statement ≡ Says a → p.number < 10000000 → w.lines ≡ lines → Grows (IsMet lines (d + 1) (p ∷ []) rounds) w (meet p a lost rounds w)
   unfolding meet
   meet_grows p a lost rounds w says small same =
-      by_test (nat_lt w.arrows ARROW_LIMIT)
+      by_test (nat_le (w.arrows + heads a) ARROW_LIMIT)
       (λ room. rw room (record {
         new = steps.Meets (message_of w.lines p a lost rounds) ∷ [];
         steps = refl;
         lines = refl;
         arrows = omega arith;
-        few = λ k. let lt = ltb-true w.arrows ARROW_LIMIT room in omega (arith, lt);
+        few = λ k. leb-true (w.arrows + heads a) ARROW_LIMIT room;
         made = record {
           each = λ i m h. record {
             placed = p;

@@ -93,7 +93,7 @@ TheTextIsOneOrder =
 
 -- the number of an event's arrow in the course of a scenario
 abbrev pub arrow_at : Manner → Diagram → List ℕ → ℕ → ℕ
-arrow_at manner d given e = height (heights_in manner d given) e / 2
+arrow_at manner d given e = height (heights_in manner d given) e / 4
 
 -- each event of a scenario's draft is an end of its arrow
 abbrev pub EventsAreEndsOfTheirArrows : Type 0

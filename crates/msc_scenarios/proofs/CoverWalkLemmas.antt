@@ -1,7 +1,7 @@
 -- What a walk through statements takes is one of the ways through them, or it stops.
-use Rattle.std.proofs.Common.{◌≡◌, ◌⊎◌, inl, inr, ◌<◌, ◌≤◌, ℕ, zero, suc, ◌+◌, Bool, true, false, cond, nat_le, nat_lt, ◌==◌, Result, Ok, Err, List, [], ◌∷◌, ◌++◌, length, map, take, refl, sym, ap, ◌∙◌, subst, arith}
+use Rattle.std.proofs.Common.{◌≡◌, ◌⊎◌, inl, inr, ◌<◌, ◌≤◌, ℕ, zero, suc, ◌+◌, Bool, true, false, cond, nat_le, ◌==◌, Result, Ok, Err, List, [], ◌∷◌, ◌++◌, length, map, take, refl, sym, ap, ◌∙◌, subst, arith}
 use Rattle.std.specs.List.{Contains, onto_first, slice_index_or}
-use Rattle.std.proofs.lemmas.Bool.{false≢true}
+use Rattle.std.proofs.lemmas.Bool.{false≢true, leb-true}
 use Rattle.msc_mermaid.specs.declared.TheConstants.{DEPTH_LIMIT}
 use Rattle.msc_scenarios.specs.declared.TheConstants.{ARROW_LIMIT, ROUND_LIMIT}
 use Rattle.msc_scenarios.specs.declared.way.Way.{Way}
@@ -19,7 +19,7 @@ use Rattle.msc_mermaid.specs.declared.statement.Statement.TheVariants.{Declares,
 use Rattle.msc_scenarios.specs.Choosing as choosing
 use Rattle.msc_scenarios.specs.Choosing.{Chooser, all_choices, behind, by_fate, chosen, straight}
 use Rattle.msc_scenarios.specs.Courses as courses
-use Rattle.msc_scenarios.specs.Courses.{Walk, Walker, branches_in, choice_of, choose, deeper, ended, extent, form_of, is_choice, is_loss, is_there, joins_at, meet, message_of, owned_by, said, then, unbroken, walk, walk_on, at_rest, unended}
+use Rattle.msc_scenarios.specs.Courses.{Walk, Walker, branches_in, choice_of, choose, deeper, ended, extent, form_of, heads, is_choice, is_loss, is_there, joins_at, meet, message_of, owned_by, said, then, unbroken, walk, walk_on, at_rest, unended}
 use Rattle.msc_scenarios.specs.Laws.{Takes, walked}
 use Rattle.msc_scenarios.proofs.ChoiceLemmas as choices
 use Rattle.msc_scenarios.proofs.CoverFormLemmas.{cover_formed}
@@ -51,11 +51,11 @@ meet_passes p a lost rs v e =
       given = v.given;
       taken = v.taken;
       steps = v.steps ++ steps.Meets (message_of v.lines p a lost rs) ∷ [];
-      arrows = v.arrows + 1;
+      arrows = v.arrows + heads a;
       ending = v.ending;
     } in
     let stopped = ended (ends.Stopped (TooManyArrows p.line)) v in
-    elim (nat_lt v.arrows ARROW_LIMIT) as (λ t. IsStopped (cond t met stopped) ⊎ Kept v (cond t met stopped)) [
+    elim (nat_le (v.arrows + heads a) ARROW_LIMIT) as (λ t. IsStopped (cond t met stopped) ⊎ Kept v (cond t met stopped)) [
       | true ↦ inr (record { given = refl; taken = refl; ending = e })
       | false ↦ inl (TooManyArrows p.line, refl)
     ]
@@ -69,11 +69,11 @@ meet_unbroken p a lost rs v e =
       given = v.given;
       taken = v.taken;
       steps = v.steps ++ steps.Meets (message_of v.lines p a lost rs) ∷ [];
-      arrows = v.arrows + 1;
+      arrows = v.arrows + heads a;
       ending = v.ending;
     } in
     let stopped = ended (ends.Stopped (TooManyArrows p.line)) v in
-    elim (nat_lt v.arrows ARROW_LIMIT) as (λ t. cond t met stopped ≡ unbroken (cond t met stopped)) [
+    elim (nat_le (v.arrows + heads a) ARROW_LIMIT) as (λ t. cond t met stopped ≡ unbroken (cond t met stopped)) [
       | true ↦ sym (unbroken_going met e)
       | false ↦ refl
     ]
@@ -91,7 +91,7 @@ module _ (p : Placed) (a : Arrow) (rs : List ℕ) where
   each_fate : (c : ℕ) → nat_le c 1 ≡ true → CoversUnder c (by_choice c) by_fate
   each_fate zero small = cover_more 0 (by_choice 0) (chosen 0 false straight) by_fate (λ P k. has_left P (chosen 0 false straight) (chosen 1 false straight) k) (cover_met 0)
   each_fate (suc zero) small = cover_more 1 (by_choice 1) (chosen 1 false straight) by_fate (λ P k. has_right P (chosen 0 false straight) (chosen 1 false straight) k) (cover_met 1)
-  each_fate (suc (suc c)) small = absurd (false≢true small)
+  each_fate (suc (suc c)) small = let most = leb-true (suc (suc c)) 1 small in absurd (omega (arith, most))
 
   cover_said : (f : Walk → Walk) (ws : List Way) → Covers f ws → Covers (λ w. then (f w) (said p a rs)) (cond (is_choice a) (behind ws by_fate) ws)
   unfolding said

@@ -1,5 +1,5 @@
 -- A walk that is given the choices of a way through statements takes them.
-use Rattle.std.proofs.Common.{◌≡◌, ◌⊎◌, inl, inr, ℕ, zero, suc, ◌+◌, Bool, true, false, cond, nat_le, nat_lt, Ok, Err, List, [], ◌∷◌, ◌++◌, length, take, refl, sym, ap, ◌∙◌, subst, ◌==◌, arith}
+use Rattle.std.proofs.Common.{◌≡◌, ◌⊎◌, inl, inr, ℕ, zero, suc, ◌+◌, Bool, true, false, cond, nat_le, Ok, Err, List, [], ◌∷◌, ◌++◌, length, take, refl, sym, ap, ◌∙◌, subst, ◌==◌, arith}
 use Rattle.std.specs.List.{AllByRecursion, list_all}
 use Rattle.std.proofs.lemmas.Bool.Decides.{nat_tests}
 use Rattle.std.proofs.lemmas.List.{append-nil}
@@ -18,7 +18,7 @@ use Rattle.msc_mermaid.specs.declared.statement.Statement.TheVariants.{Declares,
 use Rattle.msc_scenarios.specs.Choosing as choosing
 use Rattle.msc_scenarios.specs.Choosing.{Chooser, all_choices, behind, by_fate, straight}
 use Rattle.msc_scenarios.specs.Courses as courses
-use Rattle.msc_scenarios.specs.Courses.{Walk, Walker, branches_in, choice_of, choose, ended, extent, form_of, is_choice, is_loss, is_there, meet, message_of, owned_by, said, then, walk, walk_on, at_rest, unended}
+use Rattle.msc_scenarios.specs.Courses.{Walk, Walker, branches_in, choice_of, choose, ended, extent, form_of, heads, is_choice, is_loss, is_there, meet, message_of, owned_by, said, then, walk, walk_on, at_rest, unended}
 use Rattle.msc_scenarios.specs.Laws.{IsTooLong, IsWhole, Takes, walked}
 use Rattle.msc_scenarios.proofs.ChoiceLemmas as choices
 use Rattle.msc_scenarios.proofs.FollowLemmas.{Ends, Follows, IsGiven, Kept, ending_of, follows_none, follows_passed, follows_under, follows_when, then_going, then_same, then_then}
@@ -35,11 +35,11 @@ meet_keeps p a lost rs v e =
       given = v.given;
       taken = v.taken;
       steps = v.steps ++ steps.Meets (message_of v.lines p a lost rs) ∷ [];
-      arrows = v.arrows + 1;
+      arrows = v.arrows + heads a;
       ending = v.ending;
     } in
     let stopped = ended (ends.Stopped (TooManyArrows p.line)) v in
-    elim (nat_lt v.arrows ARROW_LIMIT) as (λ t. IsTooLong (cond t met stopped) ⊎ Kept v (cond t met stopped)) [
+    elim (nat_le (v.arrows + heads a) ARROW_LIMIT) as (λ t. IsTooLong (cond t met stopped) ⊎ Kept v (cond t met stopped)) [
       | true ↦ inr (record { given = refl; taken = refl; ending = e })
       | false ↦ inl (p.line, refl)
     ]
@@ -58,7 +58,7 @@ module _ (p : Placed) (a : Arrow) (rs : List ℕ) where
 
   follow_fate : AllFollow (λ w. then (choose p.line 1 0 w) (by_choice (choice_of 0 w))) by_fate
   follow_fate =
-      (follows_under p.line 1 0 by_choice 0 refl alone (follow_met 0), follows_under p.line 1 0 by_choice 1 refl alone (follow_met 1), tt)
+      (follows_under p.line 1 0 by_choice 0 refl alone (follow_met 0), (follows_under p.line 1 0 by_choice 1 refl alone (follow_met 1), tt))
 
   follow_said : (f : Walk → Walk) (ws : List Way) → AllFollow f ws → AllFollow (λ w. then (f w) (said p a rs)) (cond (is_choice a) (behind ws by_fate) ws)
   unfolding said

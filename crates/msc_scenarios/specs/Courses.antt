@@ -183,6 +183,14 @@ is_loss fates.Either = false
 abbrev pub is_choice : Arrow → Bool
 is_choice a = is_open a.fate && not (bytes_eq a.from a.to)
 
+-- an arrow has two heads, between two lines: each sends the other a message
+abbrev pub is_exchange : Arrow → Bool
+is_exchange a = a.both && not (bytes_eq a.from a.to)
+
+-- how many messages an arrow has
+abbrev pub heads : Arrow → ℕ
+heads a = cond (is_exchange a) 2 1
+
 -- the message of an arrow in these rounds, where it is lost or arrives
 abbrev pub message_of : List (List ℕ) → Placed → Arrow → Bool → List ℕ → Message
 message_of lines p a lost rounds = record {
@@ -191,6 +199,7 @@ message_of lines p a lost rounds = record {
   name = made a.label (codes "m");
   number = number_name p.number rounds;
   lost = lost;
+  both = is_exchange a;
   line = p.line;
   column = p.column;
 }
@@ -198,12 +207,12 @@ message_of lines p a lost rounds = record {
 -- an arrow is met, where it is lost or arrives
 unfoldable pub meet : Placed → Arrow → Bool → List ℕ → Walk → Walk
 meet p a lost rounds w =
-    cond (nat_lt w.arrows ARROW_LIMIT) (record {
+    cond (nat_le (w.arrows + heads a) ARROW_LIMIT) (record {
       lines = w.lines;
       given = w.given;
       taken = w.taken;
       steps = w.steps ++ steps.Meets (message_of w.lines p a lost rounds) ∷ [];
-      arrows = w.arrows + 1;
+      arrows = w.arrows + heads a;
       ending = w.ending;
     }) (ended (ends.Stopped (TooManyArrows p.line)) w)
 

@@ -4,7 +4,7 @@ ghost use Rattle.std.specs.Prelude.{◌≡◌, ◌≤◌, ◌<◌, ◌+◌, ◌^
 ghost use Rattle.std.specs.List.{list_any};
 ghost use Rattle.msc_scenarios.specs.Courses.{branches_in, deeper, ends_at, extent, form_of, is_break};
 ghost use Rattle.msc_scenarios.specs.Courses.{is_drawn, is_end, is_joint, is_there, joins_at, main_of};
-ghost use Rattle.msc_scenarios.specs.Courses.{is_choice, is_loss, is_open, most_of};
+ghost use Rattle.msc_scenarios.specs.Courses.{heads, is_choice, is_exchange, is_loss, is_open, most_of};
 
 use crate::ROUND_LIMIT;
 use msc_mermaid::{Arrow, Closer, Fate, ImportFault, Kind, Placed, Statement};
@@ -12,7 +12,8 @@ use msc_parser::Name;
 use std::alloc::{AllocError, Global};
 
 /// A message of a course: its sender and its receiver, as numbers of lines from 0, its name and its
-/// number, whether it is lost, and where its arrow begins, as line and column.
+/// number, whether it is lost, whether the receiver sends one back with the same name and number,
+/// and where its arrow begins, as line and column.
 #[derive(Drop)]
 pub struct Message {
     pub from: usize,
@@ -20,6 +21,7 @@ pub struct Message {
     pub name: Name,
     pub number: Name,
     pub lost: bool,
+    pub both: bool,
     pub line: usize,
     pub column: usize,
 }
@@ -140,6 +142,21 @@ pub(crate) fn is_choice(arrow: &Arrow) -> bool
     ensures { result ≡ is_choice arrow.now }
 {
     is_open(arrow.fate) && arrow.from.as_slice() != arrow.to.as_slice()
+}
+
+/// Whether an arrow has two heads, between two lines: each sends the other a message.
+pub(crate) fn is_exchange(arrow: &Arrow) -> bool
+    ensures { result ≡ is_exchange arrow.now }
+{
+    arrow.both && arrow.from.as_slice() != arrow.to.as_slice()
+}
+
+/// How many messages an arrow has.
+pub(crate) fn heads(arrow: &Arrow) -> usize
+    ensures value { result ≡ heads arrow.now }
+    ensures few { result ≤ 2 }
+{
+    if is_exchange(arrow) { 2 } else { 1 }
 }
 
 /// How many statements stand before the end of a block.

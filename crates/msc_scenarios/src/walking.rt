@@ -9,7 +9,8 @@ ghost use Rattle.msc_scenarios.specs.Courses.{put, rounds_from, said, side_by_si
 
 use crate::ARROW_LIMIT;
 use crate::course::{
-    Ending, Form, Message, Step, branches_of, extent, is_choice, is_loss, is_there,
+    Ending, Form, Message, Step, branches_of, extent, heads, is_choice, is_exchange, is_loss,
+    is_there,
 };
 use crate::line_name::number_name;
 use crate::naming::made;
@@ -75,6 +76,7 @@ fn message_of(
         name: Name::from_slice(alloc, name.as_slice())?,
         number: Name::from_slice(alloc, number.as_slice())?,
         lost,
+        both: is_exchange(arrow),
         line: placed.line,
         column: placed.column,
     })
@@ -126,13 +128,14 @@ impl Walker<'_> {
     ) -> Result<(), AllocError>
         ensures { OnOk result (self.new ≡ meet placed.now arrow.now lost rounds.now self.old) }
     {
-        if self.arrows >= ARROW_LIMIT {
+        let heads = heads(arrow);
+        if self.arrows > ARROW_LIMIT - heads {
             self.ending = Ending::Stopped(ImportFault::TooManyArrows(placed.line));
             return Ok(());
         }
         let message = message_of(alloc, self.lines, placed, arrow, lost, rounds)?;
         self.steps.push(Step::Meets(message))?;
-        self.arrows += 1;
+        self.arrows += heads;
         Ok(())
     }
 
