@@ -4,7 +4,7 @@
 use crate::gallery::{self, Scenario};
 use listed::Listed;
 use msc_import::{Imported, Importing, ImportingAll, Language, Manner, Own, Par, Refused, Scenarios, draw, import, import_all, places};
-use msc_mermaid::{Closer, Cross, Expectation, Head, ImportFault, diagram_of, fenced};
+use msc_mermaid::{Closer, Cross, Expectation, ImportFault, diagram_of, fenced};
 use msc_scenarios::{all_choices, scenarios};
 use msc_place::Position;
 use std::alloc::AllocGlobal;
@@ -197,6 +197,61 @@ instance A;
   action 'lost b, 2 to B';
 endinstance;
 instance B;
+endinstance;
+endmsc;
+",
+    ),
+    (
+        b"sequenceDiagram
+A<<->>B: hello",
+        None,
+        Own::Action,
+        &[],
+        b"msc t;
+instance A;
+  concurrent;
+    out hello, 1 to B;
+    in hello, 1 from B;
+  endconcurrent;
+endinstance;
+instance B;
+  concurrent;
+    out hello, 1 to A;
+    in hello, 1 from A;
+  endconcurrent;
+endinstance;
+endmsc;
+",
+    ),
+    (
+        b"sequenceDiagram
+B<<-->>B: a
+par x
+A<<-->>B: b
+and y
+B->>C: c
+end",
+        None,
+        Own::Message,
+        &[],
+        b"msc t;
+instance B;
+  out a, 1 to B;
+  in a, 1 from B;
+  concurrent;
+    out b, 2 to A;
+    in b, 2 from A;
+    out c, 3 to C;
+  endconcurrent;
+endinstance;
+instance A;
+  concurrent;
+    out b, 2 to B;
+    in b, 2 from B;
+  endconcurrent;
+endinstance;
+instance C;
+  in c, 3 from B;
 endinstance;
 endmsc;
 ",
@@ -850,14 +905,6 @@ const FAULTS: &[(&[u8], ImportFault)] = &[
         ImportFault::Expected(2, Expectation::Statement),
     ),
     (
-        b"sequenceDiagram\nA<<->>B: a",
-        ImportFault::Unsupported(2, Head::Both),
-    ),
-    (
-        b"sequenceDiagram\nA<<-->>B: a",
-        ImportFault::Unsupported(2, Head::DottedBoth),
-    ),
-    (
         b"sequenceDiagram\n->>B: a",
         ImportFault::Expected(2, Expectation::Name),
     ),
@@ -1010,6 +1057,17 @@ const REFUSED: &[(&[u8], &[usize], ImportFault)] = &[
         b"sequenceDiagram\nloop x\nA->>B: a\nend\nA->>B: b",
         &[1024],
         ImportFault::TooManyArrows(5),
+    ),
+    // an arrow with two heads counts as two
+    (
+        b"sequenceDiagram\nloop x\nA<<->>B: a\nend\nA->>B: b",
+        &[512],
+        ImportFault::TooManyArrows(5),
+    ),
+    (
+        b"sequenceDiagram\nA->>B: a\nloop x\nA<<->>B: b\nend",
+        &[512],
+        ImportFault::TooManyArrows(4),
     ),
     (
         b"sequenceDiagram\nA->>B: a\npar x\nA->>B: b\nA->>C: c\nand y\nA->>B: d\nend",

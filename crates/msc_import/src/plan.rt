@@ -210,7 +210,12 @@ impl<'s> Plan<'s> {
     }
 
     /// Puts two ends of a message more, which are one segment.
-    fn put_both(&mut self, message: &'s Message, first: Side, second: Side) -> Result<(), AllocError>
+    fn put_both(
+        &mut self,
+        message: &'s Message,
+        first: Side,
+        second: Side,
+    ) -> Result<(), AllocError>
         ensures { OnOk result (self.new ≡ with_pair message.now first second self.old) }
     {
         self.events.push(Planned {

@@ -175,8 +175,8 @@ module _ (manner : Manner) (name : List ℕ) (lines names : List (List ℕ)) (ps
       let back = one_way p.end q.end y y p.of q.of p.is q.is step.3 refl in
       let taking = same_not (is_in p.end.side) (is_in q.end.side) (way names p.end.message p.end.side y p.is ∙ sym (way names q.end.message q.end.side y q.is)) in
       let same : fall p.end.side ≡ fall q.end.side =
-          fall_of_end names p.end.message p.end.side y p.is ∙ ap (λ (b : Bool). cond b 1 0 + cond (is_in p.end.side) 2 0) back ∙ ap (λ (b : Bool). cond (is_back q.end.side) 1 0 + cond b 2 0) taking
-          ∙ sym (fall_of_end names q.end.message q.end.side y q.is) in
+      fall_of_end names p.end.message p.end.side y p.is ∙ ap (λ (b : Bool). cond b 1 0 + cond (is_in p.end.side) 2 0) back ∙ ap (λ (b : Bool). cond (is_back q.end.side) 1 0 + cond b 2 0) taking
+      ∙ sym (fall_of_end names q.end.message q.end.side y q.is) in
       ends_apart manner.own ss 0 (length lines) e f p.end q.end p.stands q.stands (step.1 ∙ ap (λ (t : ℕ). 4 * step.0 + t) same ∙ sym step.2)
 
   -- an end that a step has occurs in the acts
