@@ -3,10 +3,13 @@
 
 use crate::gallery::{self, Scenario};
 use listed::Listed;
-use msc_import::{Imported, Importing, ImportingAll, Language, Manner, Own, Par, Refused, Scenarios, draw, import, import_all, places};
+use msc_import::{
+    Imported, Importing, ImportingAll, Language, Manner, Own, Par, Refused, Scenarios, draw,
+    import, import_all, places,
+};
 use msc_mermaid::{Closer, Cross, Expectation, ImportFault, diagram_of, fenced};
-use msc_scenarios::{all_choices, scenarios};
 use msc_place::Position;
+use msc_scenarios::{all_choices, scenarios};
 use std::alloc::AllocGlobal;
 
 /// The usual manner.
@@ -1170,7 +1173,14 @@ const CHOICES: &[Chosen] = &[
     (
         b"sequenceDiagram\nA-xB: a\nopt x\nA--xB: b\nend\nA-xA: c",
         &[0, 2],
-        &[&[0, 0], &[0, 1, 0], &[0, 1, 1], &[1, 0], &[1, 1, 0], &[1, 1, 1]],
+        &[
+            &[0, 0],
+            &[0, 1, 0],
+            &[0, 1, 1],
+            &[1, 0],
+            &[1, 1, 0],
+            &[1, 1, 1],
+        ],
     ),
     (
         b"sequenceDiagram\nalt x\nA->>B: a\nelse y\nA->>B: a\nelse z\nA->>B: a\nend",

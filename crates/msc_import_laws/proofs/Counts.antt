@@ -174,7 +174,8 @@ once_twice m h g line n =
     let both = exchange_both m pair in
     let second = once g line n in
     let same : over (λ l. cond (is_exchange m) (cond (eqb g l) 1 0) 0) line n ≡ over (λ l. cond (eqb g l) 1 0) line n = ap (λ (b : Bool). over (λ l. cond b (cond (eqb g l) 1 0) 0) line n) pair in
-    rw both (omega (arith, sum, first, second, same)))
+    let two : ◌≡◌ {A = ℕ} (cond m.both 2 1) 2 = ap (λ (b : Bool). cond b 2 1) both in
+    omega (arith, sum, first, second, same, two))
     (λ single.
     let none : over (λ l. cond (is_exchange m) (cond (eqb g l) 1 0) 0) line n ≡ 0 = ap (λ (b : Bool). over (λ l. cond b (cond (eqb g l) 1 0) 0) line n) single ∙ over_none line n in
     let low : 1 ≤ cond m.both 2 1 = elim m.both as (λ b. 1 ≤ cond b 2 1) [ true ↦ omega arith | false ↦ omega arith ] in

@@ -1,5 +1,5 @@
 -- Each end of a message has its other end.
-use Rattle.std.proofs.Common.{◌≡◌, ℕ, zero, suc, Bool, true, false, not, ◌&&◌, sym, eqb, refl, ap, subst, ◌∙◌}
+use Rattle.std.proofs.Common.{◌≡◌, ℕ, zero, suc, Bool, true, false, not, ◌&&◌, sym, eqb, List, [], ◌∷◌, refl, ap, subst, ◌∙◌}
 use Rattle.std.proofs.lemmas.Bool.{and_parts, eqb-true, eq-eqb}
 use Rattle.msc_chart.specs.Lists.{Occurs}
 use Rattle.msc_chart.proofs.ListLemmas.{by_test, clash}

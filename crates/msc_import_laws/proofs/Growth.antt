@@ -1,5 +1,5 @@
 -- Walks that grow: by which arrows, no two of one number.
-use Rattle.std.proofs.Common.{◌≡◌, ℕ, zero, suc, ◌+◌, ◌≤◌, true, false, sym, arith, inl, inr, List, [], ◌∷◌, ◌++◌, refl, ap, ◌∙◌, cond}
+use Rattle.std.proofs.Common.{◌≡◌, ℕ, zero, suc, ◌+◌, ◌≤◌, Bool, true, false, sym, arith, inl, inr, List, [], ◌∷◌, ◌++◌, refl, ap, ◌∙◌, cond}
 use Rattle.std.specs.List.{sum_by}
 use Rattle.std.proofs.lemmas.List.{append-nil, append_assoc}
 use Rattle.std.proofs.lemmas.List.Sums.{sum_by-append}
@@ -53,8 +53,8 @@ grows_put R s w h = record {
   made = record { each = λ i m k. absurd (no i m k); apart = λ i j m n k l e. absurd (no i m k) };
 }
   where
-    some : (m : Message) → cond m.both 2 1 ≡ 0 → ⊥
-    some m = elim m.both as (λ b. cond b 2 1 ≡ 0 → ⊥) [
+    some : (m : Message) → ◌≡◌ {A = ℕ} (cond m.both 2 1) 0 → ⊥
+    some m = elim m.both as (λ (b : Bool). ◌≡◌ {A = ℕ} (cond b 2 1) 0 → ⊥) [
       | true ↦ λ k. omega (arith, k)
       | false ↦ λ k. omega (arith, k)
     ]

@@ -5,7 +5,7 @@ use Rattle.std.specs.Str.{bytes_eq}
 use Rattle.msc_lexer.specs.Bytes.{begins}
 use Rattle.msc_mermaid.specs.declared.fault.Expectation.TheVariants as wanted
 use Rattle.msc_mermaid.specs.declared.fault.ImportFault.{ImportFault}
-use Rattle.msc_mermaid.specs.declared.fault.ImportFault.TheVariants.{Expected, Unsupported}
+use Rattle.msc_mermaid.specs.declared.fault.ImportFault.TheVariants.{Expected}
 use Rattle.msc_mermaid.specs.declared.key.Head.{Head}
 use Rattle.msc_mermaid.specs.declared.key.Mark.TheVariants as marks
 use Rattle.msc_mermaid.specs.declared.row.Meaning.{Meaning}
@@ -108,12 +108,11 @@ fate_of cross dying head from to =
 -- the arrow of these parts: what stands before its head, and what stands behind
 unfoldable pub arrow_by : Option Cross → List (List ℕ) → ℕ → Head → List ℕ → List ℕ → Result Arrow ImportFault
 arrow_by cross dying line head front rest = do
-  single ← unless (not (is_double head)) (Unsupported line head) rest
   from ← name_at line front
-  behind ← no_second line (behind_blanks single)
+  behind ← no_second line (behind_blanks rest)
   parts ← at_colon line (behind_sign behind)
   to ← name_at line parts.0
-  Ok (record { from = from; to = to; label = behind_wrap parts.1; fate = fate_of cross dying head from to; both = false })
+  Ok (record { from = from; to = to; label = behind_wrap parts.1; fate = fate_of cross dying head from to; both = is_double head })
 
 -- the arrow of a statement in which this head is the first, behind so many bytes
 abbrev pub arrow_with : Option Cross → List (List ℕ) → ℕ → List ℕ → ℕ → Option Head → Result Arrow ImportFault

@@ -242,9 +242,6 @@ fn arrow_by(
     ensures { Gives (λ x. x) result
         (arrow_by mode.entry.cross mode.entry.dying.now line head front.now rest.now) }
 {
-    if head.is_double() {
-        return Err(ImportFault::Unsupported(line, head));
-    }
     let from = name_at(line, front)?;
     let behind = no_second(line, behind_blanks(rest))?;
     let parts = at_colon(line, behind_sign(behind))?;
@@ -255,7 +252,7 @@ fn arrow_by(
         to: owned(alloc, to)?,
         label: owned(alloc, behind_wrap(parts.1))?,
         fate,
-        both: false,
+        both: head.is_double(),
     })
 }
 
