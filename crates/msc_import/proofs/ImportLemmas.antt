@@ -14,7 +14,8 @@ use Rattle.msc_mermaid.specs.declared.statement.Diagram.{Diagram}
 use Rattle.msc_mermaid.specs.declared.fault.ImportFault.{ImportFault}
 use Rattle.msc_mermaid.specs.Gives.{Fails}
 use Rattle.msc_import.specs.Importing.{RefusesSo, answered, begins_diagram, short_bytes, told_by_content}
-use Rattle.msc_mermaid.specs.Lines.{lines_of, trimmed}
+use Rattle.msc_mermaid.specs.Lines.{lines_of}
+use Rattle.msc_mermaid.specs.White.{trimmed}
 use Rattle.msc_mermaid.specs.Mermaid.{is_head, mermaid}
 
 -- a test of what a view makes of the items of a list

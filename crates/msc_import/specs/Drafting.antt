@@ -34,7 +34,7 @@ use Rattle.msc_scenarios.specs.Courses.{Walk, at_rest, unended, walk}
 use Rattle.msc_mermaid.specs.Gives.{◌>>=◌, unless}
 use Rattle.msc_import.specs.Plans.{Event, Plan, plans_of}
 use Rattle.msc_scenarios.specs.Naming.{kind_of, made, names_behind}
-use Rattle.msc_mermaid.specs.Rows.{is_empty}
+use Rattle.msc_mermaid.specs.Patterns.{is_empty}
 
 -- the bytes are a name of charts
 abbrev pub is_chart_name : List ℕ → Bool

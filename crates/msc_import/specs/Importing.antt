@@ -18,7 +18,8 @@ use Rattle.msc_scenarios.specs.Counting.{scenarios}
 use Rattle.msc_import.specs.Drafting.{drawn, line_name}
 use Rattle.msc_mermaid.specs.Fences.{fenced}
 use Rattle.msc_mermaid.specs.Gives.{◌>>=◌}
-use Rattle.msc_mermaid.specs.Lines.{lines_of, trimmed}
+use Rattle.msc_mermaid.specs.Lines.{lines_of}
+use Rattle.msc_mermaid.specs.White.{trimmed}
 use Rattle.msc_mermaid.specs.Mermaid.{is_head, mermaid}
 use Rattle.msc_scenarios.specs.Naming.{names_behind}
 use Rattle.msc_import.specs.Places.{places}

@@ -7,7 +7,7 @@ ghost use Rattle.msc_mermaid.specs.Gives.{Gives};
 ghost use Rattle.msc_import.specs.Importing.{Imports, chosen, diagram_by, diagram_in, drawn_at};
 ghost use Rattle.msc_import.specs.Importing.{imported, scenario_of, seen, short_bytes};
 ghost use Rattle.msc_import.specs.Importing.{told_by_content, wanted, with_name};
-ghost use Rattle.msc_mermaid.specs.Lines.{trimmed};
+ghost use Rattle.msc_mermaid.specs.White.{trimmed};
 ghost use Rattle.msc_mermaid.specs.Mermaid.{is_head};
 ghost use Rattle.msc_mermaid.specs.declared.fault.ImportFault.TheVariants.{Memory};
 

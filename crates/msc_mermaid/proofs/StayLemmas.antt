@@ -8,7 +8,7 @@ use Rattle.msc_mermaid.specs.declared.fault.ImportFault.TheVariants.{NoDiagram, 
 use Rattle.msc_mermaid.specs.declared.fence.Block.{Block}
 use Rattle.msc_mermaid.specs.declared.fence.Block.TheVariants as blocks
 use Rattle.msc_mermaid.specs.declared.fence.Fence.{Fence}
-use Rattle.msc_mermaid.specs.Mermaid.{is_front}
+use Rattle.msc_mermaid.specs.Fences.{is_front}
 use Rattle.msc_mermaid.specs.Fences.{before, behind_line, emptied, ends_block, fenced, has_diagram, kept}
 use Rattle.msc_mermaid.specs.Lines.{behind_mark, led_by, lines_behind, lines_of, trimmed}
 use Rattle.msc_mermaid.proofs.FenceLemmas.{emptied_cons}

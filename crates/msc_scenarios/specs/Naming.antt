@@ -10,7 +10,7 @@ use Rattle.msc_mermaid.specs.declared.TheConstants.{LINE_LIMIT}
 use Rattle.msc_scenarios.specs.declared.naming.Pass.{Pass}
 use Rattle.msc_scenarios.specs.declared.naming.Pass.TheVariants as passes
 use Rattle.msc_mermaid.specs.Keys.{are_spelled}
-use Rattle.msc_mermaid.specs.Rows.{is_empty}
+use Rattle.msc_mermaid.specs.Patterns.{is_empty}
 
 -- `<`, `/`, `>`
 abbrev pub is_opening : ℕ → Bool

@@ -5,7 +5,8 @@ use Rattle.msc_mermaid.specs.declared.fault.Expectation.TheVariants.{AnyDiagram}
 use Rattle.msc_mermaid.specs.declared.fault.ImportFault.TheVariants.{Expected}
 use Rattle.msc_mermaid.specs.declared.statement.Diagram.{Diagram}
 use Rattle.msc_mermaid.specs.Gives.{Gives}
-use Rattle.msc_mermaid.specs.Lines.{lines_of, trimmed}
+use Rattle.msc_mermaid.specs.Lines.{lines_of}
+use Rattle.msc_mermaid.specs.White.{trimmed}
 use Rattle.msc_mermaid.specs.Mermaid.{is_head}
 use Rattle.msc_import.proofs.ImportLemmas.{told_none, told_some}
 use Rattle.msc_import.proofs.importing.told_by_content.Goals as goal
