@@ -1,0 +1,30 @@
+//! Mermaid: from a text to the sequence diagram that it draws.
+//!
+//! A text says statements, line by line; statements make a diagram. Lines and columns of a text are
+//! numbered from 1, arrows from 1.
+#![tactic(auto)]
+
+mod fault;
+mod fence;
+mod key;
+mod lines;
+mod mermaid;
+mod outline;
+mod reading;
+mod row;
+mod saying;
+mod seeking;
+mod statement;
+
+pub use fault::{Expectation, ImportFault};
+pub use fence::fenced;
+pub use key::Head;
+pub use mermaid::diagram_of;
+pub use row::{Closer, Kind};
+pub use statement::{Arrow, Cross, Diagram, Placed, Statement};
+
+/// The greatest number of blocks inside each other.
+pub const DEPTH_LIMIT: usize = 10;
+
+/// The greatest number of lines of a diagram.
+pub const LINE_LIMIT: usize = 32;
