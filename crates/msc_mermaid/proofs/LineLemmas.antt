@@ -59,7 +59,7 @@ pub cut_none : (text : List ℕ) → AreCut text [] 0 false 0
 cut_none text = record { ordered = omega arith; fresh = λ h. absurd (false≢true h); told = led_none false text }
 
 -- the part of a text up to the next byte
-part_more : (text : List ℕ) (start i : ℕ) → start ≤ i → i < length text → part text start (i + 1) ≡ part text start i ++ get_or text i 0 ∷ []
+pub part_more : (text : List ℕ) (start i : ℕ) → start ≤ i → i < length text → part text start (i + 1) ≡ part text start i ++ get_or text i 0 ∷ []
 part_more text start i ordered inside =
     let short : i - start < length (drop start text) = simp length-drop (omega arith) in
     let place : (i + 1) - start ≡ (i - start) + 1 = omega arith in
@@ -67,7 +67,7 @@ part_more text start i ordered inside =
     ap (λ n. take n (drop start text)) place ∙ take_more (drop start text) (i - start) 0 short ∙ ap (λ x. part text start i ++ x ∷ []) (get_or-drop start text (i - start) 0 ∙ ap (λ n. get_or text n 0) behind)
 
 -- nothing stands between a place and itself
-part_none : (text : List ℕ) (i : ℕ) → part text i i ≡ []
+pub part_none : (text : List ℕ) (i : ℕ) → part text i i ≡ []
 part_none text i = ap (λ n. take n (drop i text)) (sub_self i)
 
 module _ (text : List ℕ) (lines : List (List ℕ)) (start : ℕ) (cr : Bool) (i : ℕ) (cut : AreCut text lines start cr i) (inside : i < length text) where

@@ -1,26 +1,20 @@
 -- Lines of a Mermaid text, one line more.
 use Rattle.std.proofs.Common.{◌≡◌, ◌<◌, ◌≤◌, ℕ, ◌+◌, ◌-◌, List, [], ◌∷◌, length, get_or, drop, map, Option, Ok, refl, sym, ap, ◌∙◌, subst, length-take, length-drop, arith}
-use Rattle.std.specs.List.{prefix_len}
 use Rattle.std.proofs.lemmas.List.{drop_more, drop_all}
-use Rattle.std.proofs.lemmas.List.Sums.{prefix_len-le-length}
 use Rattle.msc_mermaid.specs.declared.fault.ImportFault.{ImportFault}
-use Rattle.msc_mermaid.specs.declared.mermaid.Progress.{Progress}
+use Rattle.msc_mermaid.specs.declared.progress.Progress.{Progress}
 use Rattle.msc_mermaid.specs.declared.statement.Cross.{Cross}
 use Rattle.msc_mermaid.specs.Gives.{◌>>=◌, Fails}
-use Rattle.msc_mermaid.specs.Lines.{is_blank, behind_blanks, before_blanks, trimmed}
+use Rattle.msc_mermaid.specs.White.{front, behind_white, trimmed}
 use Rattle.msc_mermaid.specs.Mermaid.{step, steps}
 use Rattle.msc_mermaid.proofs.ReadingLemmas.{bind_fails}
 
--- what stands before blanks is no longer
-before_short : (bytes : List ℕ) → length (before_blanks bytes) ≤ length bytes
-before_short bytes = rw length-take (omega arith)
-
--- without blanks at both ends there are fewer bytes by those in front, at least
-pub trimmed_short : (bytes : List ℕ) → prefix_len is_blank bytes + length (trimmed bytes) ≤ length bytes
-trimmed_short bytes =
-    let low = prefix_len-le-length is_blank bytes in
-    let rest : length (behind_blanks bytes) ≡ length bytes - prefix_len is_blank bytes = length-drop (prefix_len is_blank bytes) bytes in
-    omega (arith, low, rest, before_short (behind_blanks bytes))
+-- without white space at both ends there are fewer bytes by those in front, at least
+pub trimmed_short : (bytes : List ℕ) → front 0 bytes ≤ length bytes → front 0 bytes + length (trimmed bytes) ≤ length bytes
+trimmed_short bytes low =
+    let rest : length (behind_white bytes) ≡ length bytes - front 0 bytes = length-drop (front 0 bytes) bytes in
+    let short : length (trimmed bytes) ≤ length (behind_white bytes) = rw length-take (omega arith) in
+    omega (arith, low, rest, short)
 
 steps_cons : (cross : Option Cross) (line : ℕ) (l : List ℕ) (ls : List (List ℕ)) (p : Progress) → steps cross line (l ∷ ls) p ≡ (step cross line l p >>= (λ q. steps cross (line + 1) ls q))
 unfolding steps

@@ -1,14 +1,11 @@
 -- Seeking, patterns and rows, one step of each.
-use Rattle.std.proofs.Common.{◌≡◌, ◌<◌, ◌≤◌, ℕ, ◌+◌, true, false, cond, List, [], ◌∷◌, length, get_or, drop, Option, Some, refl, sym, ap, ◌∙◌}
+use Rattle.std.proofs.Common.{◌≡◌, ◌<◌, ◌≤◌, ℕ, ◌+◌, true, false, cond, List, [], ◌∷◌, length, get_or, drop, Option, None, Some, refl, sym, ap, ◌∙◌}
 use Rattle.std.specs.Prelude.{option_and_then}
 use Rattle.std.proofs.lemmas.List.{drop_more, drop_all}
-use Rattle.msc_mermaid.specs.declared.row.Meaning.TheVariants as says
-use Rattle.msc_mermaid.specs.declared.row.Part.{Part}
-use Rattle.msc_mermaid.specs.declared.row.Row.{Row}
+use Rattle.msc_mermaid.specs.declared.pattern.Part.{Part}
+use Rattle.msc_mermaid.specs.declared.pattern.Pattern.{Pattern}
 use Rattle.msc_mermaid.specs.declared.seeking.Sought.{Sought}
-use Rattle.msc_mermaid.specs.declared.key.Key.{Key}
-use Rattle.msc_mermaid.specs.Keys.{key_of}
-use Rattle.msc_mermaid.specs.Rows.{behind, fits, parts_of, fit_or, first_fit, said_by, says_nothing, first_word, behind_first_word, meaning_of}
+use Rattle.msc_mermaid.specs.Patterns.{behind, fits, parts_of, or_next, first_fit}
 use Rattle.msc_mermaid.specs.Seeking.{is_here, before}
 
 -- what is sought stands at the front, or further on
@@ -56,30 +53,20 @@ module _ (ps : List Part) (i : ℕ) (d : Part) (bytes : List ℕ) where
 pub fits_end : (ps : List Part) (i : ℕ) (bytes : List ℕ) → length ps ≤ i → fits (drop i ps) bytes ≡ Some bytes
 fits_end ps i bytes over = ap (λ x. fits x bytes) (drop_all i ps over) ∙ fits_none bytes
 
--- one row more
-fit_cons : (r : Row) (rs : List Row) (bytes : List ℕ) → first_fit (r ∷ rs) bytes ≡ fit_or r.meaning (fits (parts_of r.pattern) bytes) (first_fit rs bytes)
+-- one pattern more
+fit_cons : (p : Pattern) (ps : List Pattern) (bytes : List ℕ) → first_fit (p ∷ ps) bytes ≡ or_next (fits (parts_of p) bytes) (first_fit ps bytes)
 unfolding first_fit
-fit_cons r rs bytes = refl
+fit_cons p ps bytes = refl
 
-fit_none : (bytes : List ℕ) → first_fit [] bytes ≡ (says.Refused, bytes)
+fit_none : (bytes : List ℕ) → first_fit [] bytes ≡ None
 unfolding first_fit
 fit_none bytes = refl
 
-module _ (rs : List Row) (i : ℕ) (d : Row) (bytes : List ℕ) where
-  pub fit_more : (found : Option (List ℕ)) → i < length rs → fits (parts_of (get_or rs i d).pattern) bytes ≡ found → first_fit (drop i rs) bytes ≡ fit_or (get_or rs i d).meaning found (first_fit (drop (i + 1) rs) bytes)
+module _ (ps : List Pattern) (i : ℕ) (d : Pattern) (bytes : List ℕ) where
+  pub fit_more : (found : Option (List ℕ)) → i < length ps → fits (parts_of (get_or ps i d)) bytes ≡ found → first_fit (drop i ps) bytes ≡ or_next found (first_fit (drop (i + 1) ps) bytes)
   fit_more found inside e =
-      ap (λ x. first_fit x bytes) (drop_more rs i d inside) ∙ fit_cons (get_or rs i d) (drop (i + 1) rs) bytes ∙ ap (λ f. fit_or (get_or rs i d).meaning f (first_fit (drop (i + 1) rs) bytes)) e
+      ap (λ x. first_fit x bytes) (drop_more ps i d inside) ∙ fit_cons (get_or ps i d) (drop (i + 1) ps) bytes ∙ ap (λ f. or_next f (first_fit (drop (i + 1) ps) bytes)) e
 
--- no row is left
-pub fit_end : (rs : List Row) (i : ℕ) (bytes : List ℕ) → length rs ≤ i → first_fit (drop i rs) bytes ≡ (says.Refused, bytes)
-fit_end rs i bytes over = ap (λ x. first_fit x bytes) (drop_all i rs over) ∙ fit_none bytes
-
--- what a statement says
-pub meaning_none : (bytes : List ℕ) → says_nothing bytes ≡ true → meaning_of bytes ≡ (says.Nothing, bytes)
-unfolding meaning_of
-meaning_none bytes e = ap (λ b. cond b (says.Nothing, bytes) (said_by (key_of (first_word bytes)) (behind_first_word bytes))) e
-
-pub meaning_said : (bytes : List ℕ) (key : Option Key) → says_nothing bytes ≡ false → key_of (first_word bytes) ≡ key → meaning_of bytes ≡ said_by key (behind_first_word bytes)
-unfolding meaning_of
-meaning_said bytes key e k =
-    ap (λ b. cond b (says.Nothing, bytes) (said_by (key_of (first_word bytes)) (behind_first_word bytes))) e ∙ ap (λ x. said_by x (behind_first_word bytes)) k
+-- no pattern is left
+pub fit_end : (ps : List Pattern) (i : ℕ) (bytes : List ℕ) → length ps ≤ i → first_fit (drop i ps) bytes ≡ None
+fit_end ps i bytes over = ap (λ x. first_fit x bytes) (drop_all i ps over) ∙ fit_none bytes

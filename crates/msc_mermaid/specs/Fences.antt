@@ -11,8 +11,7 @@ use Rattle.msc_mermaid.specs.declared.fence.Block.{Block}
 use Rattle.msc_mermaid.specs.declared.fence.Block.TheVariants as blocks
 use Rattle.msc_mermaid.specs.declared.fence.Fence.{Fence}
 use Rattle.msc_mermaid.specs.Gives.{unless}
-use Rattle.msc_mermaid.specs.Lines.{behind_blanks, lines_of, trimmed}
-use Rattle.msc_mermaid.specs.Mermaid.{is_front}
+use Rattle.msc_mermaid.specs.Lines.{before_blanks, behind_blanks, lines_of, trimmed}
 use Rattle.msc_mermaid.specs.Rows.{first_word}
 
 -- a block begins with this line, which has no blanks at its ends
@@ -31,6 +30,10 @@ is_language word =
 -- the block that a line begins is a diagram
 abbrev pub is_diagram : List ℕ → Bool
 is_diagram line = is_language (first_word (behind_blanks (drop 3 line)))
+
+-- the line that stands before and behind what stands in front of a diagram
+abbrev pub is_front : List ℕ → Bool
+is_front line = bytes_eq (before_blanks line) (codes "---")
 
 -- a diagram begins, where so many have to begin until the wanted one has
 abbrev pub begun : ℕ → Fence

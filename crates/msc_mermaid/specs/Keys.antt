@@ -6,8 +6,8 @@ use Rattle.msc_mermaid.specs.declared.key.Key.{Key}
 use Rattle.msc_mermaid.specs.declared.key.Key.TheVariants as keys
 use Rattle.msc_mermaid.specs.declared.key.Mark.{Mark}
 use Rattle.msc_mermaid.specs.declared.key.Mark.TheVariants as marks
-use Rattle.msc_mermaid.specs.declared.key.Head.{Head}
-use Rattle.msc_mermaid.specs.declared.key.Head.TheVariants as heads
+use Rattle.msc_mermaid.specs.declared.head.Head.{Head}
+use Rattle.msc_mermaid.specs.declared.head.Head.TheVariants as heads
 
 -- a key word
 abbrev pub spelling : Key → List ℕ
@@ -37,15 +37,13 @@ spelling keys.Link = codes "link"
 spelling keys.Properties = codes "properties"
 spelling keys.Details = codes "details"
 spelling keys.Title = codes "title"
-spelling keys.AccTitle = codes "accTitle"
-spelling keys.AccDescr = codes "accDescr"
 spelling keys.Over = codes "over"
 spelling keys.Off = codes "off"
 
 -- each key word that a statement may begin with, once
 abbrev pub all_keys : List Key
 all_keys =
-    keys.Create ∷ keys.Participant ∷ keys.Actor ∷ keys.Destroy ∷ keys.Loop ∷ keys.Alt ∷ keys.Opt ∷ keys.Par ∷ keys.ParOver ∷ keys.Critical ∷ keys.Break ∷ keys.Rect ∷ keys.Box ∷ keys.Else ∷ keys.And ∷ keys.Option ∷ keys.End ∷ keys.Note ∷ keys.Activate ∷ keys.Deactivate ∷ keys.Autonumber ∷ keys.Links ∷ keys.Link ∷ keys.Properties ∷ keys.Details ∷ keys.Title ∷ keys.AccTitle ∷ keys.AccDescr ∷ keys.Over ∷ keys.Off ∷ []
+    keys.Create ∷ keys.Participant ∷ keys.Actor ∷ keys.Destroy ∷ keys.Loop ∷ keys.Alt ∷ keys.Opt ∷ keys.Par ∷ keys.ParOver ∷ keys.Critical ∷ keys.Break ∷ keys.Rect ∷ keys.Box ∷ keys.Else ∷ keys.And ∷ keys.Option ∷ keys.End ∷ keys.Note ∷ keys.Activate ∷ keys.Deactivate ∷ keys.Autonumber ∷ keys.Links ∷ keys.Link ∷ keys.Properties ∷ keys.Details ∷ keys.Title ∷ keys.Over ∷ keys.Off ∷ []
 
 -- a mark
 abbrev pub mark_text : Mark → List ℕ
@@ -59,12 +57,17 @@ mark_text marks.LeftOf = codes "left of"
 mark_text marks.RightOf = codes "right of"
 mark_text marks.Over = codes "over"
 mark_text marks.Off = codes "off"
-mark_text marks.Metadata = codes "@{"
+mark_text marks.Config = codes "@{"
 mark_text marks.As = codes "as"
 mark_text marks.Wrap = codes "wrap:"
 mark_text marks.NoWrap = codes "nowrap:"
-mark_text marks.Cross = codes "-x"
-mark_text marks.Point = codes "-)"
+mark_text marks.Centre = codes "()"
+mark_text marks.DashSlash = codes "-/"
+mark_text marks.DashBackslash = codes "-\\"
+mark_text marks.DashBar = codes "-|"
+mark_text marks.AccTitle = codes "accTitle"
+mark_text marks.AccDescr = codes "accDescr"
+mark_text marks.Shown = codes "alias"
 
 -- an arrow: its line with its heads
 abbrev pub head_text : Head → List ℕ
@@ -78,17 +81,45 @@ head_text heads.DottedCross = codes "--x"
 head_text heads.Cross = codes "-x"
 head_text heads.DottedPoint = codes "--)"
 head_text heads.Point = codes "-)"
+head_text heads.DottedUpper = codes "--|\\"
+head_text heads.Upper = codes "-|\\"
+head_text heads.DottedLower = codes "--|/"
+head_text heads.Lower = codes "-|/"
+head_text heads.DottedUpperStick = codes "--\\\\"
+head_text heads.UpperStick = codes "-\\\\"
+head_text heads.DottedLowerStick = codes "--//"
+head_text heads.LowerStick = codes "-//"
+head_text heads.DottedLeftUpper = codes "/|--"
+head_text heads.LeftUpper = codes "/|-"
+head_text heads.DottedLeftLower = codes "\\|--"
+head_text heads.LeftLower = codes "\\|-"
+head_text heads.DottedLeftUpperStick = codes "//--"
+head_text heads.LeftUpperStick = codes "//-"
+head_text heads.DottedLeftLowerStick = codes "\\\\--"
+head_text heads.LeftLowerStick = codes "\\\\-"
 
--- each of them once, in the order in which they are looked for
+-- each of them once, a longer one before those that it begins with
 abbrev pub all_heads : List Head
 all_heads =
-    heads.DottedBoth ∷ heads.Both ∷ heads.DottedFilled ∷ heads.Filled ∷ heads.DottedPlain ∷ heads.Plain ∷ heads.DottedCross ∷ heads.Cross ∷ heads.DottedPoint ∷ heads.Point ∷ []
+    heads.DottedBoth ∷ heads.Both ∷ heads.DottedFilled ∷ heads.Filled ∷ heads.DottedPlain ∷ heads.Plain ∷ heads.DottedCross ∷ heads.Cross ∷ heads.DottedPoint ∷ heads.Point ∷ heads.DottedUpper ∷ heads.Upper ∷ heads.DottedLower ∷ heads.Lower ∷ heads.DottedUpperStick ∷ heads.UpperStick ∷ heads.DottedLowerStick ∷ heads.LowerStick ∷ heads.DottedLeftUpper ∷ heads.LeftUpper ∷ heads.DottedLeftLower ∷ heads.LeftLower ∷ heads.DottedLeftUpperStick ∷ heads.LeftUpperStick ∷ heads.DottedLeftLowerStick ∷ heads.LeftLowerStick ∷ []
 
 -- it has a head on both sides
 abbrev pub is_double : Head → Bool
 is_double heads.DottedBoth = true
 is_double heads.Both = true
 is_double h = false
+
+-- its only head is on the left
+abbrev pub is_leftward : Head → Bool
+is_leftward heads.DottedLeftUpper = true
+is_leftward heads.LeftUpper = true
+is_leftward heads.DottedLeftLower = true
+is_leftward heads.LeftLower = true
+is_leftward heads.DottedLeftUpperStick = true
+is_leftward heads.LeftUpperStick = true
+is_leftward heads.DottedLeftLowerStick = true
+is_leftward heads.LeftLowerStick = true
+is_leftward h = false
 
 -- it ends in a cross
 abbrev pub is_crossed : Head → Bool

@@ -1,9 +1,13 @@
 -- what is promised
 pub mod Expectations
+pub mod White
 pub mod Lines
 pub mod Keys
 pub mod Seeking
+pub mod Patterns
 pub mod Rows
+pub mod Cutting
+pub mod Names
 pub mod Gives
 pub mod Saying
 pub mod Outlines

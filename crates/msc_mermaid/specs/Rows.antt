@@ -1,155 +1,103 @@
--- The table of Mermaid's statements: which patterns may stand behind the word that a statement begins
--- with, and what each says. The first one that fits counts.
-use Rattle.std.specs.Prelude.{ℕ, Bool, true, false, cond, not, ◌||◌, ◌&&◌, nat_lt, List, [], ◌∷◌, length, take, drop, Option, None, Some, option_and_then, is_some}
+-- The table of Mermaid's statements: for each word that one may begin with, what may stand behind it, and
+-- what the statement says then.
+use Rattle.std.specs.Prelude.{ℕ, Bool, true, false, cond, not, ◌||◌, ◌&&◌, ◌==◌, List, [], ◌∷◌, take, drop, Option, None, Some, is_some}
 use Rattle.std.specs.List.{prefix_len}
-use Rattle.std.specs.Char.{is_ascii_digit}
 use Rattle.msc_lexer.specs.Bytes.{begins, is_run_byte}
 use Rattle.msc_mermaid.specs.declared.key.Key.{Key}
 use Rattle.msc_mermaid.specs.declared.key.Key.TheVariants as keys
-use Rattle.msc_mermaid.specs.declared.key.Mark.TheVariants as marks
 use Rattle.msc_mermaid.specs.declared.row.Closer.TheVariants as closers
 use Rattle.msc_mermaid.specs.declared.row.Kind.TheVariants as kinds
 use Rattle.msc_mermaid.specs.declared.row.Meaning.{Meaning}
 use Rattle.msc_mermaid.specs.declared.row.Meaning.TheVariants as says
-use Rattle.msc_mermaid.specs.declared.row.Part.{Part}
-use Rattle.msc_mermaid.specs.declared.row.Part.TheVariants as parts
-use Rattle.msc_mermaid.specs.declared.row.Pattern.{Pattern}
-use Rattle.msc_mermaid.specs.declared.row.Pattern.TheVariants as patterns
-use Rattle.msc_mermaid.specs.declared.row.Row.{Row}
-use Rattle.msc_mermaid.specs.declared.seeking.Sought.TheVariants as sought
-use Rattle.msc_mermaid.specs.Lines.{is_blank, behind_blanks}
-use Rattle.msc_mermaid.specs.Keys.{spelling, mark_text, begin_so, key_of, head_of}
-use Rattle.msc_mermaid.specs.Seeking.{before}
+use Rattle.msc_mermaid.specs.declared.pattern.Pattern.{Pattern}
+use Rattle.msc_mermaid.specs.declared.pattern.Pattern.TheVariants as patterns
+use Rattle.msc_mermaid.specs.Keys.{key_of, head_of}
+use Rattle.msc_mermaid.specs.Patterns.{is_empty, first_fit}
+use Rattle.msc_mermaid.specs.White.{behind_white}
 
--- there is no byte
-abbrev pub is_empty : List ℕ → Bool
-is_empty [] = true
-is_empty (b ∷ bs) = false
+-- what may stand behind the word: one of these patterns
+abbrev pub patterns_of : Key → List Pattern
+patterns_of keys.Create = patterns.Participant ∷ patterns.Actor ∷ []
+patterns_of keys.Participant = patterns.Name ∷ []
+patterns_of keys.Actor = patterns.Name ∷ []
+patterns_of keys.Destroy = patterns.Name ∷ []
+patterns_of keys.Activate = patterns.Name ∷ []
+patterns_of keys.Deactivate = patterns.Name ∷ []
+patterns_of keys.End = patterns.Alone ∷ []
+patterns_of keys.Note = patterns.LeftOf ∷ patterns.RightOf ∷ patterns.Over ∷ []
+patterns_of keys.Autonumber =
+    patterns.Alone ∷ patterns.Off ∷ patterns.Number ∷ patterns.Numbers ∷ []
+patterns_of keys.Links = patterns.Text ∷ []
+patterns_of keys.Link = patterns.Text ∷ []
+patterns_of keys.Properties = patterns.Text ∷ []
+patterns_of keys.Details = patterns.Text ∷ []
+patterns_of keys.Title = patterns.Text ∷ patterns.ColonText ∷ []
+patterns_of keys.Over = []
+patterns_of keys.Off = []
+patterns_of block = patterns.Anything ∷ []
 
--- the word stands here, and no byte of a word behind it
-abbrev pub is_word : List ℕ → List ℕ → Bool
-is_word bytes word = begin_so bytes word && not (begins is_run_byte (drop (length word) bytes))
+-- what the statement says then
+abbrev pub says_of : Key → Meaning
+says_of keys.Create = says.Declaration
+says_of keys.Participant = says.Declaration
+says_of keys.Actor = says.Declaration
+says_of keys.Destroy = says.Destruction
+says_of keys.Loop = says.Begin kinds.Loop
+says_of keys.Alt = says.Begin kinds.Alt
+says_of keys.Opt = says.Begin kinds.Opt
+says_of keys.Par = says.Begin kinds.Par
+says_of keys.ParOver = says.Begin kinds.Par
+says_of keys.Critical = says.Begin kinds.Critical
+says_of keys.Break = says.Begin kinds.Break
+says_of keys.Rect = says.Begin kinds.Plain
+says_of keys.Box = says.Begin kinds.Plain
+says_of keys.Else = says.Close closers.Else
+says_of keys.And = says.Close closers.And
+says_of keys.Option = says.Close closers.Option
+says_of keys.End = says.Close closers.End
+says_of keys.Note = says.Nothing
+says_of keys.Activate = says.Activation
+says_of keys.Deactivate = says.Activation
+says_of keys.Autonumber = says.Nothing
+says_of keys.Links = says.Links
+says_of keys.Link = says.Links
+says_of keys.Properties = says.Links
+says_of keys.Details = says.Links
+says_of keys.Title = says.Nothing
+says_of keys.Over = says.Refused
+says_of keys.Off = says.Refused
 
--- what follows where the test holds, and nothing else
-abbrev pub only : Bool → List ℕ → Option (List ℕ)
-only test bytes = cond test (Some bytes) None
+-- the word may be a name, too
+abbrev pub may_be_name : Key → Bool
+may_be_name keys.Title = true
+may_be_name k = false
 
--- what stands behind a part of a pattern, where the bytes begin with it
-abbrev pub behind : Part → List ℕ → Option (List ℕ)
-behind parts.Blanks bytes = Some (behind_blanks bytes)
-behind parts.Gap bytes = only (begins is_blank bytes) (behind_blanks bytes)
-behind parts.Finish bytes = only (is_empty bytes) bytes
-behind (parts.Text m) bytes = only (begin_so bytes (mark_text m)) (drop (length (mark_text m)) bytes)
-behind (parts.Word k) bytes = only (is_word bytes (spelling k)) (drop (length (spelling k)) bytes)
-behind parts.Arrow bytes = only (is_some (head_of bytes)) bytes
-behind parts.Digits bytes =
-    only (begins is_ascii_digit bytes) (drop (prefix_len is_ascii_digit bytes) bytes)
-behind (parts.Before m) bytes = only (nat_lt (before (sought.Text m) bytes) (length bytes)) bytes
+-- what the statement says where none of the patterns stands behind the word
+abbrev pub otherwise : Key → Meaning
+otherwise k = cond (may_be_name k) says.Arrow says.Refused
 
--- what stands behind a pattern, where the bytes begin with it
-unfoldable pub fits : List Part → List ℕ → Option (List ℕ)
-fits [] bytes = Some bytes
-fits (p ∷ ps) bytes = option_and_then (fits ps) (behind p bytes)
+-- `-`
+abbrev pub is_dash : ℕ → Bool
+is_dash b = b == 45
 
--- the parts of a pattern, which stand behind the first word
-abbrev pub parts_of : Pattern → List Part
-parts_of patterns.Anything = []
-parts_of patterns.AnArrow = parts.Blanks ∷ parts.Arrow ∷ []
-parts_of patterns.Name = parts.Blanks ∷ []
-parts_of patterns.Participant = parts.Gap ∷ parts.Word keys.Participant ∷ parts.Blanks ∷ []
-parts_of patterns.Actor = parts.Gap ∷ parts.Word keys.Actor ∷ parts.Blanks ∷ []
-parts_of patterns.Alone = parts.Blanks ∷ parts.Finish ∷ []
-parts_of patterns.Comment = parts.Blanks ∷ parts.Text marks.Comment ∷ []
-parts_of patterns.LeftOf =
-    parts.Blanks ∷ parts.Text marks.LeftOf ∷ parts.Gap ∷ parts.Before marks.Colon ∷ []
-parts_of patterns.RightOf =
-    parts.Blanks ∷ parts.Text marks.RightOf ∷ parts.Gap ∷ parts.Before marks.Colon ∷ []
-parts_of patterns.Over =
-    parts.Blanks ∷ parts.Text marks.Over ∷ parts.Gap ∷ parts.Before marks.Colon ∷ []
-parts_of patterns.Off = parts.Blanks ∷ parts.Text marks.Off ∷ parts.Finish ∷ []
-parts_of patterns.Number = parts.Blanks ∷ parts.Digits ∷ parts.Finish ∷ []
-parts_of patterns.Numbers =
-    parts.Blanks ∷ parts.Digits ∷ parts.Gap ∷ parts.Digits ∷ parts.Finish ∷ []
-parts_of patterns.Blank = parts.Gap ∷ []
-parts_of patterns.Colon = parts.Text marks.Colon ∷ []
-parts_of patterns.ColonAlone = parts.Text marks.Colon ∷ parts.Blanks ∷ parts.Finish ∷ []
+-- `-`, or an arrow behind white space: a reader takes the word in front of it for a name
+abbrev pub begins_arrow : List ℕ → Bool
+begins_arrow bytes = begins is_dash bytes || is_some (head_of (behind_white bytes))
 
--- a row
-abbrev pub row : Pattern → Meaning → Row
-row pattern meaning = record { pattern = pattern; meaning = meaning }
+-- what is said behind a key word, where this stands behind a pattern
+abbrev pub said_behind : Key → Option (List ℕ) → List ℕ → Meaning × List ℕ
+said_behind k None bytes = (otherwise k, bytes)
+said_behind k (Some rest) bytes = (says_of k, rest)
 
--- an arrow behind a key word is no statement
-abbrev pub no_arrow : Row
-no_arrow = row patterns.AnArrow says.Refused
-
--- the rows of a word of which this follows, whatever stands behind it
-abbrev pub always : Meaning → List Row
-always meaning = no_arrow ∷ row patterns.Anything meaning ∷ []
-
--- the rows of a word behind which a name stands
-abbrev pub named : Meaning → List Row
-named meaning = no_arrow ∷ row patterns.Name meaning ∷ []
-
--- the rows of a title or a description
-abbrev pub titled : List Row
-titled =
-    row patterns.Blank says.Nothing ∷ row patterns.ColonAlone says.Refused ∷ row patterns.Colon says.Nothing ∷ row patterns.Anything says.Arrow ∷ []
-
--- the rows of each word
-abbrev pub rows_of : Key → List Row
-rows_of keys.Create =
-    no_arrow ∷ row patterns.Participant says.Declaration ∷ row patterns.Actor says.Declaration ∷ []
-rows_of keys.Participant = named says.Declaration
-rows_of keys.Actor = named says.Declaration
-rows_of keys.Destroy = named says.Destruction
-rows_of keys.Loop = always (says.Begin kinds.Loop)
-rows_of keys.Alt = always (says.Begin kinds.Alt)
-rows_of keys.Opt = always (says.Begin kinds.Opt)
-rows_of keys.Par = always (says.Begin kinds.Par)
-rows_of keys.ParOver = always (says.Begin kinds.Par)
-rows_of keys.Critical = always (says.Begin kinds.Critical)
-rows_of keys.Break = always (says.Begin kinds.Break)
-rows_of keys.Rect = always (says.Begin kinds.Plain)
-rows_of keys.Box = always (says.Begin kinds.Plain)
-rows_of keys.Else = always (says.Close closers.Else)
-rows_of keys.And = always (says.Close closers.And)
-rows_of keys.Option = always (says.Close closers.Option)
-rows_of keys.End =
-    no_arrow ∷ row patterns.Alone (says.Close closers.End) ∷ row patterns.Comment (says.Close closers.End) ∷ []
-rows_of keys.Note =
-    no_arrow ∷ row patterns.LeftOf says.Nothing ∷ row patterns.RightOf says.Nothing ∷ row patterns.Over says.Nothing ∷ []
-rows_of keys.Activate = named says.Activation
-rows_of keys.Deactivate = named says.Activation
-rows_of keys.Autonumber =
-    no_arrow ∷ row patterns.Alone says.Nothing ∷ row patterns.Off says.Nothing ∷ row patterns.Number says.Nothing ∷ row patterns.Numbers says.Nothing ∷ []
-rows_of keys.Links = always says.Nothing
-rows_of keys.Link = always says.Nothing
-rows_of keys.Properties = always says.Nothing
-rows_of keys.Details = always says.Nothing
-rows_of keys.Title = titled
-rows_of keys.AccTitle = titled
-rows_of keys.AccDescr = titled
-rows_of keys.Over = always says.Refused
-rows_of keys.Off = always says.Refused
-
--- what a row that fits says, with what stands behind its pattern; else what the others say
-abbrev pub fit_or : Meaning → Option (List ℕ) → Meaning × List ℕ → Meaning × List ℕ
-fit_or meaning None other = other
-fit_or meaning (Some rest) other = (meaning, rest)
-
--- what the first row that fits says; where none does, the statement is refused
-unfoldable pub first_fit : List Row → List ℕ → Meaning × List ℕ
-first_fit [] bytes = (says.Refused, bytes)
-first_fit (r ∷ rs) bytes = fit_or r.meaning (fits (parts_of r.pattern) bytes) (first_fit rs bytes)
+-- what is said behind a key word
+abbrev pub said_by_key : Key → List ℕ → Meaning × List ℕ
+said_by_key k bytes =
+    cond (not (may_be_name k) && begins_arrow bytes) (says.Refused, bytes) (said_behind k (first_fit (patterns_of k) bytes) bytes)
 
 -- what is said behind a word, if it is a key word
 abbrev pub said_by : Option Key → List ℕ → Meaning × List ℕ
 said_by None bytes = (says.Arrow, bytes)
-said_by (Some k) bytes = first_fit (rows_of k) bytes
-
--- it says nothing: there is none, or a comment
-abbrev pub says_nothing : List ℕ → Bool
-says_nothing bytes = is_empty bytes || begin_so bytes (mark_text marks.Comment)
+said_by (Some k) bytes = said_by_key k bytes
 
 -- the word at the front
 abbrev pub first_word : List ℕ → List ℕ
@@ -162,4 +110,4 @@ behind_first_word bytes = drop (prefix_len is_run_byte bytes) bytes
 -- what a statement says by its first word, with what stands behind the pattern
 unfoldable pub meaning_of : List ℕ → Meaning × List ℕ
 meaning_of bytes =
-    cond (says_nothing bytes) (says.Nothing, bytes) (said_by (key_of (first_word bytes)) (behind_first_word bytes))
+    cond (is_empty bytes) (says.Nothing, bytes) (said_by (key_of (first_word bytes)) (behind_first_word bytes))

@@ -4,7 +4,7 @@ ghost use Rattle.std.specs.Prelude.{◌≡◌, Some};
 ghost use Rattle.msc_mermaid.specs.declared.fault.ImportFault.TheVariants.{Memory};
 ghost use Rattle.msc_mermaid.specs.Expectations.{expectation};
 
-use crate::key::Head;
+use crate::head::Head;
 use crate::row::Closer;
 use std::alloc::{AllocError, AllocFailed};
 use std::fmt;

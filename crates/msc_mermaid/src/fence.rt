@@ -5,12 +5,11 @@ ghost use Rattle.std.specs.List.{join_with_byte};
 ghost use Rattle.msc_mermaid.specs.Fences.{before, begins_block, begun, behind_inside, behind_line};
 ghost use Rattle.msc_mermaid.specs.Fences.{behind_wanted};
 ghost use Rattle.msc_mermaid.specs.Fences.{behind_outside, emptied, ends_block, fenced};
-ghost use Rattle.msc_mermaid.specs.Fences.{has_diagram, is_diagram, is_language, kept, left_behind};
+ghost use Rattle.msc_mermaid.specs.Fences.{has_diagram, is_diagram, is_front, is_language, kept, left_behind};
 ghost use Rattle.msc_mermaid.specs.Gives.{Gives};
 
 use crate::fault::ImportFault;
-use crate::lines::{behind_blanks, lines_of, trimmed};
-use crate::mermaid::is_front;
+use crate::lines::{before_blanks, behind_blanks, lines_of, trimmed};
 use crate::row::first_word;
 use msc_lexer::TEXT_LIMIT;
 use std::alloc::{AllocError, Global};
@@ -69,6 +68,13 @@ fn is_diagram(line: &[u8]) -> bool
     ensures { result ≡ is_diagram line.now }
 {
     is_language(first_word(behind_blanks(&line[3..])))
+}
+
+/// Whether the line stands before or behind what stands in front of a diagram.
+fn is_front(line: &[u8]) -> bool
+    ensures { result ≡ is_front line.now }
+{
+    before_blanks(line) == "---".as_bytes()
 }
 
 impl Fence {

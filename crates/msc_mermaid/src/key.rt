@@ -1,12 +1,9 @@
-//! The key words, marks and arrows of Mermaid's sequence diagrams. Capital and small letters count
-//! as the same in all of them.
+//! The key words and marks of Mermaid's sequence diagrams. Capital and small letters count as the
+//! same in all of them.
 
-ghost use Rattle.std.specs.Prelude.{◌≡◌, ◌≤◌, Some, IfSome, IsTrue, length, drop, find};
-ghost use Rattle.msc_mermaid.specs.Keys.{all_heads, all_keys, are_spelled, begin_so};
-ghost use Rattle.msc_mermaid.specs.Keys.{head_of, head_text, is_crossed, is_double, key_of};
-ghost use Rattle.msc_mermaid.specs.Keys.{mark_text, spelling};
-
-use std::fmt;
+ghost use Rattle.std.specs.Prelude.{◌≡◌, ◌≤◌, IsTrue, length, drop, find};
+ghost use Rattle.msc_mermaid.specs.Keys.{all_keys, are_spelled, begin_so, key_of, mark_text};
+ghost use Rattle.msc_mermaid.specs.Keys.{spelling};
 
 /// A word that a statement may begin with.
 #[derive(Clone, Copy)]
@@ -37,8 +34,6 @@ pub(crate) enum Key {
     Properties,
     Details,
     Title,
-    AccTitle,
-    AccDescr,
     Over,
     Off,
 }
@@ -56,46 +51,17 @@ pub(crate) enum Mark {
     RightOf,
     Over,
     Off,
-    Metadata,
+    Config,
     As,
     Wrap,
     NoWrap,
-    Cross,
-    Point,
-}
-
-/// An arrow: its line, solid or dotted, with its heads.
-#[derive(Clone, Copy, Debug, PartialEq, Eq)]
-pub enum Head {
-    /// A dotted line with a head on both sides.
-    DottedBoth,
-    /// A line with a head on both sides.
-    Both,
-    /// A dotted line with a filled head.
-    DottedFilled,
-    /// A line with a filled head.
-    Filled,
-    /// A dotted line.
-    DottedPlain,
-    /// A line.
-    Plain,
-    /// A dotted line with a cross.
-    DottedCross,
-    /// A line with a cross.
-    Cross,
-    /// A dotted line with an open head.
-    DottedPoint,
-    /// A line with an open head.
-    Point,
-}
-
-/// Shows the arrow as it is written.
-impl fmt::Display for Head {
-    ghost output = { λ h. Some (head_text h) };
-
-    fn fmt<W: fmt::Write>(&self, f: &mut fmt::Formatter<W>) -> fmt::Result {
-        f.write_str(self.text())
-    }
+    Centre,
+    DashSlash,
+    DashBackslash,
+    DashBar,
+    AccTitle,
+    AccDescr,
+    Shown,
 }
 
 /// Whether the bytes are this text.
@@ -106,7 +72,7 @@ pub(crate) fn are_spelled(bytes: &[u8], text: &[u8]) -> bool
 }
 
 /// Whether the bytes begin with this text.
-fn begin_so(bytes: &[u8], text: &[u8]) -> bool
+pub(crate) fn begin_so(bytes: &[u8], text: &[u8]) -> bool
     ensures value { result ≡ begin_so bytes.now text.now }
     ensures room { IsTrue result → length text.now ≤ length bytes.now }
 {
@@ -115,7 +81,7 @@ fn begin_so(bytes: &[u8], text: &[u8]) -> bool
 
 impl Key {
     /// Each of them once.
-    const ALL: [Key; 30] = [
+    const ALL: [Key; 28] = [
         Key::Create,
         Key::Participant,
         Key::Actor,
@@ -142,8 +108,6 @@ impl Key {
         Key::Properties,
         Key::Details,
         Key::Title,
-        Key::AccTitle,
-        Key::AccDescr,
         Key::Over,
         Key::Off,
     ];
@@ -179,8 +143,6 @@ impl Key {
             Key::Properties => b"properties",
             Key::Details => b"details",
             Key::Title => b"title",
-            Key::AccTitle => b"accTitle",
-            Key::AccDescr => b"accDescr",
             Key::Over => b"over",
             Key::Off => b"off",
         }
@@ -237,12 +199,17 @@ impl Mark {
             Mark::RightOf => b"right of",
             Mark::Over => b"over",
             Mark::Off => b"off",
-            Mark::Metadata => b"@{",
+            Mark::Config => b"@{",
             Mark::As => b"as",
             Mark::Wrap => b"wrap:",
             Mark::NoWrap => b"nowrap:",
-            Mark::Cross => b"-x",
-            Mark::Point => b"-)",
+            Mark::Centre => b"()",
+            Mark::DashSlash => b"-/",
+            Mark::DashBackslash => b"-\\",
+            Mark::DashBar => b"-|",
+            Mark::AccTitle => b"accTitle",
+            Mark::AccDescr => b"accDescr",
+            Mark::Shown => b"alias",
         }
     }
 
@@ -270,81 +237,5 @@ impl Mark {
             return &[];
         }
         &bytes[length..]
-    }
-}
-
-impl Head {
-    /// Each of them once, in the order in which they are looked for.
-    const ALL: [Head; 10] = [
-        Head::DottedBoth,
-        Head::Both,
-        Head::DottedFilled,
-        Head::Filled,
-        Head::DottedPlain,
-        Head::Plain,
-        Head::DottedCross,
-        Head::Cross,
-        Head::DottedPoint,
-        Head::Point,
-    ];
-
-    /// Its text.
-    pub(crate) fn text(self) -> &'static str
-        ensures { result.now ≡ head_text self }
-    {
-        match self {
-            Head::DottedBoth => "<<-->>",
-            Head::Both => "<<->>",
-            Head::DottedFilled => "-->>",
-            Head::Filled => "->>",
-            Head::DottedPlain => "-->",
-            Head::Plain => "->",
-            Head::DottedCross => "--x",
-            Head::Cross => "-x",
-            Head::DottedPoint => "--)",
-            Head::Point => "-)",
-        }
-    }
-
-    /// Whether it has a head on both sides.
-    pub(crate) fn is_double(self) -> bool
-        ensures { result ≡ is_double self }
-    {
-        matches!(self, Head::DottedBoth | Head::Both)
-    }
-
-    /// Whether it ends in a cross.
-    pub(crate) fn is_crossed(self) -> bool
-        ensures { result ≡ is_crossed self }
-    {
-        matches!(self, Head::DottedCross | Head::Cross)
-    }
-
-    /// The first of these arrows that the bytes begin with.
-    fn among(bytes: &[u8], heads: &[Head]) -> Option<Head>
-        ensures value { result ≡ find (λ h. begin_so bytes.now (head_text h)) heads.now }
-        ensures room { IfSome result (λ h. length (head_text h) ≤ length bytes.now) }
-    {
-        for head in heads {
-            if begin_so(bytes, head.text().as_bytes()) {
-                return Some(*head);
-            }
-        }
-        None
-    }
-
-    /// How many bytes it has.
-    pub(crate) fn length(self) -> usize
-        ensures { result ≡ length (head_text self) }
-    {
-        self.text().len()
-    }
-
-    /// The arrow that the bytes begin with.
-    pub(crate) fn of(bytes: &[u8]) -> Option<Head>
-        ensures value { result ≡ head_of bytes.now }
-        ensures room { IfSome result (λ h. length (head_text h) ≤ length bytes.now) }
-    {
-        Head::among(bytes, &Head::ALL)
     }
 }

@@ -4,21 +4,29 @@
 //! numbered from 1, arrows from 1.
 #![tactic(auto)]
 
+mod cutting;
+mod declaring;
 mod fault;
 mod fence;
+mod head;
 mod key;
 mod lines;
 mod mermaid;
+mod name;
 mod outline;
+mod pattern;
+mod progress;
 mod reading;
 mod row;
 mod saying;
 mod seeking;
+mod shape;
 mod statement;
+mod white;
 
 pub use fault::{Expectation, ImportFault};
 pub use fence::fenced;
-pub use key::Head;
+pub use head::Head;
 pub use mermaid::diagram_of;
 pub use row::{Closer, Kind};
 pub use statement::{Arrow, Cross, Diagram, Placed, Statement};

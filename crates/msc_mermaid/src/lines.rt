@@ -1,9 +1,9 @@
 //! The lines of a text, its blanks and its columns.
 
-ghost use Rattle.std.specs.Prelude.{◌≡◌, ◌≤◌, ◌<◌, ◌^◌, false, map, length, IfOk};
+ghost use Rattle.std.specs.Prelude.{◌≡◌, ◌≤◌, false, count_by, map, length, IfOk};
 ghost use Rattle.std.specs.List.{prefix_len, suffix_len};
 ghost use Rattle.msc_mermaid.specs.Lines.{before_blanks, behind_blanks, behind_mark};
-ghost use Rattle.msc_mermaid.specs.Lines.{column_behind, is_blank, is_counted};
+ghost use Rattle.msc_mermaid.specs.Lines.{is_blank, is_counted};
 ghost use Rattle.msc_mermaid.specs.Lines.{lines_behind, lines_of, trimmed};
 
 use std::alloc::{AllocError, Global};
@@ -94,14 +94,13 @@ pub(crate) fn lines_of(alloc: Global, text: &[u8]) -> Result<Vec<&[u8]>, AllocEr
     lines_behind(alloc, behind_mark(text))
 }
 
-/// The column behind these bytes of a line.
-pub(crate) fn column_behind(bytes: &[u8]) -> usize
-    requires { length bytes.now < 2 ^ 63 }
-    ensures { result ≡ column_behind bytes.now }
+/// How many of the bytes are counted in columns: those that aren't continuation bytes of UTF-8.
+pub(crate) fn counted(bytes: &[u8]) -> usize
+    ensures value { result ≡ count_by is_counted bytes.now }
+    ensures within { result ≤ length bytes.now }
 {
     bytes
         .iter()
         .filter(|byte| **byte < 128 || **byte > 191)
         .count()
-        + 1
 }

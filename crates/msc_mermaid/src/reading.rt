@@ -1,82 +1,16 @@
-//! Lines of statements: they are cut at semicolons, and each piece is a statement.
+//! What was read of a diagram: its statements, one by one.
 
-ghost use Rattle.std.specs.Prelude.{◌≡◌, ◌≤◌, ◌+◌, false, map, length, [], Ok, IfOk};
-ghost use Rattle.std.specs.List.{slice_split};
-ghost use Rattle.msc_lexer.specs.Bytes.{begins};
+ghost use Rattle.std.specs.Prelude.{◌≡◌};
 ghost use Rattle.msc_mermaid.specs.Gives.{Gives};
-ghost use Rattle.msc_mermaid.specs.Reading.{told, untold};
-ghost use Rattle.msc_mermaid.specs.Reading.{Leaves, bare_from, bare_step, is_arrow, is_entity};
-ghost use Rattle.msc_mermaid.specs.Reading.{is_semicolon, noted, read_line, read_one, read_pieces};
-ghost use Rattle.msc_mermaid.specs.Reading.{room};
+ghost use Rattle.msc_mermaid.specs.Reading.{Leaves, is_arrow, noted, read_one, told, untold};
 
 use crate::fault::ImportFault;
-use crate::lines::{blanks_in_front, column_behind, trimmed};
 use crate::outline::Outline;
-use crate::row::{behind_first_word, word_length};
 use crate::saying::{Mode, Said, said_at};
 use crate::statement::{Cross, Diagram, Placed, Statement};
 use listed::Listed;
-use std::alloc::{AllocError, Global};
+use std::alloc::Global;
 use std::marker::Model;
-
-/// Whether a semicolon stands here.
-fn begins_semicolon(bytes: &[u8]) -> bool
-    ensures { result ≡ begins is_semicolon bytes.now }
-{
-    match bytes {
-        [] => false,
-        [first, ..] => *first == b';',
-    }
-}
-
-/// Whether what stands here makes an entity of the `#` before it.
-fn is_entity(bytes: &[u8]) -> bool
-    ensures { result ≡ is_entity bytes.now }
-{
-    word_length(bytes) > 0 && begins_semicolon(behind_first_word(bytes))
-}
-
-/// What stands for a byte, within an entity or not, and whether the next one is within an entity;
-/// nothing where the line ends here.
-fn bare_step(within: bool, byte: u8, rest: &[u8]) -> Option<(u8, bool)>
-    ensures { result ≡ bare_step within byte rest.now }
-{
-    if within {
-        return Some((b' ', byte != b';'));
-    }
-    if byte != b'#' {
-        return Some((byte, false));
-    }
-    if is_entity(rest) {
-        Some((b' ', true))
-    } else {
-        None
-    }
-}
-
-/// A line without entities, up to a `#`.
-fn bare_of(alloc: Global, line: &[u8]) -> Result<Vec<u8>, AllocError>
-    ensures value { IfOk result (λ v. v.items ≡ bare_from false line.now) }
-    ensures short { IfOk result (λ v. length v.items ≤ length line.now) }
-{
-    let mut bare = Vec::new(alloc);
-    let mut within = false;
-    for i in 0..line.len() {
-        let Some((byte, next)) = bare_step(within, line[i], &line[i + 1..]) else {
-            return Ok(bare);
-        };
-        bare.push(byte)?;
-        within = next;
-    }
-    Ok(bare)
-}
-
-/// What stands between the semicolons.
-fn pieces_of(alloc: Global, bytes: &[u8]) -> Result<Vec<&[u8]>, AllocError>
-    ensures { IfOk result (λ v. map (λ x. x.now) v.items ≡ slice_split is_semicolon bytes.now) }
-{
-    bytes.split(|byte| *byte == b';').collect(alloc)
-}
 
 /// Whether it is an arrow.
 fn is_arrow(statement: &Statement) -> bool
@@ -177,7 +111,7 @@ impl Reader {
 
     /// Reads one statement, which begins in this column.
     #[tactic(auto, unfolding(crate::specs::Reading::read_one))]
-    fn read_one(
+    pub(crate) fn read_one(
         &mut self,
         alloc: Global,
         cross: Option<Cross>,
@@ -193,46 +127,5 @@ impl Reader {
         };
         let said = said_at(alloc, mode, line, bytes)?;
         self.note(alloc, line, column, said)
-    }
-
-    /// Reads the pieces of a line, of which the first one begins behind so many of its bytes.
-    fn read_pieces(
-        &mut self,
-        alloc: Global,
-        cross: Option<Cross>,
-        line: usize,
-        bytes: &[u8],
-        start: usize,
-        pieces: &[&[u8]],
-    ) -> Result<(), ImportFault>
-        requires { start + room (map (λ x. x.now) pieces.now) ≤ length bytes.now + 1 }
-        ensures { Leaves result self.new
-            (read_pieces cross line bytes.now start (map (λ x. x.now) pieces.now) self.old) }
-    {
-        let mut at = start;
-        for piece in pieces {
-            let column = column_behind(&bytes[..at + blanks_in_front(piece)]);
-            self.read_one(alloc, cross, line, column, trimmed(piece))?;
-            at += piece.len() + 1;
-        }
-        Ok(())
-    }
-
-    /// Reads the statements of a line, behind so many of its bytes.
-    #[tactic(auto, unfolding(crate::specs::Reading::read_line))]
-    pub(crate) fn read_line(
-        &mut self,
-        alloc: Global,
-        cross: Option<Cross>,
-        line: usize,
-        bytes: &[u8],
-        start: usize,
-    ) -> Result<(), ImportFault>
-        requires { start ≤ length bytes.now }
-        ensures { Leaves result self.new (read_line cross line bytes.now start self.old) }
-    {
-        let bare = bare_of(alloc, &bytes[start..])?;
-        let pieces = pieces_of(alloc, bare.as_slice())?;
-        self.read_pieces(alloc, cross, line, bytes, start, pieces.as_slice())
     }
 }

@@ -1,22 +1,22 @@
 //! What one statement of Mermaid says.
 
-ghost use Rattle.std.specs.Prelude.{◌≡◌, IfOk};
-ghost use Rattle.std.specs.List.{list_any, prefix_len, suffix_len};
+ghost use Rattle.std.specs.Prelude.{◌≡◌};
 ghost use Rattle.msc_lexer.specs.Bytes.{begins};
 ghost use Rattle.msc_mermaid.specs.Gives.{Gives};
-ghost use Rattle.msc_mermaid.specs.Saying.{arrow_by, arrow_of, at_colon, behind_sign, behind_wrap};
-ghost use Rattle.msc_mermaid.specs.Saying.{declared, dies, holds, is_barred, is_dash, is_name, is_sign};
-ghost use Rattle.msc_mermaid.specs.Saying.{line_of, lost_at, name_at, no_second, plain_ident};
-ghost use Rattle.msc_mermaid.specs.Saying.{said_as, said_at, shown_behind};
+ghost use Rattle.msc_mermaid.specs.Saying.{arrow_by, arrow_of, behind_sign, dies, is_sign};
+ghost use Rattle.msc_mermaid.specs.Saying.{lost_at, no_second, said_as, said_at};
 
+use crate::declaring::{declared, shown_text};
 use crate::fault::{Expectation, ImportFault};
-use crate::key::{Head, Mark};
-use crate::lines::{behind_blanks, trimmed};
-use crate::row::{Meaning, meaning_of};
+use crate::head::Head;
+use crate::key::Mark;
+use crate::name::{name_at, owned, parted, sender};
+use crate::row::{Meaning, begins_dash, meaning_of};
 use crate::seeking::Sought;
 use crate::statement::{Arrow, Cross, Statement};
+use crate::white::behind_white;
 use listed::Listed;
-use std::alloc::{AllocError, Global};
+use std::alloc::Global;
 
 /// What a statement says of what follows.
 #[derive(Drop)]
@@ -37,122 +37,12 @@ pub(crate) struct Mode<'m> {
     pub dying: &'m [Listed<u8>],
 }
 
-/// These bytes, in memory of their own.
-fn owned(alloc: Global, bytes: &[u8]) -> Result<Listed<u8>, AllocError>
-    ensures { IfOk result (λ l. l ≡ bytes.now) }
-{
-    Ok(Listed::from_vec(Vec::from_slice(alloc, bytes)?))
-}
-
-/// Whether no name has this byte.
-fn is_barred(byte: u8) -> bool
-    ensures { result ≡ is_barred byte }
-{
-    matches!(byte, b'+' | b'<' | b'=' | b'>' | b':' | b',' | b';')
-}
-
-/// Whether a barred byte stands in the bytes.
-fn has_barred(bytes: &[u8]) -> bool
-    ensures { result ≡ list_any is_barred bytes.now }
-{
-    bytes.iter().any(|byte| is_barred(*byte))
-}
-
-/// How many dashes stand in front.
-fn dashes_in_front(bytes: &[u8]) -> usize
-    ensures { result ≡ prefix_len is_dash bytes.now }
-{
-    bytes.iter().take_while(|byte| **byte == b'-').count()
-}
-
-/// How many dashes stand at the end.
-fn dashes_at_end(bytes: &[u8]) -> usize
-    ensures { result ≡ suffix_len is_dash bytes.now }
-{
-    bytes.iter().rev().take_while(|byte| **byte == b'-').count()
-}
-
-/// Whether this stands in the bytes.
-pub(crate) fn holds(bytes: &[u8], sought: Sought) -> bool
-    ensures { result ≡ holds bytes.now sought }
-{
-    sought.before(bytes) < bytes.len()
-}
-
-/// Whether the bytes are a name.
-fn is_name(bytes: &[u8]) -> bool
-    ensures { result ≡ is_name bytes.now }
-{
-    !(bytes.is_empty()
-        || has_barred(bytes)
-        || holds(bytes, Sought::Text(Mark::Comment))
-        || dashes_in_front(bytes) > 0
-        || dashes_at_end(bytes) > 0)
-}
-
-/// The name that stands here.
-#[tactic(auto, unfolding(crate::specs::Saying::name_at))]
-fn name_at(line: usize, bytes: &[u8]) -> Result<&[u8], ImportFault>
-    ensures { Gives (λ x. x.now) result (name_at line bytes.now) }
-{
-    let name = trimmed(bytes);
-    if !is_name(name) {
-        return Err(ImportFault::Expected(line, Expectation::Name));
-    }
-    Ok(name)
-}
-
-/// The identifier of a line, up to what tells more of it.
-fn plain_ident(bytes: &[u8]) -> &[u8]
-    ensures { result.now ≡ plain_ident bytes.now }
-{
-    &bytes[..Sought::Text(Mark::Metadata).before(bytes)]
-}
-
-/// A line of this identifier and shown name.
-#[tactic(auto, unfolding(crate::specs::Saying::line_of))]
-fn line_of(
-    alloc: Global,
-    line: usize,
-    ident: &[u8],
-    shown: Option<Listed<u8>>,
-) -> Result<Statement, ImportFault>
-    ensures { Gives (λ x. x) result (line_of line ident.now shown) }
-{
-    let name = name_at(line, plain_ident(ident))?;
-    Ok(Statement::Declares(owned(alloc, name)?, shown))
-}
-
-/// The shown name behind `as`.
-fn shown_behind(bytes: &[u8]) -> &[u8]
-    ensures { result.now ≡ shown_behind bytes.now }
-{
-    let rest = behind_blanks(bytes);
-    if rest.len() < 2 {
-        return trimmed(&[]);
-    }
-    trimmed(&rest[2..])
-}
-
-/// The line that is declared.
-#[tactic(auto, unfolding(crate::specs::Saying::declared))]
-fn declared(alloc: Global, line: usize, bytes: &[u8]) -> Result<Statement, ImportFault>
-    ensures { Gives (λ x. x) result (declared line bytes.now) }
-{
-    let at = Sought::Alias.before(bytes);
-    if at == bytes.len() {
-        return line_of(alloc, line, bytes, None);
-    }
-    let shown = owned(alloc, shown_behind(&bytes[at..]))?;
-    line_of(alloc, line, &bytes[..at], Some(shown))
-}
-
-/// What stands behind an arrow, where that is no other arrow.
+/// What stands behind an arrow, where that is no other arrow that begins with a dash.
 #[tactic(auto, unfolding(crate::specs::Saying::no_second))]
 fn no_second(line: usize, bytes: &[u8]) -> Result<&[u8], ImportFault>
     ensures { Gives (λ x. x.now) result (no_second line bytes.now) }
 {
-    if Mark::Cross.begins(bytes) || Mark::Point.begins(bytes) {
+    if begins_dash(bytes) && Head::of(bytes).is_some() {
         return Err(ImportFault::Expected(line, Expectation::Name));
     }
     Ok(bytes)
@@ -168,38 +58,15 @@ fn begins_sign(bytes: &[u8]) -> bool
     }
 }
 
-/// What stands behind the sign of an activation, if there is one.
+/// What stands behind the sign of an activation or `()`, if there is one of them.
 fn behind_sign(bytes: &[u8]) -> &[u8]
     ensures { result.now ≡ behind_sign bytes.now }
 {
-    if bytes.is_empty() || !begins_sign(bytes) {
-        return bytes;
+    if !bytes.is_empty() && begins_sign(bytes) {
+        return &bytes[1..];
     }
-    &bytes[1..]
-}
-
-/// What stands before the first colon, and what stands behind it.
-#[tactic(auto, unfolding(crate::specs::Saying::at_colon))]
-fn at_colon(line: usize, bytes: &[u8]) -> Result<(&[u8], &[u8]), ImportFault>
-    ensures { Gives (λ x. (x.0.now, x.1.now)) result (at_colon line bytes.now) }
-{
-    let at = Sought::Text(Mark::Colon).before(bytes);
-    if at == bytes.len() {
-        return Err(ImportFault::Expected(line, Expectation::Label));
-    }
-    Ok((&bytes[..at], &bytes[at + 1..]))
-}
-
-/// The label without the word on its wrapping.
-fn behind_wrap(bytes: &[u8]) -> &[u8]
-    ensures { result.now ≡ behind_wrap bytes.now }
-{
-    let rest = behind_blanks(bytes);
-    if Mark::Wrap.begins(rest) {
-        return &rest[5..];
-    }
-    if Mark::NoWrap.begins(rest) {
-        return &rest[7..];
+    if Mark::Centre.begins(bytes) {
+        return &bytes[2..];
     }
     bytes
 }
@@ -248,18 +115,18 @@ fn arrow_by(
     ensures { Gives (λ x. x) result
         (arrow_by mode.entry.cross mode.entry.dying.now line head front.now rest.now) }
 {
-    if head.is_double() {
+    if head.is_leftward() || head.is_double() {
         return Err(ImportFault::Unsupported(line, head));
     }
-    let from = name_at(line, front)?;
-    let behind = no_second(line, behind_blanks(rest))?;
-    let parts = at_colon(line, behind_sign(behind))?;
+    let from = sender(line, front)?;
+    let behind = no_second(line, behind_white(rest))?;
+    let parts = parted(line, Mark::Colon, Expectation::Label, behind_sign(behind))?;
     let to = name_at(line, parts.0)?;
     let lost = lost_at(mode.cross, mode.dying, line, head, from, to)?;
     Ok(Arrow {
         from: owned(alloc, from)?,
         to: owned(alloc, to)?,
-        label: owned(alloc, behind_wrap(parts.1))?,
+        label: shown_text(alloc, parts.1)?,
         lost,
     })
 }
@@ -305,6 +172,11 @@ fn said_as(
         Meaning::Close(closer) => Ok(Said::Statement(Statement::Closes(closer))),
         Meaning::Activation => {
             name_at(line, rest)?;
+            Ok(Said::Nothing)
+        }
+        Meaning::Links => {
+            let parts = parted(line, Mark::Colon, Expectation::Statement, rest)?;
+            name_at(line, parts.0)?;
             Ok(Said::Nothing)
         }
         Meaning::Arrow => Ok(Said::Statement(Statement::Says(arrow_of(alloc, mode, line, bytes)?))),

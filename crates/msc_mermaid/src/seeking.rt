@@ -1,12 +1,11 @@
 //! The first place at which something stands.
 
 ghost use Rattle.std.specs.Prelude.{◌≡◌, ◌≤◌, length};
-ghost use Rattle.msc_lexer.specs.Bytes.{begins};
-ghost use Rattle.msc_mermaid.specs.Lines.{is_blank};
-ghost use Rattle.msc_mermaid.specs.Seeking.{before, is_alias, is_here};
+ghost use Rattle.msc_mermaid.specs.Seeking.{before, holds, is_alias, is_here};
 
-use crate::key::{Head, Mark};
-use crate::lines::{behind_blanks, is_blank};
+use crate::head::Head;
+use crate::key::Mark;
+use crate::white::{begins_white, behind_one};
 
 /// What is sought.
 #[derive(Clone, Copy)]
@@ -15,25 +14,15 @@ pub(crate) enum Sought {
     Text(Mark),
     /// An arrow.
     Arrow,
-    /// Blanks, `as` and a blank.
+    /// White space, `as` and white space.
     Alias,
 }
 
-/// Whether a blank stands here.
-pub(crate) fn begins_blank(bytes: &[u8]) -> bool
-    ensures { result ≡ begins is_blank bytes.now }
-{
-    match bytes {
-        [] => false,
-        [first, ..] => is_blank(*first),
-    }
-}
-
-/// Whether `as` and a blank stand here.
-fn is_alias(bytes: &[u8]) -> bool
+/// Whether `as` and white space stand here.
+pub(crate) fn is_alias(bytes: &[u8]) -> bool
     ensures { result ≡ is_alias bytes.now }
 {
-    Mark::As.begins(bytes) && begins_blank(&bytes[2..])
+    Mark::As.begins(bytes) && begins_white(&bytes[2..])
 }
 
 impl Sought {
@@ -44,7 +33,7 @@ impl Sought {
         match self {
             Sought::Text(mark) => mark.begins(bytes),
             Sought::Arrow => Head::of(bytes).is_some(),
-            Sought::Alias => begins_blank(bytes) && is_alias(behind_blanks(bytes)),
+            Sought::Alias => begins_white(bytes) && is_alias(behind_one(bytes)),
         }
     }
 
@@ -60,4 +49,11 @@ impl Sought {
         }
         bytes.len()
     }
+}
+
+/// Whether this stands in the bytes.
+pub(crate) fn holds(bytes: &[u8], sought: Sought) -> bool
+    ensures { result ≡ holds bytes.now sought }
+{
+    sought.before(bytes) < bytes.len()
 }
