@@ -16,8 +16,7 @@ use Rattle.msc_mermaid.specs.declared.seeking.Sought.TheVariants as sought
 use Rattle.msc_mermaid.specs.declared.statement.Arrow.{Arrow}
 use Rattle.msc_mermaid.specs.declared.statement.Cross.{Cross}
 use Rattle.msc_mermaid.specs.declared.statement.Cross.TheVariants as crosses
-use Rattle.msc_mermaid.specs.declared.statement.Statement.{Statement}
-use Rattle.msc_mermaid.specs.declared.statement.Statement.TheVariants.{Declares, Says, Begins, Closes}
+use Rattle.msc_mermaid.specs.declared.statement.Statement.TheVariants.{Says, Begins, Closes}
 use Rattle.msc_mermaid.specs.Gives.{◌>>=◌, unless}
 use Rattle.msc_mermaid.specs.Keys.{begin_so, head_of, head_text, is_crossed, is_double, is_leftward, mark_text}
 use Rattle.msc_mermaid.specs.Names.{declared, name_at, parted, sender, shown_text}
