@@ -2,10 +2,12 @@
 
 use listed::Listed;
 use msc_import::{
-    ImportFault, Imported, Importing, ImportingAll, Language, Manner, Own, Par, Refused, Scenarios,
-    all_choices, diagram_of, fenced, import, import_all, places, scenarios,
+    Imported, Importing, ImportingAll, Language, Manner, Own, Par, Refused, Scenarios, import,
+    import_all, places,
 };
+use msc_mermaid::{ImportFault, diagram_of, fenced};
 use msc_place::Position;
+use msc_scenarios::{all_choices, scenarios};
 use std::alloc::AllocGlobal;
 
 /// The usual manner.
@@ -20,6 +22,18 @@ type Chosen = (&'static [u8], &'static [usize], &'static [&'static [usize]]);
 /// Blocks of each kind, and blocks inside others and behind them.
 const CHOICES: &[Chosen] = &[
     (b"sequenceDiagram\nA->>B: a", &[0, 2], &[&[]]),
+    (
+        b"sequenceDiagram\nA-xB: a\nopt x\nA--xB: b\nend\nA-xA: c",
+        &[0, 2],
+        &[
+            &[0, 0],
+            &[0, 1, 0],
+            &[0, 1, 1],
+            &[1, 0],
+            &[1, 1, 0],
+            &[1, 1, 1],
+        ],
+    ),
     (
         b"sequenceDiagram\nalt x\nA->>B: a\nelse y\nA->>B: a\nelse z\nA->>B: a\nend",
         &[0, 2],

@@ -1,0 +1,11 @@
+pub mod WhiteLemmas
+pub mod LineLemmas
+pub mod Found
+pub mod RowLemmas
+pub mod CuttingLemmas
+pub mod ColumnLemmas
+pub mod ReadingLemmas
+pub mod MermaidLemmas
+pub mod FenceLemmas
+pub mod StayLemmas
+pub mod LawLemmas

@@ -1,0 +1,11 @@
+use Rattle.std.proofs.Common.{◌≡◌, ◌≤◌, ◌+◌, drop, length, map, take}
+use Rattle.msc_mermaid.specs.Cutting.{room}
+use Rattle.msc_mermaid.specs.Lines.{column_behind}
+use Rattle.msc_mermaid.specs.Mermaid.{read_pieces}
+use Rattle.msc_mermaid.proofs.progress.Progress.read_pieces.Given as goal
+
+abbrev pub invariant-loop-piece : goal.invariant-loop-piece
+invariant-loop-piece l =
+    (l.at + room (map (λ x. x.now) (drop l.piece-index l.pieces)) ≤ length l.bytes + 1)
+    × (l.column ≡ column_behind (take l.at l.bytes))
+    × (read_pieces l.cross l.line l.bytes l.at (map (λ x. x.now) (drop l.piece-index l.pieces)) l.self ≡ read_pieces l.cross l.line l.bytes l.start (map (λ x. x.now) l.pieces) l.fn.self)

@@ -1,0 +1,231 @@
+//! The diagram of a Mermaid text, line by line.
+
+ghost use Rattle.std.specs.Prelude.{◌≡◌, ◌≤◌, ◌<◌, ◌^◌, length, map};
+ghost use Rattle.msc_mermaid.specs.Gives.{Gives};
+ghost use Rattle.msc_mermaid.specs.Mermaid.{behind_head, body, described_as, ended_in, first_line};
+ghost use Rattle.msc_mermaid.specs.Mermaid.{head_as, mermaid, outside, said_in, shape_of, step};
+ghost use Rattle.msc_mermaid.specs.Mermaid.{steps};
+ghost use Rattle.msc_mermaid.specs.Reading.{Leaves};
+ghost use Rattle.msc_mermaid.specs.White.{trimmed};
+
+use crate::fault::{Expectation, ImportFault};
+use crate::key::Mark;
+use crate::lines::lines_of;
+use crate::progress::{Inside, Progress};
+use crate::reading::Reader;
+use crate::shape::{Shape, closed, is_front, shape_of, undirected};
+use crate::statement::{Cross, Diagram};
+use crate::white::{trimmed, white_in_front};
+use msc_lexer::TEXT_LIMIT;
+use std::alloc::Global;
+
+/// How many bytes the word takes that the diagram begins with, with the white space before it.
+fn behind_head(bytes: &[u8]) -> usize
+    requires { length bytes.now < 2 ^ 63 }
+    ensures { result ≡ behind_head bytes.now }
+{
+    white_in_front(bytes) + 15
+}
+
+impl Progress {
+    /// Reads a line of a diagram that has begun, behind so many of its bytes.
+    #[tactic(auto, unfolding(crate::specs::Mermaid::body, crate::specs::Mermaid::body_as))]
+    fn body(
+        &mut self,
+        alloc: Global,
+        cross: Option<Cross>,
+        line: usize,
+        bytes: &[u8],
+        at: usize,
+    ) -> Result<(), ImportFault>
+        requires { at ≤ length bytes.now }
+        ensures { Leaves result self.new (body cross line bytes.now at self.old) }
+    {
+        let rest = &bytes[at..];
+        match shape_of(trimmed(rest)) {
+            Shape::Directive => self.left_out(line, Inside::Directive, Mark::DirectiveEnd, rest),
+            Shape::Nothing => Ok(()),
+            Shape::Comment => self.commented(line, rest),
+            Shape::Head | Shape::Other => self.said_on(alloc, cross, line, bytes, at),
+        }
+    }
+
+    /// Reads a line before the diagram has begun.
+    #[tactic(auto, unfolding(crate::specs::Mermaid::head_as))]
+    fn head(
+        &mut self,
+        alloc: Global,
+        cross: Option<Cross>,
+        line: usize,
+        bytes: &[u8],
+    ) -> Result<(), ImportFault>
+        ensures { Leaves result self.new
+            (head_as cross line bytes.now self.old (shape_of (trimmed bytes.now))) }
+    {
+        match shape_of(trimmed(bytes)) {
+            Shape::Directive => self.left_out(line, Inside::Directive, Mark::DirectiveEnd, bytes),
+            Shape::Nothing => Ok(()),
+            Shape::Comment => self.commented(line, bytes),
+            Shape::Head => {
+                self.begun = true;
+                self.body(alloc, cross, line, bytes, behind_head(bytes))
+            }
+            Shape::Other => Err(ImportFault::Expected(line, Expectation::Diagram)),
+        }
+    }
+
+    /// Reads a line that is not left out.
+    #[tactic(auto, unfolding(crate::specs::Mermaid::outside))]
+    fn outside(
+        &mut self,
+        alloc: Global,
+        cross: Option<Cross>,
+        line: usize,
+        bytes: &[u8],
+    ) -> Result<(), ImportFault>
+        ensures { Leaves result self.new (outside cross line bytes.now self.old) }
+    {
+        if self.begun {
+            self.body(alloc, cross, line, bytes, 0)
+        } else {
+            self.head(alloc, cross, line, bytes)
+        }
+    }
+
+    /// Reads a line before which all lines are empty.
+    #[tactic(auto, unfolding(crate::specs::Mermaid::first_line))]
+    fn first_line(
+        &mut self,
+        alloc: Global,
+        cross: Option<Cross>,
+        line: usize,
+        bytes: &[u8],
+    ) -> Result<(), ImportFault>
+        ensures { Leaves result self.new (first_line cross line bytes.now self.old) }
+    {
+        let text = trimmed(bytes);
+        if text.is_empty() {
+            return Ok(());
+        }
+        if is_front(text) {
+            self.inside = Inside::Front;
+            return Ok(());
+        }
+        self.inside = Inside::Nothing;
+        self.outside(alloc, cross, line, bytes)
+    }
+
+    /// Reads a line within a description: a comment ends nothing.
+    #[tactic(auto, unfolding(crate::specs::Mermaid::described_as))]
+    fn described(&mut self, line: usize, bytes: &[u8]) -> Result<(), ImportFault>
+        ensures { Leaves result self.new
+            (described_as line bytes.now self.old (shape_of (trimmed bytes.now))) }
+    {
+        match shape_of(trimmed(bytes)) {
+            Shape::Nothing => Ok(()),
+            Shape::Directive => {
+                if closed(line, Mark::DirectiveEnd, bytes)? {
+                    return Ok(());
+                }
+                Err(ImportFault::Expected(line, Expectation::Directive))
+            }
+            Shape::Comment => self.commented(line, bytes),
+            Shape::Head | Shape::Other => {
+                let text = undirected(line, bytes)?;
+                self.left_out(line, Inside::Description, Mark::DescriptionEnd, text)
+            }
+        }
+    }
+
+    /// Reads one line more.
+    #[tactic(auto, unfolding(crate::specs::Mermaid::step, crate::specs::Mermaid::step_in))]
+    fn step(
+        &mut self,
+        alloc: Global,
+        cross: Option<Cross>,
+        line: usize,
+        bytes: &[u8],
+    ) -> Result<(), ImportFault>
+        ensures { Leaves result self.new (step cross line bytes.now self.old) }
+    {
+        match self.inside {
+            Inside::Start => self.first_line(alloc, cross, line, bytes),
+            Inside::Nothing => self.outside(alloc, cross, line, bytes),
+            Inside::Rest => {
+                self.inside = Inside::Nothing;
+                self.outside(alloc, cross, line, bytes)
+            }
+            Inside::Front => {
+                if is_front(trimmed(bytes)) {
+                    self.inside = Inside::Nothing;
+                }
+                Ok(())
+            }
+            Inside::Directive => {
+                self.left_out(line, Inside::Directive, Mark::DirectiveEnd, bytes)
+            }
+            Inside::Description => self.described(line, bytes),
+        }
+    }
+
+    /// Reads these lines, from the first one on.
+    fn steps(
+        &mut self,
+        alloc: Global,
+        cross: Option<Cross>,
+        lines: &[&[u8]],
+    ) -> Result<(), ImportFault>
+        ensures { Leaves result self.new (steps cross 1 (map (λ x. x.now) lines.now) self.old) }
+    {
+        for i in 0..lines.len() {
+            self.step(alloc, cross, i + 1, lines[i])?;
+        }
+        Ok(())
+    }
+
+    /// The diagram, where nothing lacks at the end of a text with so many lines.
+    #[tactic(auto, unfolding(crate::specs::Mermaid::ended_in))]
+    fn ended(self, last: usize) -> Result<Diagram, ImportFault>
+        ensures { Gives (λ x. x) result (ended_in last self self.inside) }
+    {
+        let Progress {
+            inside,
+            begun,
+            reader,
+        } = self;
+        match inside {
+            Inside::Front => Err(ImportFault::Expected(last, Expectation::Front)),
+            Inside::Directive => Err(ImportFault::Expected(last, Expectation::Directive)),
+            Inside::Description => Err(ImportFault::Expected(last, Expectation::Description)),
+            _ if begun => reader.finish(),
+            _ => Err(ImportFault::Expected(last, Expectation::Diagram)),
+        }
+    }
+}
+
+/// The diagram of these lines.
+#[tactic(auto, unfolding(crate::specs::Mermaid::said_in))]
+fn said_in(alloc: Global, cross: Option<Cross>, lines: &[&[u8]]) -> Result<Diagram, ImportFault>
+    ensures { Gives (λ x. x) result (said_in cross (map (λ x. x.now) lines.now)) }
+{
+    let mut progress = Progress {
+        inside: Inside::Start,
+        begun: false,
+        reader: Reader::new(alloc),
+    };
+    progress.steps(alloc, cross, lines)?;
+    progress.ended(lines.len())
+}
+
+/// The diagram of a Mermaid text, or its first fault. Where it isn't said what crosses are, one that
+/// may be either is a fault.
+#[tactic(auto, unfolding(crate::specs::Mermaid::mermaid))]
+pub fn diagram_of(alloc: Global, cross: Option<Cross>, text: &[u8]) -> Result<Diagram, ImportFault>
+    ensures { Gives (λ x. x) result (mermaid cross text.now) }
+{
+    if text.len() > TEXT_LIMIT {
+        return Err(ImportFault::TooLong);
+    }
+    let lines = lines_of(alloc, text)?;
+    said_in(alloc, cross, lines.as_slice())
+}

@@ -1,0 +1,193 @@
+//! What one statement of Mermaid says.
+
+ghost use Rattle.std.specs.Prelude.{◌≡◌};
+ghost use Rattle.msc_lexer.specs.Bytes.{begins};
+ghost use Rattle.msc_mermaid.specs.Gives.{Gives};
+ghost use Rattle.msc_mermaid.specs.Saying.{arrow_by, arrow_of, behind_sign, dies, is_sign};
+ghost use Rattle.msc_mermaid.specs.Saying.{fate_of, no_second, said_as, said_at};
+
+use crate::declaring::{declared, shown_text};
+use crate::fault::{Expectation, ImportFault};
+use crate::head::Head;
+use crate::key::Mark;
+use crate::name::{name_at, owned, parted, sender};
+use crate::row::{Meaning, begins_dash, meaning_of};
+use crate::seeking::Sought;
+use crate::statement::{Arrow, Cross, Fate, Statement};
+use crate::white::behind_white;
+use listed::Listed;
+use std::alloc::Global;
+
+/// What a statement says of what follows.
+#[derive(Drop)]
+pub(crate) enum Said {
+    /// Nothing.
+    Nothing,
+    /// The line of this name ends with the next arrow.
+    Dies(Listed<u8>),
+    /// A statement.
+    Statement(Statement),
+}
+
+/// What the statements before one leave for it: what crosses are, and which lines end with the next
+/// arrow.
+#[derive(Clone, Copy)]
+pub(crate) struct Mode<'m> {
+    pub cross: Option<Cross>,
+    pub dying: &'m [Listed<u8>],
+}
+
+/// What stands behind an arrow, where that is no other arrow that begins with a dash.
+#[tactic(auto, unfolding(crate::specs::Saying::no_second))]
+fn no_second(line: usize, bytes: &[u8]) -> Result<&[u8], ImportFault>
+    ensures { Gives (λ x. x.now) result (no_second line bytes.now) }
+{
+    if begins_dash(bytes) && Head::of(bytes).is_some() {
+        return Err(ImportFault::Expected(line, Expectation::Name));
+    }
+    Ok(bytes)
+}
+
+/// Whether the sign of an activation stands here.
+fn begins_sign(bytes: &[u8]) -> bool
+    ensures { result ≡ begins is_sign bytes.now }
+{
+    match bytes {
+        [] => false,
+        [first, ..] => *first == b'+' || *first == b'-',
+    }
+}
+
+/// What stands behind the sign of an activation or `()`, if there is one of them.
+fn behind_sign(bytes: &[u8]) -> &[u8]
+    ensures { result.now ≡ behind_sign bytes.now }
+{
+    if !bytes.is_empty() && begins_sign(bytes) {
+        return &bytes[1..];
+    }
+    if Mark::Centre.begins(bytes) {
+        return &bytes[2..];
+    }
+    bytes
+}
+
+/// Whether one of these lines ends with the arrow between two.
+fn dies(dying: &[Listed<u8>], from: &[u8], to: &[u8]) -> bool
+    ensures { result ≡ dies dying.now from.now to.now }
+{
+    dying
+        .iter()
+        .any(|line| line.as_slice() == from || line.as_slice() == to)
+}
+
+/// What becomes of the message of an arrow.
+#[tactic(auto, unfolding(crate::specs::Saying::fate_of))]
+fn fate_of(cross: Option<Cross>, dying: &[Listed<u8>], head: Head, from: &[u8], to: &[u8]) -> Fate
+    ensures { result ≡ fate_of cross dying.now head from.now to.now }
+{
+    if !head.is_crossed() || dies(dying, from, to) {
+        return Fate::Arrives;
+    }
+    match cross {
+        Some(Cross::Lost) => Fate::Lost,
+        Some(Cross::Arrives) => Fate::Arrives,
+        None if from == to => Fate::Arrives,
+        None => Fate::Either,
+    }
+}
+
+/// The arrow of these parts: what stands before its head, and what stands behind.
+#[tactic(auto, unfolding(crate::specs::Saying::arrow_by))]
+fn arrow_by(
+    alloc: Global,
+    mode: Mode,
+    line: usize,
+    head: Head,
+    front: &[u8],
+    rest: &[u8],
+) -> Result<Arrow, ImportFault>
+    ensures { Gives (λ x. x) result
+        (arrow_by mode.entry.cross mode.entry.dying.now line head front.now rest.now) }
+{
+    if head.is_leftward() {
+        return Err(ImportFault::Unsupported(line, head));
+    }
+    let from = sender(line, front)?;
+    let behind = no_second(line, behind_white(rest))?;
+    let parts = parted(line, Mark::Colon, Expectation::Label, behind_sign(behind))?;
+    let to = name_at(line, parts.0)?;
+    let fate = fate_of(mode.cross, mode.dying, head, from, to);
+    Ok(Arrow {
+        from: owned(alloc, from)?,
+        to: owned(alloc, to)?,
+        label: shown_text(alloc, parts.1)?,
+        fate,
+        both: head.is_double(),
+    })
+}
+
+/// The arrow of a statement.
+#[tactic(auto, unfolding(crate::specs::Saying::arrow_of))]
+fn arrow_of(alloc: Global, mode: Mode, line: usize, bytes: &[u8]) -> Result<Arrow, ImportFault>
+    ensures { Gives (λ x. x) result (arrow_of mode.entry.cross mode.entry.dying.now line bytes.now) }
+{
+    let at = Sought::Arrow.before(bytes);
+    match Head::of(&bytes[at..]) {
+        None => Err(ImportFault::Expected(line, Expectation::Statement)),
+        Some(head) => arrow_by(
+            alloc,
+            mode,
+            line,
+            head,
+            &bytes[..at],
+            &bytes[at + head.length()..],
+        ),
+    }
+}
+
+/// What a statement says that has this meaning, with what stands behind its pattern.
+#[tactic(auto, unfolding(crate::specs::Saying::said_as))]
+fn said_as(
+    alloc: Global,
+    mode: Mode,
+    line: usize,
+    bytes: &[u8],
+    meaning: Meaning,
+    rest: &[u8],
+) -> Result<Said, ImportFault>
+    ensures { Gives (λ x. x) result
+        (said_as mode.entry.cross mode.entry.dying.now line bytes.now meaning rest.now) }
+{
+    match meaning {
+        Meaning::Nothing => Ok(Said::Nothing),
+        Meaning::Refused => Err(ImportFault::Expected(line, Expectation::Statement)),
+        Meaning::Declaration => Ok(Said::Statement(declared(alloc, line, rest)?)),
+        Meaning::Destruction => Ok(Said::Dies(owned(alloc, name_at(line, rest)?)?)),
+        Meaning::Begin(kind) => Ok(Said::Statement(Statement::Begins(kind))),
+        Meaning::Close(closer) => Ok(Said::Statement(Statement::Closes(closer))),
+        Meaning::Activation => {
+            name_at(line, rest)?;
+            Ok(Said::Nothing)
+        }
+        Meaning::Links => {
+            let parts = parted(line, Mark::Colon, Expectation::Statement, rest)?;
+            name_at(line, parts.0)?;
+            Ok(Said::Nothing)
+        }
+        Meaning::Arrow => Ok(Said::Statement(Statement::Says(arrow_of(alloc, mode, line, bytes)?))),
+    }
+}
+
+/// What a statement says, behind some that say which lines end.
+#[tactic(auto, unfolding(crate::specs::Saying::said_at))]
+pub(crate) fn said_at(
+    alloc: Global,
+    mode: Mode,
+    line: usize,
+    bytes: &[u8],
+) -> Result<Said, ImportFault>
+    ensures { Gives (λ x. x) result (said_at mode.entry.cross mode.entry.dying.now line bytes.now) }
+{
+    let (meaning, rest) = meaning_of(bytes);
+    said_as(alloc, mode, line, bytes, meaning, rest)
+}

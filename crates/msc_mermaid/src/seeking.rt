@@ -1,0 +1,59 @@
+//! The first place at which something stands.
+
+ghost use Rattle.std.specs.Prelude.{◌≡◌, ◌≤◌, length};
+ghost use Rattle.msc_mermaid.specs.Seeking.{before, holds, is_alias, is_here};
+
+use crate::head::Head;
+use crate::key::Mark;
+use crate::white::{begins_white, behind_one};
+
+/// What is sought.
+#[derive(Clone, Copy)]
+pub(crate) enum Sought {
+    /// A text.
+    Text(Mark),
+    /// An arrow.
+    Arrow,
+    /// White space, `as` and white space.
+    Alias,
+}
+
+/// Whether `as` and white space stand here.
+pub(crate) fn is_alias(bytes: &[u8]) -> bool
+    ensures { result ≡ is_alias bytes.now }
+{
+    Mark::As.begins(bytes) && begins_white(&bytes[2..])
+}
+
+impl Sought {
+    /// Whether it stands here.
+    fn is_here(self, bytes: &[u8]) -> bool
+        ensures { result ≡ is_here self bytes.now }
+    {
+        match self {
+            Sought::Text(mark) => mark.begins(bytes),
+            Sought::Arrow => Head::of(bytes).is_some(),
+            Sought::Alias => begins_white(bytes) && is_alias(behind_one(bytes)),
+        }
+    }
+
+    /// How many bytes stand before the first place at which it stands, and else all of them.
+    pub(crate) fn before(self, bytes: &[u8]) -> usize
+        ensures value { result ≡ before self bytes.now }
+        ensures within { result ≤ length bytes.now }
+    {
+        for i in 0..bytes.len() {
+            if self.is_here(&bytes[i..]) {
+                return i;
+            }
+        }
+        bytes.len()
+    }
+}
+
+/// Whether this stands in the bytes.
+pub(crate) fn holds(bytes: &[u8], sought: Sought) -> bool
+    ensures { result ≡ holds bytes.now sought }
+{
+    sought.before(bytes) < bytes.len()
+}

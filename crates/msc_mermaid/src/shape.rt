@@ -1,0 +1,106 @@
+//! What lines of a Mermaid text are, by what they begin with, and what ends what is left out.
+
+ghost use Rattle.std.specs.Prelude.{◌≡◌, ◌≤◌, IsTrue, length};
+ghost use Rattle.msc_mermaid.specs.Gives.{Gives};
+ghost use Rattle.msc_mermaid.specs.Mermaid.{allows_comment, closed, is_commented, is_front};
+ghost use Rattle.msc_mermaid.specs.Mermaid.{is_head, shape_of, undirected};
+
+use crate::fault::{Expectation, ImportFault};
+use crate::key::{Key, Mark};
+use crate::pattern::begins_word;
+use crate::row::first_word;
+use crate::seeking::{Sought, holds};
+use crate::white::trimmed;
+
+/// What a line is.
+#[derive(Clone, Copy)]
+pub(crate) enum Shape {
+    /// Empty.
+    Nothing,
+    /// A directive begins with it.
+    Directive,
+    /// A comment.
+    Comment,
+    /// It begins with the word that a diagram begins with.
+    Head,
+    /// Anything else.
+    Other,
+}
+
+/// Whether the line, without white space at its ends, stands before or behind what stands in front
+/// of a diagram.
+pub(crate) fn is_front(bytes: &[u8]) -> bool
+    ensures { result ≡ is_front bytes.now }
+{
+    bytes == "---".as_bytes()
+}
+
+/// Whether the word stands here that a diagram begins with.
+pub fn is_head(bytes: &[u8]) -> bool
+    ensures value { result ≡ is_head bytes.now }
+    ensures room { IsTrue result → 15 ≤ length bytes.now }
+{
+    bytes.starts_with("sequenceDiagram".as_bytes())
+        && bytes.len() >= 15
+        && !begins_word(&bytes[15..])
+}
+
+/// What a line without white space at its ends is.
+#[tactic(auto, unfolding(crate::specs::Mermaid::shape_of))]
+pub(crate) fn shape_of(bytes: &[u8]) -> Shape
+    ensures value { result ≡ shape_of bytes.now }
+    ensures room { result ≡ Shape.Head → 15 ≤ length bytes.now }
+{
+    if bytes.is_empty() {
+        return Shape::Nothing;
+    }
+    if Mark::Directive.begins(bytes) {
+        return Shape::Directive;
+    }
+    if Mark::Comment.begins(bytes) {
+        return Shape::Comment;
+    }
+    if is_head(bytes) {
+        return Shape::Head;
+    }
+    Shape::Other
+}
+
+/// Whether what is left out ends on this line, behind the mark.
+#[tactic(auto, unfolding(crate::specs::Mermaid::closed))]
+pub(crate) fn closed(line: usize, mark: Mark, bytes: &[u8]) -> Result<bool, ImportFault>
+    ensures { Gives (λ x. x) result (closed line mark bytes.now) }
+{
+    let at = Sought::Text(mark).before(bytes);
+    if at == bytes.len() {
+        return Ok(false);
+    }
+    if !trimmed(mark.behind(&bytes[at..])).is_empty() {
+        return Err(ImportFault::Expected(line, Expectation::LineEnd));
+    }
+    Ok(true)
+}
+
+/// A line in which no directive may stand.
+pub(crate) fn undirected(line: usize, bytes: &[u8]) -> Result<&[u8], ImportFault>
+    ensures { Gives (λ x. x.now) result (undirected line bytes.now) }
+{
+    if holds(bytes, Sought::Text(Mark::Directive)) {
+        return Err(ImportFault::Expected(line, Expectation::Statement));
+    }
+    Ok(bytes)
+}
+
+/// Whether a comment may follow the word in its statement.
+fn allows_comment(key: Option<Key>) -> bool
+    ensures { result ≡ allows_comment key }
+{
+    matches!(key, Some(Key::End | Key::Autonumber))
+}
+
+/// Whether the statement ends in a comment.
+pub(crate) fn is_commented(bytes: &[u8]) -> bool
+    ensures { result ≡ is_commented bytes.now }
+{
+    allows_comment(Key::of(first_word(bytes))) && holds(bytes, Sought::Text(Mark::Comment))
+}

@@ -1,0 +1,158 @@
+//! White space of Mermaid: what `\s` is in JavaScript, but LF and CR, in UTF-8. A line of Markdown
+//! has spaces and tabs instead (`lines`).
+
+ghost use Rattle.std.specs.Prelude.{◌≡◌, ◌≤◌, ◌<◌, ◌^◌, ◌+◌, ◌-◌, ◌==◌, cond, drop, get_or, length};
+ghost use Rattle.msc_mermaid.specs.White.{ahead, before_white, begins_white, behind_white, body};
+ghost use Rattle.msc_mermaid.specs.White.{front, is_general, is_one, is_three, is_two, trimmed};
+ghost use Rattle.msc_mermaid.specs.White.{white, width};
+
+/// The byte at a place, and 0 behind the end.
+fn byte_at(bytes: &[u8], place: usize) -> u8
+    ensures { result ≡ get_or bytes.now place 0 }
+{
+    if place < bytes.len() { bytes[place] } else { 0 }
+}
+
+/// Whether the byte is white space.
+fn is_one(a: u8) -> bool
+    ensures { result ≡ is_one a }
+{
+    a == 9 || a == 11 || a == 12 || a == 32
+}
+
+/// Whether two bytes are white space.
+fn is_two(a: u8, b: u8) -> bool
+    ensures { result ≡ is_two a b }
+{
+    a == 194 && b == 160
+}
+
+/// Whether 226, 128 and this byte are white space.
+fn is_general(c: u8) -> bool
+    ensures { result ≡ is_general c }
+{
+    (128 <= c && c <= 138) || c == 168 || c == 169 || c == 175
+}
+
+/// Whether three bytes are white space.
+fn is_three(a: u8, b: u8, c: u8) -> bool
+    ensures { result ≡ is_three a b c }
+{
+    (a == 225 && b == 154 && c == 128)
+        || (a == 226 && b == 128 && is_general(c))
+        || (a == 226 && b == 129 && c == 159)
+        || (a == 227 && b == 128 && c == 128)
+        || (a == 239 && b == 187 && c == 191)
+}
+
+/// How many bytes the white space has that begins with these three; 0 if none begins.
+fn width(a: u8, b: u8, c: u8) -> usize
+    ensures { result ≡ width a b c }
+{
+    if is_one(a) {
+        return 1;
+    }
+    if is_two(a, b) {
+        return 2;
+    }
+    if is_three(a, b, c) { 3 } else { 0 }
+}
+
+/// How many bytes the white space has that stands here; 0 if there is none.
+fn white(bytes: &[u8]) -> usize
+    ensures { result ≡ white bytes.now }
+{
+    width(byte_at(bytes, 0), byte_at(bytes, 1), byte_at(bytes, 2))
+}
+
+/// Whether white space stands here.
+pub(crate) fn begins_white(bytes: &[u8]) -> bool
+    ensures { result ≡ begins_white bytes.now }
+{
+    white(bytes) > 0
+}
+
+/// The bytes behind the white space that stands here, or all of them.
+pub(crate) fn behind_one(bytes: &[u8]) -> &[u8]
+    ensures { result.now ≡ drop (white bytes.now) bytes.now }
+{
+    let one = white(bytes);
+    if one > bytes.len() {
+        return &[];
+    }
+    &bytes[one..]
+}
+
+/// How many bytes are left here of white space, if so many are left of one that began before.
+fn ahead(left: usize, bytes: &[u8]) -> usize
+    ensures { result ≡ ahead left bytes.now }
+{
+    if left == 0 { white(bytes) } else { left }
+}
+
+/// How many bytes of white space stand in front.
+pub(crate) fn white_in_front(bytes: &[u8]) -> usize
+    ensures length { result ≡ front 0 bytes.now }
+    ensures within { result ≤ length bytes.now }
+{
+    let mut left = 0;
+    for i in 0..bytes.len() {
+        let here = ahead(left, &bytes[i..]);
+        if here == 0 {
+            return i;
+        }
+        left = after(here);
+    }
+    bytes.len()
+}
+
+/// How many bytes are left behind this one, if so many are left at it.
+fn after(here: usize) -> usize
+    ensures { result ≡ here - 1 }
+{
+    if here == 0 { 0 } else { here - 1 }
+}
+
+/// Where the bytes end that are up to a place not of white space, if so much is white space at it.
+fn end_at(here: usize, place: usize, end: usize) -> usize
+    requires { place < 2 ^ 63 }
+    ensures { result ≡ cond (here == 0) (place + 1) end }
+{
+    if here == 0 { place + 1 } else { end }
+}
+
+/// How many bytes stand up to the last one that is not of white space.
+fn body(bytes: &[u8]) -> usize
+    ensures length { result ≡ body 0 bytes.now }
+    ensures within { result ≤ length bytes.now }
+{
+    let mut left = 0;
+    let mut end = 0;
+    for i in 0..bytes.len() {
+        let here = ahead(left, &bytes[i..]);
+        end = end_at(here, i, end);
+        left = after(here);
+    }
+    end
+}
+
+/// The bytes behind the white space in front.
+pub(crate) fn behind_white(bytes: &[u8]) -> &[u8]
+    ensures { result.now ≡ behind_white bytes.now }
+{
+    &bytes[white_in_front(bytes)..]
+}
+
+/// The bytes before the white space at the end.
+fn before_white(bytes: &[u8]) -> &[u8]
+    ensures { result.now ≡ before_white bytes.now }
+{
+    &bytes[..body(bytes)]
+}
+
+/// The bytes without white space at both ends.
+pub fn trimmed(bytes: &[u8]) -> &[u8]
+    ensures { result.now ≡ trimmed bytes.now }
+{
+    before_white(behind_white(bytes))
+}
