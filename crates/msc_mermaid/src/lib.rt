@@ -1,7 +1,14 @@
-//! Mermaid: from a text to the sequence diagram that it draws.
+//! Sequence diagrams of Mermaid: from a text to its diagram.
 //!
-//! A text says statements, line by line; statements make a diagram. Lines and columns of a text are
-//! numbered from 1, arrows from 1.
+//! A text says statements, line by line ([`diagram_of`]); statements make a diagram. In Markdown a
+//! diagram stands in a block between fences ([`fenced`]). Lines and columns of a text are numbered
+//! from 1, arrows and diagrams of a Markdown text from 1.
+//!
+//! Where to change what: white space is in `white`; a key word or a mark in `key`, an arrow in
+//! `head`; what a statement begins with in `row`, with the patterns of `pattern`; what it says in
+//! `saying`, its names in `name`, its lines in `declaring`; which blocks it may stand in in
+//! `outline`. `cutting` cuts a line into statements; `shape`, `progress` and `mermaid` leave out
+//! what is none: what stands in front of a diagram, directives, comments, titles and descriptions.
 #![tactic(auto)]
 
 mod cutting;
