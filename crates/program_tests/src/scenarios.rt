@@ -67,7 +67,7 @@ race 3 4 on B: in b, 2_1 from C; in a, 1_2 from A\nat -:4:1 -:3:1\nlisted 2\npas
         &[
             "check", "--queues", "pair", "--from", "mermaid", "--allow", "queues", "-",
         ],
-        b"diagram diagram\nqueues pair\nscenarios 2\nlisted 0\npassed 1\n",
+        b"diagram diagram\nqueues pair\nscenarios 2\nraces 1\nallowed 1\nlisted 0\npassed 2\n",
         b"",
         0,
     ),
