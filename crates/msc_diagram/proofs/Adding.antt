@@ -26,9 +26,9 @@ use Rattle.msc_judge.specs.declared.question.Question.{Question}
 use Rattle.msc_diagram.proofs.Fresh.{above_first}
 use Rattle.msc_diagram.proofs.Numbers.{plain_counts}
 use Rattle.msc_diagram.proofs.Same.{filter_agreed}
-use Rattle.msc_diagram.specs.Counts.{chooses, counting_places, race_places, without}
+use Rattle.msc_diagram.specs.Counts.{chooses, counting_places, listed_places, race_places, without}
 use Rattle.msc_diagram.specs.Laws.{PlacesAddUp}
-use Rattle.msc_diagram.specs.Places.{above_with, places_in, same_place, same_places}
+use Rattle.msc_diagram.specs.Places.{above_with, fresh, places_in, same_place, same_places}
 use Rattle.msc_diagram.specs.Scenarios.{all_of, asked_of, counting_of, judged_in, places_from, Case}
 use Rattle.msc_diagram.specs.declared.numbers.PlaceCounts.{PlaceCounts}
 use Rattle.msc_diagram.specs.declared.place.Place.{Place}
@@ -67,7 +67,7 @@ module _ (s : Scenario) where
       → P (above_with s above (p ∷ pairs))
   seen_or above p pairs P old new = by_test (list_any (same_places (places_in s p)) above)
       (λ is. rw is (old is))
-      (λ is. rw is (subst P (above_first s above p _) (new is)))
+      (λ is. rw is (subst P (above_first s above p (fresh s (above ++ places_in s p ∷ []) pairs)) (new is)))
 
   -- no place stands twice
   distinct_with : (above : List (Place × Place)) (pairs : List (ℕ × ℕ)) → IsDistinct same_places above → IsDistinct same_places (above_with s above pairs)
@@ -80,7 +80,7 @@ module _ (s : Scenario) where
   member_with : (above : List (Place × Place)) (pairs : List (ℕ × ℕ)) (q : Place × Place)
       → is_member same_places (above_with s above pairs) q ≡ (is_member same_places above q || at_places s pairs q)
   member_with above [] q = ap (λ (l : List (Place × Place)). list_any (same_places q) l) (append-nil above) ∙ sym (or-false (list_any (same_places q) above))
-  member_with above (p ∷ pairs) q = seen_or above p pairs (λ l. is_member same_places l q ≡ (is_member same_places above q || at_places s (p ∷ pairs) q))
+  member_with above (p ∷ pairs) q = seen_or above p pairs (λ (l : List (Place × Place)). is_member same_places l q ≡ (is_member same_places above q || at_places s (p ∷ pairs) q))
       (λ is. member_with above pairs q ∙ old (same_places q (places_in s p)) refl is)
       (λ is. member_with (above ++ places_in s p ∷ []) pairs q ∙ new)
     where
@@ -134,7 +134,7 @@ module _ (queues : Queues) (kinds : KindSet) (cases : List Case) where
   -- what implies a test changes nothing beside it
   within : (a b : Bool) → (b ≡ true → a ≡ true) → b ≡ (a && b)
   within true b then = refl
-  within false true then = then refl
+  within false true then = sym (then refl)
   within false false then = refl
 
   -- so as many places count as are both
@@ -166,10 +166,12 @@ plain_listed queues q no c =
 pub add_up : PlacesAddUp
 add_up queues q cases no = by_test (is_empty q.allowed)
     (λ empty.
-    let none : chooses q ≡ false = rw (no, empty) refl in
+    let none : chooses q ≡ false = ap₂ (λ (a b : Bool). a || not b) no empty in
     subst (λ (k : PlaceCounts). k.races ≡ unwrap_or k.allowed 0 + k.listed) (plain_counts queues q cases none) refl)
     (λ some.
     let same : asked_of queues q ≡ counting_of queues q.allowed = λ j c. plain_listed queues q no c j in
     let listed = ap (λ (pairs : Case → List (ℕ × ℕ)). length (places_from pairs [] cases)) same in
     let parts = all_parts queues q.allowed cases in
-    rw some (omega (arith, listed, parts)))
+    let left = length (without (race_places queues cases) (counting_places queues q.allowed cases)) in
+    let sum : length (race_places queues cases) ≡ left + length (listed_places queues q cases) = omega (arith, listed, parts) in
+    sum ∙ sym (ap (λ (b : Bool). unwrap_or (cond b None (Some left)) 0 + length (listed_places queues q cases)) some))

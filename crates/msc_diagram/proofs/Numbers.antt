@@ -1,5 +1,5 @@
 -- How many places of races there are, if options choose among the races, and if none does.
-use Rattle.std.proofs.Common.{◌≡◌, ℕ, Bool, true, false, not, ◌&&◌, ◌||◌, cond, List, [], Option, None, Some, length, unwrap_or, refl, sym, ap, ap₂, ◌∙◌}
+use Rattle.std.proofs.Common.{◌≡◌, ℕ, Bool, true, false, not, ◌&&◌, ◌||◌, cond, codes, nat_eq, List, [], ◌++◌, Option, None, Some, length, unwrap_or, refl, sym, ap, ap₂, ◌∙◌}
 use Rattle.std.proofs.lemmas.Bool.{and_from}
 use Rattle.std.specs.List.{filter}
 use Rattle.msc_chart.proofs.ListLemmas.{clash}
@@ -13,7 +13,7 @@ use Rattle.msc_reason.specs.LeftOut.{leaves_none, of_kinds}
 use Rattle.msc_reason.specs.Marked.{lack_in}
 use Rattle.msc_judge.specs.declared.question.Question.{Question}
 use Rattle.msc_diagram.proofs.Same.{counted_agree}
-use Rattle.msc_diagram.specs.Counts.{chooses, counted, counts_of, counts_of_all, counts_text, counting_places, listed_places, race_places}
+use Rattle.msc_diagram.specs.Counts.{chooses, counted, counts_of, counts_of_all, counts_text, counting_places, listed_places, number_line, options_text, race_places, without}
 use Rattle.msc_diagram.specs.Judging.{AreCountsAbove}
 use Rattle.msc_diagram.specs.Scenarios.{all_of, asked_of, judged_in, places_from, AreCases, Case}
 use Rattle.msc_diagram.specs.Telling.{above_text, IsCountedAbove}
@@ -25,9 +25,9 @@ use Rattle.msc_diagram.specs.declared.scenario.Scenario.{Scenario}
 
 -- without options the closest races are not asked for, and no kind is left out
 plain_parts : (a b : Bool) → (a || not b) ≡ false → (a ≡ false) × (b ≡ true)
-plain_parts true b no = absurd (clash refl no)
+plain_parts true b no = clash refl no
 plain_parts false true no = (refl, refl)
-plain_parts false false no = absurd (clash refl no)
+plain_parts false false no = clash refl no
 
 -- then all races of a scenario are listed
 all_asked : (queues : Queues) (q : Question) → chooses q ≡ false → (c : Case) → asked_of queues q c ≡ all_of queues c
@@ -42,7 +42,12 @@ all_asked queues q no c =
 -- and the numbers are those of all places
 counts_plain : (q : Question) (all some listed : List (Place × Place)) → q.closest ≡ false → is_empty q.allowed ≡ true
     → length all ≡ length listed → counts_of q all some listed ≡ counts_of_all (length listed)
-counts_plain q all some listed closest empty same = rw (closest, empty, same) refl
+counts_plain q all some listed closest empty same = λ j. record {
+  races = same j;
+  allowed = cond (empty j) None (Some (length (without all some)));
+  closest = cond (closest j) (Some (length listed)) None;
+  listed = length listed;
+}
 
 pub plain_counts : (queues : Queues) (q : Question) (cases : List Case) → chooses q ≡ false
     → counts_of_all (length (listed_places queues q cases)) ≡ counted queues q cases
@@ -54,7 +59,7 @@ plain_counts queues q cases no =
 
 -- nothing stands above the scenarios then
 no_counts : (q : Question) (counts : PlaceCounts) → chooses q ≡ false → counts_text q counts ≡ []
-no_counts q counts no = rw no refl
+no_counts q counts no = ap (λ (b : Bool). cond (b && not (nat_eq counts.races 0)) (number_line (codes "races ") counts.races ++ options_text counts) []) no
 
 -- what is told above the scenarios tells the numbers of all of them
 pub above_agrees : (scenarios : List Scenario) (queues : Queues) (q : Question) (above : Option PlaceCounts) (cases : List Case)
@@ -74,5 +79,5 @@ counts_agree scenarios queues q (Some counts) cases n (some, first, its, same) a
 -- whatever is told above them is right, before all scenarios are put
 pub above_begins : (scenarios : List Scenario) (queues : Queues) (q : Question) (look : Look) (above : Option PlaceCounts) → IsCountedAbove scenarios queues q above
     → (counts : PlaceCounts) × AreCountsAbove (forms.Lines look) scenarios queues q counts × (above_text q above ≡ counts_text q counts)
-above_begins scenarios queues q look None no = (counts_of_all 0, λ yes. absurd (clash yes no), sym (no_counts q (counts_of_all 0) no))
+above_begins scenarios queues q look None no = (counts_of_all 0, λ yes. clash yes no, sym (no_counts q (counts_of_all 0) no))
 above_begins scenarios queues q look (Some counts) (some, its) = (counts, λ yes. its, refl)

@@ -33,8 +33,8 @@ use Rattle.msc_diagram.specs.declared.scenario.Scenario.{Scenario}
 -- two tests that agree on the items of a list keep the same ones
 pub filter_agreed : {X : Type 0} (p q : X → Bool) (xs : List X) → ((x : X) → Occurs xs x → p x ≡ q x) → filter p xs ≡ filter q xs
 filter_agreed p q [] same = refl
-filter_agreed p q (x ∷ xs) same =
-    ap₂ (λ b l. cond b (x ∷ l) l) (same x (zero, refl)) (filter_agreed p q xs (λ y there. same y (suc there.0, there.1)))
+filter_agreed {X} p q (x ∷ xs) same =
+    ap₂ (λ (b : Bool) (l : List X). cond b (x ∷ l) l) (same x (zero, refl)) (filter_agreed p q xs (λ y there. same y (suc there.0, there.1)))
 
 module _ (d : Drawing) (queues : Queues) (t u : Table) (accepted : IsAccepted d) (is : IsEnforced (enforced_chart d queues t)) (its : IsEnforced (enforced_chart d queues u)) where
   -- the chart with the one order, and with the other
@@ -125,8 +125,8 @@ module _ (queues : Queues) (short shorter : Bool) where
       → map (λ (c : Case). c.scenario) cs ≡ map (λ (c : Case). c.scenario) bs → All (IsCase queues short) cs → All (IsCase queues shorter) bs
       → places_from pairs above cs ≡ places_from pairs above bs
   places_agree pairs agree above [] [] same are its = refl
-  places_agree pairs agree above [] (b ∷ bs) same are its = cc
-  places_agree pairs agree above (c ∷ cs) [] same are its = cc
+  places_agree pairs agree above [] (b ∷ bs) same are its = absurd cc
+  places_agree pairs agree above (c ∷ cs) [] same are its = absurd cc
   places_agree pairs agree above (c ∷ cs) (b ∷ bs) same are its =
       let first : c.scenario ≡ b.scenario = cc in
       let rest : map (λ (x : Case). x.scenario) cs ≡ map (λ (x : Case). x.scenario) bs = cc in

@@ -1,6 +1,5 @@
 -- Laws of the numbers of places of a diagram's scenarios.
-use Rattle.std.specs.Prelude.{◌≡◌, ℕ, ◌+◌, ◌×◌, ◌↔◌, false, List, [], unwrap_or}
-use Rattle.msc_chart.specs.Lists.{Occurs}
+use Rattle.std.specs.Prelude.{◌≡◌, ◌+◌, false, List, unwrap_or}
 use Rattle.msc_chart.specs.declared.queue.Queues.{Queues}
 use Rattle.msc_judge.specs.declared.question.Question.{Question}
 use Rattle.msc_diagram.specs.Counts.{counted}
