@@ -3,11 +3,9 @@
 
 use crate::gallery::{self, Scenario};
 use listed::Listed;
-use msc_import::{
-    Closer, Cross, Expectation, Head, ImportFault, Imported, Importing, ImportingAll, Language,
-    Manner, Own, Par, Refused, Scenarios, all_choices, diagram_of, draw, fenced, import,
-    import_all, places, scenarios,
-};
+use msc_import::{Imported, Importing, ImportingAll, Language, Manner, Own, Par, Refused, Scenarios, draw, import, import_all, places};
+use msc_mermaid::{Closer, Cross, Expectation, Head, ImportFault, diagram_of, fenced};
+use msc_scenarios::{all_choices, scenarios};
 use msc_place::Position;
 use std::alloc::AllocGlobal;
 

@@ -3,16 +3,16 @@ use Rattle.std.proofs.Common.{◌≡◌, ◌≤◌, ℕ, zero, suc, ◌+◌, ◌
 use Rattle.std.specs.List.{flat_map}
 use Rattle.std.proofs.lemmas.List.{append-nil, append_assoc, drop-drop, drop_all, length_push, map-append, take-append-drop}
 use Rattle.msc_parser.specs.Drafts.{statements_in}
-use Rattle.msc_import.specs.declared.course.Message.{Message}
-use Rattle.msc_import.specs.declared.course.Step.{Step}
-use Rattle.msc_import.specs.declared.course.Step.TheVariants as steps
-use Rattle.msc_import.specs.declared.fault.ImportFault.{ImportFault}
-use Rattle.msc_import.specs.declared.fault.ImportFault.TheVariants.{Shared}
+use Rattle.msc_scenarios.specs.declared.course.Message.{Message}
+use Rattle.msc_scenarios.specs.declared.course.Step.{Step}
+use Rattle.msc_scenarios.specs.declared.course.Step.TheVariants as steps
+use Rattle.msc_mermaid.specs.declared.fault.ImportFault.{ImportFault}
+use Rattle.msc_mermaid.specs.declared.fault.ImportFault.TheVariants.{Shared}
 use Rattle.msc_import.specs.declared.plan.Frame.{Frame}
 use Rattle.msc_import.specs.declared.plan.Manner.{Manner}
 use Rattle.msc_import.specs.declared.plan.Par.{Par}
 use Rattle.msc_import.specs.declared.plan.Side.{Side}
-use Rattle.msc_import.specs.Gives.{◌>>=◌}
+use Rattle.msc_mermaid.specs.Gives.{◌>>=◌}
 use Rattle.msc_import.specs.Drafting.{between, drawn_event, drawn_item, drawn_items}
 use Rattle.msc_import.specs.Plans.{Event, Plan, closed_last, is_coregion, is_refused, joined_ends, last_frame, marked_last, opened, plan_on, planned, sides_on, unplanned, with_event, with_sides}
 use Rattle.msc_import.specs.Laws.{ends_on}

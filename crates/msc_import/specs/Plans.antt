@@ -1,11 +1,11 @@
 -- What each line has of a course: the ends of its arrows in their order, in segments. Branches of a par that
 -- have one segment each on a line are a coregion there.
 use Rattle.std.specs.Prelude.{ℕ, ◌+◌, ◌-◌, Bool, false, cond, not, ◌||◌, ◌&&◌, ◌==◌, nat_lt, List, [], ◌∷◌, ◌++◌, length, take, slice_get, replicate, Option, None, Some, Result, Ok, Err}
-use Rattle.msc_import.specs.declared.course.Message.{Message}
-use Rattle.msc_import.specs.declared.course.Step.{Step}
-use Rattle.msc_import.specs.declared.course.Step.TheVariants as steps
-use Rattle.msc_import.specs.declared.fault.ImportFault.{ImportFault}
-use Rattle.msc_import.specs.declared.fault.ImportFault.TheVariants.{Shared}
+use Rattle.msc_scenarios.specs.declared.course.Message.{Message}
+use Rattle.msc_scenarios.specs.declared.course.Step.{Step}
+use Rattle.msc_scenarios.specs.declared.course.Step.TheVariants as steps
+use Rattle.msc_mermaid.specs.declared.fault.ImportFault.{ImportFault}
+use Rattle.msc_mermaid.specs.declared.fault.ImportFault.TheVariants.{Shared}
 use Rattle.msc_import.specs.declared.plan.Frame.{Frame}
 use Rattle.msc_import.specs.declared.plan.Own.{Own}
 use Rattle.msc_import.specs.declared.plan.Own.TheVariants as owns
@@ -15,7 +15,7 @@ use Rattle.msc_import.specs.declared.plan.Par.TheVariants as pars
 use Rattle.msc_import.specs.declared.plan.Planned.{Planned}
 use Rattle.msc_import.specs.declared.plan.Side.{Side}
 use Rattle.msc_import.specs.declared.plan.Side.TheVariants as sides
-use Rattle.msc_import.specs.Gives.{◌>>=◌}
+use Rattle.msc_mermaid.specs.Gives.{◌>>=◌}
 
 -- the ends that a message to oneself has
 abbrev pub own_sides : Own → List Side

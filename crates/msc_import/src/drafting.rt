@@ -8,16 +8,14 @@ ghost use Rattle.msc_import.specs.Drafting.{between, decl_of, drawn_event, drawn
 ghost use Rattle.msc_import.specs.Drafting.{fitted, ident_text, is_chart_name, line_name};
 ghost use Rattle.msc_import.specs.Plans.{seen};
 ghost use Rattle.msc_import.specs.Drafting.{shown_by, shown_of, signal};
-ghost use Rattle.msc_import.specs.Naming.{kind_of};
+ghost use Rattle.msc_scenarios.specs.Naming.{kind_of};
 
-use crate::course::Message;
-use crate::line_name::kind_of;
 use crate::plan::{Planned, Side};
-use crate::row::is_word_byte;
-use crate::statement::{Placed, Statement};
 use listed::Listed;
 use msc_lexer::{NAME_LIMIT, Word};
+use msc_mermaid::{Placed, Statement, is_word_byte};
 use msc_parser::{Decl, Item, Name, Signal, Statement as Drawn, Way};
+use msc_scenarios::{Message, kind_of};
 use std::alloc::{AllocError, Global};
 
 /// Whether all bytes are such as names are made of.

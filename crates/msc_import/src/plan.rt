@@ -5,11 +5,11 @@ ghost use Rattle.msc_import.specs.Plans.{closed_last, is_coregion, is_refused, l
 ghost use Rattle.msc_import.specs.Plans.{marked, marked_last, opened};
 ghost use Rattle.msc_import.specs.Plans.{planned, planned_all, plans_of, seen, sides_on};
 ghost use Rattle.msc_import.specs.Plans.{unplanned, with_event, with_sides};
-ghost use Rattle.msc_import.specs.Gives.{Gives};
-ghost use Rattle.msc_import.specs.Reading.{Leaves};
+ghost use Rattle.msc_mermaid.specs.Gives.{Gives};
+ghost use Rattle.msc_mermaid.specs.Reading.{Leaves};
 
-use crate::course::{Message, Step};
-use crate::fault::ImportFault;
+use msc_mermaid::ImportFault;
+use msc_scenarios::{Message, Step};
 use std::alloc::{AllocError, Global};
 use std::marker::Model;
 

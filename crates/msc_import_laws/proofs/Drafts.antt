@@ -9,18 +9,18 @@ use Rattle.msc_parser.specs.Drafts.{statements_of}
 use Rattle.msc_parser.specs.Grammar.{Tree}
 use Rattle.msc_parser.specs.declared.tree.Section.{Section}
 use Rattle.msc_lexer.specs.declared.TheConstants.{TEXT_LIMIT}
-use Rattle.msc_import.specs.declared.TheConstants.{DEPTH_LIMIT}
-use Rattle.msc_import.specs.declared.course.Message.{Message}
-use Rattle.msc_import.specs.declared.course.Step.TheVariants as steps
-use Rattle.msc_import.specs.declared.fault.ImportFault.{ImportFault}
-use Rattle.msc_import.specs.declared.fault.ImportFault.TheVariants.{TooManyArrows}
+use Rattle.msc_mermaid.specs.declared.TheConstants.{DEPTH_LIMIT}
+use Rattle.msc_scenarios.specs.declared.course.Message.{Message}
+use Rattle.msc_scenarios.specs.declared.course.Step.TheVariants as steps
+use Rattle.msc_mermaid.specs.declared.fault.ImportFault.{ImportFault}
+use Rattle.msc_mermaid.specs.declared.fault.ImportFault.TheVariants.{TooManyArrows}
 use Rattle.msc_import.specs.declared.plan.Manner.{Manner}
-use Rattle.msc_import.specs.declared.statement.Diagram.{Diagram}
-use Rattle.msc_import.specs.Courses.{Walk, line_at, walk}
-use Rattle.msc_import.specs.Drafting.{at_rest, drawn, drawn_walk, fitted, few_events, sections_on, short_enough, tree_of, unended}
-use Rattle.msc_import.specs.Gives.{◌>>=◌, unless}
-use Rattle.msc_import.specs.Laws.{walked}
-use Rattle.msc_import.specs.Naming.{names_behind, number_name}
+use Rattle.msc_mermaid.specs.declared.statement.Diagram.{Diagram}
+use Rattle.msc_scenarios.specs.Courses.{Walk, line_at, walk, at_rest, unended}
+use Rattle.msc_import.specs.Drafting.{drawn, drawn_walk, fitted, few_events, sections_on, short_enough, tree_of}
+use Rattle.msc_mermaid.specs.Gives.{◌>>=◌, unless}
+use Rattle.msc_scenarios.specs.Laws.{walked}
+use Rattle.msc_scenarios.specs.Naming.{names_behind, number_name}
 use Rattle.msc_import.specs.Plans.{Plan, plans_of}
 use Rattle.msc_chart.specs.Events.{DraftEvent, events_of}
 use Rattle.msc_import_laws.specs.Ends.{IsEndOfItsArrow}

@@ -4,9 +4,9 @@ use Rattle.std.proofs.lemmas.Bool.{eqb-true}
 use Rattle.msc_chart.specs.Lists.{StandsAt, Occurs}
 use Rattle.msc_chart.proofs.DraftEvents.{joined}
 use Rattle.msc_chart.proofs.Places.{map-place, place-map}
-use Rattle.msc_import.specs.declared.course.Message.{Message}
-use Rattle.msc_import.specs.declared.course.Step.{Step}
-use Rattle.msc_import.specs.declared.course.Step.TheVariants as steps
+use Rattle.msc_scenarios.specs.declared.course.Message.{Message}
+use Rattle.msc_scenarios.specs.declared.course.Step.{Step}
+use Rattle.msc_scenarios.specs.declared.course.Step.TheVariants as steps
 use Rattle.msc_import.specs.declared.plan.Own.{Own}
 use Rattle.msc_import.specs.declared.plan.Own.TheVariants as owns
 use Rattle.msc_import_laws.proofs.Parts.Side.{Out, In, Alone, Lost}

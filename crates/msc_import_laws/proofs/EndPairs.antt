@@ -3,7 +3,7 @@ use Rattle.std.proofs.Common.{◌≡◌, ℕ, zero, suc, Bool, true, false, sym,
 use Rattle.std.proofs.lemmas.Bool.{eqb-true, eq-eqb}
 use Rattle.msc_chart.specs.Lists.{Occurs}
 use Rattle.msc_chart.proofs.ListLemmas.{by_test, clash}
-use Rattle.msc_import.specs.declared.course.Message.{Message}
+use Rattle.msc_scenarios.specs.declared.course.Message.{Message}
 use Rattle.msc_import.specs.declared.plan.Own.{Own}
 use Rattle.msc_import.specs.declared.plan.Own.TheVariants as owns
 use Rattle.msc_import_laws.proofs.Parts.Side.{Out, In}

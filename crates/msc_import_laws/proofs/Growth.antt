@@ -2,13 +2,13 @@
 use Rattle.std.proofs.Common.{◌≡◌, ℕ, zero, suc, ◌+◌, ◌≤◌, true, false, sym, arith, inl, inr, List, [], ◌∷◌, ◌++◌, refl, ap, ◌∙◌, count_by}
 use Rattle.std.proofs.lemmas.List.{append-nil, append_assoc}
 use Rattle.msc_chart.specs.Lists.{StandsAt}
-use Rattle.msc_import.specs.declared.TheConstants.{ARROW_LIMIT}
-use Rattle.msc_import.specs.declared.course.Ending.{Ending}
-use Rattle.msc_import.specs.declared.course.Ending.TheVariants as ends
-use Rattle.msc_import.specs.declared.course.Message.{Message}
-use Rattle.msc_import.specs.declared.course.Step.{Step}
-use Rattle.msc_import.specs.declared.course.Step.TheVariants as steps
-use Rattle.msc_import.specs.Courses.{Walk, go_on, put, then}
+use Rattle.msc_scenarios.specs.declared.TheConstants.{ARROW_LIMIT}
+use Rattle.msc_scenarios.specs.declared.course.Ending.{Ending}
+use Rattle.msc_scenarios.specs.declared.course.Ending.TheVariants as ends
+use Rattle.msc_scenarios.specs.declared.course.Message.{Message}
+use Rattle.msc_scenarios.specs.declared.course.Step.{Step}
+use Rattle.msc_scenarios.specs.declared.course.Step.TheVariants as steps
+use Rattle.msc_scenarios.specs.Courses.{Walk, go_on, put, then}
 use Rattle.msc_import_laws.specs.Apart.{is_arrow}
 use Rattle.msc_import_laws.proofs.Counts.{count_joined}
 use Rattle.msc_import_laws.proofs.Stands.{joined_at}

@@ -8,21 +8,21 @@ use Rattle.msc_chart.specs.Events.{DraftEvent, events_of}
 use Rattle.msc_chart.specs.Lists.{Occurs, StandsAt}
 use Rattle.msc_chart.specs.Orders.{Enforced, IsWired, wired}
 use Rattle.msc_chart.proofs.DraftEvents.{joined}
-use Rattle.msc_import.specs.declared.fault.ImportFault.{ImportFault}
-use Rattle.msc_import.specs.declared.fault.ImportFault.TheVariants.{TooManyScenarios}
+use Rattle.msc_mermaid.specs.declared.fault.ImportFault.{ImportFault}
+use Rattle.msc_mermaid.specs.declared.fault.ImportFault.TheVariants.{TooManyScenarios}
 use Rattle.msc_import.specs.declared.importing.Imported.{Imported}
 use Rattle.msc_import.specs.declared.plan.Manner.{Manner}
-use Rattle.msc_import.specs.declared.statement.Diagram.{Diagram}
+use Rattle.msc_mermaid.specs.declared.statement.Diagram.{Diagram}
 use Rattle.msc_import.specs.declared.whole.Scenario.{Scenario}
 use Rattle.msc_import.specs.declared.whole.Scenarios.{Scenarios}
-use Rattle.msc_import.specs.Choosing.{all_choices}
-use Rattle.msc_import.specs.Counting.{scenarios}
+use Rattle.msc_scenarios.specs.Choosing.{all_choices}
+use Rattle.msc_scenarios.specs.Counting.{scenarios}
 use Rattle.msc_import.specs.Drafting.{drawn}
 use Rattle.msc_import.specs.Importing.{Wanted, answered, chosen, diagram_in, drawn_at, imported, scenario_of, told_of}
 use Rattle.msc_import.specs.Places.{places}
 use Rattle.msc_place.specs.declared.position.Position.{Position}
-use Rattle.msc_import.specs.Laws.{walked}
-use Rattle.msc_import.specs.Naming.{names_behind}
+use Rattle.msc_scenarios.specs.Laws.{walked}
+use Rattle.msc_scenarios.specs.Naming.{names_behind}
 use Rattle.msc_import.specs.Whole.{WantedAll, all_of, all_scenarios, imported_all, scenario_with, scenarios_on}
 use Rattle.msc_import_laws.specs.Apart.{IsDrawnDown}
 use Rattle.msc_import_laws.specs.Drawn.{heights_in}

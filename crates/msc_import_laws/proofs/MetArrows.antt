@@ -2,11 +2,11 @@
 use Rattle.std.proofs.Common.{◌≡◌, ℕ, ◌<◌, ◌≤◌, length, sym, arith, List, ◌++◌, ap, ◌∙◌}
 use Rattle.std.specs.List.{AllByRecursion}
 use Rattle.msc_chart.specs.Lists.{Occurs}
-use Rattle.msc_import.specs.declared.course.Message.{Message}
-use Rattle.msc_import.specs.declared.statement.Arrow.{Arrow}
-use Rattle.msc_import.specs.declared.statement.Placed.{Placed}
-use Rattle.msc_import.specs.declared.statement.Statement.TheVariants.{Says}
-use Rattle.msc_import.specs.Courses.{Walk, Walker, message_of}
+use Rattle.msc_scenarios.specs.declared.course.Message.{Message}
+use Rattle.msc_mermaid.specs.declared.statement.Arrow.{Arrow}
+use Rattle.msc_mermaid.specs.declared.statement.Placed.{Placed}
+use Rattle.msc_mermaid.specs.declared.statement.Statement.TheVariants.{Says}
+use Rattle.msc_scenarios.specs.Courses.{Walk, Walker, message_of}
 use Rattle.msc_import_laws.specs.Outlined.{AreDistinct, Differ}
 use Rattle.msc_import_laws.proofs.Growth.{Grows, NoneShared}
 use Rattle.msc_import_laws.proofs.Numbers.{IsRound, same_number, small_rounds}

@@ -4,13 +4,13 @@ use Rattle.std.specs.List.{AllByRecursion}
 use Rattle.std.proofs.lemmas.Bool.{leb-true}
 use Rattle.msc_chart.specs.Lists.{Occurs}
 use Rattle.msc_chart.proofs.ListLemmas.{by_test}
-use Rattle.msc_import.specs.declared.TheConstants.{ROUND_LIMIT}
-use Rattle.msc_import.specs.declared.course.Message.{Message}
-use Rattle.msc_import.specs.declared.course.Step.TheVariants as steps
-use Rattle.msc_import.specs.declared.row.Kind.{Kind}
-use Rattle.msc_import.specs.declared.row.Kind.TheVariants as kinds
-use Rattle.msc_import.specs.declared.statement.Placed.{Placed}
-use Rattle.msc_import.specs.Courses.{Walk, Walker, block, branch_at, branches_in, broken, choice_of, choose, follow, form_of, formed, is_there, most_of, put, rounds_from, side_by_side, then, unbroken, with_choice}
+use Rattle.msc_scenarios.specs.declared.TheConstants.{ROUND_LIMIT}
+use Rattle.msc_scenarios.specs.declared.course.Message.{Message}
+use Rattle.msc_scenarios.specs.declared.course.Step.TheVariants as steps
+use Rattle.msc_mermaid.specs.declared.row.Kind.{Kind}
+use Rattle.msc_mermaid.specs.declared.row.Kind.TheVariants as kinds
+use Rattle.msc_mermaid.specs.declared.statement.Placed.{Placed}
+use Rattle.msc_scenarios.specs.Courses.{Walk, Walker, block, branch_at, branches_in, broken, choice_of, choose, follow, form_of, formed, is_there, most_of, put, rounds_from, side_by_side, then, unbroken, with_choice}
 use Rattle.msc_import_laws.specs.Outlined.{AreDistinct}
 use Rattle.msc_import_laws.proofs.Distinct.{distinct_branch, distinct_branches, in_branch, in_branches, together}
 use Rattle.msc_import_laws.proofs.Growth.{Grows, grows_after, grows_none, grows_on, grows_put, grows_same, grows_then, grows_wider}

@@ -2,10 +2,10 @@
 use Rattle.std.proofs.Common.{◌≡◌, ℕ, zero, suc, ◌+◌, ◌<◌, ◌≤◌, arith, List, [], ◌∷◌, ◌++◌, ap, ◌∙◌}
 use Rattle.std.specs.List.{AllByRecursion}
 use Rattle.std.proofs.lemmas.List.{append_assoc}
-use Rattle.msc_import.specs.declared.TheConstants.{ROUND_LIMIT}
-use Rattle.msc_import.specs.declared.course.Message.{Message}
-use Rattle.msc_import.specs.declared.statement.Placed.{Placed}
-use Rattle.msc_import.specs.Courses.{Walk, Walker, message_of, rounds_from}
+use Rattle.msc_scenarios.specs.declared.TheConstants.{ROUND_LIMIT}
+use Rattle.msc_scenarios.specs.declared.course.Message.{Message}
+use Rattle.msc_mermaid.specs.declared.statement.Placed.{Placed}
+use Rattle.msc_scenarios.specs.Courses.{Walk, Walker, message_of, rounds_from}
 use Rattle.msc_import_laws.specs.Outlined.{AreDistinct}
 use Rattle.msc_import_laws.proofs.Growth.{Grows, grows_same, grows_then}
 use Rattle.msc_import_laws.proofs.Numbers.{IsRound}

@@ -3,17 +3,16 @@ use Rattle.std.proofs.Common.{ap, subst, sym, ◌∙◌, arith, ◌≡◌, ℕ, 
 use Rattle.msc_parser.specs.declared.tree.Statement.{Statement as Drawn}
 use Rattle.msc_parser.specs.declared.tree.Statement.TheVariants.{Message as Signalled, Action as Acts}
 use Rattle.msc_parser.specs.declared.tree.Way.TheVariants as ways
-use Rattle.msc_import.specs.declared.course.Message.{Message}
-use Rattle.msc_import.specs.declared.course.Step.TheVariants as steps
+use Rattle.msc_scenarios.specs.declared.course.Message.{Message}
+use Rattle.msc_scenarios.specs.declared.course.Step.TheVariants as steps
 use Rattle.msc_import.specs.declared.plan.Own.{Own}
 use Rattle.msc_import.specs.declared.plan.Own.TheVariants as owns
 use Rattle.msc_import.specs.Drafting.{drawn_event, ident_text, line_name, signal}
 use Rattle.msc_import.specs.Laws.{ends_on}
-use Rattle.msc_import.specs.Plans.{sides_on as ends_of}
+use Rattle.msc_import.specs.Plans.{sides_on as ends_of, Event}
 use Rattle.msc_chart.specs.Lists.{StandsAt, Occurs}
 use Rattle.msc_chart.proofs.ListLemmas.{by_test}
 use Rattle.msc_chart.proofs.Places.{map-place, one_at, place-map}
-use Rattle.msc_import.specs.Plans.{Event}
 use Rattle.msc_import_laws.specs.Ends.{fall as drop}
 
 -- an end of a message: its output, its input, both as one action, or the output of what nobody takes

@@ -11,20 +11,20 @@ use Rattle.msc_chart.specs.Lists.{StandsAt, Occurs}
 use Rattle.msc_chart.proofs.DraftEvents.{joined}
 use Rattle.msc_chart.proofs.ListLemmas.{by_test}
 use Rattle.msc_chart.proofs.Places.{any-place}
-use Rattle.msc_import.specs.declared.TheConstants.{LINE_LIMIT}
-use Rattle.msc_import.specs.declared.fault.ImportFault.{ImportFault}
-use Rattle.msc_import.specs.declared.fault.ImportFault.TheVariants.{Outside, TooDeep, TooManyLines}
-use Rattle.msc_import.specs.declared.statement.Arrow.{Arrow}
-use Rattle.msc_import.specs.declared.statement.Cross.{Cross}
-use Rattle.msc_import.specs.declared.statement.Diagram.{Diagram}
-use Rattle.msc_import.specs.declared.statement.Placed.{Placed}
-use Rattle.msc_import.specs.declared.statement.Statement.{Statement}
-use Rattle.msc_import.specs.declared.statement.Statement.TheVariants.{Declares, Says, Begins, Closes}
-use Rattle.msc_import.specs.Gives.{◌>>=◌, unless}
-use Rattle.msc_import.specs.Outlines.{Outline, closed_by, finished, innermost, is_known, laid, meets, met, with_lines}
-use Rattle.msc_import.specs.Lines.{column_behind, is_blank, trimmed}
-use Rattle.msc_import.specs.Saying.{said_at}
-use Rattle.msc_import.specs.Reading.{Read, untold, is_arrow, is_semicolon, bare_from, bare_step, bare_then, listed, noted, read_line, read_one, read_pieces, told}
+use Rattle.msc_mermaid.specs.declared.TheConstants.{LINE_LIMIT}
+use Rattle.msc_mermaid.specs.declared.fault.ImportFault.{ImportFault}
+use Rattle.msc_mermaid.specs.declared.fault.ImportFault.TheVariants.{Outside, TooDeep, TooManyLines}
+use Rattle.msc_mermaid.specs.declared.statement.Arrow.{Arrow}
+use Rattle.msc_mermaid.specs.declared.statement.Cross.{Cross}
+use Rattle.msc_mermaid.specs.declared.statement.Diagram.{Diagram}
+use Rattle.msc_mermaid.specs.declared.statement.Placed.{Placed}
+use Rattle.msc_mermaid.specs.declared.statement.Statement.{Statement}
+use Rattle.msc_mermaid.specs.declared.statement.Statement.TheVariants.{Declares, Says, Begins, Closes}
+use Rattle.msc_mermaid.specs.Gives.{◌>>=◌, unless}
+use Rattle.msc_mermaid.specs.Outlines.{Outline, closed_by, finished, innermost, is_known, laid, meets, met, with_lines}
+use Rattle.msc_mermaid.specs.Lines.{column_behind, is_blank, trimmed}
+use Rattle.msc_mermaid.specs.Saying.{said_at}
+use Rattle.msc_mermaid.specs.Reading.{Read, untold, is_arrow, is_semicolon, bare_from, bare_step, bare_then, listed, noted, read_line, read_one, read_pieces, told}
 use Rattle.msc_import_laws.specs.Outlined.{AreDistinct, Differ, IsOutlined}
 use Rattle.msc_import_laws.proofs.Drafts.{bound, unless_is}
 use Rattle.msc_import_laws.proofs.Stands.{first_joined, second_joined}

@@ -5,18 +5,18 @@ use Rattle.std.proofs.lemmas.Bool.{cases_lt, lt-ltb}
 use Rattle.std.proofs.lemmas.List.{length-append}
 use Rattle.msc_chart.proofs.ListLemmas.{by_test, clash}
 use Rattle.msc_lexer.specs.declared.TheConstants.{TEXT_LIMIT}
-use Rattle.msc_import.specs.declared.fault.ImportFault.{ImportFault}
-use Rattle.msc_import.specs.declared.fault.ImportFault.TheVariants.{Expected, TooLong}
-use Rattle.msc_import.specs.declared.fault.Expectation.TheVariants as expectations
+use Rattle.msc_mermaid.specs.declared.fault.ImportFault.{ImportFault}
+use Rattle.msc_mermaid.specs.declared.fault.ImportFault.TheVariants.{Expected, TooLong}
+use Rattle.msc_mermaid.specs.declared.fault.Expectation.TheVariants as expectations
 use Rattle.msc_import.specs.declared.importing.Language.{Language}
 use Rattle.msc_import.specs.declared.importing.Language.TheVariants as languages
-use Rattle.msc_import.specs.declared.statement.Cross.{Cross}
-use Rattle.msc_import.specs.declared.statement.Diagram.{Diagram}
-use Rattle.msc_import.specs.Fences.{fenced}
+use Rattle.msc_mermaid.specs.declared.statement.Cross.{Cross}
+use Rattle.msc_mermaid.specs.declared.statement.Diagram.{Diagram}
+use Rattle.msc_mermaid.specs.Fences.{fenced}
 use Rattle.msc_import.specs.Importing.{begins_diagram, diagram_by, diagram_in, told_by_content}
-use Rattle.msc_import.specs.Lines.{behind_mark, led_by, lines_behind, lines_of, trimmed}
-use Rattle.msc_import.specs.Mermaid.{body, body_as, closed, ended_in, head_as, left_out, mermaid, outside, said_in, said_on, shape_of, step, step_in, steps, unread}
-use Rattle.msc_import.specs.Reading.{Read, read_line, told}
+use Rattle.msc_mermaid.specs.Lines.{behind_mark, led_by, lines_behind, lines_of, trimmed}
+use Rattle.msc_mermaid.specs.Mermaid.{body, body_as, closed, ended_in, head_as, left_out, mermaid, outside, said_in, said_on, shape_of, step, step_in, steps, unread}
+use Rattle.msc_mermaid.specs.Reading.{Read, read_line, told}
 use Rattle.msc_import_laws.specs.Outlined.{IsOutlined}
 use Rattle.msc_import_laws.proofs.Drafts.{bound}
 use Rattle.msc_import_laws.proofs.Reading.{IsRead, drop_short, line_read, none_read, read_outlined, read_same}

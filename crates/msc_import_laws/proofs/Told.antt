@@ -19,14 +19,13 @@ use Rattle.msc_chart.proofs.Lawful.{no_fault}
 use Rattle.msc_chart.proofs.Matched.{chart_count, chart_in_text_order, drawn_at}
 use Rattle.msc_chart.proofs.Places.{map-place, one_at, place-map}
 use Rattle.msc_chart.proofs.TableLemmas.{place-stands}
-use Rattle.msc_import.specs.declared.course.Message.{Message}
-use Rattle.msc_import.specs.declared.course.Step.{Step}
-use Rattle.msc_import.specs.declared.course.Step.TheVariants as steps
+use Rattle.msc_scenarios.specs.declared.course.Message.{Message}
+use Rattle.msc_scenarios.specs.declared.course.Step.{Step}
+use Rattle.msc_scenarios.specs.declared.course.Step.TheVariants as steps
 use Rattle.msc_import.specs.declared.plan.Manner.{Manner}
-use Rattle.msc_import.specs.declared.statement.Placed.{Placed}
-use Rattle.msc_import.specs.Drafting.{fitted, line_name, sections_on, tree_of}
+use Rattle.msc_mermaid.specs.declared.statement.Placed.{Placed}
+use Rattle.msc_import.specs.Drafting.{fitted, line_name, sections_on, tree_of, drawn_event}
 use Rattle.msc_import.specs.Plans.{Plan, plans_of}
-use Rattle.msc_import.specs.Drafting.{drawn_event}
 use Rattle.msc_import.specs.Laws.{ends_on}
 use Rattle.msc_chart.specs.Events.{act_of}
 use Rattle.msc_import_laws.proofs.Parts.{end_of_part}

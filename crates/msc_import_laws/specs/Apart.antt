@@ -5,11 +5,11 @@ use Rattle.msc_chart.specs.Drawings.{chart_events}
 use Rattle.msc_chart.specs.Faults.{IsFaultless}
 use Rattle.msc_chart.specs.Lists.{StandsAt}
 use Rattle.msc_parser.specs.Grammar.{Tree}
-use Rattle.msc_import.specs.declared.course.Message.{Message}
-use Rattle.msc_import.specs.declared.course.Step.{Step}
-use Rattle.msc_import.specs.declared.course.Step.TheVariants as steps
+use Rattle.msc_scenarios.specs.declared.course.Message.{Message}
+use Rattle.msc_scenarios.specs.declared.course.Step.{Step}
+use Rattle.msc_scenarios.specs.declared.course.Step.TheVariants as steps
 use Rattle.msc_import.specs.declared.plan.Manner.{Manner}
-use Rattle.msc_import.specs.declared.statement.Placed.{Placed}
+use Rattle.msc_mermaid.specs.declared.statement.Placed.{Placed}
 use Rattle.msc_import.specs.Drafting.{fitted, line_name, sections_on, tree_of}
 use Rattle.msc_import.specs.Plans.{Plan, plans_of}
 use Rattle.msc_import_laws.specs.Ends.{heights_of}

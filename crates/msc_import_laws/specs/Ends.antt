@@ -6,7 +6,7 @@ use Rattle.msc_parser.specs.declared.tree.Statement.{Statement as Drawn}
 use Rattle.msc_parser.specs.declared.tree.Statement.TheVariants.{Message as Signalled, Action as Acts}
 use Rattle.msc_parser.specs.declared.tree.Way.{Way}
 use Rattle.msc_parser.specs.declared.tree.Way.TheVariants as ways
-use Rattle.msc_import.specs.declared.course.Step.{Step}
+use Rattle.msc_scenarios.specs.declared.course.Step.{Step}
 use Rattle.msc_import.specs.declared.plan.Own.{Own}
 use Rattle.msc_import.specs.Drafting.{drawn_event, fitted, line_name}
 use Rattle.msc_import.specs.Laws.{ends_on}

@@ -1,0 +1,13 @@
+-- what is promised
+pub mod Expectations
+pub mod Lines
+pub mod Keys
+pub mod Seeking
+pub mod Rows
+pub mod Gives
+pub mod Saying
+pub mod Outlines
+pub mod Reading
+pub mod Mermaid
+pub mod Fences
+pub mod Laws

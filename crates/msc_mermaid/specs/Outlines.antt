@@ -1,0 +1,86 @@
+-- The lines of a diagram and its open blocks, statement by statement.
+use Rattle.std.specs.Prelude.{ℕ, ◌-◌, Bool, true, false, cond, nat_lt, List, [], ◌∷◌, ◌++◌, length, take, slice_get, Option, None, Some, Result, Ok, Err}
+use Rattle.std.specs.List.{list_any}
+use Rattle.std.specs.Str.{bytes_eq}
+use Rattle.msc_mermaid.specs.declared.fault.ImportFault.{ImportFault}
+use Rattle.msc_mermaid.specs.declared.fault.ImportFault.TheVariants.{Outside, TooDeep, TooManyLines, Unended}
+use Rattle.msc_mermaid.specs.declared.outline.Opened.{Opened}
+use Rattle.msc_mermaid.specs.declared.row.Closer.{Closer}
+use Rattle.msc_mermaid.specs.declared.row.Closer.TheVariants as closers
+use Rattle.msc_mermaid.specs.declared.row.Kind.{Kind}
+use Rattle.msc_mermaid.specs.declared.row.Kind.TheVariants as kinds
+use Rattle.msc_mermaid.specs.declared.statement.Statement.{Statement}
+use Rattle.msc_mermaid.specs.declared.statement.Statement.TheVariants.{Declares, Says, Begins, Closes}
+use Rattle.msc_mermaid.specs.declared.TheConstants.{DEPTH_LIMIT, LINE_LIMIT}
+use Rattle.msc_mermaid.specs.Gives.{◌>>=◌, unless}
+
+-- the lines in the order in which they are declared or used first, and the blocks that are open, the
+-- innermost one last
+pub record Outline : Type 0 where
+  pub lines : List (List ℕ)
+  pub opened : List Opened
+
+-- nothing was said
+abbrev pub blank : Outline
+blank = record { lines = []; opened = [] }
+
+-- the line is there
+abbrev pub is_known : List (List ℕ) → List ℕ → Bool
+is_known lines ident = list_any (λ l. bytes_eq l ident) lines
+
+-- the lines with this one, which stands on this line of the text
+unfoldable pub met : ℕ → List ℕ → List (List ℕ) → Result (List (List ℕ)) ImportFault
+met line ident lines =
+    cond (is_known lines ident) (Ok lines) (unless (nat_lt (length lines) LINE_LIMIT) (TooManyLines line) (lines ++ ident ∷ []))
+
+-- the outline with these lines
+abbrev pub with_lines : Outline → List (List ℕ) → Outline
+with_lines o lines = record { lines = lines; opened = o.opened }
+
+-- the outline with this line
+unfoldable pub meets : ℕ → List ℕ → Outline → Result Outline ImportFault
+meets line ident o = do
+  lines ← met line ident o.lines
+  Ok (with_lines o lines)
+
+-- the word goes on with a block of this kind, or ends it
+abbrev pub suits : Closer → Kind → Bool
+suits closers.Else kinds.Alt = true
+suits closers.And kinds.Par = true
+suits closers.Option kinds.Critical = true
+suits closers.End kind = true
+suits closer kind = false
+
+-- it does so with the innermost block
+abbrev pub suits_last : Closer → Option Opened → Bool
+suits_last closer None = false
+suits_last closer (Some b) = suits closer b.kind
+
+-- the innermost block
+abbrev pub innermost : List Opened → Option Opened
+innermost opened = slice_get opened (length opened - 1)
+
+-- the blocks that are open behind such a word
+abbrev pub left_open : Closer → List Opened → List Opened
+left_open closers.End opened = take (length opened - 1) opened
+left_open closer opened = opened
+
+-- the lines of a statement on this line of the text, and its blocks
+unfoldable pub laid : ℕ → Statement → Outline → Result Outline ImportFault
+laid line (Declares ident shown) o = meets line ident o
+laid line (Says arrow) o = do
+  first ← meets line arrow.from o
+  meets line arrow.to first
+laid line (Begins kind) o =
+    unless (nat_lt (length o.opened) DEPTH_LIMIT) (TooDeep line) (record { lines = o.lines; opened = o.opened ++ record { kind = kind; line = line } ∷ [] })
+laid line (Closes closer) o =
+    unless (suits_last closer (innermost o.opened)) (Outside line closer) (record { lines = o.lines; opened = left_open closer o.opened })
+
+-- the lines, where no block is open
+abbrev pub closed_by : List (List ℕ) → Option Opened → Result (List (List ℕ)) ImportFault
+closed_by lines None = Ok lines
+closed_by lines (Some b) = Err (Unended b.line)
+
+-- the lines of an outline that is whole
+unfoldable pub finished : Outline → Result (List (List ℕ)) ImportFault
+finished o = closed_by o.lines (innermost o.opened)

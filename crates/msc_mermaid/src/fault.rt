@@ -1,0 +1,135 @@
+//! Why a text is no diagram that can be taken, and why no chart is drawn of it.
+
+ghost use Rattle.std.specs.Prelude.{◌≡◌, Some};
+ghost use Rattle.msc_mermaid.specs.declared.fault.ImportFault.TheVariants.{Memory};
+ghost use Rattle.msc_mermaid.specs.Expectations.{expectation};
+
+use crate::key::Head;
+use crate::row::Closer;
+use std::alloc::{AllocError, AllocFailed};
+use std::fmt;
+use thiserror::Error;
+
+/// What the language wanted at the line of a fault.
+#[derive(Clone, Copy, Debug, PartialEq, Eq)]
+pub enum Expectation {
+    /// The end of what stands in front of a Mermaid diagram.
+    Front,
+    /// The end of a directive.
+    Directive,
+    /// The end of a description.
+    Description,
+    /// Nothing behind such an end.
+    LineEnd,
+    /// A line that a diagram of any language begins with.
+    AnyDiagram,
+    /// The word that a Mermaid diagram begins with.
+    Diagram,
+    /// A statement.
+    Statement,
+    /// A name.
+    Name,
+    /// The label of an arrow.
+    Label,
+}
+
+impl Expectation {
+    /// What was expected, in words.
+    fn words(self) -> &'static str
+        ensures { result.now ≡ expectation self }
+    {
+        match self {
+            Expectation::Front => "---",
+            Expectation::Directive => "}%%",
+            Expectation::Description => "}",
+            Expectation::LineEnd => "the end of the line",
+            Expectation::AnyDiagram => "a diagram",
+            Expectation::Diagram => "sequenceDiagram",
+            Expectation::Statement => "a statement",
+            Expectation::Name => "a name",
+            Expectation::Label => "a label",
+        }
+    }
+}
+
+/// Shows what was expected in the words of a printed fault.
+impl fmt::Display for Expectation {
+    ghost output = { λ e. Some (expectation e) };
+
+    fn fmt<W: fmt::Write>(&self, f: &mut fmt::Formatter<W>) -> fmt::Result {
+        f.write_str(self.words())
+    }
+}
+
+/// The first fault of a text, or why a scenario has no chart. Each line is one of the text, from 1.
+/// The messages are the words of the printed lines, without number and line.
+#[derive(Clone, Copy, Debug, PartialEq, Eq, Error)]
+pub enum ImportFault {
+    /// The text is too long. Comes before all others.
+    #[error("text longer than 1048576 bytes")]
+    TooLong,
+    /// Something else was expected on this line than what stands there.
+    #[error("expected {1}")]
+    Expected(usize, Expectation),
+    /// An arrow on this line that isn't taken.
+    #[error("{1} is not supported")]
+    Unsupported(usize, Head),
+    /// The cross of an arrow on this line is lost or arrives: the text doesn't say which.
+    #[error("say --cross lost or --cross arrives")]
+    Cross(usize),
+    /// The innermost block without its end; the line is where it begins. Comes after all others of
+    /// a text.
+    #[error("block without end")]
+    Unended(usize),
+    /// The end of a block, or the word that begins its next branch, outside of such a block.
+    #[error("{1} outside of its block")]
+    Outside(usize, Closer),
+    /// A block within as many as there may be.
+    #[error("more than 10 blocks inside each other")]
+    TooDeep(usize),
+    /// A line beside as many as there may be.
+    #[error("more than 32 instances")]
+    TooManyLines(usize),
+    /// The diagram has more scenarios than so many, which is the limit that was given.
+    #[error("more than {0} scenarios")]
+    TooManyScenarios(usize),
+    /// The diagram has so many scenarios, and it isn't said which of them is meant; as many as one
+    /// more than are counted, where it has more.
+    #[error("{0} scenarios, say --choose or --into")]
+    Several(usize),
+    /// A choice of the block on this line, from 1, is more than its greatest one.
+    #[error("choice {1} is more than {2}")]
+    Choice(usize, usize, usize),
+    /// More choices are given than blocks were met.
+    #[error("{0} choices for {1} blocks")]
+    TooManyChoices(usize, usize),
+    /// An arrow of a scenario beside as many as there may be.
+    #[error("more than 1024 arrows")]
+    TooManyArrows(usize),
+    /// The branches of the block on this line are no coregion on a line of the diagram, which is
+    /// told by its number, from 0.
+    #[error("parallel branches share line {1}")]
+    Shared(usize, usize),
+    /// The Markdown has no diagram of this number, from 1.
+    #[error("no diagram {0}")]
+    NoDiagram(usize),
+    /// A growth of memory was refused.
+    #[error("memory fault")]
+    Memory,
+}
+
+impl From<AllocError> for ImportFault {
+    ghost from_gives = { λ _ e. e ≡ Memory };
+
+    fn from(_e: AllocError) -> ImportFault {
+        ImportFault::Memory
+    }
+}
+
+impl<T: Drop> From<AllocFailed<T>> for ImportFault {
+    ghost from_gives = { λ _ e. e ≡ Memory };
+
+    fn from(_e: AllocFailed<T>) -> ImportFault {
+        ImportFault::Memory
+    }
+}

@@ -1,0 +1,350 @@
+//! The key words, marks and arrows of Mermaid's sequence diagrams. Capital and small letters count
+//! as the same in all of them.
+
+ghost use Rattle.std.specs.Prelude.{◌≡◌, ◌≤◌, Some, IfSome, IsTrue, length, drop, find};
+ghost use Rattle.msc_mermaid.specs.Keys.{all_heads, all_keys, are_spelled, begin_so};
+ghost use Rattle.msc_mermaid.specs.Keys.{head_of, head_text, is_crossed, is_double, key_of};
+ghost use Rattle.msc_mermaid.specs.Keys.{mark_text, spelling};
+
+use std::fmt;
+
+/// A word that a statement may begin with.
+#[derive(Clone, Copy)]
+pub(crate) enum Key {
+    Create,
+    Participant,
+    Actor,
+    Destroy,
+    Loop,
+    Alt,
+    Opt,
+    Par,
+    ParOver,
+    Critical,
+    Break,
+    Rect,
+    Box,
+    Else,
+    And,
+    Option,
+    End,
+    Note,
+    Activate,
+    Deactivate,
+    Autonumber,
+    Links,
+    Link,
+    Properties,
+    Details,
+    Title,
+    AccTitle,
+    AccDescr,
+    Over,
+    Off,
+}
+
+/// A text that stands within statements, or at the ends of what is left out.
+#[derive(Clone, Copy)]
+pub(crate) enum Mark {
+    Comment,
+    Directive,
+    DirectiveEnd,
+    Description,
+    DescriptionEnd,
+    Colon,
+    LeftOf,
+    RightOf,
+    Over,
+    Off,
+    Metadata,
+    As,
+    Wrap,
+    NoWrap,
+    Cross,
+    Point,
+}
+
+/// An arrow: its line, solid or dotted, with its heads.
+#[derive(Clone, Copy, Debug, PartialEq, Eq)]
+pub enum Head {
+    /// A dotted line with a head on both sides.
+    DottedBoth,
+    /// A line with a head on both sides.
+    Both,
+    /// A dotted line with a filled head.
+    DottedFilled,
+    /// A line with a filled head.
+    Filled,
+    /// A dotted line.
+    DottedPlain,
+    /// A line.
+    Plain,
+    /// A dotted line with a cross.
+    DottedCross,
+    /// A line with a cross.
+    Cross,
+    /// A dotted line with an open head.
+    DottedPoint,
+    /// A line with an open head.
+    Point,
+}
+
+/// Shows the arrow as it is written.
+impl fmt::Display for Head {
+    ghost output = { λ h. Some (head_text h) };
+
+    fn fmt<W: fmt::Write>(&self, f: &mut fmt::Formatter<W>) -> fmt::Result {
+        f.write_str(self.text())
+    }
+}
+
+/// Whether the bytes are this text.
+pub fn are_spelled(bytes: &[u8], text: &[u8]) -> bool
+    ensures { result ≡ are_spelled bytes.now text.now }
+{
+    bytes.eq_ignore_ascii_case(text)
+}
+
+/// Whether the bytes begin with this text.
+fn begin_so(bytes: &[u8], text: &[u8]) -> bool
+    ensures value { result ≡ begin_so bytes.now text.now }
+    ensures room { IsTrue result → length text.now ≤ length bytes.now }
+{
+    text.len() <= bytes.len() && are_spelled(&bytes[..text.len()], text)
+}
+
+impl Key {
+    /// Each of them once.
+    const ALL: [Key; 30] = [
+        Key::Create,
+        Key::Participant,
+        Key::Actor,
+        Key::Destroy,
+        Key::Loop,
+        Key::Alt,
+        Key::Opt,
+        Key::Par,
+        Key::ParOver,
+        Key::Critical,
+        Key::Break,
+        Key::Rect,
+        Key::Box,
+        Key::Else,
+        Key::And,
+        Key::Option,
+        Key::End,
+        Key::Note,
+        Key::Activate,
+        Key::Deactivate,
+        Key::Autonumber,
+        Key::Links,
+        Key::Link,
+        Key::Properties,
+        Key::Details,
+        Key::Title,
+        Key::AccTitle,
+        Key::AccDescr,
+        Key::Over,
+        Key::Off,
+    ];
+
+    /// How it is spelled.
+    fn spelling(self) -> &'static [u8]
+        ensures { result.now ≡ spelling self }
+    {
+        match self {
+            Key::Create => b"create",
+            Key::Participant => b"participant",
+            Key::Actor => b"actor",
+            Key::Destroy => b"destroy",
+            Key::Loop => b"loop",
+            Key::Alt => b"alt",
+            Key::Opt => b"opt",
+            Key::Par => b"par",
+            Key::ParOver => b"par_over",
+            Key::Critical => b"critical",
+            Key::Break => b"break",
+            Key::Rect => b"rect",
+            Key::Box => b"box",
+            Key::Else => b"else",
+            Key::And => b"and",
+            Key::Option => b"option",
+            Key::End => b"end",
+            Key::Note => b"note",
+            Key::Activate => b"activate",
+            Key::Deactivate => b"deactivate",
+            Key::Autonumber => b"autonumber",
+            Key::Links => b"links",
+            Key::Link => b"link",
+            Key::Properties => b"properties",
+            Key::Details => b"details",
+            Key::Title => b"title",
+            Key::AccTitle => b"accTitle",
+            Key::AccDescr => b"accDescr",
+            Key::Over => b"over",
+            Key::Off => b"off",
+        }
+    }
+
+    /// The first of these words that the bytes are.
+    fn among(bytes: &[u8], keys: &[Key]) -> Option<Key>
+        ensures { result ≡ find (λ k. are_spelled bytes.now (spelling k)) keys.now }
+    {
+        for key in keys {
+            if are_spelled(bytes, key.spelling()) {
+                return Some(*key);
+            }
+        }
+        None
+    }
+
+    /// The key word that the bytes are.
+    pub(crate) fn of(bytes: &[u8]) -> Option<Key>
+        ensures { result ≡ key_of bytes.now }
+    {
+        Key::among(bytes, &Key::ALL)
+    }
+
+    /// Whether the bytes begin with this word.
+    pub(crate) fn begins(self, bytes: &[u8]) -> bool
+        ensures value { result ≡ begin_so bytes.now (spelling self) }
+        ensures room { IsTrue result → length (spelling self) ≤ length bytes.now }
+    {
+        begin_so(bytes, self.spelling())
+    }
+
+    /// How many bytes it has.
+    pub(crate) fn length(self) -> usize
+        ensures { result ≡ length (spelling self) }
+    {
+        self.spelling().len()
+    }
+}
+
+impl Mark {
+    /// Its text.
+    fn text(self) -> &'static [u8]
+        ensures { result.now ≡ mark_text self }
+    {
+        match self {
+            Mark::Comment => b"%%",
+            Mark::Directive => b"%%{",
+            Mark::DirectiveEnd => b"}%%",
+            Mark::Description => b"{",
+            Mark::DescriptionEnd => b"}",
+            Mark::Colon => b":",
+            Mark::LeftOf => b"left of",
+            Mark::RightOf => b"right of",
+            Mark::Over => b"over",
+            Mark::Off => b"off",
+            Mark::Metadata => b"@{",
+            Mark::As => b"as",
+            Mark::Wrap => b"wrap:",
+            Mark::NoWrap => b"nowrap:",
+            Mark::Cross => b"-x",
+            Mark::Point => b"-)",
+        }
+    }
+
+    /// Whether the bytes begin with it.
+    pub(crate) fn begins(self, bytes: &[u8]) -> bool
+        ensures value { result ≡ begin_so bytes.now (mark_text self) }
+        ensures room { IsTrue result → length (mark_text self) ≤ length bytes.now }
+    {
+        begin_so(bytes, self.text())
+    }
+
+    /// How many bytes it has.
+    pub(crate) fn length(self) -> usize
+        ensures { result ≡ length (mark_text self) }
+    {
+        self.text().len()
+    }
+
+    /// What stands behind as many bytes as it has.
+    pub(crate) fn behind(self, bytes: &[u8]) -> &[u8]
+        ensures { result.now ≡ drop (length (mark_text self)) bytes.now }
+    {
+        let length = self.length();
+        if length > bytes.len() {
+            return &[];
+        }
+        &bytes[length..]
+    }
+}
+
+impl Head {
+    /// Each of them once, in the order in which they are looked for.
+    const ALL: [Head; 10] = [
+        Head::DottedBoth,
+        Head::Both,
+        Head::DottedFilled,
+        Head::Filled,
+        Head::DottedPlain,
+        Head::Plain,
+        Head::DottedCross,
+        Head::Cross,
+        Head::DottedPoint,
+        Head::Point,
+    ];
+
+    /// Its text.
+    pub(crate) fn text(self) -> &'static str
+        ensures { result.now ≡ head_text self }
+    {
+        match self {
+            Head::DottedBoth => "<<-->>",
+            Head::Both => "<<->>",
+            Head::DottedFilled => "-->>",
+            Head::Filled => "->>",
+            Head::DottedPlain => "-->",
+            Head::Plain => "->",
+            Head::DottedCross => "--x",
+            Head::Cross => "-x",
+            Head::DottedPoint => "--)",
+            Head::Point => "-)",
+        }
+    }
+
+    /// Whether it has a head on both sides.
+    pub(crate) fn is_double(self) -> bool
+        ensures { result ≡ is_double self }
+    {
+        matches!(self, Head::DottedBoth | Head::Both)
+    }
+
+    /// Whether it ends in a cross.
+    pub(crate) fn is_crossed(self) -> bool
+        ensures { result ≡ is_crossed self }
+    {
+        matches!(self, Head::DottedCross | Head::Cross)
+    }
+
+    /// The first of these arrows that the bytes begin with.
+    fn among(bytes: &[u8], heads: &[Head]) -> Option<Head>
+        ensures value { result ≡ find (λ h. begin_so bytes.now (head_text h)) heads.now }
+        ensures room { IfSome result (λ h. length (head_text h) ≤ length bytes.now) }
+    {
+        for head in heads {
+            if begin_so(bytes, head.text().as_bytes()) {
+                return Some(*head);
+            }
+        }
+        None
+    }
+
+    /// How many bytes it has.
+    pub(crate) fn length(self) -> usize
+        ensures { result ≡ length (head_text self) }
+    {
+        self.text().len()
+    }
+
+    /// The arrow that the bytes begin with.
+    pub(crate) fn of(bytes: &[u8]) -> Option<Head>
+        ensures value { result ≡ head_of bytes.now }
+        ensures room { IfSome result (λ h. length (head_text h) ≤ length bytes.now) }
+    {
+        Head::among(bytes, &Head::ALL)
+    }
+}

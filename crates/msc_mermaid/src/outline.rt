@@ -1,0 +1,157 @@
+//! The lines of a diagram and its open blocks, statement by statement.
+
+ghost use Rattle.std.specs.Prelude.{◌≡◌};
+ghost use Rattle.msc_mermaid.specs.Gives.{Gives};
+ghost use Rattle.msc_mermaid.specs.Outlines.{blank, finished, innermost, is_known, laid, meets, suits};
+ghost use Rattle.msc_mermaid.specs.Outlines.{suits_last};
+ghost use Rattle.msc_mermaid.specs.Reading.{Leaves};
+
+use crate::fault::ImportFault;
+use crate::row::{Closer, Kind};
+use crate::statement::Statement;
+use crate::{DEPTH_LIMIT, LINE_LIMIT};
+use listed::Listed;
+use std::alloc::Global;
+use std::marker::Model;
+
+/// A block that is open, and the line of the text on which it begins.
+#[derive(Clone, Copy)]
+pub(crate) struct Opened {
+    pub kind: Kind,
+    pub line: usize,
+}
+
+/// The lines in the order in which they are declared or used first, and the blocks that are open,
+/// the innermost one last.
+#[derive(Drop)]
+pub(crate) struct Outline {
+    lines: Vec<Listed<u8>>,
+    opened: Vec<Opened>,
+}
+
+impl Model for Outline {
+    ghost use Rattle.msc_mermaid.specs.Outlines.{Outline as Laid};
+
+    ghost Value = { Laid };
+
+    ghost view = { λ o. record { lines = o.lines.items; opened = o.opened.items } };
+}
+
+/// Whether the line is there.
+fn is_known(lines: &[Listed<u8>], ident: &[u8]) -> bool
+    ensures { result ≡ is_known lines.now ident.now }
+{
+    lines.iter().any(|line| line.as_slice() == ident)
+}
+
+impl Closer {
+    /// Whether it goes on with a block of this kind, or ends it.
+    fn suits(self, kind: Kind) -> bool
+        ensures { result ≡ suits self kind }
+    {
+        matches!(
+            (self, kind),
+            (Closer::Else, Kind::Alt)
+                | (Closer::And, Kind::Par)
+                | (Closer::Option, Kind::Critical)
+                | (Closer::End, _)
+        )
+    }
+}
+
+/// Whether the word goes on with the innermost block, or ends it.
+fn suits_last(closer: Closer, opened: &[Opened]) -> bool
+    ensures { result ≡ suits_last closer (innermost opened.now) }
+{
+    match opened.last() {
+        None => false,
+        Some(block) => closer.suits(block.kind),
+    }
+}
+
+impl Outline {
+    /// Nothing was said.
+    pub(crate) fn new(alloc: Global) -> Self
+        ensures { result ≡ blank }
+    {
+        Outline {
+            lines: Vec::new(alloc),
+            opened: Vec::new(alloc),
+        }
+    }
+
+    /// Meets a line, on this line of the text.
+    #[tactic(auto, unfolding(crate::specs::Outlines::meets, crate::specs::Outlines::met))]
+    fn meet(&mut self, alloc: Global, line: usize, ident: &[u8]) -> Result<(), ImportFault>
+        ensures { Leaves result self.new (meets line ident.now self.old) }
+    {
+        if is_known(self.lines.as_slice(), ident) {
+            return Ok(());
+        }
+        if self.lines.len() >= LINE_LIMIT {
+            return Err(ImportFault::TooManyLines(line));
+        }
+        let ident = Listed::from_vec(Vec::from_slice(alloc, ident)?);
+        self.lines.push(ident)?;
+        Ok(())
+    }
+
+    /// Begins a block.
+    #[tactic(auto, unfolding(crate::specs::Outlines::laid))]
+    fn begin(&mut self, line: usize, kind: Kind) -> Result<(), ImportFault>
+        ensures { Leaves result self.new (laid line (Statement.Begins kind) self.old) }
+    {
+        if self.opened.len() >= DEPTH_LIMIT {
+            return Err(ImportFault::TooDeep(line));
+        }
+        self.opened.push(Opened { kind, line })?;
+        Ok(())
+    }
+
+    /// Goes on with a block, or ends it.
+    #[tactic(auto, unfolding(crate::specs::Outlines::laid))]
+    fn close(&mut self, line: usize, closer: Closer) -> Result<(), ImportFault>
+        ensures { Leaves result self.new (laid line (Statement.Closes closer) self.old) }
+    {
+        if !suits_last(closer, self.opened.as_slice()) {
+            return Err(ImportFault::Outside(line, closer));
+        }
+        if matches!(closer, Closer::End) {
+            let _ended = self.opened.pop();
+        }
+        Ok(())
+    }
+
+    /// Lays a statement, which stands on this line of the text.
+    #[tactic(auto, unfolding(crate::specs::Outlines::laid))]
+    pub(crate) fn lay(
+        &mut self,
+        alloc: Global,
+        line: usize,
+        statement: &Statement,
+    ) -> Result<(), ImportFault>
+        ensures { Leaves result self.new (laid line statement.now self.old) }
+    {
+        match statement {
+            Statement::Declares(ident, _) => self.meet(alloc, line, ident.as_slice()),
+            Statement::Says(arrow) => {
+                self.meet(alloc, line, arrow.from.as_slice())?;
+                self.meet(alloc, line, arrow.to.as_slice())
+            }
+            Statement::Begins(kind) => self.begin(line, *kind),
+            Statement::Closes(closer) => self.close(line, *closer),
+        }
+    }
+
+    /// The lines, where no block is open.
+    #[tactic(auto, unfolding(crate::specs::Outlines::finished))]
+    pub(crate) fn finish(self) -> Result<Listed<Listed<u8>>, ImportFault>
+        ensures { Gives (λ x. x) result (finished self) }
+    {
+        let Outline { lines, opened } = self;
+        if let Some(block) = opened.last() {
+            return Err(ImportFault::Unended(block.line));
+        }
+        Ok(Listed::from_vec(lines))
+    }
+}
