@@ -24,7 +24,7 @@ use Rattle.msc_reason.specs.Marked.{lack_in}
 use Rattle.msc_reason.specs.declared.kinds.KindSet.{KindSet}
 use Rattle.msc_judge.specs.declared.question.Question.{Question}
 use Rattle.msc_diagram.proofs.Fresh.{above_first}
-use Rattle.msc_diagram.proofs.Numbers.{plain_counts}
+use Rattle.msc_diagram.proofs.Above.{plain_counts}
 use Rattle.msc_diagram.proofs.Same.{filter_agreed}
 use Rattle.msc_diagram.specs.Counts.{chooses, counting_places, listed_places, race_places, without}
 use Rattle.msc_diagram.specs.Laws.{PlacesAddUp}
@@ -56,7 +56,7 @@ places_equiv : IsEquivalence same_places
 places_equiv = both_equiv (λ (p : Place × Place). p.0) (λ (p : Place × Place). p.1) same_place same_place place_equiv place_equiv
 
 -- a race of a scenario is at these places
-at_places : Scenario → List (ℕ × ℕ) → Place × Place → Bool
+abbrev at_places : Scenario → List (ℕ × ℕ) → Place × Place → Bool
 at_places s pairs q = list_any (λ p. same_places q (places_in s p)) pairs
 
 module _ (s : Scenario) where
@@ -107,7 +107,7 @@ distinct_from pairs above (c ∷ cases) once =
     distinct_from pairs (above_with c.scenario above (pairs c)) cases (distinct_with c.scenario above (pairs c) once)
 
 -- a race of some scenario is at these places
-at_cases : (Case → List (ℕ × ℕ)) → List Case → Place × Place → Bool
+abbrev at_cases : (Case → List (ℕ × ℕ)) → List Case → Place × Place → Bool
 at_cases pairs cases q = list_any (λ c. at_places c.scenario (pairs c) q) cases
 
 -- exactly the places of races are there
@@ -139,6 +139,7 @@ module _ (queues : Queues) (kinds : KindSet) (cases : List Case) where
 
   -- so as many places count as are both
   both : length (counting_places queues kinds cases) ≡ length (filter (is_member same_places (counting_places queues kinds cases)) (race_places queues cases))
+  unfolding IsDistinct
   both =
       length-IsIntersection places_equiv (race_places queues cases) (counting_places queues kinds cases) (counting_places queues kinds cases)
       (distinct_from (all_of queues) [] cases tt) (distinct_from (counting_of queues kinds) [] cases tt)
@@ -156,20 +157,20 @@ module _ (queues : Queues) (kinds : KindSet) (cases : List Case) where
 
 -- without `closest` those that count are listed
 plain_listed : (queues : Queues) (q : Question) → q.closest ≡ false → (c : Case) → asked_of queues q c ≡ counting_of queues q.allowed c
-plain_listed queues q no c =
+plain_listed queues q off c =
     let e = judged_in queues c in
     let left = of_kinds q.allowed in
     filter_agreed (is_listed e left q.closest (lack_in e)) (counts left (lack_in e)) (races_of e)
-    (λ p there. ap (λ (t : Bool). counts left (lack_in e) p && (not t || is_alone e.chart.events (counting e left (lack_in e)) p)) no
+    (λ p there. ap (λ (t : Bool). counts left (lack_in e) p && (not t || is_alone e.chart.events (counting e left (lack_in e)) p)) off
     ∙ and-true (counts left (lack_in e) p))
 
 pub add_up : PlacesAddUp
-add_up queues q cases no = by_test (is_empty q.allowed)
+add_up queues q cases off = by_test (is_empty q.allowed)
     (λ empty.
-    let none : chooses q ≡ false = ap₂ (λ (a b : Bool). a || not b) no empty in
+    let none : chooses q ≡ false = ap₂ (λ (a b : Bool). a || not b) off empty in
     subst (λ (k : PlaceCounts). k.races ≡ unwrap_or k.allowed 0 + k.listed) (plain_counts queues q cases none) refl)
     (λ some.
-    let same : asked_of queues q ≡ counting_of queues q.allowed = λ j c. plain_listed queues q no c j in
+    let same : asked_of queues q ≡ counting_of queues q.allowed = λ j c. plain_listed queues q off c j in
     let listed = ap (λ (pairs : Case → List (ℕ × ℕ)). length (places_from pairs [] cases)) same in
     let parts = all_parts queues q.allowed cases in
     let left = length (without (race_places queues cases) (counting_places queues q.allowed cases)) in

@@ -6,6 +6,6 @@ pub mod Knowing
 pub mod Growing
 pub mod Clearing
 pub mod Same
-pub mod Numbers
+pub mod Above
 pub mod Adding
 pub mod Answering

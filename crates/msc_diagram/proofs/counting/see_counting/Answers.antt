@@ -19,14 +19,15 @@ loop-e-init c =
     }
 
 pub keep_counting-requires : goal.keep_counting-requires
-keep_counting-requires c = subst (AreRacesOf c.args.enforced.now) (sym c.as_slice.ensures.value) c.in_ok-next_races.ensures.races
+keep_counting-requires c =
+    subst (AreRacesOf c.args.enforced.now) (sym (c.as_slice.ensures.value ∙ c.in_ok-next_races.ensures.list)) c.in_ok-next_races.ensures.races
 
 pub see-requires : goal.see-requires
 see-requires c =
     let e = c.args.enforced.now in
-    let races = subst (AreRacesOf e) (sym c.as_slice.ensures.value) c.in_ok-next_races.ensures.races in
-    let list = c.as_slice-2.ensures.value ∙ c.in_ok-keep_counting.ensures in
-    races_known e c.as_slice-2.result.now (length c.args.places.now)
+    let races = subst (AreRacesOf e) (sym (c.as_slice.ensures.value ∙ c.in_ok-next_races.ensures.list)) c.in_ok-next_races.ensures.races in
+    let list = c.as_slice-in-loop-e.ensures.value ∙ c.in_ok-keep_counting.ensures in
+    races_known e c.as_slice-in-loop-e.result.now (length c.args.places.now)
     (subst (AreRacesOf e) (sym list) (kept_are e (counts c.args.left (lack_in e)) c.as_slice.result.now races)) (sym c.requires)
 
 pub loop-e-preserved : goal.loop-e-preserved
@@ -35,7 +36,7 @@ loop-e-preserved c =
     let test = counts c.args.left (lack_in e) in
     let k = c.loop-e.e in
     let now : List (ℕ × ℕ) = filter test (races_from e k) in
-    let list = c.as_slice-2.ensures.value ∙ c.in_ok-keep_counting.ensures
+    let list = c.as_slice-in-loop-e.ensures.value ∙ c.in_ok-keep_counting.ensures
     ∙ ap (filter test) (c.as_slice.ensures.value ∙ c.in_ok-next_races.ensures.list) in
     record {
       reached = c.in_ok-next_races.ensures.reached;

@@ -2,7 +2,7 @@ use Rattle.std.proofs.Common.{◌≡◌, ℕ, List, [], ◌++◌, Err, length, n
 use Rattle.std.specs.Io.KnownBytes.{Appends}
 use Rattle.std.proofs.lemmas.Result.{err_from_is_err_and}
 use Rattle.msc_diagram.proofs.Answering.{all_end, all_stop, all_stop_below}
-use Rattle.msc_diagram.proofs.Numbers.{above_agrees, above_begins, counts_agree}
+use Rattle.msc_diagram.proofs.Above.{above_agrees, above_begins, counts_agree}
 use Rattle.msc_diagram.specs.Counts.{counted, counts_text, diagram_end}
 use Rattle.msc_diagram.specs.Judging.{lines_in}
 use Rattle.msc_diagram.specs.Scenarios.{cases_text, diagram_head, Case}

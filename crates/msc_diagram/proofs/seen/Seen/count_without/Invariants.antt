@@ -4,4 +4,4 @@ use Rattle.msc_diagram.proofs.seen.Seen.count_without.Given as goal
 
 -- so many of those so far were not seen there
 abbrev pub invariant-loop-places : goal.invariant-loop-places
-invariant-loop-places l = l.count ≡ length (without (take l.places-index l.self.keys) l.other.keys)
+invariant-loop-places l = l.count ≡ length (without (take l.places-index l.self) l.other)

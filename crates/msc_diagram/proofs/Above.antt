@@ -25,14 +25,14 @@ use Rattle.msc_diagram.specs.declared.scenario.Scenario.{Scenario}
 
 -- without options the closest races are not asked for, and no kind is left out
 plain_parts : (a b : Bool) → (a || not b) ≡ false → (a ≡ false) × (b ≡ true)
-plain_parts true b no = clash refl no
-plain_parts false true no = (refl, refl)
-plain_parts false false no = clash refl no
+plain_parts true b off = clash refl off
+plain_parts false true off = (refl, refl)
+plain_parts false false off = clash refl off
 
 -- then all races of a scenario are listed
 all_asked : (queues : Queues) (q : Question) → chooses q ≡ false → (c : Case) → asked_of queues q c ≡ all_of queues c
-all_asked queues q no c =
-    let plain = plain_parts q.closest (is_empty q.allowed) no in
+all_asked queues q off c =
+    let plain = plain_parts q.closest (is_empty q.allowed) off in
     let e = judged_in queues c in
     let left = of_kinds q.allowed in
     let none : leaves_none left ≡ true = and_from (is_empty q.allowed) true plain.1 refl in
@@ -51,20 +51,20 @@ counts_plain q all some listed closest empty same = λ j. record {
 
 pub plain_counts : (queues : Queues) (q : Question) (cases : List Case) → chooses q ≡ false
     → counts_of_all (length (listed_places queues q cases)) ≡ counted queues q cases
-plain_counts queues q cases no =
-    let plain = plain_parts q.closest (is_empty q.allowed) no in
-    let same : asked_of queues q ≡ all_of queues = λ j c. all_asked queues q no c j in
+plain_counts queues q cases off =
+    let plain = plain_parts q.closest (is_empty q.allowed) off in
+    let same : asked_of queues q ≡ all_of queues = λ j c. all_asked queues q off c j in
     let races = ap (λ (pairs : Case → List (ℕ × ℕ)). length (places_from pairs [] cases)) (sym same) in
     sym (counts_plain q (race_places queues cases) (counting_places queues q.allowed cases) (listed_places queues q cases) plain.0 plain.1 races)
 
 -- nothing stands above the scenarios then
 no_counts : (q : Question) (counts : PlaceCounts) → chooses q ≡ false → counts_text q counts ≡ []
-no_counts q counts no = ap (λ (b : Bool). cond (b && not (nat_eq counts.races 0)) (number_line (codes "races ") counts.races ++ options_text counts) []) no
+no_counts q counts off = ap (λ (b : Bool). cond (b && not (nat_eq counts.races 0)) (number_line (codes "races ") counts.races ++ options_text counts) []) off
 
 -- what is told above the scenarios tells the numbers of all of them
 pub above_agrees : (scenarios : List Scenario) (queues : Queues) (q : Question) (above : Option PlaceCounts) (cases : List Case)
     → IsCountedAbove scenarios queues q above → AreCases queues q.short scenarios cases → above_text q above ≡ counts_text q (counted queues q cases)
-above_agrees scenarios queues q None cases no are = sym (no_counts q (counted queues q cases) no)
+above_agrees scenarios queues q None cases off are = sym (no_counts q (counted queues q cases) off)
 above_agrees scenarios queues q (Some counts) cases (some, first, its, is) are =
     ap (counts_text q) (is ∙ counted_agree scenarios queues q.short q.short q first cases its are)
 
@@ -72,12 +72,12 @@ above_agrees scenarios queues q (Some counts) cases (some, first, its, is) are =
 pub counts_agree : (scenarios : List Scenario) (queues : Queues) (q : Question) (above : Option PlaceCounts) (cases : List Case) (n : ℕ)
     → IsCountedAbove scenarios queues q above → AreCases queues q.short scenarios cases → n ≡ length (listed_places queues q cases)
     → unwrap_or above (counts_of_all n) ≡ counted queues q cases
-counts_agree scenarios queues q None cases n no are is = ap counts_of_all is ∙ plain_counts queues q cases no
+counts_agree scenarios queues q None cases n off are is = ap counts_of_all is ∙ plain_counts queues q cases off
 counts_agree scenarios queues q (Some counts) cases n (some, first, its, same) are is =
     same ∙ counted_agree scenarios queues q.short q.short q first cases its are
 
 -- whatever is told above them is right, before all scenarios are put
 pub above_begins : (scenarios : List Scenario) (queues : Queues) (q : Question) (look : Look) (above : Option PlaceCounts) → IsCountedAbove scenarios queues q above
     → (counts : PlaceCounts) × AreCountsAbove (forms.Lines look) scenarios queues q counts × (above_text q above ≡ counts_text q counts)
-above_begins scenarios queues q look None no = (counts_of_all 0, λ yes. clash yes no, sym (no_counts q (counts_of_all 0) no))
+above_begins scenarios queues q look None off = (counts_of_all 0, λ yes. clash yes off, sym (no_counts q (counts_of_all 0) off))
 above_begins scenarios queues q look (Some counts) (some, its) = (counts, λ yes. its, refl)
