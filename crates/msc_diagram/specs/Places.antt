@@ -2,18 +2,18 @@
 use Rattle.std.specs.Prelude.{◌≡◌, ℕ, ◌<◌, Bool, false, ◌&&◌, cond, List, [], ◌∷◌, ◌++◌, get_or, length, map, nat_eq}
 use Rattle.std.specs.List.{list_any}
 use mathlib.Core.Bool.{beq}
-use Rattle.msc_chart.specs.Charts.{line, is_local, is_output}
+use Rattle.msc_chart.specs.Charts.{line, is_controlled}
 use Rattle.msc_place.specs.Sites.{site_of}
 use Rattle.msc_diagram.specs.declared.place.Place.{Place}
 use Rattle.msc_diagram.specs.declared.scenario.Scenario.{Scenario}
 
--- the place of event e: its instance, which end of an arrow it is, and where the arrow begins. Events of two
--- scenarios that have one place are drawn by one arrow, as in two rounds of a loop.
+-- The place of event e: its instance, which end of an arrow it is, and where the arrow begins. Events of two
+-- scenarios that have one place are drawn by one arrow, as in two rounds of a loop. The action of a lost arrow
+-- has the place of its output.
 abbrev pub place_of : Scenario → ℕ → Place
 place_of s e = record {
   instance = line s.chart.events e;
-  sends = is_output s.chart.events e;
-  acts = is_local s.chart.events e;
+  acts = is_controlled s.chart.events e;
   line = (site_of s.sites e).line;
   column = (site_of s.sites e).column;
 }
@@ -26,7 +26,7 @@ places_in s p = (place_of s p.0, place_of s p.1)
 abbrev pub same_place : Place → Place → Bool
 same_place a b =
     nat_eq a.instance b.instance
-    && (beq a.sends b.sends && (beq a.acts b.acts && (nat_eq a.line b.line && nat_eq a.column b.column)))
+    && (beq a.acts b.acts && (nat_eq a.line b.line && nat_eq a.column b.column))
 
 -- both are the same two places
 abbrev pub same_places : Place × Place → Place × Place → Bool
@@ -47,7 +47,7 @@ above_with s above pairs = above ++ map (places_in s) (fresh s above pairs)
 
 -- a place that is none of an event's
 abbrev pub no_place : Place
-no_place = record { instance = 0; sends = false; acts = false; line = 0; column = 0 }
+no_place = record { instance = 0; acts = false; line = 0; column = 0 }
 
 -- these are the places of all events of a scenario, in their order
 pub record AreAllPlaces (s : Scenario) (places : List Place) : Type 0 where

@@ -6,12 +6,12 @@ ghost use Rattle.msc_diagram.specs.Places.{place_of, AreAllPlaces};
 use crate::scenario::Scenario;
 use std::alloc::{AllocError, Global};
 
-/// The place of an event: its instance, from 0, whether it is an output or an action, and where its
-/// arrow begins.
+/// The place of an event: its instance, from 0, whether it is an output or an action and no input, and
+/// where its arrow begins. So an arrow that is lost in one scenario and arrives in another has one
+/// place at its sender.
 #[derive(Clone, Copy, PartialEq, Eq, Hash)]
 pub(crate) struct Place {
     pub instance: u32,
-    pub sends: bool,
     pub acts: bool,
     pub line: usize,
     pub column: usize,
@@ -27,8 +27,7 @@ impl Place {
         let position = scenario.sites.position(e);
         Place {
             instance: chart.instance_of(e),
-            sends: chart.is_output(e),
-            acts: chart.is_local(e),
+            acts: chart.is_controlled(e),
             line: position.line,
             column: position.column,
         }
