@@ -15,9 +15,10 @@ import sys
 
 sys.dont_write_bytecode = True
 from diagram_checks import diagram
-from diagrams import Refused, scenarios
-from mermaid import diagram_of
+from diagrams import scenarios
+from mermaid import one_text
 from scenarios import QUEUES, Scenario, options_of
+from source import Refused, source_of
 
 # the numbers of rounds that are to show what the others show
 ENOUGH = {"0,2": "0,1,2,3", "1,2": "1,2,3"}
@@ -27,7 +28,7 @@ def races(text, rounds, words):
     """The races of a diagram by their lines, arrows and ends, or None where it is refused."""
     options = options_of([*words, "--limit", "300", "--rounds", rounds, "-"])
     try:
-        every = list(scenarios(diagram_of(text, options), options))
+        every = list(scenarios(one_text(source_of(text), options).diagram(options), options))
     except Refused:
         return None
     every = [Scenario(course, options.queues, "-") for course in every]
@@ -45,7 +46,7 @@ def main():
     for _ in range(options.diagrams):
         text = diagram(pick).encode()
         given = ["--queues", pick.choice(QUEUES), "--self", pick.choice(["action", "message"])]
-        given += ["--cross", "lost"]
+        given += ["--cross", pick.choice(["lost", "arrives"])]
         for few, many in ENOUGH.items() if b"\nloop" in text else ():
             wanted = races(text, many, given)
             if wanted is None:
