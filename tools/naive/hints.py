@@ -6,9 +6,9 @@ from source import Note, Refused, row_shown
 
 ARROWS_HINT = "hint arrows are ->> -->> -> --> -x --x -) --) <<->> <<-->>"
 # the words that a misspelt one may have been
-NEAR = sorted(b"""participant actor create destroy loop alt opt par par_over critical break rect box
-else and option end note over off activate deactivate autonumber links link properties details title
-acctitle accdescr""".split())
+NEAR = sorted(b"""participant actor create destroy loop alt opt par par_over critical break rect
+box else and option end note over off activate deactivate autonumber links link properties details
+title acctitle accdescr""".split())
 KINDS = b"""flowchart graph classDiagram stateDiagram erDiagram gantt pie journey gitGraph mindmap
 timeline quadrantChart requirementDiagram C4Context C4Container C4Component C4Dynamic C4Deployment
 sankey xychart block packet kanban architecture zenuml radar treemap info""".split()
@@ -47,7 +47,8 @@ def kind_hints(held, at):
     if word in KINDS:
         return [f"hint {word.decode()} is no sequence diagram"]
     if word.lower() == b"sequencediagram":
-        return [] if word == b"sequenceDiagram" else ["hint write sequenceDiagram, with a capital D"]
+        hint = "hint write sequenceDiagram, with a capital D"
+        return [] if word == b"sequenceDiagram" else [hint]
     return nearest(word, [b"sequenceDiagram"])
 
 
@@ -64,7 +65,8 @@ class Hints:
         """The hint on the semicolon before a statement."""
         if self.piece.is_first:
             return []
-        named = re.search(rb"&([A-Za-z0-9_]+);\Z", self.piece.line[:self.piece.first].rstrip())
+        before = self.piece.line[:self.piece.first].rstrip()
+        named = re.search(rb"&([A-Za-z0-9_]+);\Z", before)
         if named:
             word = named[1].decode()
             return [f"hint write #{word}; for &{word};"]

@@ -4,12 +4,12 @@
     imports.py [--texts N] [--seed S] [--notes] PROGRAM
 
 Of each text, PROGRAM import with random options has to print what mermaid.py prints, on both
-streams, with its status; with --notes the places and notes of faults too. What it prints as a chart
-is read again as the same text, by PROGRAM read, and is one that PROGRAM check judges. The texts are
-those of mermaid_texts.py: half of them have a mistake in their lines or their bytes, and some stand
-in Markdown. Prints how many texts had which first fault. The exit status is 1 at the first
-difference, whose text is printed. Before these come diagrams at each limit and one past it. Without
-PROGRAM nothing is compared.
+streams, with its status; with --notes the places and notes of faults too. What it prints as a
+chart is read again as the same text, by PROGRAM read, and is one that PROGRAM check judges. The
+texts are those of mermaid_texts.py: half of them have a mistake in their lines or their bytes, and
+some stand in Markdown. Prints how many texts had which first fault. The exit status is 1 at the
+first difference, whose text is printed. Before these come diagrams at each limit and one past it.
+Without PROGRAM nothing is compared.
 """
 import argparse
 import collections

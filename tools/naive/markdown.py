@@ -1,5 +1,5 @@
-"""The blocks of a text of Markdown, as fences, directives, shortcodes and HTML write them, and which
-of them are sequence diagrams.
+"""The blocks of a text of Markdown, as fences, directives, shortcodes and HTML write them, and
+which of them are sequence diagrams.
 """
 import re
 
@@ -20,7 +20,8 @@ OPTION = re.compile(rb":[A-Za-z0-9_-]+:")
 KINDS = {b"<": b">", b"%": b"%"}
 SHORTCODE = re.compile(rb"\{\{([<%])[ \t]*mermaid(?=[ \t>%])")
 TAG = re.compile(rb"<(pre|div)(?=[ \t>])[^>]*>", re.IGNORECASE)
-CLASS = re.compile(rb"""[ \t]class[ \t]*=[ \t]*(?:"([^"]*)"|'([^']*)'|([^ \t"'>]+))""", re.IGNORECASE)
+CLASS = re.compile(rb"""[ \t]class[ \t]*=[ \t]*(?:"([^"]*)"|'([^']*)'|([^ \t"'>]+))""",
+                   re.IGNORECASE)
 
 
 def shortcode_end(kind):
@@ -35,7 +36,8 @@ class Start:
     """How a block starts: the number of marks `>` before it, what ends it, the place on its line
     from which on its text may stand, if it may stand there, and what it is."""
 
-    def __init__(self, quotes, end, behind=None, is_marked=True, in_markup=False, has_options=False):
+    def __init__(self, quotes, end, behind=None, is_marked=True, in_markup=False,
+                 has_options=False):
         self.quotes, self.end, self.behind, self.is_marked = quotes, end, behind, is_marked
         self.in_markup, self.has_options = in_markup, has_options
 

@@ -1,24 +1,26 @@
 #!/usr/bin/env python3
-"""Reads a Mermaid sequence diagram, and prints what `msc import` prints: the chart of one scenario,
-or on standard error the line of the first fault.
+"""Reads a Mermaid sequence diagram, and prints what `msc import` prints: the chart of one
+scenario, or on standard error the line of the first fault.
 
     mermaid.py [--from mermaid|any] [--name NAME] [--choose C] [--list FILE] [--into FOLDER]
                [--shown] [--places] [--limit N] [--rounds R,R..] [--self action|message]
                [--cross lost|arrives] [--par drawn] [--fence N] < TEXT
 
 With --list the events stand in place of the chart, with the places of their arrows in FILE; with
---into the charts of all scenarios are written; with --shown the bytes of the text that are shown to
-people stand there. The text is cut into statements (mermaid_lines.py, mermaid_words.py), those are
-put into blocks, and a scenario goes through these with its choices (diagrams.py); each step is a
-function of its own, written for a reader and not for speed. It shares nothing with the crates. The
-exit status is 0, or 2 if the text is refused.
+--into the charts of all scenarios are written; with --shown the bytes of the text that are shown
+to people stand there; with --places the place and the notes follow a fault. The text is cut into
+statements (mermaid_lines.py, mermaid_words.py), those are put into blocks (diagrams.py), and a
+scenario goes through these with its choices (courses.py); markdown.py finds the diagrams of a text
+of Markdown. Each step is a function of its own, written for a reader and not for speed. It shares
+nothing with the crates. The exit status is 0, or 2 if the text is refused.
 """
 import argparse
 import os
 import sys
 
 sys.dont_write_bytecode = True
-from diagrams import SCENARIOS, Arrow, Diagram, count_of, course_of, made, scenarios
+from courses import SCENARIOS, count_of, course_of, scenarios
+from diagrams import Arrow, Diagram, made
 from hints import kind_hints
 from markdown import blocks_of, is_sequence, stray_fault
 from mermaid_lines import HEAD, Cutter, counting
@@ -74,7 +76,7 @@ def no_diagram(source, rows):
 def kind_notes(source, rows, fault):
     """What a text is instead of a sequence diagram."""
     first = first_row(source, rows)
-    if first is None or fault.words not in ("expected a diagram", "expected sequenceDiagram"):
+    if first is None:
         return []
     begin = after_space(first.held, 0)
     is_its_line = source.row(fault.at).number == first.number
@@ -94,14 +96,15 @@ def numbers_hint(numbers):
 
 class Text:
     """The lines of a diagram, which may be refused: of a block of Markdown, with its number, or of
-    the whole file."""
+    the whole file. `notes` follow any fault of them, and `others` one of what they are."""
 
-    def __init__(self, source, rows, number=None, in_markup=False, stray=None, notes=()):
-        self.source, self.rows, self.number = source, rows, number
-        self.in_markup, self.stray, self.notes = in_markup, stray, notes
+    def __init__(self, source, rows, block=None, notes=(), others=()):
+        self.source, self.rows, self.notes, self.others = source, rows, notes, others
+        self.number = block and block.number
+        self.in_markup = block is not None and block.in_markup
+        self.stray = block and block.stray
 
     def diagram(self, options):
-        """The diagram; `notes` are told if it is refused for what it is."""
         source, rows = self.source, self.rows
         if self.stray is not None:
             raise stray_fault(self.stray)
@@ -111,36 +114,29 @@ class Text:
             said = statements(source, rows, options.cross, self.in_markup)
             return Diagram(source, said)
         except Refused as fault:
-            if self.notes is not None and fault.number == 2:
-                fault.notes += [*kind_notes(source, rows, fault), *self.notes]
+            if fault.words in ("expected a diagram", "expected sequenceDiagram"):
+                fault.notes += [*kind_notes(source, rows, fault), *self.others]
+            fault.notes += self.notes
             raise
 
 
-def of_block(source, block, notes=()):
-    return Text(source, block.rows, block.number, block.in_markup, block.stray, notes)
-
-
 def texts_of(source, options):
-    """The diagrams of a file that are asked for, and whether they are all of a text of Markdown."""
+    """The diagrams of a file that are asked for, and whether they are all of Markdown."""
     first = first_row(source, source.rows)
-    is_whole = first is not None and begins_one(first)
-    if options.fence is None and is_whole:
+    if options.fence is None and first is not None and begins_one(first):
         return [Text(source, source.rows)], False
     blocks = blocks_of(source)
     own = [block for block in blocks if is_sequence(source, block)]
+    none = [] if own or not blocks else [Note("hint no block of this text is a sequence diagram")]
     if options.fence is not None:
         hint = numbers_hint([block.number for block in own])
         if not 1 <= options.fence <= len(blocks):
             raise Refused(17, f"no diagram {options.fence}", None, hint)
         block = blocks[options.fence - 1]
-        return [of_block(source, block, () if block in own else hint or none_hint(blocks))], False
+        return [Text(source, block.rows, block, [] if block in own else hint, none)], False
     if own:
-        return [of_block(source, block) for block in own], True
-    return [Text(source, source.rows, notes=none_hint(blocks))], False
-
-
-def none_hint(blocks):
-    return [Note("hint no block of this text is a sequence diagram")] if blocks else []
+        return [Text(source, block.rows, block) for block in own], True
+    return [Text(source, source.rows, others=none)], False
 
 
 def one_text(source, options):

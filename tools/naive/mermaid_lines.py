@@ -1,7 +1,7 @@
 """The lines of a sequence diagram of Mermaid, cut into statements.
 
-Front matter, directives, comments and descriptions are left out here; mermaid_words.py reads what a
-statement says.
+Front matter, directives, comments and descriptions are left out here; mermaid_words.py reads what
+a statement says.
 """
 import itertools
 import re

@@ -1,45 +1,55 @@
-"""Random texts of Mermaid: diagrams, some of them with mistakes, and texts of Markdown in which they
-stand. imports.py and diagram_checks.py give them to a program.
+"""Random texts of Mermaid: diagrams, some of them with mistakes, and texts of Markdown in which
+they stand. imports.py and diagram_checks.py give them to a program.
 """
 from mermaid_words import BOTH, LEFT, RIGHT
 from source import SPACES
 
 WHITE = [space.decode() for space in sorted(SPACES)]
-NAMES = ["A", "B", "C", "a-b", "Order Service", "Order-Service", "in", "x", "\u00e9t\u00e9", "9", "p",
-         "p_2", "long" * 20, "A#1;", "A#2;", "f(x", "x)", "\u7528\u6237", "\u200bA", "Title", "loopback",
-         "a/b", "a|b", "a\\b", "B x", "a@b", "{a}"]
-LABELS = ["a", "in", "", "GET /x?y=1", "<br/>a\\nb_", "a: b", "wrap: a", "nowrap:a", ":wrap: a",
-          ":nowrap: b", "WRAP:c", "\u20ac", "x" * 80, "endmsc", "a #35; b", "a # b", " ", "a ->> b: c",
-          "a %% b", "()", "#9829;", "&amp", "SELECT 1#59; COMMIT"]
+NAMES = [
+    "A", "B", "C", "a-b", "Order Service", "Order-Service", "in", "x", "\u00e9t\u00e9", "9", "p",
+    "p_2", "long" * 20, "A#1;", "A#2;", "f(x", "x)", "\u7528\u6237", "\u200bA", "Title",
+    "loopback", "a/b", "a|b", "a\\b", "B x", "a@b", "{a}",
+]
+LABELS = [
+    "a", "in", "", "GET /x?y=1", "<br/>a\\nb_", "a: b", "wrap: a", "nowrap:a", ":wrap: a",
+    ":nowrap: b", "WRAP:c", "\u20ac", "x" * 80, "endmsc", "a #35; b", "a # b", " ", "a ->> b: c",
+    "a %% b", "()", "#9829;", "&amp", "SELECT 1#59; COMMIT",
+]
 PLAIN = [head.decode() for head in RIGHT if not head.endswith(b"x")]
 CROSSES, TWO_HEADS = ["-x", "--x", "-X", "--X"], [head.decode() for head in BOTH]
 TURNED = [head.decode() for head in LEFT]
 BLOCKS = ["alt", "opt", "loop", "break", "critical", "par", "par", "par_over", "rect", "box"]
 BRANCHES = {"alt": "else", "critical": "option", "par": "and", "par_over": "and"}
 # lines that fit between others
-QUIET = ["", "%% a comment", "%% a; b ->> c: d", "%% %%{init}%% a", "Note over A: a", "note left of A: b",
-         "Note over A,B: a->>b: c", "activate A", "deactivate A", "autonumber", "autonumber 10 10",
-         "AutoNumber off", "autonumber %% a; A->>B: b", "autonumber 10 5%% a", "title a", "title: a",
-         "title a; A->>B: b", "accTitle: a; b # c", "accDescr : a; A->>B: b", "accDescr { a }",
-         "accDescr {\na\n%% }\nb }", "%%{init: {}}%%", "%%{init: {\n'a': 'b'\n}}%% ", "links A: {}",
-         "link A: b @ c", "properties A: {}", "details A: b", "destroy A", "destroy B",
-         "create participant D as E", "actor F", "participant A as A <b>c</b>", "participant B as wrap: X",
-         "participant Z@{ \"type\": \"queue\" } as b", "participant A@{ \"alias\": \"Data as X\" }",
-         "participant Y@{ 'type' : 'queue',\n  alias: An A }", "A->>B: a; %% b; B->>A: c", "accTitle ->> B: x",
-         "accDescr ->> A: x", "A->>+B: a;B-->>-A: b", "A()->>B: a", "A->>()B: a", "B() -->> ()A: b",
-         "loop a\nend %% b; A->>B: c", "A->>B: a # b; B->>A: c", "opt a\nend", "rect rgb(0, 0, 0)\nend",
-         "A->>end: a", "loopback->>A: b"]
+QUIET = [
+    "", "%% a comment", "%% a; b ->> c: d", "%% %%{init}%% a", "Note over A: a",
+    "note left of A: b", "Note over A,B: a->>b: c", "activate A", "deactivate A", "autonumber",
+    "autonumber 10 10", "AutoNumber off", "autonumber %% a; A->>B: b", "autonumber 10 5%% a",
+    "title a", "title: a", "title a; A->>B: b", "accTitle: a; b # c", "accDescr : a; A->>B: b",
+    "accDescr { a }", "accDescr {\na\n%% }\nb }", "%%{init: {}}%%",
+    "%%{init: {\n'a': 'b'\n}}%% ", "links A: {}", "link A: b @ c", "properties A: {}",
+    "details A: b", "destroy A", "destroy B", "create participant D as E", "actor F",
+    "participant A as A <b>c</b>", "participant B as wrap: X",
+    "participant Z@{ \"type\": \"queue\" } as b", "participant A@{ \"alias\": \"Data as X\" }",
+    "participant Y@{ 'type' : 'queue',\n  alias: An A }", "A->>B: a; %% b; B->>A: c",
+    "accTitle ->> B: x", "accDescr ->> A: x", "A->>+B: a;B-->>-A: b", "A()->>B: a", "A->>()B: a",
+    "B() -->> ()A: b", "loop a\nend %% b; A->>B: c", "A->>B: a # b; B->>A: c", "opt a\nend",
+    "rect rgb(0, 0, 0)\nend", "A->>end: a", "loopback->>A: b",
+]
 # lines that mostly do not
-WRONG = ["a }", "%%{", "}%%", "accDescr {", "accTitle:", "end", "else", "and b", "option", "loop", "alt",
-         "note A", "title -> A", "A->>B", "A: b", "over a", "autonumber x", "---", "off", "end loop",
-         "participant f()", "f()->>B: x", "a-b()->>B: x", "link-svc->>A: x", "details: x ->> y", "link A",
-         "Note over A->>B: x", "title:A->>B: x", "loop-back->>B: x", "loop ->> B: a", "else -> a",
-         "A=>>B: a", "A<->B: a", "A--->>B: a", "envoy-xds->>B: a", "A->>+()B: a", "A->>()+B: a",
-         "A()->>+B: a", "A->>-xB: a", "A->>->B: a", "A-->--B: a", "A/|-B: a", "A \\\\-- B: a", "A->>B%%: a",
-         "A->>B\uff1a a", "A \u2192 B: a", "participant A: B", "participant A@{ a", "participant A@{ a } b",
-         "create A", "participant", "destroy", "A->>B: a %%{b}%%", "%% a %%{ b", "A->>B: a; lop: b",
-         "A->>B: a &lt; b", "sequenceDiagram", "particpant A", "A,B->>C: a", "A->>B;C: a", "end-a",
-         "accTitle a", "activate", "deactivate A->>B", "->>B: a", "A->>: a", "()->>A: b"]
+WRONG = [
+    "a }", "%%{", "}%%", "accDescr {", "accTitle:", "end", "else", "and b", "option", "loop",
+    "alt", "note A", "title -> A", "A->>B", "A: b", "over a", "autonumber x", "---", "off",
+    "end loop", "participant f()", "f()->>B: x", "a-b()->>B: x", "link-svc->>A: x",
+    "details: x ->> y", "link A", "Note over A->>B: x", "title:A->>B: x", "loop-back->>B: x",
+    "loop ->> B: a", "else -> a", "A=>>B: a", "A<->B: a", "A--->>B: a", "envoy-xds->>B: a",
+    "A->>+()B: a", "A->>()+B: a", "A()->>+B: a", "A->>-xB: a", "A->>->B: a", "A-->--B: a",
+    "A/|-B: a", "A \\\\-- B: a", "A->>B%%: a", "A->>B\uff1a a", "A \u2192 B: a",
+    "participant A: B", "participant A@{ a", "participant A@{ a } b", "create A", "participant",
+    "destroy", "A->>B: a %%{b}%%", "%% a %%{ b", "A->>B: a; lop: b", "A->>B: a &lt; b",
+    "sequenceDiagram", "particpant A", "A,B->>C: a", "A->>B;C: a", "end-a", "accTitle a",
+    "activate", "deactivate A->>B", "->>B: a", "A->>: a", "()->>A: b",
+]
 FLOW = "flowchart LR\nA --> B"
 
 
@@ -103,7 +113,8 @@ def block(pick, names, depth):
 
 def front(pick):
     """The lines up to the first one that counts."""
-    before = pick.choice(["", "", "", "---\ntitle: a\n---", "\n --- \na\n---\t", "%% a", "%%{init}%%",
+    before = pick.choice(["", "", "", "---\ntitle: a\n---", "\n --- \na\n---\t", "%% a",
+                          "%%{init}%%",
                           "%%{init: {\na\n}}%%", "\u00a0\n%% a", "---\n---"])
     behind = pick.choice(["", "", "", ";", " %% a; b", "; A->>B: a", "#35"])
     return [*before.split("\n"), white(pick) + "sequenceDiagram" + behind]
@@ -164,20 +175,25 @@ def text_of(pick, lines=None):
 # Markdown
 
 # how blocks begin and end; those between are of fences that are no diagrams, or nearly begin one
-FORMS = [*[("```mermaid", "```")] * 12, ("~~~ Mermaid title", "~~~~"), ("````mermaid", "````"),
-         ("``` {.mermaid .x}", "```"), ("```{mermaid} a", "```"), ("```{mermaid}\n:zoom:\n\n:a-b: c", "```"),
-         ("~~~{MERMAID}\n\n:align: center", "~~~"), (":::mermaid", ":::"), ("::: Mermaid ", " ::: "),
-         ("{{< mermaid >}}", "{{< /mermaid >}}"), ("{{%mermaid a=\"b\"%}}", "{{% / mermaid %}}"),
-         ("<pre class=\"mermaid\">", "</pre>"), ("<DIV id='a' class='b Mermaid'>", "</div>"),
-         ("<div class=mermaid>", "a</DIV> b"), ("```puml", "```"), ("```mscgen x", "```"),
-         ("```mermaid;", "```"), ("```mermaidx", "```"), ("```sh", "```"), ("```text", "```"),
-         ("~~~", "~~~"), ("::: mermaid x", ":::"), (":::: mermaid", "::::"), ("{{< mermaid />}}", ""),
-         ("{{< mermaidx >}}", "{{< /mermaidx >}}"), ("<pre class=\"mermaidx\">", "</pre>"),
-         ("<pre id=\"mermaid\">", "</pre>"), ("<prex class=\"mermaid\">", "</prex>"),
-         ("``` mermaid `x`", "```"), ("{{< mermaid >}}", "")]
+FORMS = [
+    *[("```mermaid", "```")] * 12, ("~~~ Mermaid title", "~~~~"), ("````mermaid", "````"),
+    ("``` {.mermaid .x}", "```"), ("```{mermaid} a", "```"),
+    ("```{mermaid}\n:zoom:\n\n:a-b: c", "```"), ("~~~{MERMAID}\n\n:align: center", "~~~"),
+    (":::mermaid", ":::"), ("::: Mermaid ", " ::: "), ("{{< mermaid >}}", "{{< /mermaid >}}"),
+    ("{{%mermaid a=\"b\"%}}", "{{% / mermaid %}}"), ("<pre class=\"mermaid\">", "</pre>"),
+    ("<DIV id='a' class='b Mermaid'>", "</div>"), ("<div class=mermaid>", "a</DIV> b"),
+    ("```puml", "```"), ("```mscgen x", "```"), ("```mermaid;", "```"), ("```mermaidx", "```"),
+    ("```sh", "```"), ("```text", "```"), ("~~~", "~~~"), ("::: mermaid x", ":::"),
+    (":::: mermaid", "::::"), ("{{< mermaid />}}", ""),
+    ("{{< mermaidx >}}", "{{< /mermaidx >}}"), ("<pre class=\"mermaidx\">", "</pre>"),
+    ("<pre id=\"mermaid\">", "</pre>"), ("<prex class=\"mermaid\">", "</prex>"),
+    ("``` mermaid `x`", "```"), ("{{< mermaid >}}", ""),
+]
 WRONG_ENDS = ["", "``", "``` x", "~~~", ":::", "</pre>", "````"]
-MARKS = [*[("", "")] * 8, ("> ", "> "), (">", ">"), ("> > ", "> > "), ("- ", "  "), ("12. ", "    "),
-         ("1) > ", "   > "), ("* > - ", "  >   "), ("> ", ">"), (">> ", "> ")]
+MARKS = [
+    *[("", "")] * 8, ("> ", "> "), (">", ">"), ("> > ", "> > "), ("- ", "  "), ("12. ", "    "),
+    ("1) > ", "   > "), ("* > - ", "  >   "), ("> ", ">"), (">> ", "> "),
+]
 BETWEEN = ["", "", "# a", "text", "> a", "- b", "---", "sequenceDiagram", "> sequenceDiagram a",
            "- sequenceDiagram", "```", "`a`", "<!-- -->", "{{< /mermaid >}}"]
 

@@ -1,7 +1,7 @@
 """What a statement of Mermaid says: the rows of the table of statements, and arrows.
 
-Of each statement comes a Line, an Arrow, a Begin, a Branch, an End, or nothing; of one that fits no
-row a fault.
+Of each statement comes a Line, an Arrow, a Begin, a Branch, an End, or nothing; of one that fits
+no row a fault.
 """
 import re
 
@@ -12,8 +12,8 @@ from source import SPACE, Note, Refused, Span, after_space, before_space
 
 BLOCKS = b"loop alt opt par par_over critical break rect box".split()
 BRANCH_WORDS = b"else and option".split()
-KEY_WORDS = frozenset([*BLOCKS, *BRANCH_WORDS, *b"""participant actor create destroy end note over off
-activate deactivate autonumber links link properties details""".split()])
+KEY_WORDS = frozenset([*BLOCKS, *BRANCH_WORDS, *b"""participant actor create destroy end note over
+off activate deactivate autonumber links link properties details""".split()])
 # arrows to the right, those with two heads, and those to the left
 RIGHT = rb"""-> --> ->> -->> -) --) -|\ --|\ -|/ --|/ -\\ --\\ -// --// -x --x""".split()
 BOTH = b"<<->> <<-->>".split()
@@ -96,7 +96,8 @@ class Statement:
         if word == b"destroy":
             return self.name(at, len(self.held))
         if word in BLOCKS:
-            return Begin("par" if word == b"par_over" else word.decode(), word.decode(), self.start)
+            kind = "par" if word == b"par_over" else word.decode()
+            return Begin(kind, word.decode(), self.start)
         if word in BRANCH_WORDS:
             return Branch(word.decode(), self.start)
         if word == b"end":
@@ -116,7 +117,8 @@ class Statement:
     def key_word_hint(self, arrow):
         if self.word in BRANCH_WORDS and arrow:
             return "hint a label cannot begin with an arrow here"
-        return f"hint {self.held[:len(self.word)].decode()} is a key word; no participant has such a name"
+        word = self.held[:len(self.word)].decode()
+        return f"hint {word} is a key word; no participant has such a name"
 
     def passed(self):
         """A statement that says nothing of lines and arrows."""

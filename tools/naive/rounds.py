@@ -3,11 +3,11 @@
 
     rounds.py [--diagrams N] [--seed S]
 
-The races of a diagram whose loops go 0 and 2 rounds have to be, by their lines, their arrows and the
-ends of these, those with 0 to 3 rounds, and those with 1 and 2 rounds those with 1 to 3. Diagrams
-are those of diagram_checks.py that have a loop and at most 300 scenarios, their races those of
-scenarios.py. Prints how many verdicts were compared, and how many of them had races. The exit status
-is 1 at the first difference, whose diagram is printed.
+The races of a diagram whose loops go 0 and 2 rounds have to be, by their lines, their arrows and
+the ends of these, those with 0 to 3 rounds, and those with 1 and 2 rounds those with 1 to 3.
+Diagrams are those of diagram_checks.py that have a loop and at most 300 scenarios, their races
+those of scenarios.py. Prints how many verdicts were compared, and how many of them had races. The
+exit status is 1 at the first difference, whose diagram is printed.
 """
 import argparse
 import random
@@ -15,7 +15,7 @@ import sys
 
 sys.dont_write_bytecode = True
 from diagram_checks import diagram
-from diagrams import scenarios
+from courses import scenarios
 from mermaid import one_text
 from scenarios import QUEUES, Scenario, options_of
 from source import Refused, source_of

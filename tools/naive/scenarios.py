@@ -4,19 +4,20 @@ its scenarios, and their races, each by its two arrows once; or on standard erro
 first fault, and with `--format lines` on standard output too.
 
     scenarios.py --queues pair|mailbox|single [--closest] [--why] [--most N] [--show N]
-                 [--allow KIND] [--format text|count|lines] [--quiet] [--words] [--short] [--places]
-                 [--from mermaid|any] [--name NAME] [--rounds R,R..] [--limit N]
+                 [--allow KIND] [--format text|count|lines] [--quiet] [--words] [--short]
+                 [--places] [--from mermaid|any] [--name NAME] [--rounds R,R..] [--limit N]
                  [--self action|message] [--cross lost|arrives] [--par drawn] [--fence N] FILE
 
-The scenarios are those of diagrams.py, their races and what is told of them those of verdict.py and
-studies.py. It shares nothing with the crates. The exit status is 0, 1 if a race is listed, or 2 if a
-diagram is refused.
+The scenarios are those of courses.py, their races and what is told of them those of verdict.py and
+studies.py. It shares nothing with the crates. The exit status is 0, 1 if a race is listed, or 2 if
+a diagram is refused.
 """
 import pathlib
 import sys
 
 sys.dont_write_bytecode = True
-from diagrams import made, scenarios
+from courses import scenarios
+from diagrams import made
 from mermaid import fault_bytes, texts_of, words_on_diagrams
 from source import Refused, Source, source_of
 from studies import KINDS, editor_lines, is_closest, kind, race_words, run_lines, shown_run, why
@@ -66,8 +67,8 @@ class Verdict:
         return {it.ends(race) for it in self.every for race in it.left(self.allow, closest)}
 
     def first_races(self, closest):
-        """For each place the first race there that counts, or that is a closest one, with the number
-        of its scenario."""
+        """For each place the first race there that counts, or that is a closest one, with the
+        number of its scenario."""
         told, found = set(), []
         for i, scenario in enumerate(self.every):
             for race in scenario.left(self.allow, closest):
@@ -111,7 +112,8 @@ class Output:
         if form == "lines":
             self.lines += source.editor_lines(fault, self.options.notes)
         elif name is not None:
-            self.lines += [f"refused {file}"] if form == "count" else [f"diagram {name}", "refused"]
+            is_count = form == "count"
+            self.lines += [f"refused {file}"] if is_count else [f"diagram {name}", "refused"]
         self.error += fault_bytes(source, fault, self.options.places)
         self.status = 2
 
@@ -148,8 +150,8 @@ class Output:
         for i, scenario in enumerate(verdict.every):
             own = [race for at, race in verdict.listed if at == i]
             if own:
-                chosen = " choose " + ",".join(map(str, scenario.choices)) if scenario.choices else ""
-                yield f"scenario {i + 1}{chosen}"
+                chosen = ",".join(map(str, scenario.choices))
+                yield f"scenario {i + 1}" + (f" choose {chosen}" if chosen else "")
                 yield f"races {len(scenario.races)}"
             for race in own:
                 is_told, has_run = self.taken()

@@ -11,8 +11,8 @@ from typing import NamedTuple
 MOST, WIDTH, BEFORE = 1048576, 100, 49
 MARK = b"\xef\xbb\xbf"
 # the white space of JavaScript but for line ends
-SPACES = {char.encode() for char in "\t\x0b\x0c \xa0\u1680\u2000\u2001\u2002\u2003\u2004\u2005\u2006"
-          "\u2007\u2008\u2009\u200a\u2028\u2029\u202f\u205f\u3000\ufeff"}
+SPACES = {char.encode() for char in "\t\x0b\x0c \xa0\u1680\u2000\u2001\u2002\u2003\u2004\u2005"
+          "\u2006\u2007\u2008\u2009\u200a\u2028\u2029\u202f\u205f\u3000\ufeff"}
 # the same as a part of patterns
 SPACE = b"(?:" + b"|".join(map(re.escape, sorted(SPACES))) + b")"
 
