@@ -211,7 +211,7 @@ def counted(items, rounds):
         elif it.kind in ("alt", "opt"):
             c, b = 1 + sum(every), 0
         elif it.kind == "loop":
-            c, b = sum(c ** r + b * sum(c ** i for i in range(r)) for r in rounds), 0
+            c, b = counted_rounds(c, b, rounds), 0
         elif it.kind == "critical" and len(ways) > 1:
             c, b = c + b + sum(c * option + b for option in every[1:]), 0
         elif it.kind == "par":
@@ -220,6 +220,17 @@ def counted(items, rounds):
                 c *= n
         through, broken = capped(through * c), capped(broken + through * b)
     return through, broken
+
+
+def counted_rounds(through, broken, rounds):
+    """The number of ways through these numbers of rounds, of a body with so many ways: all rounds
+    to their end, or some, and then one that a break ends."""
+    total, whole, ended, asked = 0, 1, 0, set(rounds)
+    for n in range(max(rounds) + 1):
+        total += whole + ended if n in asked else 0
+        ended = capped(ended + whole * broken)
+        whole = capped(whole * through)
+    return total
 
 
 def count_of(diagram, rounds):
