@@ -26,7 +26,8 @@
 # NAME.N.msc what `msc import` prints, if that is there. (NAME.shown.txt is of
 # tools/naive/stored_imports.py.)
 # Beside charts/import/refused/NAME.mmd stands NAME.txt: what `msc import --choose main` writes to
-# standard error of it, and the status; or NAME.err.txt, of `msc check --from any --queues pair`.
+# standard error of it, and the status; or NAME.err.txt, what `msc check --from any --queues pair
+# --places` does, and NAME.lines.txt, what it prints with --format lines.
 # `msc read` meets no fault of charts: where such a fault stands, it prints NAME.read.txt, or the
 # chart as it is where that is missing.
 set -u
@@ -194,6 +195,20 @@ for fault in charts/import/refused/*.err.txt; do
   if [ -e "$name.pair.txt" ]; then continue; fi
   write_faults "$name"
   compare /dev/null "$room/fault" 2 check --from any --queues pair "$(diagram_of "$name")"
+done
+
+# With --places the notes follow the faults; as lines for editors they are on standard output.
+for fault in charts/import/{,refused/}*.err.txt; do
+  name=${fault%.err.txt} output=/dev/null
+  if [ -e "$name.pair.txt" ]; then output=$name.pair.txt; fi
+  compare "$output" "$fault" 2 check --from any --queues pair --places "$(diagram_of "$name")"
+done
+
+for answer in charts/import/refused/*.lines.txt; do
+  name=${answer%.lines.txt}
+  sed -n 's/^[^ ]*: error: //p' "$answer" >"$room/fault"
+  compare "$answer" "$room/fault" 2 \
+    check --from any --queues pair --format lines "$(diagram_of "$name")"
 done
 
 for answer in charts/import/refused/*.txt; do

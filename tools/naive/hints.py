@@ -1,7 +1,7 @@
 """What is told behind a fault of a statement of Mermaid: what was found, and hints."""
 import re
 
-from notes import distance
+from nearness import distance
 from source import Note, Refused, row_shown
 
 ARROWS_HINT = "hint arrows are ->> -->> -> --> -x --x -) --) <<->> <<-->>"

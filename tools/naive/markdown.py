@@ -16,9 +16,9 @@ MERMAID = re.compile(rb"[ \t]*(?:\{\.?)?mermaid(?![A-Za-z0-9_])", re.IGNORECASE)
 OTHERS = re.compile(rb"[ \t]*(?:plantuml|puml|mscgen)(?![A-Za-z0-9_])")
 MYST = re.compile(rb"[ \t]*\{mermaid(?![A-Za-z0-9_])", re.IGNORECASE)
 OPTION = re.compile(rb":[A-Za-z0-9_-]+:")
-# how a shortcode ends, by its kind
+# the marks with which a shortcode ends, by those with which it begins
 KINDS = {b"<": b">", b"%": b"%"}
-SHORTCODE = re.compile(rb"\{\{([<%])[ \t]*mermaid(?=[ \t>%])")
+SHORTCODE = re.compile(rb"\{\{([<%])[ \t]*mermaid")
 TAG = re.compile(rb"<(pre|div)(?=[ \t>])[^>]*>", re.IGNORECASE)
 CLASS = re.compile(rb"""[ \t]class[ \t]*=[ \t]*(?:"([^"]*)"|'([^']*)'|([^ \t"'>]+))""",
                    re.IGNORECASE)
@@ -72,9 +72,10 @@ def shortcode_start(quotes, held, at, last_ends, number):
     found = SHORTCODE.match(held, at)
     if not found:
         return None
-    kind = found[1]
-    past = held.find(KINDS[kind] + b"}}", found.end())
-    if past < 0 or held[past - 1:past] == b"/":
+    kind, behind = found[1], found.end()
+    past = held.find(KINDS[kind] + b"}}", behind)
+    is_word_end = past == behind or held[behind:behind + 1] in (b" ", b"\t")
+    if past < 0 or not is_word_end or held[past - 1:past] == b"/":
         return None
     end = SHORTCODE_ENDS[kind]
     if last_ends[kind] <= number and not end.search(held, past):
@@ -90,7 +91,7 @@ def tag_start(quotes, held, at):
     classes = next(group for group in named.groups() if group is not None)
     if b"mermaid" not in classes.lower().split():
         return None
-    end = re.compile(rb"</%s[ \t]*>" % found[1], re.IGNORECASE)
+    end = re.compile(rb"</%s>" % found[1], re.IGNORECASE)
     return Start(quotes, end, found.end(), True, True)
 
 

@@ -139,6 +139,15 @@ def texts_of(source, options):
     return [Text(source, source.rows, others=none)], False
 
 
+def has_diagram(text):
+    """The text is a sequence diagram, or one of Markdown that has one."""
+    source = source_of(text)
+    first = first_row(source, source.rows)
+    if first is not None and begins_one(first):
+        return True
+    return any(is_sequence(source, block) for block in blocks_of(source))
+
+
 def one_text(source, options):
     """The one diagram of a file."""
     texts, _ = texts_of(source, options)

@@ -46,7 +46,7 @@ def main():
     for _ in range(options.diagrams):
         text = diagram(pick).encode()
         given = ["--queues", pick.choice(QUEUES), "--self", pick.choice(["action", "message"])]
-        given += ["--cross", pick.choice(["lost", "arrives"])]
+        given += pick.choice([[], ["--cross", "lost"], ["--cross", "arrives"]])
         for few, many in ENOUGH.items() if b"\nloop" in text else ():
             wanted = races(text, many, given)
             if wanted is None:
