@@ -16,13 +16,19 @@
 # `msc draw` prints, NAME.QUEUES.report.html what `msc report` does, and
 # NAME.reverse.E.F.QUEUES.txt and .svg what `msc reverse` does of events E and F. Beside charts/refused/NAME.msc stands NAME.txt: what is
 # written to standard error, and then the status. `msc check` and `msc run` refuse each of them.
-# Beside charts/import/NAME.mmd stands NAME.scenarios.txt, with a line for each of its scenarios: a
-# chart and its choices. What `msc import` prints of these is that chart, which `msc read` prints as
-# it is, and with --list NAME_I.list.txt, if that is there. NAME.pair.txt and NAME.mailbox.txt are
-# what `msc check --from any` prints of all scenarios. NAME.N.QUEUES.txt is what it prints of the
-# N-th diagram of NAME.md, and NAME.N.msc what `msc import` does, if that is there.
+# Beside charts/import/NAME.mmd may stand NAME.scenarios.txt, with a line for each of its scenarios:
+# a chart and its choices. What `msc import` prints of these is that chart, which `msc read` prints
+# as it is, and with --list NAME_I.list.txt, if that is there. NAME.main.msc is what it prints with
+# --choose main.
+# NAME.pair.txt and NAME.mailbox.txt are what `msc check --from any` prints of all scenarios of
+# NAME.mmd, or of all diagrams of NAME.md, NAME.closest.txt what it prints with --closest --allow
+# early, and NAME.drawn.txt with --par drawn; the first lines of the faults of NAME.err.txt are
+# written to standard error. NAME.N.QUEUES.txt is what is printed of the N-th diagram of NAME.md, and
+# NAME.N.msc what `msc import` prints, if that is there. (NAME.shown.txt is of
+# tools/naive/stored_imports.py.)
 # Beside charts/import/refused/NAME.mmd stands NAME.txt: what `msc import --choose main` writes to
-# standard error of it, and the status.
+# standard error of it, and the status; or NAME.err.txt, what `msc check --from any --queues pair
+# --places` does, and NAME.lines.txt, what it prints with --format lines.
 # `msc read` meets no fault of charts: where such a fault stands, it prints NAME.read.txt, or the
 # chart as it is where that is missing.
 set -u
@@ -133,39 +139,87 @@ compare_import() {
   fi
 }
 
-# Compares what is printed of all scenarios of a diagram with the file $1, by the last part of its
-# name; $2 .. are the diagram and more words.
-compare_scenarios() {
-  local queues=${1%.txt} status=0
-  if grep -qs '^race ' "$1"; then status=1; fi
-  compare "$1" /dev/null "$status" check --from any --queues "${queues##*.}" "${@:2}"
+# The diagram or the page of Markdown with this name.
+diagram_of() {
+  if [ -e "$1.mmd" ]; then echo "$1.mmd"; else echo "$1.md"; fi
 }
 
+# Writes the fixed lines of the faults of a diagram, if it has some, as they are without --places.
+write_faults() {
+  : >"$room/fault"
+  if [ -e "$1.err.txt" ]; then grep '^import fault ' "$1.err.txt" >"$room/fault"; fi
+}
+
+# Compares what `msc check --from any` prints with the file $1, by the last parts of its name.
+compare_scenarios() {
+  local name=${1%.*.txt} words=(--queues pair) status=0
+  local last=${1#"$name."}
+  case $last in
+  closest.txt) words+=(--closest --allow early) ;;
+  drawn.txt) words+=(--par drawn) ;;
+  *) words=(--queues "${last%.txt}") ;;
+  esac
+  case ${name##*.} in
+  [0-9]*) words+=(--fence "${name##*.}") name=${name%.*} ;;
+  esac
+  write_faults "$name"
+  if [ "$last" = drawn.txt ]; then : >"$room/fault"; fi
+  if grep -q '^race ' "$1"; then status=1; fi
+  if grep -q '^refused$' "$1"; then status=2; fi
+  compare "$1" "$room/fault" "$status" check --from any "${words[@]}" "$(diagram_of "$name")"
+}
+
+for answer in charts/import/{,refused/}*.{pair,mailbox,closest,drawn}.txt; do
+  if [ -e "$answer" ]; then compare_scenarios "$answer"; fi
+done
+
 for diagram in charts/import/*.mmd; do
+  if ! [ -e "${diagram%.mmd}.scenarios.txt" ]; then continue; fi
   while read -r chart _ choices; do
     compare_import "$diagram" "$chart" "$choices"
   done <"${diagram%.mmd}.scenarios.txt"
-  for queues in pair mailbox; do
-    compare_scenarios "${diagram%.mmd}.$queues.txt" "$diagram"
-  done
+done
+
+for chart in charts/import/*.main.msc; do
+  compare "$chart" /dev/null 0 import --choose main "${chart%.main.msc}.mmd"
+  compare "$chart" /dev/null 0 read "$chart"
 done
 
 for page in charts/import/*.md; do
-  for answer in "${page%.md}".*.{pair,mailbox}.txt; do
-    number=${answer%.*.txt}
-    compare_scenarios "$answer" --fence "${number##*.}" "$page"
-  done
   for chart in "${page%.md}".*.msc; do
+    if ! [ -e "$chart" ]; then continue; fi
     number=${chart%.msc}
     compare "$chart" /dev/null 0 import --fence "${number##*.}" "$page"
   done
 done
 
-for diagram in charts/import/refused/*.mmd; do
-  name=${diagram%.mmd}
-  sed '/^status /d' "$name.txt" >"$room/fault"
-  compare /dev/null "$room/fault" "$(sed -n 's/^status //p' "$name.txt")" \
-    import --choose main "$diagram"
+for fault in charts/import/refused/*.err.txt; do
+  name=${fault%.err.txt}
+  if [ -e "$name.pair.txt" ]; then continue; fi
+  write_faults "$name"
+  compare /dev/null "$room/fault" 2 check --from any --queues pair "$(diagram_of "$name")"
+done
+
+# With --places the notes follow the faults; as lines for editors they are on standard output.
+for fault in charts/import/{,refused/}*.err.txt; do
+  name=${fault%.err.txt} output=/dev/null
+  if [ -e "$name.pair.txt" ]; then output=$name.pair.txt; fi
+  compare "$output" "$fault" 2 check --from any --queues pair --places "$(diagram_of "$name")"
+done
+
+for answer in charts/import/refused/*.lines.txt; do
+  name=${answer%.lines.txt}
+  sed -n 's/^[^ ]*: error: //p' "$answer" >"$room/fault"
+  compare "$answer" "$room/fault" 2 \
+    check --from any --queues pair --format lines "$(diagram_of "$name")"
+done
+
+for answer in charts/import/refused/*.txt; do
+  name=${answer%.txt}
+  if ! [ -e "$name.mmd" ]; then continue; fi
+  sed '/^status /d' "$answer" >"$room/fault"
+  compare /dev/null "$room/fault" "$(sed -n 's/^status //p' "$answer")" \
+    import --choose main "$name.mmd"
 done
 
 for chart in charts/refused/*.msc; do

@@ -1,11 +1,12 @@
 #!/usr/bin/env python3
 """Compares what a program checks of random Mermaid diagrams with what scenarios.py does.
 
-    diagram_checks.py [--texts N] [--seed S] PROGRAM
+    diagram_checks.py [--texts N] [--seed S] [--notes] PROGRAM
 
 Of each text, PROGRAM check --from with random options has to print what scenarios.py prints, on
-both streams, with its status. The texts are those of imports.py, most of them smaller ones without
-a mistake; some stand in a file, and some among others in Markdown. Prints how many texts had which
+both streams, with its status; with --notes the places and notes of faults too. The texts are those
+of mermaid_texts.py, most of them smaller ones without a mistake; some stand in a file, and some in
+Markdown. Prints how many texts had which
 first fault, and how many races were told. The exit status is 1 at the first difference, whose text
 is printed. Before these come wrong words, and diagrams at each limit and one past it. Without
 PROGRAM nothing is compared.
@@ -20,8 +21,8 @@ import sys
 import tempfile
 
 sys.dont_write_bytecode = True
-import imports
-from imports import NAMES, in_markdown, items
+import mermaid_texts
+from mermaid_texts import NAMES, in_markdown, items
 from scenarios import KINDS, QUEUES, answer, options_of
 
 FLAGS = ("--closest", "--why", "--words", "--short", "--places")
@@ -58,8 +59,8 @@ def diagram(pick):
 
 
 def text_of(pick):
-    if pick.random() < 0.1:
-        return imports.text_of(pick)
+    if pick.random() < 0.2:
+        return mermaid_texts.text_of(pick)
     return diagram(pick).encode()
 
 
@@ -73,7 +74,7 @@ def words_of(pick):
         ("--format", 0.3, ["text", "count", "lines"]), ("--limit", 0.2, [1, 2, 7, 64, 4096]),
         ("--rounds", 0.4, ["0", "1", "1,2", "2,0,2", "03,1", "0,1,2,3"]),
         ("--name", 0.3, ["t", "a b", "", "in"]), ("--par", 0.5, ["drawn"]),
-        ("--self", 0.4, ["action", "message"]), ("--cross", 0.8, ["lost", "arrives"]),
+        ("--self", 0.4, ["action", "message"]), ("--cross", 0.4, ["lost", "arrives"]),
         ("--allow", 0.2, KINDS), ("--allow", 0.2, KINDS),
     ):
         if pick.random() < share:
@@ -102,6 +103,12 @@ def at_the_limits():
     yield head + "loop\nloop\nbreak\nend\nend\nend\n", [*pair, "--rounds", "3,1"]
     yield head + "loop\nA->>B: a\nend\n" * 3, [*pair, "--rounds", "0,0,1"]
     yield head + "C->>B: b\nA->>B: a\n", [*pair, "--rounds", "1024"]
+    for n in (6, 7, 12, 13, 64):
+        yield head + "A-xB: a\n" * n, pair
+        yield head + "A-xB: a\n" * n, [*pair, "--limit", "128" if n < 12 else "64"]
+    yield head + "loop\nA-xB: a\nend\n", [*pair, "--limit", "5"]
+    yield head + "loop\nA-xB: a\nend\n", [*pair, "--limit", "4"]
+    yield head + "A<<->>B: a\n" * 513, pair
 
 
 def one(pick):
@@ -128,9 +135,12 @@ def got_of(program, folder, text, words, file):
     return done.stdout, done.stderr, done.returncode
 
 
-def wanted_of(text, words, file):
+def wanted_of(text, words, file, has_notes=False):
     """What it has to print."""
-    return answer(text, options_of([word for word in words if word != "--places"] + [file]))
+    words = words if has_notes else [word for word in words if word != "--places"]
+    options = options_of([*words, file])
+    options.notes = has_notes
+    return answer(text, options)
 
 
 def misused(program):
@@ -149,6 +159,7 @@ def main():
     words = argparse.ArgumentParser(description=__doc__, formatter_class=style)
     words.add_argument("--texts", type=int, default=2000, metavar="N")
     words.add_argument("--seed", type=int, default=1, metavar="S")
+    words.add_argument("--notes", action="store_true")
     words.add_argument("program", nargs="?")
     options = words.parse_args()
     program = options.program and str(pathlib.Path(options.program).resolve())
@@ -159,7 +170,7 @@ def main():
     kinds, texts, races = collections.Counter(), 0, 0
     with tempfile.TemporaryDirectory() as folder:
         for text, given, file in tried(random.Random(options.seed), options.texts):
-            wanted = wanted_of(text, given, file)
+            wanted = wanted_of(text, given, file, options.notes)
             got = got_of(program, folder, text, given, file) if program else wanted
             if got != wanted:
                 print(f"{text[:5000]!r}\n{given} {file!r}\nwanted {wanted}\ngot    {got}"[:20000])

@@ -1,13 +1,14 @@
 #!/usr/bin/env python3
 """Compares what a program prints of the faults of random texts with what notes.py prints.
 
-    faults.py [--texts N] [--seed S] PROGRAM
+    faults.py [--texts N] [--seed S] [--diagrams] PROGRAM
 
-The texts are those of mistakes.py; of each, PROGRAM check --queues pair --places - has to print on
-standard error what notes.py does, byte for byte, and its status has to be 2 where that is
-anything; and with --format lines that as lines for editors on standard output. Prints how many texts had which first fault, and how many lines began with which word. The
-exit status is 1 at the first difference, whose text is printed. Without PROGRAM nothing is
-compared.
+The texts are those of mistakes.py, with --diagrams half of them those of mermaid_texts.py; of each,
+PROGRAM check --queues pair --places - has to print on standard error what notes.py does, byte for
+byte, and its status has to be 2 where that is anything; and with --format lines that as lines for
+editors on standard output. A diagram is read by PROGRAM read --places too. Prints how many texts
+had which first fault, and how many lines began with which word. The exit status is 1 at the first
+difference, whose text is printed. Without PROGRAM nothing is compared.
 """
 import argparse
 import collections
@@ -17,6 +18,7 @@ import subprocess
 import sys
 
 sys.dont_write_bytecode = True
+import mermaid_texts
 from mistakes import mistaken
 from notes import answer, for_editors
 
@@ -40,19 +42,37 @@ def difference(program, text, wanted):
     return None
 
 
+def difference_of_read(program, text):
+    """What `read` prints otherwise of a diagram, if it does."""
+    done = subprocess.run([program, "read", "--places", "-"], input=text, capture_output=True)
+    told = "".join(line + "\n" for line in answer(text, is_check=False))
+    output = done.stderr.decode("latin-1")
+    return None if output == told else f"read: wanted\n{told}got\n{output}"
+
+
+def diagram(pick):
+    """A diagram, or a text of Markdown with some."""
+    text = mermaid_texts.text_of(pick)
+    return mermaid_texts.in_markdown(pick, text)[0] if pick.random() < 0.5 else text
+
+
 def main():
     style = argparse.RawDescriptionHelpFormatter
     words = argparse.ArgumentParser(description=__doc__, formatter_class=style)
     words.add_argument("--texts", type=int, default=2000, metavar="N")
     words.add_argument("--seed", type=int, default=1, metavar="S")
+    words.add_argument("--diagrams", action="store_true")
     words.add_argument("program", nargs="?")
     options = words.parse_args()
     pick = random.Random(options.seed)
     kinds, notes = collections.Counter(), collections.Counter()
     for _ in range(options.texts):
-        text = mistaken(pick)
+        is_diagram = options.diagrams and pick.random() < 0.5
+        text = diagram(pick) if is_diagram else mistaken(pick)
         lines = answer(text)
         differs = difference(options.program, text, lines) if options.program else None
+        if options.program and is_diagram and not differs:
+            differs = difference_of_read(options.program, text)
         if differs:
             print(f"{text!r}\n{differs}")
             return 1

@@ -1,292 +1,197 @@
 #!/usr/bin/env python3
-"""Reads a Mermaid sequence diagram, and prints what `msc import` prints: the chart of one scenario,
-or on standard error the line of the first fault.
+"""Reads a Mermaid sequence diagram, and prints what `msc import` prints: the chart of one
+scenario, or on standard error the line of the first fault.
 
-    mermaid.py [--from mermaid|any] [--name NAME] [--choose C] [--list FILE] [--into FOLDER] [--limit N] [--rounds R,R..]
-               [--self action|message] [--cross lost|arrives] [--par drawn] [--fence N] < TEXT
+    mermaid.py [--from mermaid|any] [--name NAME] [--choose C] [--list FILE] [--into FOLDER]
+               [--shown] [--places] [--limit N] [--rounds R,R..] [--self action|message]
+               [--cross lost|arrives] [--par drawn] [--fence N] < TEXT
 
 With --list the events stand in place of the chart, with the places of their arrows in FILE; with
---into the charts of all scenarios are written. The text is cut into statements, those are put into
-blocks, and a scenario goes through these with its choices; each step is a function of its own,
-written for a reader and not for speed. It shares nothing with the crates. The exit status is 0, or
-2 where the text is refused.
+--into the charts of all scenarios are written; with --shown the bytes of the text that are shown
+to people stand there; with --places the place and the notes follow a fault. The text is cut into
+statements (mermaid_lines.py, mermaid_words.py), those are put into blocks (diagrams.py), and a
+scenario goes through these with its choices (courses.py); markdown.py finds the diagrams of a text
+of Markdown. Each step is a function of its own, written for a reader and not for speed. It shares
+nothing with the crates. The exit status is 0, or 2 if the text is refused.
 """
 import argparse
 import os
-import re
 import sys
 
 sys.dont_write_bytecode = True
-from diagrams import BRANCHES, SCENARIOS, Arrow, Begin, Branch, Course, Diagram, End, Line, Place
-from diagrams import Refused, capped, counted, made, refuse, scenarios
-
-# bytes of a text
-MOST = 1048576
-# what a block of Markdown that is a diagram is called
-FENCED = (b"mermaid", b"plantuml", b"puml", b"mscgen")
-ARROW = re.compile(rb"<<-->>|<<->>|-->>|->>|-->|->|--x|-x|--\)|-\)", re.IGNORECASE)
-BLOCKS = (b"loop", b"alt", b"opt", b"par", b"par_over", b"critical", b"break", b"rect", b"box")
-# the first words of statements, but for those that an arrow may follow as its sender
-WORDS = {*BLOCKS, *b"""else and option create participant actor destroy end note activate deactivate
-autonumber links link properties details over off""".split()}
+from courses import SCENARIOS, count_of, course_of, scenarios
+from diagrams import Arrow, Diagram, made
+from hints import kind_hints
+from markdown import blocks_of, is_sequence, stray_fault
+from mermaid_lines import HEAD, Cutter, counting
+from mermaid_words import Statement
+from source import Note, Refused, Source, Span, after_space, is_word, source_of, trimmed
 
 
-def expected(line, what):
-    return refuse(2, f"expected {what}", line)
+def statements(source, rows, cross, in_markup=False):
+    """What the lines say, statement by statement. A cross of an arrow from or to a line that is
+    destroyed arrives."""
+    dying = set()
+    for piece in Cutter(source, rows, in_markup).pieces():
+        said = Statement(source, piece).read()
+        if isinstance(said, Arrow):
+            ends_here = dying & {said.left.held, said.right.held}
+            if said.is_crossed and not ends_here:
+                said = said._replace(fate=fate_of(said, cross))
+            dying = set()
+            yield said
+        elif isinstance(said, Span):
+            dying.add(said.held)
+        elif said is not None:
+            yield said
 
 
-def trimmed(held):
-    return held.strip(b" \t")
+def fate_of(arrow, cross):
+    """What becomes of the message of an arrow with a cross."""
+    if cross is None:
+        return "arrives" if arrow.is_own() else "either"
+    return cross
 
 
-def is_word(held, word):
-    """The bytes begin with this word, in this case, and no further byte of a word."""
-    return re.match(re.escape(word) + rb"(?![A-Za-z0-9_])", held) is not None
+def first_row(source, rows):
+    """The first line that counts, or None if there is none."""
+    try:
+        return next(counting(source, rows), None)
+    except Refused:
+        return None
 
 
-# Text to lines, and lines to the bytes of statements
+def begins_one(row):
+    """The line begins a sequence diagram."""
+    return is_word(row.held, HEAD, after_space(row.held, 0))
 
 
-def columns(held):
-    return sum(not 128 <= byte < 192 for byte in held)
+def no_diagram(source, rows):
+    """The fault of lines of which none begins a diagram."""
+    row = next((row for row in rows if trimmed(row.held)), None)
+    at = source.end if row is None else row.start + after_space(row.held, 0)
+    return Refused(2, "expected a diagram", at, [Note(f"found {source.found(at)}")])
 
 
-def lines_of(text, fence=None):
-    """The lines of a text, with their numbers; those of a diagram among others, where it is to be
-    one, which leaves all the others empty."""
-    if len(text) > MOST:
-        raise refuse(1, f"text longer than {MOST} bytes")
-    if text.startswith(b"\xef\xbb\xbf"):
-        text = text[3:]
-    lines = re.split(rb"\r\n|\n|\r", text)
-    if fence is not None:
-        own = fenced(lines, fence)
-        lines = [held if at in own else b"" for at, held in enumerate(lines)]
-    return list(enumerate(lines, 1))
+def kind_notes(source, rows, fault):
+    """What a text is instead of a sequence diagram."""
+    first = first_row(source, rows)
+    if first is None:
+        return []
+    begin = after_space(first.held, 0)
+    is_its_line = source.row(fault.at).number == first.number
+    own = None if is_its_line else first.start + begin
+    return [Note(text, own) for text in kind_hints(first.held, begin)]
 
 
-def is_front(held):
-    """The line stands before or behind what stands in front of a diagram."""
-    return held.rstrip(b" \t") == b"---"
+def numbers_hint(numbers):
+    """The hint on the diagrams of a text of Markdown."""
+    if not numbers:
+        return []
+    if len(numbers) == 1:
+        return [Note(f"hint there is one diagram here: --fence {numbers[0]}")]
+    told = ", ".join(map(str, numbers[:20])) + (", .." if len(numbers) > 20 else "")
+    return [Note(f"hint there are {len(numbers)} diagrams here: --fence {told}")]
 
 
-def behind_front(lines, begun, end):
-    """Where a diagram of a Markdown text goes on behind what stands in front of it."""
-    if begun == end or not is_front(lines[begun]):
-        return begun
-    return next((at + 1 for at in range(begun + 1, end) if is_front(lines[at])), end)
+class Text:
+    """The lines of a diagram, which may be refused: of a block of Markdown, with its number, or of
+    the whole file. `notes` follow any fault of them, and `others` one of what they are."""
+
+    def __init__(self, source, rows, block=None, notes=(), others=()):
+        self.source, self.rows, self.notes, self.others = source, rows, notes, others
+        self.number = block and block.number
+        self.in_markup = block is not None and block.in_markup
+        self.stray = block and block.stray
+
+    def diagram(self, options):
+        source, rows = self.source, self.rows
+        if self.stray is not None:
+            raise stray_fault(self.stray)
+        try:
+            if options.language == "any" and not any(map(begins_one, rows)):
+                raise no_diagram(source, rows)
+            said = statements(source, rows, options.cross, self.in_markup)
+            return Diagram(source, said)
+        except Refused as fault:
+            if fault.words in ("expected a diagram", "expected sequenceDiagram"):
+                fault.notes += [*kind_notes(source, rows, fault), *self.others]
+            fault.notes += self.notes
+            raise
 
 
-def fenced(lines, fence):
-    """The places of the lines of this diagram of a Markdown text, from 1."""
-    at, met = 0, 0
-    while at < len(lines):
-        head, at = trimmed(lines[at]), at + 1
-        if not head.startswith(b"```"):
-            continue
-        begun = at
-        while at < len(lines) and trimmed(lines[at]) != b"```":
-            at += 1
-        language = head[3:].lstrip(b" \t")
-        if any(is_word(language, word) for word in FENCED):
-            met += 1
-            if met == fence:
-                return range(behind_front(lines, begun, at), at)
-        at += 1
-    raise refuse(17, f"no diagram {fence}")
+def texts_of(source, options):
+    """The diagrams of a file that are asked for, and whether they are all of Markdown."""
+    first = first_row(source, source.rows)
+    if options.fence is None and first is not None and begins_one(first):
+        return [Text(source, source.rows)], False
+    blocks = blocks_of(source)
+    own = [block for block in blocks if is_sequence(source, block)]
+    none = [] if own or not blocks else [Note("hint no block of this text is a sequence diagram")]
+    if options.fence is not None:
+        hint = numbers_hint([block.number for block in own])
+        if not 1 <= options.fence <= len(blocks):
+            raise Refused(17, f"no diagram {options.fence}", None, hint)
+        block = blocks[options.fence - 1]
+        return [Text(source, block.rows, block, [] if block in own else hint, none)], False
+    if own:
+        return [Text(source, block.rows, block) for block in own], True
+    return [Text(source, source.rows, others=none)], False
 
 
-def without_front(lines):
-    """The lines behind what stands between two lines `---` at the front."""
-    if not is_front(lines[0][1]):
-        return lines
-    for i, (_, held) in enumerate(lines[1:], 1):
-        if is_front(held):
-            return lines[i + 1:]
-    raise expected(lines[-1][0], "---")
+def has_diagram(text):
+    """The text is a sequence diagram, or one of Markdown that has one."""
+    source = source_of(text)
+    first = first_row(source, source.rows)
+    if first is not None and begins_one(first):
+        return True
+    return any(is_sequence(source, block) for block in blocks_of(source))
 
 
-def behind(lines, mark, last):
-    """The lines behind the first one that has the mark, behind which nothing may stand there."""
-    for i, (number, held) in enumerate(lines):
-        if mark in held:
-            if trimmed(held[held.index(mark) + len(mark):]):
-                raise expected(number, "the end of the line")
-            return lines[i + 1:]
-    raise expected(last, mark.decode())
+def one_text(source, options):
+    """The one diagram of a file."""
+    texts, _ = texts_of(source, options)
+    if len(texts) > 1:
+        hint = numbers_hint([text.number for text in texts])
+        raise Refused(20, f"{len(texts)} diagrams, say --fence", None, hint)
+    return texts[0]
 
 
-def cut(number, held):
-    """The statements of a line, each with its place."""
-    bare, at = re.sub(rb"#[A-Za-z0-9_]+;", lambda it: b" " * len(it[0]), held), 0
-    for part in bare.split(b"#")[0].split(b";"):
-        blanks = len(part) - len(part.lstrip(b" \t"))
-        yield Place(number, columns(held[:at + blanks]) + 1), trimmed(part)
-        at += len(part) + 1
+def all_scenarios(diagram, name, options):
+    """Writes the charts of all scenarios into a folder, and tells which ones there are."""
+    every = list(scenarios(diagram, options))
+    os.makedirs(options.into, exist_ok=True)
+    for i, course in enumerate(every, 1):
+        own = name if len(every) == 1 else f"{name}_{i}"
+        with open(os.path.join(options.into, own + ".msc"), "w") as out:
+            out.write(course.text(own))
+        chosen = " choose " + ",".join(map(str, course.taken)) if course.taken else ""
+        yield f"{own}.msc{chosen}\n"
 
 
-def pieces(lines):
-    """The bytes of each statement of these lines, with its place."""
-    last, begun = lines[-1][0], False
-    lines = without_front(lines)
-    while lines:
-        number, held = lines[0]
-        bare = trimmed(held)
-        if bare.startswith(b"%%{"):
-            lines = behind(lines, b"}%%", last)
-            continue
-        if not bare or bare.startswith(b"%%"):
-            lines = lines[1:]
-            continue
-        if not begun:
-            if not is_word(bare, b"sequenceDiagram"):
-                raise expected(number, "sequenceDiagram")
-            begun = True
-            lines = [(number, held.replace(b"sequenceDiagram", b" " * 15, 1)), *lines[1:]]
-            continue
-        if re.match(rb"accDescr[ \t]*\{", bare, re.IGNORECASE):
-            lines = behind(lines, b"}", last)
-            continue
-        yield from cut(number, held)
-        lines = lines[1:]
-    if not begun:
-        raise expected(last, "sequenceDiagram")
+def only_scenario(diagram, options):
+    """Refuses a diagram of several scenarios."""
+    count = count_of(diagram, options.rounds)
+    hint = "hint --choose main takes each first branch of an alt, each opt, one round of each loop"
+    if count > SCENARIOS:
+        raise Refused(12, f"more than {SCENARIOS} scenarios, say --choose", None, [Note(hint)])
+    if count > 1:
+        raise Refused(12, f"{count} scenarios, say --choose", None, [Note(hint)])
 
 
-# Statements
-
-
-def name_at(held, line):
-    """The name that stands here."""
-    found = trimmed(held)
-    if not found or re.search(rb"[+<=>:,;]|%%|^-|-$", found):
-        raise expected(line, "a name")
-    return found
-
-
-def arrow(held, place, cross, dying):
-    """The arrow of a statement; the names in `dying` are destroyed."""
-    found = ARROW.search(held)
-    if not found:
-        raise expected(place.line, "a statement")
-    if found[0].startswith(b"<"):
-        raise refuse(3, f"{found[0].decode()} is not supported", place.line)
-    left = name_at(held[:found.start()], place.line)
-    rest = held[found.end():].lstrip(b" \t")
-    if rest[:2].lower() in (b"-x", b"-)"):
-        raise expected(place.line, "a name")
-    right, colon, label = rest[rest[:1] in (b"+", b"-"):].partition(b":")
-    if not colon:
-        raise expected(place.line, "a label")
-    right = name_at(right, place.line)
-    label = re.sub(rb"^[ \t]*(no)?wrap:", b"", label, flags=re.IGNORECASE)
-    crossed = found[0].lower().endswith(b"x") and left not in dying and right not in dying
-    if crossed and cross is None:
-        raise refuse(9, "say --cross lost or --cross arrives", place.line)
-    return Arrow(left, right, label, crossed and cross == "lost", place)
-
-
-def declared(rest, line):
-    """The line that `participant` declares."""
-    ident, shown = rest, None
-    found = re.search(rb"[ \t]+as[ \t]", rest, re.IGNORECASE)
-    if found:
-        ident, shown = rest[:found.start()], trimmed(rest[found.end():])
-    return Line(name_at(ident.split(b"@{")[0], line), shown)
-
-
-def is_passed(word, rest):
-    """A statement that says nothing of lines and arrows fits its row."""
-    if word == b"note":
-        return re.match(rb"[ \t]*(left of|right of|over)[ \t].*:", rest, re.I | re.S)
-    if word == b"autonumber":
-        return re.fullmatch(rb"[ \t]*(off|[0-9]+([ \t]+[0-9]+)?)?", rest, re.IGNORECASE)
-    return word in (b"links", b"link", b"properties", b"details")
-
-
-def statements(lines, cross):
-    """What the lines say, statement by statement, with its place."""
-    dying = []
-    for place, held in pieces(lines):
-        found = re.match(rb"[A-Za-z0-9_]+", held)
-        word = found[0].lower() if found else b""
-        rest = held[len(word):]
-        bare = trimmed(rest)
-        refused = expected(place.line, "a statement")
-        if not held or held.startswith(b"%%"):
-            continue
-        if word in WORDS and ARROW.match(bare):
-            raise refused
-        if word == b"create":
-            second = re.match(rb"(participant|actor)(?![A-Za-z0-9_])", bare, re.IGNORECASE)
-            if not second:
-                raise refused
-            yield place, declared(trimmed(bare[second.end():]), place.line)
-        elif word in (b"participant", b"actor"):
-            yield place, declared(bare, place.line)
-        elif word == b"destroy":
-            dying.append(name_at(rest, place.line))
-        elif word in BLOCKS:
-            yield place, Begin("par" if word == b"par_over" else word.decode())
-        elif word.decode() in BRANCHES:
-            yield place, Branch(word.decode())
-        elif word == b"end":
-            if bare and not bare.startswith(b"%%"):
-                raise refused
-            yield place, End()
-        elif word in (b"activate", b"deactivate"):
-            name_at(rest, place.line)
-        elif word in (b"title", b"acctitle", b"accdescr") and rest[:1] in (b" ", b"\t", b":"):
-            if not trimmed(rest[1:]):
-                raise refused
-        elif word in WORDS:
-            if not is_passed(word, rest):
-                raise refused
-        else:
-            yield place, arrow(held, place, cross, dying)
-            dying = []
-
-
-def look_for_one(lines):
-    """Refuses lines of which none begins a diagram."""
-    if not any(is_word(trimmed(held), b"sequenceDiagram") for _, held in lines):
-        raise expected(lines[-1][0], "a diagram")
-
-
-def diagram_of(text, options):
-    """The diagram of a text."""
-    lines = lines_of(text, options.fence)
-    if options.language == "any":
-        look_for_one(lines)
-    return Diagram(statements(lines, options.cross))
-
-
-def answer(text, options):
+def answer(source, options):
     """What is printed."""
-    diagram = diagram_of(text, options)
+    diagram = one_text(source, options).diagram(options)
     name = made(options.name.encode(), b"diagram").decode()
     if options.into is not None:
-        every = list(scenarios(diagram, options))
-        os.makedirs(options.into, exist_ok=True)
-        said = []
-        for i, course in enumerate(every, 1):
-            own = name if len(every) == 1 else f"{name}_{i}"
-            with open(os.path.join(options.into, own + ".msc"), "w") as out:
-                out.write(course.text(own))
-            chosen = " choose " + ",".join(map(str, course.taken)) if course.taken else ""
-            said.append(f"{own}.msc{chosen}\n")
-        return "".join(said)
-    given = []
+        return "".join(all_scenarios(diagram, name, options)).encode()
     if options.choose is None:
-        count = capped(sum(counted(diagram.items, options.rounds)))
-        if count > SCENARIOS:
-            raise refuse(12, f"more than {SCENARIOS} scenarios, say --choose")
-        if count > 1:
-            raise refuse(12, f"{count} scenarios, say --choose or --into")
-    elif options.choose != "main":
-        given = [int(n) for n in options.choose.split(",")]
-    course = Course(diagram, given, options)
-    return course.list(name, options.list) if options.list else course.text(name)
+        only_scenario(diagram, options)
+    numbers = [] if options.choose in (None, "main") else options.choose.split(",")
+    course = course_of(diagram, [int(n) for n in numbers], options)
+    if options.shown:
+        return b"".join(course.shown())
+    return (course.list(name, options.list) if options.list else course.text(name)).encode()
 
 
 def rounds_of(held):
@@ -306,6 +211,7 @@ def words_on_diagrams(about):
     words.add_argument("--cross", choices=("lost", "arrives"))
     words.add_argument("--par", choices=("drawn",))
     words.add_argument("--fence", type=int)
+    words.add_argument("--places", action="store_true")
     return words
 
 
@@ -316,18 +222,31 @@ def options_of(given=None):
     words.add_argument("--choose")
     words.add_argument("--list", metavar="FILE")
     words.add_argument("--into", metavar="FOLDER")
+    words.add_argument("--shown", action="store_true")
     return words.parse_args(given)
 
 
-def main():
-    options = options_of()
+def answered(text, options):
+    """What is printed on both streams, and the exit status."""
+    source = None
     try:
-        said = answer(sys.stdin.buffer.read(), options)
+        source = source_of(text)
+        return answer(source, options), b"", 0
     except Refused as fault:
-        print(fault, file=sys.stderr)
-        return 2
-    sys.stdout.write(said)
-    return 0
+        return b"", fault_bytes(source or Source(b""), fault, options.places), 2
+
+
+def fault_bytes(source, fault, has_notes):
+    """What is told of a fault on standard error."""
+    lines = [*source.fault_lines(fault)]
+    return "".join(line + "\n" for line in (lines if has_notes else lines[:1])).encode()
+
+
+def main():
+    output, error, status = answered(sys.stdin.buffer.read(), options_of())
+    sys.stdout.buffer.write(output)
+    sys.stderr.buffer.write(error)
+    return status
 
 
 if __name__ == "__main__":

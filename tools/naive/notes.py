@@ -12,6 +12,8 @@ import re
 import sys
 
 sys.dont_write_bytecode = True
+from mermaid import has_diagram
+from nearness import distance
 from reading import ACTIONS, INSTANCES, MESSAGES, PIECE, PLACES, SUPPORTED, UNSUPPORTED
 from reading import Draft, Refused, chart_faults, followers, key, statements, tokens
 
@@ -104,16 +106,6 @@ def words_of(token):
     if token.kind == "text":
         return "a text"
     return f"the reserved word {token.kind}" if token.kind.isalpha() else token.kind
-
-
-def distance(one, other):
-    """How many bytes have to be put in, dropped or changed at least."""
-    row = list(range(len(other) + 1))
-    for n, byte in enumerate(one, 1):
-        above, row = row, [n]
-        for m, wanted in enumerate(other, 1):
-            row.append(min(row[-1] + 1, above[m] + 1, above[m - 1] + (byte != wanted)))
-    return row[-1]
 
 
 class Placed:
@@ -312,8 +304,22 @@ def chart_answer(text):
     return answer
 
 
-def answer(text):
-    """What is printed on standard error, line by line."""
+# the hint on a text that is no chart but a diagram, in `check` and in other commands
+DIAGRAM_HINTS = ("hint this is a sequence diagram of Mermaid: --from any reads it",
+                 "hint this is a sequence diagram of Mermaid: msc import makes a chart of it")
+
+
+def with_diagram_hint(text, notes, hint):
+    """The notes of a fault, of a text that is a diagram with this hint in the place of others."""
+    if not has_diagram(text):
+        return notes
+    found = [note for note in notes if note.startswith("found ")]
+    others = [note for note in notes if not note.startswith(("found ", "hint "))]
+    return [*found, hint, *others]
+
+
+def answer(text, is_check=True):
+    """What is printed on standard error, line by line, by `check` or by another command."""
     try:
         return chart_answer(text)
     except Refused as refused:
@@ -323,7 +329,9 @@ def answer(text):
             return [line]
         number, at = int(found[2]), int(found[3])
         notes = lexical_notes if found[1] == "lexical" else grammar_notes
-        return [line, f"at {place(text, at)}", *excerpt(text, at), *notes(text, number, at)]
+        hint = DIAGRAM_HINTS[0 if is_check else 1]
+        notes = with_diagram_hint(text, notes(text, number, at), hint)
+        return [line, f"at {place(text, at)}", *excerpt(text, at), *notes]
 
 
 # how a note that is a place alone is said there
