@@ -79,5 +79,5 @@ counts_agree scenarios queues q (Some counts) cases n (some, first, its, same) a
 -- whatever is told above them is right, before all scenarios are put
 pub above_begins : (scenarios : List Scenario) (queues : Queues) (q : Question) (look : Look) (above : Option PlaceCounts) → IsCountedAbove scenarios queues q above
     → (counts : PlaceCounts) × AreCountsAbove (forms.Lines look) scenarios queues q counts × (above_text q above ≡ counts_text q counts)
-above_begins scenarios queues q look None off = (counts_of_all 0, λ yes. clash yes off, sym (no_counts q (counts_of_all 0) off))
-above_begins scenarios queues q look (Some counts) (some, its) = (counts, λ yes. its, refl)
+above_begins scenarios queues q look None off = (counts_of_all 0, λ on. clash on off, sym (no_counts q (counts_of_all 0) off))
+above_begins scenarios queues q look (Some counts) (some, its) = (counts, λ on. its, refl)
