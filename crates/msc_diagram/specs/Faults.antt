@@ -17,7 +17,7 @@ import_line number line words =
 -- the line of a diagram that has several scenarios, so many or more than are counted
 abbrev pub several_line : ℕ → List ℕ
 several_line count =
-    cond (nat_le count SCENARIO_LIMIT) (codes "import fault 12: " ++ (decimal count ++ text_line (codes " scenarios, say --choose or --into"))) (text_line (codes "import fault 12: more than 4096 scenarios, say --choose"))
+    cond (nat_le count SCENARIO_LIMIT) (codes "import fault 12: " ++ (decimal count ++ text_line (codes " scenarios, say --choose"))) (text_line (codes "import fault 12: more than 4096 scenarios, say --choose"))
 
 -- the line of a fault of an import, and of the name that it speaks of
 abbrev pub import_fault_line : ImportFault → List ℕ → List ℕ

@@ -128,7 +128,13 @@ fn see_case(
     let places = places_of(alloc, scenario)?;
     see_all(alloc, &mut answer.all, &enforced, places.as_slice())?;
     let left = LeftOut::of_kinds(question.allowed);
-    see_counting(alloc, &mut answer.counting, &enforced, left, places.as_slice())?;
+    see_counting(
+        alloc,
+        &mut answer.counting,
+        &enforced,
+        left,
+        places.as_slice(),
+    )?;
     let listing = Listing::of(alloc, enforced, left, question.closest)?;
     see_listed(alloc, &mut answer.listed, &listing, places.as_slice())
 }

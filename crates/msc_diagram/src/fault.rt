@@ -54,10 +54,7 @@ fn write_several<W: Write>(writer: &mut W, count: usize) -> io::Result<()>
         (several_line count)) }
 {
     if count <= SCENARIO_LIMIT {
-        return writeln!(
-            writer,
-            "import fault 12: {count} scenarios, say --choose or --into"
-        );
+        return writeln!(writer, "import fault 12: {count} scenarios, say --choose");
     }
     writer.write_all(b"import fault 12: more than 4096 scenarios, say --choose\n")
 }

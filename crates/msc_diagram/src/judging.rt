@@ -227,9 +227,7 @@ pub fn judge_scenarios<W: Write>(
         result writer.old writer.new }
 {
     match form {
-        Form::Lines(look) => {
-            write_lines(alloc, name, scenarios, queues, question, look, writer)
-        }
+        Form::Lines(look) => { write_lines(alloc, name, scenarios, queues, question, look, writer) }
         Form::Count(file) => write_count(alloc, scenarios, queues, question, file, writer),
         Form::Editor => write_editor(alloc, name, scenarios, queues, question, writer),
     }

@@ -6,5 +6,4 @@ ghost use Rattle.msc_diagram.specs.Laws.{PlacesAddUp};
 /// that are listed, and no place is both.
 pub fn places_add_up()
     ensures { PlacesAddUp }
-{
-}
+{}

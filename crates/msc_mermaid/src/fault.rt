@@ -95,7 +95,7 @@ pub enum ImportFault {
     TooManyScenarios(usize),
     /// The diagram has so many scenarios, and it isn't said which of them is meant; as many as one
     /// more than are counted, where it has more.
-    #[error("{0} scenarios, say --choose or --into")]
+    #[error("{0} scenarios, say --choose")]
     Several(usize),
     /// A choice of the block on this line, from 1, is more than its greatest one.
     #[error("choice {1} is more than {2}")]
