@@ -24,7 +24,6 @@ from studies import KINDS, editor_lines, is_closest, kind, race_words, run_lines
 from verdict import Chart
 
 QUEUES = ("pair", "mailbox", "single")
-STACKED = "pass, parallel branches drawn one below the other"
 ALL = 2 ** 32 - 1
 
 
@@ -33,7 +32,6 @@ class Scenario:
 
     def __init__(self, course, queues, file):
         self.choices, self.events = course.taken, list(course.events())
-        self.is_stacked = course.is_stacked
         self.drawn = Chart(course.text("t"), queues)
         self.races = self.drawn.races()
         places = [event.arrow.place for _, event in self.events]
@@ -77,21 +75,6 @@ class Verdict:
                     found.append((i, race))
         return found
 
-    def numbers(self):
-        """The lines that sum up the races, if the options ask for them."""
-        if not (self.allow or self.is_closest):
-            return [] if self.places else [self.passed()]
-        lines = [f"races {len(self.places)}"] if self.places else [self.passed()]
-        if self.allow:
-            lines.append(f"allowed {len(self.places - self.counting(False))}")
-        if self.is_closest:
-            lines.append(f"closest {len(self.counting(True))}")
-        return lines
-
-    def passed(self):
-        """What is told of a diagram without races."""
-        return STACKED if any(it.is_stacked for it in self.every) else "pass"
-
     def count(self):
         closest = len(self.counting(True))
         return f"races {len(self.places)} closest {closest}" if self.places else "pass"
@@ -104,7 +87,7 @@ class Output:
         self.options, self.lines, self.error, self.status = options, [], b"", 0
         self.most, self.show = options.most, options.show
         if self.show is None:
-            self.show = ALL if options.words or options.short else 0
+            self.show = 0
 
     def refused(self, source, fault, name, file):
         """Tells of a diagram that is refused; it has a name if others may follow."""
@@ -144,8 +127,8 @@ class Output:
         yield f"diagram {name}"
         yield f"queues {self.options.queues}"
         yield f"scenarios {len(verdict.every)}"
-        yield from verdict.numbers()
         if not verdict.places:
+            yield "pass"
             return
         for i, scenario in enumerate(verdict.every):
             own = [race for at, race in verdict.listed if at == i]
@@ -158,7 +141,7 @@ class Output:
                 if is_told:
                     yield from self.race_lines(scenario, race, has_run)
         yield f"listed {len(verdict.listed)}"
-        yield f"passed {sum(not it.left(self.options.allow, False) for it in verdict.every)}"
+        yield f"passed {sum(not it.races for it in verdict.every)}"
 
     def race_lines(self, scenario, race, has_run):
         """What is told of a race."""

@@ -74,16 +74,16 @@ module _ {W : Type 0} (contents : W → Option (List ℕ)) (x : ScenarioWords) (
   not_charted charts none all is (refusals.Rounds f) said = absurd said
   not_charted charts none all is (refusals.Import e) said = absurd said
 
-module _ {W : Type 0} (contents : W → Option (List ℕ)) (c : Checking) (file name : List ℕ) (drawn : Bool) (ss : List Scenario) where
+module _ {W : Type 0} (contents : W → Option (List ℕ)) (c : Checking) (file name : List ℕ) (ss : List Scenario) where
   -- what is told by the status alone
   pub passes_so : (quiet passed : Bool) (now : W) → quiet ≡ true → PassesScenarios ss c.queues c.question.allowed passed
-      → AnswersWith contents (PrintsAll quiet c file name drawn ss) (BeginsAll quiet c file name drawn ss) (λ refusal. ⊥) (Ok (ended_by passed)) now now
+      → AnswersWith contents (PrintsAll quiet c file name ss) (BeginsAll quiet c file name ss) (λ refusal. ⊥) (Ok (ended_by passed)) now now
   passes_so quiet passed now is says = rw is ([], (passed, refl, says, refl), nothing_more _)
 
   -- what was not written to its end
-  pub not_told : (form : DiagramForm) → IsFormOf c file drawn form → (quiet : Bool) → quiet ≡ false → (f : WriteFault) (old new : W)
+  pub not_told : (form : DiagramForm) → IsFormOf c file form → (quiet : Bool) → quiet ≡ false → (f : WriteFault) (old new : W)
       → TellsScenarios contents (JudgesScenarios name ss c.queues c.question form) (BeginsOf name ss c.queues c.question form) (Err f) old new
-      → AnswersWith contents (PrintsAll quiet c file name drawn ss) (BeginsAll quiet c file name drawn ss) (λ refusal. ⊥) (Err (refusals.Fault (of_writing f))) old new
+      → AnswersWith contents (PrintsAll quiet c file name ss) (BeginsAll quiet c file name ss) (λ refusal. ⊥) (Err (refusals.Fault (of_writing f))) old new
   not_told form its quiet is writing.Memory old new (inl same) = inl same
   not_told form its quiet is writing.Memory old new (inr (printed, says, begun)) = inr (printed, rw is (form, its, says), begun)
   not_told form its quiet is writing.Device old new said = tt

@@ -30,9 +30,9 @@ never_finished true same = cc
 never_finished false same = cc
 
 -- and none of scenarios
-never_surveyed : (quiet : Bool) (c : Checking) (file name : List ℕ) (drawn : Bool) (ss : List Scenario) (printed : List ℕ) → PrintsAll quiet c file name drawn ss Refused printed → ⊥
-never_surveyed true c file name drawn ss printed (passed, same, says, none) = never_ended passed same
-never_surveyed false c file name drawn ss printed (form, its, passed, same, says) = never_ended passed same
+never_surveyed : (quiet : Bool) (c : Checking) (file name : List ℕ) (ss : List Scenario) (printed : List ℕ) → PrintsAll quiet c file name ss Refused printed → ⊥
+never_surveyed true c file name ss printed (passed, same, says, none) = never_ended passed same
+never_surveyed false c file name ss printed (form, its, passed, same, says) = never_ended passed same
 
 -- so nothing that is printed for a task is
 never_printed : (task : Task) (file text printed : List ℕ) → Prints task file text Refused printed → ⊥
@@ -45,7 +45,7 @@ never_printed (tasks.Chart (asks.List placed)) file text printed (d, of_text, (s
 never_printed (tasks.Chart (asks.Ready x)) file text printed (d, of_text, (only, are, style, its, passed, same, says)) = never_ended passed same
 never_printed (tasks.Draw drawn) file text printed (d, is, (same, says)) = cc
 never_printed (tasks.Import x) file text printed (same, says) = cc
-never_printed (tasks.Scenarios x) file text printed (all, is, charts, says) = never_surveyed x.quiet x.checking file _ _ _ printed says
+never_printed (tasks.Scenarios x) file text printed (all, is, charts, says) = never_surveyed x.quiet x.checking file _ _ printed says
 
 module _ {W : Type 0} (contents : W → Option (List ℕ)) where
   -- of a refusal that was told, nothing or its lines went out

@@ -2,8 +2,7 @@
 
 ghost use Rattle.std.specs.Prelude.{◌≡◌, [], ◌∷◌, ◌++◌, map, IfErr, IfOk, OnOk};
 ghost use Rattle.msc_command.specs.Answering.{AnswersWith};
-ghost use Rattle.msc_command.specs.Scenarios.{draws_branches, refusing, wanted_of, with_chart};
-ghost use Rattle.msc_command.specs.Scenarios.{AreCharts, AreNotCharted};
+ghost use Rattle.msc_command.specs.Scenarios.{with_chart, AreCharts, AreNotCharted};
 ghost use Rattle.msc_command.specs.Scenarios.{BeginsScenarios, IsCharted, IsFormOf};
 ghost use Rattle.msc_command.specs.Scenarios.{IsImportOfAll, PrintsScenarios, RefusesScenarios};
 ghost use Rattle.msc_command.specs.Scenarios.{BeginsAll, PrintsAll};
@@ -12,8 +11,8 @@ use crate::choices::rounds_of;
 use crate::ending::{Refusal, Status, ended_by};
 use crate::importing::{chart_of, fence_of};
 use crate::tasks::{Checking, Form, ScenarioWords};
-use msc_diagram::{Form as DiagramForm, Look, Scenario, judge_scenarios, scenarios_pass};
-use msc_import::{ImportingAll, Par, Scenario as Drawn, Scenarios, import_all};
+use msc_diagram::{Form as DiagramForm, Scenario, judge_scenarios, scenarios_pass};
+use msc_import::{ImportingAll, Scenario as Drawn, Scenarios, import_all};
 use msc_import_laws::laws::imports_are_charts;
 use msc_place::Sites;
 use std::alloc::{AllocError, Global};
@@ -39,15 +38,6 @@ fn import_of_all(
     };
     let all = import_all(alloc, importing, text)?;
     Ok(all)
-}
-
-/// The same words, but parallel branches are refused that would be drawn one below the other.
-fn refusing(words: ScenarioWords<'_>) -> ScenarioWords<'_>
-    ensures { wanted_of result ≡ refusing (wanted_of words.entry) }
-{
-    let mut refusing = words;
-    refusing.diagram.manner.par = Par::Refused;
-    refusing
 }
 
 /// A scenario with its chart, and with the places of its events in the file of this name; or why it
@@ -89,35 +79,12 @@ fn each_charted<'f>(
     Ok(charts)
 }
 
-/// Whether parallel branches of the diagram of a text are drawn one below the other in some scenario:
-/// without the option for it, they are refused.
-fn draws_branches(
-    alloc: Global,
-    words: ScenarioWords<'_>,
-    text: &[u8],
-) -> Result<bool, AllocError>
-    ensures { IfOk result (λ drawn. drawn ≡ draws_branches words.entry text.now) }
-{
-    if words.diagram.manner.par == Par::Refused {
-        return Ok(false);
-    }
-    match import_of_all(alloc, refusing(words), text) {
-        Ok(_) => Ok(false),
-        Err(Refusal::Import(_)) => Ok(true),
-        Err(_) => Err(AllocError),
-    }
-}
-
-/// The form in which scenarios are told, of the file of this name; `drawn` is whether parallel branches
-/// are drawn one below the other.
-fn form_of<'f>(checking: Checking, file: &'f str, drawn: bool) -> DiagramForm<'f>
-    ensures { IsFormOf checking file.entry.now drawn result }
+/// The form in which scenarios are told, of the file of this name.
+fn form_of<'f>(checking: Checking, file: &'f str) -> DiagramForm<'f>
+    ensures { IsFormOf checking file.entry.now result }
 {
     match checking.form {
-        Form::Text => DiagramForm::Lines(Look {
-            words: checking.look.words,
-            drawn,
-        }),
+        Form::Text => DiagramForm::Lines(checking.look.words),
         Form::Count => DiagramForm::Count(file.as_bytes()),
         Form::Lines => DiagramForm::Editor,
     }
@@ -129,13 +96,12 @@ fn tell<O: Write>(
     words: ScenarioWords<'_>,
     file: &str,
     name: &[u8],
-    drawn: bool,
     scenarios: &[Scenario<'_>],
     output: &mut O,
 ) -> Result<Status, Refusal<'static>>
     ensures { AnswersWith O.contents
-        (PrintsAll words.entry.quiet words.entry.checking file.now name.now drawn scenarios.now)
-        (BeginsAll words.entry.quiet words.entry.checking file.now name.now drawn scenarios.now)
+        (PrintsAll words.entry.quiet words.entry.checking file.now name.now scenarios.now)
+        (BeginsAll words.entry.quiet words.entry.checking file.now name.now scenarios.now)
         (λ refusal. ⊥) result output.old output.new }
 {
     let Checking {
@@ -147,7 +113,7 @@ fn tell<O: Write>(
         let passes = scenarios_pass(alloc, scenarios, queues, question.allowed)?;
         return Ok(ended_by(passes));
     }
-    let form = form_of(words.checking, file, drawn);
+    let form = form_of(words.checking, file);
     let passes = judge_scenarios(alloc, name, scenarios, queues, question, form, output)?;
     Ok(ended_by(passes))
 }
@@ -168,7 +134,12 @@ pub(crate) fn check_scenarios<O: Write>(
     imports_are_charts();
     let all = import_of_all(alloc, words, text)?;
     let charts = each_charted(alloc, file, all.list.into_vec())?;
-    let drawn = draws_branches(alloc, words, text)?;
-    let name = all.name.as_slice();
-    tell(alloc, words, file, name, drawn, charts.as_slice(), output)
+    tell(
+        alloc,
+        words,
+        file,
+        all.name.as_slice(),
+        charts.as_slice(),
+        output,
+    )
 }

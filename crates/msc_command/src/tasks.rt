@@ -478,17 +478,6 @@ pub(crate) fn limit_of(words: &ArgMatches) -> u32
     number_of(words, Word::Limit, DEFAULT_LIMIT)
 }
 
-/// How many races of a diagram are shown by runs, if no word gives a number: all if the words ask how a
-/// run is shown, else none.
-fn runs_shown(words: &ArgMatches) -> u32
-    ensures { AreRunsShown (found_of words.now) result }
-{
-    if is_given(words, Word::Words) || is_given(words, Word::Short) {
-        return u32::MAX;
-    }
-    0
-}
-
 /// What the words of `msc check` ask of a diagram, if they can be asked of one.
 fn scenarios_of<'w>(queues: Queues, words: &'w ArgMatches) -> Option<Task<'w>>
     requires { is_of_scenarios (found_of words.now) ≡ true }
@@ -497,7 +486,7 @@ fn scenarios_of<'w>(queues: Queues, words: &'w ArgMatches) -> Option<Task<'w>>
         (AsksFor Verb.Check (found_of words.entry.now)) }
 {
     let limit = limit_of(words);
-    let checking = checking_of(queues, words, runs_shown(words));
+    let checking = checking_of(queues, words, 0);
     if checking.accept || checking.again || lacks_rounds(words) || !is_limit(limit) {
         return None;
     }

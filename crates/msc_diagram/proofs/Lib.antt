@@ -5,7 +5,4 @@ pub mod Below
 pub mod Knowing
 pub mod Growing
 pub mod Clearing
-pub mod Same
-pub mod Above
-pub mod Adding
 pub mod Answering

@@ -2,7 +2,5 @@
 pub mod Faults
 pub mod Places
 pub mod Scenarios
-pub mod Counts
 pub mod Judging
 pub mod Telling
-pub mod Laws
