@@ -1,0 +1,259 @@
+-- What a reading keeps from statement to statement it keeps from line to line.
+use Rattle.std.proofs.Common.{◌≡◌, ℕ, zero, suc, ◌+◌, ◌≤◌, Bool, true, false, cond, length, take, drop, sym, arith, List, [], ◌∷◌, Option, None, Some, Result, Ok, Err, refl, ap, subst, ◌∙◌}
+use Rattle.msc_mermaid.specs.declared.fault.ImportFault.{ImportFault}
+use Rattle.msc_mermaid.specs.declared.fault.ImportFault.TheVariants.{Expected}
+use Rattle.msc_mermaid.specs.declared.fault.Expectation.TheVariants as expectations
+use Rattle.msc_mermaid.specs.declared.cutting.Turn.{Turn}
+use Rattle.msc_mermaid.specs.declared.cutting.Turn.TheVariants as turns
+use Rattle.msc_mermaid.specs.declared.key.Mark.{Mark}
+use Rattle.msc_mermaid.specs.declared.key.Mark.TheVariants as marks
+use Rattle.msc_mermaid.specs.declared.pattern.Pattern.TheVariants as patterns
+use Rattle.msc_mermaid.specs.declared.progress.Inside.{Inside}
+use Rattle.msc_mermaid.specs.declared.progress.Inside.TheVariants as inside
+use Rattle.msc_mermaid.specs.declared.progress.Progress.{Progress}
+use Rattle.msc_mermaid.specs.declared.seeking.Sought.TheVariants as sought
+use Rattle.msc_mermaid.specs.declared.shape.Shape.{Shape}
+use Rattle.msc_mermaid.specs.declared.shape.Shape.TheVariants as shapes
+use Rattle.msc_mermaid.specs.declared.statement.Cross.{Cross}
+use Rattle.msc_mermaid.specs.declared.statement.Diagram.{Diagram}
+use Rattle.msc_mermaid.specs.Cutting.{cut, cut_by, cut_from, room, turn_at}
+use Rattle.msc_mermaid.specs.Gives.{◌>>=◌, unless}
+use Rattle.msc_mermaid.specs.Keys.{begin_so, mark_text}
+use Rattle.msc_mermaid.specs.Lines.{column_behind, led_by}
+use Rattle.msc_mermaid.specs.Patterns.{first_fit, is_empty}
+use Rattle.msc_mermaid.specs.Seeking.{before}
+use Rattle.msc_mermaid.specs.White.{behind_white, front, trimmed}
+use Rattle.msc_mermaid.specs.Mermaid.{behind_head, body, body_as, closed, commented, described_as, ended_in, first_line, goes_on, head_as, is_commented, is_front, left_out, now_in, outside, piece_as, piece_by, read_piece, read_pieces, said_in, said_on, shape_of, stated, statement, step, step_in, steps, titled, told_of, undirected, unread}
+use Rattle.msc_mermaid.specs.Reading.{Read, read_one, told, untold}
+
+-- what follows a value is answered where both are
+bound : {A B : Type 0} (r : Result A ImportFault) (f : A → Result B ImportFault) (y : B) → (r >>= f) ≡ Ok y → (x : A) × (r ≡ Ok x) × (f x ≡ Ok y)
+bound (Ok x) f y e = (x, refl, e)
+bound (Err g) f y e = cc
+
+-- by a test
+by_test : {X : Type 0} (b : Bool) → (b ≡ true → X) → (b ≡ false → X) → X
+by_test true f g = f refl
+by_test false f g = g refl
+
+drop_short : {X : Type 0} (k : ℕ) (xs : List X) → length (drop k xs) ≤ length xs
+drop_short zero [] = omega arith
+drop_short zero (x ∷ xs) = omega arith
+drop_short (suc k) [] = omega arith
+drop_short (suc k) (x ∷ xs) = let r = drop_short k xs in omega (arith, r)
+
+-- R n r: what was read so far is r, and n statements were read for it at most
+module _ (R : ℕ → Read → Type 0) (wider : (n k : ℕ) (r : Read) → n ≤ k → R n r → R k r) (one : (n : ℕ) (cross : Option Cross) (line column : ℕ) (bytes : List ℕ) (r q : Read) → R n r → read_one cross line column bytes r ≡ Ok q → R (n + 1) q) where
+  -- what a line leaves of so many arrows: as many, and one for each of its pieces at most
+  kept_on : (n k : ℕ) (r q : Read) → n ≤ k → R n r → r ≡ q → R k q
+  kept_on n k r q le read same = subst (R k) same (wider n k r le read)
+
+  ok_reader : (p q : Progress) → ◌≡◌ {A = Result Progress ImportFault} (Ok p) (Ok q) → p.reader ≡ q.reader
+  ok_reader p q e = cc
+
+  unless_reader : (b : Bool) (f : ImportFault) (p q : Progress) → unless b f p ≡ Ok q → p.reader ≡ q.reader
+  unless_reader true f p q e = ok_reader p q e
+  unless_reader false f p q e = cc
+
+  -- what is left out reads nothing
+  left_same : (line : ℕ) (part : Inside) (m : Mark) (bytes : List ℕ) (p q : Progress) → left_out line part m bytes p ≡ Ok q → p.reader ≡ q.reader
+  unfolding left_out
+  left_same line part m bytes p q e =
+      let b = bound (closed line m bytes) _ q e in
+      ok_reader (now_in (cond b.0 inside.Rest part) p) q b.2
+
+  titled_same : (line : ℕ) (text : List ℕ) (p q : Progress) → titled line text p ≡ Ok q → p.reader ≡ q.reader
+  unfolding titled
+  titled_same line text p q e = unless_reader _ _ (now_in inside.Rest p) q e
+
+  commented_same : (line : ℕ) (bytes : List ℕ) (p q : Progress) → commented line bytes p ≡ Ok q → p.reader ≡ q.reader
+  commented_same line bytes p q e = unless_reader _ _ p q e
+
+  -- a statement
+  stated_read : (n : ℕ) (cross : Option Cross) (line column : ℕ) (bytes : List ℕ) (part : Inside) (p q : Progress) → stated cross line column bytes part p ≡ Ok q → R n p.reader → R (n + 1) q.reader
+  unfolding stated
+  stated_read n cross line column bytes part p q e read =
+      let b = bound (read_one cross line column bytes p.reader) _ q e in
+      let same : b.0 ≡ q.reader = ok_reader (record { inside = part; begun = p.begun; reader = b.0 }) q b.2 in
+      subst (R (n + 1)) same (one n cross line column bytes p.reader b.0 read b.1)
+
+  statement_read : (n : ℕ) (cross : Option Cross) (line column : ℕ) (bytes : List ℕ) (p q : Progress) → statement cross line column bytes p ≡ Ok q → R n p.reader → R (n + 1) q.reader
+  unfolding statement
+  statement_read n cross line column bytes p q e read =
+      let short = trimmed (take (before (sought.Text marks.Comment) bytes) bytes) in
+      let either = λ (t : Bool). cond t (stated cross line column short inside.Rest p) (stated cross line column bytes p.inside p) in
+      by_test (is_commented bytes)
+      (λ comment. stated_read n cross line column short inside.Rest p q (sym (ap either comment) ∙ e) read)
+      (λ plain. stated_read n cross line column bytes p.inside p q (sym (ap either plain) ∙ e) read)
+
+  -- a piece of a line
+  module _ (n : ℕ) (cross : Option Cross) (line column : ℕ) (rest piece : List ℕ) (p q : Progress) (read : R n p.reader) where
+    as_read : (o : Option (List ℕ)) → piece_as cross line column rest piece p o ≡ Ok q → R (n + 1) q.reader
+    as_read (Some text) e = kept_on n (n + 1) p.reader q.reader (omega arith) read (left_same line inside.Description marks.DescriptionEnd text p q e)
+    as_read None e =
+        let either = λ (t : Bool). cond t (Ok (now_in inside.Rest p)) (statement cross line column (trimmed piece) p) in
+        by_test (begin_so rest (mark_text marks.Comment))
+        (λ comment. kept_on n (n + 1) p.reader q.reader (omega arith) read (ok_reader (now_in inside.Rest p) q (sym (ap either comment) ∙ e)))
+        (λ other. statement_read n cross line column (trimmed piece) p q (sym (ap either other) ∙ e) read)
+
+    by_read : (o : Option (List ℕ)) → piece_by cross line column rest piece p o ≡ Ok q → R (n + 1) q.reader
+    by_read (Some text) e = kept_on n (n + 1) p.reader q.reader (omega arith) read (titled_same line text p q e)
+    by_read None e = as_read (first_fit (patterns.AccBlock ∷ []) rest) e
+
+  piece_read : (n : ℕ) (cross : Option Cross) (line column : ℕ) (rest piece : List ℕ) (p q : Progress) → read_piece cross line column rest piece p ≡ Ok q → R n p.reader → R (n + 1) q.reader
+  unfolding read_piece
+  piece_read n cross line column rest piece p q e read =
+      let found = first_fit (patterns.AccTitle ∷ patterns.AccDescr ∷ []) (behind_white rest) in
+      let either = λ (t : Bool). cond t (piece_by cross line column (behind_white rest) piece p found) (Ok p) in
+      by_test (goes_on p.inside)
+      (λ on. by_read n cross line column (behind_white rest) piece p q read found (sym (ap either on) ∙ e))
+      (λ over. kept_on n (n + 1) p.reader q.reader (omega arith) read (ok_reader p q (sym (ap either over) ∙ e)))
+
+  -- those of a line
+  pieces_read : (n : ℕ) (cross : Option Cross) (line : ℕ) (bytes : List ℕ) (at : ℕ) (xs : List (List ℕ)) (p q : Progress) → read_pieces cross line bytes at xs p ≡ Ok q → R n p.reader → R (n + length xs) q.reader
+  unfolding read_pieces
+  pieces_read n cross line bytes at [] p q e read = kept_on n (n + 0) p.reader q.reader (omega arith) read (ok_reader p q e)
+  pieces_read n cross line bytes at (x ∷ xs) p q e read =
+      let column : ℕ = column_behind (take (at + front 0 x) bytes) in
+      let b = bound (read_piece cross line column (drop at bytes) x p) (λ q. read_pieces cross line bytes (at + (length x + 1)) xs q) q e in
+      let first = piece_read n cross line column (drop at bytes) x p b.0 b.1 read in
+      let rest = pieces_read (n + 1) cross line bytes (at + (length x + 1)) xs b.0 q b.2 first in
+      wider ((n + 1) + length xs) (n + suc (length xs)) q.reader (omega arith) rest
+
+  -- a line has no more pieces than bytes, and one
+  led_many : (lead : List ℕ) (ls : List (List ℕ)) (n : ℕ) → length ls ≤ n + 1 → length (led_by lead ls) ≤ n + 1
+  led_many lead [] n h = omega arith
+  led_many lead (l ∷ ls) n h = h
+
+  cut_few : (within : Bool) (bs : List ℕ) → length (cut_from within bs) ≤ length bs + 1
+  unfolding cut_from
+  cut_few within [] = omega arith
+  cut_few within (b ∷ bs) = by (turn_at within b bs) (λ w. cut_few w bs)
+    where
+      by : (t : Turn) → ((w : Bool) → length (cut_from w bs) ≤ length bs + 1) → length (cut_by t b (λ w. cut_from w bs)) ≤ suc (length bs) + 1
+      by turns.End more = omega arith
+      by turns.Cut more = let r = more false in omega (arith, r)
+      by (turns.On w) more = led_many (b ∷ []) (cut_from w bs) (suc (length bs)) (let r = more w in omega (arith, r))
+
+  -- what one line more leaves, which has so many bytes
+  Next : ℕ → List ℕ → Read → Type 0
+  Next n l r = R (n + (length l + 1)) r
+
+  kept_next : (n : ℕ) (l : List ℕ) (r q : Read) → R n r → r ≡ q → Next n l q
+  unfolding Next
+  kept_next n l r q read same = kept_on n (n + (length l + 1)) r q (omega arith) read same
+
+  left_next : (n : ℕ) (l : List ℕ) (line : ℕ) (part : Inside) (m : Mark) (bytes : List ℕ) (p q : Progress) → left_out line part m bytes p ≡ Ok q → R n p.reader → Next n l q.reader
+  left_next n l line part m bytes p q e read = kept_next n l p.reader q.reader read (left_same line part m bytes p q e)
+
+  commented_next : (n : ℕ) (l : List ℕ) (line : ℕ) (bytes : List ℕ) (p q : Progress) → commented line bytes p ≡ Ok q → R n p.reader → Next n l q.reader
+  commented_next n l line bytes p q e read = kept_next n l p.reader q.reader read (commented_same line bytes p q e)
+
+  ok_next : (n : ℕ) (l : List ℕ) (p q : Progress) → ◌≡◌ {A = Result Progress ImportFault} (Ok p) (Ok q) → R n p.reader → Next n l q.reader
+  ok_next n l p q e read = kept_next n l p.reader q.reader read (ok_reader p q e)
+
+  said_next : (n : ℕ) (cross : Option Cross) (line : ℕ) (l : List ℕ) (at : ℕ) (p q : Progress) → said_on cross line l at p ≡ Ok q → R n p.reader → Next n l q.reader
+  unfolding said_on Next
+  said_next n cross line l at p q e read =
+      let b = bound (undirected line (drop at l)) _ q e in
+      let found = pieces_read n cross line l at (cut (drop at l)) p q b.2 read in
+      let few = cut_few false (drop at l) in
+      let short = drop_short at l in
+      wider (n + length (cut (drop at l))) (n + (length l + 1)) q.reader (omega (arith, few, short)) found
+
+  body_as_next : (n : ℕ) (cross : Option Cross) (line : ℕ) (l : List ℕ) (at : ℕ) (p q : Progress) (s : Shape) → body_as cross line l at p s ≡ Ok q → R n p.reader → Next n l q.reader
+  unfolding body_as
+  body_as_next n cross line l at p q shapes.Nothing e read = ok_next n l p q e read
+  body_as_next n cross line l at p q shapes.Directive e read = left_next n l line inside.Directive marks.DirectiveEnd (drop at l) p q e read
+  body_as_next n cross line l at p q shapes.Comment e read = commented_next n l line (drop at l) p q e read
+  body_as_next n cross line l at p q shapes.Head e read = said_next n cross line l at p q e read
+  body_as_next n cross line l at p q shapes.Other e read = said_next n cross line l at p q e read
+
+  body_next : (n : ℕ) (cross : Option Cross) (line : ℕ) (l : List ℕ) (at : ℕ) (p q : Progress) → body cross line l at p ≡ Ok q → R n p.reader → Next n l q.reader
+  unfolding body
+  body_next n cross line l at p q e read = body_as_next n cross line l at p q _ e read
+
+  head_as_next : (n : ℕ) (cross : Option Cross) (line : ℕ) (l : List ℕ) (p q : Progress) (s : Shape) → head_as cross line l p s ≡ Ok q → R n p.reader → Next n l q.reader
+  unfolding head_as
+  head_as_next n cross line l p q shapes.Nothing e read = ok_next n l p q e read
+  head_as_next n cross line l p q shapes.Directive e read = left_next n l line inside.Directive marks.DirectiveEnd l p q e read
+  head_as_next n cross line l p q shapes.Comment e read = commented_next n l line l p q e read
+  head_as_next n cross line l p q shapes.Head e read =
+      body_next n cross line l (behind_head l) (record { inside = p.inside; begun = true; reader = p.reader }) q e read
+  head_as_next n cross line l p q shapes.Other e read = cc
+
+  outside_next : (n : ℕ) (cross : Option Cross) (line : ℕ) (l : List ℕ) (p q : Progress) → outside cross line l p ≡ Ok q → R n p.reader → Next n l q.reader
+  unfolding outside
+  outside_next n cross line l p q e read =
+      let either = λ (t : Bool). cond t (body cross line l 0 p) (head_as cross line l p (shape_of (trimmed l))) in
+      by_test p.begun
+      (λ begun. body_next n cross line l 0 p q (sym (ap either begun) ∙ e) read)
+      (λ first. head_as_next n cross line l p q (shape_of (trimmed l)) (sym (ap either first) ∙ e) read)
+
+  first_next : (n : ℕ) (cross : Option Cross) (line : ℕ) (l : List ℕ) (p q : Progress) → first_line cross line l p ≡ Ok q → R n p.reader → Next n l q.reader
+  unfolding first_line
+  first_next n cross line l p q e read =
+      let other = λ (t : Bool). cond t (Ok (now_in inside.Front p)) (outside cross line l (now_in inside.Nothing p)) in
+      let either = λ (t : Bool). cond t (Ok p) (other (is_front (trimmed l))) in
+      by_test (is_empty (trimmed l))
+      (λ empty. ok_next n l p q (sym (ap either empty) ∙ e) read)
+      (λ some. let f = sym (ap either some) ∙ e in
+      by_test (is_front (trimmed l))
+      (λ front. ok_next n l (now_in inside.Front p) q (sym (ap other front) ∙ f) read)
+      (λ plain. outside_next n cross line l (now_in inside.Nothing p) q (sym (ap other plain) ∙ f) read))
+
+  described_next : (n : ℕ) (line : ℕ) (l : List ℕ) (p q : Progress) (s : Shape) → described_as line l p s ≡ Ok q → R n p.reader → Next n l q.reader
+  unfolding described_as
+  described_next n line l p q shapes.Nothing e read = ok_next n l p q e read
+  described_next n line l p q shapes.Directive e read =
+      let b = bound (closed line marks.DirectiveEnd l) _ q e in
+      kept_next n l p.reader q.reader read (unless_reader b.0 _ p q b.2)
+  described_next n line l p q shapes.Comment e read = commented_next n l line l p q e read
+  described_next n line l p q shapes.Head e read =
+      let b = bound (undirected line l) _ q e in left_next n l line inside.Description marks.DescriptionEnd b.0 p q b.2 read
+  described_next n line l p q shapes.Other e read =
+      let b = bound (undirected line l) _ q e in left_next n l line inside.Description marks.DescriptionEnd b.0 p q b.2 read
+
+  step_in_next : (n : ℕ) (cross : Option Cross) (line : ℕ) (l : List ℕ) (p q : Progress) (i : Inside) → step_in cross line l p i ≡ Ok q → R n p.reader → Next n l q.reader
+  unfolding step_in
+  step_in_next n cross line l p q inside.Start e read = first_next n cross line l p q e read
+  step_in_next n cross line l p q inside.Nothing e read = outside_next n cross line l p q e read
+  step_in_next n cross line l p q inside.Rest e read = outside_next n cross line l (now_in inside.Nothing p) q e read
+  step_in_next n cross line l p q inside.Front e read = ok_next n l (now_in (cond (is_front (trimmed l)) inside.Nothing inside.Front) p) q e read
+  step_in_next n cross line l p q inside.Directive e read = left_next n l line inside.Directive marks.DirectiveEnd l p q e read
+  step_in_next n cross line l p q inside.Description e read = described_next n line l p q (shape_of (trimmed l)) e read
+
+  pub steps_read : (cross : Option Cross) (ls : List (List ℕ)) (n line : ℕ) (p q : Progress) → steps cross line ls p ≡ Ok q → R n p.reader → R (n + room ls) q.reader
+  unfolding steps step room Next
+  steps_read cross [] n line p q e read =
+      let same : p.reader ≡ q.reader = ok_reader p q e in
+      subst (R (n + 0)) same (wider n (n + 0) p.reader (omega arith) read)
+  steps_read cross (l ∷ ls) n line p q e read =
+      let b = bound (step_in cross line l p p.inside) (λ q. steps cross (line + 1) ls q) q e in
+      let first = step_in_next n cross line l p b.0 p.inside b.1 read in
+      let rest = steps_read cross ls (n + (length l + 1)) (line + 1) b.0 q b.2 first in
+      wider ((n + (length l + 1)) + room ls) (n + (length l + 1 + room ls)) q.reader (omega arith) rest
+
+  -- what was told of a text is what was read of it
+  told_now : (last : ℕ) (p : Progress) (d : Diagram) → told_of last p ≡ Ok d → told p.reader ≡ Ok d
+  told_now last p d e =
+      let either = λ (t : Bool). cond t (told p.reader) (Err (Expected last expectations.Diagram)) in
+      by_test p.begun
+      (λ begun. sym (ap either begun) ∙ e)
+      (λ none. let f : ◌≡◌ {A = Result Diagram ImportFault} (Err (Expected last expectations.Diagram)) (Ok d) = sym (ap either none) ∙ e in cc)
+
+  ended_is : (last : ℕ) (p : Progress) (i : Inside) (d : Diagram) → ended_in last p i ≡ Ok d → told p.reader ≡ Ok d
+  unfolding ended_in
+  ended_is last p inside.Front d e = cc
+  ended_is last p inside.Directive d e = cc
+  ended_is last p inside.Description d e = cc
+  ended_is last p inside.Start d e = told_now last p d e
+  ended_is last p inside.Nothing d e = told_now last p d e
+  ended_is last p inside.Rest d e = told_now last p d e
+
+  -- what was read of all lines
+  pub read_all : (cross : Option Cross) (ls : List (List ℕ)) (d : Diagram) → said_in cross ls ≡ Ok d → R 0 untold → (r : Read) × R (0 + room ls) r × (told r ≡ Ok d)
+  unfolding said_in
+  read_all cross ls d e none =
+      let b = bound (steps cross 1 ls unread) (λ p. ended_in (length ls) p p.inside) d e in
+      (b.0.reader, steps_read cross ls 0 1 unread b.0 b.1 none, ended_is (length ls) b.0 b.0.inside d b.2)
