@@ -208,16 +208,10 @@ class Cutter:
 
     def statement(self, at):
         """The statement that begins here; the next one of its line goes on behind its `;`."""
-        config, commented = config_of(self.held, at), COMMENTED.match(self.held, at)
-        is_open = False
-        if commented:
-            end = commented.end()
-        elif config is None:
-            end = statement_end(self.held, at)
-        else:
-            brace = self.join_to(b"}", config, self.in_markup)
-            is_open = brace < 0
-            end = len(self.held) if is_open else statement_end(self.held, brace)
+        commented = COMMENTED.match(self.held, at)
+        end = commented.end() if commented else statement_end(self.held, at)
+        config = None if commented else config_of(self.held, at)
+        is_open = config is not None and self.held.find(b"}", config, end) < 0
         if self.held.startswith(b";", end):
             self.at = end + 1
         past = before_space(self.held, end, at)

@@ -7,7 +7,7 @@ import re
 
 from diagrams import Arrow, Begin, Branch, End, Line
 from hints import ARROWS_HINT, Hints, arrow_run
-from mermaid_lines import AS, bare, expected, opened
+from mermaid_lines import AS, bare, expected
 from source import SPACE, Note, Refused, Span, after_space, before_space
 
 BLOCKS = b"loop alt opt par par_over critical break rect box".split()
@@ -161,8 +161,7 @@ class Statement:
     def configured(self, ident, brace):
         """The line that is declared with something between braces."""
         if self.piece.is_open:
-            begin = self.piece.at(brace + 2)
-            raise expected(self.source, "}", self.source.end, opened(begin))
+            raise expected(self.source, "}", self.piece.at(len(self.held)))
         end = self.held.index(b"}", brace)
         alias, shown = ALIAS.search(self.held[:end], brace + 1), None
         if alias:

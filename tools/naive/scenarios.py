@@ -18,7 +18,7 @@ import sys
 sys.dont_write_bytecode = True
 from courses import scenarios
 from diagrams import made
-from mermaid import fault_bytes, texts_of, words_on_diagrams
+from mermaid import fault_bytes, text_asked, words_on_diagrams
 from source import Refused, Source, source_of
 from studies import KINDS, editor_lines, is_closest, kind, race_words, run_lines, shown_run, why
 from verdict import Chart
@@ -89,14 +89,10 @@ class Output:
         if self.show is None:
             self.show = 0
 
-    def refused(self, source, fault, name, file):
-        """Tells of a diagram that is refused; it has a name if others may follow."""
-        form = self.options.format
-        if form == "lines":
+    def refused(self, source, fault):
+        """Tells of a diagram that is refused."""
+        if self.options.format == "lines":
             self.lines += source.editor_lines(fault, self.options.notes)
-        elif name is not None:
-            is_count = form == "count"
-            self.lines += [f"refused {file}"] if is_count else [f"diagram {name}", "refused"]
         self.error += fault_bytes(source, fault, self.options.places)
         self.status = 2
 
@@ -167,15 +163,9 @@ def name_of(options):
 
 
 def judge(source, options, output):
-    """Checks the diagrams of a file."""
-    texts, is_all = texts_of(source, options)
-    for text in texts:
-        number = f"#{text.number}" if is_all else ""
-        name, file = name_of(options) + number, source.file + number
-        try:
-            output.judged(Verdict(text.diagram(options), options), name, file)
-        except Refused as fault:
-            output.refused(source, fault, name if is_all else None, file)
+    """Checks the diagram of a file."""
+    diagram = text_asked(source, options).diagram(options)
+    output.judged(Verdict(diagram, options), name_of(options), source.file)
 
 
 def answer(text, options):
@@ -185,7 +175,7 @@ def answer(text, options):
         source = source_of(text, options.file)
         judge(source, options, output)
     except Refused as fault:
-        output.refused(source, fault, None, source.file)
+        output.refused(source, fault)
     lines = [] if options.quiet else output.lines
     return "".join(line + "\n" for line in lines).encode(), output.error, output.status
 
