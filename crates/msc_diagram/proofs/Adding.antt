@@ -168,7 +168,7 @@ pub add_up : PlacesAddUp
 add_up queues q cases off = by_test (is_empty q.allowed)
     (λ empty.
     let none : chooses q ≡ false = ap₂ (λ (a b : Bool). a || not b) off empty in
-    subst (λ (k : PlaceCounts). k.races ≡ unwrap_or k.allowed 0 + k.listed) (plain_counts queues q cases none) refl)
+    subst (λ (k : PlaceCounts). k.races ≡ unwrap_or k.allowed 0 + k.listed) (plain_counts queues q cases none) (omega arith))
     (λ some.
     let same : asked_of queues q ≡ counting_of queues q.allowed = λ j c. plain_listed queues q off c j in
     let listed = ap (λ (pairs : Case → List (ℕ × ℕ)). length (places_from pairs [] cases)) same in
