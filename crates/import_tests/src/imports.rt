@@ -4,11 +4,12 @@
 use crate::gallery::{self, Scenario};
 use listed::Listed;
 use msc_import::{
-    Closer, Cross, Expectation, Head, ImportFault, Imported, Importing, ImportingAll, Language,
-    Manner, Own, Par, Refused, Scenarios, all_choices, diagram_of, draw, fenced, import,
-    import_all, places, scenarios,
+    Imported, Importing, ImportingAll, Language, Manner, Own, Par, Refused, Scenarios, draw,
+    import, import_all, places,
 };
+use msc_mermaid::{Closer, Cross, Expectation, ImportFault, diagram_of, fenced};
 use msc_place::Position;
+use msc_scenarios::{all_choices, scenarios};
 use std::alloc::AllocGlobal;
 
 /// The usual manner.
@@ -199,6 +200,120 @@ instance A;
   action 'lost b, 2 to B';
 endinstance;
 instance B;
+endinstance;
+endmsc;
+",
+    ),
+    (
+        b"sequenceDiagram
+A<<->>B: hello",
+        None,
+        Own::Action,
+        &[],
+        b"msc t;
+instance A;
+  concurrent;
+    out hello, 1 to B;
+    in hello, 1 from B;
+  endconcurrent;
+endinstance;
+instance B;
+  concurrent;
+    out hello, 1 to A;
+    in hello, 1 from A;
+  endconcurrent;
+endinstance;
+endmsc;
+",
+    ),
+    (
+        b"sequenceDiagram
+B<<-->>B: a
+par x
+A<<-->>B: b
+and y
+B->>C: c
+end",
+        None,
+        Own::Message,
+        &[],
+        b"msc t;
+instance B;
+  out a, 1 to B;
+  in a, 1 from B;
+  concurrent;
+    out b, 2 to A;
+    in b, 2 from A;
+    out c, 3 to C;
+  endconcurrent;
+endinstance;
+instance A;
+  concurrent;
+    out b, 2 to B;
+    in b, 2 from B;
+  endconcurrent;
+endinstance;
+instance C;
+  in c, 3 from B;
+endinstance;
+endmsc;
+",
+    ),
+    (
+        b"sequenceDiagram
+A-xB: a
+A->>B: b",
+        None,
+        Own::Action,
+        &[],
+        b"msc t;
+instance A;
+  action 'lost a, 1 to B';
+  out b, 2 to B;
+endinstance;
+instance B;
+  in b, 2 from A;
+endinstance;
+endmsc;
+",
+    ),
+    (
+        b"sequenceDiagram
+loop x
+A-xB: a
+end
+A-xA: b",
+        None,
+        Own::Action,
+        &[2, 1, 0],
+        b"msc t;
+instance A;
+  out a, 1_1 to B;
+  action 'lost a, 1_2 to B';
+  action 'b, 2';
+endinstance;
+instance B;
+  in a, 1_1 from A;
+endinstance;
+endmsc;
+",
+    ),
+    (
+        b"sequenceDiagram
+A-xA: a
+destroy B
+A-xB: b",
+        None,
+        Own::Message,
+        &[],
+        b"msc t;
+instance A;
+  out a, 1 to A;
+  in a, 1 from A;
+  out b, 2 to B;
+endinstance;
+instance B;
+  in b, 2 from A;
 endinstance;
 endmsc;
 ",
@@ -793,14 +908,6 @@ const FAULTS: &[(&[u8], ImportFault)] = &[
         ImportFault::Expected(2, Expectation::Statement),
     ),
     (
-        b"sequenceDiagram\nA<<->>B: a",
-        ImportFault::Unsupported(2, Head::Both),
-    ),
-    (
-        b"sequenceDiagram\nA<<-->>B: a",
-        ImportFault::Unsupported(2, Head::DottedBoth),
-    ),
-    (
         b"sequenceDiagram\n->>B: a",
         ImportFault::Expected(2, Expectation::Name),
     ),
@@ -860,7 +967,6 @@ const FAULTS: &[(&[u8], ImportFault)] = &[
         b"sequenceDiagram\nA->>-",
         ImportFault::Expected(2, Expectation::Label),
     ),
-    (b"sequenceDiagram\n\nA-xB: a", ImportFault::Cross(3)),
     (
         b"sequenceDiagram\nelse",
         ImportFault::Outside(2, Closer::Else),
@@ -941,9 +1047,30 @@ const REFUSED: &[(&[u8], &[usize], ImportFault)] = &[
         ImportFault::Choice(2, 1, 1024),
     ),
     (
+        b"sequenceDiagram\nA->>B: a\nA-xB: b",
+        &[2],
+        ImportFault::Choice(3, 1, 1),
+    ),
+    (
+        b"sequenceDiagram\nA->>B: a\nA-xA: b",
+        &[0],
+        ImportFault::TooManyChoices(1, 0),
+    ),
+    (
         b"sequenceDiagram\nloop x\nA->>B: a\nend\nA->>B: b",
         &[1024],
         ImportFault::TooManyArrows(5),
+    ),
+    // an arrow with two heads counts as two
+    (
+        b"sequenceDiagram\nloop x\nA<<->>B: a\nend\nA->>B: b",
+        &[512],
+        ImportFault::TooManyArrows(5),
+    ),
+    (
+        b"sequenceDiagram\nA->>B: a\nloop x\nA<<->>B: b\nend",
+        &[512],
+        ImportFault::TooManyArrows(4),
     ),
     (
         b"sequenceDiagram\nA->>B: a\npar x\nA->>B: b\nA->>C: c\nand y\nA->>B: d\nend",
@@ -1000,6 +1127,11 @@ const COUNTS: &[Counted] = &[
     (gallery::WEBSOCKET_CHAT, &[0, 2], 2),
     (b"sequenceDiagram\nA->>B: a", &[0, 2], 1),
     (
+        b"sequenceDiagram\nA-xB: a\nloop x\nA--xB: b\nend\nA-xA: c\ndestroy B\nA-xB: d",
+        &[0, 2],
+        10,
+    ),
+    (
         b"sequenceDiagram\nloop x\nA->>B: a\nbreak y\nB->>A: b\nend\nalt z\nA->>B: c\nelse z\nB->>A: d\nend\nend\ncritical x\nbreak y\nA->>B: a\nend\noption z\nA->>C: c\noption y\nB->>A: d\nend\npar x\nopt y\nA->>B: e\nend\nand z\nopt y\nA->>B: e\nend\nend\n",
         &[0, 2],
         192,
@@ -1038,6 +1170,18 @@ type Chosen = (&'static [u8], &'static [usize], &'static [&'static [usize]]);
 /// Blocks of each kind, and blocks inside others and behind them.
 const CHOICES: &[Chosen] = &[
     (b"sequenceDiagram\nA->>B: a", &[0, 2], &[&[]]),
+    (
+        b"sequenceDiagram\nA-xB: a\nopt x\nA--xB: b\nend\nA-xA: c",
+        &[0, 2],
+        &[
+            &[0, 0],
+            &[0, 1, 0],
+            &[0, 1, 1],
+            &[1, 0],
+            &[1, 1, 0],
+            &[1, 1, 1],
+        ],
+    ),
     (
         b"sequenceDiagram\nalt x\nA->>B: a\nelse y\nA->>B: a\nelse z\nA->>B: a\nend",
         &[0, 2],

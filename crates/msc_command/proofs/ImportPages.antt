@@ -1,7 +1,7 @@
 -- Why nothing is imported of a text, and what is printed of what is.
 use Rattle.std.proofs.Common.{◌≡◌, ℕ, true, List, Option, Result, Ok, Err, inl, inr, refl, sym, ◌∙◌}
-use Rattle.msc_import.specs.declared.fault.ImportFault.{ImportFault}
-use Rattle.msc_import.specs.declared.fault.ImportFault.TheVariants as imports
+use Rattle.msc_mermaid.specs.declared.fault.ImportFault.{ImportFault}
+use Rattle.msc_mermaid.specs.declared.fault.ImportFault.TheVariants as imports
 use Rattle.msc_import.specs.declared.importing.Imported.{Imported}
 use Rattle.msc_import.specs.declared.importing.Refused.{Refused as NotImported}
 use Rattle.msc_import.specs.Drafting.{IsReadAgain}

@@ -21,8 +21,8 @@ use Rattle.msc_import.specs.declared.plan.Own.{Own}
 use Rattle.msc_import.specs.declared.plan.Own.TheVariants as owns
 use Rattle.msc_import.specs.declared.plan.Par.{Par}
 use Rattle.msc_import.specs.declared.plan.Par.TheVariants as pars
-use Rattle.msc_import.specs.declared.statement.Cross.{Cross}
-use Rattle.msc_import.specs.declared.statement.Cross.TheVariants as crosses
+use Rattle.msc_mermaid.specs.declared.statement.Cross.{Cross}
+use Rattle.msc_mermaid.specs.declared.statement.Cross.TheVariants as crosses
 use Rattle.msc_draw.specs.declared.form.Form.{Form as PictureForm}
 use Rattle.msc_draw.specs.declared.form.Form.TheVariants as pictures
 use Rattle.msc_command.specs.declared.tasks.Checking.{Checking}

@@ -7,8 +7,8 @@ use Rattle.msc_report.specs.declared.fault.Fault.TheVariants.{Parse, Chart, NotS
 use Rattle.msc_report.specs.Texts.{fault_line, instance_fault_line, mark_fault_line, pair_fault_line, twice_fault_line}
 use Rattle.msc_diagram.specs.Faults.{import_refusal_line}
 use Rattle.msc_import.specs.Importing.{seen}
-use Rattle.msc_import.specs.declared.fault.ImportFault.{ImportFault}
-use Rattle.msc_import.specs.declared.fault.ImportFault.TheVariants as imports
+use Rattle.msc_mermaid.specs.declared.fault.ImportFault.{ImportFault}
+use Rattle.msc_mermaid.specs.declared.fault.ImportFault.TheVariants as imports
 use Rattle.msc_import.specs.declared.importing.Refused.{Refused as NotImported}
 use Rattle.msc_mark.specs.declared.fault.MarkFault.{MarkFault}
 use Rattle.msc_mark.specs.declared.fault.MarkFault.TheVariants as marks

@@ -9,7 +9,7 @@ ghost use Rattle.msc_command.specs.Importing.{behind_slash, choice_in, choices_i
 ghost use Rattle.msc_command.specs.Importing.{greatest_choice, is_comma, is_dot, is_slash};
 ghost use Rattle.msc_command.specs.Importing.{number_of, title_of, with_digit};
 
-use msc_import::ROUND_LIMIT;
+use msc_scenarios::ROUND_LIMIT;
 use std::alloc::{AllocError, Global};
 
 /// The greatest number of a choice.

@@ -12,9 +12,10 @@ use crate::notes::write_cause;
 use msc_chart::TwiceFault;
 use msc_diagram::write_import_fault;
 use msc_ending::RunFault;
-use msc_import::{ImportFault, Refused};
+use msc_import::Refused;
 use msc_judge::WriteFault;
 use msc_mark::MarkFault;
+use msc_mermaid::ImportFault;
 use msc_report::{
     Fault, NamedFault, write_fault, write_instance_fault, write_mark_fault, write_pair_fault,
     write_twice_fault,

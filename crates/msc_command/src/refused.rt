@@ -10,9 +10,10 @@ ghost use Rattle.msc_parser.specs.Parsing.{HasDraft};
 
 use crate::ending::{Refusal, write_refusal};
 use msc_chart::ChartFault;
-use msc_import::{ImportFault, Refused};
+use msc_import::Refused;
 use msc_judge::Page;
 use msc_mark::MarkFault;
+use msc_mermaid::ImportFault;
 use msc_notes::writing::{write_error, write_note_line};
 use msc_notes::{Note, Told, ToldFault, tell_chart, tell_further, tell_parse};
 use msc_parser::laws::one_parsing;

@@ -18,8 +18,9 @@ use crate::choices::{gives_choices, gives_rounds, title_of};
 use crate::words::{Verb, Word};
 use clap::ArgMatches;
 use msc_chart::Queues;
-use msc_import::{Cross, Language, Manner, Own, Par};
+use msc_import::{Language, Manner, Own, Par};
 use msc_judge::Question;
+use msc_mermaid::Cross;
 use msc_reason::{KindSet, RaceKind};
 use msc_report::EventName;
 

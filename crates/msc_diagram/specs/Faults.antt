@@ -1,11 +1,11 @@
 -- The lines that faults of imports are printed as. This project's own format.
 use Rattle.std.specs.Prelude.{ℕ, cond, nat_le, List, ◌++◌, codes}
 use Rattle.std.specs.Fmt.{decimal}
-use Rattle.msc_import.specs.Expectations.{closer_word, expectation}
-use Rattle.msc_import.specs.Keys.{head_text}
-use Rattle.msc_import.specs.declared.TheConstants.{SCENARIO_LIMIT}
-use Rattle.msc_import.specs.declared.fault.ImportFault.{ImportFault}
-use Rattle.msc_import.specs.declared.fault.ImportFault.TheVariants as imports
+use Rattle.msc_mermaid.specs.Expectations.{closer_word, expectation}
+use Rattle.msc_mermaid.specs.Keys.{head_text}
+use Rattle.msc_scenarios.specs.declared.TheConstants.{SCENARIO_LIMIT}
+use Rattle.msc_mermaid.specs.declared.fault.ImportFault.{ImportFault}
+use Rattle.msc_mermaid.specs.declared.fault.ImportFault.TheVariants as imports
 use Rattle.msc_import.specs.Importing.{Refusal}
 use Rattle.msc_report.specs.Texts.{text_line}
 

@@ -7,7 +7,9 @@ ghost use Rattle.msc_diagram.specs.Faults.{import_fault_line, import_line, impor
 ghost use Rattle.msc_diagram.specs.Faults.{several_line};
 ghost use Rattle.msc_report.specs.Texts.{text_line};
 
-use msc_import::{Closer, Expectation, Head, ImportFault, Refused, SCENARIO_LIMIT};
+use msc_import::Refused;
+use msc_mermaid::{Closer, Expectation, Head, ImportFault};
+use msc_scenarios::SCENARIO_LIMIT;
 use std::io;
 use std::io::Write;
 

@@ -5,7 +5,7 @@ use Rattle.std.proofs.lemmas.List.{drop_more, drop_all, take-map, drop-map, leng
 use Rattle.std.proofs.lemmas.Simd.{map-map}
 use Rattle.msc_parser.specs.declared.tree.Item.TheVariants.{Single, Coregion}
 use Rattle.msc_import.specs.declared.plan.Planned.{Planned}
-use Rattle.msc_import.specs.declared.statement.Placed.{Placed}
+use Rattle.msc_mermaid.specs.declared.statement.Placed.{Placed}
 use Rattle.msc_import.specs.Drafting.{drawn_event, drawn_item, drawn_items, between, shown_by, shown_of}
 use Rattle.msc_import.specs.Plans.{Event, seen}
 

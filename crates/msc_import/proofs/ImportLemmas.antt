@@ -6,16 +6,16 @@ use Rattle.std.proofs.Math.Seq.{take-append_seam}
 use Rattle.std.proofs.lemmas.Bool.{cases_lt}
 use Rattle.std.proofs.lemmas.List.{take_all, length-take-le}
 use Rattle.msc_lexer.specs.declared.TheConstants.{NAME_LIMIT, TEXT_LIMIT}
-use Rattle.msc_import.specs.declared.fault.Expectation.TheVariants.{AnyDiagram}
-use Rattle.msc_import.specs.declared.fault.ImportFault.TheVariants.{Expected}
-use Rattle.msc_import.specs.declared.statement.Cross.{Cross}
+use Rattle.msc_mermaid.specs.declared.fault.Expectation.TheVariants.{AnyDiagram}
+use Rattle.msc_mermaid.specs.declared.fault.ImportFault.TheVariants.{Expected}
+use Rattle.msc_mermaid.specs.declared.statement.Cross.{Cross}
 use Rattle.msc_import.specs.declared.importing.Refused.{Refused}
-use Rattle.msc_import.specs.declared.statement.Diagram.{Diagram}
-use Rattle.msc_import.specs.declared.fault.ImportFault.{ImportFault}
-use Rattle.msc_import.specs.Gives.{Fails}
+use Rattle.msc_mermaid.specs.declared.statement.Diagram.{Diagram}
+use Rattle.msc_mermaid.specs.declared.fault.ImportFault.{ImportFault}
+use Rattle.msc_mermaid.specs.Gives.{Fails}
 use Rattle.msc_import.specs.Importing.{RefusesSo, answered, begins_diagram, short_bytes, told_by_content}
-use Rattle.msc_import.specs.Lines.{lines_of, trimmed}
-use Rattle.msc_import.specs.Mermaid.{is_head, mermaid}
+use Rattle.msc_mermaid.specs.Lines.{lines_of, trimmed}
+use Rattle.msc_mermaid.specs.Mermaid.{is_head, mermaid}
 
 -- a test of what a view makes of the items of a list
 list_any_map : {X Y : Type 0} (p : Y → Bool) (f : X → Y) (xs : List X) → list_any p (map f xs) ≡ list_any (λ x. p (f x)) xs

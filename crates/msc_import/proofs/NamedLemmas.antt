@@ -12,12 +12,12 @@ use Rattle.msc_lexer.specs.Words.{word_of}
 use Rattle.msc_parser.specs.declared.tree.Decl.{Decl}
 use Rattle.msc_parser.specs.declared.tree.Section.{Section}
 use Rattle.msc_parser.specs.Drafts.{IsDeclNamed, IsStatementNamed, IsItemNamed, IsSectionNamed, IsDraft, statements_of}
-use Rattle.msc_import.specs.declared.course.Message.{Message}
+use Rattle.msc_scenarios.specs.declared.course.Message.{Message}
 use Rattle.msc_import.specs.declared.plan.Side.{Side}
 use Rattle.msc_import.specs.declared.plan.Side.TheVariants as sides
-use Rattle.msc_import.specs.declared.statement.Placed.{Placed}
-use Rattle.msc_import.specs.Naming.{kind_of, made}
-use Rattle.msc_import.specs.Rows.{is_empty}
+use Rattle.msc_mermaid.specs.declared.statement.Placed.{Placed}
+use Rattle.msc_scenarios.specs.Naming.{kind_of, made}
+use Rattle.msc_mermaid.specs.Patterns.{is_empty}
 use Rattle.msc_import.specs.Drafting.{is_chart_name, fitted, drawn_side, drawn_event, drawn_item, drawn_items, between, decl_of, kind_by, shown_of, line_name, section_of, sections_on, tree_of}
 use Rattle.msc_import.specs.Plans.{Event, Plan}
 
@@ -73,6 +73,18 @@ side_named names m sides.In = record {
   number = fitted_named m.number;
   parameters = tt;
   address = fitted_named (line_name names m.from);
+}
+side_named names m sides.OutBack = record {
+  name = fitted_named m.name;
+  number = fitted_named m.number;
+  parameters = tt;
+  address = fitted_named (line_name names m.from);
+}
+side_named names m sides.InBack = record {
+  name = fitted_named m.name;
+  number = fitted_named m.number;
+  parameters = tt;
+  address = fitted_named (line_name names m.to);
 }
 side_named names m sides.Own = tt
 side_named names m sides.Lost = tt

@@ -1,20 +1,22 @@
 -- Each line has the ends of its arrows in their order.
-use Rattle.std.proofs.Common.{◌≡◌, ◌≤◌, ℕ, zero, suc, ◌+◌, ◌-◌, Bool, true, false, cond, List, [], ◌∷◌, ◌++◌, length, take, drop, map, nat_le, Option, None, Some, Result, Ok, Err, refl, sym, ap, ◌∙◌, subst, arith, tests}
+use Rattle.std.proofs.Common.{◌≡◌, ◌≤◌, ℕ, zero, suc, ◌+◌, ◌-◌, Bool, true, false, cond, ◌==◌, List, [], ◌∷◌, ◌++◌, length, take, drop, map, nat_le, Option, None, Some, Result, Ok, Err, refl, sym, ap, ◌∙◌, subst, arith, tests}
 use Rattle.std.specs.List.{flat_map}
-use Rattle.std.proofs.lemmas.List.{append-nil, append_assoc, drop-drop, drop_all, length_push, map-append, take-append-drop}
+use Rattle.std.proofs.lemmas.List.{append-nil, append_assoc, drop-drop, drop_all, length-append, length_push, map-append, take-append-drop}
 use Rattle.msc_parser.specs.Drafts.{statements_in}
-use Rattle.msc_import.specs.declared.course.Message.{Message}
-use Rattle.msc_import.specs.declared.course.Step.{Step}
-use Rattle.msc_import.specs.declared.course.Step.TheVariants as steps
-use Rattle.msc_import.specs.declared.fault.ImportFault.{ImportFault}
-use Rattle.msc_import.specs.declared.fault.ImportFault.TheVariants.{Shared}
+use Rattle.msc_scenarios.specs.declared.course.Message.{Message}
+use Rattle.msc_scenarios.specs.declared.course.Step.{Step}
+use Rattle.msc_scenarios.specs.declared.course.Step.TheVariants as steps
+use Rattle.msc_mermaid.specs.declared.fault.ImportFault.{ImportFault}
+use Rattle.msc_mermaid.specs.declared.fault.ImportFault.TheVariants.{Shared}
 use Rattle.msc_import.specs.declared.plan.Frame.{Frame}
 use Rattle.msc_import.specs.declared.plan.Manner.{Manner}
 use Rattle.msc_import.specs.declared.plan.Par.{Par}
+use Rattle.msc_import.specs.declared.plan.Own.{Own}
 use Rattle.msc_import.specs.declared.plan.Side.{Side}
-use Rattle.msc_import.specs.Gives.{◌>>=◌}
+use Rattle.msc_import.specs.declared.plan.Side.TheVariants as sides
+use Rattle.msc_mermaid.specs.Gives.{◌>>=◌}
 use Rattle.msc_import.specs.Drafting.{between, drawn_event, drawn_item, drawn_items}
-use Rattle.msc_import.specs.Plans.{Event, Plan, closed_last, is_coregion, is_refused, joined_ends, last_frame, marked_last, opened, plan_on, planned, sides_on, unplanned, with_event, with_sides}
+use Rattle.msc_import.specs.Plans.{Event, Plan, closed_last, exchange_sides, exchanged, is_coregion, is_exchange, is_refused, joined_ends, last_frame, marked_last, met, opened, plan_on, planned, sides_on, single_sides, unplanned, with_both, with_event, with_pair, with_sides}
 use Rattle.msc_import.specs.Laws.{ends_on}
 
 -- places that ascend from the first to at most the last
@@ -81,6 +83,37 @@ sides_kept m (s ∷ ss) p h =
     let rest = sides_kept m ss (with_event p e) (event_fits p e h) in
     (rest.0, rest.1 ∙ append_assoc p.events (e ∷ []) (map (λ s. record { message = m; side = s }) ss))
 
+both_kept : (p : Plan) (e f : Event) → Fits p → Kept p (e ∷ f ∷ []) (with_both p e f)
+unfolding Kept Fits
+both_kept p e f h =
+    let n = length p.events in
+    let up = upto_wider n (n + 2) 0 p.ends (omega arith) (upto n 0 p.ends h) in
+    let many : length (p.events ++ e ∷ f ∷ []) ≡ n + 2 = length-append p.events (e ∷ f ∷ []) in
+    (subst (Reaches 0 (p.ends ++ (n + 2) ∷ [])) (sym many) (upto_end (n + 2) 0 p.ends up), refl)
+
+-- the ends of an arrow, as events
+abbrev ends_of : Message → List Side → List Event
+ends_of m ss = map (λ s. record { message = m; side = s }) ss
+
+exchange_kept : (line : ℕ) (m : Message) (p : Plan) → Fits p → Kept p (ends_of m (exchange_sides line m)) (exchanged line m p)
+unfolding Kept Fits
+exchange_kept line m p h =
+    elim (m.from == line) as (λ t. Kept p (ends_of m (cond t (sides.Out ∷ sides.InBack ∷ []) (cond (m.to == line) (sides.OutBack ∷ sides.In ∷ []) []))) (cond t (with_pair m sides.Out sides.InBack p) (cond (m.to == line) (with_pair m sides.OutBack sides.In p) p))) [
+      | true ↦ both_kept p (record { message = m; side = sides.Out }) (record { message = m; side = sides.InBack }) h
+      | false ↦ elim (m.to == line) as (λ t. Kept p (ends_of m (cond t (sides.OutBack ∷ sides.In ∷ []) [])) (cond t (with_pair m sides.OutBack sides.In p) p)) [
+        | true ↦ both_kept p (record { message = m; side = sides.OutBack }) (record { message = m; side = sides.In }) h
+        | false ↦ (h, sym (append-nil p.events))
+      ]
+    ]
+
+met_kept : (own : Own) (line : ℕ) (m : Message) (p : Plan) → Fits p → Kept p (ends_of m (sides_on own line m)) (met own line m p)
+unfolding sides_on met
+met_kept own line m p h =
+    elim (is_exchange m) as (λ t. Kept p (ends_of m (cond t (exchange_sides line m) (single_sides own line m))) (cond t (exchanged line m p) (with_sides m (single_sides own line m) p))) [
+      | true ↦ exchange_kept line m p h
+      | false ↦ sides_kept m (single_sides own line m) p h
+    ]
+
 marked_kept : (p : Plan) (f : Option Frame) → Fits p → Kept p [] (marked_last p f)
 unfolding Kept Fits
 marked_kept p None h = (h, sym (append-nil p.events))
@@ -110,7 +143,7 @@ closed_kept par line p (Some f) q e h =
 module _ (manner : Manner) (line : ℕ) where
   step_kept : (s : Step) (p q : Plan) → planned manner line s p ≡ Ok q → Fits p → Kept p (ends_on manner.own line s) q
   unfolding planned Fits
-  step_kept (steps.Meets m) p q e h = kept_same p _ (planned manner line (steps.Meets m) p) (with_sides m (sides_on manner.own line m) p) q refl e (sides_kept m (sides_on manner.own line m) p h)
+  step_kept (steps.Meets m) p q e h = kept_same p _ (planned manner line (steps.Meets m) p) (met manner.own line m p) q refl e (met_kept manner.own line m p h)
   step_kept (steps.Opens text) p q e h = kept_same p [] (planned manner line (steps.Opens text) p) (opened text p) q refl e (kept_none p (opened text p) refl h)
   step_kept steps.Next p q e h = kept_same p [] (planned manner line steps.Next p) (marked_last p (last_frame p)) q refl e (marked_kept p (last_frame p) h)
   step_kept steps.Closes p q e h = closed_kept manner.par line p (last_frame p) q e h

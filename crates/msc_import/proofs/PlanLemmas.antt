@@ -1,14 +1,14 @@
 -- Plans of lines: one end more, one line's step more, and one step of all lines more.
 use Rattle.std.proofs.Common.{◌≡◌, ◌<◌, ◌≤◌, ℕ, ◌+◌, List, [], ◌∷◌, ◌++◌, length, get_or, set, take, drop, Ok, refl, sym, ap, ◌∙◌, subst, arith}
 use Rattle.std.proofs.lemmas.List.{drop_more, drop_all, drop-set-lt, length-take-le, take_all, take_more_set}
-use Rattle.msc_import.specs.declared.course.Message.{Message}
-use Rattle.msc_import.specs.declared.course.Step.{Step}
-use Rattle.msc_import.specs.declared.fault.ImportFault.{ImportFault}
+use Rattle.msc_scenarios.specs.declared.course.Message.{Message}
+use Rattle.msc_scenarios.specs.declared.course.Step.{Step}
+use Rattle.msc_mermaid.specs.declared.fault.ImportFault.{ImportFault}
 use Rattle.msc_import.specs.declared.plan.Manner.{Manner}
 use Rattle.msc_import.specs.declared.plan.Side.{Side}
 use Rattle.msc_import.specs.Plans.{Plan, with_event, with_sides, planned, planned_all, plans_on}
-use Rattle.msc_import.specs.Gives.{◌>>=◌, Fails}
-use Rattle.msc_import.proofs.ReadingLemmas.{bind_fails}
+use Rattle.msc_mermaid.specs.Gives.{◌>>=◌, Fails}
+use Rattle.msc_mermaid.proofs.ReadingLemmas.{bind_fails}
 
 sides_cons : (m : Message) (s : Side) (ss : List Side) (p : Plan) → with_sides m (s ∷ ss) p ≡ with_sides m ss (with_event p (record { message = m; side = s }))
 unfolding with_sides

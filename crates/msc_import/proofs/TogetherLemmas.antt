@@ -3,11 +3,11 @@ use Rattle.std.proofs.Common.{◌≡◌, ◌<◌, ◌≤◌, ℕ, zero, suc, ◌
 use Rattle.std.specs.List.{slice_get}
 use Rattle.std.proofs.lemmas.Bool.{cases_lt}
 use Rattle.std.proofs.lemmas.List.{append-nil, append_assoc, length_push, get_or-replicate, get_or_past, length-replicate}
-use Rattle.msc_import.specs.declared.course.Step.{Step}
-use Rattle.msc_import.specs.declared.fault.ImportFault.{ImportFault}
+use Rattle.msc_scenarios.specs.declared.course.Step.{Step}
+use Rattle.msc_mermaid.specs.declared.fault.ImportFault.{ImportFault}
 use Rattle.msc_import.specs.declared.plan.Manner.{Manner}
-use Rattle.msc_import.specs.Gives.{◌>>=◌}
-use Rattle.msc_import.proofs.LawLemmas.{same_ok}
+use Rattle.msc_mermaid.specs.Gives.{◌>>=◌}
+use Rattle.msc_mermaid.proofs.LawLemmas.{same_ok}
 use Rattle.msc_import.specs.Plans.{Plan, plan_on, plans_of, plans_on, planned, planned_all, unplanned}
 
 -- each line takes a step, the first of them having this number

@@ -1,13 +1,13 @@
 -- All scenarios: one more.
 use Rattle.std.proofs.Common.{◌≡◌, ◌<◌, ◌≤◌, ℕ, ◌+◌, List, [], ◌∷◌, ◌++◌, length, get_or, drop, Ok, refl, sym, ap, ◌∙◌, subst}
 use Rattle.std.proofs.lemmas.List.{drop_more, drop_all}
-use Rattle.msc_import.specs.declared.fault.ImportFault.{ImportFault}
+use Rattle.msc_mermaid.specs.declared.fault.ImportFault.{ImportFault}
 use Rattle.msc_import.specs.declared.plan.Manner.{Manner}
-use Rattle.msc_import.specs.declared.statement.Diagram.{Diagram}
+use Rattle.msc_mermaid.specs.declared.statement.Diagram.{Diagram}
 use Rattle.msc_import.specs.declared.whole.Scenario.{Scenario}
-use Rattle.msc_import.specs.Gives.{◌>>=◌, Fails}
+use Rattle.msc_mermaid.specs.Gives.{◌>>=◌, Fails}
 use Rattle.msc_import.specs.Whole.{scenario_with, scenarios_on}
-use Rattle.msc_import.proofs.ReadingLemmas.{bind_fails}
+use Rattle.msc_mermaid.proofs.ReadingLemmas.{bind_fails}
 
 module _ (manner : Manner) (name : List ℕ) (d : Diagram) where
   whole_cons : (done : List Scenario) (given : List ℕ) (lists : List (List ℕ)) → scenarios_on manner name d done (given ∷ lists) ≡ (scenario_with manner name d given >>= (λ s. scenarios_on manner name d (done ++ s ∷ []) lists))

@@ -1,5 +1,5 @@
 -- The draft of a course: its lines, each with its events.
-use Rattle.std.specs.Prelude.{ℕ, ◌+◌, ◌-◌, Bool, cond, not, ◌&&◌, nat_le, List, [], ◌∷◌, ◌++◌, length, take, drop, slice_get, map, codes, Option, None, Some, is_none, unwrap_or, Result, Err}
+use Rattle.std.specs.Prelude.{ℕ, ◌+◌, ◌-◌, Bool, cond, not, ◌&&◌, nat_le, List, [], ◌∷◌, ◌++◌, length, take, drop, slice_get, map, codes, Option, None, Some, is_none, unwrap_or, Result}
 use Rattle.std.specs.Option.{option_or}
 use Rattle.std.specs.Str.{bytes_eq}
 use Rattle.std.specs.List.{list_all}
@@ -19,24 +19,22 @@ use Rattle.msc_parser.specs.Canonical.{canonical}
 use Rattle.msc_parser.specs.Drafts.{statements_of}
 use Rattle.msc_parser.specs.Grammar.{Tree}
 use Rattle.msc_parser.specs.Parsing.{HasDraft}
-use Rattle.msc_import.specs.declared.course.Message.{Message}
-use Rattle.msc_import.specs.declared.fault.ImportFault.{ImportFault}
-use Rattle.msc_import.specs.declared.fault.ImportFault.TheVariants.{TooManyArrows, TooManyChoices}
-use Rattle.msc_import.specs.declared.TheConstants.{DEPTH_LIMIT}
-use Rattle.msc_import.specs.declared.course.Ending.{Ending}
-use Rattle.msc_import.specs.declared.course.Ending.TheVariants as ends
-use Rattle.msc_import.specs.declared.statement.Diagram.{Diagram}
+use Rattle.msc_scenarios.specs.declared.course.Message.{Message}
+use Rattle.msc_mermaid.specs.declared.fault.ImportFault.{ImportFault}
+use Rattle.msc_mermaid.specs.declared.fault.ImportFault.TheVariants.{TooManyArrows}
+use Rattle.msc_mermaid.specs.declared.TheConstants.{DEPTH_LIMIT}
+use Rattle.msc_mermaid.specs.declared.statement.Diagram.{Diagram}
 use Rattle.msc_import.specs.declared.plan.Manner.{Manner}
 use Rattle.msc_import.specs.declared.plan.Side.{Side}
 use Rattle.msc_import.specs.declared.plan.Side.TheVariants as sides
-use Rattle.msc_import.specs.declared.statement.Placed.{Placed}
-use Rattle.msc_import.specs.declared.statement.Statement.{Statement}
-use Rattle.msc_import.specs.declared.statement.Statement.TheVariants.{Declares, Says, Begins, Closes}
-use Rattle.msc_import.specs.Courses.{Walk, walk}
-use Rattle.msc_import.specs.Gives.{◌>>=◌, unless}
+use Rattle.msc_mermaid.specs.declared.statement.Placed.{Placed}
+use Rattle.msc_mermaid.specs.declared.statement.Statement.{Statement}
+use Rattle.msc_mermaid.specs.declared.statement.Statement.TheVariants.{Declares, Says, Begins, Closes}
+use Rattle.msc_scenarios.specs.Courses.{Walk, at_rest, unended, walk}
+use Rattle.msc_mermaid.specs.Gives.{◌>>=◌, unless}
 use Rattle.msc_import.specs.Plans.{Event, Plan, plans_of}
-use Rattle.msc_import.specs.Naming.{kind_of, made, names_behind}
-use Rattle.msc_import.specs.Rows.{is_empty}
+use Rattle.msc_scenarios.specs.Naming.{kind_of, made, names_behind}
+use Rattle.msc_mermaid.specs.Patterns.{is_empty}
 
 -- the bytes are a name of charts
 abbrev pub is_chart_name : List ℕ → Bool
@@ -69,6 +67,8 @@ signal way m address = record {
 abbrev pub drawn_side : List (List ℕ) → Message → Side → Drawn
 drawn_side names m sides.Out = Signalled (signal ways.Output m (line_name names m.to))
 drawn_side names m sides.In = Signalled (signal ways.Input m (line_name names m.from))
+drawn_side names m sides.OutBack = Signalled (signal ways.Output m (line_name names m.from))
+drawn_side names m sides.InBack = Signalled (signal ways.Input m (line_name names m.to))
 drawn_side names m sides.Own = Acts (ident_text m)
 drawn_side names m sides.Lost =
     Acts (codes "lost " ++ ident_text m ++ codes " to " ++ line_name names m.to)
@@ -152,31 +152,12 @@ drawn_as name sections = few_events name sections >>= short_enough
 abbrev pub IsReadAgain : Tree → Type 0
 IsReadAgain d = HasDraft (canonical d) d
 
--- why a walk has no draft beside its lines: its own fault, or more choices than blocks
-abbrev pub unended : Walk → Ending → Result Walk ImportFault
-unended w ends.Goes =
-    unless (nat_le (length w.given) (length w.taken)) (TooManyChoices (length w.given) (length w.taken)) w
-unended w ends.Broke =
-    unless (nat_le (length w.given) (length w.taken)) (TooManyChoices (length w.given) (length w.taken)) w
-unended w (ends.Stopped f) = Err f
-
 -- the draft of a walk through these statements
 unfoldable pub drawn_walk : Manner → List ℕ → List Placed → Walk → Result Tree ImportFault
 drawn_walk manner name ps w = do
   plans ← plans_of manner w.steps (length w.lines)
   whole ← unended w w.ending
   drawn_as name (sections_on w.lines (names_behind [] w.lines) ps 0 plans [])
-
--- a walk that has not begun
-abbrev pub at_rest : List (List ℕ) → List ℕ → Walk
-at_rest lines given = record {
-  lines = lines;
-  given = given;
-  taken = [];
-  steps = [];
-  arrows = 0;
-  ending = ends.Goes;
-}
 
 -- The draft of a diagram's scenario with these choices: a walk through all of its statements, with those
 -- that are not given the main ones; or its first fault.

@@ -2,9 +2,9 @@
 use Rattle.std.specs.Prelude.{◌≡◌, ◌⊎◌, ℕ, Bool, cond, ◌==◌, nat_lt, List, [], ◌∷◌, length, take, Option, None, Some, Result, Ok, Err, option_map}
 use Rattle.std.specs.List.{list_any}
 use Rattle.msc_lexer.specs.declared.TheConstants.{NAME_LIMIT, TEXT_LIMIT}
-use Rattle.msc_import.specs.declared.fault.Expectation.TheVariants as expectations
-use Rattle.msc_import.specs.declared.fault.ImportFault.{ImportFault}
-use Rattle.msc_import.specs.declared.fault.ImportFault.TheVariants.{TooLong, Expected, Memory, Several, Shared}
+use Rattle.msc_mermaid.specs.declared.fault.Expectation.TheVariants as expectations
+use Rattle.msc_mermaid.specs.declared.fault.ImportFault.{ImportFault}
+use Rattle.msc_mermaid.specs.declared.fault.ImportFault.TheVariants.{TooLong, Expected, Memory, Several, Shared}
 use Rattle.msc_import.specs.declared.importing.Imported.{Imported}
 use Rattle.msc_import.specs.declared.importing.Importing.{Importing}
 use Rattle.msc_import.specs.declared.importing.Language.{Language}
@@ -12,15 +12,15 @@ use Rattle.msc_import.specs.declared.importing.Language.TheVariants as languages
 use Rattle.msc_import.specs.declared.importing.Refused.{Refused}
 use Rattle.msc_import.specs.declared.short_name.ShortName.{ShortName}
 use Rattle.msc_import.specs.declared.plan.Manner.{Manner}
-use Rattle.msc_import.specs.declared.statement.Cross.{Cross}
-use Rattle.msc_import.specs.declared.statement.Diagram.{Diagram}
-use Rattle.msc_import.specs.Counting.{scenarios}
+use Rattle.msc_mermaid.specs.declared.statement.Cross.{Cross}
+use Rattle.msc_mermaid.specs.declared.statement.Diagram.{Diagram}
+use Rattle.msc_scenarios.specs.Counting.{scenarios}
 use Rattle.msc_import.specs.Drafting.{drawn, line_name}
-use Rattle.msc_import.specs.Fences.{fenced}
-use Rattle.msc_import.specs.Gives.{◌>>=◌}
-use Rattle.msc_import.specs.Lines.{lines_of, trimmed}
-use Rattle.msc_import.specs.Mermaid.{is_head, mermaid}
-use Rattle.msc_import.specs.Naming.{names_behind}
+use Rattle.msc_mermaid.specs.Fences.{fenced}
+use Rattle.msc_mermaid.specs.Gives.{◌>>=◌}
+use Rattle.msc_mermaid.specs.Lines.{lines_of, trimmed}
+use Rattle.msc_mermaid.specs.Mermaid.{is_head, mermaid}
+use Rattle.msc_scenarios.specs.Naming.{names_behind}
 use Rattle.msc_import.specs.Places.{places}
 
 -- a line of the text begins with the word that a Mermaid diagram begins with

@@ -1,22 +1,7 @@
 -- what is promised
-pub mod Expectations
-pub mod Lines
-pub mod Keys
-pub mod Seeking
-pub mod Rows
-pub mod Gives
-pub mod Saying
-pub mod Outlines
-pub mod Reading
-pub mod Mermaid
-pub mod Naming
-pub mod Courses
-pub mod Counting
-pub mod Choosing
 pub mod Plans
 pub mod Drafting
 pub mod Places
-pub mod Fences
 pub mod Importing
 pub mod Whole
 pub mod Laws

@@ -1,15 +1,14 @@
 -- Where the arrows of a draft's events begin in the text.
 use Rattle.std.specs.Prelude.{ℕ, ◌+◌, List, [], length, map, Result, Ok}
 use Rattle.std.specs.List.{flat_map}
-use Rattle.msc_import.specs.declared.TheConstants.{DEPTH_LIMIT}
-use Rattle.msc_import.specs.declared.fault.ImportFault.{ImportFault}
+use Rattle.msc_mermaid.specs.declared.TheConstants.{DEPTH_LIMIT}
+use Rattle.msc_mermaid.specs.declared.fault.ImportFault.{ImportFault}
 use Rattle.msc_place.specs.declared.position.Position.{Position}
 use Rattle.msc_import.specs.declared.plan.Manner.{Manner}
-use Rattle.msc_import.specs.declared.statement.Diagram.{Diagram}
-use Rattle.msc_import.specs.Courses.{Walk, walk}
-use Rattle.msc_import.specs.Drafting.{at_rest, unended}
+use Rattle.msc_mermaid.specs.declared.statement.Diagram.{Diagram}
+use Rattle.msc_scenarios.specs.Courses.{Walk, walk, at_rest, unended}
 use Rattle.msc_import.specs.Plans.{Event, Plan, plans_of}
-use Rattle.msc_import.specs.Gives.{◌>>=◌}
+use Rattle.msc_mermaid.specs.Gives.{◌>>=◌}
 
 -- the place of an event's arrow
 abbrev pub place_of : Event → Position

@@ -1,11 +1,11 @@
 -- What each line has of a course: the ends of its arrows in their order, in segments. Branches of a par that
 -- have one segment each on a line are a coregion there.
 use Rattle.std.specs.Prelude.{ℕ, ◌+◌, ◌-◌, Bool, false, cond, not, ◌||◌, ◌&&◌, ◌==◌, nat_lt, List, [], ◌∷◌, ◌++◌, length, take, slice_get, replicate, Option, None, Some, Result, Ok, Err}
-use Rattle.msc_import.specs.declared.course.Message.{Message}
-use Rattle.msc_import.specs.declared.course.Step.{Step}
-use Rattle.msc_import.specs.declared.course.Step.TheVariants as steps
-use Rattle.msc_import.specs.declared.fault.ImportFault.{ImportFault}
-use Rattle.msc_import.specs.declared.fault.ImportFault.TheVariants.{Shared}
+use Rattle.msc_scenarios.specs.declared.course.Message.{Message}
+use Rattle.msc_scenarios.specs.declared.course.Step.{Step}
+use Rattle.msc_scenarios.specs.declared.course.Step.TheVariants as steps
+use Rattle.msc_mermaid.specs.declared.fault.ImportFault.{ImportFault}
+use Rattle.msc_mermaid.specs.declared.fault.ImportFault.TheVariants.{Shared}
 use Rattle.msc_import.specs.declared.plan.Frame.{Frame}
 use Rattle.msc_import.specs.declared.plan.Own.{Own}
 use Rattle.msc_import.specs.declared.plan.Own.TheVariants as owns
@@ -15,17 +15,39 @@ use Rattle.msc_import.specs.declared.plan.Par.TheVariants as pars
 use Rattle.msc_import.specs.declared.plan.Planned.{Planned}
 use Rattle.msc_import.specs.declared.plan.Side.{Side}
 use Rattle.msc_import.specs.declared.plan.Side.TheVariants as sides
-use Rattle.msc_import.specs.Gives.{◌>>=◌}
+use Rattle.msc_mermaid.specs.Gives.{◌>>=◌}
 
 -- the ends that a message to oneself has
 abbrev pub own_sides : Own → List Side
 own_sides owns.Action = sides.Own ∷ []
 own_sides owns.Message = sides.Out ∷ sides.In ∷ []
 
--- the ends of a message on a line, the upper one first
-unfoldable pub sides_on : Own → ℕ → Message → List Side
-sides_on own line m =
+-- the ends on a line of an arrow with one head, the upper one first
+unfoldable pub single_sides : Own → ℕ → Message → List Side
+single_sides own line m =
     cond m.lost (cond (m.from == line) (sides.Lost ∷ []) []) (cond (m.from == line) (cond (m.to == line) (own_sides own) (sides.Out ∷ [])) (cond (m.to == line) (sides.In ∷ []) []))
+
+-- two lines send each other a message
+unfoldable pub is_exchange : Message → Bool
+is_exchange m = m.both && not m.lost && not (m.from == m.to)
+
+-- the ends on a line of an arrow with two heads: the output of one message, and the input of the other
+abbrev pub exchange_sides : ℕ → Message → List Side
+exchange_sides line m =
+    cond (m.from == line) (sides.Out ∷ sides.InBack ∷ []) (cond (m.to == line) (sides.OutBack ∷ sides.In ∷ []) [])
+
+-- the ends of an arrow on a line, the upper one first
+unfoldable pub sides_on : Own → ℕ → Message → List Side
+sides_on own line m = cond (is_exchange m) (exchange_sides line m) (single_sides own line m)
+
+-- how far an end is drawn below the first one of its arrow: both outputs stand above both inputs
+abbrev pub depth_of : Side → ℕ
+depth_of sides.Out = 0
+depth_of sides.OutBack = 1
+depth_of sides.In = 2
+depth_of sides.InBack = 3
+depth_of sides.Own = 0
+depth_of sides.Lost = 0
 
 -- an end of a message
 pub record Event : Type 0 where
@@ -55,6 +77,28 @@ with_event p e = record {
 unfoldable pub with_sides : Message → List Side → Plan → Plan
 with_sides m [] p = p
 with_sides m (s ∷ ss) p = with_sides m ss (with_event p (record { message = m; side = s }))
+
+-- two events more, which are one segment
+abbrev pub with_both : Plan → Event → Event → Plan
+with_both p e f = record {
+  events = p.events ++ e ∷ f ∷ [];
+  ends = p.ends ++ (length p.events + 2) ∷ [];
+  frames = p.frames;
+}
+
+-- two ends of a message more, which are one segment
+abbrev pub with_pair : Message → Side → Side → Plan → Plan
+with_pair m s t p = with_both p (record { message = m; side = s }) (record { message = m; side = t })
+
+-- an arrow with two heads is a coregion on each of its lines
+abbrev pub exchanged : ℕ → Message → Plan → Plan
+exchanged line m p =
+    cond (m.from == line) (with_pair m sides.Out sides.InBack p) (cond (m.to == line) (with_pair m sides.OutBack sides.In p) p)
+
+-- an arrow more, on this line of the diagram
+unfoldable pub met : Own → ℕ → Message → Plan → Plan
+met own line m p =
+    cond (is_exchange m) (exchanged line m p) (with_sides m (single_sides own line m) p)
 
 -- a par begins on this line of the text
 abbrev pub opened : ℕ → Plan → Plan
@@ -109,7 +153,7 @@ last_frame p = slice_get p.frames (length p.frames - 1)
 
 -- one step more, on this line of the diagram
 unfoldable pub planned : Manner → ℕ → Step → Plan → Result Plan ImportFault
-planned manner line (steps.Meets m) p = Ok (with_sides m (sides_on manner.own line m) p)
+planned manner line (steps.Meets m) p = Ok (met manner.own line m p)
 planned manner line (steps.Opens text) p = Ok (opened text p)
 planned manner line steps.Next p = Ok (marked_last p (last_frame p))
 planned manner line steps.Closes p = closed_last manner.par line p (last_frame p)

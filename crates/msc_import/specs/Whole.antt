@@ -1,19 +1,19 @@
 -- All scenarios of a text, each with its draft and the places of its events, or why there are none.
 use Rattle.std.specs.Prelude.{ℕ, cond, nat_lt, List, [], ◌∷◌, ◌++◌, Option, Result, Ok, Err}
-use Rattle.msc_import.specs.declared.fault.ImportFault.{ImportFault}
-use Rattle.msc_import.specs.declared.fault.ImportFault.TheVariants.{TooManyScenarios}
+use Rattle.msc_mermaid.specs.declared.fault.ImportFault.{ImportFault}
+use Rattle.msc_mermaid.specs.declared.fault.ImportFault.TheVariants.{TooManyScenarios}
 use Rattle.msc_import.specs.declared.importing.Imported.{Imported}
 use Rattle.msc_import.specs.declared.importing.Language.{Language}
 use Rattle.msc_import.specs.declared.plan.Manner.{Manner}
-use Rattle.msc_import.specs.declared.statement.Cross.{Cross}
-use Rattle.msc_import.specs.declared.statement.Diagram.{Diagram}
+use Rattle.msc_mermaid.specs.declared.statement.Cross.{Cross}
+use Rattle.msc_mermaid.specs.declared.statement.Diagram.{Diagram}
 use Rattle.msc_import.specs.declared.whole.ImportingAll.{ImportingAll}
 use Rattle.msc_import.specs.declared.whole.Scenario.{Scenario}
 use Rattle.msc_import.specs.declared.whole.Scenarios.{Scenarios}
-use Rattle.msc_import.specs.Choosing.{all_choices}
-use Rattle.msc_import.specs.Counting.{scenarios}
+use Rattle.msc_scenarios.specs.Choosing.{all_choices}
+use Rattle.msc_scenarios.specs.Counting.{scenarios}
 use Rattle.msc_import.specs.Drafting.{chart_name}
-use Rattle.msc_import.specs.Gives.{◌>>=◌}
+use Rattle.msc_mermaid.specs.Gives.{◌>>=◌}
 use Rattle.msc_import.specs.Importing.{Refusal, answered, diagram_in, drawn_at}
 
 -- what is wanted of a text: in which language it is, of Markdown which diagram, what arrows with a cross

@@ -8,16 +8,14 @@ ghost use Rattle.msc_import.specs.Drafting.{between, decl_of, drawn_event, drawn
 ghost use Rattle.msc_import.specs.Drafting.{fitted, ident_text, is_chart_name, line_name};
 ghost use Rattle.msc_import.specs.Plans.{seen};
 ghost use Rattle.msc_import.specs.Drafting.{shown_by, shown_of, signal};
-ghost use Rattle.msc_import.specs.Naming.{kind_of};
+ghost use Rattle.msc_scenarios.specs.Naming.{kind_of};
 
-use crate::course::Message;
-use crate::line_name::kind_of;
 use crate::plan::{Planned, Side};
-use crate::row::is_word_byte;
-use crate::statement::{Placed, Statement};
 use listed::Listed;
 use msc_lexer::{NAME_LIMIT, Word};
+use msc_mermaid::{Placed, Statement, is_word_byte};
 use msc_parser::{Decl, Item, Name, Signal, Statement as Drawn, Way};
+use msc_scenarios::{Message, kind_of};
 use std::alloc::{AllocError, Global};
 
 /// Whether all bytes are such as names are made of.
@@ -100,19 +98,13 @@ fn drawn_event(alloc: Global, names: &[Name], planned: Planned) -> Result<Drawn,
     ensures { IfOk result (λ s. s ≡ drawn_event names.now (seen planned.entry)) }
 {
     let message = planned.message;
+    let from = line_name(names, message.from);
+    let to = line_name(names, message.to);
     match planned.side {
-        Side::Out => Ok(Drawn::Message(signal(
-            alloc,
-            Way::Output,
-            message,
-            line_name(names, message.to),
-        )?)),
-        Side::In => Ok(Drawn::Message(signal(
-            alloc,
-            Way::Input,
-            message,
-            line_name(names, message.from),
-        )?)),
+        Side::Out => Ok(Drawn::Message(signal(alloc, Way::Output, message, to)?)),
+        Side::In => Ok(Drawn::Message(signal(alloc, Way::Input, message, from)?)),
+        Side::OutBack => Ok(Drawn::Message(signal(alloc, Way::Output, message, from)?)),
+        Side::InBack => Ok(Drawn::Message(signal(alloc, Way::Input, message, to)?)),
         Side::Own => Ok(Drawn::Action(Listed::from_vec(ident_text(alloc, message)?))),
         Side::Lost => Ok(Drawn::Action(Listed::from_vec(lost_text(alloc, names, message)?))),
     }

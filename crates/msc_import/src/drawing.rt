@@ -5,19 +5,16 @@ ghost use Rattle.std.specs.List.{AllByRecursion, flat_map};
 ghost use Rattle.msc_parser.specs.Drafts.{IsSectionNamed, statements_in, statements_of};
 ghost use Rattle.msc_import.specs.Drafting.{chart_name, drawn, drawn_as, drawn_walk, few_events};
 ghost use Rattle.msc_import.specs.Drafting.{line_name, section_of, sections_on, short_enough, IsReadAgain};
-ghost use Rattle.msc_import.specs.Gives.{Gives};
-ghost use Rattle.msc_import.specs.Reading.{Leaves};
+ghost use Rattle.msc_mermaid.specs.Gives.{Gives};
+ghost use Rattle.msc_mermaid.specs.Reading.{Leaves};
 
 use crate::drafting::{decl_of, drawn_items, fitted, line_name};
-use crate::fault::ImportFault;
-use crate::line_name::names_of;
-use crate::naming::made;
 use crate::plan::{Manner, Plan, plans_of};
-use crate::statement::{Diagram, Placed};
-use crate::walking::Walker;
 use listed::Listed;
 use msc_lexer::TEXT_LIMIT;
+use msc_mermaid::{Diagram, ImportFault, Placed};
 use msc_parser::{Draft, Item, Name, Section};
+use msc_scenarios::{Walker, made, names_of};
 use std::alloc::{AllocError, Global};
 
 /// How many events an item has.

@@ -3,32 +3,28 @@
 ghost use Rattle.std.specs.Prelude.{◌≡◌, ◌⊎◌, [], IfOk, option_map};
 ghost use Rattle.std.specs.List.{list_any};
 ghost use Rattle.msc_import.specs.Drafting.{IsReadAgain};
-ghost use Rattle.msc_import.specs.Gives.{Gives};
+ghost use Rattle.msc_mermaid.specs.Gives.{Gives};
 ghost use Rattle.msc_import.specs.Importing.{Imports, chosen, diagram_by, diagram_in, drawn_at};
 ghost use Rattle.msc_import.specs.Importing.{imported, scenario_of, seen, short_bytes};
 ghost use Rattle.msc_import.specs.Importing.{told_by_content, wanted, with_name};
-ghost use Rattle.msc_import.specs.Lines.{trimmed};
-ghost use Rattle.msc_import.specs.Mermaid.{is_head};
-ghost use Rattle.msc_import.specs.declared.fault.ImportFault.TheVariants.{Memory};
+ghost use Rattle.msc_mermaid.specs.Lines.{trimmed};
+ghost use Rattle.msc_mermaid.specs.Mermaid.{is_head};
+ghost use Rattle.msc_mermaid.specs.declared.fault.ImportFault.TheVariants.{Memory};
 
 use crate::SCENARIO_ROUNDS;
-use crate::counting::scenarios;
 use crate::drafting::line_name;
 use crate::drawing::drawn_walk;
-use crate::fault::{Expectation, ImportFault};
-use crate::fence::fenced;
-use crate::line_name::names_of;
-use crate::lines::{lines_of, trimmed};
-use crate::mermaid::{diagram_of, is_head};
 use crate::placing::walk_places;
 use crate::plan::Manner;
 use crate::short_name::ShortName;
-use crate::statement::{Cross, Diagram};
-use crate::walking::Walker;
 use listed::Listed;
 use msc_lexer::TEXT_LIMIT;
+use msc_mermaid::{
+    Cross, Diagram, Expectation, ImportFault, diagram_of, fenced, is_head, lines_of, trimmed,
+};
 use msc_parser::Draft;
 use msc_place::Position;
+use msc_scenarios::{Walker, names_of, scenarios};
 use std::alloc::Global;
 
 /// In which language a text draws its diagram.

@@ -1,48 +1,9 @@
 //! Laws of imports, over the definitions alone. The functions do nothing when they run: a caller
 //! calls one to rest its own proof on the law.
 
-ghost use Rattle.msc_import.specs.Laws.{AsManyAsCounted, EachIsWhole, EachOnceInOrder};
-ghost use Rattle.msc_import.specs.Laws.{LinesKeepTheArrowsOrder, LinesStay, NoBlocksOneScenario};
-ghost use Rattle.msc_import.specs.Laws.{NoneIsMissing, OneDiagram};
-
-/// A text has one diagram.
-pub fn one_diagram()
-    ensures { OneDiagram }
-{}
-
-/// The number of the lists of choices is what is counted.
-pub fn as_many_as_counted()
-    ensures { AsManyAsCounted }
-{}
-
-/// Each of the lists of choices is that of a whole scenario: a walk takes just these.
-pub fn each_is_whole()
-    ensures { EachIsWhole }
-{}
-
-/// The lists of choices are in their order, and each stands once.
-pub fn each_once_in_order()
-    ensures { EachOnceInOrder }
-{}
-
-/// What a walk takes that no fault stops is one of the lists of choices, where these have each
-/// number of rounds that a loop may go.
-pub fn none_is_missing()
-    ensures { NoneIsMissing }
-{}
-
-/// Without a block that may take a choice there is one scenario, with no choice.
-pub fn no_blocks_one_scenario()
-    ensures { NoBlocksOneScenario }
-{}
+ghost use Rattle.msc_import.specs.Laws.{LinesKeepTheArrowsOrder};
 
 /// Each line of a draft has the ends of the course's arrows in their order.
 pub fn lines_keep_the_arrows_order()
     ensures { LinesKeepTheArrowsOrder }
-{}
-
-/// The text of a diagram in Markdown has all lines of the Markdown, those outside of the diagram
-/// empty.
-pub fn lines_stay()
-    ensures { LinesStay }
 {}

@@ -3,14 +3,13 @@
 ghost use Rattle.std.specs.Prelude.{◌≡◌, ◌++◌, [], map, IfOk, OnOk};
 ghost use Rattle.std.specs.List.{flat_map};
 ghost use Rattle.msc_import.specs.Plans.{seen};
-ghost use Rattle.msc_import.specs.Gives.{Gives};
+ghost use Rattle.msc_mermaid.specs.Gives.{Gives};
 ghost use Rattle.msc_import.specs.Places.{place_of, places, places_in, walk_places};
 
-use crate::fault::ImportFault;
 use crate::plan::{Manner, Plan, Planned, plans_of};
-use crate::statement::Diagram;
-use crate::walking::Walker;
+use msc_mermaid::{Diagram, ImportFault};
 use msc_place::Position;
+use msc_scenarios::Walker;
 use std::alloc::{AllocError, Global};
 
 /// The places of these events' arrows.

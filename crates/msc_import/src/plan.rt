@@ -1,15 +1,16 @@
 //! What each line of a diagram has of a course: ends of messages, in segments.
 
 ghost use Rattle.std.specs.Prelude.{◌≡◌, [], IfOk, OnOk, map, replicate};
-ghost use Rattle.msc_import.specs.Plans.{closed_last, is_coregion, is_refused, last_frame};
+ghost use Rattle.msc_import.specs.Plans.{closed_last, is_coregion, is_exchange, is_refused};
+ghost use Rattle.msc_import.specs.Plans.{last_frame, met, single_sides, with_pair};
 ghost use Rattle.msc_import.specs.Plans.{marked, marked_last, opened};
-ghost use Rattle.msc_import.specs.Plans.{planned, planned_all, plans_of, seen, sides_on};
+ghost use Rattle.msc_import.specs.Plans.{planned, planned_all, plans_of, seen};
 ghost use Rattle.msc_import.specs.Plans.{unplanned, with_event, with_sides};
-ghost use Rattle.msc_import.specs.Gives.{Gives};
-ghost use Rattle.msc_import.specs.Reading.{Leaves};
+ghost use Rattle.msc_mermaid.specs.Gives.{Gives};
+ghost use Rattle.msc_mermaid.specs.Reading.{Leaves};
 
-use crate::course::{Message, Step};
-use crate::fault::ImportFault;
+use msc_mermaid::ImportFault;
+use msc_scenarios::{Message, Step};
 use std::alloc::{AllocError, Global};
 use std::marker::Model;
 
@@ -50,6 +51,10 @@ pub(crate) enum Side {
     Own,
     /// The output of what nobody takes.
     Lost,
+    /// The output of the message that its receiver sends back.
+    OutBack,
+    /// The input of that.
+    InBack,
 }
 
 /// An end of this message.
@@ -93,10 +98,18 @@ impl<'s> Model for Plan<'s> {
     } };
 }
 
-/// The ends of a message on a line, the upper one first.
-#[tactic(auto, unfolding(crate::specs::Plans::sides_on))]
-fn sides_on(own: Own, line: usize, message: &Message) -> &'static [Side]
-    ensures { result.now ≡ sides_on own line message.now }
+/// Whether two lines send each other a message.
+#[tactic(auto, unfolding(crate::specs::Plans::is_exchange))]
+fn is_exchange(message: &Message) -> bool
+    ensures { result ≡ is_exchange message.now }
+{
+    message.both && !message.lost && message.from != message.to
+}
+
+/// The ends on a line of an arrow with one head, the upper one first.
+#[tactic(auto, unfolding(crate::specs::Plans::single_sides))]
+fn single_sides(own: Own, line: usize, message: &Message) -> &'static [Side]
+    ensures { result.now ≡ single_sides own line message.now }
 {
     if message.lost {
         return if message.from == line {
@@ -196,6 +209,44 @@ impl<'s> Plan<'s> {
         Ok(())
     }
 
+    /// Puts two ends of a message more, which are one segment.
+    fn put_both(
+        &mut self,
+        message: &'s Message,
+        first: Side,
+        second: Side,
+    ) -> Result<(), AllocError>
+        ensures { OnOk result (self.new ≡ with_pair message.now first second self.old) }
+    {
+        self.events.push(Planned {
+            message,
+            side: first,
+        })?;
+        self.events.push(Planned {
+            message,
+            side: second,
+        })?;
+        self.ends.push(self.events.len())?;
+        Ok(())
+    }
+
+    /// Puts an arrow more, on this line of the diagram.
+    #[tactic(auto, unfolding(crate::specs::Plans::met))]
+    fn meet(&mut self, own: Own, line: usize, message: &'s Message) -> Result<(), AllocError>
+        ensures { OnOk result (self.new ≡ met own line message.now self.old) }
+    {
+        if !is_exchange(message) {
+            return self.put_sides(message, single_sides(own, line, message));
+        }
+        if message.from == line {
+            return self.put_both(message, Side::Out, Side::InBack);
+        }
+        if message.to == line {
+            return self.put_both(message, Side::OutBack, Side::In);
+        }
+        Ok(())
+    }
+
     /// Begins a par, on this line of the text.
     fn open(&mut self, line: usize) -> Result<(), AllocError>
         ensures { OnOk result (self.new ≡ opened line self.old) }
@@ -246,7 +297,7 @@ impl<'s> Plan<'s> {
         ensures { Leaves result self.new (planned manner line step.now self.old) }
     {
         match step {
-            Step::Meets(message) => self.put_sides(message, sides_on(manner.own, line, message))?,
+            Step::Meets(message) => self.meet(manner.own, line, message)?,
             Step::Opens(text) => self.open(*text)?,
             Step::Next => self.mark_last()?,
             Step::Closes => return self.close_last(manner.par, line),

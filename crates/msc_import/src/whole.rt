@@ -3,21 +3,19 @@
 ghost use Rattle.std.specs.Prelude.{[], IfOk};
 ghost use Rattle.std.specs.List.{All};
 ghost use Rattle.msc_import.specs.Drafting.{IsReadAgain};
-ghost use Rattle.msc_import.specs.Gives.{Gives};
+ghost use Rattle.msc_mermaid.specs.Gives.{Gives};
 ghost use Rattle.msc_import.specs.Importing.{Imports};
 ghost use Rattle.msc_import.specs.Whole.{all_of, all_scenarios, imported_all, scenario_with};
 ghost use Rattle.msc_import.specs.Whole.{scenarios_on, wanted_all};
 
-use crate::choosing::all_choices;
-use crate::counting::scenarios;
 use crate::drawing::chart_name;
-use crate::fault::ImportFault;
 use crate::importing::{Language, Refused, diagram_in, drawn_at, unnamed, with_name};
 use crate::plan::Manner;
-use crate::statement::{Cross, Diagram};
 use listed::Listed;
+use msc_mermaid::{Cross, Diagram, ImportFault};
 use msc_parser::{Draft, Name};
 use msc_place::Position;
+use msc_scenarios::{all_choices, scenarios};
 use std::alloc::Global;
 
 /// What is imported of a text where all scenarios are, and how.

@@ -1,16 +1,18 @@
--- A course has no more outputs, inputs and actions than arrows.
+-- A course has no more outputs, inputs and actions than messages.
 use Rattle.std.proofs.Common.{◌≡◌, ℕ, zero, suc, ◌+◌, ◌<◌, ◌≤◌, Bool, true, false, cond, eqb, sym, arith, List, [], ◌∷◌, ◌++◌, map, refl, ap, ◌∙◌, count_by}
-use Rattle.std.proofs.lemmas.Bool.{eqb-true}
+use Rattle.std.specs.List.{sum_by}
+use Rattle.std.proofs.lemmas.Bool.{and_parts, eqb-true}
 use Rattle.std.proofs.lemmas.List.Sums.{sum_by-append, sum_by-cons}
 use Rattle.msc_chart.proofs.ListLemmas.{by_test}
-use Rattle.msc_import.specs.declared.course.Message.{Message}
-use Rattle.msc_import.specs.declared.course.Step.{Step}
-use Rattle.msc_import.specs.declared.course.Step.TheVariants as steps
+use Rattle.msc_scenarios.specs.declared.course.Message.{Message}
+use Rattle.msc_scenarios.specs.declared.course.Step.{Step}
+use Rattle.msc_scenarios.specs.declared.course.Step.TheVariants as steps
 use Rattle.msc_import.specs.declared.plan.Own.{Own}
 use Rattle.msc_import.specs.declared.plan.Own.TheVariants as owns
-use Rattle.msc_import_laws.specs.Apart.{is_arrow}
+use Rattle.msc_import.specs.Plans.{is_exchange}
+use Rattle.msc_import_laws.specs.Apart.{messages_in}
 use Rattle.msc_import_laws.proofs.EndLists.{End, end_at, ends_at, ends_from, ends_on_lines}
-use Rattle.msc_import_laws.proofs.Parts.Side.{Out, In, Alone, Lost}
+use Rattle.msc_import_laws.proofs.Parts.Side.{Out, In, Alone, Lost, OutBack, InBack}
 use Rattle.msc_import_laws.proofs.Parts.{Side, sides_by, sides_on}
 
 -- one more
@@ -78,66 +80,106 @@ is_out Out = true
 is_out In = false
 is_out Alone = false
 is_out Lost = false
+is_out OutBack = true
+is_out InBack = false
 
 unfoldable pub is_in : Side → Bool
 is_in Out = false
 is_in In = true
 is_in Alone = false
 is_in Lost = false
+is_in OutBack = false
+is_in InBack = true
 
 unfoldable pub is_alone : Side → Bool
 is_alone Out = false
 is_alone In = false
 is_alone Alone = true
 is_alone Lost = true
+is_alone OutBack = false
+is_alone InBack = false
 
-outs : (own : Own) (lost from to : Bool) → count_by is_out (sides_by own lost from to) ≤ cond from 1 0
+outs : (own : Own) (pair lost from to : Bool) → count_by is_out (sides_by own pair lost from to) ≤ cond from 1 0 + cond pair (cond to 1 0) 0
 unfolding is_out
-outs own true true to = omega arith
-outs own true false to = omega arith
-outs owns.Action false true true = omega arith
-outs owns.Message false true true = omega arith
-outs own false true false = omega arith
-outs own false false true = omega arith
-outs own false false false = omega arith
+outs own true lost true true = omega arith
+outs own true lost true false = omega arith
+outs own true lost false true = omega arith
+outs own true lost false false = omega arith
+outs own false true true to = omega arith
+outs own false true false to = omega arith
+outs owns.Action false false true true = omega arith
+outs owns.Message false false true true = omega arith
+outs own false false true false = omega arith
+outs own false false false true = omega arith
+outs own false false false false = omega arith
 
-ins : (own : Own) (lost from to : Bool) → count_by is_in (sides_by own lost from to) ≤ cond to 1 0
+ins : (own : Own) (pair lost from to : Bool) → count_by is_in (sides_by own pair lost from to) ≤ cond to 1 0 + cond pair (cond from 1 0) 0
 unfolding is_in
-ins own true true true = omega arith
-ins own true true false = omega arith
-ins own true false true = omega arith
-ins own true false false = omega arith
-ins owns.Action false true true = omega arith
-ins owns.Message false true true = omega arith
-ins own false true false = omega arith
-ins own false false true = omega arith
-ins own false false false = omega arith
+ins own true lost true true = omega arith
+ins own true lost true false = omega arith
+ins own true lost false true = omega arith
+ins own true lost false false = omega arith
+ins own false true true true = omega arith
+ins own false true true false = omega arith
+ins own false true false true = omega arith
+ins own false true false false = omega arith
+ins owns.Action false false true true = omega arith
+ins owns.Message false false true true = omega arith
+ins own false false true false = omega arith
+ins own false false false true = omega arith
+ins own false false false false = omega arith
 
-alones : (own : Own) (lost from to : Bool) → count_by is_alone (sides_by own lost from to) ≤ cond from 1 0
+alones : (own : Own) (pair lost from to : Bool) → count_by is_alone (sides_by own pair lost from to) ≤ cond from 1 0 + cond pair (cond to 1 0) 0
 unfolding is_alone
-alones own true true to = omega arith
-alones own true false to = omega arith
-alones owns.Action false true true = omega arith
-alones owns.Message false true true = omega arith
-alones own false true false = omega arith
-alones own false false true = omega arith
-alones own false false false = omega arith
+alones own true lost true true = omega arith
+alones own true lost true false = omega arith
+alones own true lost false true = omega arith
+alones own true lost false false = omega arith
+alones own false true true to = omega arith
+alones own false true false to = omega arith
+alones owns.Action false false true true = omega arith
+alones owns.Message false false true true = omega arith
+alones own false false true false = omega arith
+alones own false false false true = omega arith
+alones own false false false false = omega arith
 
 -- a test that at most one end of each message passes, over all lines
 unfoldable pub OnceEach : Own → (Side → Bool) → Type 0
-OnceEach own p = (m : Message) → (h : ℕ) × ((line : ℕ) → count_by p (sides_on own line m) ≤ cond (eqb h line) 1 0)
+OnceEach own p = (m : Message) → (h : ℕ) × (g : ℕ) × ((line : ℕ) → count_by p (sides_on own line m) ≤ cond (eqb h line) 1 0 + cond (is_exchange m) (cond (eqb g line) 1 0) 0)
 
 pub outs_once : (own : Own) → OnceEach own is_out
 unfolding OnceEach
-outs_once own m = (m.from, λ line. (outs own m.lost (eqb m.from line) (eqb m.to line)))
+outs_once own m = (m.from, m.to, λ line. (outs own (is_exchange m) m.lost (eqb m.from line) (eqb m.to line)))
 
 pub ins_once : (own : Own) → OnceEach own is_in
 unfolding OnceEach
-ins_once own m = (m.to, λ line. (ins own m.lost (eqb m.from line) (eqb m.to line)))
+ins_once own m = (m.to, m.from, λ line. (ins own (is_exchange m) m.lost (eqb m.from line) (eqb m.to line)))
 
 pub alones_once : (own : Own) → OnceEach own is_alone
 unfolding OnceEach
-alones_once own m = (m.from, λ line. (alones own m.lost (eqb m.from line) (eqb m.to line)))
+alones_once own m = (m.from, m.to, λ line. (alones own (is_exchange m) m.lost (eqb m.from line) (eqb m.to line)))
+
+-- what is sent back is of an arrow with two heads
+exchange_both : (m : Message) → is_exchange m ≡ true → m.both ≡ true
+unfolding is_exchange
+exchange_both m h = (and_parts _ _ (and_parts _ _ h).0).0
+
+-- over all lines an arrow has no more of them than messages
+once_twice : (m : Message) (h g line n : ℕ) → over (λ l. cond (eqb h l) 1 0 + cond (is_exchange m) (cond (eqb g l) 1 0) 0) line n ≤ cond m.both 2 1
+once_twice m h g line n =
+    let sum = over_sum (λ l. cond (eqb h l) 1 0) (λ l. cond (is_exchange m) (cond (eqb g l) 1 0) 0) line n in
+    let first = once h line n in
+    by_test (is_exchange m)
+    (λ pair.
+    let both = exchange_both m pair in
+    let second = once g line n in
+    let same : over (λ l. cond (is_exchange m) (cond (eqb g l) 1 0) 0) line n ≡ over (λ l. cond (eqb g l) 1 0) line n = ap (λ (b : Bool). over (λ l. cond b (cond (eqb g l) 1 0) 0) line n) pair in
+    let two : ◌≡◌ {A = ℕ} (cond m.both 2 1) 2 = ap (λ (b : Bool). cond b 2 1) both in
+    omega (arith, sum, first, second, same, two))
+    (λ single.
+    let none : over (λ l. cond (is_exchange m) (cond (eqb g l) 1 0) 0) line n ≡ 0 = ap (λ (b : Bool). over (λ l. cond b (cond (eqb g l) 1 0) 0) line n) single ∙ over_none line n in
+    let low : 1 ≤ cond m.both 2 1 = elim m.both as (λ b. 1 ≤ cond b 2 1) [ true ↦ omega arith | false ↦ omega arith ] in
+    omega (arith, sum, first, none, low))
 
 module _ (own : Own) (p : Side → Bool) where
   of_step : Step → ℕ → ℕ
@@ -172,27 +214,27 @@ module _ (own : Own) (p : Side → Bool) where
       ∙ ap (λ (k : ℕ). of_line ss line + k) (lines_count ss (line + 1) n)
 
   module _ (each : OnceEach own p) where
-    step_once : (s : Step) (line n : ℕ) → over (of_step s) line n ≤ cond (is_arrow s) 1 0
+    step_once : (s : Step) (line n : ℕ) → over (of_step s) line n ≤ messages_in s
     unfolding of_step OnceEach
     step_once (steps.Meets m) line n =
         let h = each m in
-        let le = over_le (of_step (steps.Meets m)) (λ l. cond (eqb h.0 l) 1 0) (λ l. rw (count_mapped (λ (x : End). p x.side) (end_at l 0 m) (sides_on own l m)) (h.1 l)) line n in
-        let one = once h.0 line n in
+        let le = over_le (of_step (steps.Meets m)) (λ l. cond (eqb h.0 l) 1 0 + cond (is_exchange m) (cond (eqb h.1 l) 1 0) 0) (λ l. rw (count_mapped (λ (x : End). p x.side) (end_at l 0 m) (sides_on own l m)) (h.2 l)) line n in
+        let one = once_twice m h.0 h.1 line n in
         omega (arith, le, one)
     step_once (steps.Opens text) line n = let r = over_none line n in omega (arith, r)
     step_once steps.Next line n = let r = over_none line n in omega (arith, r)
     step_once steps.Closes line n = let r = over_none line n in omega (arith, r)
 
-    all_once : (ss : List Step) (line n : ℕ) → over (of_line ss) line n ≤ count_by is_arrow ss
+    all_once : (ss : List Step) (line n : ℕ) → over (of_line ss) line n ≤ sum_by messages_in ss
     unfolding of_line
     all_once [] line n = let r = over_none line n in omega (arith, r)
     all_once (s ∷ ss) line n =
         let sum = over_sum (of_step s) (of_line ss) line n in
         let first = step_once s line n in
         let rest = all_once ss line n in
-        let one = count_cons is_arrow s ss in
+        let one = sum_by-cons messages_in s ss in
         omega (arith, sum, first, rest, one)
 
-    -- as many pass as there are arrows, at most
-    pub few_pass : (ss : List Step) (line n : ℕ) → count_by (λ (x : End). p x.side) (ends_on_lines own ss line n) ≤ count_by is_arrow ss
+    -- as many pass as there are messages, at most
+    pub few_pass : (ss : List Step) (line n : ℕ) → count_by (λ (x : End). p x.side) (ends_on_lines own ss line n) ≤ sum_by messages_in ss
     few_pass ss line n = let a = lines_count ss line n in let b = all_once ss line n in omega (arith, a, b)

@@ -1,14 +1,14 @@
 -- Charts that are drawn from top to bottom: all orders go down, and the order from top to bottom is a run.
-use Rattle.std.proofs.Common.{◌≡◌, ℕ, ◌+◌, ◌<◌, length, sym, arith, Bool, true, false, not, cond, inl, inr, eqb, List, [], ◌∷◌, ◌++◌, refl, ap, subst, ◌∙◌, append_assoc}
-use Rattle.std.proofs.lemmas.Bool.{eqb-true, eq-eqb, and_parts, and_from, ltb-true, not_from_false}
+use Rattle.std.proofs.Common.{◌≡◌, ℕ, ◌+◌, ◌<◌, ◌≤◌, length, sym, arith, Bool, true, false, not, cond, inl, inr, eqb, List, [], ◌∷◌, ◌++◌, refl, ap, subst, ◌∙◌, append_assoc}
+use Rattle.std.proofs.lemmas.Bool.{cases_lt, eqb-true, eq-eqb, and_parts, and_from, ltb-true, not_from_false}
 use Rattle.msc_chart.specs.declared.event.ChartEvent.{ChartEvent}
 use Rattle.msc_chart.specs.Lists.{occurs, until, IsFirst, Steps}
-use Rattle.msc_chart.specs.Charts.{partner, is_output, is_input, before, Visual}
+use Rattle.msc_chart.specs.Charts.{partner, is_output, is_input, line, before, Visual}
 use Rattle.msc_chart.specs.Charts.Visual.{seen, passed, linked}
 use Rattle.msc_chart.specs.Orders.{WiredChart, Enforced, IsWired, queue}
 use Rattle.msc_chart.specs.Orders.Enforced.{drawn, sent, joined, queued}
 use Rattle.msc_chart.specs.Runs.{MayCome, is_waiting, state}
-use Rattle.msc_import_laws.specs.Heights.{height, AreDrawnAt, IsBelow, IsDownward, IsWholeRun}
+use Rattle.msc_import_laws.specs.Heights.{height, AreDrawnAt, IsBelow, IsDownward, IsWholeRun, ShareLines}
 use Rattle.msc_chart.proofs.ListLemmas.{clash, occurs-left, occurs-right, first_occurs, filter-first}
 use Rattle.msc_import_laws.proofs.Words.{occurs_joined, occurs_itself, occurs_cases}
 
@@ -54,7 +54,7 @@ pub input_event : (events : List ChartEvent) (s : ℕ) → is_input events s ≡
 unfolding is_input
 input_event events s h = ltb-true s (length events) (and_parts _ _ h).0
 
-module _ (heights : List ℕ) (chart : WiredChart) (wired : IsWired chart) (at : AreDrawnAt heights chart.events) where
+module _ (heights : List ℕ) (chart : WiredChart) (wired : IsWired chart) (share : ShareLines chart) (at : AreDrawnAt heights chart.events) where
   -- what may come below those that came, where all that is above has come
   module _ (past : List ℕ) (e : ℕ) (b : IsBelow heights chart.events past e)
       (above : (y : ℕ) → y < length chart.events → height heights y < height heights e → occurs past y ≡ true) where
@@ -69,13 +69,23 @@ module _ (heights : List ℕ) (chart : WiredChart) (wired : IsWired chart) (at :
         let sent_s : is_output chart.events s ≡ true = wired.matched.other_kind e b.event ∙ input in
         let low = at.sent s sent_s in
         let back = wired.matched.to_and_fro e b.event in
-        let low' : height heights e ≡ height heights s + 1 = sym (ap (height heights) back) ∙ low in
+        let low' : height heights e ≡ height heights s + 2 = sym (ap (height heights) back) ∙ low in
         let other = at.sent t out in
         let higher = b.below t came in
         let gone : occurs past (partner chart.events t) ≡ false = elim (occurs past (partner chart.events t)) as (λ w. not w ≡ true → w ≡ false) [ true ↦ λ q. cc | false ↦ λ q. refl ] parts.1 in
         let not_above : height heights (partner chart.events t) < height heights e → ⊥ = λ lt. clash (above (partner chart.events t) (wired.matched.in_range t known) lt) gone in
-        let same : height heights t ≡ height heights s = omega (arith, low', other, higher, not_above) in
-        at.apart t s known (wired.matched.in_range e b.event) same
+        let upto : height heights s ≤ height heights t = omega (arith, low', other, not_above) in
+        elim (cases_lt (height heights s) (height heights t)) [
+          | inr ge ↦ at.apart t s known (wired.matched.in_range e b.event) (omega (arith, upto, ge))
+          | inl lt ↦
+              let next : height heights t ≡ height heights s + 1 = omega (arith, low', higher, lt) in
+              let back_t = wired.matched.to_and_fro t known in
+              let in_t : is_input chart.events (partner chart.events t) ≡ true = sym (wired.matched.other_kind (partner chart.events t) (wired.matched.in_range t known)) ∙ ap (is_output chart.events) back_t ∙ out in
+              let same_queue : queue chart t ≡ queue chart e = eqb-true _ _ (and_parts _ _ parts.0).1 in
+              let queues : queue chart e ≡ queue chart (partner chart.events t) = sym same_queue ∙ sym (wired.one_queue t known) in
+              let lines : line chart.events (partner chart.events s) ≡ line chart.events (partner chart.events t) = ap (line chart.events) back ∙ share e (partner chart.events t) input in_t queues in
+              absurd (at.crossing s t sent_s out next lines)
+        ]
 
     own_waits : is_input chart.events e ≡ true → (occurs past (partner chart.events e) ≡ true) × (is_waiting chart (queue chart e) past (partner chart.events e) ≡ true)
     unfolding is_waiting
@@ -83,7 +93,7 @@ module _ (heights : List ℕ) (chart : WiredChart) (wired : IsWired chart) (at :
         let s : ℕ = partner chart.events e in
         let sent_s : is_output chart.events s ≡ true = wired.matched.other_kind e b.event ∙ input in
         let back = wired.matched.to_and_fro e b.event in
-        let low : height heights e ≡ height heights s + 1 = sym (ap (height heights) back) ∙ at.sent s sent_s in
+        let low : height heights e ≡ height heights s + 2 = sym (ap (height heights) back) ∙ at.sent s sent_s in
         let new : occurs past e ≡ false = not_true (occurs past e) (λ h. let lt = b.below e h in omega (arith, lt)) in
         let q : eqb (queue chart s) (queue chart e) ≡ true = eq-eqb _ _ (wired.one_queue e b.event) in (
           above s (wired.matched.in_range e b.event) (omega (arith, low)),
@@ -130,11 +140,11 @@ module _ (heights : List ℕ) (events : List ChartEvent) (past : List ℕ) (x : 
         ]
       ]
 
-module _ (heights : List ℕ) (chart : WiredChart) (wired : IsWired chart) (at : AreDrawnAt heights chart.events) where
+module _ (heights : List ℕ) (chart : WiredChart) (wired : IsWired chart) (share : ShareLines chart) (at : AreDrawnAt heights chart.events) where
   run_from : (past xs : List ℕ) → Steps (IsBelow heights chart.events) past xs → ((e : ℕ) → e < length chart.events → occurs (past ++ xs) e ≡ true) → Steps (MayCome chart) past xs
   run_from past [] h whole = tt
   run_from past (x ∷ xs) h whole = (
-    comes heights chart wired at past x h.0 (all_above heights chart.events past x xs h whole),
+    comes heights chart wired share at past x h.0 (all_above heights chart.events past x xs h whole),
     run_from (past ++ x ∷ []) xs h.1 (λ e known. rw append_assoc (whole e known)),
   )
 

@@ -1,5 +1,6 @@
 -- The drafts of diagrams as they are read.
-use Rattle.std.proofs.Common.{◌≡◌, ℕ, zero, suc, ◌+◌, ◌<◌, ◌≤◌, Bool, true, false, nat_le, length, sym, arith, List, [], ◌∷◌, Result, Ok, Err, refl, ap, subst, ◌∙◌, count_by}
+use Rattle.std.proofs.Common.{◌≡◌, ℕ, zero, suc, ◌+◌, ◌<◌, ◌≤◌, Bool, true, false, nat_le, length, sym, arith, List, [], ◌∷◌, Result, Ok, Err, refl, ap, subst, ◌∙◌}
+use Rattle.std.specs.List.{sum_by}
 use Rattle.std.specs.Str.{bytes_eq}
 use Rattle.std.proofs.lemmas.Slice.Eq.{bytes_eq-Decides}
 use Rattle.msc_chart.specs.Lists.{StandsAt, Occurs}
@@ -9,23 +10,23 @@ use Rattle.msc_parser.specs.Drafts.{statements_of}
 use Rattle.msc_parser.specs.Grammar.{Tree}
 use Rattle.msc_parser.specs.declared.tree.Section.{Section}
 use Rattle.msc_lexer.specs.declared.TheConstants.{TEXT_LIMIT}
-use Rattle.msc_import.specs.declared.TheConstants.{DEPTH_LIMIT}
-use Rattle.msc_import.specs.declared.course.Message.{Message}
-use Rattle.msc_import.specs.declared.course.Step.TheVariants as steps
-use Rattle.msc_import.specs.declared.fault.ImportFault.{ImportFault}
-use Rattle.msc_import.specs.declared.fault.ImportFault.TheVariants.{TooManyArrows}
+use Rattle.msc_mermaid.specs.declared.TheConstants.{DEPTH_LIMIT}
+use Rattle.msc_scenarios.specs.declared.course.Message.{Message}
+use Rattle.msc_scenarios.specs.declared.course.Step.TheVariants as steps
+use Rattle.msc_mermaid.specs.declared.fault.ImportFault.{ImportFault}
+use Rattle.msc_mermaid.specs.declared.fault.ImportFault.TheVariants.{TooManyArrows}
 use Rattle.msc_import.specs.declared.plan.Manner.{Manner}
-use Rattle.msc_import.specs.declared.statement.Diagram.{Diagram}
-use Rattle.msc_import.specs.Courses.{Walk, line_at, walk}
-use Rattle.msc_import.specs.Drafting.{at_rest, drawn, drawn_walk, fitted, few_events, sections_on, short_enough, tree_of, unended}
-use Rattle.msc_import.specs.Gives.{◌>>=◌, unless}
-use Rattle.msc_import.specs.Laws.{walked}
-use Rattle.msc_import.specs.Naming.{names_behind, number_name}
+use Rattle.msc_mermaid.specs.declared.statement.Diagram.{Diagram}
+use Rattle.msc_scenarios.specs.Courses.{Walk, line_at, walk, at_rest, unended}
+use Rattle.msc_import.specs.Drafting.{drawn, drawn_walk, fitted, few_events, sections_on, short_enough, tree_of}
+use Rattle.msc_mermaid.specs.Gives.{◌>>=◌, unless}
+use Rattle.msc_scenarios.specs.Laws.{walked}
+use Rattle.msc_scenarios.specs.Naming.{names_behind, number_name}
 use Rattle.msc_import.specs.Plans.{Plan, plans_of}
 use Rattle.msc_chart.specs.Events.{DraftEvent, events_of}
 use Rattle.msc_import_laws.specs.Ends.{IsEndOfItsArrow}
 use Rattle.msc_import_laws.specs.Heights.{height}
-use Rattle.msc_import_laws.specs.Apart.{IsDrawnDown, IsToldApart, is_arrow}
+use Rattle.msc_import_laws.specs.Apart.{IsDrawnDown, IsToldApart, messages_in}
 use Rattle.msc_import_laws.specs.Drawn.{heights_in}
 use Rattle.msc_import_laws.specs.Outlined.{IsOutlined}
 use Rattle.msc_import_laws.proofs.Growth.{Grows}
@@ -81,8 +82,8 @@ module _ (d : Diagram) (out : IsOutlined d) (given : List ℕ) where
   met : (i : ℕ) (m : Message) → StandsAt (walked d given).steps i (steps.Meets m) → IsMet d.lines (DEPTH_LIMIT + 1) d.statements [] m
   met i m h = grown.made.each i m (subst (λ ss. StandsAt ss i (steps.Meets m)) steps_new h)
 
-  few : count_by is_arrow (walked d given).steps ≤ 1024
-  few = let a = grown.arrows in let b = grown.few (omega arith) in let c = ap (count_by is_arrow) steps_new in omega (arith, a, b, c)
+  few : sum_by messages_in (walked d given).steps ≤ 1024
+  few = let a = grown.arrows in let b = grown.few (omega arith) in let c = ap (sum_by messages_in) steps_new in omega (arith, a, b, c)
 
   -- the course is one that is told apart
   apart : IsToldApart (length d.lines) (names_behind [] d.lines) (walked d given).steps

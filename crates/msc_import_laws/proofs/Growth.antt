@@ -1,16 +1,17 @@
 -- Walks that grow: by which arrows, no two of one number.
-use Rattle.std.proofs.Common.{◌≡◌, ℕ, zero, suc, ◌+◌, ◌≤◌, true, false, sym, arith, inl, inr, List, [], ◌∷◌, ◌++◌, refl, ap, ◌∙◌, count_by}
+use Rattle.std.proofs.Common.{◌≡◌, ℕ, zero, suc, ◌+◌, ◌≤◌, Bool, true, false, sym, arith, inl, inr, List, [], ◌∷◌, ◌++◌, refl, ap, ◌∙◌, cond}
+use Rattle.std.specs.List.{sum_by}
 use Rattle.std.proofs.lemmas.List.{append-nil, append_assoc}
+use Rattle.std.proofs.lemmas.List.Sums.{sum_by-append}
 use Rattle.msc_chart.specs.Lists.{StandsAt}
-use Rattle.msc_import.specs.declared.TheConstants.{ARROW_LIMIT}
-use Rattle.msc_import.specs.declared.course.Ending.{Ending}
-use Rattle.msc_import.specs.declared.course.Ending.TheVariants as ends
-use Rattle.msc_import.specs.declared.course.Message.{Message}
-use Rattle.msc_import.specs.declared.course.Step.{Step}
-use Rattle.msc_import.specs.declared.course.Step.TheVariants as steps
-use Rattle.msc_import.specs.Courses.{Walk, go_on, put, then}
-use Rattle.msc_import_laws.specs.Apart.{is_arrow}
-use Rattle.msc_import_laws.proofs.Counts.{count_joined}
+use Rattle.msc_scenarios.specs.declared.TheConstants.{ARROW_LIMIT}
+use Rattle.msc_scenarios.specs.declared.course.Ending.{Ending}
+use Rattle.msc_scenarios.specs.declared.course.Ending.TheVariants as ends
+use Rattle.msc_scenarios.specs.declared.course.Message.{Message}
+use Rattle.msc_scenarios.specs.declared.course.Step.{Step}
+use Rattle.msc_scenarios.specs.declared.course.Step.TheVariants as steps
+use Rattle.msc_scenarios.specs.Courses.{Walk, go_on, put, then}
+use Rattle.msc_import_laws.specs.Apart.{messages_in}
 use Rattle.msc_import_laws.proofs.Stands.{joined_at}
 
 -- messages of two kinds have no number in common
@@ -27,7 +28,7 @@ pub record Grows (R : Message → Type 0) (w v : Walk) : Type 0 where
   pub new : List Step
   pub steps : v.steps ≡ w.steps ++ new
   pub lines : v.lines ≡ w.lines
-  pub arrows : v.arrows ≡ w.arrows + count_by is_arrow new
+  pub arrows : v.arrows ≡ w.arrows + sum_by messages_in new
   pub few : w.arrows ≤ ARROW_LIMIT → v.arrows ≤ ARROW_LIMIT
   pub made : AreApart R new
 
@@ -42,7 +43,7 @@ pub grows_same : (R : Message → Type 0) (w : Walk) → Grows R w w
 grows_same R w = grows_none R w w refl refl refl
 
 -- one step that is no arrow
-pub grows_put : (R : Message → Type 0) (s : Step) (w : Walk) → is_arrow s ≡ false → Grows R w (put s w)
+pub grows_put : (R : Message → Type 0) (s : Step) (w : Walk) → messages_in s ≡ 0 → Grows R w (put s w)
 grows_put R s w h = record {
   new = s ∷ [];
   steps = refl;
@@ -52,8 +53,14 @@ grows_put R s w h = record {
   made = record { each = λ i m k. absurd (no i m k); apart = λ i j m n k l e. absurd (no i m k) };
 }
   where
+    some : (m : Message) → ◌≡◌ {A = ℕ} (cond m.both 2 1) 0 → ⊥
+    some m = elim m.both as (λ (b : Bool). ◌≡◌ {A = ℕ} (cond b 2 1) 0 → ⊥) [
+      | true ↦ λ k. omega (arith, k)
+      | false ↦ λ k. omega (arith, k)
+    ]
+
     no : (i : ℕ) (m : Message) → StandsAt (s ∷ []) i (steps.Meets m) → ⊥
-    no zero m k = let e : s ≡ steps.Meets m = cc in let f : true ≡ false = sym (ap is_arrow e) ∙ h in cc
+    no zero m k = let e : s ≡ steps.Meets m = cc in absurd (some m (sym (ap messages_in e) ∙ h))
     no (suc i) m k = cc
 
 -- the kind is wider
@@ -88,7 +95,7 @@ grows_on R S T w v x g h none f k = record {
   new = g.new ++ h.new;
   steps = h.steps ∙ ap (λ ss. ss ++ h.new) g.steps ∙ append_assoc w.steps g.new h.new;
   lines = h.lines ∙ g.lines;
-  arrows = let a = g.arrows in let b = h.arrows in let c = count_joined is_arrow g.new h.new in omega (arith, a, b, c);
+  arrows = let a = g.arrows in let b = h.arrows in let c = sum_by-append messages_in g.new h.new in omega (arith, a, b, c);
   few = λ l. h.few (g.few l);
   made = joined_apart R S T g.new h.new g.made h.made none f k;
 }
@@ -118,7 +125,7 @@ grows_before R w v x g a b c = record {
   new = g.new;
   steps = g.steps ∙ ap (λ ss. ss ++ g.new) a;
   lines = g.lines ∙ b;
-  arrows = g.arrows ∙ ap (λ (n : ℕ). n + count_by is_arrow g.new) c;
+  arrows = g.arrows ∙ ap (λ (n : ℕ). n + sum_by messages_in g.new) c;
   few = λ h. g.few (omega (arith, h, c));
   made = g.made;
 }

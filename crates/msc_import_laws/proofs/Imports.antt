@@ -8,26 +8,26 @@ use Rattle.msc_chart.specs.Events.{DraftEvent, events_of}
 use Rattle.msc_chart.specs.Lists.{Occurs, StandsAt}
 use Rattle.msc_chart.specs.Orders.{Enforced, IsWired, wired}
 use Rattle.msc_chart.proofs.DraftEvents.{joined}
-use Rattle.msc_import.specs.declared.fault.ImportFault.{ImportFault}
-use Rattle.msc_import.specs.declared.fault.ImportFault.TheVariants.{TooManyScenarios}
+use Rattle.msc_mermaid.specs.declared.fault.ImportFault.{ImportFault}
+use Rattle.msc_mermaid.specs.declared.fault.ImportFault.TheVariants.{TooManyScenarios}
 use Rattle.msc_import.specs.declared.importing.Imported.{Imported}
 use Rattle.msc_import.specs.declared.plan.Manner.{Manner}
-use Rattle.msc_import.specs.declared.statement.Diagram.{Diagram}
+use Rattle.msc_mermaid.specs.declared.statement.Diagram.{Diagram}
 use Rattle.msc_import.specs.declared.whole.Scenario.{Scenario}
 use Rattle.msc_import.specs.declared.whole.Scenarios.{Scenarios}
-use Rattle.msc_import.specs.Choosing.{all_choices}
-use Rattle.msc_import.specs.Counting.{scenarios}
+use Rattle.msc_scenarios.specs.Choosing.{all_choices}
+use Rattle.msc_scenarios.specs.Counting.{scenarios}
 use Rattle.msc_import.specs.Drafting.{drawn}
 use Rattle.msc_import.specs.Importing.{Wanted, answered, chosen, diagram_in, drawn_at, imported, scenario_of, told_of}
 use Rattle.msc_import.specs.Places.{places}
 use Rattle.msc_place.specs.declared.position.Position.{Position}
-use Rattle.msc_import.specs.Laws.{walked}
-use Rattle.msc_import.specs.Naming.{names_behind}
+use Rattle.msc_scenarios.specs.Laws.{walked}
+use Rattle.msc_scenarios.specs.Naming.{names_behind}
 use Rattle.msc_import.specs.Whole.{WantedAll, all_of, all_scenarios, imported_all, scenario_with, scenarios_on}
 use Rattle.msc_import_laws.specs.Apart.{IsDrawnDown}
 use Rattle.msc_import_laws.specs.Drawn.{heights_in}
 use Rattle.msc_import_laws.specs.Ends.{IsEndOfItsArrow}
-use Rattle.msc_import_laws.specs.Heights.{IsDownward, IsOnlyOrder, IsWholeRun, height}
+use Rattle.msc_import_laws.specs.Heights.{IsDownward, IsOnlyOrder, IsWholeRun, ShareLines, height}
 use Rattle.msc_import_laws.specs.Imports.{IsScenarioOf, Reading, all_read_as, arrow_at, read_as}
 use Rattle.msc_import_laws.proofs.Descent.{enforced_down, visual_down, whole_run}
 use Rattle.msc_import_laws.proofs.Drafts.{bound, draft_drawn, draft_events}
@@ -112,19 +112,19 @@ module _ (how : Reading) (manner : Manner) (text : List ℕ) (d : Diagram) (give
   pub scenario_order : (order : List ℕ) × IsOnlyOrder (heights_in manner d given) (chart_events draft) order
   scenario_order = downward (heights_in manner d given) (chart_events draft) scenario_drawn.drawn
 
-  pub scenario_run : (queues : Queues) (order : List ℕ) → IsWired (wired queues (chart_of draft)) → IsDownward (heights_in manner d given) (chart_events draft) order → IsWholeRun (wired queues (chart_of draft)) order
-  scenario_run queues order connected down = whole_run (heights_in manner d given) (wired queues (chart_of draft)) connected scenario_drawn.drawn order down
+  pub scenario_run : (queues : Queues) (order : List ℕ) → IsWired (wired queues (chart_of draft)) → ShareLines (wired queues (chart_of draft)) → IsDownward (heights_in manner d given) (chart_events draft) order → IsWholeRun (wired queues (chart_of draft)) order
+  scenario_run queues order connected share down = whole_run (heights_in manner d given) (wired queues (chart_of draft)) connected share scenario_drawn.drawn order down
 
-  half : (a b : ℕ) → a < b → (a < b) × (a / 2 ≤ b / 2)
-  half a b h = (h, omega (arith, h))
+  quarter : (a b : ℕ) → a < b → (a < b) × (a / 4 ≤ b / 4)
+  quarter a b h = (h, omega (arith, h))
 
   pub scenario_enforced : (queues : Queues) (e f : ℕ) → Enforced (wired queues (chart_of draft)) e f
       → (height (heights_in manner d given) e < height (heights_in manner d given) f) × (arrow_at manner d given e ≤ arrow_at manner d given f)
-  scenario_enforced queues e f h = half _ _ (enforced_down (heights_in manner d given) (wired queues (chart_of draft)) scenario_drawn.drawn e f h)
+  scenario_enforced queues e f h = quarter _ _ (enforced_down (heights_in manner d given) (wired queues (chart_of draft)) scenario_drawn.drawn e f h)
 
   pub scenario_visual : (e f : ℕ) → Visual (chart_events draft) e f
       → (height (heights_in manner d given) e < height (heights_in manner d given) f) × (arrow_at manner d given e ≤ arrow_at manner d given f)
-  scenario_visual e f h = half _ _ (visual_down (heights_in manner d given) (chart_events draft) scenario_drawn.drawn e f h)
+  scenario_visual e f h = quarter _ _ (visual_down (heights_in manner d given) (chart_events draft) scenario_drawn.drawn e f h)
 
   pub scenario_events : (e : ℕ) (v : DraftEvent) → StandsAt (events_of draft) e v
       → IsEndOfItsArrow manner.own (names_behind [] d.lines) (walked d given).steps v (height (heights_in manner d given) e)

@@ -12,8 +12,8 @@ use Rattle.msc_lexer.specs.Bytes.{is_run_byte}
 use Rattle.msc_lexer.specs.Words.{word_of}
 use Rattle.msc_lexer.specs.declared.TheConstants.{NAME_LIMIT}
 use Rattle.msc_import.specs.Drafting.{fitted}
-use Rattle.msc_import.specs.Naming.{candidate, left_of, made, or_else, pass_step, passed, unreserved}
-use Rattle.msc_import.specs.Rows.{is_empty}
+use Rattle.msc_scenarios.specs.Naming.{candidate, left_of, made, or_else, pass_step, passed, unreserved}
+use Rattle.msc_mermaid.specs.Patterns.{is_empty}
 use Rattle.msc_import_laws.proofs.Numbers.{decimal_digits, digits_run, fitted_same, is_letter, no_word}
 
 -- parts of bytes that all pass

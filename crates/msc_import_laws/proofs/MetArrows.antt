@@ -1,12 +1,12 @@
 -- The messages of arrows, by the rounds in which they are met: one number is of one arrow in one list of rounds.
-use Rattle.std.proofs.Common.{◌≡◌, ℕ, ◌<◌, ◌≤◌, length, sym, arith, List, ◌++◌, ap, ◌∙◌}
+use Rattle.std.proofs.Common.{◌≡◌, ℕ, ◌<◌, ◌≤◌, Bool, length, sym, arith, List, ◌++◌, ap, ◌∙◌}
 use Rattle.std.specs.List.{AllByRecursion}
 use Rattle.msc_chart.specs.Lists.{Occurs}
-use Rattle.msc_import.specs.declared.course.Message.{Message}
-use Rattle.msc_import.specs.declared.statement.Arrow.{Arrow}
-use Rattle.msc_import.specs.declared.statement.Placed.{Placed}
-use Rattle.msc_import.specs.declared.statement.Statement.TheVariants.{Says}
-use Rattle.msc_import.specs.Courses.{Walk, Walker, message_of}
+use Rattle.msc_scenarios.specs.declared.course.Message.{Message}
+use Rattle.msc_mermaid.specs.declared.statement.Arrow.{Arrow}
+use Rattle.msc_mermaid.specs.declared.statement.Placed.{Placed}
+use Rattle.msc_mermaid.specs.declared.statement.Statement.TheVariants.{Says}
+use Rattle.msc_scenarios.specs.Courses.{Walk, Walker, message_of}
 use Rattle.msc_import_laws.specs.Outlined.{AreDistinct, Differ}
 use Rattle.msc_import_laws.proofs.Growth.{Grows, NoneShared}
 use Rattle.msc_import_laws.proofs.Numbers.{IsRound, same_number, small_rounds}
@@ -25,19 +25,21 @@ module _ (lines : List (List ℕ)) where
   pub record IsMet (d : ℕ) (ps : List Placed) (rounds : List ℕ) (m : Message) : Type 0 where
     pub placed : Placed
     pub arrow : Arrow
+    pub lost : Bool
     pub more : List ℕ
     pub stands : Occurs ps placed
     pub says : placed.statement ≡ Says arrow
     pub low : placed.number < 10000000
     pub few : length more ≤ d
     pub short : AllByRecursion IsRound more
-    pub is : m ≡ message_of lines placed arrow (rounds ++ more)
+    pub is : m ≡ message_of lines placed arrow lost (rounds ++ more)
 
   -- the same of statements among more
   pub met_wider : (d e : ℕ) (ps qs : List Placed) (rounds : List ℕ) → d ≤ e → ((p : Placed) → Occurs ps p → Occurs qs p) → (m : Message) → IsMet d ps rounds m → IsMet e qs rounds m
   met_wider d e ps qs rounds le f m h = record {
     placed = h.placed;
     arrow = h.arrow;
+    lost = h.lost;
     more = h.more;
     stands = f h.placed h.stands;
     says = h.says;

@@ -4,13 +4,13 @@ use Rattle.std.specs.List.{AllByRecursion}
 use Rattle.std.proofs.lemmas.Bool.{leb-true}
 use Rattle.msc_chart.specs.Lists.{Occurs}
 use Rattle.msc_chart.proofs.ListLemmas.{by_test}
-use Rattle.msc_import.specs.declared.TheConstants.{ROUND_LIMIT}
-use Rattle.msc_import.specs.declared.course.Message.{Message}
-use Rattle.msc_import.specs.declared.course.Step.TheVariants as steps
-use Rattle.msc_import.specs.declared.row.Kind.{Kind}
-use Rattle.msc_import.specs.declared.row.Kind.TheVariants as kinds
-use Rattle.msc_import.specs.declared.statement.Placed.{Placed}
-use Rattle.msc_import.specs.Courses.{Walk, Walker, block, branch_at, branches_in, broken, choice_of, choose, follow, form_of, formed, is_there, most_of, put, rounds_from, side_by_side, then, unbroken, with_choice}
+use Rattle.msc_scenarios.specs.declared.TheConstants.{ROUND_LIMIT}
+use Rattle.msc_scenarios.specs.declared.course.Message.{Message}
+use Rattle.msc_scenarios.specs.declared.course.Step.TheVariants as steps
+use Rattle.msc_mermaid.specs.declared.row.Kind.{Kind}
+use Rattle.msc_mermaid.specs.declared.row.Kind.TheVariants as kinds
+use Rattle.msc_mermaid.specs.declared.statement.Placed.{Placed}
+use Rattle.msc_scenarios.specs.Courses.{Walk, Walker, block, branch_at, branches_in, broken, choice_of, choose, follow, form_of, formed, is_there, most_of, put, rounds_from, side_by_side, then, unbroken, with_choice}
 use Rattle.msc_import_laws.specs.Outlined.{AreDistinct}
 use Rattle.msc_import_laws.proofs.Distinct.{distinct_branch, distinct_branches, in_branch, in_branches, together}
 use Rattle.msc_import_laws.proofs.Growth.{Grows, grows_after, grows_none, grows_on, grows_put, grows_same, grows_then, grows_wider}
@@ -20,7 +20,7 @@ use Rattle.msc_import_laws.proofs.MetRounds.{IsInRounds, in_round, rounds_grow}
 use Rattle.msc_import_laws.proofs.MetBranches.{one_grows, options_grow, sides_grow}
 
 -- what follows the choice of a block, where one is taken that it has
-choice_grows : (R : Message → Type 0) (line most main : ℕ) (w : Walk) (f : ℕ → Walk → Walk) → ((c : ℕ) (v : Walk) → c ≤ most → v.lines ≡ w.lines → Grows R v (f c v)) → Grows R w (then (choose line most main w) (f (choice_of main w)))
+pub choice_grows : (R : Message → Type 0) (line most main : ℕ) (w : Walk) (f : ℕ → Walk → Walk) → ((c : ℕ) (v : Walk) → c ≤ most → v.lines ≡ w.lines → Grows R v (f c v)) → Grows R w (then (choose line most main w) (f (choice_of main w)))
 unfolding choose
 choice_grows R line most main w f h =
     let c : ℕ = choice_of main w in

@@ -2,10 +2,10 @@
 use Rattle.std.proofs.Common.{◌≡◌, ℕ, zero, suc, ◌+◌, ◌<◌, ◌≤◌, arith, List, [], ◌∷◌, ◌++◌, ap, ◌∙◌}
 use Rattle.std.specs.List.{AllByRecursion}
 use Rattle.std.proofs.lemmas.List.{append_assoc}
-use Rattle.msc_import.specs.declared.TheConstants.{ROUND_LIMIT}
-use Rattle.msc_import.specs.declared.course.Message.{Message}
-use Rattle.msc_import.specs.declared.statement.Placed.{Placed}
-use Rattle.msc_import.specs.Courses.{Walk, Walker, message_of, rounds_from}
+use Rattle.msc_scenarios.specs.declared.TheConstants.{ROUND_LIMIT}
+use Rattle.msc_scenarios.specs.declared.course.Message.{Message}
+use Rattle.msc_mermaid.specs.declared.statement.Placed.{Placed}
+use Rattle.msc_scenarios.specs.Courses.{Walk, Walker, message_of, rounds_from}
 use Rattle.msc_import_laws.specs.Outlined.{AreDistinct}
 use Rattle.msc_import_laws.proofs.Growth.{Grows, grows_same, grows_then}
 use Rattle.msc_import_laws.proofs.Numbers.{IsRound}
@@ -54,11 +54,12 @@ module _ (lines : List (List ℕ)) where
     in_round k n m le h = record {
       placed = h.met.placed;
       arrow = h.met.arrow;
+      lost = h.met.lost;
       more = (h.round + 1) ∷ h.met.more;
       stands = h.met.stands;
       says = h.met.says;
       low = h.met.low;
       few = let a = h.met.few in omega (arith, a);
       short = (let a = h.to in omega (arith, a, le), h.met.short);
-      is = h.met.is ∙ ap (message_of lines h.met.placed h.met.arrow) (append_assoc rounds ((h.round + 1) ∷ []) h.met.more);
+      is = h.met.is ∙ ap (message_of lines h.met.placed h.met.arrow h.met.lost) (append_assoc rounds ((h.round + 1) ∷ []) h.met.more);
     }

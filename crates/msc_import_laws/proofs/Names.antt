@@ -10,9 +10,9 @@ use Rattle.std.proofs.lemmas.Slice.Eq.{bytes_eq-Decides}
 use Rattle.msc_chart.specs.Lists.{StandsAt}
 use Rattle.msc_chart.proofs.ListLemmas.{by_test, clash}
 use Rattle.msc_chart.proofs.Places.{place-any}
-use Rattle.msc_import.specs.declared.TheConstants.{LINE_LIMIT}
+use Rattle.msc_mermaid.specs.declared.TheConstants.{LINE_LIMIT}
 use Rattle.msc_import.specs.Drafting.{fitted, line_name}
-use Rattle.msc_import.specs.Naming.{candidate, free_name, is_taken, made, names_behind}
+use Rattle.msc_scenarios.specs.Naming.{candidate, free_name, is_taken, made, names_behind}
 use Rattle.msc_import_laws.proofs.Numbers.{IsSmall}
 use Rattle.msc_import_laws.proofs.MadeNames.{IsGood, candidate_good, good_fitted, made_good}
 use Rattle.msc_import_laws.proofs.Stands.{joined_at}

@@ -15,8 +15,8 @@ use Rattle.msc_lexer.specs.declared.word.Word.{Word}
 use Rattle.msc_lexer.specs.declared.word.Word.TheVariants.{Msc, EndMsc, Inst, Instance, EndInstance, Input, From, Output, To, Concurrent, EndConcurrent, Comment, Env, Action, Condition, Set, Reset, Timeout, Create, Stop}
 use Rattle.msc_lexer.specs.declared.TheConstants.{NAME_LIMIT}
 use Rattle.msc_import.specs.Drafting.{fitted, is_chart_name}
-use Rattle.msc_import.specs.Naming.{number_name, round_text}
-use Rattle.msc_import.specs.Rows.{is_empty}
+use Rattle.msc_scenarios.specs.Naming.{number_name, round_text}
+use Rattle.msc_mermaid.specs.Patterns.{is_empty}
 
 -- a digit
 abbrev pub IsDigit : ℕ → Type 0

@@ -1,30 +1,26 @@
 -- What is read of a text keeps few lines, arrows between them, and a number of its own for each arrow.
 use Rattle.std.proofs.Common.{◌≡◌, ℕ, zero, suc, ◌+◌, ◌<◌, ◌≤◌, Bool, true, false, cond, nat_lt, length, take, drop, sym, arith, inl, inr, List, [], ◌∷◌, ◌++◌, Option, None, Some, Result, Ok, refl, ap, subst, ◌∙◌}
-use Rattle.std.specs.List.{prefix_len, slice_split}
 use Rattle.std.specs.Str.{bytes_eq}
 use Rattle.std.proofs.lemmas.Bool.{ltb-true}
 use Rattle.std.proofs.lemmas.List.{length_push}
-use Rattle.std.proofs.lemmas.List.Splits.{length-slice_split}
-use Rattle.std.proofs.lemmas.List.Sums.{count_by-le-length}
 use Rattle.std.proofs.lemmas.Slice.Eq.{bytes_eq-Decides}
 use Rattle.msc_chart.specs.Lists.{StandsAt, Occurs}
 use Rattle.msc_chart.proofs.DraftEvents.{joined}
 use Rattle.msc_chart.proofs.ListLemmas.{by_test}
 use Rattle.msc_chart.proofs.Places.{any-place}
-use Rattle.msc_import.specs.declared.TheConstants.{LINE_LIMIT}
-use Rattle.msc_import.specs.declared.fault.ImportFault.{ImportFault}
-use Rattle.msc_import.specs.declared.fault.ImportFault.TheVariants.{Outside, TooDeep, TooManyLines}
-use Rattle.msc_import.specs.declared.statement.Arrow.{Arrow}
-use Rattle.msc_import.specs.declared.statement.Cross.{Cross}
-use Rattle.msc_import.specs.declared.statement.Diagram.{Diagram}
-use Rattle.msc_import.specs.declared.statement.Placed.{Placed}
-use Rattle.msc_import.specs.declared.statement.Statement.{Statement}
-use Rattle.msc_import.specs.declared.statement.Statement.TheVariants.{Declares, Says, Begins, Closes}
-use Rattle.msc_import.specs.Gives.{◌>>=◌, unless}
-use Rattle.msc_import.specs.Outlines.{Outline, closed_by, finished, innermost, is_known, laid, meets, met, with_lines}
-use Rattle.msc_import.specs.Lines.{column_behind, is_blank, trimmed}
-use Rattle.msc_import.specs.Saying.{said_at}
-use Rattle.msc_import.specs.Reading.{Read, untold, is_arrow, is_semicolon, bare_from, bare_step, bare_then, listed, noted, read_line, read_one, read_pieces, told}
+use Rattle.msc_mermaid.specs.declared.TheConstants.{LINE_LIMIT}
+use Rattle.msc_mermaid.specs.declared.fault.ImportFault.{ImportFault}
+use Rattle.msc_mermaid.specs.declared.fault.ImportFault.TheVariants.{Outside, TooDeep, TooManyLines}
+use Rattle.msc_mermaid.specs.declared.statement.Arrow.{Arrow}
+use Rattle.msc_mermaid.specs.declared.statement.Cross.{Cross}
+use Rattle.msc_mermaid.specs.declared.statement.Diagram.{Diagram}
+use Rattle.msc_mermaid.specs.declared.statement.Placed.{Placed}
+use Rattle.msc_mermaid.specs.declared.statement.Statement.{Statement}
+use Rattle.msc_mermaid.specs.declared.statement.Statement.TheVariants.{Declares, Says, Begins, Closes}
+use Rattle.msc_mermaid.specs.Gives.{◌>>=◌, unless}
+use Rattle.msc_mermaid.specs.Outlines.{Outline, closed_by, finished, innermost, is_known, laid, meets, met, with_lines}
+use Rattle.msc_mermaid.specs.Saying.{said_at}
+use Rattle.msc_mermaid.specs.Reading.{Read, untold, is_arrow, listed, noted, read_one, told}
 use Rattle.msc_import_laws.specs.Outlined.{AreDistinct, Differ, IsOutlined}
 use Rattle.msc_import_laws.proofs.Drafts.{bound, unless_is}
 use Rattle.msc_import_laws.proofs.Stands.{first_joined, second_joined}
@@ -181,51 +177,18 @@ module _ (n : ℕ) (r : Read) (read : IsRead n r) (line column : ℕ) (q : Read)
   unfolding noted
   all_noted s e = grind (arith, nothing_noted, dies_noted, statement_noted)
 
--- one piece, and those of a line
-piece_read : (n : ℕ) (cross : Option Cross) (line column : ℕ) (bytes : List ℕ) (r q : Read) → IsRead n r → read_one cross line column bytes r ≡ Ok q → IsRead (n + 1) q
+-- one statement
+pub piece_read : (n : ℕ) (cross : Option Cross) (line column : ℕ) (bytes : List ℕ) (r q : Read) → IsRead n r → read_one cross line column bytes r ≡ Ok q → IsRead (n + 1) q
 unfolding read_one
 piece_read n cross line column bytes r q read e =
     let b = bound (said_at cross r.dying line bytes) (noted r line column) q e in
     all_noted n r read line column q b.0 b.2
-
-pieces_read : (n : ℕ) (cross : Option Cross) (line : ℕ) (bytes : List ℕ) (at : ℕ) (ps : List (List ℕ)) (r q : Read) → IsRead n r → read_pieces cross line bytes at ps r ≡ Ok q → IsRead (n + length ps) q
-unfolding read_pieces
-pieces_read n cross line bytes at [] r q read e = let same : r ≡ q = cc in subst (IsRead (n + 0)) same (read_same n (n + 0) r r (omega arith) refl refl refl read)
-pieces_read n cross line bytes at (p ∷ ps) r q read e =
-    let column : ℕ = column_behind (take (at + prefix_len is_blank p) bytes) in
-    let b = bound (read_one cross line column (trimmed p) r) (λ next. read_pieces cross line bytes (at + (length p + 1)) ps next) q e in
-    let first = piece_read n cross line column (trimmed p) r b.0 read b.1 in
-    let rest = pieces_read (n + 1) cross line bytes (at + (length p + 1)) ps b.0 q first b.2 in
-    read_same ((n + 1) + length ps) (n + suc (length ps)) q q (omega arith) refl refl refl rest
-
--- a line without entities is no longer
-bare_short : (within : Bool) (bs : List ℕ) → length (bare_from within bs) ≤ length bs
-unfolding bare_from
-bare_short within [] = omega arith
-bare_short within (b ∷ bs) = by (bare_step within b bs)
-    (λ w. bare_short w bs)
-  where
-    by : (o : Option (ℕ × Bool)) → ((w : Bool) → length (bare_from w bs) ≤ length bs) → length (bare_then o (λ w. bare_from w bs)) ≤ suc (length bs)
-    by None more = omega arith
-    by (Some p) more = let r = more p.1 in omega (arith, r)
 
 pub drop_short : {X : Type 0} (k : ℕ) (xs : List X) → length (drop k xs) ≤ length xs
 drop_short zero [] = omega arith
 drop_short zero (x ∷ xs) = omega arith
 drop_short (suc k) [] = omega arith
 drop_short (suc k) (x ∷ xs) = let r = drop_short k xs in omega (arith, r)
-
-pub line_read : (n : ℕ) (cross : Option Cross) (line : ℕ) (bytes : List ℕ) (at : ℕ) (r q : Read) → IsRead n r → read_line cross line bytes at r ≡ Ok q → IsRead (n + (length bytes + 1)) q
-unfolding read_line
-line_read n cross line bytes at r q read e =
-    let bare : List ℕ = bare_from false (drop at bytes) in
-    let pieces : List (List ℕ) = slice_split is_semicolon bare in
-    let found = pieces_read n cross line bytes at pieces r q read e in
-    let a = length-slice_split is_semicolon bare in
-    let b = count_by-le-length is_semicolon bare in
-    let c = bare_short false (drop at bytes) in
-    let d = drop_short at bytes in
-    read_same (n + length pieces) (n + (length bytes + 1)) q q (omega (arith, a, b, c, d)) refl refl refl found
 
 -- a diagram is what was read, where all blocks have ended
 closed_is : (lines after : List (List ℕ)) (x : Option _) → closed_by lines x ≡ Ok after → lines ≡ after

@@ -11,15 +11,15 @@ use Rattle.msc_parser.specs.declared.tree.Statement.{Statement as Drawn}
 use Rattle.msc_parser.specs.Drafts.{statements_in}
 use Rattle.msc_chart.specs.Events.{Act, DraftEvent, act_of, drawn, events_of, events_of_item, events_of_items, events_of_sections, next_segment}
 use Rattle.msc_chart.specs.Lists.{StandsAt}
-use Rattle.msc_import.specs.declared.course.Message.{Message}
-use Rattle.msc_import.specs.declared.course.Step.{Step}
-use Rattle.msc_import.specs.declared.course.Step.TheVariants as steps
-use Rattle.msc_import.specs.declared.fault.ImportFault.{ImportFault}
+use Rattle.msc_scenarios.specs.declared.course.Message.{Message}
+use Rattle.msc_scenarios.specs.declared.course.Step.{Step}
+use Rattle.msc_scenarios.specs.declared.course.Step.TheVariants as steps
+use Rattle.msc_mermaid.specs.declared.fault.ImportFault.{ImportFault}
 use Rattle.msc_import.specs.declared.plan.Manner.{Manner}
 use Rattle.msc_import.specs.declared.plan.Own.{Own}
-use Rattle.msc_import.specs.declared.statement.Placed.{Placed}
+use Rattle.msc_mermaid.specs.declared.statement.Placed.{Placed}
 use Rattle.msc_import.specs.Drafting.{decl_of, drawn_event, drawn_items, fitted, line_name, section_of, sections_on, tree_of}
-use Rattle.msc_import.specs.Gives.{◌>>=◌}
+use Rattle.msc_mermaid.specs.Gives.{◌>>=◌}
 use Rattle.msc_import.specs.Laws.{ends_on}
 use Rattle.msc_import.specs.Plans.{Plan, planned, planned_all, plans_of, plans_on, unplanned}
 use Rattle.msc_import.proofs.OrderLemmas.{line_has}
@@ -135,7 +135,7 @@ module _ (names : List (List ℕ)) (own : Own) (line : ℕ) where
 
 -- the heights of the events are those of the ends
 module _ (own : Own) where
-  step_high : (line k : ℕ) (s : Step) → map (λ e. 2 * k + drop e) (ends_on own line s) ≡ map (λ (x : End). x.height) (ends_at own line k s)
+  step_high : (line k : ℕ) (s : Step) → map (λ e. 4 * k + drop e) (ends_on own line s) ≡ map (λ (x : End). x.height) (ends_at own line k s)
   unfolding Same
   step_high line k (steps.Meets m) = (same_ends line k m [] own).1 ∙ sym (map-map (λ (x : End). x.height) (end_at line k m) (sides_on own line m))
   step_high line k (steps.Opens text) = refl

@@ -1,5 +1,6 @@
 -- The draft of a course whose arrows and lines are told apart has no fault, and is drawn from top to bottom.
-use Rattle.std.proofs.Common.{◌/◌, ◌≡◌, ℕ, ◌+◌, ◌*◌, ◌<◌, ◌≤◌, Bool, true, false, not, cond, length, sym, arith, inl, inr, List, [], ◌∷◌, map, slice_get, Some, Ok, refl, ap, subst, ◌∙◌, count_by, IsTrue}
+use Rattle.std.proofs.Common.{◌/◌, ◌≡◌, ℕ, ◌+◌, ◌*◌, ◌<◌, ◌≤◌, Bool, true, false, not, cond, length, sym, arith, inl, inr, List, [], ◌∷◌, map, slice_get, Option, Some, Ok, refl, ap, subst, ◌∙◌, count_by, IsTrue}
+use Rattle.std.specs.List.{sum_by}
 use Rattle.std.proofs.lemmas.Bool.{and_parts, cases_lt, eqb-true, ltb-true}
 use Rattle.std.proofs.lemmas.List.{length-map}
 use Rattle.std.proofs.lemmas.Option.{get_or_from_slice_get, slice_get_within}
@@ -10,7 +11,7 @@ use Rattle.msc_chart.specs.Building.{IsClearBelow}
 use Rattle.msc_chart.specs.Charting.{act_kind, end_place, event_of, partner_of}
 use Rattle.msc_chart.specs.Charts.{at, before, is_output, kind, line, partner, segment, sends}
 use Rattle.msc_chart.specs.Drawings.{chart_events}
-use Rattle.msc_chart.specs.Events.{Act, DraftEvent, MessageEnd, acts_of, address_of, events_of, header_of, instances_of, is_action, is_sent, is_taken, other_end}
+use Rattle.msc_chart.specs.Events.{Act, DraftEvent, Key, MessageEnd, acts_of, address_of, events_of, header_of, instances_of, is_action, is_sent, is_taken, other_end}
 use Rattle.msc_chart.specs.Events.Act.{OfMessage, Action}
 use Rattle.msc_chart.specs.Faults.{AreTooMany, HoldsAt, IsRepeat, IsUnknown, IsUnmatched, OfEnd, Stands}
 use Rattle.msc_chart.specs.Lists.{StandsAt, Occurs}
@@ -19,31 +20,55 @@ use Rattle.msc_chart.proofs.Lawful.{no_fault}
 use Rattle.msc_chart.proofs.Matched.{chart_count, chart_in_text_order, drawn_at}
 use Rattle.msc_chart.proofs.Places.{map-place, one_at, place-map}
 use Rattle.msc_chart.proofs.TableLemmas.{place-stands}
-use Rattle.msc_import.specs.declared.course.Message.{Message}
-use Rattle.msc_import.specs.declared.course.Step.{Step}
-use Rattle.msc_import.specs.declared.course.Step.TheVariants as steps
+use Rattle.msc_scenarios.specs.declared.course.Message.{Message}
+use Rattle.msc_scenarios.specs.declared.course.Step.{Step}
+use Rattle.msc_scenarios.specs.declared.course.Step.TheVariants as steps
 use Rattle.msc_import.specs.declared.plan.Manner.{Manner}
-use Rattle.msc_import.specs.declared.statement.Placed.{Placed}
-use Rattle.msc_import.specs.Drafting.{fitted, line_name, sections_on, tree_of}
+use Rattle.msc_mermaid.specs.declared.statement.Placed.{Placed}
+use Rattle.msc_import.specs.Drafting.{fitted, line_name, sections_on, tree_of, drawn_event}
 use Rattle.msc_import.specs.Plans.{Plan, plans_of}
-use Rattle.msc_import.specs.Drafting.{drawn_event}
 use Rattle.msc_import.specs.Laws.{ends_on}
 use Rattle.msc_chart.specs.Events.{act_of}
 use Rattle.msc_import_laws.proofs.Parts.{end_of_part}
 use Rattle.msc_import_laws.proofs.EndOrder.{fall_small}
-use Rattle.msc_import_laws.specs.Apart.{IsDrawnDown, IsToldApart, is_arrow}
+use Rattle.msc_import_laws.specs.Apart.{IsDrawnDown, IsToldApart, messages_in}
 use Rattle.msc_import_laws.specs.Ends.{IsEndOfItsArrow, heights_of}
 use Rattle.msc_import_laws.specs.Heights.{AreDrawnAt, height}
-use Rattle.msc_import_laws.proofs.Acts.{IsEndAs, act_at, act_by, alone_is, end_as, in_act, key_number, key_of, out_act, sent_is, taken_is, the_in, the_out, way, way_key}
-use Rattle.msc_import_laws.proofs.Acts.IsEndAs.{Comes, Goes}
+use Rattle.msc_import_laws.proofs.Acts.{IsEndAs, act_at, act_by, alone_is, back_key, end_as, fall_of_end, home_of_input, in_act, in_back_act, key_of, one_source, out_act, out_back_act, sent_is, source, taken_is, the_in, the_in_back, the_out, the_out_back, way, way_number, way_source}
+use Rattle.msc_import_laws.proofs.Acts.IsEndAs.{Comes, ComesBack, Goes, GoesBack}
 use Rattle.msc_import_laws.proofs.Counts.{OnceEach, alones_once, count_mapped, count_same, few_pass, ins_once, is_alone, is_in, is_out, outs_once}
 use Rattle.msc_import_laws.proofs.Descent.{visual_down}
 use Rattle.msc_import_laws.proofs.EndLists.{End, IsEndOf, ends_on_lines, at_home, end_of, has_end}
 use Rattle.msc_import_laws.proofs.EndOrder.{Earlier, ends_apart, ends_ordered}
-use Rattle.msc_import_laws.proofs.EndPairs.{comes_in, goes_out}
-use Rattle.msc_import_laws.proofs.Parts.Side.{Out, In}
-use Rattle.msc_import_laws.proofs.Parts.{Side, fall, sides_on}
+use Rattle.msc_import_laws.proofs.EndPairs.{back_apart, comes_back, comes_in, goes_back, goes_out}
+use Rattle.msc_import_laws.proofs.Parts.Side.{Out, In, OutBack, InBack}
+use Rattle.msc_import_laws.proofs.Parts.{Side, fall, is_back, sides_on}
 use Rattle.msc_import_laws.proofs.Sections.{Doing, heights_are, doing, draft_does, end_does, plans_many, section_named, sections_are, sections_from, sections_many, the_draft}
+
+-- tests that are the other way round
+same_not : (a b : Bool) → not a ≡ not b → a ≡ b
+same_not true true e = refl
+same_not true false e = cc
+same_not false true e = cc
+same_not false false e = refl
+
+not_so : (b : Bool) → not b ≡ true → b ≡ false
+not_so true e = cc
+not_so false e = refl
+
+so : (b : Bool) → not b ≡ false → b ≡ true
+so true e = refl
+so false e = cc
+
+some_number : (a b : List ℕ) → ◌≡◌ {A = Option (List ℕ)} (Some a) (Some b) → a ≡ b
+some_number a b e = cc
+
+-- the second output of an arrow is one below the first
+one_below : (a b : ℕ) (x y : Bool) → 4 * a + cond x 1 0 ≡ 4 * b + cond y 1 0 + 1 → (a ≡ b) × (x ≡ true) × (y ≡ false)
+one_below a b true false e = (omega (arith, e), refl, refl)
+one_below a b true true e = absurd (omega (arith, e))
+one_below a b false true e = absurd (omega (arith, e))
+one_below a b false false e = absurd (omega (arith, e))
 
 module _ (manner : Manner) (name : List ℕ) (lines names : List (List ℕ)) (ps : List Placed) (ss : List Step) (plans : List Plan)
     (planned : plans_of manner ss (length lines) ≡ Ok plans) (told : IsToldApart (length lines) names ss) where
@@ -114,11 +139,30 @@ module _ (manner : Manner) (name : List ℕ) (lines names : List (List ℕ)) (ps
   act_stands e x h = subst (λ l. StandsAt l e (act_at names x)) (sym acts_told) (place-map (act_at names) ends e x h)
 
   -- ends of messages with one number are of one step
-  one_step : (x y : End) → IsEndOf manner.own ss x → IsEndOf manner.own ss y → fitted x.message.number ≡ fitted y.message.number → (a : ℕ) × (x.height ≡ 2 * a + fall x.side) × (y.height ≡ 2 * a + fall y.side) × (x.message ≡ y.message)
+  one_step : (x y : End) → IsEndOf manner.own ss x → IsEndOf manner.own ss y → fitted x.message.number ≡ fitted y.message.number → (a : ℕ) × (x.height ≡ 4 * a + fall x.side) × (y.height ≡ 4 * a + fall y.side) × (x.message ≡ y.message) × StandsAt ss a (steps.Meets x.message)
   one_step x y p q e =
       let same = told.arrows_apart p.step q.step x.message y.message p.met q.met e in
       let one : Some (steps.Meets x.message) ≡ Some (steps.Meets y.message) = sym p.met ∙ ap (slice_get ss) same ∙ q.met in
-      (p.step, p.high, q.high ∙ ap (λ (k : ℕ). 2 * k + fall y.side) (sym same), cc)
+      (p.step, p.high, q.high ∙ ap (λ (k : ℕ). 4 * k + fall y.side) (sym same), cc, p.met)
+
+  -- who sends is a line
+  source_within : (x : End) → IsEndOf manner.own ss x → source x.message x.side < length lines
+  source_within x p =
+      elim (is_back x.side) as (λ b. cond b x.message.to x.message.from < length lines) [
+        | true ↦ (told.known p.step x.message p.met).1
+        | false ↦ (told.known p.step x.message p.met).0
+      ]
+
+  -- ends of messages of one arrow and one sender are of one message
+  one_way : (x y : End) (u v : MessageEnd) → IsEndOf manner.own ss x → IsEndOf manner.own ss y → IsEndAs names x.message x.side u → IsEndAs names y.message y.side v
+      → x.message ≡ y.message → u.key ≡ v.key → is_back x.side ≡ is_back y.side
+  one_way x y u v p q i j same key =
+      let senders = way_source names x.message x.side u i ∙ ap (λ (k : Key). k.sender) key ∙ sym (way_source names y.message y.side v j) in
+      let here = told.lines_apart (source x.message x.side) (source y.message y.side) (source_within x p) (source_within y q) senders in
+      one_source x.message x.side y.side
+      (λ b e. back_apart manner.own x.line x.message x.side b p.side e)
+      (λ b e. back_apart manner.own y.line y.message y.side b q.side (ap (λ (m : Message). m.from) (sym same) ∙ e ∙ ap (λ (m : Message). m.to) same))
+      (here ∙ ap (λ (m : Message). source m y.side) (sym same))
 
   -- equal ends stand at one place
   once : (e f : ℕ) (y : MessageEnd) → StandsAt (acts_of d) e (OfMessage y) → StandsAt (acts_of d) f (OfMessage y) → e ≡ f
@@ -126,10 +170,14 @@ module _ (manner : Manner) (name : List ℕ) (lines names : List (List ℕ)) (ps
   once e f y h k =
       let p = of_end e y h in
       let q = of_end f y k in
-      let same : fall p.end.side ≡ fall q.end.side = way names p.end.message p.end.side y p.is ∙ sym (way names q.end.message q.end.side y q.is) in
-      let number = key_number names p.end.message q.end.message (way_key names p.end.message p.end.side y p.is ∙ sym (way_key names q.end.message q.end.side y q.is)) in
+      let number = some_number (fitted p.end.message.number) (fitted q.end.message.number) (way_number names p.end.message p.end.side y p.is ∙ sym (way_number names q.end.message q.end.side y q.is)) in
       let step = one_step p.end q.end p.of q.of number in
-      ends_apart manner.own ss 0 (length lines) e f p.end q.end p.stands q.stands (step.1 ∙ ap (λ (t : ℕ). 2 * step.0 + t) same ∙ sym step.2)
+      let back = one_way p.end q.end y y p.of q.of p.is q.is step.3 refl in
+      let taking = same_not (is_in p.end.side) (is_in q.end.side) (way names p.end.message p.end.side y p.is ∙ sym (way names q.end.message q.end.side y q.is)) in
+      let same : fall p.end.side ≡ fall q.end.side =
+      fall_of_end names p.end.message p.end.side y p.is ∙ ap (λ (b : Bool). cond b 1 0 + cond (is_in p.end.side) 2 0) back ∙ ap (λ (b : Bool). cond (is_back q.end.side) 1 0 + cond b 2 0) taking
+      ∙ sym (fall_of_end names q.end.message q.end.side y q.is) in
+      ends_apart manner.own ss 0 (length lines) e f p.end q.end p.stands q.stands (step.1 ∙ ap (λ (t : ℕ). 4 * step.0 + t) same ∙ sym step.2)
 
   -- an end that a step has occurs in the acts
   end_occurs : (i k : ℕ) (m : Message) (s : Side) → k < length lines → StandsAt ss i (steps.Meets m) → Occurs (sides_on manner.own k m) s → Occurs (acts_of d) (act_by names k m s)
@@ -137,16 +185,20 @@ module _ (manner : Manner) (name : List ℕ) (lines names : List (List ℕ)) (ps
   end_occurs i k m s lt h o =
       let number : 0 + k ≡ k = omega arith in
       let r = has_end manner.own ss 0 (length lines) k i m s lt h (subst (λ (l : ℕ). Occurs (sides_on manner.own l m) s) (sym number) o) in
-      let x : End = record { line = 0 + k; height = 2 * i + fall s; message = m; side = s } in
+      let x : End = record { line = 0 + k; height = 4 * i + fall s; message = m; side = s } in
       (r.0, subst (StandsAt (acts_of d) r.0) (ap (λ (l : ℕ). act_by names l m s) number) (act_stands r.0 x r.1))
 
   -- the other end of each end is there
   other_there : (i line : ℕ) (m : Message) (s : Side) (y : MessageEnd) → StandsAt ss i (steps.Meets m) → Occurs (sides_on manner.own line m) s → IsEndAs names m s y → Occurs (acts_of d) (OfMessage (other_end y))
-  unfolding the_out the_in
+  unfolding the_out the_in the_out_back the_in_back
   other_there i line m s y met o Goes =
       subst (Occurs (acts_of d)) (in_act names m.to m refl) (end_occurs i m.to m In (told.known i m met).1 met (comes_in manner.own line m o))
   other_there i line m s y met o Comes =
       subst (Occurs (acts_of d)) (out_act names m.from m refl) (end_occurs i m.from m Out (told.known i m met).0 met (goes_out manner.own line m o))
+  other_there i line m s y met o GoesBack =
+      subst (Occurs (acts_of d)) (in_back_act names m.from m refl) (end_occurs i m.from m InBack (told.known i m met).0 met (comes_back manner.own line m o))
+  other_there i line m s y met o ComesBack =
+      subst (Occurs (acts_of d)) (out_back_act names m.to m refl) (end_occurs i m.to m OutBack (told.known i m met).1 met (goes_back manner.own line m o))
 
   other_occurs : (e : ℕ) (y : MessageEnd) → StandsAt (acts_of d) e (OfMessage y) → Occurs (acts_of d) (OfMessage (other_end y))
   other_occurs e y h = let p = of_end e y h in other_there p.of.step p.end.line p.end.message p.end.side y p.of.met p.of.side p.is
@@ -180,9 +232,11 @@ module _ (manner : Manner) (name : List ℕ) (lines names : List (List ℕ)) (ps
       omega (arith, same, low)
 
   address_there : (i : ℕ) (m : Message) (s : Side) (y : MessageEnd) → StandsAt ss i (steps.Meets m) → IsEndAs names m s y → Occurs (instances_of d) (address_of y)
-  unfolding the_out the_in key_of
+  unfolding the_out the_in the_out_back the_in_back key_of back_key
   address_there i m s y met Goes = (m.to, instance_at m.to (told.known i m met).1)
   address_there i m s y met Comes = (m.from, instance_at m.from (told.known i m met).0)
+  address_there i m s y met GoesBack = (m.from, instance_at m.from (told.known i m met).0)
+  address_there i m s y met ComesBack = (m.to, instance_at m.to (told.known i m met).1)
 
   addresses_known : (e : ℕ) (a : Act) → StandsAt (acts_of d) e a → OfEnd (λ end. IsUnknown (instances_of d) (address_of end)) a → ⊥
   addresses_known e (OfMessage y) h u = let p = of_end e y h in u (address_there p.of.step p.end.message p.end.side y p.of.met p.is)
@@ -196,17 +250,17 @@ module _ (manner : Manner) (name : List ℕ) (lines names : List (List ℕ)) (ps
   counted : (p : Act → Bool) (q : Side → Bool) → ((x : End) → p (act_at names x) ≡ q x.side) → count_by p (acts_of d) ≡ count_by (λ (x : End). q x.side) ends
   counted p q same = ap (count_by p) acts_told ∙ count_mapped p (act_at names) ends ∙ count_same (λ x. p (act_at names x)) (λ (x : End). q x.side) same ends
 
-  few : (p : Act → Bool) (q : Side → Bool) → OnceEach manner.own q → ((x : End) → p (act_at names x) ≡ q x.side) → count_by p (acts_of d) ≤ count_by is_arrow ss
+  few : (p : Act → Bool) (q : Side → Bool) → OnceEach manner.own q → ((x : End) → p (act_at names x) ≡ q x.side) → count_by p (acts_of d) ≤ sum_by messages_in ss
   unfolding ends
   few p q each same = let a = counted p q same in let b = few_pass manner.own q each ss 0 (length lines) in omega (arith, a, b)
 
-  few_sent : count_by is_sent (acts_of d) ≤ count_by is_arrow ss
+  few_sent : count_by is_sent (acts_of d) ≤ sum_by messages_in ss
   few_sent = few is_sent is_out (outs_once manner.own) (λ x. sent_is names x.line x.message x.side)
 
-  few_taken : count_by is_taken (acts_of d) ≤ count_by is_arrow ss
+  few_taken : count_by is_taken (acts_of d) ≤ sum_by messages_in ss
   few_taken = few is_taken is_in (ins_once manner.own) (λ x. taken_is names x.line x.message x.side)
 
-  few_alone : count_by is_action (acts_of d) ≤ count_by is_arrow ss
+  few_alone : count_by is_action (acts_of d) ≤ sum_by messages_in ss
   few_alone = few is_action is_alone (alones_once manner.own) (λ x. alone_is names x.line x.message x.side)
 
   not_too_many : AreTooMany (acts_of d) → ⊥
@@ -277,32 +331,108 @@ module _ (manner : Manner) (name : List ℕ) (lines names : List (List ℕ)) (ps
         | inr ge ↦ let r = (chart_in_text_order d).rising f e ge a (sym same) in absurd (omega (arith, r, less))
       ]
 
-  sent_by : (s : ℕ) (a : Act) → StandsAt (acts_of d) s a → sends (act_kind a) ≡ true → height heights (partner_of (acts_of d) s a) ≡ height heights s + 1
-  sent_by s (OfMessage y) h out =
-      let sending : y.sends ≡ true = elim y.sends as (λ b. sends (cond b Output Input) ≡ true → b ≡ true) [ true ↦ λ q. refl | false ↦ λ q. cc ] out in
+  -- an output and its input, and of which ends of an arrow they are
+  record Sending (s f : ℕ) : Type 0 where
+    out : End
+    out_stands : StandsAt ends s out
+    out_of : IsEndOf manner.own ss out
+    into : End
+    into_stands : StandsAt ends f into
+    into_of : IsEndOf manner.own ss into
+    step : ℕ
+    out_high : out.height ≡ 4 * step + cond (is_back out.side) 1 0
+    into_high : into.height ≡ 4 * step + (cond (is_back out.side) 1 0 + 2)
+    line_is : into.line ≡ cond (is_back out.side) out.message.from out.message.to
+    met : StandsAt ss step (steps.Meets out.message)
+    within : f < length (acts_of d)
+
+  sending : (s : ℕ) (y : MessageEnd) → StandsAt (acts_of d) s (OfMessage y) → y.sends ≡ true → Sending s (end_place (acts_of d) (other_end y))
+  unfolding ends
+  sending s y h out =
       let o = other_occurs s y h in
       let f : ℕ = end_place (acts_of d) (other_end y) in
       let there : StandsAt (acts_of d) f (OfMessage (other_end y)) = (place-stands (acts_of d) (other_end y) o.0 o.1).0 in
       let p = of_end s y h in
       let q = of_end f (other_end y) there in
-      let number = key_number names p.end.message q.end.message (way_key names p.end.message p.end.side y p.is ∙ sym (way_key names q.end.message q.end.side (other_end y) q.is)) in
+      let number = some_number (fitted p.end.message.number) (fitted q.end.message.number) (way_number names p.end.message p.end.side y p.is ∙ sym (way_number names q.end.message q.end.side (other_end y) q.is)) in
       let step = one_step p.end q.end p.of q.of number in
-      let up : fall p.end.side ≡ 0 = way names p.end.message p.end.side y p.is ∙ ap (λ (b : Bool). cond b 0 1) sending in
-      let down : fall q.end.side ≡ 1 = way names q.end.message q.end.side (other_end y) q.is ∙ ap (λ (b : Bool). cond (not b) 0 1) sending in
-      let hp = height_is s p.end p.stands in
-      let hq = height_is f q.end q.stands in
+      let back = one_way p.end q.end y (other_end y) p.of q.of p.is q.is step.3 refl in
+      let goes : is_in p.end.side ≡ false = not_so (is_in p.end.side) (way names p.end.message p.end.side y p.is ∙ out) in
+      let comes : is_in q.end.side ≡ true = so (is_in q.end.side) (way names q.end.message q.end.side (other_end y) q.is ∙ ap not out) in
+      let up = fall_of_end names p.end.message p.end.side y p.is ∙ ap (λ (b : Bool). cond (is_back p.end.side) 1 0 + cond b 2 0) goes in
+      let down = fall_of_end names q.end.message q.end.side (other_end y) q.is ∙ ap (λ (b : Bool). cond (is_back q.end.side) 1 0 + cond b 2 0) comes ∙ ap (λ (b : Bool). cond b 1 0 + 2) (sym back) in
       let one = step.1 in
       let two = step.2 in
-      omega (arith, hp, hq, one, two, up, down)
-  sent_by s (Action text) h out = cc
+      let line = at_home manner.own q.end.line q.end.message q.end.side q.of.side ∙ home_of_input names q.end.message q.end.side (other_end y) q.is comes in
+      record {
+        out = p.end;
+        out_stands = p.stands;
+        out_of = p.of;
+        into = q.end;
+        into_stands = q.stands;
+        into_of = q.of;
+        step = step.0;
+        out_high = omega (arith, one, up);
+        into_high = two ∙ ap (λ (n : ℕ). 4 * step.0 + n) down;
+        met = step.4;
+        line_is = line ∙ ap (λ (b : Bool). cond b q.end.message.from q.end.message.to) (sym back) ∙ ap (λ (m : Message). cond (is_back p.end.side) m.from m.to) (sym step.3);
+        within = slice_get_within (acts_of d) f (OfMessage (other_end y)) there;
+      }
 
-  sent : (s : ℕ) → IsTrue (is_output (chart_events d) s) → height heights (partner (chart_events d) s) ≡ height heights s + 1
+  sends_so : (y : MessageEnd) → sends (act_kind (OfMessage y)) ≡ true → y.sends ≡ true
+  sends_so y out = elim y.sends as (λ b. sends (cond b Output Input) ≡ true → b ≡ true) [ true ↦ λ q. refl | false ↦ λ q. cc ] out
+
+  -- the same of an output of the chart
+  sending_act : (s : ℕ) (a : Act) → StandsAt (acts_of d) s a → sends (act_kind a) ≡ true → Sending s (partner_of (acts_of d) s a)
+  sending_act s (OfMessage y) h out = sending s y h (sends_so y out)
+  sending_act s (Action text) h out = cc
+
+  sending_of : (s : ℕ) → IsTrue (is_output (chart_events d) s) → Sending s (partner (chart_events d) s)
   unfolding is_output kind partner
-  sent s h =
+  sending_of s h =
       let parts = and_parts _ _ h in
       let x = of_chart s (ltb-true s _ parts.0) in
       let out : sends (act_kind x.event.act) ≡ true = sym (ap (λ (v : ChartEvent). sends v.kind) x.at) ∙ parts.1 in
-      ap (λ (v : ChartEvent). height heights v.partner) x.at ∙ sent_by s x.event.act x.act out
+      subst (Sending s) (sym (ap (λ (v : ChartEvent). v.partner) x.at)) (sending_act s x.event.act x.act out)
+
+  sent : (s : ℕ) → IsTrue (is_output (chart_events d) s) → height heights (partner (chart_events d) s) ≡ height heights s + 2
+  sent s h =
+      let x = sending_of s h in
+      let hp = height_is s x.out x.out_stands in
+      let hq = height_is (partner (chart_events d) s) x.into x.into_stands in
+      let one = x.out_high in
+      let two = x.into_high in
+      omega (arith, hp, hq, one, two)
+
+  acts_many : length (acts_of d) ≡ length (events_of d)
+  unfolding acts_of
+  acts_many = length-map (events_of d) (λ v. v.act)
+
+  -- the line of an input
+  input_line : (s : ℕ) (h : IsTrue (is_output (chart_events d) s)) → line (chart_events d) (partner (chart_events d) s) ≡ (sending_of s h).into.line
+  unfolding line
+  input_line s h =
+      let x = sending_of s h in
+      let f : ℕ = partner (chart_events d) s in
+      let y = of_chart f (subst (λ (n : ℕ). f < n) (acts_many ∙ sym (chart_count d)) x.within) in
+      let same : y.end.end ≡ x.into = one_at ends f y.end.end x.into y.end.stands x.into_stands in
+      ap (λ (v : ChartEvent). v.line) y.at ∙ sym y.end.line ∙ ap (λ (e : End). e.line) same
+
+  -- where outputs stand right below each other, they are those of one arrow
+  crossing : (s t : ℕ) → IsTrue (is_output (chart_events d) s) → IsTrue (is_output (chart_events d) t) → height heights t ≡ height heights s + 1
+      → line (chart_events d) (partner (chart_events d) s) ≡ line (chart_events d) (partner (chart_events d) t) → ⊥
+  crossing s t h k next same =
+      let x = sending_of s h in
+      let y = sending_of t k in
+      let hs = height_is s x.out x.out_stands in
+      let ht = height_is t y.out y.out_stands in
+      let near : 4 * y.step + cond (is_back y.out.side) 1 0 ≡ 4 * x.step + cond (is_back x.out.side) 1 0 + 1 = sym y.out_high ∙ sym ht ∙ next ∙ ap (λ n. n + 1) (hs ∙ x.out_high) in
+      let both = one_below y.step x.step (is_back y.out.side) (is_back x.out.side) near in
+      let arrow : Some (steps.Meets x.out.message) ≡ Some (steps.Meets y.out.message) = sym x.met ∙ ap (slice_get ss) (sym both.0) ∙ y.met in
+      let one : x.out.message ≡ y.out.message = cc in
+      let lines : cond (is_back x.out.side) x.out.message.from x.out.message.to ≡ cond (is_back y.out.side) y.out.message.from y.out.message.to = sym x.line_is ∙ sym (input_line s h) ∙ same ∙ input_line t k ∙ y.line_is in
+      let to : x.out.message.to ≡ y.out.message.from = sym (ap (λ (b : Bool). cond b x.out.message.from x.out.message.to) both.2) ∙ lines ∙ ap (λ (b : Bool). cond b y.out.message.from y.out.message.to) both.1 in
+      back_apart manner.own y.out.line y.out.message y.out.side both.1 y.out_of.side (sym to ∙ ap (λ (m : Message). m.to) one)
 
   -- as many heights as events
   as_many : length heights ≡ length (chart_events d)
@@ -312,7 +442,7 @@ module _ (manner : Manner) (name : List ℕ) (lines names : List (List ℕ)) (ps
       ∙ sym (length-map ends (end_does names)) ∙ sym (ap length all_do) ∙ length-map (events_of d) doing ∙ sym (chart_count d)
 
   drawn_down : AreDrawnAt heights (chart_events d)
-  drawn_down = record { each = as_many; apart = apart; falls = falls; sent = sent }
+  drawn_down = record { each = as_many; apart = apart; falls = falls; sent = sent; crossing = crossing }
 
   pub is_drawn_down : IsDrawnDown (heights_of manner.own ss (length lines)) (tree_of name (sections_on lines names ps 0 plans []))
   unfolding d heights
@@ -333,7 +463,7 @@ module _ (manner : Manner) (name : List ℕ) (lines names : List (List ℕ)) (ps
       let high : height (heights_of manner.own ss (length lines)) e ≡ x.height = ap (λ (hs : List ℕ). height hs e) (heights_are manner.own ss (length lines)) ∙ height_is e x r.stands in
       let up = of.high in
       let small = fall_small x.side in
-      let step : height (heights_of manner.own ss (length lines)) e / 2 ≡ of.step = omega (arith, high, up, small) in
+      let step : height (heights_of manner.own ss (length lines)) e / 4 ≡ of.step = omega (arith, high, up, small) in
       let falls = part.3 in
       record {
         arrow = steps.Meets x.message;

@@ -1,63 +1,72 @@
 -- A walk meets each arrow once in each of its rounds: the numbers of the arrows that it meets differ.
-use Rattle.std.proofs.Common.{◌≡◌, ℕ, zero, suc, ◌+◌, ◌<◌, nat_lt, take, drop, sym, arith, List, [], ◌∷◌, refl, ap, subst, ◌∙◌}
+use Rattle.std.proofs.Common.{◌≡◌, ℕ, zero, suc, ◌+◌, ◌<◌, Bool, nat_le, ◌==◌, take, drop, sym, arith, List, [], ◌∷◌, refl, ap, subst, ◌∙◌}
 use Rattle.std.specs.List.{AllByRecursion}
-use Rattle.std.proofs.lemmas.Bool.{ltb-true}
+use Rattle.std.proofs.lemmas.Bool.{leb-true}
 use Rattle.std.proofs.lemmas.List.{append-nil}
 use Rattle.msc_chart.specs.Lists.{StandsAt, Occurs}
 use Rattle.msc_chart.proofs.ListLemmas.{by_test}
-use Rattle.msc_import.specs.declared.TheConstants.{ARROW_LIMIT}
-use Rattle.msc_import.specs.declared.course.Message.{Message}
-use Rattle.msc_import.specs.declared.course.Step.TheVariants as steps
-use Rattle.msc_import.specs.declared.statement.Arrow.{Arrow}
-use Rattle.msc_import.specs.declared.statement.Placed.{Placed}
-use Rattle.msc_import.specs.declared.statement.Statement.{Statement}
-use Rattle.msc_import.specs.declared.statement.Statement.TheVariants.{Declares, Says, Begins, Closes}
-use Rattle.msc_import.specs.Courses.{Walk, Walker, block, extent, meet, message_of, one, owned_by, then, walk, walk_on}
+use Rattle.msc_scenarios.specs.declared.TheConstants.{ARROW_LIMIT}
+use Rattle.msc_scenarios.specs.declared.course.Message.{Message}
+use Rattle.msc_scenarios.specs.declared.course.Step.TheVariants as steps
+use Rattle.msc_mermaid.specs.declared.statement.Arrow.{Arrow}
+use Rattle.msc_mermaid.specs.declared.statement.Placed.{Placed}
+use Rattle.msc_mermaid.specs.declared.statement.Statement.{Statement}
+use Rattle.msc_mermaid.specs.declared.statement.Statement.TheVariants.{Declares, Says, Begins, Closes}
+use Rattle.msc_scenarios.specs.Courses.{Walk, Walker, block, extent, heads, is_choice, is_loss, meet, message_of, one, owned_by, said, then, walk, walk_on}
 use Rattle.msc_import_laws.specs.Outlined.{AreDistinct, Differ}
 use Rattle.msc_import_laws.proofs.Distinct.{distinct_drop, distinct_take, in_drop, in_take, parts_differ}
 use Rattle.msc_import_laws.proofs.Growth.{Grows, grows_none, grows_same, grows_then, grows_wider}
 use Rattle.msc_import_laws.proofs.Numbers.{IsRound}
 use Rattle.msc_import_laws.proofs.MetArrows.{AreLow, IsMet, Meets, apart_met, met_wider}
-use Rattle.msc_import_laws.proofs.MetBlocks.{block_grows}
+use Rattle.msc_import_laws.proofs.MetBlocks.{block_grows, choice_grows}
 use Rattle.msc_import_laws.proofs.Stands.{first_joined}
 
 module _ (lines : List (List ℕ)) (d : ℕ) (inner : Walker) (good : Meets lines d inner) where
   -- an arrow
-  meet_grows : (p : Placed) (a : Arrow) (rounds : List ℕ) (w : Walk) → p.statement ≡ Says a → p.number < 10000000 → w.lines ≡ lines → Grows (IsMet lines (d + 1) (p ∷ []) rounds) w (meet p a rounds w)
+  meet_grows : (p : Placed) (a : Arrow) (lost : Bool) (rounds : List ℕ) (w : Walk) → p.statement ≡ Says a → p.number < 10000000 → w.lines ≡ lines → Grows (IsMet lines (d + 1) (p ∷ []) rounds) w (meet p a lost rounds w)
   unfolding meet
-  meet_grows p a rounds w says small same =
-      by_test (nat_lt w.arrows ARROW_LIMIT)
+  meet_grows p a lost rounds w says small same =
+      by_test (nat_le (w.arrows + heads a) ARROW_LIMIT)
       (λ room. rw room (record {
-        new = steps.Meets (message_of w.lines p a rounds) ∷ [];
+        new = steps.Meets (message_of w.lines p a lost rounds) ∷ [];
         steps = refl;
         lines = refl;
         arrows = omega arith;
-        few = λ k. let lt = ltb-true w.arrows ARROW_LIMIT room in omega (arith, lt);
+        few = λ k. leb-true (w.arrows + heads a) ARROW_LIMIT room;
         made = record {
           each = λ i m h. record {
             placed = p;
             arrow = a;
+            lost = lost;
             more = [];
             stands = (0, refl);
             says = says;
             low = small;
             few = omega arith;
             short = tt;
-            is = sym (only i m h) ∙ ap (λ (l : List (List ℕ)). message_of l p a rounds) same ∙ ap (message_of lines p a) (sym (append-nil rounds));
+            is = sym (only i m h) ∙ ap (λ (l : List (List ℕ)). message_of l p a lost rounds) same ∙ ap (message_of lines p a lost) (sym (append-nil rounds));
           };
           apart = λ i j m n h k e. alone i j m n h k;
         };
       }))
       (λ full. rw full (grows_none (IsMet lines (d + 1) (p ∷ []) rounds) w _ refl refl refl))
     where
-      only : (i : ℕ) (m : Message) → StandsAt (steps.Meets (message_of w.lines p a rounds) ∷ []) i (steps.Meets m) → message_of w.lines p a rounds ≡ m
+      only : (i : ℕ) (m : Message) → StandsAt (steps.Meets (message_of w.lines p a lost rounds) ∷ []) i (steps.Meets m) → message_of w.lines p a lost rounds ≡ m
       only zero m h = cc
       only (suc i) m h = cc
 
-      alone : (i j : ℕ) (m n : Message) → StandsAt (steps.Meets (message_of w.lines p a rounds) ∷ []) i (steps.Meets m) → StandsAt (steps.Meets (message_of w.lines p a rounds) ∷ []) j (steps.Meets n) → i ≡ j
+      alone : (i j : ℕ) (m n : Message) → StandsAt (steps.Meets (message_of w.lines p a lost rounds) ∷ []) i (steps.Meets m) → StandsAt (steps.Meets (message_of w.lines p a lost rounds) ∷ []) j (steps.Meets n) → i ≡ j
       alone zero zero m n h k = refl
       alone zero (suc j) m n h k = cc
       alone (suc i) j m n h k = cc
+
+  -- an arrow, by its choice if it has one
+  said_grows : (p : Placed) (a : Arrow) (rounds : List ℕ) (w : Walk) → p.statement ≡ Says a → p.number < 10000000 → w.lines ≡ lines → Grows (IsMet lines (d + 1) (p ∷ []) rounds) w (said p a rounds w)
+  unfolding said
+  said_grows p a rounds w says small same =
+      by_test (is_choice a)
+      (λ takes. rw takes (choice_grows (IsMet lines (d + 1) (p ∷ []) rounds) p.line 1 0 w (λ c. meet p a (c == 0) rounds) (λ c v le e. meet_grows p a (c == 0) rounds v says small (e ∙ same))))
+      (λ fixed. rw fixed (meet_grows p a (is_loss a.fate) rounds w says small same))
 
   -- statements, of which the first so many belong to one before them
   statements_grow : (n : ℕ) (ps : List Placed) (rounds : List ℕ) (w : Walk) → AreDistinct (drop n ps) → AreLow (drop n ps) → AllByRecursion IsRound rounds → w.lines ≡ lines
@@ -94,8 +103,8 @@ module _ (lines : List (List ℕ)) (d : ℕ) (inner : Walker) (good : Meets line
       by : ((n : ℕ) (v : Walk) → v.lines ≡ lines → Grows (IsMet lines (d + 1) (drop n ps) rounds) v (walk_on inner n ps rounds v))
           → (s : Statement) → p.statement ≡ s → Grows Here w (then (one inner p s ps rounds w) (walk_on inner (owned_by s ps) ps rounds))
       by more (Says a) is =
-          let v : Walk = meet p a rounds w in
-          let met = meet_grows p a rounds w is (low p (0, refl)) same in
+          let v : Walk = said p a rounds w in
+          let met = said_grows p a rounds w is (low p (0, refl)) same in
           grows_then (IsMet lines (d + 1) (p ∷ []) rounds) (IsMet lines (d + 1) (drop 0 ps) rounds) Here w v (walk_on inner 0 ps rounds) met (more 0 v (met.lines ∙ same))
           (apart_met lines (d + 1) (d + 1) (p ∷ []) (drop 0 ps) rounds rounds short short alone) first (later 0)
       by more (Begins kind) is =

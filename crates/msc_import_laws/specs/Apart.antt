@@ -1,32 +1,33 @@
 -- Courses whose arrows and lines are told apart by what is drawn of them. Each is a chart.
-use Rattle.std.specs.Prelude.{◌≡◌, ℕ, ◌<◌, ◌≤◌, Bool, true, false, List, [], length, count_by, Ok}
+use Rattle.std.specs.Prelude.{◌≡◌, ℕ, ◌<◌, ◌≤◌, cond, List, [], length, Ok}
+use Rattle.std.specs.List.{sum_by}
 use Rattle.msc_chart.specs.declared.TheConstants.{ACTION_LIMIT, INSTANCE_LIMIT, MESSAGE_LIMIT}
 use Rattle.msc_chart.specs.Drawings.{chart_events}
 use Rattle.msc_chart.specs.Faults.{IsFaultless}
 use Rattle.msc_chart.specs.Lists.{StandsAt}
 use Rattle.msc_parser.specs.Grammar.{Tree}
-use Rattle.msc_import.specs.declared.course.Message.{Message}
-use Rattle.msc_import.specs.declared.course.Step.{Step}
-use Rattle.msc_import.specs.declared.course.Step.TheVariants as steps
+use Rattle.msc_scenarios.specs.declared.course.Message.{Message}
+use Rattle.msc_scenarios.specs.declared.course.Step.{Step}
+use Rattle.msc_scenarios.specs.declared.course.Step.TheVariants as steps
 use Rattle.msc_import.specs.declared.plan.Manner.{Manner}
-use Rattle.msc_import.specs.declared.statement.Placed.{Placed}
+use Rattle.msc_mermaid.specs.declared.statement.Placed.{Placed}
 use Rattle.msc_import.specs.Drafting.{fitted, line_name, sections_on, tree_of}
 use Rattle.msc_import.specs.Plans.{Plan, plans_of}
 use Rattle.msc_import_laws.specs.Ends.{heights_of}
 use Rattle.msc_import_laws.specs.Heights.{AreDrawnAt}
 
--- the step is an arrow
-abbrev pub is_arrow : Step → Bool
-is_arrow (steps.Meets m) = true
-is_arrow step = false
+-- how many messages a step has
+abbrev pub messages_in : Step → ℕ
+messages_in (steps.Meets m) = cond m.both 2 1
+messages_in step = 0
 
 -- A course between so many lines of these names: the lines are told apart by the names that are drawn of
 -- them, the arrows by the numbers that are drawn of them, both ends of each arrow are lines, and neither are
 -- too many for a chart.
 pub record IsToldApart (lines : ℕ) (names : List (List ℕ)) (ss : List Step) : Type 0 where
   pub few_lines : lines ≤ INSTANCE_LIMIT
-  pub few_messages : count_by is_arrow ss ≤ MESSAGE_LIMIT
-  pub few_actions : count_by is_arrow ss ≤ ACTION_LIMIT
+  pub few_messages : sum_by messages_in ss ≤ MESSAGE_LIMIT
+  pub few_actions : sum_by messages_in ss ≤ ACTION_LIMIT
   pub lines_apart : (i j : ℕ) → i < lines → j < lines → fitted (line_name names i) ≡ fitted (line_name names j) → i ≡ j
   pub arrows_apart : (i j : ℕ) (m n : Message) → StandsAt ss i (steps.Meets m) → StandsAt ss j (steps.Meets n) → fitted m.number ≡ fitted n.number → i ≡ j
   pub known : (i : ℕ) (m : Message) → StandsAt ss i (steps.Meets m) → (m.from < lines) × (m.to < lines)

@@ -2,9 +2,9 @@
 use Rattle.std.specs.Prelude.{◌≡◌, List, ℕ, length, Ok}
 use Rattle.msc_parser.specs.Grammar.{Tree}
 use Rattle.msc_import.specs.declared.plan.Manner.{Manner}
-use Rattle.msc_import.specs.declared.statement.Diagram.{Diagram}
+use Rattle.msc_mermaid.specs.declared.statement.Diagram.{Diagram}
 use Rattle.msc_import.specs.Drafting.{drawn}
-use Rattle.msc_import.specs.Laws.{walked}
+use Rattle.msc_scenarios.specs.Laws.{walked}
 use Rattle.msc_import_laws.specs.Apart.{IsDrawnDown}
 use Rattle.msc_import_laws.specs.Ends.{heights_of}
 use Rattle.msc_import_laws.specs.Outlined.{IsOutlined}

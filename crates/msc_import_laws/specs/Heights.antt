@@ -2,8 +2,8 @@
 use Rattle.std.specs.Prelude.{◌≡◌, ℕ, ◌+◌, ◌<◌, List, [], length, get_or, IsTrue}
 use Rattle.msc_chart.specs.declared.event.ChartEvent.{ChartEvent}
 use Rattle.msc_chart.specs.Lists.{occurs, Steps}
-use Rattle.msc_chart.specs.Charts.{partner, is_output, before, Visual}
-use Rattle.msc_chart.specs.Orders.{WiredChart, Enforced, IsWired}
+use Rattle.msc_chart.specs.Charts.{partner, is_input, is_output, line, before, Visual}
+use Rattle.msc_chart.specs.Orders.{WiredChart, Enforced, IsWired, queue}
 use Rattle.msc_chart.specs.Runs.{Run, IsWhole, KeepsDrawnOrder}
 
 -- the height of event e
@@ -11,12 +11,13 @@ abbrev pub height : List ℕ → ℕ → ℕ
 height heights e = get_or heights e 0
 
 -- The events stand at these heights, one for each: no two at one, what is drawn before another above it, and
--- each input right below its output.
+-- each input two below its output. Where one more output stands between them, its input is on another line.
 pub record AreDrawnAt (heights : List ℕ) (events : List ChartEvent) : Type 0 where
   pub each : length heights ≡ length events
   pub apart : (e f : ℕ) → e < length events → f < length events → height heights e ≡ height heights f → e ≡ f
   pub falls : (e f : ℕ) → IsTrue (before events e f) → height heights e < height heights f
-  pub sent : (s : ℕ) → IsTrue (is_output events s) → height heights (partner events s) ≡ height heights s + 1
+  pub sent : (s : ℕ) → IsTrue (is_output events s) → height heights (partner events s) ≡ height heights s + 2
+  pub crossing : (s t : ℕ) → IsTrue (is_output events s) → IsTrue (is_output events t) → height heights t ≡ height heights s + 1 → line events (partner events s) ≡ line events (partner events t) → ⊥
 
 -- an event that is drawn below all of these
 pub record IsBelow (heights : List ℕ) (events : List ChartEvent) (past : List ℕ) (e : ℕ) : Type 0 where
@@ -46,10 +47,16 @@ pub record IsWholeRun (chart : WiredChart) (order : List ℕ) : Type 0 where
   pub whole : IsWhole chart order
   pub keeps : KeepsDrawnOrder chart order
 
+-- the inputs of a queue are on one line
+abbrev pub ShareLines : WiredChart → Type 0
+ShareLines chart =
+    (r u : ℕ) → IsTrue (is_input chart.events r) → IsTrue (is_input chart.events u) → queue chart r ≡ queue chart u
+    → line chart.events r ≡ line chart.events u
+
 -- the events from top to bottom are a whole run
 abbrev pub DownwardIsARun : Type 0
 DownwardIsARun =
-    (heights : List ℕ) (chart : WiredChart) (order : List ℕ) → IsWired chart → AreDrawnAt heights chart.events
+    (heights : List ℕ) (chart : WiredChart) (order : List ℕ) → IsWired chart → ShareLines chart → AreDrawnAt heights chart.events
     → IsDownward heights chart.events order → IsWholeRun chart order
 
 -- all events from top to bottom, and there is no other such list

@@ -13,14 +13,14 @@ use Rattle.msc_chart.specs.Orders.{Enforced, wired}
 use Rattle.msc_import.specs.declared.importing.Imported.{Imported}
 use Rattle.msc_import.specs.declared.importing.Language.{Language}
 use Rattle.msc_import.specs.declared.plan.Manner.{Manner}
-use Rattle.msc_import.specs.declared.statement.Cross.{Cross}
-use Rattle.msc_import.specs.declared.statement.Diagram.{Diagram}
+use Rattle.msc_mermaid.specs.declared.statement.Cross.{Cross}
+use Rattle.msc_mermaid.specs.declared.statement.Diagram.{Diagram}
 use Rattle.msc_import.specs.declared.whole.Scenario.{Scenario}
 use Rattle.msc_import.specs.declared.whole.Scenarios.{Scenarios}
 use Rattle.msc_import.specs.Drafting.{drawn}
 use Rattle.msc_import.specs.Importing.{Wanted, chosen, diagram_in, imported}
-use Rattle.msc_import.specs.Laws.{walked}
-use Rattle.msc_import.specs.Naming.{names_behind}
+use Rattle.msc_scenarios.specs.Laws.{walked}
+use Rattle.msc_scenarios.specs.Naming.{names_behind}
 use Rattle.msc_import.specs.Whole.{WantedAll, imported_all}
 use Rattle.msc_import_laws.specs.Drawn.{heights_in}
 use Rattle.msc_import_laws.specs.Ends.{IsEndOfItsArrow}
@@ -93,7 +93,7 @@ TheTextIsOneOrder =
 
 -- the number of an event's arrow in the course of a scenario
 abbrev pub arrow_at : Manner → Diagram → List ℕ → ℕ → ℕ
-arrow_at manner d given e = height (heights_in manner d given) e / 2
+arrow_at manner d given e = height (heights_in manner d given) e / 4
 
 -- each event of a scenario's draft is an end of its arrow
 abbrev pub EventsAreEndsOfTheirArrows : Type 0

@@ -1,11 +1,11 @@
 -- Diagrams as they are read: few lines, arrows between these lines, and each arrow with a number of its own.
 use Rattle.std.specs.Prelude.{◌≡◌, ◌<◌, ◌≤◌, List, [], ◌∷◌, length}
 use Rattle.msc_chart.specs.Lists.{Occurs}
-use Rattle.msc_import.specs.declared.TheConstants.{LINE_LIMIT}
-use Rattle.msc_import.specs.declared.statement.Arrow.{Arrow}
-use Rattle.msc_import.specs.declared.statement.Diagram.{Diagram}
-use Rattle.msc_import.specs.declared.statement.Placed.{Placed}
-use Rattle.msc_import.specs.declared.statement.Statement.TheVariants.{Says}
+use Rattle.msc_mermaid.specs.declared.TheConstants.{LINE_LIMIT}
+use Rattle.msc_mermaid.specs.declared.statement.Arrow.{Arrow}
+use Rattle.msc_mermaid.specs.declared.statement.Diagram.{Diagram}
+use Rattle.msc_mermaid.specs.declared.statement.Placed.{Placed}
+use Rattle.msc_mermaid.specs.declared.statement.Statement.TheVariants.{Says}
 
 -- two statements are not arrows of one number
 abbrev pub Differ : Placed → Placed → Type 0

@@ -12,7 +12,7 @@ ghost use Rattle.msc_import_laws.specs.Imports.{NoFaultIsFirst, ScenariosAreChar
 ghost use Rattle.msc_import_laws.specs.Imports.{TextsAreOutlined, TheTextIsARun};
 ghost use Rattle.msc_import_laws.specs.Imports.{TheTextIsOneOrder, VisualGoesDownTheText};
 
-use msc_chart::laws::ends_share_queues;
+use msc_chart::laws::{ends_share_queues, inputs_share_lines};
 
 /// Every draft that is imported is a chart: no fault of charts stands in it, so none is the first
 /// one. This holds of one scenario of a text, and of each of all of them.
@@ -22,7 +22,7 @@ pub fn imports_are_charts()
     ensures first { NoFaultIsFirst }
 {}
 
-/// The text is a run: from top to bottom, the output of an arrow before its input, the events of a
+/// The text is a run: from top to bottom, the outputs of an arrow before its inputs, the events of a
 /// scenario are a whole run of its chart under each architecture, and it keeps the drawn order.
 /// There is one such order of the events.
 pub fn the_text_is_a_run()
@@ -30,6 +30,7 @@ pub fn the_text_is_a_run()
     ensures order { TheTextIsOneOrder }
 {
     ends_share_queues();
+    inputs_share_lines();
 }
 
 /// What is enforced goes down the text, and so does the visual order: where one event comes before

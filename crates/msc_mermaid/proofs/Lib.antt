@@ -7,3 +7,5 @@ pub mod ColumnLemmas
 pub mod ReadingLemmas
 pub mod MermaidLemmas
 pub mod FenceLemmas
+pub mod StayLemmas
+pub mod LawLemmas

@@ -1,6 +1,6 @@
 -- How a line is cut into pieces, each of which is a statement: before each `;` that belongs to no entity, and
 -- up to a `#` that begins none.
-use Rattle.std.specs.Prelude.{ℕ, ◌+◌, Bool, true, false, cond, not, ◌&&◌, ◌==◌, nat_lt, List, [], ◌∷◌, length, Option, None, Some}
+use Rattle.std.specs.Prelude.{ℕ, ◌+◌, Bool, true, false, cond, not, ◌&&◌, ◌==◌, nat_lt, List, [], ◌∷◌, length}
 use Rattle.std.specs.List.{prefix_len}
 use Rattle.msc_lexer.specs.Bytes.{begins, is_run_byte}
 use Rattle.msc_mermaid.specs.declared.cutting.Turn.{Turn}

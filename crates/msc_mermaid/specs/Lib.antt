@@ -14,3 +14,4 @@ pub mod Outlines
 pub mod Reading
 pub mod Mermaid
 pub mod Fences
+pub mod Laws

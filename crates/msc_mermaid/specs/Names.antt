@@ -1,5 +1,5 @@
 -- Names of lines, and how lines are declared.
-use Rattle.std.specs.Prelude.{ℕ, ◌+◌, ◌-◌, Bool, cond, not, ◌||◌, ◌&&◌, ◌==◌, nat_lt, List, [], ◌∷◌, length, take, drop, get_or, codes, Option, None, Some, Result, Ok}
+use Rattle.std.specs.Prelude.{ℕ, ◌-◌, Bool, cond, not, ◌||◌, ◌==◌, nat_lt, List, length, take, drop, get_or, codes, Option, None, Some, Result, Ok}
 use Rattle.std.specs.List.{list_any, prefix_len, suffix_len}
 use Rattle.std.specs.Str.{bytes_eq}
 use Rattle.msc_mermaid.specs.declared.fault.Expectation.TheVariants as wanted

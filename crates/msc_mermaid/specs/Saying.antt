@@ -1,11 +1,11 @@
 -- What one statement of Mermaid says, in the words of the table.
-use Rattle.std.specs.Prelude.{ℕ, ◌+◌, Bool, true, false, cond, not, ◌||◌, ◌&&◌, ◌==◌, List, length, take, drop, Option, None, Some, is_some, Result, Ok, Err}
+use Rattle.std.specs.Prelude.{ℕ, ◌+◌, Bool, cond, not, ◌||◌, ◌&&◌, ◌==◌, List, length, take, drop, Option, None, Some, is_some, Result, Ok, Err}
 use Rattle.std.specs.List.{list_any}
 use Rattle.std.specs.Str.{bytes_eq}
 use Rattle.msc_lexer.specs.Bytes.{begins}
 use Rattle.msc_mermaid.specs.declared.fault.Expectation.TheVariants as wanted
 use Rattle.msc_mermaid.specs.declared.fault.ImportFault.{ImportFault}
-use Rattle.msc_mermaid.specs.declared.fault.ImportFault.TheVariants.{Expected, Unsupported, Cross as Crossed}
+use Rattle.msc_mermaid.specs.declared.fault.ImportFault.TheVariants.{Expected, Unsupported}
 use Rattle.msc_mermaid.specs.declared.head.Head.{Head}
 use Rattle.msc_mermaid.specs.declared.key.Mark.TheVariants as marks
 use Rattle.msc_mermaid.specs.declared.row.Meaning.{Meaning}
@@ -16,8 +16,9 @@ use Rattle.msc_mermaid.specs.declared.seeking.Sought.TheVariants as sought
 use Rattle.msc_mermaid.specs.declared.statement.Arrow.{Arrow}
 use Rattle.msc_mermaid.specs.declared.statement.Cross.{Cross}
 use Rattle.msc_mermaid.specs.declared.statement.Cross.TheVariants as crosses
-use Rattle.msc_mermaid.specs.declared.statement.Statement.{Statement}
-use Rattle.msc_mermaid.specs.declared.statement.Statement.TheVariants.{Declares, Says, Begins, Closes}
+use Rattle.msc_mermaid.specs.declared.statement.Fate.{Fate}
+use Rattle.msc_mermaid.specs.declared.statement.Fate.TheVariants as fates
+use Rattle.msc_mermaid.specs.declared.statement.Statement.TheVariants.{Says, Begins, Closes}
 use Rattle.msc_mermaid.specs.Gives.{◌>>=◌, unless}
 use Rattle.msc_mermaid.specs.Keys.{begin_so, head_of, head_text, is_crossed, is_double, is_leftward, mark_text}
 use Rattle.msc_mermaid.specs.Names.{declared, name_at, parted, sender, shown_text}
@@ -43,27 +44,26 @@ behind_sign bytes =
 abbrev pub dies : List (List ℕ) → List ℕ → List ℕ → Bool
 dies dying from to = list_any (λ d. bytes_eq d from || bytes_eq d to) dying
 
--- whether a cross is a loss
-abbrev pub cross_lost : Option Cross → ℕ → Result Bool ImportFault
-cross_lost None line = Err (Crossed line)
-cross_lost (Some crosses.Lost) line = Ok true
-cross_lost (Some crosses.Arrives) line = Ok false
+-- what a cross means; where that is not said, an arrow to oneself is what it is without a cross
+abbrev pub cross_fate : Option Cross → List ℕ → List ℕ → Fate
+cross_fate None from to = cond (bytes_eq from to) fates.Arrives fates.Either
+cross_fate (Some crosses.Lost) from to = fates.Lost
+cross_fate (Some crosses.Arrives) from to = fates.Arrives
 
--- whether the message of an arrow is lost
-unfoldable pub lost_at : Option Cross → List (List ℕ) → ℕ → Head → List ℕ → List ℕ → Result Bool ImportFault
-lost_at cross dying line head from to =
-    cond (is_crossed head && not (dies dying from to)) (cross_lost cross line) (Ok false)
+-- what becomes of the message of an arrow
+unfoldable pub fate_of : Option Cross → List (List ℕ) → Head → List ℕ → List ℕ → Fate
+fate_of cross dying head from to =
+    cond (is_crossed head && not (dies dying from to)) (cross_fate cross from to) fates.Arrives
 
 -- the arrow of these parts: what stands before its head, and what stands behind
 unfoldable pub arrow_by : Option Cross → List (List ℕ) → ℕ → Head → List ℕ → List ℕ → Result Arrow ImportFault
 arrow_by cross dying line head front rest = do
-  right ← unless (not (is_leftward head || is_double head)) (Unsupported line head) rest
+  right ← unless (not (is_leftward head)) (Unsupported line head) rest
   from ← sender line front
   behind ← no_second line (behind_white right)
   parts ← parted line marks.Colon wanted.Label (behind_sign behind)
   to ← name_at line parts.0
-  lost ← lost_at cross dying line head from to
-  Ok (record { from = from; to = to; label = shown_text parts.1; lost = lost })
+  Ok (record { from = from; to = to; label = shown_text parts.1; fate = fate_of cross dying head from to; both = is_double head })
 
 -- the arrow of a statement in which this head is the first, behind so many bytes
 abbrev pub arrow_with : Option Cross → List (List ℕ) → ℕ → List ℕ → ℕ → Option Head → Result Arrow ImportFault

@@ -65,7 +65,7 @@ pub(crate) enum Mark {
 }
 
 /// Whether the bytes are this text.
-pub(crate) fn are_spelled(bytes: &[u8], text: &[u8]) -> bool
+pub fn are_spelled(bytes: &[u8], text: &[u8]) -> bool
     ensures { result ≡ are_spelled bytes.now text.now }
 {
     bytes.eq_ignore_ascii_case(text)

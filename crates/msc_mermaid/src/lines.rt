@@ -50,7 +50,7 @@ pub(crate) fn before_blanks(bytes: &[u8]) -> &[u8]
 }
 
 /// The bytes without blanks at both ends.
-pub(crate) fn trimmed(bytes: &[u8]) -> &[u8]
+pub fn trimmed(bytes: &[u8]) -> &[u8]
     ensures { result.now ≡ trimmed bytes.now }
 {
     before_blanks(behind_blanks(bytes))
@@ -88,7 +88,7 @@ fn lines_behind(alloc: Global, text: &[u8]) -> Result<Vec<&[u8]>, AllocError>
 }
 
 /// The lines of a text, without their ends. The only error is want of memory.
-pub(crate) fn lines_of(alloc: Global, text: &[u8]) -> Result<Vec<&[u8]>, AllocError>
+pub fn lines_of(alloc: Global, text: &[u8]) -> Result<Vec<&[u8]>, AllocError>
     ensures { IfOk result (λ v. map (λ x. x.now) v.items ≡ lines_of text.now) }
 {
     lines_behind(alloc, behind_mark(text))

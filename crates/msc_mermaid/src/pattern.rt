@@ -53,7 +53,7 @@ pub(crate) enum Pattern {
 }
 
 /// Whether words are made of this byte.
-pub(crate) fn is_word_byte(byte: u8) -> bool
+pub fn is_word_byte(byte: u8) -> bool
     ensures { result ≡ is_run_byte byte }
 {
     byte.is_ascii_alphanumeric() || byte == b'_'

@@ -3,8 +3,8 @@
 ghost use Rattle.std.specs.Prelude.{◌≡◌};
 ghost use Rattle.msc_lexer.specs.Bytes.{begins};
 ghost use Rattle.msc_mermaid.specs.Gives.{Gives};
-ghost use Rattle.msc_mermaid.specs.Saying.{arrow_by, arrow_of, behind_sign, dies, is_sign};
-ghost use Rattle.msc_mermaid.specs.Saying.{lost_at, no_second, said_as, said_at};
+ghost use Rattle.msc_mermaid.specs.Saying.{arrow_by, arrow_of, behind_sign, dies, fate_of};
+ghost use Rattle.msc_mermaid.specs.Saying.{is_sign, no_second, said_as, said_at};
 
 use crate::declaring::{declared, shown_text};
 use crate::fault::{Expectation, ImportFault};
@@ -13,7 +13,7 @@ use crate::key::Mark;
 use crate::name::{name_at, owned, parted, sender};
 use crate::row::{Meaning, begins_dash, meaning_of};
 use crate::seeking::Sought;
-use crate::statement::{Arrow, Cross, Statement};
+use crate::statement::{Arrow, Cross, Fate, Statement};
 use crate::white::behind_white;
 use listed::Listed;
 use std::alloc::Global;
@@ -80,25 +80,19 @@ fn dies(dying: &[Listed<u8>], from: &[u8], to: &[u8]) -> bool
         .any(|line| line.as_slice() == from || line.as_slice() == to)
 }
 
-/// Whether the message of an arrow is lost.
-#[tactic(auto, unfolding(crate::specs::Saying::lost_at))]
-fn lost_at(
-    cross: Option<Cross>,
-    dying: &[Listed<u8>],
-    line: usize,
-    head: Head,
-    from: &[u8],
-    to: &[u8],
-) -> Result<bool, ImportFault>
-    ensures { Gives (λ x. x) result (lost_at cross dying.now line head from.now to.now) }
+/// What becomes of the message of an arrow.
+#[tactic(auto, unfolding(crate::specs::Saying::fate_of))]
+fn fate_of(cross: Option<Cross>, dying: &[Listed<u8>], head: Head, from: &[u8], to: &[u8]) -> Fate
+    ensures { result ≡ fate_of cross dying.now head from.now to.now }
 {
     if !head.is_crossed() || dies(dying, from, to) {
-        return Ok(false);
+        return Fate::Arrives;
     }
     match cross {
-        None => Err(ImportFault::Cross(line)),
-        Some(Cross::Lost) => Ok(true),
-        Some(Cross::Arrives) => Ok(false),
+        Some(Cross::Lost) => Fate::Lost,
+        Some(Cross::Arrives) => Fate::Arrives,
+        None if from == to => Fate::Arrives,
+        None => Fate::Either,
     }
 }
 
@@ -115,19 +109,20 @@ fn arrow_by(
     ensures { Gives (λ x. x) result
         (arrow_by mode.entry.cross mode.entry.dying.now line head front.now rest.now) }
 {
-    if head.is_leftward() || head.is_double() {
+    if head.is_leftward() {
         return Err(ImportFault::Unsupported(line, head));
     }
     let from = sender(line, front)?;
     let behind = no_second(line, behind_white(rest))?;
     let parts = parted(line, Mark::Colon, Expectation::Label, behind_sign(behind))?;
     let to = name_at(line, parts.0)?;
-    let lost = lost_at(mode.cross, mode.dying, line, head, from, to)?;
+    let fate = fate_of(mode.cross, mode.dying, head, from, to);
     Ok(Arrow {
         from: owned(alloc, from)?,
         to: owned(alloc, to)?,
         label: shown_text(alloc, parts.1)?,
-        lost,
+        fate,
+        both: head.is_double(),
     })
 }
 

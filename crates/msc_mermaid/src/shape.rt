@@ -36,7 +36,7 @@ pub(crate) fn is_front(bytes: &[u8]) -> bool
 }
 
 /// Whether the word stands here that a diagram begins with.
-fn is_head(bytes: &[u8]) -> bool
+pub fn is_head(bytes: &[u8]) -> bool
     ensures value { result ≡ is_head bytes.now }
     ensures room { IsTrue result → 15 ≤ length bytes.now }
 {

@@ -3,15 +3,27 @@
 use crate::row::{Closer, Kind};
 use listed::Listed;
 
-/// An arrow: one message, from a line to a line, each by its identifier. The label is what stands
-/// behind the arrow, any bytes.
+/// What becomes of an arrow's message.
+#[derive(Clone, Copy, Debug, PartialEq, Eq)]
+pub enum Fate {
+    /// Nobody takes it.
+    Lost,
+    /// It arrives.
+    Arrives,
+    /// Either: the arrow has a cross, and nothing says what that means.
+    Either,
+}
+
+/// An arrow, from a line to a line, each by its identifier. The label is what stands behind the
+/// arrow, any bytes.
 #[derive(Drop)]
 pub struct Arrow {
     pub from: Listed<u8>,
     pub to: Listed<u8>,
     pub label: Listed<u8>,
-    /// Nobody takes the message.
-    pub lost: bool,
+    pub fate: Fate,
+    /// It has a head on both sides: each of the two lines sends the other a message.
+    pub both: bool,
 }
 
 /// What one statement says.

@@ -1,12 +1,12 @@
 use Rattle.std.proofs.Common.{◌≡◌, length, Err, sym, ap, ◌∙◌, inr, subst}
 use Rattle.std.specs.List.{list_any}
 use Rattle.std.proofs.lemmas.List.{length-map}
-use Rattle.msc_import.specs.declared.fault.Expectation.TheVariants.{AnyDiagram}
-use Rattle.msc_import.specs.declared.fault.ImportFault.TheVariants.{Expected}
-use Rattle.msc_import.specs.declared.statement.Diagram.{Diagram}
-use Rattle.msc_import.specs.Gives.{Gives}
-use Rattle.msc_import.specs.Lines.{lines_of, trimmed}
-use Rattle.msc_import.specs.Mermaid.{is_head}
+use Rattle.msc_mermaid.specs.declared.fault.Expectation.TheVariants.{AnyDiagram}
+use Rattle.msc_mermaid.specs.declared.fault.ImportFault.TheVariants.{Expected}
+use Rattle.msc_mermaid.specs.declared.statement.Diagram.{Diagram}
+use Rattle.msc_mermaid.specs.Gives.{Gives}
+use Rattle.msc_mermaid.specs.Lines.{lines_of, trimmed}
+use Rattle.msc_mermaid.specs.Mermaid.{is_head}
 use Rattle.msc_import.proofs.ImportLemmas.{told_none, told_some}
 use Rattle.msc_import.proofs.importing.told_by_content.Goals as goal
 

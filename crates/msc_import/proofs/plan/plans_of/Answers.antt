@@ -1,7 +1,7 @@
 use Rattle.std.proofs.Common.{[], sym, ap, ◌∙◌, subst}
 use Rattle.std.proofs.lemmas.Result.{err_from_is_err_and}
 use Rattle.msc_import.specs.Plans.{planned_all}
-use Rattle.msc_import.specs.Gives.{Fails}
+use Rattle.msc_mermaid.specs.Gives.{Fails}
 use Rattle.msc_import.proofs.PlanLemmas.{plans_more, plans_fail, plans_end}
 use Rattle.msc_import.proofs.plan.plans_of.Goals as goal
 

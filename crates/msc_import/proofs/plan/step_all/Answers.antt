@@ -2,7 +2,7 @@ use Rattle.std.proofs.Common.{◌<◌, ◌≤◌, sym, ap, ◌∙◌, subst}
 use Rattle.std.proofs.lemmas.List.{length-set}
 use Rattle.std.proofs.lemmas.Result.{err_from_is_err_and}
 use Rattle.msc_import.specs.Plans.{planned}
-use Rattle.msc_import.specs.Gives.{Fails}
+use Rattle.msc_mermaid.specs.Gives.{Fails}
 use Rattle.msc_import.proofs.PlanLemmas.{all_more, all_fails, all_end}
 use Rattle.msc_import.proofs.plan.step_all.Goals as goal
 

@@ -3,7 +3,7 @@ use Rattle.std.specs.List.{All}
 use Rattle.std.proofs.lemmas.List.Elements.{All-push}
 use Rattle.std.proofs.lemmas.Result.{err_from_is_err_and}
 use Rattle.msc_import.specs.Drafting.{IsReadAgain}
-use Rattle.msc_import.specs.Gives.{Fails}
+use Rattle.msc_mermaid.specs.Gives.{Fails}
 use Rattle.msc_import.specs.Whole.{scenario_with, scenarios_on}
 use Rattle.msc_import.proofs.WholeLemmas.{whole_more, whole_fails, whole_end}
 use Rattle.msc_import.proofs.whole.scenarios_with.Goals as goal

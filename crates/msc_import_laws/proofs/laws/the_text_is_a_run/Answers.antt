@@ -7,6 +7,6 @@ pub returns : goal.returns
 returns c = record {
   run = λ how manner text d given draft queues order is down.
       let none = (scenario_drawn how manner text d given draft is).faultless in
-      scenario_run how manner text d given draft is queues order (c.ends_share_queues.ensures queues (chart_of draft) (accepted draft none)) down;
+      scenario_run how manner text d given draft is queues order (c.ends_share_queues.ensures queues (chart_of draft) (accepted draft none)) (λ r u i j same. c.inputs_share_lines.ensures queues (chart_of draft) r u (accepted draft none) i j same) down;
   order = scenario_order;
 }

@@ -1,6 +1,5 @@
 use Rattle.std.proofs.Common.{◌+◌, get_or, map, sym, ap, ◌∙◌}
 use Rattle.std.proofs.lemmas.List.{map-append, take_rest}
-use Rattle.msc_mermaid.specs.declared.cutting.Turn.TheVariants as turns
 use Rattle.msc_mermaid.specs.Cutting.{turn_at}
 use Rattle.msc_mermaid.proofs.CuttingLemmas.{cut_start, cut_ends, cut_here, cut_past, cut_whole}
 use Rattle.msc_mermaid.proofs.cutting.cut.Goals as goal

@@ -1,4 +1,4 @@
-use Rattle.std.proofs.Common.{◌≡◌, ◌+◌, ◌-◌, ◌==◌, cond, drop, sym, ap, ◌∙◌, arith}
+use Rattle.std.proofs.Common.{◌+◌, ◌-◌, ◌==◌, cond, drop, sym, ap, ◌∙◌}
 use Rattle.std.proofs.lemmas.List.{take_rest}
 use Rattle.msc_mermaid.specs.White.{ahead, body}
 use Rattle.msc_mermaid.proofs.WhiteLemmas.{body_next, body_end, ends, ends_on, ends_within}

@@ -1,6 +1,6 @@
-use Rattle.std.proofs.Common.{◌≡◌, ◌+◌, [], length, take, drop, count_by, get_or, sym, ap, ◌∙◌, arith}
+use Rattle.std.proofs.Common.{◌+◌, [], length, take, drop, count_by, get_or, sym, ap, ◌∙◌, arith}
 use Rattle.std.proofs.lemmas.Result.{err_from_is_err_and}
-use Rattle.msc_mermaid.specs.Lines.{column_behind, is_counted}
+use Rattle.msc_mermaid.specs.Lines.{is_counted}
 use Rattle.msc_mermaid.specs.White.{front}
 use Rattle.msc_mermaid.proofs.ColumnLemmas.{column_add}
 use Rattle.msc_mermaid.proofs.ReadingLemmas.{next_room, reads_next, fails_next, reads_end}

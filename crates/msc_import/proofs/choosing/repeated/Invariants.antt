@@ -1,7 +1,0 @@
-use Rattle.std.proofs.Common.{◌≡◌, ◌-◌}
-use Rattle.msc_import.specs.Choosing.{repeated, straight}
-use Rattle.msc_import.proofs.choosing.repeated.Given as goal
-
-abbrev pub invariant-loop : goal.invariant-loop
-invariant-loop l =
-    repeated l.body (l.count - l.counter) l.ways.items ≡ repeated l.body l.count straight

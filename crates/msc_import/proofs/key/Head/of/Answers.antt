@@ -1,6 +1,0 @@
-use Rattle.msc_import.specs.Keys.{head_of}
-use Rattle.msc_import.proofs.key.Head.of.Goals as goal
-
-pub returns-clause-value : goal.returns-clause-value
-unfolding head_of
-returns-clause-value c = c.among.ensures.value

@@ -1,6 +1,0 @@
-use Rattle.msc_import.specs.Keys.{key_of}
-use Rattle.msc_import.proofs.key.Key.of.Goals as goal
-
-pub returns : goal.returns
-unfolding key_of
-returns c = c.among.ensures

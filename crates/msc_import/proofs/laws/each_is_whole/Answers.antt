@@ -1,5 +1,0 @@
-use Rattle.msc_import.proofs.FollowWalkLemmas.{each_is_whole}
-use Rattle.msc_import.proofs.laws.each_is_whole.Goals as goal
-
-pub returns : goal.returns
-returns c = each_is_whole

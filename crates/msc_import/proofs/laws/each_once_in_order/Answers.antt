@@ -1,7 +1,0 @@
-use Rattle.std.proofs.Common.{◌+◌}
-use Rattle.msc_import.specs.declared.TheConstants.{DEPTH_LIMIT}
-use Rattle.msc_import.proofs.AscendLemmas.{in_order}
-use Rattle.msc_import.proofs.laws.each_once_in_order.Goals as goal
-
-pub returns : goal.returns
-returns c = λ rounds d rising. in_order rounds rising (DEPTH_LIMIT + 1) d.statements

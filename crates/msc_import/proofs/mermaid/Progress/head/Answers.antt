@@ -1,8 +1,0 @@
-use Rattle.std.proofs.Common.{length, ap, arith}
-use Rattle.msc_import.proofs.MermaidLemmas.{trimmed_short}
-use Rattle.msc_import.proofs.mermaid.Progress.head.Goals as goal
-
-pub body-requires : goal.body-requires
-body-requires c =
-    let room = c.shape_of.ensures.room c.in-Head.is in
-    omega (arith, room, ap length c.trimmed.ensures, trimmed_short c.args.bytes.now, c.behind_head.ensures)

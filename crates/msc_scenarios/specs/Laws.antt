@@ -1,0 +1,78 @@
+-- What holds of the choices of every diagram.
+use Rattle.std.specs.Prelude.{◌≡◌, ◌⊎◌, ◌<◌, ◌≤◌, ℕ, ◌+◌, Bool, true, false, not, nat_le, List, [], ◌∷◌, length, Ok}
+use Rattle.std.specs.List.{AllByRecursion, Contains, list_all}
+use Rattle.msc_mermaid.specs.declared.TheConstants.{DEPTH_LIMIT}
+use Rattle.msc_scenarios.specs.declared.TheConstants.{ROUND_LIMIT}
+use Rattle.msc_scenarios.specs.declared.course.Ending.TheVariants as ends
+use Rattle.msc_mermaid.specs.declared.fault.ImportFault.TheVariants.{TooManyArrows}
+use Rattle.msc_mermaid.specs.declared.row.Kind.TheVariants as kinds
+use Rattle.msc_mermaid.specs.declared.statement.Diagram.{Diagram}
+use Rattle.msc_mermaid.specs.declared.statement.Placed.{Placed}
+use Rattle.msc_mermaid.specs.declared.statement.Statement.{Statement}
+use Rattle.msc_mermaid.specs.declared.statement.Statement.TheVariants.{Declares, Says, Begins, Closes}
+use Rattle.msc_scenarios.specs.Choosing.{all_choices}
+use Rattle.msc_scenarios.specs.Counting.{capped, scenarios}
+use Rattle.msc_scenarios.specs.Courses.{Walk, walk, at_rest, is_choice, unended}
+
+-- a block begins that may take a choice, or an arrow takes one
+abbrev pub may_choose : Statement → Bool
+may_choose (Begins kinds.Par) = false
+may_choose (Begins kinds.Plain) = false
+may_choose (Begins kind) = true
+may_choose (Declares ident shown) = false
+may_choose (Says arrow) = is_choice arrow
+may_choose (Closes closer) = false
+
+-- as many lists of choices as scenarios are counted
+abbrev pub AsManyAsCounted : Type 0
+AsManyAsCounted =
+    (rounds : List ℕ) (d : Diagram) → capped (length (all_choices rounds d)) ≡ scenarios rounds d
+
+-- without a block or an arrow that may take a choice there is one scenario, with no choice
+abbrev pub NoBlocksOneScenario : Type 0
+NoBlocksOneScenario =
+    (rounds : List ℕ) (d : Diagram) → list_all (λ p. not (may_choose p.statement)) d.statements ≡ true → (all_choices rounds d ≡ [] ∷ []) × (scenarios rounds d ≡ 1)
+
+-- the walk stopped since it has too many arrows
+abbrev pub IsTooLong : Walk → Type 0
+IsTooLong w = (line : ℕ) × (w.ending ≡ ends.Stopped (TooManyArrows line))
+
+-- the walk took these choices, and no fault keeps it from a draft beside its lines
+abbrev pub Takes : List ℕ → Walk → Type 0
+Takes given w = (w.taken ≡ given) × (unended w w.ending ≡ Ok w)
+
+-- the walk through a diagram with these choices
+abbrev pub walked : Diagram → List ℕ → Walk
+walked d given = walk (DEPTH_LIMIT + 1) d.statements [] (at_rest d.lines given)
+
+-- these are the choices of a whole scenario: a walk takes just them, unless it has too many arrows
+abbrev pub IsWhole : Diagram → List ℕ → Type 0
+IsWhole d given = IsTooLong (walked d given) ⊎ Takes given (walked d given)
+
+-- each of the lists of choices is that of a whole scenario, where no loop goes more rounds than it may
+abbrev pub EachIsWhole : Type 0
+EachIsWhole =
+    (rounds : List ℕ) (d : Diagram) → list_all (λ r. nat_le r ROUND_LIMIT) rounds ≡ true → AllByRecursion (IsWhole d) (all_choices rounds d)
+
+-- each comes before all that follow it
+abbrev pub InOrder : {X : Type 0} → (X → X → Type 0) → List X → Type 0
+InOrder R [] = Unit {0}
+InOrder R (x ∷ xs) = AllByRecursion (R x) xs × InOrder R xs
+
+-- one list of choices comes before another: at the first place where they differ it has the smaller choice,
+-- and there is such a place
+abbrev pub ComesBefore : List ℕ → List ℕ → Type 0
+ComesBefore (x ∷ xs) (y ∷ ys) = (x < y) ⊎ ((x ≡ y) × ComesBefore xs ys)
+ComesBefore [] ys = ⊥
+ComesBefore (x ∷ xs) [] = ⊥
+
+-- the lists of choices are in their order, so each stands once, where the numbers of rounds are in theirs
+abbrev pub EachOnceInOrder : Type 0
+EachOnceInOrder =
+    (rounds : List ℕ) (d : Diagram) → InOrder (λ m n. m < n) rounds → InOrder ComesBefore (all_choices rounds d)
+
+-- none is missing: what a walk takes that no fault stops is one of the lists of choices, where rounds has
+-- each number of rounds that a loop may go
+abbrev pub NoneIsMissing : Type 0
+NoneIsMissing =
+    (rounds : List ℕ) (d : Diagram) (given : List ℕ) → ((r : ℕ) → r ≤ ROUND_LIMIT → Contains rounds r) → Takes given (walked d given) → Contains (all_choices rounds d) given

@@ -1,0 +1,6 @@
+-- what is promised
+pub mod Naming
+pub mod Courses
+pub mod Counting
+pub mod Choosing
+pub mod Laws

@@ -1,0 +1,31 @@
+//! Laws of choices, over the definitions alone. The functions do nothing when they run: a caller
+//! calls one to rest its own proof on the law.
+
+ghost use Rattle.msc_scenarios.specs.Laws.{AsManyAsCounted, EachIsWhole, EachOnceInOrder};
+ghost use Rattle.msc_scenarios.specs.Laws.{NoBlocksOneScenario, NoneIsMissing};
+
+/// The number of the lists of choices is what is counted.
+pub fn as_many_as_counted()
+    ensures { AsManyAsCounted }
+{}
+
+/// Each of the lists of choices is that of a whole scenario: a walk takes just these.
+pub fn each_is_whole()
+    ensures { EachIsWhole }
+{}
+
+/// The lists of choices are in their order, and each stands once.
+pub fn each_once_in_order()
+    ensures { EachOnceInOrder }
+{}
+
+/// What a walk takes that no fault stops is one of the lists of choices, where these have each
+/// number of rounds that a loop may go.
+pub fn none_is_missing()
+    ensures { NoneIsMissing }
+{}
+
+/// Without a block or an arrow that may take a choice there is one scenario, with no choice.
+pub fn no_blocks_one_scenario()
+    ensures { NoBlocksOneScenario }
+{}
