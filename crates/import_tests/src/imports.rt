@@ -7,7 +7,7 @@ use msc_import::{
     Imported, Importing, ImportingAll, Language, Manner, Own, Par, Refused, Scenarios, draw,
     import, import_all, places,
 };
-use msc_mermaid::{Closer, Cross, Expectation, ImportFault, diagram_of, fenced};
+use msc_mermaid::{Closer, Cross, Expectation, Head, ImportFault, diagram_of, fenced};
 use msc_place::Position;
 use msc_scenarios::{all_choices, scenarios};
 use std::alloc::AllocGlobal;
@@ -692,7 +692,24 @@ const NOTHING: &[&[u8]] = &[
     b"sequenceDiagram\nbox\nparticipant A\nend\nA->>B: a",
     b"sequenceDiagram\ndestroy A\nA->>B: a",
     b"sequenceDiagram\nLOOP x\nEND\nA->>B: a",
-    b"sequenceDiagram\n#35;\nA->>B: a",
+    b"\n \xc2\xa0\n ---\ntitle: x\n--- \nsequenceDiagram\nA->>B: a",
+    b"sequenceDiagram\nA->>()B: a",
+    b"sequenceDiagram\nA()->>B: a",
+    b"sequenceDiagram\nA ()->> ()B: a",
+    b"sequenceDiagram\nA\xc2\xa0->>\xe3\x80\x80B\xe2\x80\x83: a",
+    b"sequenceDiagram\nA-|\\B: a",
+    b"sequenceDiagram\nA--|/B: a",
+    b"sequenceDiagram\nA-\\\\B: a",
+    b"sequenceDiagram\nA--//B: a",
+    b"sequenceDiagram\nA->>B: :wrap: a",
+    b"sequenceDiagram\nA->>B: a; accTitle: t; B->>A: b",
+    b"sequenceDiagram\nA->>B: a; %% c; B->>A: b",
+    b"sequenceDiagram\nA->>B: a # c; B->>A: b",
+    b"sequenceDiagram\naccDescr { x\n%% }\nA->>B: y }\nA->>B: a",
+    b"sequenceDiagram\naccDescr { x; y }\nA->>B: a",
+    b"sequenceDiagram\nautonumber 10 5 %% c; B->>A: b\nA->>B: a",
+    b"sequenceDiagram\nopt x\nend %% y; B->>A: b\nA->>B: a",
+    b"sequenceDiagram\n%% was %%{init: {}}%%\nA->>B: a",
     b"sequenceDiagram\n# x\nA->>B: a",
     b"sequenceDiagram\n;;\nA->>B: a",
 ];
@@ -846,6 +863,62 @@ const FAULTS: &[(&[u8], ImportFault)] = &[
     (
         b"sequenceDiagram\noff ->> B: a",
         ImportFault::Expected(2, Expectation::Statement),
+    ),
+    (
+        b"sequenceDiagram\n#35;",
+        ImportFault::Expected(2, Expectation::Statement),
+    ),
+    (
+        b"sequenceDiagram\nlink-svc->>A: x",
+        ImportFault::Expected(2, Expectation::Statement),
+    ),
+    (
+        b"sequenceDiagram\nloop-back->>B: x\nend",
+        ImportFault::Expected(2, Expectation::Statement),
+    ),
+    (
+        b"sequenceDiagram\ndetails: x ->> y",
+        ImportFault::Expected(2, Expectation::Statement),
+    ),
+    (
+        b"sequenceDiagram\nNote over A->>B: x",
+        ImportFault::Expected(2, Expectation::Statement),
+    ),
+    (
+        b"sequenceDiagram\nA->>B: x %%{init: {}}%%",
+        ImportFault::Expected(2, Expectation::Statement),
+    ),
+    (
+        b"sequenceDiagram\n%% was %%{init: {\nA->>B: x\n}}%%",
+        ImportFault::Expected(2, Expectation::Directive),
+    ),
+    (
+        b"sequenceDiagram\nparticipant A@{ \"type\": \"queue\"",
+        ImportFault::Expected(2, Expectation::Description),
+    ),
+    (
+        b"sequenceDiagram\ntitle:A->>B: x",
+        ImportFault::Expected(2, Expectation::Name),
+    ),
+    (
+        b"sequenceDiagram\nparticipant f()",
+        ImportFault::Expected(2, Expectation::Name),
+    ),
+    (
+        b"sequenceDiagram\nA->>+()B: x",
+        ImportFault::Expected(2, Expectation::Name),
+    ),
+    (
+        b"sequenceDiagram\na-b()->>B: x",
+        ImportFault::Expected(2, Expectation::Name),
+    ),
+    (
+        b"sequenceDiagram\nA-/B->>C: x",
+        ImportFault::Expected(2, Expectation::Name),
+    ),
+    (
+        b"sequenceDiagram\nA/|-B: x",
+        ImportFault::Unsupported(2, Head::LeftUpper),
     ),
     (
         b"sequenceDiagram\ncreate A",

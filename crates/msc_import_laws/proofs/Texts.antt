@@ -202,10 +202,10 @@ described_next n line l p q shapes.Directive e read =
 described_next n line l p q shapes.Comment e read = commented_next n l line l p q e read
 described_next n line l p q shapes.Head e read =
     let b = bound (undirected line l) _ q e in
-    left_next n l line inside.Description marks.DescriptionEnd b.0 p q b.2 read
+    left_next n l line inside.Description marks.DescriptionEnd l p q b.2 read
 described_next n line l p q shapes.Other e read =
     let b = bound (undirected line l) _ q e in
-    left_next n l line inside.Description marks.DescriptionEnd b.0 p q b.2 read
+    left_next n l line inside.Description marks.DescriptionEnd l p q b.2 read
 
 step_in_next : (n : ℕ) (cross : Option Cross) (line : ℕ) (l : List ℕ) (p q i : _) → step_in cross line l p i ≡ Ok q → IsRead n p.reader → Next n l q.reader
 unfolding step_in

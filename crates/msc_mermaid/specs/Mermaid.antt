@@ -176,10 +176,10 @@ described_as line bytes p shapes.Directive = do
 described_as line bytes p shapes.Comment = commented line bytes p
 described_as line bytes p shapes.Head = do
   text ← undirected line bytes
-  left_out line inside.Description marks.DescriptionEnd text p
+  left_out line inside.Description marks.DescriptionEnd bytes p
 described_as line bytes p shapes.Other = do
   text ← undirected line bytes
-  left_out line inside.Description marks.DescriptionEnd text p
+  left_out line inside.Description marks.DescriptionEnd bytes p
 
 -- a line within this part
 unfoldable pub step_in : Option Cross → ℕ → List ℕ → Progress → Inside → Result Progress ImportFault

@@ -117,21 +117,21 @@ impl Progress {
 
     /// Reads a line within a description: a comment ends nothing.
     #[tactic(auto, unfolding(crate::specs::Mermaid::described_as))]
-    fn described(&mut self, line: usize, bytes: &[u8]) -> Result<(), ImportFault>
+    fn described(&mut self, line: usize, text: &[u8]) -> Result<(), ImportFault>
         ensures { Leaves result self.new
-            (described_as line bytes.now self.old (shape_of (trimmed bytes.now))) }
+            (described_as line text.now self.old (shape_of (trimmed text.now))) }
     {
-        match shape_of(trimmed(bytes)) {
+        match shape_of(trimmed(text)) {
             Shape::Nothing => Ok(()),
             Shape::Directive => {
-                if closed(line, Mark::DirectiveEnd, bytes)? {
+                if closed(line, Mark::DirectiveEnd, text)? {
                     return Ok(());
                 }
                 Err(ImportFault::Expected(line, Expectation::Directive))
             }
-            Shape::Comment => self.commented(line, bytes),
+            Shape::Comment => self.commented(line, text),
             Shape::Head | Shape::Other => {
-                let text = undirected(line, bytes)?;
+                undirected(line, text)?;
                 self.left_out(line, Inside::Description, Mark::DescriptionEnd, text)
             }
         }
