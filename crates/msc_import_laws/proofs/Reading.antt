@@ -184,12 +184,6 @@ piece_read n cross line column bytes r q read e =
     let b = bound (said_at cross r.dying line bytes) (noted r line column) q e in
     all_noted n r read line column q b.0 b.2
 
-pub drop_short : {X : Type 0} (k : ℕ) (xs : List X) → length (drop k xs) ≤ length xs
-drop_short zero [] = omega arith
-drop_short zero (x ∷ xs) = omega arith
-drop_short (suc k) [] = omega arith
-drop_short (suc k) (x ∷ xs) = let r = drop_short k xs in omega (arith, r)
-
 -- a diagram is what was read, where all blocks have ended
 closed_is : (lines after : List (List ℕ)) (x : Option _) → closed_by lines x ≡ Ok after → lines ≡ after
 closed_is lines after None e = cc

@@ -9,3 +9,4 @@ pub mod MermaidLemmas
 pub mod FenceLemmas
 pub mod StayLemmas
 pub mod LawLemmas
+pub mod TextLemmas
