@@ -172,7 +172,7 @@ class Statement:
         if named:
             shown = self.text(named.end(), len(self.held))
         elif behind < len(self.held):
-            raise expected(self.source, "the end of the statement", self.piece.at(behind))
+            raise expected(self.source, "a statement", self.piece.at(behind))
         return Line(ident, shown if shown and shown.held else None)
 
     def arrow(self):
