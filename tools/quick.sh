@@ -97,8 +97,7 @@ if [ "${#charts[@]}" -gt 0 ] || [ $# = 0 ]; then
   if find_program; then
     if [ $# = 0 ]; then compare; fi
     for name in "${charts[@]}"; do
-      if compgen -G "charts/*/$name.*" >/dev/null || compgen -G "charts/$name.*" >/dev/null ||
-        compgen -G "charts/*/*/$name.*" >/dev/null; then
+      if [ -n "$(find charts -name "$name.*" -print -quit)" ]; then
         compare "$name"
       else
         echo "quick: there is no crate and no chart $name"
